@@ -1,0 +1,4 @@
+pub mod Fault
+pub mod IntervalFile
+pub mod IntervalHeader
+pub mod Line

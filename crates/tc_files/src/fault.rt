@@ -1,0 +1,63 @@
+ghost use Rattle.std.specs.Prelude.{◌≡◌};
+
+use thiserror::Error;
+
+/// The first fault of an interval file, with the byte place, from 0, at which it stands.
+#[derive(Clone, Copy, Debug, PartialEq, Eq, Error)]
+pub enum FileFault {
+    /// One of the first four bytes is not that of the magic `LTCI`.
+    #[error("no interval file")]
+    Magic(u64),
+    /// The version is not 1.
+    #[error("an unknown version")]
+    Version(u64),
+    /// The system is none of 24, 25 and 30.
+    #[error("an unknown system")]
+    System(u64),
+    /// A reserved byte is not 0.
+    #[error("a reserved byte that is not 0")]
+    Reserved(u64),
+    /// The tick rate is 0 or above 100,000,000. The place is its first byte.
+    #[error("a tick rate out of range")]
+    TickRate(u64),
+    /// An interval is 0 or above 16,777,215 ticks. The place is its first byte.
+    #[error("an interval out of range")]
+    Interval(u64),
+    /// The input ends inside the header or inside an interval. The place is the number of its bytes.
+    #[error("an input that ends too early")]
+    Truncated(u64),
+}
+
+impl FileFault {
+    ghost use Rattle.tc_files.specs.Fault.{name_of, place_of};
+
+    /// The name under which notes print the fault.
+    pub fn name(self) -> &'static str
+        ensures { result.now ≡ name_of self }
+    {
+        match self {
+            FileFault::Magic(_) => "magic",
+            FileFault::Version(_) => "version",
+            FileFault::System(_) => "system",
+            FileFault::Reserved(_) => "reserved",
+            FileFault::TickRate(_) => "tick-rate",
+            FileFault::Interval(_) => "interval",
+            FileFault::Truncated(_) => "truncated",
+        }
+    }
+
+    /// The byte place of the fault.
+    pub fn place(self) -> u64
+        ensures { result ≡ place_of self }
+    {
+        match self {
+            FileFault::Magic(place)
+            | FileFault::Version(place)
+            | FileFault::System(place)
+            | FileFault::Reserved(place)
+            | FileFault::TickRate(place)
+            | FileFault::Interval(place)
+            | FileFault::Truncated(place) => place,
+        }
+    }
+}

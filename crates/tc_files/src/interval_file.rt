@@ -1,0 +1,12 @@
+//! The interval file, version 1: the lengths of the intervals between the transitions of a recording.
+//!
+//! | Byte places | Content |
+//! |---|---|
+//! | 0 to 3 | the magic `LTCI` |
+//! | 4 | the version, 1 |
+//! | 5 | the system as a number: 24, 25 or 30 |
+//! | 6 to 7 | reserved, 0 |
+//! | 8 to 11 | the tick rate, big endian, from 1 to 100,000,000 ticks a second |
+//! | then four each | an interval in ticks, big endian, from 1 to 16,777,215 |
+pub mod decoder;
+pub mod header;

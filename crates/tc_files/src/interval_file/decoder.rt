@@ -1,0 +1,172 @@
+ghost use Rattle.std.specs.Prelude.{◌≡◌, ◌<◌, ◌≤◌, ◌^◌, ◌++◌, [], ◌∷◌, length};
+ghost use Rattle.byteorder.specs.Endian.{big_number};
+ghost use Rattle.arrayvec.specs.ArrayVec.{array_vec_len};
+ghost use Rattle.tc_files.specs.IntervalFile.{
+    no_progress, answer, after, end, fault_in, head_answer, header_answer, interval_answer,
+    kept_part, whole_answer,
+};
+
+use crate::fault::FileFault;
+use crate::interval_file::header::{
+    HEAD_LENGTH, HEADER_LENGTH, IntervalHeader, MAGIC, MAX_INTERVAL, MAX_TICK_RATE, VERSION, system_of_byte,
+};
+use arrayvec::ArrayVec;
+use byteorder::{BigEndian, ByteOrder};
+use std::marker::Model;
+use tc_address::System;
+
+/// What a byte of an interval file completes.
+#[derive(Clone, Copy, Debug, PartialEq, Eq)]
+pub enum Taken {
+    /// Nothing yet.
+    Nothing,
+    /// The header.
+    Header(IntervalHeader),
+    /// An interval, in ticks.
+    Interval(u32),
+    /// The first fault of the bytes so far.
+    Fault(FileFault),
+}
+
+/// Decodes an interval file one byte at a time, and keeps at most four bytes of it.
+#[derive(Drop)]
+pub struct IntervalDecoder {
+    taken: u64,
+    system: Option<System>,
+    part: ArrayVec<u8, 4>,
+    fault: Option<FileFault>,
+}
+
+impl Model for IntervalDecoder {
+    ghost use Rattle.std.specs.Prelude.{◌≡◌, ◌≤◌, ◌<◌, ◌%◌, length, nat_lt, if◌then◌else◌};
+    ghost use Rattle.tc_files.specs.declared.interval_file.header.TheConstants.{HEAD_LENGTH};
+    ghost use Rattle.tc_files.specs.IntervalFile.{Progress};
+
+    ghost Value = { Progress };
+
+    ghost view = { λ d. record { taken = d.taken; system = d.system; part = d.part.items; fault = d.fault } };
+
+    ghost invariant = { λ d. length d.part.items < 4 };
+}
+
+impl IntervalDecoder {
+    /// A decoder that stands before the first byte.
+    pub fn new() -> IntervalDecoder
+        ensures { result ≡ no_progress }
+    {
+        IntervalDecoder {
+            taken: 0,
+            system: None,
+            part: ArrayVec::new(),
+            fault: None,
+        }
+    }
+
+    /// Takes the next byte. A byte of the header's first eight is judged by itself, a number at its
+    /// last byte. After a fault, that fault is the answer to each later byte.
+    pub fn byte(&mut self, byte: u8) -> Taken
+        requires { self.old.taken < 2 ^ 62 }
+        ensures answers { result ≡ answer self.old byte }
+        ensures next { self.new ≡ after self.old byte }
+    {
+        if let Some(fault) = self.fault {
+            return Taken::Fault(fault);
+        }
+        let place = self.taken;
+        let taken = if place < HEAD_LENGTH {
+            if place == 5 {
+                self.system = system_of_byte(byte);
+            }
+            head_byte(place, byte)
+        } else {
+            number_byte(place, self.system, &mut self.part, byte)
+        };
+        self.taken = place + 1;
+        self.fault = fault_of(taken);
+        taken
+    }
+
+    /// The end of the input: the earlier fault where there was one, and else whether the input may
+    /// end here.
+    pub fn finish(&self) -> Result<(), FileFault>
+        ensures { result ≡ end self.now }
+    {
+        match self.fault {
+            Some(fault) => Err(fault),
+            None if HEADER_LENGTH <= self.taken && self.part.is_empty() => Ok(()),
+            None => Err(FileFault::Truncated(self.taken)),
+        }
+    }
+}
+
+/// The fault in an answer.
+fn fault_of(taken: Taken) -> Option<FileFault>
+    ensures { result ≡ fault_in taken }
+{
+    match taken {
+        Taken::Fault(fault) => Some(fault),
+        _ => None,
+    }
+}
+
+/// Tests a byte of the header's first eight.
+fn head_byte(place: u64, byte: u8) -> Taken
+    requires { place < HEAD_LENGTH }
+    ensures { result ≡ head_answer place byte }
+{
+    match place {
+        0..=3 if byte != MAGIC[place as usize] => Taken::Fault(FileFault::Magic(place)),
+        4 if byte != VERSION => Taken::Fault(FileFault::Version(place)),
+        5 if system_of_byte(byte).is_none() => Taken::Fault(FileFault::System(place)),
+        6..=7 if byte != 0 => Taken::Fault(FileFault::Reserved(place)),
+        _ => Taken::Nothing,
+    }
+}
+
+/// Adds a byte to a number, and tests the number at its last byte.
+fn number_byte(
+    place: u64,
+    system: Option<System>,
+    part: &mut ArrayVec<u8, 4>,
+    byte: u8,
+) -> Taken
+    requires part { array_vec_len part.old < 4 }
+    requires place { 3 ≤ place }
+    ensures part { part.new.items ≡ kept_part part.old.items byte }
+    ensures answer { result ≡ whole_answer place system part.old.items byte }
+{
+    part.push(byte);
+    if !part.is_full() {
+        return Taken::Nothing;
+    }
+    let number = BigEndian::read_u32(part);
+    part.clear();
+    if place < HEADER_LENGTH {
+        whole_header(system, number)
+    } else {
+        whole_interval(place - 3, number)
+    }
+}
+
+/// The header, where the tick rate is in range.
+fn whole_header(system: Option<System>, tick_rate: u32) -> Taken
+    ensures { result ≡ header_answer system tick_rate }
+{
+    match system {
+        Some(system) if 1 <= tick_rate && tick_rate <= MAX_TICK_RATE => {
+            Taken::Header(IntervalHeader { system, tick_rate })
+        }
+        _ => Taken::Fault(FileFault::TickRate(HEAD_LENGTH)),
+    }
+}
+
+/// The interval that begins at a byte place, where its length is in range.
+fn whole_interval(place: u64, ticks: u32) -> Taken
+    ensures { result ≡ interval_answer place ticks }
+{
+    if 1 <= ticks && ticks <= MAX_INTERVAL {
+        Taken::Interval(ticks)
+    } else {
+        Taken::Fault(FileFault::Interval(place))
+    }
+}
