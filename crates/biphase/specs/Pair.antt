@@ -1,0 +1,20 @@
+-- What two neighbouring intervals can be to each other. The tolerance is this project's own.
+use Rattle.std.specs.Prelude.{ℕ, min, max}
+use Rattle.biphase.specs.declared.profile.Profile.{Profile}
+use Rattle.biphase.specs.declared.pair.PairKind.{PairKind}
+use Rattle.biphase.specs.declared.pair.PairKind.TheVariants.{Same, Step, Wild}
+use Rattle.biphase.specs.Profile.{tolerance_of, IsAtLeast}
+
+-- the lesser is nearly the greater
+abbrev pub AreEqual : Profile → ℕ → ℕ → Type 0
+AreEqual profile a b = IsAtLeast (tolerance_of profile).equal (min a b) (max a b)
+
+-- the lesser is less than that, and nearly half the greater or more
+abbrev pub AreUnequal : Profile → ℕ → ℕ → Type 0
+AreUnequal profile a b = ¬ AreEqual profile a b × IsAtLeast (tolerance_of profile).unequal (min a b) (max a b)
+
+-- the pair is of this kind
+abbrev pub IsKind : Profile → ℕ → ℕ → PairKind → Type 0
+IsKind profile a b Same = AreEqual profile a b
+IsKind profile a b Step = AreUnequal profile a b
+IsKind profile a b Wild = ¬ AreEqual profile a b × ¬ AreUnequal profile a b

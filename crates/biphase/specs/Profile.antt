@@ -1,0 +1,24 @@
+-- The numbers of each profile, and what they say of two lengths. The tolerance is this project's own.
+use Rattle.std.specs.Prelude.{ℕ, ◌*◌, ◌≤◌}
+use Rattle.std.specs.Int.{abs_diff}
+use Rattle.biphase.specs.declared.profile.Profile.{Profile}
+use Rattle.biphase.specs.declared.profile.Profile.TheVariants.{Normal}
+use Rattle.biphase.specs.declared.profile.Ratio.{Ratio}
+use Rattle.biphase.specs.declared.profile.Tolerance.{Tolerance}
+use Rattle.biphase.specs.declared.profile.TheConstants.{NORMAL}
+
+-- the numbers of a profile
+abbrev pub tolerance_of : Profile → Tolerance
+tolerance_of Normal = NORMAL
+
+-- a is at least this part of b
+abbrev pub IsAtLeast : Ratio → ℕ → ℕ → Type 0
+IsAtLeast ratio a b = ratio.part * b ≤ ratio.whole * a
+
+-- a is at most this part of b
+abbrev pub IsAtMost : Ratio → ℕ → ℕ → Type 0
+IsAtMost ratio a b = ratio.whole * a ≤ ratio.part * b
+
+-- so many times the difference of a and b is at most the length
+abbrev pub IsWithin : ℕ → ℕ → ℕ → ℕ → Type 0
+IsWithin number a b length = number * abs_diff a b ≤ length

@@ -1,0 +1,13 @@
+//! A cell of biphase mark.
+
+/// The greatest length of an interval, in ticks. The least is 1.
+pub const MAX_INTERVAL: u32 = 16_777_215;
+
+/// One bit of biphase mark (SMPTE 12M, linear time code), with its intervals in ticks.
+#[derive(Clone, Copy, Debug, PartialEq, Eq)]
+pub enum Cell {
+    /// A zero: one interval.
+    Zero(u32),
+    /// A one: two intervals, its halves, the first in time first.
+    One(u32, u32),
+}

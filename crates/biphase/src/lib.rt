@@ -1,0 +1,27 @@
+//! Biphase mark (SMPTE 12M, linear time code): cells, and when neighbouring intervals belong together.
+//!
+//! A recording is a list of intervals, the whole numbers of ticks between two transitions. A cell is
+//! one bit: a zero is one interval, and a one is two intervals, its halves. How far a cell may differ
+//! from the cell before it, and one half from the other, is this project's own choice, a `Profile`.
+//!
+//! What this crate promises:
+//! - `kind` tells whether two neighbouring intervals are equal, one the half of the other, or neither
+//!   (`specs/Pair.antt`, `IsKind`).
+//! - `is_zero`, `may_begin_one` and `is_one` are the tests of the tolerance, exact for all lengths
+//!   (`specs/Chain.antt`, `IsNextZero`, `IsFirstHalf`, `IsNextOne`).
+//! - In a list of cells within the tolerance, a chain, these tests never mistake one for the other
+//!   (`laws`).
+//!
+//! Read `profile`, `cell`, `pair` and `tolerance`, in this order, and `specs/Chain.antt` beside them.
+//! `cell_tracker` stands on this crate. Nothing here allocates or refuses.
+#![tactic(auto)]
+
+mod cell;
+mod pair;
+mod profile;
+mod tolerance;
+
+pub use cell::{Cell, MAX_INTERVAL};
+pub use pair::{PairKind, kind};
+pub use profile::Profile;
+pub use tolerance::{is_one, is_zero, may_begin_one};

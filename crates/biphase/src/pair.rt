@@ -1,0 +1,31 @@
+//! Pairs of neighbouring intervals.
+ghost use Rattle.biphase.specs.Pair.{IsKind};
+
+use crate::profile::{Profile, is_at_least};
+
+/// What two neighbouring intervals can be to each other.
+#[derive(Clone, Copy, Debug, PartialEq, Eq)]
+pub enum PairKind {
+    /// Equal: two zeros, or two halves.
+    Same,
+    /// Unequal: a zero and a half.
+    Step,
+    /// Neither. No recording within the tolerance has such a pair.
+    Wild,
+}
+
+/// Tells what the neighbouring intervals `a` and `b`, in ticks, can be to each other. Their order
+/// does not matter.
+pub fn kind(profile: Profile, a: u32, b: u32) -> PairKind
+    ensures { IsKind profile a b result }
+{
+    let tolerance = profile.tolerance();
+    let (lesser, greater) = if a < b { (a, b) } else { (b, a) };
+    if is_at_least(tolerance.equal, lesser, greater) {
+        PairKind::Same
+    } else if is_at_least(tolerance.unequal, lesser, greater) {
+        PairKind::Step
+    } else {
+        PairKind::Wild
+    }
+}

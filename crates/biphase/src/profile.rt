@@ -1,0 +1,86 @@
+//! The tolerance profiles, and all their numbers.
+ghost use Rattle.std.specs.Prelude.{◌≡◌, ◌*◌, ◌<◌, ◌^◌, ◌↔◌, IsTrue};
+ghost use Rattle.biphase.specs.Profile.{tolerance_of, IsAtLeast, IsAtMost, IsWithin};
+
+/// How much the cells of a recording may differ.
+#[derive(Clone, Copy, Debug, PartialEq, Eq)]
+pub enum Profile {
+    /// A cell lasts within one eighth of the cell before, and halves differ by at most one sixteenth
+    /// of their cell.
+    Normal,
+}
+
+/// A part of a whole, as two parts of three.
+#[derive(Clone, Copy, Debug, PartialEq, Eq)]
+pub struct Ratio {
+    pub part: u8,
+    pub whole: u8,
+}
+
+/// The numbers of a profile.
+#[derive(Clone, Copy, Debug, PartialEq, Eq)]
+pub struct Tolerance {
+    /// So many times the difference of two neighbouring cells is at most the first of them.
+    pub cell: u8,
+    /// So many times the difference of the two halves of a one is at most the one.
+    pub half: u8,
+    /// Of two equal intervals, the lesser is at least this part of the greater.
+    pub equal: Ratio,
+    /// Of two unequal intervals, the lesser is at least this part of the greater.
+    pub unequal: Ratio,
+    /// A first half is at least this part of the cell before.
+    pub least_half: Ratio,
+    /// A first half is at most this part of the cell before.
+    pub greatest_half: Ratio,
+}
+
+/// The numbers of `Profile::Normal`.
+pub const NORMAL: Tolerance = Tolerance {
+    cell: 8,
+    half: 16,
+    equal: Ratio { part: 2, whole: 3 },
+    unequal: Ratio { part: 2, whole: 5 },
+    least_half: Ratio { part: 3, whole: 8 },
+    greatest_half: Ratio { part: 5, whole: 8 },
+};
+
+impl Profile {
+    /// The numbers of the profile.
+    pub(crate) fn tolerance(self) -> Tolerance
+        ensures { result ≡ tolerance_of self }
+    {
+        match self {
+            Profile::Normal => NORMAL,
+        }
+    }
+}
+
+fn times(number: u8, ticks: u64) -> u64
+    requires { ticks < 2 ^ 40 }
+    ensures { result ≡ number * ticks }
+{
+    u64::from(number) * ticks
+}
+
+/// Tells whether `a` ticks are at least this part of `b` ticks.
+pub(crate) fn is_at_least(ratio: Ratio, a: u32, b: u32) -> bool
+    ensures { IsTrue result ↔ IsAtLeast ratio a b }
+{
+    times(ratio.part, u64::from(b)) <= times(ratio.whole, u64::from(a))
+}
+
+/// Tells whether `a` ticks are at most this part of `b` ticks.
+pub(crate) fn is_at_most(ratio: Ratio, a: u32, b: u32) -> bool
+    ensures { IsTrue result ↔ IsAtMost ratio a b }
+{
+    times(ratio.whole, u64::from(a)) <= times(ratio.part, u64::from(b))
+}
+
+/// Tells whether `number` times the difference of `a` and `b` is at most `length`, all in ticks.
+pub(crate) fn is_within(number: u8, a: u64, b: u64, length: u64) -> bool
+    requires first { a < 2 ^ 40 }
+    requires second { b < 2 ^ 40 }
+    ensures { IsTrue result ↔ IsWithin number a b length }
+{
+    times(number, a.abs_diff(b)) <= length
+}

@@ -1,0 +1,103 @@
+//! The state between stretches.
+ghost use Rattle.std.specs.Prelude.{◌≡◌, ◌≤◌, ◌<◌, IfNone, IfSome, OnSome};
+ghost use Rattle.biphase.specs.declared.cell.TheConstants.{MAX_INTERVAL};
+ghost use Rattle.biphase.specs.Pair.{AreUnequal};
+ghost use Rattle.biphase.specs.Chain.{IsFirstHalf};
+ghost use Rattle.cell_tracker.specs.State.{search_from};
+ghost use Rattle.cell_tracker.specs.declared.hunting.FromHunting.TheVariants.{Hunt, StartAt, StartMid, StartBroken};
+
+use crate::at_cell::AtCell;
+use crate::mid_cell::MidCell;
+use biphase::{MAX_INTERVAL, PairKind, Profile, kind, may_begin_one};
+use std::marker::Model;
+
+/// No stretch is open: the tracker looks for two unequal intervals.
+#[derive(Clone, Copy, Debug, PartialEq, Eq)]
+pub struct Hunting {
+    profile: Profile,
+    before: Option<u32>,
+}
+
+impl Model for Hunting {
+    ghost use Rattle.cell_tracker.specs.State.{HuntingState};
+
+    ghost Value = { HuntingState };
+
+    ghost view = { λ a. record { profile = a.profile; before = a.before } };
+
+    ghost inverse = { λ v. record { profile = v.profile; before = v.before } };
+}
+
+/// What an interval does to `Hunting`.
+#[derive(Clone, Copy, Debug, PartialEq, Eq)]
+pub enum FromHunting {
+    /// The search goes on.
+    Hunt(Hunting),
+    /// The interval is the first zero of a stretch.
+    StartAt(AtCell),
+    /// The interval before was the first zero of a stretch, of this length in ticks, and the interval
+    /// may be a first half.
+    StartMid(MidCell, u32),
+    /// The interval before was the first zero of a stretch, of this length in ticks, and the stretch
+    /// breaks at the interval.
+    StartBroken(Hunting, u32),
+}
+
+impl Hunting {
+    /// A search that begins, with no interval before.
+    pub fn new(profile: Profile) -> Hunting
+        ensures { result ≡ record { profile = profile; before = None } }
+    {
+        Hunting {
+            profile,
+            before: None,
+        }
+    }
+
+    /// A search that begins at an interval of `x` ticks.
+    pub(crate) fn after(profile: Profile, x: u32) -> Hunting
+        ensures { result ≡ record { profile = profile; before = Some x } }
+    {
+        Hunting {
+            profile,
+            before: Some(x),
+        }
+    }
+
+    /// The interval before, in ticks, if there was one since the search began.
+    pub fn before(&self) -> Option<u32>
+        ensures { result ≡ self.now.before }
+    {
+        self.before
+    }
+
+    /// Takes the next interval, of `x` ticks.
+    pub fn feed(self, x: u32) -> FromHunting
+        requires least { 1 ≤ x }
+        requires most { x ≤ MAX_INTERVAL }
+        ensures first { self.before ≡ None → result ≡ Hunt (search_from self.profile x) }
+        ensures equal { IfSome self.before (λ z. ¬ AreUnequal self.profile z x
+            → result ≡ Hunt (search_from self.profile x)) }
+        ensures rising { IfSome self.before (λ z. AreUnequal self.profile z x → z < x
+            → result ≡ StartAt (record { profile = self.profile; last = x })) }
+        ensures falling { IfSome self.before (λ z. AreUnequal self.profile z x → x < z → IsFirstHalf self.profile z x
+            → result ≡ StartMid (record { profile = self.profile; last = z; half = x }) z) }
+        ensures broken { IfSome self.before (λ z. AreUnequal self.profile z x → x < z → ¬ IsFirstHalf self.profile z x
+            → result ≡ StartBroken (search_from self.profile x) z) }
+    {
+        let profile = self.profile;
+        let hunting = Hunting::after(profile, x);
+        let Some(before) = self.before else {
+            return FromHunting::Hunt(hunting);
+        };
+        if kind(profile, before, x) != PairKind::Step {
+            FromHunting::Hunt(hunting)
+        } else if before < x {
+            FromHunting::StartAt(AtCell::new(profile, x))
+        } else if may_begin_one(profile, before, x) {
+            FromHunting::StartMid(MidCell::new(profile, before, x), before)
+        } else {
+            FromHunting::StartBroken(hunting, before)
+        }
+    }
+}
