@@ -2,7 +2,8 @@
 use Rattle.std.specs.Prelude.{ℕ, ◌+◌, ◌*◌, ◌-◌, List, [], ◌∷◌, ◌++◌, length, slice_index, Option, Some, None, Result, Ok, Err, nat_lt, nat_le, ◌==◌, ◌&&◌, ◌||◌, not, is_some, if◌then◌else◌}
 use Rattle.byteorder.specs.Endian.{big_number}
 use Rattle.tc_address.specs.declared.system.System.{System}
-use Rattle.tc_files.specs.declared.interval_file.header.TheConstants.{MAGIC, VERSION, HEADER_LENGTH, HEAD_LENGTH, MAX_TICK_RATE, MAX_INTERVAL}
+use Rattle.tc_files.specs.declared.interval_file.header.TheConstants.{MAGIC, VERSION, HEADER_LENGTH, HEAD_LENGTH, MAX_TICK_RATE}
+use Rattle.biphase.specs.declared.cell.TheConstants.{MAX_INTERVAL}
 use Rattle.tc_files.specs.declared.fault.FileFault.{FileFault}
 use Rattle.tc_files.specs.declared.fault.FileFault.TheVariants as fault
 use Rattle.tc_files.specs.declared.interval_file.decoder.Taken.{Taken}

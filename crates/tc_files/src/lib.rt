@@ -7,4 +7,4 @@ mod texts;
 
 pub use fault::FileFault;
 pub use interval_file::decoder::{IntervalDecoder, Taken};
-pub use interval_file::header::{HEAD_LENGTH, HEADER_LENGTH, IntervalHeader, MAGIC, MAX_TICK_RATE, VERSION, interval_header, MAX_INTERVAL};
+pub use interval_file::header::{HEAD_LENGTH, HEADER_LENGTH, IntervalHeader, MAGIC, MAX_TICK_RATE, VERSION, interval_header};

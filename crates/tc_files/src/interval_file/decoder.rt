@@ -8,9 +8,10 @@ ghost use Rattle.tc_files.specs.IntervalFile.{
 
 use crate::fault::FileFault;
 use crate::interval_file::header::{
-    HEAD_LENGTH, HEADER_LENGTH, IntervalHeader, MAGIC, MAX_INTERVAL, MAX_TICK_RATE, VERSION, system_of_byte,
+    HEAD_LENGTH, HEADER_LENGTH, IntervalHeader, MAGIC, MAX_TICK_RATE, VERSION, system_of_byte,
 };
 use arrayvec::ArrayVec;
+use biphase::MAX_INTERVAL;
 use byteorder::{BigEndian, ByteOrder};
 use std::marker::Model;
 use tc_address::System;

@@ -18,9 +18,6 @@ pub const HEAD_LENGTH: u64 = 8;
 /// The bytes of a header.
 pub const HEADER_LENGTH: u64 = 12;
 
-/// TEMP
-pub const MAX_INTERVAL: u32 = 16_777_215;
-
 /// The greatest tick rate, in ticks a second.
 pub const MAX_TICK_RATE: u32 = 100_000_000;
 

@@ -1,0 +1,4 @@
+#![tactic(auto)]
+mod boundaries;
+mod window;
+pub use window::{Filling, FromFilling, Full};

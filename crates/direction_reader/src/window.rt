@@ -1,0 +1,106 @@
+//! The latest bits of a stretch. Next: `boundaries`.
+ghost use Rattle.std.specs.Prelude.{◌≡◌, ◌<◌, ◌^◌};
+ghost use Rattle.direction_reader.specs.Window.{with_bit, slid_by};
+
+use std::marker::Model;
+
+/// The bits of a window.
+pub const WINDOW_BITS: u32 = 80;
+
+/// The bits of a stretch so far, fewer than 80, the latest in bit 79 of a register of 80 bits.
+#[derive(Clone, Copy, Debug, PartialEq, Eq)]
+pub struct Filling {
+    bits: u128,
+    count: u32,
+}
+
+impl Model for Filling {
+    ghost use Rattle.std.specs.Prelude.{◌<◌, ◌^◌};
+    ghost use Rattle.direction_reader.specs.Bits.{FillingBits};
+    ghost use Rattle.direction_reader.specs.declared.window.TheConstants.{WINDOW_BITS};
+
+    ghost Value = { FillingBits };
+
+    ghost view = { λ f. record { bits = f.bits; count = f.count } };
+
+    ghost invariant = { λ f. (f.count < WINDOW_BITS) × (f.bits < 2 ^ 80) };
+
+    ghost inverse = { λ v. record { bits = v.bits; count = v.count } };
+}
+
+/// The latest 80 bits of a stretch, the oldest in bit 0.
+#[derive(Clone, Copy, Debug, PartialEq, Eq)]
+pub struct Full {
+    bits: u128,
+}
+
+impl Model for Full {
+    ghost use Rattle.std.specs.Prelude.{ℕ, ◌<◌, ◌^◌};
+
+    ghost Value = { ℕ };
+
+    ghost view = { λ f. f.bits };
+
+    ghost invariant = { λ f. f.bits < 2 ^ 80 };
+
+    ghost inverse = { λ bits. record { bits = bits } };
+}
+
+/// What a bit makes of a window that is not full.
+#[derive(Clone, Copy, Debug, PartialEq, Eq)]
+pub enum FromFilling {
+    /// It is still not full.
+    Filling(Filling),
+    /// It has its first 80 bits.
+    Full(Full),
+}
+
+impl Filling {
+    /// No bit.
+    pub fn new() -> Filling
+        ensures { result ≡ record { bits = 0; count = 0 } }
+    {
+        Filling { bits: 0, count: 0 }
+    }
+
+    /// Adds a bit at the end.
+    pub fn bit(self, bit: bool) -> FromFilling
+        ensures { result ≡ with_bit self bit }
+    {
+        let bits = slid(self.bits, bit);
+        let count = self.count + 1;
+        if count < WINDOW_BITS {
+            FromFilling::Filling(Filling { bits, count })
+        } else {
+            FromFilling::Full(Full { bits })
+        }
+    }
+}
+
+impl Full {
+    /// Adds a bit at the end, and drops the oldest.
+    pub fn bit(self, bit: bool) -> Full
+        ensures { result ≡ slid_by self bit }
+    {
+        Full {
+            bits: slid(self.bits, bit),
+        }
+    }
+
+    /// The bits as one number below 2^80, the oldest in bit 0.
+    pub fn window(&self) -> u128
+        ensures value { result ≡ self.now }
+        ensures eighty { result < 2 ^ 80 }
+    {
+        self.bits
+    }
+}
+
+/// A register of 80 bits with one bit more at the end, bit 79, and the oldest gone.
+fn slid(bits: u128, bit: bool) -> u128
+    requires { bits < 2 ^ 80 }
+    ensures value { result ≡ slid_by bits bit }
+    ensures eighty { result < 2 ^ 80 }
+{
+    (bits >> 1) + (u128::from(bit) << (WINDOW_BITS - 1))
+}
