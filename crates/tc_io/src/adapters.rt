@@ -12,6 +12,7 @@ use crate::failed::Failed;
 use crate::sink::Sink;
 use crate::source::Source;
 use std::io::{Read, Write};
+use std::marker::Model;
 
 /// A reader as a source. Each of its errors is a fault.
 #[derive(Drop)]
@@ -20,10 +21,18 @@ pub struct ReadSource<R> {
     faults: u64,
 }
 
+impl<R> Model for ReadSource<R> {
+    ghost use Rattle.tc_io.specs.Adapters.{Adapted};
+
+    ghost Value = { Adapted R };
+
+    ghost view = { λ s. record { inner = s.reader; faults = s.faults } };
+}
+
 impl<R> ReadSource<R> {
     /// A source that reads from here.
     pub fn new(reader: R) -> ReadSource<R>
-        ensures { result ≡ record { reader = reader; faults = 0 } }
+        ensures { result ≡ record { inner = reader; faults = 0 } }
     {
         ReadSource { reader, faults: 0 }
     }
@@ -40,7 +49,7 @@ impl<R: Read> Source for ReadSource<R> {
         ensures cause { HasCause self.old.faults self.new.faults result }
 
         // What the reader gave is what the source gives, and each error counts one.
-        ensures passes { ReadConsumes (R.remaining self.old.reader) (R.remaining self.new.reader) result buf.new }
+        ensures passes { ReadConsumes (R.remaining self.old.inner) (R.remaining self.new.inner) result buf.new }
         ensures counts { OnErr result (self.new.faults ≡ one_more self.old.faults) }
     {
         match self.reader.read(buf) {
@@ -61,10 +70,18 @@ pub struct WriteSink<W> {
     faults: u64,
 }
 
+impl<W> Model for WriteSink<W> {
+    ghost use Rattle.tc_io.specs.Adapters.{Adapted};
+
+    ghost Value = { Adapted W };
+
+    ghost view = { λ s. record { inner = s.writer; faults = s.faults } };
+}
+
 impl<W> WriteSink<W> {
     /// A sink that writes to here.
     pub fn new(writer: W) -> WriteSink<W>
-        ensures { result ≡ record { writer = writer; faults = 0 } }
+        ensures { result ≡ record { inner = writer; faults = 0 } }
     {
         WriteSink { writer, faults: 0 }
     }
@@ -82,7 +99,7 @@ impl<W: Write> Sink for WriteSink<W> {
         ensures cause { HasCause self.old.faults self.new.faults result }
 
         // What the sink took is what the writer took, and each error counts one.
-        ensures passes { WriteAppends (W.contents self.old.writer) (W.contents self.new.writer) result piece.now }
+        ensures passes { WriteAppends (W.contents self.old.inner) (W.contents self.new.inner) result piece.now }
         ensures counts { OnErr result (self.new.faults ≡ one_more self.old.faults) }
     {
         match self.writer.write(piece) {
