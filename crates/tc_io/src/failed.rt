@@ -1,0 +1,3 @@
+/// A pull or a push failed by a fault of the source or the sink, which counts it.
+#[derive(Clone, Copy, Debug, PartialEq, Eq)]
+pub struct Failed;

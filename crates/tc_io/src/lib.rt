@@ -1,0 +1,36 @@
+//! Where the toolkit's bytes come from and go to: sources and sinks.
+//!
+//! A source is pulled for bytes and a sink is pushed bytes. What either means is two things: the
+//! bytes that are left in a source or were written to a sink, where the object tells them, and its
+//! count of faults, a `u64` that never falls and stops at its last value. Every promise of the
+//! program about input and output is stated over these two.
+//!
+//! What this crate promises:
+//! - Each call keeps to its trait: what an `Ok` takes from the front or adds at the end, that a
+//!   `Failed` leaves the told bytes alone, and that a `Failed` comes only where the object's own
+//!   count of faults rose in the call or stands at its last value (`specs/Source.antt`, `HasCause`).
+//! - `push_all` appends all bytes, in order, or fails by its sink's fault with a front of them
+//!   appended (`specs/Sink.antt`, `AppendsFront`).
+//! - The sources and the sink in memory answer each call exactly (`specs/Memory.antt`), fail where
+//!   they are told to, and take no memory after they are made.
+//!
+//! Read `failed`, `source` and `sink`, then `memory_source`, `steady_source` and `memory_sink`, and
+//! last `adapters`, with the files of `specs/` beside them. `adapters` is the trusted edge: what a
+//! real reader or writer does is known only by what it answers, so those two tell no bytes.
+#![tactic(auto)]
+
+mod adapters;
+mod failed;
+mod memory_sink;
+mod memory_source;
+mod sink;
+mod source;
+mod steady_source;
+
+pub use adapters::{ReadSource, WriteSink};
+pub use failed::Failed;
+pub use memory_sink::MemorySink;
+pub use memory_source::MemorySource;
+pub use sink::{Sink, push_all};
+pub use source::Source;
+pub use steady_source::SteadySource;
