@@ -1,0 +1,60 @@
+-- A register is what stands above a field, the field, and what stands below it. To write the field
+-- is to put these three together again.
+use Rattle.std.proofs.Common.{◌≡◌, ℕ, ◌+◌, ◌-◌, ◌*◌, ◌/◌, ◌%◌, ◌^◌, ◌<◌, ◌≤◌, refl, sym, ap, ◌∙◌, arith}
+use Rattle.std.proofs.lemmas.Nat.{pow-add, pow_pos, shr-shr, shr_below, shr_high, mod_low, shl_whole, mul-add-lt, mod_below, one_shl}
+use Rattle.std.proofs.Math.Nat.{pow-le-pow_right}
+use Rattle.tc_bits.specs.Register.{field, Replaces}
+
+-- a number of j digits and one of k digits behind it have j + k digits
+pub joined_below : (j k high low : ℕ) → high < 2 ^ j → low < 2 ^ k → high * 2 ^ k + low < 2 ^ (j + k)
+joined_below j k high low h l = omega (arith, mul-add-lt high (2 ^ k) low (2 ^ j) h l, pow-add 2 j k)
+
+pow_bound : (n j k : ℕ) → j ≤ k → n < 2 ^ j → n < 2 ^ k
+pow_bound n j k le h = omega (arith, pow-le-pow_right {n = 2} (omega arith) le)
+
+-- what stands above the field has the bits that are left
+pub above_below : (bits first width rest : ℕ) → bits < 2 ^ (rest + (first + width)) → bits / 2 ^ first / 2 ^ width < 2 ^ rest
+above_below bits first width rest h = rw (shr-shr bits first width) (shr_below bits rest (first + width) h)
+
+-- the three parts put together hold the value, and the rest as it was
+pub put_together : (bits first width value : ℕ) → value < 2 ^ width
+    → Replaces bits ((bits / 2 ^ first / 2 ^ width * 2 ^ width + value) * 2 ^ first + bits % 2 ^ first) first width value
+put_together bits first width value fits =
+    let high = bits / 2 ^ first / 2 ^ width in
+    let middle = high * 2 ^ width + value in
+    let low = bits % 2 ^ first in
+    let below : low < 2 ^ first = mod_below bits (2 ^ first) (pow_pos first) in
+    let shifted : (middle * 2 ^ first + low) / 2 ^ first ≡ middle = shr_high middle first low below in
+    record {
+      put = rw shifted (mod_low high width value fits);
+      below = mod_low middle first low below;
+      above = rw (← shr-shr (middle * 2 ^ first + low) first width, ← shr-shr bits first width, shifted) (shr_high high width value fits);
+    }
+
+-- none of the sums and shifts by which the field is written leaves the 128 bits
+pub record Stays (bits first width value : ℕ) : Type 0 where
+  pub one : 1 * 2 ^ first % 2 ^ 128 ≡ 2 ^ first
+  pub above : bits / 2 ^ first / 2 ^ width * 2 ^ width % 2 ^ 128 ≡ bits / 2 ^ first / 2 ^ width * 2 ^ width
+  pub middle : bits / 2 ^ first / 2 ^ width * 2 ^ width + value < 2 ^ 128
+  pub shifted : (bits / 2 ^ first / 2 ^ width * 2 ^ width + value) * 2 ^ first % 2 ^ 128 ≡ (bits / 2 ^ first / 2 ^ width * 2 ^ width + value) * 2 ^ first
+  pub whole : (bits / 2 ^ first / 2 ^ width * 2 ^ width + value) * 2 ^ first + bits % 2 ^ first < 2 ^ 128
+
+stays_with : (bits first width value rest : ℕ) → rest + (first + width) ≡ 128 → bits < 2 ^ 128 → 1 ≤ width → value < 2 ^ width → Stays bits first width value
+stays_with bits first width value rest sum h some fits =
+    let high = bits / 2 ^ first / 2 ^ width in
+    let high_fits : high < 2 ^ rest = above_below bits first width rest (rw sum h) in
+    let middle_fits : high * 2 ^ width + value < 2 ^ (rest + width) = joined_below rest width high value high_fits fits in
+    let low_fits : bits % 2 ^ first < 2 ^ first = mod_below bits (2 ^ first) (pow_pos first) in
+    let whole_fits : (high * 2 ^ width + value) * 2 ^ first + bits % 2 ^ first < 2 ^ (rest + width + first) =
+    joined_below (rest + width) first (high * 2 ^ width + value) (bits % 2 ^ first) middle_fits low_fits in
+    let total : rest + width + first ≡ 128 = omega arith in
+    record {
+      one = one_shl first 128 (omega arith);
+      above = shl_whole high rest width 128 high_fits (omega arith);
+      middle = pow_bound (high * 2 ^ width + value) (rest + width) 128 (omega arith) middle_fits;
+      shifted = shl_whole (high * 2 ^ width + value) (rest + width) first 128 middle_fits (omega arith);
+      whole = rw total at whole_fits;
+    }
+
+pub stays : (bits first width value : ℕ) → bits < 2 ^ 128 → 1 ≤ width → first + width ≤ 128 → value < 2 ^ width → Stays bits first width value
+stays bits first width value h some within fits = stays_with bits first width value (128 - (first + width)) (omega arith) h some fits

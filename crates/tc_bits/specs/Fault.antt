@@ -1,0 +1,40 @@
+-- The faults of the fields of a word, in the order in which they are looked for (this project's).
+use Rattle.std.specs.Prelude.{ℕ, ◌+◌, ◌*◌, Bool, nat_lt, nat_le, List, [], ◌∷◌, codes, Option, find}
+use Rattle.std.specs.Option.{option_map}
+use Rattle.tc_address.specs.declared.system.System.{System}
+use Rattle.tc_address.specs.Count.{rate_of}
+use Rattle.tc_address.specs.Label.{is_skipped}
+use Rattle.tc_bits.specs.declared.fault.FieldFault.{FieldFault}
+use Rattle.tc_bits.specs.declared.fault.FieldFault.TheVariants.{FrameUnits, Frames, SecondUnits, SecondTens, MinuteUnits, MinuteTens, HourUnits, Hours, DroppedLabel}
+use Rattle.tc_bits.specs.declared.raw.RawFields.{RawFields}
+use Rattle.tc_bits.specs.Fields.{address_of}
+
+-- each fault with its condition, in the order of the table
+abbrev pub conditions : System → RawFields → List (Bool × FieldFault)
+conditions system raw =
+    (nat_lt 9 raw.frame_units, FrameUnits)
+    ∷ (nat_le (rate_of system) (10 * raw.frame_tens + raw.frame_units), Frames)
+    ∷ (nat_lt 9 raw.second_units, SecondUnits)
+    ∷ (nat_lt 5 raw.second_tens, SecondTens)
+    ∷ (nat_lt 9 raw.minute_units, MinuteUnits)
+    ∷ (nat_lt 5 raw.minute_tens, MinuteTens)
+    ∷ (nat_lt 9 raw.hour_units, HourUnits)
+    ∷ (nat_lt 23 (10 * raw.hour_tens + raw.hour_units), Hours)
+    ∷ (is_skipped (address_of system raw), DroppedLabel)
+    ∷ []
+
+-- the first fault whose condition holds
+abbrev pub first_fault : System → RawFields → Option FieldFault
+first_fault system raw = option_map (λ row. row.1) (find (λ row. row.0) (conditions system raw))
+
+-- the name that a report prints
+abbrev pub name_of : FieldFault → List ℕ
+name_of FrameUnits = codes "frame-units"
+name_of Frames = codes "frames"
+name_of SecondUnits = codes "second-units"
+name_of SecondTens = codes "second-tens"
+name_of MinuteUnits = codes "minute-units"
+name_of MinuteTens = codes "minute-tens"
+name_of HourUnits = codes "hour-units"
+name_of Hours = codes "hours"
+name_of DroppedLabel = codes "dropped-label"

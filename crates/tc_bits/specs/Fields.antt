@@ -1,0 +1,79 @@
+-- The fields of a word (SMPTE 12M, the tables of the linear and of the vertical interval code):
+-- a frame address, flag bits and user bits, and the digits that a word has for them.
+use Rattle.std.specs.Prelude.{◌≡◌, ℕ, ◌+◌, ◌*◌, ◌/◌, ◌%◌, ◌<◌, Bool, true, false, not}
+use Rattle.tc_address.specs.declared.system.System.{System}
+use Rattle.tc_address.specs.declared.system.System.TheVariants.{F24, F25, F30}
+use Rattle.tc_address.specs.declared.count.Count.{Count}
+use Rattle.tc_address.specs.declared.count.Count.TheVariants.{C24, C25, C30, Drop30}
+use Rattle.tc_address.specs.Count.{system_with}
+use Rattle.tc_address.specs.Label.{Address, address, IsLabel}
+use Rattle.tc_bits.specs.declared.flags.Flags.{Flags}
+use Rattle.tc_bits.specs.declared.raw.RawFields.{RawFields}
+
+-- a frame address with its flag bits and user bits
+pub record Contents : Type 0 where
+  pub label : Address
+  pub flags : Flags
+  pub user : ℕ
+
+abbrev pub contents : Address → Flags → ℕ → Contents
+contents label flags user = record { label = label; flags = flags; user = user }
+
+-- at 30 frames the drop-frame flag tells the count; at 24 and 25 it has no effect
+abbrev pub agrees : Count → Bool → Bool
+agrees C24 flag = true
+agrees C25 flag = true
+agrees C30 flag = not flag
+agrees Drop30 flag = flag
+
+-- the address is a label, and the drop-frame flag agrees with its count
+pub record IsFields (c : Contents) : Type 0 where
+  pub label : IsLabel c.label
+  pub flag : agrees c.label.count c.flags.bit10 ≡ true
+
+-- the units and tens of the address, with the flags and the user bits
+abbrev pub digits_of : Contents → RawFields
+digits_of c = record {
+  frame_units = c.label.frames % 10;
+  frame_tens = c.label.frames / 10;
+  second_units = c.label.seconds % 10;
+  second_tens = c.label.seconds / 10;
+  minute_units = c.label.minutes % 10;
+  minute_tens = c.label.minutes / 10;
+  hour_units = c.label.hours % 10;
+  hour_tens = c.label.hours / 10;
+  flags = c.flags;
+  user = c.user;
+}
+
+-- the count of a word in a system, by its drop-frame flag
+abbrev pub count_in : System → Bool → Count
+count_in F24 flag = C24
+count_in F25 flag = C25
+count_in F30 false = C30
+count_in F30 true = Drop30
+
+-- each unit has four bits, and each ten has three at most
+pub record FitsDigits (raw : RawFields) : Type 0 where
+  pub frame_units : raw.frame_units < 16
+  pub frame_tens : raw.frame_tens < 8
+  pub second_units : raw.second_units < 16
+  pub second_tens : raw.second_tens < 8
+  pub minute_units : raw.minute_units < 16
+  pub minute_tens : raw.minute_tens < 8
+  pub hour_units : raw.hour_units < 16
+  pub hour_tens : raw.hour_tens < 8
+
+-- the address that the digits say
+abbrev pub address_of : System → RawFields → Address
+address_of system raw = address (count_in system raw.flags.bit10)
+    (10 * raw.hour_tens + raw.hour_units)
+    (10 * raw.minute_tens + raw.minute_units)
+    (10 * raw.second_tens + raw.second_units)
+    (10 * raw.frame_tens + raw.frame_units)
+
+-- the system's fields that have these digits
+pub record Says (system : System) (raw : RawFields) (c : Contents) : Type 0 where
+  pub valid : IsFields c
+  pub count : system_with c.label.count ≡ system
+  pub digits : digits_of c ≡ raw

@@ -1,0 +1,17 @@
+//! The flag bits of a word.
+
+/// The flag bits of a word, kept bit for bit.
+#[derive(Clone, Copy, Debug, PartialEq, Eq)]
+pub struct Flags {
+    /// The drop-frame flag: bit 10 of an LTC word, bit 14 of a VITC line. At 30 frames it says
+    /// that labels are dropped, and at 24 and 25 it has no effect.
+    pub bit10: bool,
+    /// The colour-frame flag: bit 11 of an LTC word, bit 15 of a VITC line. It has no effect.
+    pub colour: bool,
+    /// Binary group flag 0.
+    pub bgf0: bool,
+    /// Binary group flag 1.
+    pub bgf1: bool,
+    /// Binary group flag 2.
+    pub bgf2: bool,
+}
