@@ -1,1 +1,3 @@
+pub mod CellsEnd
+pub mod WordsEnd
 pub mod WrittenOver

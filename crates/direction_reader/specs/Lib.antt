@@ -1,3 +1,10 @@
 pub mod Bits
 pub mod Boundaries
+pub mod Brings
+pub mod Candidate
+pub mod Events
+pub mod Lock
+pub mod Reader
+pub mod Spacing
+pub mod Stretch
 pub mod Window

@@ -1,5 +1,5 @@
 -- The interval file, byte by byte: what each completes, and the first fault.
-use Rattle.std.specs.Prelude.{ℕ, ◌+◌, ◌*◌, ◌-◌, List, [], ◌∷◌, ◌++◌, length, slice_index, Option, Some, None, Result, Ok, Err, nat_lt, nat_le, ◌==◌, ◌&&◌, ◌||◌, not, is_some, if◌then◌else◌}
+use Rattle.std.specs.Prelude.{◌≡◌, ◌≢◌, ◌<◌, ◌≤◌, ◌%◌, ◌⊎◌, ℕ, ◌+◌, ◌*◌, ◌-◌, List, [], ◌∷◌, ◌++◌, length, slice_index, Option, Some, None, Result, Ok, Err, nat_lt, nat_le, ◌==◌, ◌&&◌, ◌||◌, not, is_some, if◌then◌else◌}
 use Rattle.byteorder.specs.Endian.{big_number}
 use Rattle.tc_address.specs.declared.system.System.{System}
 use Rattle.tc_files.specs.declared.interval_file.header.TheConstants.{MAGIC, VERSION, HEADER_LENGTH, HEAD_LENGTH, MAX_TICK_RATE}
@@ -8,15 +8,8 @@ use Rattle.tc_files.specs.declared.fault.FileFault.{FileFault}
 use Rattle.tc_files.specs.declared.fault.FileFault.TheVariants as fault
 use Rattle.tc_files.specs.declared.interval_file.decoder.Taken.{Taken}
 use Rattle.tc_files.specs.declared.interval_file.decoder.Taken.TheVariants.{Nothing, Header, Interval, Fault}
-use Rattle.tc_files.specs.IntervalHeader.{system_at}
-
--- how far the bytes have come: their number, the system where it was read, the bytes of a number
--- that is not whole, and the first fault
-pub record Progress : Type 0 where
-  pub taken : ℕ
-  pub system : Option System
-  pub part : List ℕ
-  pub fault : Option FileFault
+use Rattle.tc_files.specs.IntervalHeader.{IsTickRate, system_at}
+use Rattle.tc_files.specs.Progress.{Progress}
 
 -- the progress of no bytes
 abbrev pub no_progress : Progress
@@ -83,3 +76,10 @@ abbrev pub end : Progress → Result Unit FileFault
 end p = elim p.fault [
   | Some first ↦ Err first
   | None ↦ if nat_le HEADER_LENGTH p.taken && (length p.part == 0) then Ok tt else Err (fault.Truncated p.taken) ]
+
+-- what so many bytes may complete: the header is whole with twelve, each interval with four more
+abbrev pub CompletesAt : Taken → ℕ → Type 0
+CompletesAt Nothing taken = (taken < HEADER_LENGTH) ⊎ (taken % 4 ≢ 0)
+CompletesAt (Header header) taken = (taken ≡ HEADER_LENGTH) × IsTickRate header.tick_rate
+CompletesAt (Interval ticks) taken = (HEADER_LENGTH < taken) × (taken % 4 ≡ 0) × (1 ≤ ticks) × (ticks ≤ MAX_INTERVAL)
+CompletesAt (Fault first) taken = Unit {0}

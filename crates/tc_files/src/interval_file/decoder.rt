@@ -1,9 +1,9 @@
-ghost use Rattle.std.specs.Prelude.{◌≡◌, ◌<◌, ◌≤◌, ◌^◌, ◌++◌, [], ◌∷◌, length};
+ghost use Rattle.std.specs.Prelude.{◌≡◌, ◌<◌, ◌≤◌, ◌^◌, ◌++◌, ◌+◌, [], ◌∷◌, length, IfNone};
 ghost use Rattle.byteorder.specs.Endian.{big_number};
 ghost use Rattle.arrayvec.specs.ArrayVec.{array_vec_len};
 ghost use Rattle.tc_files.specs.IntervalFile.{
     no_progress, answer, after, end, fault_in, head_answer, header_answer, interval_answer,
-    kept_part, whole_answer,
+    kept_part, whole_answer, CompletesAt,
 };
 
 use crate::fault::FileFault;
@@ -39,15 +39,13 @@ pub struct IntervalDecoder {
 }
 
 impl Model for IntervalDecoder {
-    ghost use Rattle.std.specs.Prelude.{◌≡◌, ◌≤◌, ◌<◌, ◌%◌, length, nat_lt, if◌then◌else◌};
-    ghost use Rattle.tc_files.specs.declared.interval_file.header.TheConstants.{HEAD_LENGTH};
-    ghost use Rattle.tc_files.specs.IntervalFile.{Progress};
+    ghost use Rattle.tc_files.specs.Progress.{Progress, IsProgress};
 
     ghost Value = { Progress };
 
     ghost view = { λ d. record { taken = d.taken; system = d.system; part = d.part.items; fault = d.fault } };
 
-    ghost invariant = { λ d. length d.part.items < 4 };
+    ghost invariant = { λ d. IsProgress d.taken d.part.items };
 }
 
 impl IntervalDecoder {
@@ -69,6 +67,10 @@ impl IntervalDecoder {
         requires { self.old.taken < 2 ^ 62 }
         ensures answers { result ≡ answer self.old byte }
         ensures next { self.new ≡ after self.old byte }
+
+        // Where the first fault was not met before, a header, an interval or nothing is completed
+        // only at its byte place.
+        ensures completes { IfNone self.old.fault (CompletesAt result (self.old.taken + 1)) }
     {
         if let Some(fault) = self.fault {
             return Taken::Fault(fault);

@@ -1,0 +1,55 @@
+//! The words that a window of 80 bits may be. Next: `reader`.
+ghost use Rattle.std.specs.Prelude.{◌≡◌, ◌<◌, ◌^◌, IfSome};
+ghost use Rattle.direction_reader.specs.Candidate.{IsEventOf, BearsOnly};
+
+use crate::event::{Event, Events};
+use ltc_word::{WordFault, begins_in_reversed_sync, decode, ends_in_sync, reversed};
+use tc_address::{Direction, System};
+
+/// The events of one window, whose bit 0 is the oldest. That of the word read forward comes first,
+/// where the window ends in the sync word, and then that of the word read backward, where the
+/// window begins with the sync word in reverse. The tick is that of the window's end, and the length
+/// that of its 80 cells.
+pub fn window_events(system: System, bits: u128, tick: u64, length: u64) -> Events
+    requires { bits < 2 ^ 80 }
+    ensures { BearsOnly tick length result }
+{
+    let forward = if ends_in_sync(bits) {
+        candidate(Direction::Forward, system, bits, tick, length)
+    } else {
+        None
+    };
+    let backward = if begins_in_reversed_sync(bits) {
+        candidate(Direction::Backward, system, reversed(bits), tick, length)
+    } else {
+        None
+    };
+    Events::in_order(forward, backward)
+}
+
+/// The event of a window, read in its direction from these bits.
+fn candidate(
+    direction: Direction,
+    system: System,
+    bits: u128,
+    tick: u64,
+    length: u64,
+) -> Option<Event>
+    requires { bits < 2 ^ 80 }
+    ensures { IfSome result (IsEventOf system direction bits tick length) }
+{
+    match decode(system, bits) {
+        Ok(word) => Some(Event::Word {
+            direction,
+            word,
+            tick,
+            length,
+        }),
+        Err(WordFault::Field(fault)) => Some(Event::Refused {
+            direction,
+            fault,
+            tick,
+        }),
+        Err(WordFault::Sync(_)) => None,
+    }
+}

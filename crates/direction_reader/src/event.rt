@@ -1,0 +1,71 @@
+//! What the reader answers. Next: `window`.
+ghost use Rattle.std.specs.Prelude.{◌≡◌};
+
+use ltc_word::LtcWord;
+use tc_address::Direction;
+use tc_bits::FieldFault;
+
+/// What an interval brought. The tick is the sum of all intervals up to and with that one.
+#[derive(Clone, Copy, Debug, PartialEq, Eq)]
+pub enum Event {
+    /// A word of linear time code.
+    Word {
+        direction: Direction,
+        word: LtcWord,
+        tick: u64,
+        /// The sum of the intervals of its 80 cells, in ticks.
+        length: u64,
+    },
+    /// A candidate whose fields are at fault.
+    Refused {
+        direction: Direction,
+        fault: FieldFault,
+        tick: u64,
+    },
+    /// The stretch broke at the interval of this place, counted from 0.
+    Lost { interval: u64, tick: u64 },
+}
+
+/// What one interval brought: nothing, one event as the first, or two.
+#[derive(Clone, Copy, Debug, PartialEq, Eq)]
+pub struct Events {
+    pub first: Option<Event>,
+    pub second: Option<Event>,
+}
+
+impl Events {
+    ghost use Rattle.direction_reader.specs.Events.{no_events, one_event, in_order};
+
+    /// No event.
+    pub(crate) fn none() -> Events
+        ensures { result ≡ no_events }
+    {
+        Events {
+            first: None,
+            second: None,
+        }
+    }
+
+    /// One event.
+    pub(crate) fn one(event: Event) -> Events
+        ensures { result ≡ one_event event }
+    {
+        Events {
+            first: Some(event),
+            second: None,
+        }
+    }
+
+    /// Those that are there, in this order.
+    pub(crate) fn in_order(first: Option<Event>, second: Option<Event>) -> Events
+        ensures { result ≡ in_order first second }
+    {
+        match first {
+            None => Events {
+                first: second,
+                second: None,
+            },
+            Some(_) => Events { first, second },
+        }
+    }
+}

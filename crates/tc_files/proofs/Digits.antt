@@ -1,0 +1,16 @@
+-- A number below a power of two has so many decimal digits at most.
+use Rattle.std.proofs.Common.{ℕ, ◌<◌, ◌≤◌, ◌^◌, length, arith}
+use Rattle.std.specs.Prelude.{decimal}
+use Rattle.std.proofs.lemmas.Fmt.{length-decimal-le}
+
+pub digits_of_length : (n : ℕ) → n < 2 ^ 32 → length (decimal n) ≤ 10
+digits_of_length n p = length-decimal-le 10 n (omega arith) (omega arith) (omega arith)
+
+pub digits_of_speed : (n : ℕ) → n < 2 ^ 37 → length (decimal n) ≤ 12
+digits_of_speed n p = length-decimal-le 12 n (omega arith) (omega arith) (omega arith)
+
+pub digits_of_count : (n : ℕ) → n < 2 ^ 40 → length (decimal n) ≤ 13
+digits_of_count n p = length-decimal-le 13 n (omega arith) (omega arith) (omega arith)
+
+pub digits_of_tick : (n : ℕ) → n < 2 ^ 60 → length (decimal n) ≤ 19
+digits_of_tick n p = length-decimal-le 19 n (omega arith) (omega arith) (omega arith)

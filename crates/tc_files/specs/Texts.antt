@@ -1,0 +1,54 @@
+-- The lines of a reading, byte for byte.
+use Rattle.std.specs.Prelude.{ℕ, ◌*◌, ◌/◌, ◌<◌, ◌≤◌, ◌^◌, List, ◌++◌, codes, decimal}
+use Rattle.std.specs.Int.{w32, to_be_bytes}
+use Rattle.hex.specs.Hex.{encode_lower}
+use Rattle.tc_address.specs.declared.direction.Direction.{Direction}
+use Rattle.tc_address.specs.declared.direction.Direction.TheVariants.{Forward, Backward}
+use Rattle.tc_address.specs.Count.{rate_of}
+use Rattle.tc_address.specs.Spelling.{text_of}
+use Rattle.tc_bits.specs.declared.flags.Flags.{Flags}
+use Rattle.tc_bits.specs.Fault.{name_of}
+use Rattle.direction_reader.specs.declared.event.Event.{Event}
+use Rattle.direction_reader.specs.declared.event.Event.TheVariants.{Word, Refused, Lost}
+use Rattle.tc_files.specs.declared.interval_file.header.IntervalHeader.{IntervalHeader}
+use Rattle.tc_files.specs.Line.{flag_digit}
+
+abbrev pub direction_name : Direction → List ℕ
+direction_name Forward = codes "forward"
+direction_name Backward = codes "backward"
+
+-- drop-frame flag, colour-frame flag, and binary group flags 0, 1 and 2
+abbrev pub flags_text : Flags → List ℕ
+flags_text f = flag_digit f.bit10 ++ flag_digit f.colour ++ flag_digit f.bgf0 ++ flag_digit f.bgf1 ++ flag_digit f.bgf2
+
+-- eight hexadecimal digits, user group 8 first
+abbrev pub user_text : ℕ → List ℕ
+user_text user = encode_lower (to_be_bytes w32 user)
+
+-- thousandths of nominal, rounded down: at nominal speed a word lasts a frame of the system
+abbrev pub speed_of : IntervalHeader → ℕ → ℕ
+speed_of header length = 1000 * header.tick_rate / (rate_of header.system * length)
+
+-- the line of an event
+abbrev pub event_line : IntervalHeader → Event → List ℕ
+event_line header (Word direction word tick length) =
+  codes "word " ++ direction_name direction ++ codes " " ++ text_of word.fields.label
+  ++ codes " user " ++ user_text word.fields.user ++ codes " flags " ++ flags_text word.fields.flags
+  ++ codes " balance " ++ flag_digit word.balanced ++ codes " tick " ++ decimal tick
+  ++ codes " length " ++ decimal length ++ codes " speed " ++ decimal (speed_of header length) ++ codes "\n"
+event_line header (Refused direction fault tick) =
+  codes "refused " ++ direction_name direction ++ codes " " ++ name_of fault ++ codes " tick " ++ decimal tick ++ codes "\n"
+event_line header (Lost interval tick) =
+  codes "lost interval " ++ decimal interval ++ codes " tick " ++ decimal tick ++ codes "\n"
+
+-- the last line of a reading
+abbrev pub read_end_line : ℕ → ℕ → ℕ → ℕ → ℕ → List ℕ
+read_end_line intervals words refused lost ticks =
+  codes "end intervals " ++ decimal intervals ++ codes " words " ++ decimal words ++ codes " refused " ++ decimal refused
+  ++ codes " lost " ++ decimal lost ++ codes " ticks " ++ decimal ticks ++ codes "\n"
+
+-- the numbers of an event are small enough for its line
+abbrev pub FitsLine : Event → Type 0
+FitsLine (Word direction word tick length) = (tick < 2 ^ 60) × (1 ≤ length) × (length < 2 ^ 32)
+FitsLine (Refused direction fault tick) = tick < 2 ^ 60
+FitsLine (Lost interval tick) = (interval < 2 ^ 40) × (tick < 2 ^ 60)

@@ -1,0 +1,31 @@
+//! The last lines of the reports.
+ghost use Rattle.std.specs.Prelude.{◌≡◌, ◌<◌, ◌^◌};
+ghost use Rattle.tc_files.specs.Texts.{read_end_line};
+
+use crate::texts::line::{Text, push_bytes, push_number};
+
+/// The last line of a reading: the numbers of intervals, of words, of refused words and of breaks,
+/// and the sum of the intervals in ticks.
+#[tactic(auto, using(crate::proofs::Digits::digits_of_count, crate::proofs::Digits::digits_of_tick))]
+pub fn read_end_text(intervals: u64, words: u64, refused: u64, lost: u64, ticks: u64) -> Text
+    requires intervals { intervals < 2 ^ 40 }
+    requires words { words < 2 ^ 40 }
+    requires refused { refused < 2 ^ 40 }
+    requires lost { lost < 2 ^ 40 }
+    requires ticks { ticks < 2 ^ 60 }
+    ensures { result.items ≡ read_end_line intervals words refused lost ticks }
+{
+    let mut line = Text::new();
+    push_bytes(&mut line, b"end intervals ");
+    push_number(&mut line, intervals);
+    push_bytes(&mut line, b" words ");
+    push_number(&mut line, words);
+    push_bytes(&mut line, b" refused ");
+    push_number(&mut line, refused);
+    push_bytes(&mut line, b" lost ");
+    push_number(&mut line, lost);
+    push_bytes(&mut line, b" ticks ");
+    push_number(&mut line, ticks);
+    push_bytes(&mut line, b"\n");
+    line
+}
