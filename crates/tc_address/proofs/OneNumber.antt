@@ -1,13 +1,15 @@
 -- Each number of the day has one label and each label one number, so each is found from the other.
-use Rattle.std.proofs.Common.{◌≡◌, ℕ, zero, suc, ◌+◌, ◌<◌, ◌≤◌, Bool, true, false, cond, not, List, [], ◌∷◌, length, Some, None, slice_get, ℤ, refl, sym, ◌∙◌, ap, subst, arith}
+use Rattle.std.proofs.Common.{◌≡◌, ℕ, zero, suc, ◌+◌, ◌<◌, ◌≤◌, Bool, true, false, cond, not, List, [], ◌∷◌, length, Some, None, slice_get, ℤ, pos, ◌+ℤ◌, refl, sym, ◌∙◌, ap, subst, arith}
 use Rattle.std.specs.List.{position_or_len}
 use Rattle.std.specs.Option.{unwrap_or}
-use Rattle.std.proofs.lemmas.Option.{slice_get_past}
+use Rattle.std.proofs.lemmas.Option.{slice_get_past, slice_get_within}
 use Rattle.std.proofs.lemmas.Bool.Decides.{nat_tests}
 use Rattle.tc_address.specs.declared.count.Count.{Count}
+use Rattle.tc_address.specs.declared.count.Count.TheVariants.{C24, C25, C30, Drop30}
 use Rattle.tc_address.specs.Label.{Address, address, IsLabel, labels}
 use Rattle.tc_address.specs.Numbering.{day_length, is_same_time, number_of, step}
 use Rattle.tc_address.specs.Circle.{moved}
+use Rattle.tc_address.proofs.AroundTheDay.{moved-below, moved-zero, moved-add}
 use Rattle.tc_address.proofs.ClosedArithmetic.{place_of, label_with, label_with-place, place-below}
 use Rattle.tc_address.proofs.DayInOrder.{IsAt, Runs, labels_run, length_labels}
 
@@ -89,6 +91,23 @@ number_of_place a l =
 pub number_of_below : (a : Address) → IsLabel a → number_of a < day_length a.count
 number_of_below a l = omega (arith, number_of_place a l, place-below a.count a.hours a.minutes a.seconds a.frames l)
 
+-- a label stands at the place that its number says
+pub get_number_of : (a : Address) → IsLabel a → slice_get (labels a.count) (number_of a) ≡ Some a
+get_number_of a l =
+    let bound = place-below a.count a.hours a.minutes a.seconds a.frames l in
+    ap (slice_get (labels a.count)) (number_of_place a l) ∙ get_labels a.count (place_of a) bound
+    ∙ ap (λ b. Some b) (label_with-place a.count a.hours a.minutes a.seconds a.frames l)
+
+-- what stands at a place is a label with the number of that place
+pub number_of_get : (c : Count) (n : ℕ) (a : Address) → slice_get (labels c) n ≡ Some a → (number_of a ≡ n) × (a.count ≡ c) × IsLabel a
+number_of_get c n a e =
+    let within : n < day_length c = omega (arith, slice_get_within (labels c) n a e, length_labels c) in
+    let found = found_at c n within in
+    let b = found.0 in
+    let same : b ≡ a = let both : Some b ≡ Some a = sym found.1 ∙ e in cc in
+    let label : IsLabel a = subst IsLabel same found.2.label in
+    (number_of_place a label ∙ ap place_of (sym same) ∙ found.2.number, ap (λ x. x.count) (sym same) ∙ found.2.count, label)
+
 -- the label at the place that a step leads to
 pub step_at : (a b : Address) (steps : ℤ) (n : ℕ) → slice_get (labels a.count) n ≡ Some b → n ≡ moved (day_length a.count) (number_of a) steps → b ≡ step a steps
 unfolding step
@@ -96,3 +115,34 @@ step_at a b steps n found e =
     let there : slice_get (labels a.count) (moved (length (labels a.count)) (number_of a) steps) ≡ Some b =
     ap (λ d. slice_get (labels a.count) (moved d (number_of a) steps)) (length_labels a.count) ∙ ap (slice_get (labels a.count)) (sym e) ∙ found in
     sym (ap (λ o. unwrap_or o a) there)
+
+day_length-pos : (c : Count) → 0 < day_length c
+day_length-pos C24 = omega arith
+day_length-pos C25 = omega arith
+day_length-pos C30 = omega arith
+day_length-pos Drop30 = omega arith
+
+-- a step of a label leads to a label, whose number is the place that the step leads to
+pub step_get : (a : Address) (steps : ℤ) → slice_get (labels a.count) (moved (day_length a.count) (number_of a) steps) ≡ Some (step a steps)
+step_get a steps =
+    let n = moved (day_length a.count) (number_of a) steps in
+    let found = found_at a.count n (moved-below (day_length a.count) (number_of a) steps (day_length-pos a.count)) in
+    found.1 ∙ ap (λ b. Some b) (step_at a found.0 steps n found.1 refl)
+
+pub step-zero : (a : Address) → IsLabel a → step a (pos 0) ≡ a
+step-zero a l =
+    let bound : number_of a < day_length a.count = number_of_below a l in
+    sym (step_at a a (pos 0) (number_of a) (get_number_of a l) (sym (moved-zero (day_length a.count) (number_of a) bound)))
+
+pub step-add : (a : Address) (j k : ℤ) → step (step a j) k ≡ step a (j +ℤ k)
+step-add a j k =
+    let first = number_of_get a.count (moved (day_length a.count) (number_of a) j) (step a j) (step_get a j) in
+    let count : (step a j).count ≡ a.count = first.1 in
+    let number : number_of (step a j) ≡ moved (day_length a.count) (number_of a) j = first.0 in
+    let place : moved (day_length (step a j).count) (number_of (step a j)) k ≡ moved (day_length a.count) (number_of a) (j +ℤ k) =
+    ap (λ c. moved (day_length c) (number_of (step a j)) k) count ∙ ap (λ n. moved (day_length a.count) n k) number
+    ∙ moved-add (day_length a.count) (number_of a) j k (day_length-pos a.count) in
+    let found : slice_get (labels a.count) (moved (day_length a.count) (number_of a) (j +ℤ k)) ≡ Some (step (step a j) k) =
+    ap (slice_get (labels a.count)) (sym place) ∙ ap (λ c. slice_get (labels c) (moved (day_length (step a j).count) (number_of (step a j)) k)) (sym count)
+    ∙ step_get (step a j) k in
+    step_at a (step (step a j) k) (j +ℤ k) (moved (day_length a.count) (number_of a) (j +ℤ k)) found refl

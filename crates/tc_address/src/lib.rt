@@ -9,6 +9,7 @@ mod circle;
 mod count;
 mod direction;
 mod label;
+pub mod laws;
 mod numbering;
 mod spelling;
 mod system;

@@ -1,4 +1,4 @@
-ghost use Rattle.std.specs.Prelude.{◌≡◌, ◌+◌, ◌*◌, ◌<◌, ◌≤◌, length, slice_get, IfSome};
+ghost use Rattle.std.specs.Prelude.{◌≡◌, ◌+◌, ◌*◌, ◌%◌, ◌<◌, ◌≤◌, ◌↔◌, length, slice_get, IfSome, IsNone};
 ghost use Rattle.tc_address.specs.Label.{labels, IsLabel};
 ghost use Rattle.tc_address.specs.DropFrame.{left_out_before, left_out_until};
 ghost use Rattle.tc_address.specs.Numbering.{day_length, number_of, step};
@@ -17,11 +17,13 @@ const SHORT_MINUTE: u32 = 1_798;
 /// The subframes of a frame.
 pub const SUBFRAMES: u32 = 80;
 
-#[tactic(auto, using(crate::proofs::DayInOrder::length_labels))]
 /// How many labels a day has.
+#[tactic(auto, using(crate::proofs::DayInOrder::length_labels))]
 pub fn day_labels(count: Count) -> u32
     ensures counted { result ≡ length (labels count) }
     ensures value { result ≡ day_length count }
+    ensures most { result ≤ 2_592_000 }
+    ensures some { 2 ≤ result }
 {
     match count {
         Count::C24 => 2_073_600,
@@ -35,6 +37,11 @@ pub fn day_labels(count: Count) -> u32
 pub fn day_subframes(count: Count) -> u32
     ensures counted { result ≡ 80 * length (labels count) }
     ensures value { result ≡ 80 * day_length count }
+
+    // A day of subframes is a circle that `shortest` takes.
+    ensures most { result ≤ 207_360_000 }
+    ensures some { 2 ≤ result }
+    ensures even { result % 2 ≡ 0 }
 {
     SUBFRAMES * day_labels(count)
 }
@@ -50,11 +57,14 @@ fn left_out_before(count: Count, minutes: u32) -> u32
     }
 }
 
-#[tactic(auto, using(crate::proofs::OneNumber::number_of_place, crate::proofs::OneNumber::is_label_with))]
 /// How many labels of the count stand before the label in its day.
+#[tactic(auto, using(crate::proofs::OneNumber::number_of_place, crate::proofs::OneNumber::get_number_of))]
 pub fn number(label: &Label) -> u32
     ensures before { result ≡ number_of label.now }
+    ensures place { slice_get (labels label.now.count) result ≡ Some label.now }
     ensures below { result < day_length label.now.count }
+    ensures most { result < 2_592_000 }
+    ensures valid { IsLabel label.now }
 {
     let minutes = 60 * label.hours() + label.minutes();
     let seconds = 60 * minutes + label.seconds();
@@ -77,11 +87,13 @@ fn left_out_until(count: Count, n: u32) -> u32
     }
 }
 
-#[tactic(auto, using(crate::proofs::OneNumber::get_labels, crate::proofs::OneNumber::is_label_with))]
 /// The label of a number of the day.
+#[tactic(auto, using(crate::proofs::OneNumber::get_labels, crate::proofs::OneNumber::is_label_with))]
 fn label_of(count: Count, n: u32) -> Label
     requires { n < day_length count }
     ensures label { slice_get (labels count) n ≡ Some result }
+    ensures valid { IsLabel result }
+    ensures count { result.count ≡ count }
 {
     let frames = n + left_out_until(count, n);
     let rate = rate(system_of(count));
@@ -96,10 +108,12 @@ fn label_of(count: Count, n: u32) -> Label
     )
 }
 
-#[tactic(auto, using(crate::proofs::OneNumber::get_labels_past))]
 /// The label of number n, if the day has so many labels.
+#[tactic(auto, using(crate::proofs::OneNumber::get_labels_past, crate::proofs::OneNumber::number_of_get))]
 pub fn label_at(count: Count, n: u32) -> Option<Label>
-    ensures { result ≡ slice_get (labels count) n }
+    ensures label { result ≡ slice_get (labels count) n }
+    ensures none { IsNone result ↔ (day_length count ≤ n) }
+    ensures number { IfSome result (λ label. (number_of label ≡ n) × (label.count ≡ count) × IsLabel label) }
 {
     if n < day_labels(count) {
         Some(label_of(count, n))
@@ -111,7 +125,9 @@ pub fn label_at(count: Count, n: u32) -> Option<Label>
 /// The label so many labels further, or back where `steps` is negative. The day begins again at its
 /// end.
 pub fn advance(label: &Label, steps: i64) -> Label
-    ensures { result ≡ step label.now steps }
+    ensures label { result ≡ step label.now steps }
+    ensures valid { IsLabel result }
+    ensures count { result.count ≡ label.now.count }
 {
     let count = label.count();
     label_of(count, moved(day_labels(count), number(label), steps))

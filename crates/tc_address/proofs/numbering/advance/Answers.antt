@@ -7,8 +7,8 @@ use Rattle.tc_address.proofs.OneNumber.{step_at}
 use Rattle.tc_address.proofs.numbering.advance.Goals as goal
 
 -- the label was taken from the place that the step leads to
-pub returns : goal.returns
-returns c =
+pub returns-clause-label : goal.returns-clause-label
+returns-clause-label c =
     let found : slice_get (labels c.args.label.now.count) c.moved.result ≡ Some c.label_of.result = rw c.count-count.ensures.value at c.label_of.ensures.label in
     let day = c.day_labels.ensures.value ∙ ap day_length c.count-count.ensures.value in
     let steps : to_z w64 (of_z w64 c.args.steps) ≡ c.args.steps = omega (arith, ints) in
