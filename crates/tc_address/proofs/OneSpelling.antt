@@ -1,13 +1,15 @@
 -- Two digits say each number below a hundred once, so eleven good bytes are the text of one address.
-use Rattle.std.proofs.Common.{◌≡◌, ℕ, zero, suc, ◌+◌, ◌-◌, ◌*◌, ◌/◌, ◌%◌, ◌<◌, ◌≤◌, ◌==◌, true, List, map, length, slice_index, refl, sym, ◌∙◌, ap, arith}
+use Rattle.std.proofs.Common.{◌≡◌, ℕ, zero, suc, ◌+◌, ◌-◌, ◌*◌, ◌/◌, ◌%◌, ◌<◌, ◌≤◌, ◌==◌, Bool, true, false, List, map, length, slice_index, cond, ◌&&◌, Some, None, refl, sym, ◌∙◌, ap, arith}
 use Rattle.std.specs.List.{range_with_len}
 use Rattle.std.proofs.lemmas.List.FromFn.{fill_by_all}
+use Rattle.std.specs.Str.{bytes_eq}
+use Rattle.std.proofs.lemmas.Slice.Eq.{bytes_eq-Decides}
 use Rattle.std.proofs.lemmas.Bool.Decides.{nat_tests}
 use Rattle.tc_address.specs.declared.count.Count.{Count}
 use Rattle.tc_address.specs.declared.count.Count.TheVariants.{C24, C25, C30, Drop30}
 use Rattle.tc_address.specs.Count.{rate_of, system_with}
-use Rattle.tc_address.specs.Label.{Address, IsLabel}
-use Rattle.tc_address.specs.Spelling.{text_of, separator, is_digit, may_stand, address_in, IsGoodBelow, IsFirstWrongPlace}
+use Rattle.tc_address.specs.Label.{Address, IsLabel, is_label}
+use Rattle.tc_address.specs.Spelling.{text_of, label_in, separator, is_digit, may_stand, address_in, IsGoodBelow, IsFirstWrongPlace}
 
 is_digit-digit : (n : ℕ) → n < 10 → is_digit (48 + n) ≡ true
 is_digit-digit n h = grind (arith, nat_tests)
@@ -79,3 +81,38 @@ no_wrong_place c text place a l e t w =
     ap (λ d. may_stand d place (slice_index text place)) (sym e) ∙ ap (λ xs. may_stand a.count place (slice_index xs place)) t in
     let wrong = w.wrong in
     cc
+
+is_label_true : (a : Address) → IsLabel a → is_label a ≡ true
+is_label_true a l =
+    let counted = l.counted in
+    grind (arith, nat_tests)
+
+label_from_test : (a : Address) → is_label a ≡ true → IsLabel a
+label_from_test a e =
+    record {
+      hours = grind (arith, nat_tests);
+      minutes = grind (arith, nat_tests);
+      seconds = grind (arith, nat_tests);
+      frames = grind (arith, nat_tests);
+      counted = grind (arith, nat_tests);
+    }
+
+-- the text of a label spells that label
+pub label_in-text_of : (c : Count) (text : List ℕ) (a : Address) → IsLabel a → a.count ≡ c → text ≡ text_of a → label_in c text ≡ Some a
+label_in-text_of c text a l e t =
+    let back : address_in c text ≡ a = ap (λ d. address_in d text) (sym e) ∙ ap (address_in a.count) t ∙ address_in-text_of a in
+    let label : is_label (address_in c text) ≡ true = ap is_label back ∙ is_label_true a l in
+    let same : text ≡ text_of (address_in c text) = t ∙ ap text_of (sym back) in
+    let test : bytes_eq text (text_of (address_in c text)) ≡ true = (bytes_eq-Decides text (text_of (address_in c text))).1 same in
+    rw (label, test) (ap (λ b. Some b) back)
+
+label_in_by : (c : Count) (text : List ℕ) → ((a : Address) → IsLabel a → a.count ≡ c → text ≡ text_of a → ⊥) →
+    (p q : Bool) → is_label (address_in c text) ≡ p → bytes_eq text (text_of (address_in c text)) ≡ q → cond (p && q) (Some (address_in c text)) None ≡ None
+label_in_by c text no_label false q e f = refl
+label_in_by c text no_label true false e f = refl
+label_in_by c text no_label true true e f =
+    absurd (no_label (address_in c text) (label_from_test (address_in c text) e) refl ((bytes_eq-Decides text (text_of (address_in c text))).0 f))
+
+-- a text that no label has spells none
+pub label_in-none : (c : Count) (text : List ℕ) → ((a : Address) → IsLabel a → a.count ≡ c → text ≡ text_of a → ⊥) → label_in c text ≡ None
+label_in-none c text no_label = label_in_by c text no_label (is_label (address_in c text)) (bytes_eq text (text_of (address_in c text))) refl refl

@@ -1,5 +1,5 @@
 -- Frame addresses, and which of them are labels (SMPTE 12M, "time address" and "drop frame").
-use Rattle.std.specs.Prelude.{◌≡◌, ℕ, ◌<◌, ◌≤◌, ◌%◌, Bool, true, false, not, ◌&&◌, ◌==◌, nat_le, List, map}
+use Rattle.std.specs.Prelude.{◌≡◌, ℕ, ◌<◌, ◌≤◌, ◌%◌, Bool, true, false, not, ◌&&◌, ◌==◌, nat_le, nat_lt, List, map}
 use Rattle.std.specs.List.{filter, flat_map, range_with_len}
 use Rattle.tc_address.specs.declared.count.Count.{Count}
 use Rattle.tc_address.specs.declared.count.Count.TheVariants.{C24, C25, C30, Drop30}
@@ -40,6 +40,11 @@ pub record IsLabel (a : Address) : Type 0 where
   pub seconds : a.seconds < 60
   pub frames : a.frames < rate_of (system_with a.count)
   pub counted : is_skipped a ≡ false
+
+-- the same as a test
+abbrev pub is_label : Address → Bool
+is_label a =
+    nat_lt a.hours 24 && nat_lt a.minutes 60 && nat_lt a.seconds 60 && nat_lt a.frames (rate_of (system_with a.count)) && not (is_skipped a)
 
 -- the fault is there, and none that is tested before it
 abbrev pub IsFirstFault : LabelFault → Address → Type 0

@@ -1,10 +1,11 @@
 -- The text of a label: `HH:MM:SS:FF`, and `HH:MM:SS;FF` for drop-frame.
-use Rattle.std.specs.Prelude.{◌≡◌, ◌≢◌, ℕ, ◌+◌, ◌-◌, ◌*◌, ◌/◌, ◌%◌, ◌<◌, Bool, true, false, ◌&&◌, ◌==◌, if◌then◌else◌, nat_le, List, [], ◌∷◌, ◌++◌, length, slice_index}
+use Rattle.std.specs.Prelude.{◌≡◌, ◌≢◌, ℕ, ◌+◌, ◌-◌, ◌*◌, ◌/◌, ◌%◌, ◌<◌, Bool, true, false, ◌&&◌, ◌==◌, if◌then◌else◌, nat_le, List, [], ◌∷◌, ◌++◌, length, slice_index, cond, Option, Some, None}
+use Rattle.std.specs.Str.{bytes_eq}
 use Rattle.tc_address.specs.declared.count.Count.{Count}
 use Rattle.tc_address.specs.declared.count.Count.TheVariants.{C24, C25, C30, Drop30}
 use Rattle.tc_address.specs.declared.spelling.TextFault.{TextFault}
 use Rattle.tc_address.specs.declared.spelling.TextFault.TheVariants as faults
-use Rattle.tc_address.specs.Label.{Address, address, IsFirstFault}
+use Rattle.tc_address.specs.Label.{Address, address, is_label, IsFirstFault}
 
 -- two decimal digits
 abbrev pub two_digits : ℕ → List ℕ
@@ -53,3 +54,7 @@ IsFirstTextFault c text faults.Length = length text ≢ 11
 IsFirstTextFault c text (faults.Byte place) = (length text ≡ 11) × IsFirstWrongPlace c text place
 IsFirstTextFault c text (faults.Label fault) =
     (length text ≡ 11) × IsGoodBelow c text 11 × IsFirstFault fault (address_in c text)
+
+-- the label that the text spells, if it spells one
+abbrev pub label_in : Count → List ℕ → Option Address
+label_in c text = cond (is_label (address_in c text) && bytes_eq text (text_of (address_in c text))) (Some (address_in c text)) None

@@ -1,6 +1,6 @@
-ghost use Rattle.std.specs.Prelude.{◌≡◌, ◌+◌, ◌<◌, length, slice_index, IfOk, IfErr, IfSome, IfNone, IsTrue};
+ghost use Rattle.std.specs.Prelude.{◌≡◌, ◌+◌, ◌<◌, length, slice_index, IfOk, IfErr, IfSome, IfNone, IsTrue, MatchResult};
 ghost use Rattle.tc_address.specs.Label.{Address, IsLabel};
-ghost use Rattle.tc_address.specs.Spelling.{text_of, separator, is_digit, may_stand, number_at, IsFirstTextFault, IsFirstWrongPlace, IsGoodBelow};
+ghost use Rattle.tc_address.specs.Spelling.{text_of, label_in, separator, is_digit, may_stand, number_at, IsFirstTextFault, IsFirstWrongPlace, IsGoodBelow};
 
 use crate::count::Count;
 use crate::label::{Label, LabelFault};
@@ -80,6 +80,7 @@ pub fn read_text(text: &[u8], count: Count) -> Result<Label, TextFault>
     ensures reads { IfOk result (λ label. (text.now ≡ text_of label) × (label.count ≡ count) × IsLabel label) }
     ensures only { (label : Address) → IsLabel label → label.count ≡ count → text.now ≡ text_of label → result ≡ Ok label }
     ensures refuses { IfErr result (λ fault. IsFirstTextFault count text.now fault) }
+    ensures spelled { MatchResult result (λ label. label_in count text.now ≡ Some label) (λ _. label_in count text.now ≡ None) }
 {
     if text.len() != 11 {
         return Err(TextFault::Length);

@@ -1,4 +1,4 @@
-use Rattle.std.proofs.Common.{◌≡◌, ℕ, ◌+◌, ◌-◌, ◌*◌, slice_get, ap, ◌∙◌, arith}
+use Rattle.std.proofs.Common.{◌≡◌, ◌+◌, ◌-◌, ◌*◌, slice_get, ap, ◌∙◌, arith}
 use Rattle.tc_address.specs.Label.{labels}
 use Rattle.tc_address.specs.Numbering.{number_of}
 use Rattle.tc_address.proofs.OneNumber.{number_of_place, get_number_of}
