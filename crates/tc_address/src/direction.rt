@@ -1,0 +1,8 @@
+/// The way in which the tape moves.
+#[derive(Clone, Copy, Debug, PartialEq, Eq)]
+pub enum Direction {
+    /// The labels rise.
+    Forward,
+    /// The labels fall.
+    Backward,
+}
