@@ -1,5 +1,5 @@
 -- Places on a circle: a day that begins again at its end.
-use Rattle.std.specs.Prelude.{◌≡◌, ℕ, ℤ, pos, neg_ℤ, ◌+ℤ◌, ◌*ℤ◌, ◌<ℤ◌, ◌≤ℤ◌, unsigned_abs}
+use Rattle.std.specs.Prelude.{◌≡◌, ℕ, ◌+◌, ◌-◌, ◌*◌, ◌%◌, nat_le, cond, ℤ, pos, neg_ℤ, ◌+ℤ◌, ◌*ℤ◌, ◌<ℤ◌, ◌≤ℤ◌, unsigned_abs}
 use Rattle.std.specs.Int.{int_rem_euclid}
 
 -- the place that lies so many places further
@@ -11,3 +11,11 @@ pub record IsShortest (day a b : ℕ) (d : ℤ) : Type 0 where
   pub reaches : moved day a d ≡ b
   pub above : neg_ℤ (pos day) <ℤ (pos 2 *ℤ d)
   pub within : (pos 2 *ℤ d) ≤ℤ pos day
+
+-- how far b lies ahead of a
+abbrev pub ahead : ℕ → ℕ → ℕ → ℕ
+ahead day a b = (b + (day - a)) % day
+
+-- that one way: forward up to half the day, and else backward
+abbrev pub shortest_way : ℕ → ℕ → ℕ → ℤ
+shortest_way day a b = cond (nat_le (2 * ahead day a b) day) (pos (ahead day a b)) (neg_ℤ (pos (day - ahead day a b)))
