@@ -1,5 +1,6 @@
 -- Frame addresses, and which of them are labels (SMPTE 12M, "time address" and "drop frame").
-use Rattle.std.specs.Prelude.{◌≡◌, ℕ, ◌<◌, ◌≤◌, ◌%◌, Bool, true, false, not, ◌&&◌, ◌==◌, nat_le}
+use Rattle.std.specs.Prelude.{◌≡◌, ℕ, ◌<◌, ◌≤◌, ◌%◌, Bool, true, false, not, ◌&&◌, ◌==◌, nat_le, nat_lt, List, map}
+use Rattle.std.specs.List.{filter, flat_map, range_with_len}
 use Rattle.tc_address.specs.declared.count.Count.{Count}
 use Rattle.tc_address.specs.declared.count.Count.TheVariants.{C24, C25, C30, Drop30}
 use Rattle.tc_address.specs.declared.label.LabelFault.{LabelFault}
@@ -40,6 +41,11 @@ pub record IsLabel (a : Address) : Type 0 where
   pub frames : a.frames < rate_of (system_with a.count)
   pub counted : is_skipped a ≡ false
 
+-- the same as a test
+abbrev pub is_label : Address → Bool
+is_label a =
+    nat_lt a.hours 24 && nat_lt a.minutes 60 && nat_lt a.seconds 60 && nat_lt a.frames (rate_of (system_with a.count)) && not (is_skipped a)
+
 -- the fault is there, and none that is tested before it
 abbrev pub IsFirstFault : LabelFault → Address → Type 0
 IsFirstFault Hours a = 24 ≤ a.hours
@@ -47,3 +53,20 @@ IsFirstFault Minutes a = (a.hours < 24) × (60 ≤ a.minutes)
 IsFirstFault Seconds a = (a.hours < 24) × (a.minutes < 60) × (60 ≤ a.seconds)
 IsFirstFault Frames a = (a.hours < 24) × (a.minutes < 60) × (a.seconds < 60) × (rate_of (system_with a.count) ≤ a.frames)
 IsFirstFault Dropped a = (a.hours < 24) × (a.minutes < 60) × (a.seconds < 60) × (a.frames < rate_of (system_with a.count)) × (is_skipped a ≡ true)
+
+-- the addresses of a second, of a minute, of an hour and of the day, in ascending order
+unfoldable pub second_of : Count → ℕ → ℕ → ℕ → List Address
+second_of c h m s = map (λ f. address c h m s f) (range_with_len 0 (rate_of (system_with c)))
+
+unfoldable pub minute_of : Count → ℕ → ℕ → List Address
+minute_of c h m = flat_map (λ s. second_of c h m s) (range_with_len 0 60)
+
+unfoldable pub hour_of : Count → ℕ → List Address
+hour_of c h = flat_map (λ m. minute_of c h m) (range_with_len 0 60)
+
+unfoldable pub addresses : Count → List Address
+addresses c = flat_map (λ h. hour_of c h) (range_with_len 0 24)
+
+-- the labels of the day: the addresses that the count does not leave out, in ascending order
+unfoldable pub labels : Count → List Address
+labels c = filter (λ a. not (is_skipped a)) (addresses c)

@@ -1,2 +1,6 @@
+pub mod Circle
 pub mod Count
+pub mod DropFrame
 pub mod Label
+pub mod Numbering
+pub mod Spelling

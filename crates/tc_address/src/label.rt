@@ -95,6 +95,26 @@ impl Label {
         })
     }
 
+    /// The label of parts that make one.
+    pub(crate) fn from_parts(
+        count: Count,
+        hours: u32,
+        minutes: u32,
+        seconds: u32,
+        frames: u32,
+    ) -> Label
+        requires { IsLabel (address count hours minutes seconds frames) }
+        ensures { result ≡ address count hours minutes seconds frames }
+    {
+        Label {
+            count,
+            hours,
+            minutes,
+            seconds,
+            frames,
+        }
+    }
+
     /// How the frames are counted.
     pub fn count(&self) -> Count
         ensures value { result ≡ self.now.count }

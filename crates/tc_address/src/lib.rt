@@ -5,12 +5,22 @@
 //! of each minute but the tens.
 #![tactic(auto)]
 
+mod circle;
 mod count;
 mod direction;
 mod label;
+pub mod laws;
+mod numbering;
+mod spelling;
 mod system;
 
+pub use circle::shortest;
 pub use count::{Count, system_of};
 pub use direction::Direction;
 pub use label::{Label, LabelFault};
+pub use numbering::{advance, day_labels, day_subframes, label_at, number};
+pub use spelling::{TextFault, read_text, text};
 pub use system::{System, rate};
+
+#[cfg(test)]
+mod tests;

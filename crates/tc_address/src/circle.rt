@@ -1,0 +1,29 @@
+ghost use Rattle.std.specs.Prelude.{◌≡◌, ◌*◌, ◌%◌, ◌<◌, ◌≤◌};
+ghost use Rattle.tc_address.specs.Circle.{moved, IsShortest};
+
+/// The place so many places further on a circle of `day` places, or back where `steps` is negative.
+pub(crate) fn moved(day: u32, place: u32, steps: i64) -> u32
+    requires most { day ≤ 207_360_000 }
+    requires inside { place < day }
+    ensures { result ≡ moved day place steps }
+{
+    let ahead = steps.rem_euclid(i64::from(day)) as u32;
+    (place + ahead) % day
+}
+
+/// The shortest way from place a to place b of a circle of `day` places, with the sign of its
+/// direction. Half the circle is taken forward.
+pub fn shortest(day: u32, a: u32, b: u32) -> i32
+    requires most { day ≤ 207_360_000 }
+    requires even { day % 2 ≡ 0 }
+    requires from { a < day }
+    requires to { b < day }
+    ensures { IsShortest day a b result }
+{
+    let ahead = if a <= b { b - a } else { day - a + b };
+    if ahead <= day / 2 {
+        ahead as i32
+    } else {
+        -((day - ahead) as i32)
+    }
+}

@@ -1,0 +1,28 @@
+ghost use Rattle.std.specs.Prelude.{◌≡◌, ℕ, ◌<◌, ℤ, pos, ◌+ℤ◌, slice_get};
+ghost use Rattle.tc_address.specs.declared.count.Count.{Count};
+ghost use Rattle.tc_address.specs.Label.{Address, labels, IsLabel};
+ghost use Rattle.tc_address.specs.Numbering.{number_of, step};
+ghost use Rattle.tc_address.specs.Circle.{IsShortest};
+ghost use Rattle.tc_address.specs.Spelling.{text_of};
+
+/// Within a day a label is found by its number, and what is found by a number has that number.
+pub fn number_and_label_are_inverse()
+    ensures label { (a : Address) → IsLabel a → slice_get (labels a.count) (number_of a) ≡ Some a }
+    ensures number { (c : Count) (n : ℕ) (a : Address) → slice_get (labels c) n ≡ Some a → (number_of a ≡ n) × (a.count ≡ c) × IsLabel a }
+{}
+
+/// No step leads to the label itself, and steps add up.
+pub fn steps_add_up()
+    ensures none { (a : Address) → IsLabel a → step a (pos 0) ≡ a }
+    ensures sum { (a : Address) (j k : ℤ) → step (step a j) k ≡ step a (j +ℤ k) }
+{}
+
+/// One way between two places of a circle is the shortest.
+pub fn one_way_is_shortest()
+    ensures { (day a b : ℕ) (d e : ℤ) → a < day → IsShortest day a b d → IsShortest day a b e → d ≡ e }
+{}
+
+/// Two labels of a count with one text are one label.
+pub fn a_text_has_one_label()
+    ensures { (a b : Address) → a.count ≡ b.count → text_of a ≡ text_of b → a ≡ b }
+{}
