@@ -1,9 +1,9 @@
 -- A register is what stands above a field, the field, and what stands below it. To write the field
 -- is to put these three together again.
-use Rattle.std.proofs.Common.{◌≡◌, ℕ, ◌+◌, ◌-◌, ◌*◌, ◌/◌, ◌%◌, ◌^◌, ◌<◌, ◌≤◌, refl, sym, ap, ◌∙◌, arith}
+use Rattle.std.proofs.Common.{◌≡◌, ℕ, ◌+◌, ◌-◌, ◌*◌, ◌/◌, ◌%◌, ◌^◌, ◌<◌, ◌≤◌, arith}
 use Rattle.std.proofs.lemmas.Nat.{pow-add, pow_pos, shr-shr, shr_below, shr_high, mod_low, shl_whole, mul-add-lt, mod_below, one_shl}
 use Rattle.std.proofs.Math.Nat.{pow-le-pow_right}
-use Rattle.tc_bits.specs.Register.{field, Replaces}
+use Rattle.tc_bits.specs.Register.{Replaces}
 
 -- a number of j digits and one of k digits behind it have j + k digits
 pub joined_below : (j k high low : ℕ) → high < 2 ^ j → low < 2 ^ k → high * 2 ^ k + low < 2 ^ (j + k)

@@ -1,5 +1,4 @@
 use Rattle.std.proofs.Common.{arith}
-use Rattle.tc_bits.specs.Register.{Replaces}
 use Rattle.tc_bits.proofs.AroundAField.{put_together, Stays, stays}
 use Rattle.tc_bits.proofs.register.put_field.Goals as goal
 

@@ -1,0 +1,14 @@
+-- Words that are read from the tape's end: the same 80 bits in the other order of time, and the sync
+-- word at the end of either.
+use Rattle.std.specs.Prelude.{◌≡◌, ℕ}
+use Rattle.std.specs.Int.{reverse_bits_onto}
+use Rattle.tc_bits.specs.Register.{number_in}
+use Rattle.ltc_word.specs.declared.places.TheConstants.{SYNC, SYNC_PATTERN}
+
+-- the lowest 80 bits, the last one first
+abbrev pub reversed_bits : ℕ → ℕ
+reversed_bits bits = reverse_bits_onto 80 bits 0
+
+-- bits 64 to 79 are the sync word
+abbrev pub EndsInSync : ℕ → Type 0
+EndsInSync bits = number_in SYNC bits ≡ SYNC_PATTERN
