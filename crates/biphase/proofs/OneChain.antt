@@ -1,5 +1,5 @@
 -- Each next cell is fixed by the intervals, so of two chains at the front of one list one is a front of the other.
-use Rattle.std.proofs.Common.{◌≡◌, ℕ, ◌+◌, List, [], ◌∷◌, ◌++◌, ◌⊎◌, inl, inr, refl, ap}
+use Rattle.std.proofs.Common.{◌≡◌, ℕ, ◌+◌, List, [], ◌∷◌, ◌++◌, ◌⊎◌, inl, inr, refl, ap, sym, ◌∙◌}
 use Rattle.biphase.specs.declared.profile.Profile.{Profile}
 use Rattle.biphase.specs.declared.cell.Cell.{Cell}
 use Rattle.biphase.specs.declared.cell.Cell.TheVariants.{Zero, One}
@@ -32,3 +32,9 @@ comparable_after profile c (One a b ∷ one) (One x y ∷ two) rest other ones t
     let tail : flat one ++ rest ≡ flat two ++ other = cc in
     let twos_too : IsChainAfter profile (a + b) two = rw (first, second) twos.2 in
     rw (← first, ← second) (front_with (One a b) one two (comparable_after profile (a + b) one two rest other ones.2 twos_too tail))
+
+-- the same of the front of a list
+pub comparable : (profile : Profile) (c : ℕ) (one two : List Cell) (intervals : List ℕ)
+    → IsChainAfter profile c one → IsChainAfter profile c two → IsFront (flat one) intervals → IsFront (flat two) intervals → IsFront one two ⊎ IsFront two one
+comparable profile c one two intervals ones twos front front_too =
+    comparable_after profile c one two front.0 front_too.0 ones twos (sym front.1 ∙ front_too.1)
