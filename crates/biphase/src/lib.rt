@@ -17,8 +17,11 @@
 #![tactic(auto)]
 
 mod cell;
+pub mod laws;
 mod pair;
 mod profile;
+#[cfg(test)]
+mod tests;
 mod tolerance;
 
 pub use cell::{Cell, MAX_INTERVAL};

@@ -1,1 +1,4 @@
+pub mod Lock
+pub mod StandsFor
 pub mod State
+pub mod Stretch

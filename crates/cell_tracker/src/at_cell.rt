@@ -1,8 +1,10 @@
 //! The state at the end of a cell.
-ghost use Rattle.std.specs.Prelude.{◌≡◌, ◌≤◌};
+ghost use Rattle.std.specs.Prelude.{◌≡◌, ℕ, ◌≤◌, List};
 ghost use Rattle.biphase.specs.declared.cell.TheConstants.{MAX_INTERVAL};
 ghost use Rattle.biphase.specs.Chain.{IsNextZero, IsFirstHalf};
 ghost use Rattle.cell_tracker.specs.State.{search_from};
+ghost use Rattle.cell_tracker.specs.Stretch.{Stretch};
+ghost use Rattle.cell_tracker.specs.StandsFor.{AtCellStandsFor, StandsAfterAtCell};
 ghost use Rattle.cell_tracker.specs.declared.at_cell.FromAtCell.TheVariants.{Zero, Half, Broken};
 
 use crate::hunting::Hunting;
@@ -62,6 +64,8 @@ impl AtCell {
             → result ≡ Half (record { profile = self.profile; last = self.last; half = x }) }
         ensures broken { ¬ IsNextZero self.profile self.last x → ¬ IsFirstHalf self.profile self.last x
             → result ≡ Broken (search_from self.profile x) }
+        ensures stands { (intervals : List ℕ) (earlier : List Stretch) (stretch : Stretch) → AtCellStandsFor self intervals earlier stretch
+            → StandsAfterAtCell result x intervals earlier stretch }
     {
         let (profile, last) = (self.profile, self.last);
         if is_zero(profile, last, x) {

@@ -1,9 +1,11 @@
 //! The state between stretches.
-ghost use Rattle.std.specs.Prelude.{◌≡◌, ◌≤◌, ◌<◌, IfNone, IfSome, OnSome};
+ghost use Rattle.std.specs.Prelude.{◌≡◌, ℕ, ◌≤◌, ◌<◌, List, [], IfSome};
 ghost use Rattle.biphase.specs.declared.cell.TheConstants.{MAX_INTERVAL};
 ghost use Rattle.biphase.specs.Pair.{AreUnequal};
 ghost use Rattle.biphase.specs.Chain.{IsFirstHalf};
 ghost use Rattle.cell_tracker.specs.State.{search_from};
+ghost use Rattle.cell_tracker.specs.Stretch.{Stretch};
+ghost use Rattle.cell_tracker.specs.StandsFor.{HuntingStandsFor, StandsAfterHunting};
 ghost use Rattle.cell_tracker.specs.declared.hunting.FromHunting.TheVariants.{Hunt, StartAt, StartMid, StartBroken};
 
 use crate::at_cell::AtCell;
@@ -46,7 +48,8 @@ pub enum FromHunting {
 impl Hunting {
     /// A search that begins, with no interval before.
     pub fn new(profile: Profile) -> Hunting
-        ensures { result ≡ record { profile = profile; before = None } }
+        ensures value { result ≡ record { profile = profile; before = None } }
+        ensures stands { HuntingStandsFor result [] [] }
     {
         Hunting {
             profile,
@@ -84,20 +87,25 @@ impl Hunting {
             → result ≡ StartMid (record { profile = self.profile; last = z; half = x }) z) }
         ensures broken { IfSome self.before (λ z. AreUnequal self.profile z x → x < z → ¬ IsFirstHalf self.profile z x
             → result ≡ StartBroken (search_from self.profile x) z) }
+        ensures stands { (intervals : List ℕ) (stretches : List Stretch) → HuntingStandsFor self intervals stretches
+            → StandsAfterHunting result x intervals stretches }
     {
         let profile = self.profile;
         let hunting = Hunting::after(profile, x);
         let Some(before) = self.before else {
             return FromHunting::Hunt(hunting);
         };
-        if kind(profile, before, x) != PairKind::Step {
-            FromHunting::Hunt(hunting)
-        } else if before < x {
-            FromHunting::StartAt(AtCell::new(profile, x))
-        } else if may_begin_one(profile, before, x) {
-            FromHunting::StartMid(MidCell::new(profile, before, x), before)
-        } else {
-            FromHunting::StartBroken(hunting, before)
+        match kind(profile, before, x) {
+            PairKind::Same | PairKind::Wild => FromHunting::Hunt(hunting),
+            PairKind::Step => {
+                if before < x {
+                    FromHunting::StartAt(AtCell::new(profile, x))
+                } else if may_begin_one(profile, before, x) {
+                    FromHunting::StartMid(MidCell::new(profile, before, x), before)
+                } else {
+                    FromHunting::StartBroken(hunting, before)
+                }
+            }
         }
     }
 }

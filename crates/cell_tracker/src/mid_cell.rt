@@ -1,8 +1,10 @@
 //! The state inside a one.
-ghost use Rattle.std.specs.Prelude.{◌≡◌, ◌≤◌, ◌+◌};
+ghost use Rattle.std.specs.Prelude.{◌≡◌, ℕ, ◌≤◌, ◌+◌, List};
 ghost use Rattle.biphase.specs.declared.cell.TheConstants.{MAX_INTERVAL};
 ghost use Rattle.biphase.specs.Chain.{IsFirstHalf, IsNextOne};
 ghost use Rattle.cell_tracker.specs.State.{search_from};
+ghost use Rattle.cell_tracker.specs.Stretch.{Stretch};
+ghost use Rattle.cell_tracker.specs.StandsFor.{MidCellStandsFor, StandsAfterMidCell};
 ghost use Rattle.cell_tracker.specs.declared.mid_cell.FromMidCell.TheVariants.{One, Broken};
 
 use crate::at_cell::AtCell;
@@ -77,6 +79,8 @@ impl MidCell {
             → result ≡ One (record { profile = self.profile; last = self.half + y }) self.half y }
         ensures broken { ¬ IsNextOne self.profile self.last self.half y
             → result ≡ Broken (search_from self.profile y) }
+        ensures stands { (intervals : List ℕ) (earlier : List Stretch) (stretch : Stretch) → MidCellStandsFor self intervals earlier stretch
+            → StandsAfterMidCell result y intervals earlier stretch }
     {
         let (profile, last, half) = (self.profile, self.last, self.half);
         if is_one(profile, last, half, y) {

@@ -1,0 +1,5 @@
+use Rattle.biphase.proofs.OneChain.{comparable}
+use Rattle.biphase.proofs.laws.chains_at_one_place_agree.Goals as goal
+
+pub returns : goal.returns
+returns c = comparable

@@ -1,0 +1,71 @@
+//! What follows from the tolerance alone.
+ghost use Rattle.std.specs.Prelude.{◌≡◌, ℕ, ◌+◌, ◌*◌, ◌<◌, ◌≤◌, ◌↔◌, ◌⊎◌, List, min, max};
+ghost use Rattle.std.specs.Int.{abs_diff};
+ghost use Rattle.biphase.specs.declared.cell.Cell.{Cell};
+ghost use Rattle.biphase.specs.declared.pair.PairKind.{PairKind};
+ghost use Rattle.biphase.specs.declared.profile.Profile.{Profile};
+ghost use Rattle.biphase.specs.declared.profile.Profile.TheVariants.{Normal};
+ghost use Rattle.biphase.specs.Pair.{AreEqual, AreUnequal, IsKind};
+ghost use Rattle.biphase.specs.Chain.{flat, IsFront, AreHalves, IsChainAfter, IsNextZero, IsFirstHalf, IsNextOne};
+
+/// The tests of the normal tolerance in numbers: cells within an eighth, halves within a sixteenth.
+pub fn the_normal_tests_are_these()
+    ensures zero { (c x : ℕ) → IsNextZero Normal c x ↔ (8 * abs_diff x c ≤ c) }
+    ensures half { (c x : ℕ) → IsFirstHalf Normal c x ↔ ((3 * c ≤ 8 * x) × (8 * x ≤ 5 * c)) }
+    ensures one { (c x y : ℕ) → IsNextOne Normal c x y
+        ↔ ((8 * abs_diff (x + y) c ≤ c) × (16 * abs_diff x y ≤ x + y)) }
+    ensures equal { (a b : ℕ) → a ≤ b → AreEqual Normal a b ↔ (2 * b ≤ 3 * a) }
+    ensures unequal { (a b : ℕ) → a ≤ b → AreUnequal Normal a b ↔ ((3 * a < 2 * b) × (2 * b ≤ 5 * a)) }
+{}
+
+/// A pair is of one kind, whatever the order of its intervals.
+pub fn a_pair_is_of_one_kind()
+    ensures one { (profile : Profile) (a b : ℕ) (kind other : PairKind) → IsKind profile a b kind
+        → IsKind profile a b other → kind ≡ other }
+    ensures order { (profile : Profile) (a b : ℕ) (kind : PairKind) → IsKind profile a b kind
+        → IsKind profile b a kind }
+{}
+
+/// In a chain two neighbours are equal where both are zeros or both are halves, and else unequal, and
+/// the greater of them is the zero. So the kind of a pair tells what it is.
+pub fn kinds_tell_zeros_from_halves()
+    ensures zeros { (profile : Profile) (c x : ℕ) → IsNextZero profile c x → AreEqual profile c x }
+    ensures halves { (profile : Profile) (x y : ℕ) → AreHalves profile x y → AreEqual profile x y }
+    ensures neighbours { (profile : Profile) (a b x y : ℕ) → AreHalves profile a b
+        → IsNextOne profile (a + b) x y → AreEqual profile b x }
+    ensures rising { (profile : Profile) (a b x : ℕ) → 1 ≤ x → AreHalves profile a b
+        → IsNextZero profile (a + b) x → AreUnequal profile b x × (b < x) }
+    ensures falling { (profile : Profile) (c x y : ℕ) → 1 ≤ x → IsNextOne profile c x y
+        → AreUnequal profile c x × (x < c) }
+{}
+
+/// No interval can be both a zero and the first half of a one, and each first half of a one that
+/// follows passes the test of first halves.
+pub fn no_zero_is_a_half()
+    ensures apart { (profile : Profile) (c x : ℕ) → 1 ≤ x → IsNextZero profile c x
+        → ¬ IsFirstHalf profile c x }
+    ensures admitted { (profile : Profile) (c x y : ℕ) → IsNextOne profile c x y
+        → IsFirstHalf profile c x }
+{}
+
+/// How far apart the two are under the normal tolerance, as ratios of the lesser to the greater:
+/// equal neighbours from 105/136 on, a zero and a half from 105/256 to 17/28.
+pub fn the_normal_ratios_are_these()
+    ensures zeros { (c x : ℕ) → IsNextZero Normal c x → 105 * max c x ≤ 136 * min c x }
+    ensures halves { (x y : ℕ) → AreHalves Normal x y → 105 * max x y ≤ 136 * min x y }
+    ensures neighbours { (a b x y : ℕ) → AreHalves Normal a b → IsNextOne Normal (a + b) x y
+        → 105 * max b x ≤ 136 * min b x }
+    ensures rising { (a b x : ℕ) → AreHalves Normal a b → IsNextZero Normal (a + b) x
+        → (105 * x ≤ 256 * b) × (28 * b ≤ 17 * x) }
+    ensures falling { (c x y : ℕ) → IsNextOne Normal c x y
+        → (105 * c ≤ 256 * x) × (28 * x ≤ 17 * c) }
+{}
+
+/// Of two chains that follow cells of one length at the front of one list of intervals, one is a
+/// front of the other.
+pub fn chains_at_one_place_agree()
+    ensures { (profile : Profile) (c : ℕ) (one two : List Cell) (intervals : List ℕ)
+        → IsChainAfter profile c one → IsChainAfter profile c two
+        → IsFront (flat one) intervals → IsFront (flat two) intervals
+        → IsFront one two ⊎ IsFront two one }
+{}

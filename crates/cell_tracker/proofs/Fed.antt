@@ -1,0 +1,318 @@
+-- Each answer of a state fits the list with the interval at its end.
+use Rattle.std.proofs.Common.{◌≡◌, ℕ, ◌+◌, ◌-◌, ◌<◌, ◌≤◌, List, [], ◌∷◌, ◌++◌, length, drop, get_or, Some, None, inl, inr, refl, ap, subst, sym, ◌∙◌, arith, length-append, MatchOption}
+use Rattle.std.proofs.lemmas.List.{append-nil, drop-append-le, drop_more, drop_all, drop_at, length_push, get_or_push, get_or_append_left}
+use Rattle.std.proofs.lemmas.List.Elements.{All-push}
+use Rattle.std.proofs.lemmas.Option.{slice_get-get_or, slice_get_within, get_or_from_slice_get}
+use Rattle.biphase.specs.declared.profile.Profile.{Profile}
+use Rattle.biphase.specs.declared.cell.Cell.{Cell}
+use Rattle.biphase.specs.declared.cell.Cell.TheVariants.{Zero, One}
+use Rattle.biphase.specs.Pair.{AreUnequal}
+use Rattle.biphase.specs.Chain.{flat, intervals_of, length_of, last_length, IsCell, IsNear, IsFirstHalf, IsNextZero, IsNextOne}
+use Rattle.biphase.proofs.Chains.{chain-append, chain_lasts, last_length-append}
+use Rattle.biphase.proofs.Separation.{zero_is_no_half, half_or_not, step_is_no_zero, zero_lasts, one_lasts}
+use Rattle.cell_tracker.specs.Lock.{IsUnequalAt, HasNoLock}
+use Rattle.cell_tracker.specs.State.{HuntingState, AtCellState, MidCellState, search_from}
+use Rattle.cell_tracker.specs.Stretch.{Stretch, IsBroken, end_of, IsBreak, IsStretch, AreStretchesFrom, AreStretches, begun, with_cell, with_break}
+use Rattle.cell_tracker.specs.StandsFor.{last_of, HuntingStandsFor, AtCellStandsFor, MidCellStandsFor}
+use Rattle.cell_tracker.proofs.LocalStretch.{NoneFits, stretch_from, locally, flat_push}
+use Rattle.cell_tracker.proofs.LockStays.{no_lock_on, lock_at_end}
+use Rattle.cell_tracker.proofs.StretchGrows.{there_push, last_changes, last_grows, no_stretch, earlier_broken, last_is_stretch}
+
+-- the last interval of a list with an interval at its end
+last_of-push : (intervals : List ℕ) (x : ℕ) → last_of (intervals ++ x ∷ []) ≡ Some x
+last_of-push intervals x =
+    slice_get-get_or (intervals ++ x ∷ []) (length (intervals ++ x ∷ []) - 1) 0 (omega (arith, length_push intervals x))
+    ∙ ap Some (get_or_push intervals x 0 (length (intervals ++ x ∷ []) - 1) (omega (arith, length_push intervals x)))
+
+-- an interval that is the last of a list stands at its place
+last_at : (intervals : List ℕ) (z : ℕ) → last_of intervals ≡ Some z → (0 < length intervals) × (get_or intervals (length intervals - 1) 0 ≡ z)
+last_at intervals z is = (omega (arith, slice_get_within intervals (length intervals - 1) z is), get_or_from_slice_get intervals (length intervals - 1) z 0 is)
+
+-- the pair at the end of a list with one interval more
+seam : (profile : Profile) (intervals : List ℕ) (z x k : ℕ) → last_of intervals ≡ Some z → k + 1 ≡ length intervals
+    → (get_or (intervals ++ x ∷ []) k 0 ≡ z) × (get_or (intervals ++ x ∷ []) (k + 1) 0 ≡ x)
+seam profile intervals z x k is at =
+    let there = last_at intervals z is in
+    let same : k ≡ length intervals - 1 = omega arith in
+    (get_or_append_left intervals (x ∷ []) 0 k (omega arith) ∙ ap (λ n. get_or intervals n 0) same ∙ there.1, get_or_push intervals x 0 (k + 1) (sym at))
+
+-- a search leaves the stretches as they are, or has a new one behind them
+stretches_then : (state : HuntingState) (intervals : List ℕ) (stretches new : List Stretch) (x : ℕ) → HuntingStandsFor state intervals stretches
+    → ((from : ℕ) → from ≤ length intervals - 1 → HasNoLock state.profile intervals from → AreStretchesFrom state.profile (intervals ++ x ∷ []) from new)
+    → AreStretches state.profile (intervals ++ x ∷ []) (stretches ++ new)
+stretches_then state intervals stretches new x stands step =
+    last_changes state.profile intervals x 0 stretches [] new (omega arith) stands.all_broken step
+    (subst (AreStretches state.profile intervals) (sym (append-nil stretches)) stands.stretches_are)
+
+-- the search goes on
+pub hunt_on : (state : HuntingState) (intervals : List ℕ) (stretches : List Stretch) (x : ℕ) → HuntingStandsFor state intervals stretches
+    → ((z : ℕ) → state.before ≡ Some z → ¬ AreUnequal state.profile z x)
+    → HuntingStandsFor (search_from state.profile x) (intervals ++ x ∷ []) stretches
+hunt_on state intervals stretches x stands equal = record {
+  stretches_are = subst (AreStretches state.profile (intervals ++ x ∷ [])) (append-nil stretches)
+      (stretches_then state intervals stretches [] x stands
+      (λ from low none. no_lock_on state.profile intervals x from none (λ k end at.
+      let z = get_or intervals (length intervals - 1) 0 in
+      let last : last_of intervals ≡ Some z = slice_get-get_or intervals (length intervals - 1) 0 (omega arith) in
+      let pair = seam state.profile intervals z x k last end in
+      equal z (stands.before ∙ last) (rw (pair.0, pair.1) at at.1))));
+  all_broken = stands.all_broken;
+  before = sym (last_of-push intervals x);
+}
+
+-- a search that meets an unequal pair has a stretch at its greater interval
+begins : (state : HuntingState) (intervals : List ℕ) (stretches : List Stretch) (z x : ℕ) (new : Stretch) → HuntingStandsFor state intervals stretches
+    → state.before ≡ Some z → AreUnequal state.profile z x
+    → (z < x → new.lock ≡ length intervals) → (x < z → new.lock ≡ length intervals - 1)
+    → IsStretch state.profile (intervals ++ x ∷ []) new
+    → MatchOption new.broken_at (no_stretch ≡ []) (HasNoLock state.profile (intervals ++ x ∷ []))
+    → AreStretches state.profile (intervals ++ x ∷ []) (stretches ++ new ∷ [])
+begins state intervals stretches z x new stands before unequal rising falling is after =
+    let last : last_of intervals ≡ Some z = sym stands.before ∙ before in
+    let there = last_at intervals z last in
+    let k = length intervals - 1 in
+    let end : k + 1 ≡ length intervals = omega (arith, there.0) in
+    let pair = seam state.profile intervals z x k last end in
+    let at : IsUnequalAt state.profile (intervals ++ x ∷ []) k = (omega (arith, end, length_push intervals x), rw (pair.0, pair.1) unequal) in
+    stretches_then state intervals stretches (new ∷ []) x stands
+    (λ from low none. (
+      lock_at_end state.profile intervals x from k new.lock none low end at
+          (rw (pair.0, pair.1) (λ less. rising less ∙ sym end)) (rw (pair.0, pair.1) falling),
+      is,
+      after,
+    ))
+
+-- what stands at the end of a list with one interval more
+drop_last : (intervals : List ℕ) (z x k : ℕ) → last_of intervals ≡ Some z → k + 1 ≡ length intervals → drop k (intervals ++ x ∷ []) ≡ z ∷ x ∷ []
+drop_last intervals z x k is end =
+    let there = last_at intervals z is in
+    let same : k ≡ length intervals - 1 = omega arith in
+    drop-append-le k intervals (x ∷ []) (omega arith)
+    ∙ ap (λ xs. xs ++ x ∷ []) (drop_more intervals k 0 (omega arith)
+    ∙ ap (λ y. y ∷ drop (k + 1) intervals) (ap (λ n. get_or intervals n 0) same ∙ there.1)
+    ∙ ap (λ xs. z ∷ xs) (drop_all (k + 1) intervals (omega arith)))
+
+-- no pair stands past the end of a list with one interval more
+none_past : (profile : Profile) (intervals : List ℕ) (x : ℕ) → HasNoLock profile (intervals ++ x ∷ []) (length intervals)
+none_past profile intervals x k past at = omega (arith, at.0, length_push intervals x)
+
+-- the interval is the first zero of a stretch
+pub start_at : (state : HuntingState) (intervals : List ℕ) (stretches : List Stretch) (z x : ℕ) → HuntingStandsFor state intervals stretches
+    → state.before ≡ Some z → AreUnequal state.profile z x → z < x
+    → AtCellStandsFor (record { profile = state.profile; last = x }) (intervals ++ x ∷ []) stretches (begun (length intervals) x)
+start_at state intervals stretches z x stands before unequal rising = record {
+  stretches_are = begins state intervals stretches z x (begun (length intervals) x) stands before unequal (λ _. refl) (λ falling. absurd (omega arith))
+      (stretch_from state.profile (intervals ++ x ∷ []) (begun (length intervals) x) x [] [] (record {
+        cells = refl;
+        ticks = omega arith;
+        chain = tt;
+        there = drop_at intervals (x ∷ []) (length intervals) refl;
+        none = tt;
+        broken = refl;
+      })) refl;
+  open_yet = refl;
+  ends = sym (length_push intervals x);
+  last = refl;
+}
+
+-- the interval before is the first zero of a stretch, and the interval waits
+pub start_mid : (state : HuntingState) (intervals : List ℕ) (stretches : List Stretch) (z x : ℕ) → HuntingStandsFor state intervals stretches
+    → state.before ≡ Some z → AreUnequal state.profile z x → x < z → IsFirstHalf state.profile z x
+    → MidCellStandsFor (record { profile = state.profile; last = z; half = x }) (intervals ++ x ∷ []) stretches (begun (length intervals - 1) z)
+start_mid state intervals stretches z x stands before unequal falling half =
+    let last : last_of intervals ≡ Some z = sym stands.before ∙ before in
+    let there = last_at intervals z last in
+    let end : length intervals - 1 + 1 ≡ length intervals = omega (arith, there.0) in
+    record {
+      stretches_are = begins state intervals stretches z x (begun (length intervals - 1) z) stands before unequal (λ rising. absurd (omega arith)) (λ _. refl)
+          (stretch_from state.profile (intervals ++ x ∷ []) (begun (length intervals - 1) z) z [] (x ∷ []) (record {
+            cells = refl;
+            ticks = omega arith;
+            chain = tt;
+            there = drop_last intervals z x (length intervals - 1) last end;
+            none = step_is_no_zero state.profile z x unequal;
+            broken = (λ _. refl, λ no_half. absurd (no_half half));
+          })) refl;
+      open_yet = refl;
+      ends = ap (λ n. n + 1) end ∙ sym (length_push intervals x);
+      last = refl;
+      half = last_of-push intervals x;
+    }
+
+-- the interval before is the only zero of a stretch that breaks at the interval
+pub start_broken : (state : HuntingState) (intervals : List ℕ) (stretches : List Stretch) (z x : ℕ) → HuntingStandsFor state intervals stretches
+    → state.before ≡ Some z → AreUnequal state.profile z x → x < z → ¬ IsFirstHalf state.profile z x
+    → HuntingStandsFor (search_from state.profile x) (intervals ++ x ∷ []) (stretches ++ with_break (length intervals) (begun (length intervals - 1) z) ∷ [])
+start_broken state intervals stretches z x stands before unequal falling no_half =
+    let last : last_of intervals ≡ Some z = sym stands.before ∙ before in
+    let there = last_at intervals z last in
+    let end : length intervals - 1 + 1 ≡ length intervals = omega (arith, there.0) in
+    let new = with_break (length intervals) (begun (length intervals - 1) z) in
+    record {
+      stretches_are = begins state intervals stretches z x new stands before unequal (λ rising. absurd (omega arith)) (λ _. refl)
+          (stretch_from state.profile (intervals ++ x ∷ []) new z [] (x ∷ []) (record {
+            cells = refl;
+            ticks = omega arith;
+            chain = tt;
+            there = drop_last intervals z x (length intervals - 1) last end;
+            none = step_is_no_zero state.profile z x unequal;
+            broken = (λ half. absurd (no_half half), λ _. ap Some (sym end));
+          })) (none_past state.profile intervals x);
+      all_broken = All-push IsBroken stretches new stands.all_broken refl;
+      before = sym (last_of-push intervals x);
+    }
+
+-- an open stretch at the end of a list gains the cell that the interval completes
+gains : (profile : Profile) (intervals : List ℕ) (x : ℕ) (earlier : List Stretch) (stretch : Stretch) (cell : Cell) (rest : List ℕ)
+    → drop (end_of stretch) intervals ≡ rest → rest ++ x ∷ [] ≡ intervals_of cell → stretch.broken_at ≡ None
+    → (1 ≤ last_length 0 stretch.cells → IsCell profile cell) → IsNear profile (last_length 0 stretch.cells) (length_of cell)
+    → AreStretches profile intervals (earlier ++ stretch ∷ []) → AreStretches profile (intervals ++ x ∷ []) (earlier ++ with_cell cell stretch ∷ [])
+gains profile intervals x earlier stretch cell rest rest_is whole open_yet fits near are =
+    last_grows profile intervals x earlier stretch (with_cell cell stretch) refl (λ is.
+    let local = locally profile intervals stretch is in
+    let first = get_or intervals stretch.lock 0 in
+    let more = local.0 in
+    let last : last_length 0 stretch.cells ≡ last_length first more = ap (last_length 0) local.1.cells in
+    let ticks : 1 ≤ last_length 0 stretch.cells = rw last (chain_lasts profile first more local.1.ticks local.1.chain) in
+    let near_too : IsNear profile (last_length first more) (length_of cell) = subst (λ c. IsNear profile c (length_of cell)) last near in
+    let before : drop stretch.lock intervals ≡ first ∷ (flat more ++ rest) = local.1.there ∙ ap (λ xs. first ∷ (flat more ++ xs)) rest_is in
+    stretch_from profile (intervals ++ x ∷ []) (with_cell cell stretch) first (more ++ cell ∷ []) [] (record {
+      cells = ap (λ cells. cells ++ cell ∷ []) local.1.cells;
+      ticks = local.1.ticks;
+      chain = chain-append profile first more (cell ∷ []) local.1.chain (fits ticks, near_too, tt);
+      there = there_push intervals stretch.lock first x (flat more) rest before
+          ∙ ap (λ xs. first ∷ (flat more ++ xs)) (whole ∙ sym (append-nil (intervals_of cell)))
+          ∙ ap (λ xs. first ∷ xs) (sym (flat_push more cell []));
+      none = tt;
+      broken = open_yet;
+    }))
+    (subst (λ place. MatchOption place (no_stretch ≡ []) (HasNoLock profile (intervals ++ x ∷ []))) (sym open_yet) refl) are
+
+-- or it keeps its cells, and waits or breaks
+holds : (profile : Profile) (intervals : List ℕ) (x : ℕ) (earlier : List Stretch) (stretch new : Stretch) (rest : List ℕ)
+    → drop (end_of stretch) intervals ≡ rest → new.lock ≡ stretch.lock → new.cells ≡ stretch.cells
+    → (NoneFits profile (last_length 0 stretch.cells) rest → NoneFits profile (last_length 0 stretch.cells) (rest ++ x ∷ []))
+    → IsBreak profile (last_length 0 stretch.cells) (end_of stretch) (rest ++ x ∷ []) new.broken_at
+    → MatchOption new.broken_at (no_stretch ≡ []) (HasNoLock profile (intervals ++ x ∷ []))
+    → AreStretches profile intervals (earlier ++ stretch ∷ []) → AreStretches profile (intervals ++ x ∷ []) (earlier ++ new ∷ [])
+holds profile intervals x earlier stretch new rest rest_is lock cells none broken after are =
+    last_grows profile intervals x earlier stretch new lock (λ is.
+    let local = locally profile intervals stretch is in
+    let first = get_or intervals stretch.lock 0 in
+    let more = local.0 in
+    let last : last_length 0 stretch.cells ≡ last_length first more = ap (last_length 0) local.1.cells in
+    let before : drop stretch.lock intervals ≡ first ∷ (flat more ++ rest) = local.1.there ∙ ap (λ xs. first ∷ (flat more ++ xs)) rest_is in
+    let none_before : NoneFits profile (last_length 0 stretch.cells) rest =
+    subst (λ c. NoneFits profile c rest) (sym last) (subst (NoneFits profile (last_length first more)) rest_is local.1.none) in
+    let end : end_of stretch ≡ end_of new = ap (λ n. n + length (flat stretch.cells)) (sym lock) ∙ ap (λ cells. new.lock + length (flat cells)) (sym cells) in
+    stretch_from profile (intervals ++ x ∷ []) new first more (rest ++ x ∷ []) (record {
+      cells = cells ∙ local.1.cells;
+      ticks = local.1.ticks;
+      chain = local.1.chain;
+      there = ap (λ n. drop n (intervals ++ x ∷ [])) lock ∙ there_push intervals stretch.lock first x (flat more) rest before;
+      none = subst (λ c. NoneFits profile c (rest ++ x ∷ [])) last (none none_before);
+      broken = subst (λ c. IsBreak profile c (end_of new) (rest ++ x ∷ []) new.broken_at) last
+          (subst (λ end. IsBreak profile (last_length 0 stretch.cells) end (rest ++ x ∷ []) new.broken_at) end broken);
+    }))
+    after are
+
+-- the place after a stretch with one cell more
+end_of-with_cell : (stretch : Stretch) (cell : Cell) → end_of (with_cell cell stretch) ≡ end_of stretch + length (intervals_of cell)
+end_of-with_cell stretch cell =
+    omega (
+      arith,
+      ap length (sym (append-nil (flat (stretch.cells ++ cell ∷ []))) ∙ flat_push stretch.cells cell []),
+      ap length (append-nil (intervals_of cell)),
+      length-append (flat stretch.cells) (intervals_of cell ++ []),
+    )
+
+-- the stretch gains a zero
+pub gains_zero : (state : AtCellState) (intervals : List ℕ) (earlier : List Stretch) (stretch : Stretch) (x : ℕ) → AtCellStandsFor state intervals earlier stretch
+    → IsNextZero state.profile state.last x
+    → AtCellStandsFor (record { profile = state.profile; last = x }) (intervals ++ x ∷ []) earlier (with_cell (Zero x) stretch)
+gains_zero state intervals earlier stretch x stands zero =
+    let near : IsNextZero state.profile (last_length 0 stretch.cells) x = rw stands.last zero in
+    record {
+      stretches_are = gains state.profile intervals x earlier stretch (Zero x) [] (drop_all (end_of stretch) intervals (omega (arith, stands.ends))) refl stands.open_yet
+          (λ ticks. zero_lasts state.profile (last_length 0 stretch.cells) x ticks near) near stands.stretches_are;
+      open_yet = stands.open_yet;
+      ends = omega (arith, end_of-with_cell stretch (Zero x), stands.ends, length_push intervals x);
+      last = last_length-append 0 stretch.cells (Zero x ∷ []);
+    }
+
+-- the interval may be a first half
+pub waits : (state : AtCellState) (intervals : List ℕ) (earlier : List Stretch) (stretch : Stretch) (x : ℕ) → AtCellStandsFor state intervals earlier stretch
+    → 1 ≤ x → IsFirstHalf state.profile state.last x
+    → MidCellStandsFor (record { profile = state.profile; last = state.last; half = x }) (intervals ++ x ∷ []) earlier stretch
+waits state intervals earlier stretch x stands ticks half =
+    let half_too : IsFirstHalf state.profile (last_length 0 stretch.cells) x = rw stands.last half in
+    record {
+      stretches_are = holds state.profile intervals x earlier stretch stretch [] (drop_all (end_of stretch) intervals (omega (arith, stands.ends))) refl refl
+          (λ _ zero. zero_is_no_half state.profile (last_length 0 stretch.cells) x ticks zero half_too) (λ _. stands.open_yet, λ no_half. absurd (no_half half_too))
+          (subst (λ place. MatchOption place (no_stretch ≡ []) (HasNoLock state.profile (intervals ++ x ∷ []))) (sym stands.open_yet) refl) stands.stretches_are;
+      open_yet = stands.open_yet;
+      ends = omega (arith, stands.ends, length_push intervals x);
+      last = stands.last;
+      half = last_of-push intervals x;
+    }
+
+-- the stretch breaks at the interval
+pub breaks : (state : AtCellState) (intervals : List ℕ) (earlier : List Stretch) (stretch : Stretch) (x : ℕ) → AtCellStandsFor state intervals earlier stretch
+    → ¬ IsNextZero state.profile state.last x → ¬ IsFirstHalf state.profile state.last x
+    → HuntingStandsFor (search_from state.profile x) (intervals ++ x ∷ []) (earlier ++ with_break (length intervals) stretch ∷ [])
+breaks state intervals earlier stretch x stands no_zero no_half = record {
+  stretches_are = holds state.profile intervals x earlier stretch (with_break (length intervals) stretch) [] (drop_all (end_of stretch) intervals (omega (arith, stands.ends))) refl refl
+      (λ _ zero. no_zero (rw (← stands.last) zero)) (λ half. absurd (no_half (rw (← stands.last) half)), λ _. ap Some (sym stands.ends))
+      (none_past state.profile intervals x) stands.stretches_are;
+  all_broken = All-push IsBroken earlier (with_break (length intervals) stretch) (earlier_broken state.profile intervals 0 earlier stretch stands.stretches_are) refl;
+  before = sym (last_of-push intervals x);
+}
+
+-- the list has the waiting half behind the stretch
+half_behind : (state : MidCellState) (intervals : List ℕ) (earlier : List Stretch) (stretch : Stretch) → MidCellStandsFor state intervals earlier stretch
+    → drop (end_of stretch) intervals ≡ state.half ∷ []
+half_behind state intervals earlier stretch stands =
+    let there = last_at intervals state.half stands.half in
+    let same : end_of stretch ≡ length intervals - 1 = omega (arith, stands.ends) in
+    drop_more intervals (end_of stretch) 0 (omega (arith, stands.ends))
+    ∙ ap (λ y. y ∷ drop (end_of stretch + 1) intervals) (ap (λ n. get_or intervals n 0) same ∙ there.1)
+    ∙ ap (λ xs. state.half ∷ xs) (drop_all (end_of stretch + 1) intervals (omega (arith, stands.ends)))
+
+-- it may be one, since the stretch is open
+half_may_be : (state : MidCellState) (intervals : List ℕ) (earlier : List Stretch) (stretch : Stretch) → MidCellStandsFor state intervals earlier stretch
+    → IsFirstHalf state.profile (last_length 0 stretch.cells) state.half
+half_may_be state intervals earlier stretch stands =
+    let is = last_is_stretch state.profile intervals 0 earlier stretch stands.stretches_are in
+    let broken : IsBreak state.profile (last_length 0 stretch.cells) (end_of stretch) (state.half ∷ []) stretch.broken_at =
+    subst (λ rest. IsBreak state.profile (last_length 0 stretch.cells) (end_of stretch) rest stretch.broken_at) (half_behind state intervals earlier stretch stands) is.broken in
+    elim (half_or_not state.profile (last_length 0 stretch.cells) state.half) [
+      | inl half ↦ half
+      | inr no_half ↦ let there : stretch.broken_at ≡ Some (end_of stretch) = broken.1 no_half in let nowhere : stretch.broken_at ≡ None = stands.open_yet in cc
+    ]
+
+-- the stretch gains a one
+pub gains_one : (state : MidCellState) (intervals : List ℕ) (earlier : List Stretch) (stretch : Stretch) (y : ℕ) → MidCellStandsFor state intervals earlier stretch
+    → IsNextOne state.profile state.last state.half y
+    → AtCellStandsFor (record { profile = state.profile; last = state.half + y }) (intervals ++ y ∷ []) earlier (with_cell (One state.half y) stretch)
+gains_one state intervals earlier stretch y stands one =
+    let one_too : IsNextOne state.profile (last_length 0 stretch.cells) state.half y = rw stands.last one in
+    record {
+      stretches_are = gains state.profile intervals y earlier stretch (One state.half y) (state.half ∷ []) (half_behind state intervals earlier stretch stands) refl stands.open_yet
+          (λ ticks. let lasts = one_lasts state.profile (last_length 0 stretch.cells) state.half y ticks one_too in (lasts.0, lasts.1, one_too.1)) one_too.0 stands.stretches_are;
+      open_yet = stands.open_yet;
+      ends = omega (arith, end_of-with_cell stretch (One state.half y), stands.ends, length_push intervals y);
+      last = last_length-append 0 stretch.cells (One state.half y ∷ []);
+    }
+
+-- the stretch breaks behind its waiting half
+pub breaks_behind : (state : MidCellState) (intervals : List ℕ) (earlier : List Stretch) (stretch : Stretch) (y : ℕ) → MidCellStandsFor state intervals earlier stretch
+    → ¬ IsNextOne state.profile state.last state.half y
+    → HuntingStandsFor (search_from state.profile y) (intervals ++ y ∷ []) (earlier ++ with_break (length intervals) stretch ∷ [])
+breaks_behind state intervals earlier stretch y stands no_one = record {
+  stretches_are = holds state.profile intervals y earlier stretch (with_break (length intervals) stretch) (state.half ∷ []) (half_behind state intervals earlier stretch stands) refl refl
+      (λ none. (none, λ one. no_one (rw (← stands.last) one)))
+      (λ _. ap Some (sym stands.ends), λ no_half. absurd (no_half (half_may_be state intervals earlier stretch stands)))
+      (none_past state.profile intervals y) stands.stretches_are;
+  all_broken = All-push IsBroken earlier (with_break (length intervals) stretch) (earlier_broken state.profile intervals 0 earlier stretch stands.stretches_are) refl;
+  before = sym (last_of-push intervals y);
+}

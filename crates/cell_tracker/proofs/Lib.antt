@@ -1,0 +1,4 @@
+pub mod LocalStretch
+pub mod LockStays
+pub mod StretchGrows
+pub mod Fed
