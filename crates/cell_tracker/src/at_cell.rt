@@ -2,6 +2,7 @@
 ghost use Rattle.std.specs.Prelude.{◌≡◌, ℕ, ◌≤◌, List};
 ghost use Rattle.biphase.specs.declared.cell.TheConstants.{MAX_INTERVAL};
 ghost use Rattle.biphase.specs.Chain.{IsNextZero, IsFirstHalf};
+ghost use Rattle.cell_tracker.specs.Answer.{KeepsOfAtCell};
 ghost use Rattle.cell_tracker.specs.State.{search_from};
 ghost use Rattle.cell_tracker.specs.Stretch.{Stretch};
 ghost use Rattle.cell_tracker.specs.StandsFor.{AtCellStandsFor, StandsAfterAtCell};
@@ -64,6 +65,7 @@ impl AtCell {
             → result ≡ Half (record { profile = self.profile; last = self.last; half = x }) }
         ensures broken { ¬ IsNextZero self.profile self.last x → ¬ IsFirstHalf self.profile self.last x
             → result ≡ Broken (search_from self.profile x) }
+        ensures keeps { KeepsOfAtCell self x result }
         ensures stands { (intervals : List ℕ) (earlier : List Stretch) (stretch : Stretch) → AtCellStandsFor self intervals earlier stretch
             → StandsAfterAtCell result x intervals earlier stretch }
     {

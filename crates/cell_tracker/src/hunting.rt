@@ -3,6 +3,7 @@ ghost use Rattle.std.specs.Prelude.{◌≡◌, ℕ, ◌≤◌, ◌<◌, List, []
 ghost use Rattle.biphase.specs.declared.cell.TheConstants.{MAX_INTERVAL};
 ghost use Rattle.biphase.specs.Pair.{AreUnequal};
 ghost use Rattle.biphase.specs.Chain.{IsFirstHalf};
+ghost use Rattle.cell_tracker.specs.Answer.{KeepsOfHunting};
 ghost use Rattle.cell_tracker.specs.State.{search_from};
 ghost use Rattle.cell_tracker.specs.Stretch.{Stretch};
 ghost use Rattle.cell_tracker.specs.StandsFor.{HuntingStandsFor, StandsAfterHunting};
@@ -87,6 +88,7 @@ impl Hunting {
             → result ≡ StartMid (record { profile = self.profile; last = z; half = x }) z) }
         ensures broken { IfSome self.before (λ z. AreUnequal self.profile z x → x < z → ¬ IsFirstHalf self.profile z x
             → result ≡ StartBroken (search_from self.profile x) z) }
+        ensures keeps { KeepsOfHunting self x result }
         ensures stands { (intervals : List ℕ) (stretches : List Stretch) → HuntingStandsFor self intervals stretches
             → StandsAfterHunting result x intervals stretches }
     {

@@ -2,6 +2,7 @@
 ghost use Rattle.std.specs.Prelude.{◌≡◌, ℕ, ◌≤◌, ◌+◌, List};
 ghost use Rattle.biphase.specs.declared.cell.TheConstants.{MAX_INTERVAL};
 ghost use Rattle.biphase.specs.Chain.{IsFirstHalf, IsNextOne};
+ghost use Rattle.cell_tracker.specs.Answer.{KeepsOfMidCell};
 ghost use Rattle.cell_tracker.specs.State.{search_from};
 ghost use Rattle.cell_tracker.specs.Stretch.{Stretch};
 ghost use Rattle.cell_tracker.specs.StandsFor.{MidCellStandsFor, StandsAfterMidCell};
@@ -79,6 +80,7 @@ impl MidCell {
             → result ≡ One (record { profile = self.profile; last = self.half + y }) self.half y }
         ensures broken { ¬ IsNextOne self.profile self.last self.half y
             → result ≡ Broken (search_from self.profile y) }
+        ensures keeps { KeepsOfMidCell self y result }
         ensures stands { (intervals : List ℕ) (earlier : List Stretch) (stretch : Stretch) → MidCellStandsFor self intervals earlier stretch
             → StandsAfterMidCell result y intervals earlier stretch }
     {
