@@ -1,24 +1,42 @@
--- The events of one window of 80 bits.
-use Rattle.std.specs.Prelude.{◌≡◌, ℕ, IfSome}
+-- The candidates of a window, and the event of each.
+use Rattle.std.specs.Prelude.{◌≡◌, ℕ, Some, None, IsSomeAnd, IfSome}
 use Rattle.tc_address.specs.declared.system.System.{System}
 use Rattle.tc_address.specs.declared.direction.Direction.{Direction}
+use Rattle.tc_address.specs.declared.direction.Direction.TheVariants.{Forward, Backward}
+use Rattle.ltc_word.specs.declared.word.WordFault.TheVariants.{Field}
+use Rattle.ltc_word.specs.Fault.{first_fault}
+use Rattle.ltc_word.specs.Reversal.{EndsInSync, reversed_bits}
+use Rattle.ltc_word.specs.Spelling.{Spells}
 use Rattle.direction_reader.specs.declared.event.Event.{Event}
 use Rattle.direction_reader.specs.declared.event.Event.TheVariants.{Word, Refused, Lost}
 use Rattle.direction_reader.specs.declared.event.Events.{Events}
 
--- the event of a candidate that ends at a tick, read in its direction
+-- the event of a candidate: the word that its bits spell, or the first fault of its fields
 abbrev pub IsEventOf : System → Direction → ℕ → ℕ → ℕ → Event → Type 0
-IsEventOf system direction bits tick length (Word d word t n) = (d ≡ direction) × (t ≡ tick) × (n ≡ length)
-IsEventOf system direction bits tick length (Refused d fault t) = (d ≡ direction) × (t ≡ tick)
-IsEventOf system direction bits tick length (Lost place t) = ⊥
+IsEventOf system direction bits end length (Word d word tick n) =
+  (d ≡ direction) × Spells system word bits × (tick ≡ end) × (n ≡ length)
+IsEventOf system direction bits end length (Refused d fault tick) =
+  (d ≡ direction) × (first_fault system bits ≡ Some (Field fault)) × (tick ≡ end)
+IsEventOf system direction bits end length (Lost interval tick) = ⊥
+
+-- the events of a window of 80 bits: it is a forward candidate where it ends in the sync word, and a backward one where its bits in the
+-- other order of time do; the forward candidate comes first
+pub record AreEventsOf (system : System) (bits end length : ℕ) (events : Events) : Type 0 where
+  pub forward : EndsInSync bits → IsSomeAnd events.first (IsEventOf system Forward bits end length)
+  pub backward : EndsInSync (reversed_bits bits) → ¬ EndsInSync bits
+    → IsSomeAnd events.first (IsEventOf system Backward (reversed_bits bits) end length) × (events.second ≡ None)
+  pub both : EndsInSync bits → EndsInSync (reversed_bits bits)
+    → IsSomeAnd events.second (IsEventOf system Backward (reversed_bits bits) end length)
+  pub one : EndsInSync bits → ¬ EndsInSync (reversed_bits bits) → events.second ≡ None
+  pub none : ¬ EndsInSync bits → ¬ EndsInSync (reversed_bits bits) → (events.first ≡ None) × (events.second ≡ None)
 
 -- a word or a refused word of this tick and length
 abbrev pub Bears : ℕ → ℕ → Event → Type 0
-Bears tick length (Word d word t n) = (t ≡ tick) × (n ≡ length)
-Bears tick length (Refused d fault t) = t ≡ tick
-Bears tick length (Lost place t) = ⊥
+Bears end length (Word direction word tick n) = (tick ≡ end) × (n ≡ length)
+Bears end length (Refused direction fault tick) = tick ≡ end
+Bears end length (Lost interval tick) = ⊥
 
 -- each of the events bears this tick and length
-pub record BearsOnly (tick length : ℕ) (events : Events) : Type 0 where
-  pub first : IfSome events.first (Bears tick length)
-  pub second : IfSome events.second (Bears tick length)
+pub record BearsOnly (end length : ℕ) (events : Events) : Type 0 where
+  pub first : IfSome events.first (Bears end length)
+  pub second : IfSome events.second (Bears end length)

@@ -1,6 +1,7 @@
 //! The words that a window of 80 bits may be. Next: `reader`.
-ghost use Rattle.std.specs.Prelude.{◌≡◌, ◌<◌, ◌^◌, IfSome};
-ghost use Rattle.direction_reader.specs.Candidate.{IsEventOf, BearsOnly};
+ghost use Rattle.std.specs.Prelude.{◌<◌, ◌^◌};
+ghost use Rattle.ltc_word.specs.Reversal.{EndsInSync};
+ghost use Rattle.direction_reader.specs.Candidate.{IsEventOf, AreEventsOf, Bears, BearsOnly};
 
 use crate::event::{Event, Events};
 use ltc_word::{WordFault, begins_in_reversed_sync, decode, ends_in_sync, reversed};
@@ -12,44 +13,42 @@ use tc_address::{Direction, System};
 /// that of its 80 cells.
 pub fn window_events(system: System, bits: u128, tick: u64, length: u64) -> Events
     requires { bits < 2 ^ 80 }
-    ensures { BearsOnly tick length result }
+    ensures candidates { AreEventsOf system bits tick length result }
+    ensures bears { BearsOnly tick length result }
 {
     let forward = if ends_in_sync(bits) {
-        candidate(Direction::Forward, system, bits, tick, length)
+        Some(candidate(Direction::Forward, system, bits, tick, length))
     } else {
         None
     };
     let backward = if begins_in_reversed_sync(bits) {
-        candidate(Direction::Backward, system, reversed(bits), tick, length)
+        let bits = reversed(bits);
+        Some(candidate(Direction::Backward, system, bits, tick, length))
     } else {
         None
     };
     Events::in_order(forward, backward)
 }
 
-/// The event of a window, read in its direction from these bits.
-fn candidate(
-    direction: Direction,
-    system: System,
-    bits: u128,
-    tick: u64,
-    length: u64,
-) -> Option<Event>
-    requires { bits < 2 ^ 80 }
-    ensures { IfSome result (IsEventOf system direction bits tick length) }
+/// The event of bits that end in the sync word, read in their direction.
+fn candidate(direction: Direction, system: System, bits: u128, tick: u64, length: u64) -> Event
+    requires eighty { bits < 2 ^ 80 }
+    requires sync { EndsInSync bits }
+    ensures event { IsEventOf system direction bits tick length result }
+    ensures bears { Bears tick length result }
 {
     match decode(system, bits) {
-        Ok(word) => Some(Event::Word {
+        Ok(word) => Event::Word {
             direction,
             word,
             tick,
             length,
-        }),
-        Err(WordFault::Field(fault)) => Some(Event::Refused {
+        },
+        Err(WordFault::Field(fault)) => Event::Refused {
             direction,
             fault,
             tick,
-        }),
-        Err(WordFault::Sync(_)) => None,
+        },
+        Err(WordFault::Sync(_)) => unreachable!(),
     }
 }

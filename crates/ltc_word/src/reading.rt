@@ -2,7 +2,8 @@
 
 ghost use Rattle.std.specs.Prelude.{◌≡◌, ◌^◌, ◌<◌, IfOk, IfErr, Some};
 ghost use Rattle.ltc_word.specs.Spelling.{Spells};
-ghost use Rattle.ltc_word.specs.Fault.{raw_in, flags_in, user_in, wrong_sync_bit, first_fault};
+ghost use Rattle.ltc_word.specs.Fault.{raw_in, flags_in, user_in, wrong_sync_bit, first_fault, IsOfFields};
+ghost use Rattle.ltc_word.specs.Reversal.{EndsInSync};
 
 use crate::balance::is_balanced;
 use crate::places::*;
@@ -70,6 +71,9 @@ pub fn decode(system: System, bits: u128) -> Result<LtcWord, WordFault>
     ensures reads { IfOk result (λ word. Spells system word bits) }
     ensures only { (word : LtcWord) → Spells system word bits → result ≡ Ok word }
     ensures refuses { IfErr result (λ fault. first_fault system bits ≡ Some fault) }
+
+    // Bits that end in the sync word are refused for their fields alone.
+    ensures in_sync { EndsInSync bits → IfErr result IsOfFields }
 {
     if let Some(bit) = first_wrong_sync_bit(bits) {
         return Err(WordFault::Sync(bit));

@@ -2,8 +2,9 @@
 ghost use Rattle.std.specs.Prelude.{◌≡◌, ◌<◌, ◌≤◌, ◌+◌, ◌^◌, ◌++◌};
 ghost use Rattle.arrayvec.specs.ArrayVec.{array_vec_len};
 ghost use Rattle.tc_files.specs.IntervalHeader.{IsTickRate};
-ghost use Rattle.tc_files.specs.Texts.{event_line, direction_name, speed_of, flags_text, FitsLine};
-ghost use Rattle.direction_reader.specs.declared.event.Event.TheVariants.{Word, Refused, Lost};
+ghost use Rattle.tc_files.specs.Texts.{
+    event_line, word_line, refused_line, lost_line, direction_name, speed_of, flags_text, FitsLine,
+};
 
 use crate::interval_file::header::IntervalHeader;
 use crate::texts::line::{Text, push_bytes, push_flag, push_hexadecimal, push_number};
@@ -46,7 +47,7 @@ fn word_text(
     requires some { 1 ≤ length }
     requires length { length < 2 ^ 32 }
     requires header { IsTickRate header.now.tick_rate }
-    ensures { result.items ≡ event_line header.now (Word direction word.now tick length) }
+    ensures { result.items ≡ word_line header.now direction word.now tick length }
 {
     let mut line = Text::new();
     push_bytes(&mut line, b"word ");
@@ -72,7 +73,7 @@ fn word_text(
 #[tactic(auto, using(crate::proofs::Digits::digits_of_tick))]
 fn refused_text(direction: Direction, fault: FieldFault, tick: u64) -> Text
     requires { tick < 2 ^ 60 }
-    ensures { (header : IntervalHeader) → result.items ≡ event_line header (Refused direction fault tick) }
+    ensures { result.items ≡ refused_line direction fault tick }
 {
     let mut line = Text::new();
     push_bytes(&mut line, b"refused ");
@@ -89,7 +90,7 @@ fn refused_text(direction: Direction, fault: FieldFault, tick: u64) -> Text
 fn lost_text(interval: u64, tick: u64) -> Text
     requires interval { interval < 2 ^ 40 }
     requires tick { tick < 2 ^ 60 }
-    ensures { (header : IntervalHeader) → result.items ≡ event_line header (Lost interval tick) }
+    ensures { result.items ≡ lost_line interval tick }
 {
     let mut line = Text::new();
     push_bytes(&mut line, b"lost interval ");

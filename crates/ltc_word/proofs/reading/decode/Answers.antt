@@ -11,6 +11,9 @@ use Rattle.ltc_word.proofs.reading.decode.Goals as goal
 pub returns-in-Some-clause-only : goal.returns-in-Some-clause-only
 returns-in-Some-clause-only c = λ word s. let none = none_from_right c.args.bits s.sync in absurd cc
 
+pub returns-in-Some-clause-in_sync : goal.returns-in-Some-clause-in_sync
+returns-in-Some-clause-in_sync c = λ sync. let none = none_from_right c.args.bits sync in absurd cc
+
 pub returns-in-Ok-clause-reads : goal.returns-in-Ok-clause-reads
 returns-in-Ok-clause-reads c =
     let none : wrong_sync_bit c.args.bits ≡ None = sym c.first_wrong_sync_bit.ensures ∙ c.in_default.is in

@@ -20,6 +20,6 @@ returns-in-Full c =
   let least : 80 ≤ length = rw (c.oldest.ensures) (omega arith) in
   let most : length ≤ 80 * greatest_cell = rw (c.oldest.ensures) (omega arith) in
   record {
-    first = ends c.args.tick length _ c.window_events.ensures.first least most;
-    second = ends c.args.tick length _ c.window_events.ensures.second least most;
+    first = ends c.args.tick length _ c.window_events.ensures.bears.first least most;
+    second = ends c.args.tick length _ c.window_events.ensures.bears.second least most;
   }
