@@ -1,5 +1,5 @@
 -- The interval file, byte by byte: what each completes, and the first fault.
-use Rattle.std.specs.Prelude.{◌≡◌, ◌≢◌, ◌<◌, ◌≤◌, ◌%◌, ◌⊎◌, ℕ, ◌+◌, ◌*◌, ◌-◌, List, [], ◌∷◌, ◌++◌, length, slice_index, Option, Some, None, Result, Ok, Err, nat_lt, nat_le, ◌==◌, ◌&&◌, ◌||◌, not, is_some, if◌then◌else◌}
+use Rattle.std.specs.Prelude.{◌≡◌, ◌≢◌, ◌<◌, ◌≤◌, ◌%◌, ◌⊎◌, ℕ, ◌+◌, ◌*◌, ◌-◌, List, [], ◌∷◌, ◌++◌, length, slice_index, Option, Some, None, Result, Ok, Err, nat_lt, nat_le, ◌==◌, ◌&&◌, ◌||◌, not, is_some, fold, if◌then◌else◌}
 use Rattle.byteorder.specs.Endian.{big_number}
 use Rattle.tc_address.specs.declared.system.System.{System}
 use Rattle.tc_files.specs.declared.interval_file.header.TheConstants.{MAGIC, VERSION, HEADER_LENGTH, HEAD_LENGTH, MAX_TICK_RATE}
@@ -8,6 +8,7 @@ use Rattle.tc_files.specs.declared.fault.FileFault.{FileFault}
 use Rattle.tc_files.specs.declared.fault.FileFault.TheVariants as fault
 use Rattle.tc_files.specs.declared.interval_file.decoder.Taken.{Taken}
 use Rattle.tc_files.specs.declared.interval_file.decoder.Taken.TheVariants.{Nothing, Header, Interval, Fault}
+use Rattle.tc_files.specs.declared.interval_file.header.IntervalHeader.{IntervalHeader}
 use Rattle.tc_files.specs.IntervalHeader.{IsTickRate, system_at}
 use Rattle.tc_files.specs.Progress.{Progress}
 
@@ -83,3 +84,15 @@ CompletesAt Nothing taken = (taken < HEADER_LENGTH) ⊎ (taken % 4 ≢ 0)
 CompletesAt (Header header) taken = (taken ≡ HEADER_LENGTH) × IsTickRate header.tick_rate
 CompletesAt (Interval ticks) taken = (HEADER_LENGTH < taken) × (taken % 4 ≡ 0) × (1 ≤ ticks) × (ticks ≤ MAX_INTERVAL)
 CompletesAt (Fault first) taken = Unit {0}
+
+-- the progress of bytes, one after another
+abbrev pub progress_of : List ℕ → Progress
+progress_of bytes = fold after no_progress bytes
+
+-- the header that the first twelve of the bytes say
+pub record IsHeaderOf (bytes : List ℕ) (header : IntervalHeader) : Type 0 where
+  pub eleven : List ℕ
+  pub twelfth : ℕ
+  pub rest : List ℕ
+  pub are : bytes ≡ eleven ++ twelfth ∷ rest
+  pub says : answer (progress_of eleven) twelfth ≡ Header header

@@ -1,1 +1,4 @@
+pub mod LtcRead
+pub mod Output
 pub mod Status
+pub mod Stops

@@ -1,9 +1,22 @@
 //! The way of a line to the output. Next: `notes`.
+ghost use Rattle.std.specs.Prelude.{◌≡◌, OnOk, OnErr, IfErr};
+ghost use Rattle.std.specs.Io.KnownBytes.{Appends};
+ghost use Rattle.tc_io.specs.Sink.{AppendsFront};
+ghost use Rattle.tc_top.specs.Stops.{HasOutCause};
+
 use crate::engine::Stop;
 use tc_files::Text;
 use tc_io::{Sink, push_all};
 
 /// Pushes one line of the output.
-pub(crate) fn push_line<K: Sink>(out: &mut K, line: &Text) -> Result<(), Stop> {
-    push_all(out, line).map_err(|_| Stop::WriteFault)
+pub(crate) fn push_line<K: Sink>(out: &mut K, line: &Text) -> Result<(), Stop>
+    ensures all { OnOk result (Appends (K.written out.old) (K.written out.new) line.now.items) }
+    ensures front { OnErr result (AppendsFront (K.written out.old) (K.written out.new) line.now.items) }
+    ensures why { IfErr result (λ stop. stop ≡ Stop.WriteFault) }
+    ensures cause { HasOutCause (K.faults out.old) (K.faults out.new) result }
+{
+    match push_all(out, line) {
+        Ok(()) => Ok(()),
+        Err(_) => Err(Stop::WriteFault),
+    }
 }

@@ -1,0 +1,19 @@
+use Rattle.std.proofs.Common.{◌≡◌, List, ℕ}
+use Rattle.std.specs.Io.KnownBytes.{Appends, Consumes}
+use Rattle.tc_top.proofs.intake.work.Given as goal
+
+-- what was pushed so far is the part of what was pulled so far
+abbrev pub invariant-pulls : goal.invariant-pulls
+invariant-pulls g l = record {
+  going : g.E.Engine.is_going l.engine;
+  job : g.E.Engine.job l.engine ≡ g.E.Engine.job l.fn.engine;
+  source : g.S.Source.faults l.source ≡ g.S.Source.faults l.fn.source;
+  out : g.K.Sink.faults l.out ≡ g.K.Sink.faults l.fn.out;
+  worked : (bytes output : List ℕ)
+    × Consumes (g.S.Source.left l.fn.source) (g.S.Source.left l.source) bytes
+    × Appends (g.K.Sink.written l.fn.out) (g.K.Sink.written l.out) output
+    × g.E.Engine.stands l.engine bytes output;
+}
+
+abbrev pub decreases-pulls : goal.decreases-pulls
+decreases-pulls g l = g.E.Engine.budget l.engine

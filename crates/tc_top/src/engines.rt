@@ -1,2 +1,0 @@
-//! The engines, a file for each command that reads an input.
-pub(crate) mod ltc_read;
