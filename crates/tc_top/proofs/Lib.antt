@@ -1,1 +1,2 @@
 pub mod AlongTheInput
+pub mod PushedLines

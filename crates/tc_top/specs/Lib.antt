@@ -1,4 +1,5 @@
 pub mod LtcRead
 pub mod Output
+pub mod Reading
 pub mod Status
 pub mod Stops

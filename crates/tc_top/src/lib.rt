@@ -2,6 +2,7 @@
 #![tactic(auto)]
 
 mod engine;
+mod engines;
 mod intake;
 mod output;
 mod status;

@@ -1,0 +1,42 @@
+-- A recording behind its header: what is counted of its events, and what is printed of them.
+use Rattle.std.specs.Prelude.{◌≡◌, ℕ, ◌+◌, ◌*◌, ◌≤◌, List, [], ◌∷◌, IfSome}
+use Rattle.std.specs.declared.option.Option.{Option}
+use Rattle.std.specs.Io.KnownBytes.{Appends}
+use Rattle.direction_reader.specs.declared.event.Event.{Event}
+use Rattle.direction_reader.specs.declared.event.Event.TheVariants.{Word, Refused, Lost}
+use Rattle.direction_reader.specs.declared.event.Events.{Events}
+use Rattle.direction_reader.specs.declared.reader.TheConstants.{MAX_INTERVALS}
+use Rattle.tc_files.specs.IntervalHeader.{IsTickRate}
+use Rattle.tc_files.specs.Texts.{FitsLine}
+use Rattle.tc_top.specs.declared.engines.reading.Reading.{Reading}
+use Rattle.tc_top.specs.LtcRead.{lines}
+
+-- one event more of its kind
+abbrev pub counted : Event → Reading → Reading
+counted (Word direction word tick length) r = record r { words = r.words + 1 }
+counted (Refused direction fault tick) r = record r { refused = r.refused + 1 }
+counted (Lost interval tick) r = record r { lost = r.lost + 1 }
+
+-- all of these events more
+abbrev pub all_counted : List Event → Reading → Reading
+all_counted [] r = r
+all_counted (event ∷ more) r = all_counted more (counted event r)
+
+-- the numbers of the events fit their lines
+pub record FitLines (events : Events) : Type 0 where
+  pub first : IfSome events.first FitsLine
+  pub second : IfSome events.second FitsLine
+
+-- an interval brings two events at most
+pub record FitsReading (r : Reading) : Type 0 where
+  pub within : r.reader.intervals ≤ MAX_INTERVALS
+  pub header : IsTickRate r.header.tick_rate
+  pub events : r.words + r.refused + r.lost ≤ 2 * r.reader.intervals
+
+-- the lines of some events were pushed, and each of them was counted
+pub record Prints (before after : Reading) (old new : Option (List ℕ)) : Type 0 where
+  pub events : List Event
+  pub pushed : Appends old new (lines before.header events)
+  pub words : after.words ≡ (all_counted events before).words
+  pub refused : after.refused ≡ (all_counted events before).refused
+  pub lost : after.lost ≡ (all_counted events before).lost

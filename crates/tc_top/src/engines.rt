@@ -1,0 +1,2 @@
+//! The engines, a file for each command that reads an input.
+pub mod reading;
