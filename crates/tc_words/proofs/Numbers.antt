@@ -1,0 +1,59 @@
+-- One to twenty digits are what std reads as a number, since no sign stands before them.
+use Rattle.std.proofs.Common.{◌≡◌, ◌≢◌, ◌∙◌, ◌<◌, ◌&&◌, ◌^◌, ℕ, Bool, true, false, refl, sym, ap, arith, List, [], ◌∷◌, Option, Some, None, Result, Ok, Err, inl, inr, length, le-ltb, lt-ltb}
+use Rattle.std.specs.Prelude.{nat_le, nat_lt, cond}
+use Rattle.std.specs.Char.{is_ascii_digit, digit_value}
+use Rattle.std.specs.Int.{IsInRange}
+use Rattle.std.specs.List.{list_all}
+use Rattle.std.specs.Result.{result_ok}
+use Rattle.std.specs.Str.Parse.{AllDigits, IsNumeral, ParsesUnsigned, digits_value, without_leading_plus}
+use Rattle.std.proofs.lemmas.Bool.{cases_lt, leb-true}
+use Rattle.std.proofs.lemmas.Grind.{common_steps}
+use Rattle.std.proofs.lemmas.Str.{digit_value_digit}
+use Rattle.std.proofs.lemmas.Str.Parse.{without_leading_plus_none}
+use Rattle.tc_words.specs.Values.{Word, is_number, number_in}
+
+first_true : (a b : Bool) → (a && b) ≡ true → a ≡ true
+first_true true b h = refl
+first_true false b h = cc
+
+second_true : (a b : Bool) → (a && b) ≡ true → b ≡ true
+second_true true b h = h
+second_true false b h = cc
+
+digit_in_range : (c : ℕ) → is_ascii_digit c ≡ true → IsInRange 48 57 c
+digit_in_range c h = grind (arith, common_steps)
+
+digit_below_ten : (c : ℕ) → is_ascii_digit c ≡ true → digit_value c < 10
+digit_below_ten c h =
+    let within = digit_in_range c h in
+    omega (arith, digit_value_digit c within, within.0, within.1)
+
+all_digits : (ds : List ℕ) → list_all is_ascii_digit ds ≡ true → AllDigits 10 ds
+all_digits [] h = tt
+all_digits (c ∷ ds) h = (digit_below_ten c (first_true (is_ascii_digit c) _ h), all_digits ds (second_true (is_ascii_digit c) _ h))
+
+no_plus : (word : Word) → list_all is_ascii_digit word ≡ true → without_leading_plus word ≡ word
+no_plus [] h = refl
+no_plus (c ∷ ds) h =
+    let within = digit_in_range c (first_true (is_ascii_digit c) _ h) in
+    let other : c ≢ 43 = omega (arith, within.0) in
+    without_leading_plus_none (c ∷ ds) other
+
+is_numeral : (word : Word) → is_number word ≡ true → IsNumeral 10 (without_leading_plus word)
+is_numeral word digits =
+    let some : 0 < length word = leb-true 1 (length word) (first_true (nat_lt 0 (length word)) _ (first_true (nat_lt 0 (length word) && nat_le (length word) 20) _ digits)) in
+    let all = second_true (nat_lt 0 (length word) && nat_le (length word) 20) _ digits in
+    rw (no_plus word all) (some, all_digits word all)
+
+pub read_number : {E : Type 0} (word : Word) (r : Result ℕ E) → is_number word ≡ true → ParsesUnsigned 64 10 word r → result_ok r ≡ number_in word
+read_number word (Ok n) digits reads =
+    let same = no_plus word (second_true (nat_lt 0 (length word) && nat_le (length word) 20) _ digits) in
+    let fits : digits_value 10 word < 2 ^ 64 = rw (← same) reads.0.1 in
+    let is : n ≡ digits_value 10 word = rw (← same) reads.1 in
+    rw (digits, lt-ltb (digits_value 10 word) (2 ^ 64) fits) (ap (λ m. Some m) is)
+read_number word (Err e) digits reads =
+    let same = no_plus word (second_true (nat_lt 0 (length word) && nat_le (length word) 20) _ digits) in
+    elim (cases_lt (digits_value 10 word) (2 ^ 64)) [
+      | inl fits ↦ absurd (reads (is_numeral word digits, rw same fits))
+      | inr past ↦ rw (digits, le-ltb (digits_value 10 word) (2 ^ 64) past) refl
+    ]

@@ -1,0 +1,61 @@
+-- The job of a list of words, or their first fault.
+use Rattle.std.specs.Prelude.{ℕ, ◌==◌, Bool, false, List, [], ◌∷◌, Option, Some, None, Result, Ok, Err, if◌then◌else◌, position}
+use Rattle.std.specs.Str.{bytes_eq}
+use Rattle.tc_address.specs.declared.count.Count.{Count}
+use Rattle.tc_address.specs.Label.{Address}
+use Rattle.tc_words.specs.declared.job.Job.{Job}
+use Rattle.tc_words.specs.declared.job.Job.TheVariants as jobs
+use Rattle.tc_words.specs.declared.job.TheConstants.{LTC_READ, NUMBER, LABEL}
+use Rattle.tc_words.specs.declared.fault.WordsFault.{WordsFault}
+use Rattle.tc_words.specs.declared.fault.WordsFault.TheVariants.{Dash, Command, CountOfWords, Value}
+use Rattle.tc_words.specs.Values.{Word, count_in, numbered, spelled}
+use Rattle.command_words.specs.Words.{begins_with_dash}
+
+-- the job, or the first fault
+abbrev pub Answer : Type 0
+Answer = Result Job WordsFault
+
+-- what follows from a value, and the fault of its word where it has none
+abbrev pub with_value : {X : Type 0} → ℕ → Option X → (X → Answer) → Answer
+with_value place None next = Err (Value place)
+with_value place (Some value) next = next value
+
+-- ---- the table of the commands: the values of each, and how each is read
+
+-- `ltc-read`
+abbrev pub ltc_read : List Word → Answer
+ltc_read [] = Ok jobs.LtcRead
+ltc_read _ = Err CountOfWords
+
+-- `number COUNT LABEL`
+abbrev pub number : List Word → Answer
+number (count ∷ label ∷ []) =
+    with_value 1 (count_in count) (λ c. with_value 2 (spelled c label) (λ address. Ok (jobs.Number address)))
+number _ = Err CountOfWords
+
+-- `label COUNT NUMBER`
+abbrev pub label_of : List Word → Answer
+label_of (count ∷ number ∷ []) =
+    with_value 1 (count_in count) (λ c. with_value 2 (numbered c number) (λ address. Ok (jobs.LabelOf address)))
+label_of _ = Err CountOfWords
+
+abbrev pub job_of : Word → List Word → Answer
+job_of command values =
+    if bytes_eq command LTC_READ.now then ltc_read values
+    else if bytes_eq command NUMBER.now then number values
+    else if bytes_eq command LABEL.now then label_of values
+    else Err Command
+
+-- ---- all words
+
+abbrev pub without_dashes : List Word → Answer
+without_dashes [] = Err Command
+without_dashes (command ∷ values) = job_of command values
+
+abbrev pub after_dashes : Option ℕ → List Word → Answer
+after_dashes (Some place) words = Err (Dash place)
+after_dashes None words = without_dashes words
+
+-- a dash in any word is the first fault, then the command, then the count of words, then the values
+abbrev pub answer_to : List Word → Answer
+answer_to words = after_dashes (position begins_with_dash words) words

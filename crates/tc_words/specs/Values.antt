@@ -1,0 +1,39 @@
+-- What a word says as a value.
+use Rattle.std.specs.Prelude.{ℕ, ◌^◌, Bool, ◌&&◌, List, length, Option, Some, None, if◌then◌else◌, nat_lt, nat_le, codes, slice_get, option_and_then}
+use Rattle.std.specs.Char.{is_ascii_digit}
+use Rattle.std.specs.List.{list_all}
+use Rattle.std.specs.Str.{bytes_eq}
+use Rattle.std.specs.Str.Parse.{digits_value}
+use Rattle.tc_address.specs.declared.count.Count.{Count}
+use Rattle.tc_address.specs.declared.count.Count.TheVariants.{C24, C25, C30, Drop30}
+use Rattle.tc_address.specs.Label.{Address, labels}
+use Rattle.tc_address.specs.Spelling.{label_in}
+
+-- the bytes of a word
+abbrev pub Word : Type 0
+Word = List ℕ
+
+-- `24`, `25`, `30` or `30d`
+abbrev pub count_in : Word → Option Count
+count_in word =
+    if bytes_eq word (codes "24") then Some C24
+    else if bytes_eq word (codes "25") then Some C25
+    else if bytes_eq word (codes "30") then Some C30
+    else if bytes_eq word (codes "30d") then Some Drop30
+    else None
+
+-- one to twenty digits
+abbrev pub is_number : Word → Bool
+is_number word = nat_lt 0 (length word) && nat_le (length word) 20 && list_all is_ascii_digit word
+
+-- the number that the digits write, if it is below 2^64
+abbrev pub number_in : Word → Option ℕ
+number_in word = if is_number word && nat_lt (digits_value 10 word) (2 ^ 64) then Some (digits_value 10 word) else None
+
+-- the label of the count that is spelled so
+abbrev pub spelled : Count → Word → Option Address
+spelled = label_in
+
+-- the label that has this number in the day of the count
+abbrev pub numbered : Count → Word → Option Address
+numbered count word = option_and_then (slice_get (labels count)) (number_in word)

@@ -1,0 +1,21 @@
+use tc_address::Label;
+
+/// What the program is to do.
+#[derive(Clone, Copy, Debug, PartialEq, Eq)]
+pub enum Job {
+    /// `ltc-read`: reads an interval file, and writes a line for each word, refusal and loss.
+    LtcRead,
+    /// `number COUNT LABEL`: writes how many labels of the count stand before the label in the day.
+    Number { label: Label },
+    /// `label COUNT NUMBER`: writes the label of that number of the day.
+    LabelOf { label: Label },
+}
+
+/// The word of `Job::LtcRead`.
+pub const LTC_READ: &str = "ltc-read";
+
+/// The word of `Job::Number`.
+pub const NUMBER: &str = "number";
+
+/// The word of `Job::LabelOf`.
+pub const LABEL: &str = "label";

@@ -1,0 +1,58 @@
+// Words as they are typed, and what they say.
+use super::*;
+use std::alloc::{AllocError, Global};
+use std::test::Fail;
+use tc_address::{Count, text};
+
+fn typed(alloc: Global, line: &str) -> Result<Vec<String>, AllocError> {
+    let mut words = Vec::new(alloc);
+    for word in line.split_ascii_whitespace() {
+        words.push(String::from_str(alloc, word)?)?;
+    }
+    Ok(words)
+}
+
+#[test]
+fn the_first_fault_is_told(rt: HostRuntime) -> Result<(), Fail> {
+    let alloc = rt.alloc();
+    for (line, fault) in [
+        ("", WordsFault::Command),
+        ("--help", WordsFault::Dash(0)),
+        ("ltc-red -x", WordsFault::Dash(1)),
+        ("ltc-red", WordsFault::Command),
+        ("ltc-read x", WordsFault::CountOfWords),
+        ("number 30d", WordsFault::CountOfWords),
+        ("number 29 00:01:00;02", WordsFault::Value(1)),
+        ("number 30d 00:01:00;00", WordsFault::Value(2)),
+        ("label 30d 2589408", WordsFault::Value(2)),
+        ("label 30d +1", WordsFault::Value(2)),
+    ] {
+        let words = typed(alloc, line)?;
+        assert_eq!(rt; read_words(alloc, &words), Err(fault), "at {line}");
+    }
+    Ok(())
+}
+
+#[test]
+fn jobs_are_read(rt: HostRuntime) -> Result<(), Fail> {
+    let alloc = rt.alloc();
+    let words = typed(alloc, "ltc-read")?;
+    assert_eq!(rt; read_words(alloc, &words), Ok(Job::LtcRead));
+    for (line, wanted) in [
+        ("label 30 2591999", *b"23:59:59:29"),
+        ("label 25 0", *b"00:00:00:00"),
+        ("label 30d 00000000000000001800", *b"00:01:00;02"),
+    ] {
+        let words = typed(alloc, line)?;
+        let Ok(Job::LabelOf { label }) = read_words(alloc, &words) else {
+            return Err(Fail::from("no label"));
+        };
+        assert_eq!(rt; text(&label), wanted);
+    }
+    let words = typed(alloc, "number 24 12:34:56:23")?;
+    let Ok(Job::Number { label }) = read_words(alloc, &words) else {
+        return Err(Fail::from("no label"));
+    };
+    assert_eq!(rt; (label.count(), text(&label)), (Count::C24, *b"12:34:56:23"));
+    Ok(())
+}

@@ -1,0 +1,62 @@
+//! The values of the words, one by one.
+ghost use Rattle.std.specs.Prelude.{◌≡◌};
+ghost use Rattle.std.specs.Char.{is_ascii_digit};
+ghost use Rattle.std.specs.List.{list_all};
+ghost use Rattle.tc_words.specs.Values.{count_in, is_number, number_in, numbered, spelled};
+
+use tc_address::{Count, Label, day_labels, label_at, read_text};
+
+/// A count: `24`, `25`, `30` or `30d`.
+pub fn count_in(word: &str) -> Option<Count>
+    ensures { result ≡ count_in word.now }
+{
+    match word {
+        "24" => Some(Count::C24),
+        "25" => Some(Count::C25),
+        "30" => Some(Count::C30),
+        "30d" => Some(Count::Drop30),
+        _ => None,
+    }
+}
+
+/// One to twenty digits, as a number below 2^64.
+pub fn number_in(word: &str) -> Option<u64>
+    ensures { result ≡ number_in word.now }
+{
+    if is_number(word.as_bytes()) {
+        word.parse().ok()
+    } else {
+        None
+    }
+}
+
+fn is_number(digits: &[u8]) -> bool
+    ensures { result ≡ is_number digits.now }
+{
+    !digits.is_empty() && digits.len() <= 20 && are_digits(digits)
+}
+
+fn are_digits(bytes: &[u8]) -> bool
+    ensures { result ≡ list_all is_ascii_digit bytes.now }
+{
+    bytes.iter().all(|byte| byte.is_ascii_digit())
+}
+
+/// The label of the count that is spelled so.
+pub fn spelled(count: Count, word: &str) -> Option<Label>
+    ensures { result ≡ spelled count word.now }
+{
+    read_text(word.as_bytes(), count).ok()
+}
+
+/// The label of the count that has this number in the day.
+pub fn numbered(count: Count, word: &str) -> Option<Label>
+    ensures { result ≡ numbered count word.now }
+{
+    let number = number_in(word)?;
+    if number < u64::from(day_labels(count)) {
+        label_at(count, number as u32)
+    } else {
+        None
+    }
+}

@@ -1,0 +1,90 @@
+ghost use Rattle.std.specs.Prelude.{◌≡◌, ◌⊎◌, map, position, string_bytes, alloc_error};
+ghost use Rattle.command_words.specs.Words.{begins_with_dash};
+ghost use Rattle.tc_words.specs.Job.{answer_to, without_dashes, job_of, ltc_read, number, label_of};
+
+use crate::fault::WordsFault;
+use crate::job::{Job, LABEL, LTC_READ, NUMBER};
+use crate::values::{count_in, numbered, spelled};
+use command_words::CommandLine;
+use std::alloc::Global;
+
+/// The job of the words, or their first fault. Word 0 is the command.
+pub fn read_words(alloc: Global, words: &[String]) -> Result<Job, WordsFault>
+    ensures { (result ≡ answer_to (map string_bytes words.now)) ⊎ (result ≡ Err (WordsFault.Memory alloc_error)) }
+{
+    match first_dash(words) {
+        Some(place) => Err(WordsFault::Dash(place)),
+        None => without_dashes(alloc, words),
+    }
+}
+
+// The same of words of which none begins with a dash.
+#[tactic(auto, using(crate::proofs::FirstDash::no_dashes))]
+fn without_dashes(alloc: Global, words: &[String]) -> Result<Job, WordsFault>
+    requires { position begins_with_dash (map string_bytes words.now) ≡ None }
+    ensures { (result ≡ without_dashes (map string_bytes words.now)) ⊎ (result ≡ Err (WordsFault.Memory alloc_error)) }
+{
+    if words.is_empty() {
+        return Err(WordsFault::Command);
+    }
+    match CommandLine::read(alloc, words) {
+        Ok(line) => job_of(line.command(), line.values()),
+        Err(memory) => Err(WordsFault::Memory(memory)),
+    }
+}
+
+// The first word that begins with a dash.
+fn first_dash(words: &[String]) -> Option<usize>
+    ensures { result ≡ position (λ word. begins_with_dash (string_bytes word)) words.now }
+{
+    words.iter().position(|word| begins_with_dash(word))
+}
+
+fn begins_with_dash(word: &str) -> bool
+    ensures { result ≡ begins_with_dash word.now }
+{
+    word.as_bytes().first() == Some(&b'-')
+}
+
+// The table of the commands.
+fn job_of(command: &str, values: &[&str]) -> Result<Job, WordsFault>
+    ensures { result ≡ job_of command.now (map (λ v. v.now) values.now) }
+{
+    match command {
+        LTC_READ => ltc_read(values),
+        NUMBER => number(values),
+        LABEL => label_of(values),
+        _ => Err(WordsFault::Command),
+    }
+}
+
+fn ltc_read(values: &[&str]) -> Result<Job, WordsFault>
+    ensures { result ≡ ltc_read (map (λ v. v.now) values.now) }
+{
+    match values {
+        [] => Ok(Job::LtcRead),
+        _ => Err(WordsFault::CountOfWords),
+    }
+}
+
+fn number(values: &[&str]) -> Result<Job, WordsFault>
+    ensures { result ≡ number (map (λ v. v.now) values.now) }
+{
+    let [count, label] = values else {
+        return Err(WordsFault::CountOfWords);
+    };
+    let count = count_in(count).ok_or(WordsFault::Value(1))?;
+    let label = spelled(count, label).ok_or(WordsFault::Value(2))?;
+    Ok(Job::Number { label })
+}
+
+fn label_of(values: &[&str]) -> Result<Job, WordsFault>
+    ensures { result ≡ label_of (map (λ v. v.now) values.now) }
+{
+    let [count, number] = values else {
+        return Err(WordsFault::CountOfWords);
+    };
+    let count = count_in(count).ok_or(WordsFault::Value(1))?;
+    let label = numbered(count, number).ok_or(WordsFault::Value(2))?;
+    Ok(Job::LabelOf { label })
+}
