@@ -1,8 +1,6 @@
 -- The job of a list of words, or their first fault.
-use Rattle.std.specs.Prelude.{ℕ, ◌==◌, Bool, false, List, [], ◌∷◌, Option, Some, None, Result, Ok, Err, if◌then◌else◌, position}
+use Rattle.std.specs.Prelude.{ℕ, List, [], ◌∷◌, Option, Some, None, Result, Ok, Err, if◌then◌else◌, position}
 use Rattle.std.specs.Str.{bytes_eq}
-use Rattle.tc_address.specs.declared.count.Count.{Count}
-use Rattle.tc_address.specs.Label.{Address}
 use Rattle.tc_words.specs.declared.job.Job.{Job}
 use Rattle.tc_words.specs.declared.job.Job.TheVariants as jobs
 use Rattle.tc_words.specs.declared.job.TheConstants.{LTC_READ, NUMBER, LABEL}
