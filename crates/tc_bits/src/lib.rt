@@ -5,6 +5,7 @@ mod checking;
 mod fault;
 mod fields;
 mod flags;
+pub mod laws;
 mod place;
 mod raw;
 mod register;
@@ -18,3 +19,6 @@ pub use place::Place;
 pub use raw::{RawFields, raw_of};
 pub use register::{get_field, put_field};
 pub use user_bits::UserBits;
+
+#[cfg(test)]
+mod tests;
