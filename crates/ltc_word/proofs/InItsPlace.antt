@@ -1,5 +1,6 @@
 -- Numbers that keep to the width of their places stand each in its place of their sum.
-use Rattle.std.proofs.Common.{◌≡◌, ℕ, ◌+◌, ◌*◌, ◌^◌, ◌<◌, arith}
+use Rattle.std.proofs.Common.{◌≡◌, ℕ, ◌+◌, ◌*◌, ◌^◌, ◌<◌, arith, ◌/◌, ◌%◌, refl}
+use Rattle.std.proofs.lemmas.Nat.{shr_split, shr-shr}
 use Rattle.tc_bits.specs.Register.{number_in}
 use Rattle.ltc_word.specs.declared.places.TheConstants.{FRAME_UNITS, USER_GROUP_ONE, FRAME_TENS, DROP_FRAME, COLOUR_FRAME, USER_GROUP_TWO, SECOND_UNITS, USER_GROUP_THREE, SECOND_TENS, BIT_27, USER_GROUP_FOUR, MINUTE_UNITS, USER_GROUP_FIVE, MINUTE_TENS, BIT_43, USER_GROUP_SIX, HOUR_UNITS, USER_GROUP_SEVEN, HOUR_TENS, GROUP_FLAG_ONE, BIT_59, USER_GROUP_EIGHT, SYNC, SYNC_PATTERN}
 
@@ -84,3 +85,41 @@ stand fu u1 ft drop colour u2 su u3 st b27 u4 mu u5 mt b43 u6 hu u7 ht flag b59 
   sync = omega arith;
   width = omega arith;
 }
+
+-- what stands from a place on is the number in it and what stands behind it
+next : (n first width behind : ℕ) → first + width ≡ behind → n / 2 ^ first ≡ n / 2 ^ first % 2 ^ width + n / 2 ^ behind * 2 ^ width
+next n first width behind e =
+    let h = shr_split (n / 2 ^ first) width in
+    let k : n / 2 ^ first / 2 ^ width ≡ n / 2 ^ behind = rw e at (shr-shr n first width) in
+    let h' = rw k at h in
+    omega arith
+
+-- the numbers in the places are all of the register
+pub all_places : (n : ℕ) → n < 2 ^ 80 → n ≡ number_in FRAME_UNITS n + number_in USER_GROUP_ONE n * 2 ^ 4 + number_in FRAME_TENS n * 2 ^ 8 + number_in DROP_FRAME n * 2 ^ 10 + number_in COLOUR_FRAME n * 2 ^ 11 + number_in USER_GROUP_TWO n * 2 ^ 12 + number_in SECOND_UNITS n * 2 ^ 16 + number_in USER_GROUP_THREE n * 2 ^ 20 + number_in SECOND_TENS n * 2 ^ 24 + number_in BIT_27 n * 2 ^ 27 + number_in USER_GROUP_FOUR n * 2 ^ 28 + number_in MINUTE_UNITS n * 2 ^ 32 + number_in USER_GROUP_FIVE n * 2 ^ 36 + number_in MINUTE_TENS n * 2 ^ 40 + number_in BIT_43 n * 2 ^ 43 + number_in USER_GROUP_SIX n * 2 ^ 44 + number_in HOUR_UNITS n * 2 ^ 48 + number_in USER_GROUP_SEVEN n * 2 ^ 52 + number_in HOUR_TENS n * 2 ^ 56 + number_in GROUP_FLAG_ONE n * 2 ^ 58 + number_in BIT_59 n * 2 ^ 59 + number_in USER_GROUP_EIGHT n * 2 ^ 60 + number_in SYNC n * 2 ^ 64
+all_places n width =
+    let start : n / 2 ^ 0 ≡ n = omega arith in
+    let end : n / 2 ^ 80 ≡ 0 = omega arith in
+    let s0 = next n 0 4 4 refl in
+    let s4 = next n 4 4 8 refl in
+    let s8 = next n 8 2 10 refl in
+    let s10 = next n 10 1 11 refl in
+    let s11 = next n 11 1 12 refl in
+    let s12 = next n 12 4 16 refl in
+    let s16 = next n 16 4 20 refl in
+    let s20 = next n 20 4 24 refl in
+    let s24 = next n 24 3 27 refl in
+    let s27 = next n 27 1 28 refl in
+    let s28 = next n 28 4 32 refl in
+    let s32 = next n 32 4 36 refl in
+    let s36 = next n 36 4 40 refl in
+    let s40 = next n 40 3 43 refl in
+    let s43 = next n 43 1 44 refl in
+    let s44 = next n 44 4 48 refl in
+    let s48 = next n 48 4 52 refl in
+    let s52 = next n 52 4 56 refl in
+    let s56 = next n 56 2 58 refl in
+    let s58 = next n 58 1 59 refl in
+    let s59 = next n 59 1 60 refl in
+    let s60 = next n 60 4 64 refl in
+    let s64 = next n 64 16 80 refl in
+    omega arith

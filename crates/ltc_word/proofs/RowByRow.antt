@@ -52,7 +52,7 @@ flag_stands : (n : ℕ) (flag : Bool) → n ≡ digit flag → (n == 1) ≡ flag
 flag_stands n true e = rw e refl
 flag_stands n false e = rw e refl
 
-rate_within : (system : System) → rate_of system ≤ 30
+pub rate_within : (system : System) → rate_of system ≤ 30
 rate_within F24 = omega arith
 rate_within F25 = omega arith
 rate_within F30 = omega arith
