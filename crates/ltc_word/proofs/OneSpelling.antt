@@ -15,7 +15,7 @@ use Rattle.tc_bits.specs.Fields.{Contents, contents, agrees, digits_of, Says}
 use Rattle.ltc_word.specs.declared.places.TheConstants.{SYNC, SYNC_PATTERN, USER_GROUP_ONE, USER_GROUP_TWO, USER_GROUP_THREE, USER_GROUP_FOUR, USER_GROUP_FIVE, USER_GROUP_SIX, USER_GROUP_SEVEN, USER_GROUP_EIGHT}
 use Rattle.ltc_word.specs.declared.word.LtcWord.{LtcWord}
 use Rattle.ltc_word.specs.Balance.{IsBalanced}
-use Rattle.tc_bits.specs.Fault as fields
+use Rattle.tc_bits.specs.Fault.{first_field_fault}
 use Rattle.std.proofs.lemmas.Grind.{common_steps}
 use Rattle.ltc_word.proofs.NoBitDiffers.{none_from_right}
 use Rattle.ltc_word.specs.Fault.{first_fault, raw_in, flags_in, user_in}
@@ -152,7 +152,7 @@ same_word fields balanced word e b = ap₂ word_with e b
 same_fields : (system : System) (raw : RawFields) (a b : Contents) → Says system raw a → Says system raw b → a ≡ b
 same_fields system raw a b p q = grind (arith, common_steps)
 
-faultless : (system : System) (raw : RawFields) (c : Contents) → Says system raw c → fields.first_fault system raw ≡ None
+faultless : (system : System) (raw : RawFields) (c : Contents) → Says system raw c → first_field_fault system raw ≡ None
 faultless system raw c p = grind (arith, common_steps)
 
 -- the bits spell one word

@@ -7,7 +7,7 @@ ghost use Rattle.tc_bits.specs.declared.raw.RawFields.{RawFields};
 ghost use Rattle.tc_bits.specs.Register.{Replaces};
 ghost use Rattle.tc_bits.specs.UserBits.{group};
 ghost use Rattle.tc_bits.specs.Fields.{Contents, Says};
-ghost use Rattle.tc_bits.specs.Fault.{first_fault};
+ghost use Rattle.tc_bits.specs.Fault.{first_field_fault};
 
 /// A register with one field replaced keeps all other bits, and there is only one such register.
 pub fn replacing_is_exact()
@@ -25,5 +25,5 @@ pub fn eight_groups_are_the_user_bits()
 /// Digits say one address at most, and digits that say one have no fault.
 pub fn digits_are_exact()
     ensures one { (system : System) (raw : RawFields) (a b : Contents) → Says system raw a → Says system raw b → a ≡ b }
-    ensures no_fault { (system : System) (raw : RawFields) (c : Contents) → Says system raw c → first_fault system raw ≡ None }
+    ensures no_fault { (system : System) (raw : RawFields) (c : Contents) → Says system raw c → first_field_fault system raw ≡ None }
 {}
