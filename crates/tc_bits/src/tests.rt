@@ -136,6 +136,7 @@ fn the_drop_frame_flag_tells_the_count_at_30(rt: HostRuntime) -> Result<(), Fail
         let fields = Fields::new(label, flags, UserBits::new(0x89ab_cdef));
         assert_eq!(rt; fields.is_ok(), agrees);
         if let Ok(fields) = fields {
+            assert_eq!(rt; fields.label(), label);
             let raw = raw_of(&fields);
             assert_eq!(rt; (raw.hour_units, raw.minute_units), (1, 2));
             assert_eq!(rt; (raw.second_units, raw.frame_units), (3, 4));
