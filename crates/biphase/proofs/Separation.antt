@@ -45,6 +45,10 @@ zero_lasts Normal c x ticks zero = omega arith
 pub one_lasts : (profile : Profile) (c x y : ℕ) → 1 ≤ c → IsNextOne profile c x y → (1 ≤ x) × (1 ≤ y)
 one_lasts Normal c x y ticks one = (omega arith, omega arith)
 
+-- and so does a first half
+pub half_lasts : (profile : Profile) (c x : ℕ) → 1 ≤ c → IsFirstHalf profile c x → 1 ≤ x
+half_lasts Normal c x ticks half = omega arith
+
 -- after a cell of an unequal pair's greater interval the lesser is no zero
 pub step_is_no_zero : (profile : Profile) (c x : ℕ) → AreUnequal profile c x → IsNextZero profile c x → ⊥
 step_is_no_zero Normal c x unequal zero = absurd (unequal.0 (omega arith))

@@ -9,7 +9,7 @@ use Rattle.biphase.specs.declared.cell.Cell.TheVariants.{Zero, One}
 use Rattle.biphase.specs.Pair.{AreUnequal}
 use Rattle.biphase.specs.Chain.{flat, intervals_of, length_of, last_length, IsCell, IsNear, IsFirstHalf, IsNextZero, IsNextOne}
 use Rattle.biphase.proofs.Chains.{chain-append, chain_lasts, last_length-append}
-use Rattle.biphase.proofs.Separation.{zero_is_no_half, half_or_not, step_is_no_zero, zero_lasts, one_lasts}
+use Rattle.biphase.proofs.Separation.{half_lasts, zero_is_no_half, half_or_not, step_is_no_zero, zero_lasts, one_lasts}
 use Rattle.cell_tracker.specs.Lock.{IsUnequalAt, HasNoLock}
 use Rattle.cell_tracker.specs.State.{HuntingState, AtCellState, MidCellState, search_from}
 use Rattle.cell_tracker.specs.Stretch.{Stretch, IsBroken, end_of, IsBreak, IsStretch, AreStretchesFrom, AreStretches, begun, with_cell, with_break}
@@ -216,6 +216,12 @@ holds profile intervals x earlier stretch new rest rest_is lock cells none broke
     }))
     after are
 
+-- the last cell of a stretch lasts a tick or more
+stretch_lasts : (profile : Profile) (intervals : List ℕ) (stretch : Stretch) → IsStretch profile intervals stretch → 1 ≤ last_length 0 stretch.cells
+stretch_lasts profile intervals stretch is =
+    let local = locally profile intervals stretch is in
+    rw local.1.cells (chain_lasts profile _ local.0 local.1.ticks local.1.chain)
+
 -- the place after a stretch with one cell more
 end_of-with_cell : (stretch : Stretch) (cell : Cell) → end_of (with_cell cell stretch) ≡ end_of stretch + length (intervals_of cell)
 end_of-with_cell stretch cell =
@@ -242,10 +248,12 @@ gains_zero state intervals earlier stretch x stands zero =
 
 -- the interval may be a first half
 pub waits : (state : AtCellState) (intervals : List ℕ) (earlier : List Stretch) (stretch : Stretch) (x : ℕ) → AtCellStandsFor state intervals earlier stretch
-    → 1 ≤ x → IsFirstHalf state.profile state.last x
+    → IsFirstHalf state.profile state.last x
     → MidCellStandsFor (record { profile = state.profile; last = state.last; half = x }) (intervals ++ x ∷ []) earlier stretch
-waits state intervals earlier stretch x stands ticks half =
+waits state intervals earlier stretch x stands half =
     let half_too : IsFirstHalf state.profile (last_length 0 stretch.cells) x = rw stands.last half in
+    let lasts = stretch_lasts state.profile intervals stretch (last_is_stretch state.profile intervals 0 earlier stretch stands.stretches_are) in
+    let ticks : 1 ≤ x = half_lasts state.profile (last_length 0 stretch.cells) x lasts half_too in
     record {
       stretches_are = holds state.profile intervals x earlier stretch stretch [] (drop_all (end_of stretch) intervals (omega (arith, stands.ends))) refl refl
           (λ _ zero. zero_is_no_half state.profile (last_length 0 stretch.cells) x ticks zero half_too) (λ _. stands.open_yet, λ no_half. absurd (no_half half_too))

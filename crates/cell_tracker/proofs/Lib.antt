@@ -1,4 +1,6 @@
+pub mod Computed
+pub mod Fed
 pub mod LocalStretch
 pub mod LockStays
+pub mod OneStretch
 pub mod StretchGrows
-pub mod Fed

@@ -75,7 +75,7 @@ head_is intervals k x rest there =
     ap (λ n. get_or intervals n 0) (sym (add-zero k)) ∙ sym (get_or-drop k intervals 0 0) ∙ ap (λ xs. get_or xs 0 0) there
 
 -- the tails of equal lists are equal
-tail_is : {x y : ℕ} {xs ys : List ℕ} → x ∷ xs ≡ y ∷ ys → xs ≡ ys
+pub tail_is : {x y : ℕ} {xs ys : List ℕ} → x ∷ xs ≡ y ∷ ys → xs ≡ ys
 tail_is same = cc
 
 -- a chain from a lock by its first zero and the cells after it

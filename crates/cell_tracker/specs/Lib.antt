@@ -1,3 +1,4 @@
+pub mod Kept
 pub mod Lock
 pub mod StandsFor
 pub mod State

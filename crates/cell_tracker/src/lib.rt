@@ -17,6 +17,7 @@
 
 mod at_cell;
 mod hunting;
+pub mod laws;
 mod mid_cell;
 
 pub use at_cell::{AtCell, FromAtCell};

@@ -16,7 +16,7 @@ pub returns-then-may_begin_one-clause-stands : goal.returns-then-may_begin_one-c
 returns-then-may_begin_one-clause-stands c = λ intervals earlier stretch stands.
     let is = subst (λ state. AtCellStandsFor state intervals earlier stretch) (sym c.self.view_is) stands in
     subst (λ state. MidCellStandsFor state (intervals ++ c.args.x ∷ []) earlier stretch) (sym c.new-then-may_begin_one.ensures)
-    (waits _ intervals earlier stretch c.args.x is c.requires.least (c.may_begin_one.ensures.0 c.if-may_begin_one.true))
+    (waits _ intervals earlier stretch c.args.x is (c.may_begin_one.ensures.0 c.if-may_begin_one.true))
 
 pub returns-else-may_begin_one-clause-stands : goal.returns-else-may_begin_one-clause-stands
 returns-else-may_begin_one-clause-stands c = λ intervals earlier stretch stands.
