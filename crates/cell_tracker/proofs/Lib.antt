@@ -1,4 +1,5 @@
 pub mod Computed
+mod Examples
 pub mod Fed
 pub mod LocalStretch
 pub mod LockStays

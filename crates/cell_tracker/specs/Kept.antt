@@ -1,5 +1,5 @@
 -- Recordings that keep a profile's tolerance: pieces of chains, cut anywhere, also inside a cell.
-use Rattle.std.specs.Prelude.{ℕ, ◌+◌, ◌≤◌, Bool, cond, ◌&&◌, leb, List, [], ◌∷◌, length, drop}
+use Rattle.std.specs.Prelude.{ℕ, ◌+◌, cond, ◌&&◌, nat_le, List, [], ◌∷◌, length, drop}
 use Rattle.biphase.specs.declared.profile.Profile.{Profile}
 use Rattle.biphase.specs.declared.cell.Cell.{Cell}
 use Rattle.biphase.specs.Chain.{intervals_of, flat, IsFront, IsChain}
@@ -19,7 +19,7 @@ cells_between low high at [] = []
 cells_between low high at (cell ∷ cells) =
     let end = at + length (intervals_of cell) in
     let more = cells_between low high end cells in
-    cond (leb low at && leb end high) (cell ∷ more) more
+    cond (nat_le low at && nat_le end high) (cell ∷ more) more
 
 -- the cells of a chain that lie wholly in a piece of it, which begins at the place `cut`, and begin at the piece's place `from` or later
 abbrev pub cells_from : List Cell → ℕ → List ℕ → ℕ → List Cell
