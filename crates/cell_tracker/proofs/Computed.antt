@@ -1,5 +1,5 @@
 -- The stretches of a list, computed: the states are fed one interval after another, so each list has its stretches.
-use Rattle.std.proofs.Common.{◌≡◌, ◌≢◌, ℕ, ◌+◌, ◌-◌, ◌*◌, ◌<◌, ◌≤◌, Bool, true, false, not, ◌&&◌, leb, ltb, List, [], ◌∷◌, ◌++◌, length, min, max, Option, Some, None, refl, ap, subst, sym, ◌∙◌, arith, append_assoc}
+use Rattle.std.proofs.Common.{◌≡◌, ◌≢◌, ℕ, ◌+◌, ◌-◌, ◌*◌, ◌<◌, ◌≤◌, Bool, true, false, not, ◌&&◌, leb, ltb, List, [], ◌∷◌, ◌++◌, length, min, max, Option, Some, None, refl, subst, sym, ◌∙◌, arith, append_assoc}
 use Rattle.std.specs.Int.{abs_diff}
 use Rattle.std.proofs.lemmas.Bool.{leb-true, le-leb, ltb-true, lt-ltb, false≢true}
 use Rattle.std.proofs.lemmas.List.{append-nil, length_push}
@@ -157,9 +157,9 @@ unfolding run
 runs profile intervals state [] tracks = subst (λ xs. Tracks profile xs state) (sym (append-nil intervals)) tracks
 runs profile intervals state (x ∷ rest) tracks =
     let more : Tracks profile (intervals ++ x ∷ [] ++ rest) (run profile (length (intervals ++ x ∷ [])) (step profile (length intervals) state x) rest) =
-        runs profile (intervals ++ x ∷ []) (step profile (length intervals) state x) rest (steps profile intervals state x tracks) in
+    runs profile (intervals ++ x ∷ []) (step profile (length intervals) state x) rest (steps profile intervals state x tracks) in
     subst (λ n. Tracks profile (intervals ++ x ∷ rest) (run profile n (step profile (length intervals) state x) rest)) (length_push intervals x)
-        (subst (λ xs. Tracks profile xs (run profile (length (intervals ++ x ∷ [])) (step profile (length intervals) state x) rest)) (append_assoc intervals (x ∷ []) rest) more)
+    (subst (λ xs. Tracks profile xs (run profile (length (intervals ++ x ∷ [])) (step profile (length intervals) state x) rest)) (append_assoc intervals (x ∷ []) rest) more)
 
 -- the stretches of a list
 unfoldable pub stretches_of : Profile → List ℕ → List Stretch

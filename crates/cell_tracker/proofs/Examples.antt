@@ -1,9 +1,9 @@
 -- Stretches computed, of recordings that show one thing each. All under the normal tolerance.
-use Rattle.std.proofs.Common.{◌≡◌, ℕ, zero, suc, ◌-◌, ◌/◌, ◌%◌, ◌==◌, Bool, true, false, cond, List, [], ◌∷◌, ◌++◌, map, length, replicate, set, Option, Some, None, refl, subst}
+use Rattle.std.proofs.Common.{◌≡◌, ℕ, zero, suc, ◌/◌, ◌%◌, ◌==◌, Bool, true, false, List, [], ◌∷◌, ◌++◌, map, length, replicate, set, Some, None, refl, subst}
 use Rattle.biphase.specs.declared.profile.Profile.TheVariants.{Normal}
 use Rattle.biphase.specs.declared.cell.Cell.{Cell}
 use Rattle.biphase.specs.declared.cell.Cell.TheVariants.{Zero, One}
-use Rattle.biphase.specs.Chain.{flat, bits}
+use Rattle.biphase.specs.Chain.{flat}
 use Rattle.cell_tracker.specs.Kept.{cells_from}
 use Rattle.cell_tracker.specs.Stretch.{Stretch, AreStretches, begun, with_break, with_cell}
 use Rattle.cell_tracker.proofs.Computed.{run, stretches_of, stretches_of-are}
