@@ -26,7 +26,8 @@ pub halves_are_equal : (profile : Profile) (x y : ℕ) → AreHalves profile x y
 halves_are_equal Normal x y halves = omega arith
 
 -- halves of two neighbouring ones are equal
-pub neighbours_are_equal : (profile : Profile) (a b x y : ℕ) → AreHalves profile a b → IsNextOne profile (a + b) x y → AreEqual profile b x
+pub neighbours_are_equal : (profile : Profile) (a b x y : ℕ) → AreHalves profile a b → IsNextOne profile (a + b) x y
+    → AreEqual profile b x
 neighbours_are_equal Normal a b x y halves one = omega arith
 
 -- a zero and then a half are unequal, and the zero is the greater
@@ -34,7 +35,8 @@ pub zero_then_half : (profile : Profile) (c x y : ℕ) → 1 ≤ x → IsNextOne
 zero_then_half Normal c x y tick one = ((λ equal. omega arith, omega arith), omega arith)
 
 -- a half and then a zero are unequal, and the zero is the greater
-pub half_then_zero : (profile : Profile) (a b x : ℕ) → 1 ≤ x → AreHalves profile a b → IsNextZero profile (a + b) x → AreUnequal profile b x × (b < x)
+pub half_then_zero : (profile : Profile) (a b x : ℕ) → 1 ≤ x → AreHalves profile a b → IsNextZero profile (a + b) x
+    → AreUnequal profile b x × (b < x)
 half_then_zero Normal a b x tick halves zero = ((λ equal. omega arith, omega arith), omega arith)
 
 -- a zero after a cell lasts a tick or more
@@ -71,7 +73,8 @@ half_or_not profile c x =
     ]
 
 -- a pair of another kind is not unequal
-pub other_kind : (profile : Profile) (a b : ℕ) (kind : PairKind) → IsKind profile a b kind → (kind ≡ Same) ⊎ (kind ≡ Wild) → AreUnequal profile a b → ⊥
+pub other_kind : (profile : Profile) (a b : ℕ) (kind : PairKind) → IsKind profile a b kind → (kind ≡ Same) ⊎ (kind ≡ Wild)
+    → AreUnequal profile a b → ⊥
 other_kind profile a b Same is other unequal = unequal.0 is
 other_kind profile a b Step is (inl other) unequal = cc
 other_kind profile a b Step is (inr other) unequal = cc

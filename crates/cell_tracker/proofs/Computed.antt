@@ -12,7 +12,8 @@ use Rattle.biphase.specs.Chain.{IsNextZero, IsFirstHalf, IsNextOne}
 use Rattle.biphase.proofs.Separation.{unequal_differ}
 use Rattle.cell_tracker.specs.Stretch.{Stretch, IsBroken, AreStretches, begun, with_cell, with_break}
 use Rattle.cell_tracker.specs.StandsFor.{HuntingStandsFor, AtCellStandsFor, MidCellStandsFor}
-use Rattle.cell_tracker.proofs.Fed.{hunt_on, start_at, start_mid, start_broken, gains_zero, waits, breaks, gains_one, breaks_behind}
+use Rattle.cell_tracker.proofs.BeginsAtTheLock.{hunt_on, start_at, start_mid, start_broken}
+use Rattle.cell_tracker.proofs.GainsOrBreaks.{gains_zero, waits, breaks, gains_one, breaks_behind}
 
 -- the test is true exactly where the fact holds
 record Tells (test : Bool) (P : Type 0) : Type 0 where
@@ -26,9 +27,12 @@ ltb_tells : (a b : ℕ) → Tells (ltb a b) (a < b)
 ltb_tells a b = record { yes_it_is = ltb-true a b; no_it_is_not = λ fails below. false≢true (sym fails ∙ lt-ltb a b below) }
 
 and_tells : (one two : Bool) {P Q : Type 0} → Tells one P → Tells two Q → Tells (one && two) (P × Q)
-and_tells true true p q = record { yes_it_is = λ _. (p.yes_it_is refl, q.yes_it_is refl); no_it_is_not = λ fails. absurd (false≢true (sym fails)) }
-and_tells true false p q = record { yes_it_is = λ holds. absurd (false≢true holds); no_it_is_not = λ _ both. q.no_it_is_not refl both.1 }
-and_tells false two p q = record { yes_it_is = λ holds. absurd (false≢true holds); no_it_is_not = λ _ both. p.no_it_is_not refl both.0 }
+and_tells true true p q =
+    record { yes_it_is = λ _. (p.yes_it_is refl, q.yes_it_is refl); no_it_is_not = λ fails. absurd (false≢true (sym fails)) }
+and_tells true false p q =
+    record { yes_it_is = λ holds. absurd (false≢true holds); no_it_is_not = λ _ both. q.no_it_is_not refl both.1 }
+and_tells false two p q =
+    record { yes_it_is = λ holds. absurd (false≢true holds); no_it_is_not = λ _ both. p.no_it_is_not refl both.0 }
 
 not_tells : (test : Bool) {P : Type 0} → Tells test P → Tells (not test) (¬ P)
 not_tells true p = record { yes_it_is = λ holds. absurd (false≢true holds); no_it_is_not = λ _ no_p. no_p (p.yes_it_is refl) }
@@ -73,9 +77,12 @@ pub data Tracked : Type 0 where
 
 -- it stands for the list
 abbrev pub Tracks : Profile → List ℕ → Tracked → Type 0
-Tracks profile intervals (hunting before stretches) = HuntingStandsFor (record { profile = profile; before = before }) intervals stretches
-Tracks profile intervals (at_cell last earlier stretch) = AtCellStandsFor (record { profile = profile; last = last }) intervals earlier stretch
-Tracks profile intervals (mid_cell last half earlier stretch) = MidCellStandsFor (record { profile = profile; last = last; half = half }) intervals earlier stretch
+Tracks profile intervals (hunting before stretches) =
+    HuntingStandsFor (record { profile = profile; before = before }) intervals stretches
+Tracks profile intervals (at_cell last earlier stretch) =
+    AtCellStandsFor (record { profile = profile; last = last }) intervals earlier stretch
+Tracks profile intervals (mid_cell last half earlier stretch) =
+    MidCellStandsFor (record { profile = profile; last = last; half = half }) intervals earlier stretch
 
 -- the stretches so far
 abbrev pub stretches_in : Tracked → List Stretch
@@ -101,8 +108,10 @@ from_half n half earlier stretch x false = hunting (Some x) (earlier ++ with_bre
 
 abbrev pub step : Profile → ℕ → Tracked → ℕ → Tracked
 step profile n (hunting None stretches) x = hunting (Some x) stretches
-step profile n (hunting (Some z) stretches) x = from_pair n stretches z x (is_unequal profile z x) (ltb z x) (is_half profile z x)
-step profile n (at_cell last earlier stretch) x = from_cell n last earlier stretch x (is_zero profile last x) (is_half profile last x)
+step profile n (hunting (Some z) stretches) x =
+    from_pair n stretches z x (is_unequal profile z x) (ltb z x) (is_half profile z x)
+step profile n (at_cell last earlier stretch) x =
+    from_cell n last earlier stretch x (is_zero profile last x) (is_half profile last x)
 step profile n (mid_cell last half earlier stretch) x = from_half n half earlier stretch x (is_one profile last half x)
 
 -- equal values of an option
@@ -116,29 +125,44 @@ falls profile z x unequal no_rise = let differ : z ≢ x = unequal_differ profil
 -- each step keeps what it stands for
 pair_steps : (profile : Profile) (intervals : List ℕ) (stretches : List Stretch) (z x : ℕ) (unequal rises half : Bool)
     → Tells unequal (AreUnequal profile z x) → Tells rises (z < x) → Tells half (IsFirstHalf profile z x)
-    → Tracks profile intervals (hunting (Some z) stretches) → Tracks profile (intervals ++ x ∷ []) (from_pair (length intervals) stretches z x unequal rises half)
+    → Tracks profile intervals (hunting (Some z) stretches)
+    → Tracks profile (intervals ++ x ∷ []) (from_pair (length intervals) stretches z x unequal rises half)
 pair_steps profile intervals stretches z x false rises half u r h tracks =
-    hunt_on _ intervals stretches x tracks (λ y before unequal. let same : y ≡ z = some_is (sym before) in u.no_it_is_not refl (subst (λ w. AreUnequal profile w x) same unequal))
-pair_steps profile intervals stretches z x true true half u r h tracks = start_at _ intervals stretches z x tracks refl (u.yes_it_is refl) (r.yes_it_is refl)
+    hunt_on _ intervals stretches x tracks (λ y before unequal. let same : y ≡ z = some_is (sym before) in u.no_it_is_not refl
+    (subst (λ w. AreUnequal profile w x) same unequal))
+pair_steps profile intervals stretches z x true true half u r h tracks =
+    start_at _ intervals stretches z x tracks refl (u.yes_it_is refl) (r.yes_it_is refl)
 pair_steps profile intervals stretches z x true false true u r h tracks =
-    start_mid _ intervals stretches z x tracks refl (u.yes_it_is refl) (falls profile z x (u.yes_it_is refl) (r.no_it_is_not refl)) (h.yes_it_is refl)
+    start_mid _ intervals stretches z x tracks refl (u.yes_it_is refl)
+    (falls profile z x (u.yes_it_is refl) (r.no_it_is_not refl)) (h.yes_it_is refl)
 pair_steps profile intervals stretches z x true false false u r h tracks =
-    start_broken _ intervals stretches z x tracks refl (u.yes_it_is refl) (falls profile z x (u.yes_it_is refl) (r.no_it_is_not refl)) (h.no_it_is_not refl)
+    start_broken _ intervals stretches z x tracks refl (u.yes_it_is refl)
+    (falls profile z x (u.yes_it_is refl) (r.no_it_is_not refl)) (h.no_it_is_not refl)
 
-cell_steps : (profile : Profile) (intervals : List ℕ) (last : ℕ) (earlier : List Stretch) (stretch : Stretch) (x : ℕ) (zero half : Bool)
+cell_steps : (profile : Profile) (intervals : List ℕ) (last : ℕ) (earlier : List Stretch) (stretch : Stretch) (x : ℕ)
+    (zero half : Bool)
     → Tells zero (IsNextZero profile last x) → Tells half (IsFirstHalf profile last x)
-    → Tracks profile intervals (at_cell last earlier stretch) → Tracks profile (intervals ++ x ∷ []) (from_cell (length intervals) last earlier stretch x zero half)
-cell_steps profile intervals last earlier stretch x true half z h tracks = gains_zero _ intervals earlier stretch x tracks (z.yes_it_is refl)
-cell_steps profile intervals last earlier stretch x false true z h tracks = waits _ intervals earlier stretch x tracks (h.yes_it_is refl)
-cell_steps profile intervals last earlier stretch x false false z h tracks = breaks _ intervals earlier stretch x tracks (z.no_it_is_not refl) (h.no_it_is_not refl)
+    → Tracks profile intervals (at_cell last earlier stretch)
+    → Tracks profile (intervals ++ x ∷ []) (from_cell (length intervals) last earlier stretch x zero half)
+cell_steps profile intervals last earlier stretch x true half z h tracks =
+    gains_zero _ intervals earlier stretch x tracks (z.yes_it_is refl)
+cell_steps profile intervals last earlier stretch x false true z h tracks =
+    waits _ intervals earlier stretch x tracks (h.yes_it_is refl)
+cell_steps profile intervals last earlier stretch x false false z h tracks =
+    breaks _ intervals earlier stretch x tracks (z.no_it_is_not refl) (h.no_it_is_not refl)
 
-half_steps : (profile : Profile) (intervals : List ℕ) (last half : ℕ) (earlier : List Stretch) (stretch : Stretch) (x : ℕ) (one : Bool)
+half_steps : (profile : Profile) (intervals : List ℕ) (last half : ℕ) (earlier : List Stretch) (stretch : Stretch) (x : ℕ)
+    (one : Bool)
     → Tells one (IsNextOne profile last half x)
-    → Tracks profile intervals (mid_cell last half earlier stretch) → Tracks profile (intervals ++ x ∷ []) (from_half (length intervals) half earlier stretch x one)
-half_steps profile intervals last half earlier stretch x true o tracks = gains_one _ intervals earlier stretch x tracks (o.yes_it_is refl)
-half_steps profile intervals last half earlier stretch x false o tracks = breaks_behind _ intervals earlier stretch x tracks (o.no_it_is_not refl)
+    → Tracks profile intervals (mid_cell last half earlier stretch)
+    → Tracks profile (intervals ++ x ∷ []) (from_half (length intervals) half earlier stretch x one)
+half_steps profile intervals last half earlier stretch x true o tracks =
+    gains_one _ intervals earlier stretch x tracks (o.yes_it_is refl)
+half_steps profile intervals last half earlier stretch x false o tracks =
+    breaks_behind _ intervals earlier stretch x tracks (o.no_it_is_not refl)
 
-steps : (profile : Profile) (intervals : List ℕ) (state : Tracked) (x : ℕ) → Tracks profile intervals state → Tracks profile (intervals ++ x ∷ []) (step profile (length intervals) state x)
+steps : (profile : Profile) (intervals : List ℕ) (state : Tracked) (x : ℕ) → Tracks profile intervals state
+    → Tracks profile (intervals ++ x ∷ []) (step profile (length intervals) state x)
 steps profile intervals (hunting None stretches) x tracks = hunt_on _ intervals stretches x tracks (λ z before. cc)
 steps profile intervals (hunting (Some z) stretches) x tracks =
     pair_steps profile intervals stretches z x _ _ _ (unequal_tells profile z x) (ltb_tells z x) (half_tells profile z x) tracks
@@ -152,26 +176,33 @@ unfoldable pub run : Profile → ℕ → Tracked → List ℕ → Tracked
 run profile n state [] = state
 run profile n state (x ∷ rest) = run profile (n + 1) (step profile n state x) rest
 
-runs : (profile : Profile) (intervals : List ℕ) (state : Tracked) (rest : List ℕ) → Tracks profile intervals state → Tracks profile (intervals ++ rest) (run profile (length intervals) state rest)
+runs : (profile : Profile) (intervals : List ℕ) (state : Tracked) (rest : List ℕ) → Tracks profile intervals state
+    → Tracks profile (intervals ++ rest) (run profile (length intervals) state rest)
 unfolding run
 runs profile intervals state [] tracks = subst (λ xs. Tracks profile xs state) (sym (append-nil intervals)) tracks
 runs profile intervals state (x ∷ rest) tracks =
-    let more : Tracks profile (intervals ++ x ∷ [] ++ rest) (run profile (length (intervals ++ x ∷ [])) (step profile (length intervals) state x) rest) =
-    runs profile (intervals ++ x ∷ []) (step profile (length intervals) state x) rest (steps profile intervals state x tracks) in
-    subst (λ n. Tracks profile (intervals ++ x ∷ rest) (run profile n (step profile (length intervals) state x) rest)) (length_push intervals x)
-    (subst (λ xs. Tracks profile xs (run profile (length (intervals ++ x ∷ [])) (step profile (length intervals) state x) rest)) (append_assoc intervals (x ∷ []) rest) more)
+    let more : Tracks profile (intervals ++ x ∷ [] ++ rest)
+    (run profile (length (intervals ++ x ∷ [])) (step profile (length intervals) state x) rest) =
+    runs profile (intervals ++ x ∷ []) (step profile (length intervals) state x) rest
+    (steps profile intervals state x tracks) in
+    subst (λ n. Tracks profile (intervals ++ x ∷ rest) (run profile n (step profile (length intervals) state x) rest))
+    (length_push intervals x)
+    (subst (λ xs. Tracks profile xs (run profile (length (intervals ++ x ∷ [])) (step profile (length intervals) state x) rest))
+    (append_assoc intervals (x ∷ []) rest) more)
 
 -- the stretches of a list
 unfoldable pub stretches_of : Profile → List ℕ → List Stretch
 stretches_of profile intervals = stretches_in (run profile 0 (hunting None []) intervals)
 
-tracked_are : (profile : Profile) (intervals : List ℕ) (state : Tracked) → Tracks profile intervals state → AreStretches profile intervals (stretches_in state)
+tracked_are : (profile : Profile) (intervals : List ℕ) (state : Tracked) → Tracks profile intervals state
+    → AreStretches profile intervals (stretches_in state)
 tracked_are profile intervals (hunting before stretches) tracks = tracks.stretches_are
 tracked_are profile intervals (at_cell last earlier stretch) tracks = tracks.stretches_are
 tracked_are profile intervals (mid_cell last half earlier stretch) tracks = tracks.stretches_are
 
 -- they are
-pub stretches_of-are : (profile : Profile) (intervals : List ℕ) → AreStretches profile intervals (stretches_of profile intervals)
+pub stretches_of-are : (profile : Profile) (intervals : List ℕ)
+    → AreStretches profile intervals (stretches_of profile intervals)
 unfolding stretches_of
 stretches_of-are profile intervals =
     tracked_are profile intervals _ (runs profile [] (hunting None []) intervals (record {

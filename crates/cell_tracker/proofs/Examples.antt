@@ -9,7 +9,8 @@ use Rattle.cell_tracker.specs.Stretch.{Stretch, AreStretches, begun, with_break,
 use Rattle.cell_tracker.proofs.Computed.{run, stretches_of, stretches_of-are}
 
 -- what is computed are the stretches
-are : (intervals : List ℕ) (stretches : List Stretch) → stretches_of Normal intervals ≡ stretches → AreStretches Normal intervals stretches
+are : (intervals : List ℕ) (stretches : List Stretch) → stretches_of Normal intervals ≡ stretches
+    → AreStretches Normal intervals stretches
 are intervals stretches same = subst (AreStretches Normal intervals) same (stretches_of-are Normal intervals)
 
 -- equal intervals have none
@@ -54,7 +55,9 @@ cell_of true = One 12 12
 
 -- the words 01:00:00:00 to 01:00:00:03 at 25 frames, balanced, after the bits 0 and 1
 four_words : List Bool
-four_words = false ∷ true ∷ bits_of 80 0xbffc0001000000000000 ++ bits_of 80 0xbffc0801000000000001 ++ bits_of 80 0xbffc0801000000000002 ++ bits_of 80 0xbffc0001000000000003
+four_words =
+    false ∷ true ∷ bits_of 80 0xbffc0001000000000000 ++ bits_of 80 0xbffc0801000000000001 ++ bits_of 80 0xbffc0801000000000002
+    ++ bits_of 80 0xbffc0001000000000003
 
 recorded : List ℕ
 recorded = flat (map cell_of four_words)
@@ -65,7 +68,8 @@ unfolding stretches_of run recorded four_words bits_of cell_of
 four_words_are_one = are recorded (record { lock = 0; cells = map cell_of four_words; broken_at = None } ∷ []) refl
 
 -- with one interval of 24 ticks made three times as long it breaks there, and goes on behind
-one_long_interval : (length recorded ≡ 385) × (map (λ stretch. stretch.broken_at) (stretches_of Normal (set recorded 108 72)) ≡ Some 108 ∷ None ∷ [])
+one_long_interval : (length recorded ≡ 385) ×
+    (map (λ stretch. stretch.broken_at) (stretches_of Normal (set recorded 108 72)) ≡ Some 108 ∷ None ∷ [])
 unfolding stretches_of run recorded four_words bits_of cell_of
 one_long_interval = (refl, refl)
 

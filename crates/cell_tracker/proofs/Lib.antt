@@ -1,6 +1,7 @@
+pub mod BeginsAtTheLock
 pub mod Computed
 mod Examples
-pub mod Fed
+pub mod GainsOrBreaks
 pub mod LocalStretch
 pub mod LockStays
 pub mod OneStretch

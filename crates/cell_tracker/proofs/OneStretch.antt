@@ -13,7 +13,8 @@ use Rattle.cell_tracker.specs.Stretch.{Stretch, IsBreak, IsStretch, AreStretches
 use Rattle.cell_tracker.proofs.LocalStretch.{locally, tail_is}
 
 -- two first unequal pairs are one
-pair_is_one : (profile : Profile) (intervals : List ℕ) (start lock other : ℕ) (is : IsLock profile intervals start lock) (is_too : IsLock profile intervals start other) → is.pair ≡ is_too.pair
+pair_is_one : (profile : Profile) (intervals : List ℕ) (start lock other : ℕ) (is : IsLock profile intervals start lock)
+    (is_too : IsLock profile intervals start other) → is.pair ≡ is_too.pair
 pair_is_one profile intervals start lock other is is_too =
     elim (cases_order is.pair is_too.pair) [
       | inl same ↦ same
@@ -22,7 +23,8 @@ pair_is_one profile intervals start lock other is is_too =
     ]
 
 -- two locks from one place are one
-pub lock_is_one : (profile : Profile) (intervals : List ℕ) (start lock other : ℕ) → IsLock profile intervals start lock → IsLock profile intervals start other → lock ≡ other
+pub lock_is_one : (profile : Profile) (intervals : List ℕ) (start lock other : ℕ) → IsLock profile intervals start lock
+    → IsLock profile intervals start other → lock ≡ other
 lock_is_one profile intervals start lock other is is_too =
     let same : is.pair ≡ is_too.pair = pair_is_one profile intervals start lock other is is_too in
     let here = get_or intervals is.pair 0 in
@@ -43,12 +45,21 @@ front_is one two (rest, is) long =
     sym (is ∙ ap (λ xs. one ++ xs) none ∙ append-nil one)
 
 -- two breaks of one stretch are one
-break_is_one : (profile : Profile) (c after : ℕ) (rest : List ℕ) (place other : Option ℕ) → IsBreak profile c after rest place → IsBreak profile c after rest other → place ≡ other
+break_is_one : (profile : Profile) (c after : ℕ) (rest : List ℕ) (place other : Option ℕ) → IsBreak profile c after rest place
+    → IsBreak profile c after rest other → place ≡ other
 break_is_one profile c after [] place other is is_too = is ∙ sym is_too
 break_is_one profile c after (x ∷ []) place other is is_too =
-    elim (half_or_not profile c x) [ inl half ↦ is.0 half ∙ sym (is_too.0 half) | inr no_half ↦ is.1 no_half ∙ sym (is_too.1 no_half) ]
+    elim (half_or_not profile c x) [
+      | inl half ↦ is.0 half ∙ sym (is_too.0 half)
+      | inr no_half ↦ is.1 no_half
+          ∙ sym (is_too.1 no_half)
+    ]
 break_is_one profile c after (x ∷ y ∷ rest) place other is is_too =
-    elim (half_or_not profile c x) [ inl half ↦ is.0 half ∙ sym (is_too.0 half) | inr no_half ↦ is.1 no_half ∙ sym (is_too.1 no_half) ]
+    elim (half_or_not profile c x) [
+      | inl half ↦ is.0 half ∙ sym (is_too.0 half)
+      | inr no_half ↦ is.1 no_half
+          ∙ sym (is_too.1 no_half)
+    ]
 
 -- a stretch by its parts
 abbrev stretch_of : ℕ → List Cell → Option ℕ → Stretch
@@ -65,8 +76,11 @@ cells_are_one profile intervals lock cells others place other is is_too =
     let fewer : length cells ≤ length others = is_too.longest cells is.chain in
     let more : length others ≤ length cells = is.longest others is_too.chain in
     elim (comparable_after profile first one.0 two.0 _ _ one.1.chain two.1.chain (tail_is (sym one.1.there ∙ two.1.there))) [
-      | inl front ↦ one.1.cells ∙ ap (λ xs. Zero first ∷ xs) (front_is one.0 two.0 front (omega (arith, more, ap length one.1.cells, ap length two.1.cells))) ∙ sym two.1.cells
-      | inr front ↦ one.1.cells ∙ ap (λ xs. Zero first ∷ xs) (sym (front_is two.0 one.0 front (omega (arith, fewer, ap length one.1.cells, ap length two.1.cells)))) ∙ sym two.1.cells
+      | inl front ↦ one.1.cells ∙ ap (λ xs. Zero first ∷ xs)
+          (front_is one.0 two.0 front (omega (arith, more, ap length one.1.cells, ap length two.1.cells))) ∙ sym two.1.cells
+      | inr front ↦ one.1.cells ∙ ap (λ xs. Zero first ∷ xs)
+          (sym (front_is two.0 one.0 front (omega (arith, fewer, ap length one.1.cells, ap length two.1.cells))))
+          ∙ sym two.1.cells
     ]
 
 -- two stretches at one lock are one
@@ -75,15 +89,19 @@ pub stretch_is_one : (profile : Profile) (intervals : List ℕ) (stretch other :
 stretch_is_one profile intervals stretch other lock is is_too =
     let at_lock : IsStretch profile intervals (stretch_of stretch.lock other.cells other.broken_at) =
     subst (λ k. IsStretch profile intervals (stretch_of k other.cells other.broken_at)) (sym lock) is_too in
-    let cells : stretch.cells ≡ other.cells = cells_are_one profile intervals stretch.lock stretch.cells other.cells stretch.broken_at other.broken_at is at_lock in
+    let cells : stretch.cells ≡ other.cells =
+    cells_are_one profile intervals stretch.lock stretch.cells other.cells stretch.broken_at other.broken_at is at_lock in
     let with_cells : IsStretch profile intervals (stretch_of stretch.lock stretch.cells other.broken_at) =
     subst (λ xs. IsStretch profile intervals (stretch_of stretch.lock xs other.broken_at)) (sym cells) at_lock in
-    let place : stretch.broken_at ≡ other.broken_at = break_is_one profile _ _ _ stretch.broken_at other.broken_at is.broken with_cells.broken in
-    ap (λ k. stretch_of k stretch.cells stretch.broken_at) lock ∙ ap (λ xs. stretch_of other.lock xs stretch.broken_at) cells ∙ ap (λ o. stretch_of other.lock other.cells o) place
+    let place : stretch.broken_at ≡ other.broken_at =
+    break_is_one profile _ _ _ stretch.broken_at other.broken_at is.broken with_cells.broken in
+    ap (λ k. stretch_of k stretch.cells stretch.broken_at) lock ∙ ap (λ xs. stretch_of other.lock xs stretch.broken_at) cells
+    ∙ ap (λ o. stretch_of other.lock other.cells o) place
 
 -- what follows one break is one list
 rest_is_one : (profile : Profile) (intervals : List ℕ) (place : Option ℕ) (more others : List Stretch)
-    → ((start : ℕ) → AreStretchesFrom profile intervals start more → AreStretchesFrom profile intervals start others → more ≡ others)
+    → ((start : ℕ) → AreStretchesFrom profile intervals start more → AreStretchesFrom profile intervals start others
+    → more ≡ others)
     → MatchOption place (more ≡ []) (λ start. AreStretchesFrom profile intervals start more)
     → MatchOption place (others ≡ []) (λ start. AreStretchesFrom profile intervals start others) → more ≡ others
 rest_is_one profile intervals None more others one is is_too = is ∙ sym is_too
@@ -93,12 +111,18 @@ rest_is_one profile intervals (Some start) more others one is is_too = one start
 pub stretches_are_one : (profile : Profile) (intervals : List ℕ) (start : ℕ) (stretches others : List Stretch)
     → AreStretchesFrom profile intervals start stretches → AreStretchesFrom profile intervals start others → stretches ≡ others
 stretches_are_one profile intervals start [] [] are are_too = refl
-stretches_are_one profile intervals start [] (other ∷ others) are are_too = absurd (are are_too.0.pair are_too.0.within are_too.0.unequal)
-stretches_are_one profile intervals start (stretch ∷ more) [] are are_too = absurd (are_too are.0.pair are.0.within are.0.unequal)
+stretches_are_one profile intervals start [] (other ∷ others) are are_too =
+    absurd (are are_too.0.pair are_too.0.within are_too.0.unequal)
+stretches_are_one profile intervals start (stretch ∷ more) [] are are_too =
+    absurd (are_too are.0.pair are.0.within are.0.unequal)
 stretches_are_one profile intervals start (stretch ∷ more) (other ∷ others) are are_too =
     let same : stretch ≡ other =
-    stretch_is_one profile intervals stretch other (lock_is_one profile intervals start stretch.lock other.lock are.0 are_too.0) are.1 are_too.1 in
+    stretch_is_one profile intervals stretch other
+    (lock_is_one profile intervals start stretch.lock other.lock are.0 are_too.0) are.1 are_too.1 in
     let after : MatchOption stretch.broken_at (others ≡ []) (λ place. AreStretchesFrom profile intervals place others) =
-    subst (λ one. MatchOption one.broken_at (others ≡ []) (λ place. AreStretchesFrom profile intervals place others)) (sym same) are_too.2 in
-    let tail : more ≡ others = rest_is_one profile intervals stretch.broken_at more others (λ place is is_too. stretches_are_one profile intervals place more others is is_too) are.2 after in
+    subst (λ one. MatchOption one.broken_at (others ≡ []) (λ place. AreStretchesFrom profile intervals place others))
+    (sym same) are_too.2 in
+    let tail : more ≡ others =
+    rest_is_one profile intervals stretch.broken_at more others
+    (λ place is is_too. stretches_are_one profile intervals place more others is is_too) are.2 after in
     ap (λ one. one ∷ more) same ∙ ap (λ xs. other ∷ xs) tail
