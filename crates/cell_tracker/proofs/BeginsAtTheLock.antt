@@ -1,12 +1,12 @@
 -- A search goes on where no pair is unequal, and else a stretch begins at the lock.
-use Rattle.std.proofs.Common.{◌≡◌, ℕ, ◌+◌, ◌-◌, ◌<◌, ◌≤◌, List, [], ◌∷◌, ◌++◌, length, drop, get_or, Some, refl, ap, subst, sym, ◌∙◌, arith, MatchOption}
+use Rattle.std.proofs.Common.{◌≡◌, ◌≢◌, ℕ, ◌+◌, ◌-◌, ◌<◌, ◌≤◌, List, [], ◌∷◌, ◌++◌, length, drop, get_or, Some, None, refl, ap, subst, sym, ◌∙◌, arith, MatchOption}
 use Rattle.std.proofs.lemmas.List.{append-nil, drop-append-le, drop_more, drop_all, drop_at, length_push, get_or_push, get_or_append_left}
 use Rattle.std.proofs.lemmas.List.Elements.{All-push}
 use Rattle.std.proofs.lemmas.Option.{slice_get-get_or, slice_get_within, get_or_from_slice_get}
 use Rattle.biphase.specs.declared.profile.Profile.{Profile}
 use Rattle.biphase.specs.Pair.{AreUnequal}
 use Rattle.biphase.specs.Chain.{IsFirstHalf}
-use Rattle.biphase.proofs.Separation.{step_is_no_zero}
+use Rattle.biphase.proofs.Separation.{step_is_no_zero, unequal_differ}
 use Rattle.cell_tracker.specs.Lock.{IsUnequalAt, HasNoLock}
 use Rattle.cell_tracker.specs.State.{HuntingState, search_from}
 use Rattle.cell_tracker.specs.Stretch.{Stretch, IsBroken, IsStretch, AreStretchesFrom, AreStretches, begun, with_break}
@@ -49,8 +49,8 @@ stretches_then state intervals stretches new x stands step =
     last_changes state.profile intervals x 0 stretches [] new (omega arith) stands.all_broken step
     (subst (AreStretches state.profile intervals) (sym (append-nil stretches)) stands.stretches_are)
 
--- the search goes on
-pub hunt_on : (state : HuntingState) (intervals : List ℕ) (stretches : List Stretch) (x : ℕ)
+-- the search goes on where the interval makes no unequal pair
+hunt_on : (state : HuntingState) (intervals : List ℕ) (stretches : List Stretch) (x : ℕ)
     → HuntingStandsFor state intervals stretches
     → ((z : ℕ) → state.before ≡ Some z → ¬ AreUnequal state.profile z x)
     → HuntingStandsFor (search_from state.profile x) (intervals ++ x ∷ []) stretches
@@ -65,6 +65,23 @@ hunt_on state intervals stretches x stands equal = record {
   all_broken = stands.all_broken;
   before = sym (last_of-push intervals x);
 }
+
+-- so it does at the first interval
+pub hunt_first : (state : HuntingState) (intervals : List ℕ) (stretches : List Stretch) (x : ℕ)
+    → HuntingStandsFor state intervals stretches → state.before ≡ None
+    → HuntingStandsFor (search_from state.profile x) (intervals ++ x ∷ []) stretches
+hunt_first state intervals stretches x stands first = hunt_on state intervals stretches x stands (λ z before. cc)
+
+-- and at a pair of another kind
+pub hunt_equal : (state : HuntingState) (intervals : List ℕ) (stretches : List Stretch) (z x : ℕ)
+    → HuntingStandsFor state intervals stretches → state.before ≡ Some z → ¬ AreUnequal state.profile z x
+    → HuntingStandsFor (search_from state.profile x) (intervals ++ x ∷ []) stretches
+hunt_equal state intervals stretches z x stands before equal =
+    hunt_on state intervals stretches x stands (λ y also. let same : y ≡ z = cc in rw same equal)
+
+-- an unequal pair that does not rise falls
+falls : (profile : Profile) (z x : ℕ) → AreUnequal profile z x → x ≤ z → x < z
+falls profile z x unequal low = let differ : z ≢ x = unequal_differ profile z x unequal in omega arith
 
 -- a search that meets an unequal pair has a stretch at its greater interval
 begins : (state : HuntingState) (intervals : List ℕ) (stretches : List Stretch) (z x : ℕ) (new : Stretch)
@@ -131,10 +148,11 @@ start_at state intervals stretches z x stands before unequal rising = record {
 -- the interval before is the first zero of a stretch, and the interval waits
 pub start_mid : (state : HuntingState) (intervals : List ℕ) (stretches : List Stretch) (z x : ℕ)
     → HuntingStandsFor state intervals stretches
-    → state.before ≡ Some z → AreUnequal state.profile z x → x < z → IsFirstHalf state.profile z x
+    → state.before ≡ Some z → AreUnequal state.profile z x → x ≤ z → IsFirstHalf state.profile z x
     → MidCellStandsFor (record { profile = state.profile; last = z; half = x }) (intervals ++ x ∷ []) stretches
     (begun (length intervals - 1) z)
-start_mid state intervals stretches z x stands before unequal falling half =
+start_mid state intervals stretches z x stands before unequal low half =
+    let falling : x < z = falls state.profile z x unequal low in
     let last : last_of intervals ≡ Some z = sym stands.before ∙ before in
     let there = last_at intervals z last in
     let end : length intervals - 1 + 1 ≡ length intervals = omega (arith, there.0) in
@@ -159,10 +177,11 @@ start_mid state intervals stretches z x stands before unequal falling half =
 -- the interval before is the only zero of a stretch that breaks at the interval
 pub start_broken : (state : HuntingState) (intervals : List ℕ) (stretches : List Stretch) (z x : ℕ)
     → HuntingStandsFor state intervals stretches
-    → state.before ≡ Some z → AreUnequal state.profile z x → x < z → ¬ IsFirstHalf state.profile z x
+    → state.before ≡ Some z → AreUnequal state.profile z x → x ≤ z → ¬ IsFirstHalf state.profile z x
     → HuntingStandsFor (search_from state.profile x) (intervals ++ x ∷ [])
     (stretches ++ with_break (length intervals) (begun (length intervals - 1) z) ∷ [])
-start_broken state intervals stretches z x stands before unequal falling no_half =
+start_broken state intervals stretches z x stands before unequal low no_half =
+    let falling : x < z = falls state.profile z x unequal low in
     let last : last_of intervals ≡ Some z = sym stands.before ∙ before in
     let there = last_at intervals z last in
     let end : length intervals - 1 + 1 ≡ length intervals = omega (arith, there.0) in

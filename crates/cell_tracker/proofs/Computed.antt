@@ -1,5 +1,5 @@
 -- The stretches of a list, computed: the states are fed one interval after another, so each list has its stretches.
-use Rattle.std.proofs.Common.{◌≡◌, ◌≢◌, ℕ, ◌+◌, ◌-◌, ◌*◌, ◌<◌, ◌≤◌, Bool, true, false, not, ◌&&◌, leb, ltb, List, [], ◌∷◌, ◌++◌, length, min, max, Option, Some, None, refl, subst, sym, ◌∙◌, arith, append_assoc}
+use Rattle.std.proofs.Common.{◌≡◌, ℕ, ◌+◌, ◌-◌, ◌*◌, ◌<◌, ◌≤◌, Bool, true, false, not, ◌&&◌, leb, ltb, List, [], ◌∷◌, ◌++◌, length, min, max, Option, Some, None, refl, subst, sym, ◌∙◌, arith, append_assoc}
 use Rattle.std.specs.Int.{abs_diff}
 use Rattle.std.proofs.lemmas.Bool.{leb-true, le-leb, ltb-true, lt-ltb, false≢true}
 use Rattle.std.proofs.lemmas.List.{append-nil, length_push}
@@ -9,10 +9,9 @@ use Rattle.biphase.specs.declared.cell.Cell.TheVariants.{Zero, One}
 use Rattle.biphase.specs.Profile.{tolerance_of}
 use Rattle.biphase.specs.Pair.{AreUnequal}
 use Rattle.biphase.specs.Chain.{IsNextZero, IsFirstHalf, IsNextOne}
-use Rattle.biphase.proofs.Separation.{unequal_differ}
 use Rattle.cell_tracker.specs.Stretch.{Stretch, IsBroken, AreStretches, begun, with_cell, with_break}
 use Rattle.cell_tracker.specs.StandsFor.{HuntingStandsFor, AtCellStandsFor, MidCellStandsFor}
-use Rattle.cell_tracker.proofs.BeginsAtTheLock.{hunt_on, start_at, start_mid, start_broken}
+use Rattle.cell_tracker.proofs.BeginsAtTheLock.{hunt_first, hunt_equal, start_at, start_mid, start_broken}
 use Rattle.cell_tracker.proofs.GainsOrBreaks.{gains_zero, waits, breaks, gains_one, breaks_behind}
 
 -- the test is true exactly where the fact holds
@@ -114,30 +113,21 @@ step profile n (at_cell last earlier stretch) x =
     from_cell n last earlier stretch x (is_zero profile last x) (is_half profile last x)
 step profile n (mid_cell last half earlier stretch) x = from_half n half earlier stretch x (is_one profile last half x)
 
--- equal values of an option
-some_is : {a b : ℕ} → Some a ≡ Some b → a ≡ b
-some_is same = cc
-
--- an unequal pair that does not rise falls
-falls : (profile : Profile) (z x : ℕ) → AreUnequal profile z x → (z < x → ⊥) → x < z
-falls profile z x unequal no_rise = let differ : z ≢ x = unequal_differ profile z x unequal in omega arith
-
 -- each step keeps what it stands for
 pair_steps : (profile : Profile) (intervals : List ℕ) (stretches : List Stretch) (z x : ℕ) (unequal rises half : Bool)
     → Tells unequal (AreUnequal profile z x) → Tells rises (z < x) → Tells half (IsFirstHalf profile z x)
     → Tracks profile intervals (hunting (Some z) stretches)
     → Tracks profile (intervals ++ x ∷ []) (from_pair (length intervals) stretches z x unequal rises half)
 pair_steps profile intervals stretches z x false rises half u r h tracks =
-    hunt_on _ intervals stretches x tracks (λ y before unequal. let same : y ≡ z = some_is (sym before) in u.no_it_is_not refl
-    (subst (λ w. AreUnequal profile w x) same unequal))
+    hunt_equal _ intervals stretches z x tracks refl (u.no_it_is_not refl)
 pair_steps profile intervals stretches z x true true half u r h tracks =
     start_at _ intervals stretches z x tracks refl (u.yes_it_is refl) (r.yes_it_is refl)
 pair_steps profile intervals stretches z x true false true u r h tracks =
-    start_mid _ intervals stretches z x tracks refl (u.yes_it_is refl)
-    (falls profile z x (u.yes_it_is refl) (r.no_it_is_not refl)) (h.yes_it_is refl)
+    let no_rise = r.no_it_is_not refl in
+    start_mid _ intervals stretches z x tracks refl (u.yes_it_is refl) (omega arith) (h.yes_it_is refl)
 pair_steps profile intervals stretches z x true false false u r h tracks =
-    start_broken _ intervals stretches z x tracks refl (u.yes_it_is refl)
-    (falls profile z x (u.yes_it_is refl) (r.no_it_is_not refl)) (h.no_it_is_not refl)
+    let no_rise = r.no_it_is_not refl in
+    start_broken _ intervals stretches z x tracks refl (u.yes_it_is refl) (omega arith) (h.no_it_is_not refl)
 
 cell_steps : (profile : Profile) (intervals : List ℕ) (last : ℕ) (earlier : List Stretch) (stretch : Stretch) (x : ℕ)
     (zero half : Bool)
@@ -163,7 +153,7 @@ half_steps profile intervals last half earlier stretch x false o tracks =
 
 steps : (profile : Profile) (intervals : List ℕ) (state : Tracked) (x : ℕ) → Tracks profile intervals state
     → Tracks profile (intervals ++ x ∷ []) (step profile (length intervals) state x)
-steps profile intervals (hunting None stretches) x tracks = hunt_on _ intervals stretches x tracks (λ z before. cc)
+steps profile intervals (hunting None stretches) x tracks = hunt_first _ intervals stretches x tracks refl
 steps profile intervals (hunting (Some z) stretches) x tracks =
     pair_steps profile intervals stretches z x _ _ _ (unequal_tells profile z x) (ltb_tells z x) (half_tells profile z x) tracks
 steps profile intervals (at_cell last earlier stretch) x tracks =
