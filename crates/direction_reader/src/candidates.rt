@@ -16,12 +16,18 @@ pub fn window_events(system: System, bits: u128, tick: u64, length: u64) -> Even
     ensures candidates { AreEventsOf system bits tick length result }
     ensures bears { BearsOnly tick length result }
 {
-    let forward = if ends_in_sync(bits) {
+    let is_forward = ends_in_sync(bits);
+    let is_backward = begins_in_reversed_sync(bits);
+    // Nearly every window is no candidate.
+    if !is_forward && !is_backward {
+        return Events::none();
+    }
+    let forward = if is_forward {
         Some(candidate(Direction::Forward, system, bits, tick, length))
     } else {
         None
     };
-    let backward = if begins_in_reversed_sync(bits) {
+    let backward = if is_backward {
         let bits = reversed(bits);
         Some(candidate(Direction::Backward, system, bits, tick, length))
     } else {

@@ -6,7 +6,7 @@ ghost use Rattle.tc_files.specs.IntervalFile.{
   answer,
   after,
   end,
-  fault_in,
+ 
   head_answer,
   header_answer,
   interval_answer,
@@ -94,7 +94,9 @@ impl IntervalDecoder {
             number_byte(place, self.system, &mut self.part, byte)
         };
         self.taken = place + 1;
-        self.fault = fault_of(taken);
+        if let Taken::Fault(fault) = taken {
+            self.fault = Some(fault);
+        }
         taken
     }
 
@@ -110,16 +112,6 @@ impl IntervalDecoder {
             None if HEADER_LENGTH <= self.taken && self.part.is_empty() => Ok(()),
             None => Err(FileFault::Truncated(self.taken)),
         }
-    }
-}
-
-/// The fault in an answer.
-fn fault_of(taken: Taken) -> Option<FileFault>
-    ensures { result ≡ fault_in taken }
-{
-    match taken {
-        Taken::Fault(fault) => Some(fault),
-        _ => None,
     }
 }
 
