@@ -1,5 +1,5 @@
 //! The ticks at the latest boundaries of cells. Next: `candidates`.
-ghost use Rattle.std.specs.Prelude.{◌≡◌, ◌<◌, [], ◌∷◌, length, slice_index};
+ghost use Rattle.std.specs.Prelude.{◌≡◌, ◌+◌, ◌%◌, ◌<◌, [], ◌∷◌, length, slice_index};
 ghost use Rattle.direction_reader.specs.Boundaries.{with_tick};
 
 use arrayvec::ArrayVec;
@@ -44,7 +44,7 @@ impl Boundaries {
     {
         if self.ring.is_full() {
             self.ring[self.oldest] = tick;
-            self.oldest = (self.oldest + 1) % BOUNDARIES;
+            self.oldest = place_after(self.oldest);
         } else {
             self.ring.push(tick);
         }
@@ -57,4 +57,12 @@ impl Boundaries {
     {
         self.ring[self.oldest]
     }
+}
+
+/// The next place of the ring. A division would cost more than the rest of a push.
+fn place_after(place: usize) -> usize
+    requires { place < BOUNDARIES }
+    ensures { result ≡ (place + 1) % BOUNDARIES }
+{
+    if place + 1 < BOUNDARIES { place + 1 } else { 0 }
 }

@@ -6,7 +6,6 @@ ghost use Rattle.tc_files.specs.IntervalFile.{
   answer,
   after,
   end,
- 
   head_answer,
   header_answer,
   interval_answer,

@@ -73,29 +73,29 @@ impl Reading {
         ensures cause { HasOutCause (K.faults out.old) (K.faults out.new) result }
     {
         let events = self.reader.feed(x);
-        self.push(&events, out)
+        self.push(events, out)
     }
 
     /// Counts the events of an interval, and pushes their lines.
-    fn push<K: Sink>(&mut self, events: &Events, out: &mut K) -> Result<(), Stop>
-        requires lines { FitLines events.now }
+    fn push<K: Sink>(&mut self, events: Events, out: &mut K) -> Result<(), Stop>
+        requires lines { FitLines events }
         requires header { IsTickRate self.old.header.tick_rate }
         requires room { self.old.words + self.old.refused + self.old.lost ≤ 2 * MAX_INTERVALS }
-        ensures counted { OnOk result (self.new ≡ all_counted (event_list events.now) self.old) }
+        ensures counted { OnOk result (self.new ≡ all_counted (event_list events) self.old) }
         ensures header { self.new.header ≡ self.old.header }
         ensures all { OnOk result (Appends (K.written out.old) (K.written out.new)
-            (lines self.old.header (event_list events.now))) }
+            (lines self.old.header (event_list events))) }
         ensures front { OnErr result (AppendsFront (K.written out.old) (K.written out.new)
-            (lines self.old.header (event_list events.now))) }
+            (lines self.old.header (event_list events))) }
         ensures why { IfErr result (λ stop. stop ≡ Stop.WriteFault) }
         ensures cause { HasOutCause (K.faults out.old) (K.faults out.new) result }
     {
-        match (&events.first, &events.second) {
+        match (events.first, events.second) {
             (Some(first), Some(second)) => {
-                self.push_one(first, out)?;
-                self.push_one(second, out)
+                self.push_one(&first, out)?;
+                self.push_one(&second, out)
             }
-            (Some(event), None) | (None, Some(event)) => self.push_one(event, out),
+            (Some(event), None) | (None, Some(event)) => self.push_one(&event, out),
             (None, None) => Ok(()),
         }
     }

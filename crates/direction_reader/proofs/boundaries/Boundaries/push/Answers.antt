@@ -9,4 +9,4 @@ returns-then-is_full c =
     let ticks = c.self.inside.ring.items in
     let full : length ticks ≡ 81 = grind (arith, common_steps) in
     let within : c.self.inside.oldest < 81 = omega arith in
-    rw (c.deref_mut.ensures.value, ← c.self.view_is) (overwritten ticks c.self.inside.oldest c.args.tick full within)
+    rw (c.deref_mut.ensures.value, c.place_after-self-inside.ensures, ← c.self.view_is) (overwritten ticks c.self.inside.oldest c.args.tick full within)
