@@ -1,6 +1,6 @@
 -- What was pushed for some bytes and then for those after them was pushed for all of them, in order.
 use Rattle.std.proofs.Common.{◌≡◌, ℕ, ◌+◌, ◌<◌, List, [], ◌∷◌, ◌++◌, length, take, drop, get_or, arith, sym, ◌∙◌, ap, subst, append_assoc, append-nil, refl, inl, inr}
-use Rattle.std.specs.Prelude.{OnOk, IfErr, Ok, Err}
+use Rattle.std.specs.Prelude.{OnOk, OnErr, IfErr, Ok, Err}
 use Rattle.std.specs.Result.{IsErrAnd}
 use Rattle.std.specs.declared.result.Result.{Result}
 use Rattle.std.specs.declared.option.Option.{Option}
@@ -63,6 +63,18 @@ through (Err stop) says to = to stop says
 pub on_ok : {P Q : Type 0} (result : Result (Unit {0}) Stop) → OnOk result P → (P → Q) → OnOk result Q
 on_ok (Ok done) says to = to says
 on_ok (Err stop) says to = tt
+
+pub both_ok : (P Q : Type 0) (result : Result (Unit {0}) Stop) → OnOk result P → OnOk result Q → OnOk result (P × Q)
+both_ok P Q (Ok done) p q = (p, q)
+both_ok P Q (Err stop) p q = tt
+
+pub on_err : {P Q : Type 0} (result : Result (Unit {0}) Stop) → OnErr result P → (P → Q) → OnErr result Q
+on_err (Ok done) says to = tt
+on_err (Err stop) says to = to says
+
+pub at_err : {P : Type 0} (result : Result (Unit {0}) Stop) → P → OnErr result P
+at_err (Ok done) says = tt
+at_err (Err stop) says = says
 
 pub if_err : {P Q : Stop → Type 0} (result : Result (Unit {0}) Stop) → IfErr result P → ((stop : Stop) → P stop → Q stop) → IfErr result Q
 if_err (Ok done) says to = tt

@@ -1,2 +1,3 @@
 pub mod AlongTheInput
+pub mod CountedEvents
 pub mod PushedLines

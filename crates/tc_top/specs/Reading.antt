@@ -1,5 +1,5 @@
 -- A recording behind its header: what is counted of its events, and what is printed of them.
-use Rattle.std.specs.Prelude.{◌≡◌, ℕ, ◌+◌, ◌*◌, ◌≤◌, List, [], ◌∷◌, IfSome}
+use Rattle.std.specs.Prelude.{◌≡◌, ℕ, ◌+◌, ◌*◌, ◌≤◌, List, [], ◌∷◌, count_by, IfSome}
 use Rattle.std.specs.declared.option.Option.{Option}
 use Rattle.std.specs.Io.KnownBytes.{Appends}
 use Rattle.direction_reader.specs.declared.event.Event.{Event}
@@ -9,7 +9,7 @@ use Rattle.direction_reader.specs.declared.reader.TheConstants.{MAX_INTERVALS}
 use Rattle.tc_files.specs.IntervalHeader.{IsTickRate}
 use Rattle.tc_files.specs.Texts.{FitsLine}
 use Rattle.tc_top.specs.declared.engines.reading.Reading.{Reading}
-use Rattle.tc_top.specs.LtcRead.{lines}
+use Rattle.tc_top.specs.LtcRead.{lines, is_word, is_refused, is_lost}
 
 -- one event more of its kind
 abbrev pub counted : Event → Reading → Reading
@@ -37,6 +37,6 @@ pub record FitsReading (r : Reading) : Type 0 where
 pub record Prints (before after : Reading) (old new : Option (List ℕ)) : Type 0 where
   pub events : List Event
   pub pushed : Appends old new (lines before.header events)
-  pub words : after.words ≡ (all_counted events before).words
-  pub refused : after.refused ≡ (all_counted events before).refused
-  pub lost : after.lost ≡ (all_counted events before).lost
+  pub words : after.words ≡ before.words + count_by is_word events
+  pub refused : after.refused ≡ before.refused + count_by is_refused events
+  pub lost : after.lost ≡ before.lost + count_by is_lost events

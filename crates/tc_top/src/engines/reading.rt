@@ -102,6 +102,7 @@ impl Reading {
         requires header { IsTickRate self.old.header.tick_rate }
         requires room { self.old.words + self.old.refused + self.old.lost ≤ 2 * MAX_INTERVALS + 1 }
         ensures counted { self.new ≡ counted event.now self.old }
+        ensures header { self.new.header ≡ self.old.header }
         ensures all { OnOk result (Appends (K.written out.old) (K.written out.new)
             (event_line self.old.header event.now)) }
         ensures front { OnErr result (AppendsFront (K.written out.old) (K.written out.new)
