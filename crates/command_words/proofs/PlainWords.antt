@@ -5,7 +5,7 @@ use Rattle.std.specs.List.{fold}
 use Rattle.std.specs.Str.{bytes_eq}
 use Rattle.clap.specs.Lexer.{usize_max, long_of, long_of_rest, short_of, short_of_rest, strip_byte}
 use Rattle.clap.specs.Walk.{Held, Row, Rule, Text, Waiting, Walk, idle, positional, trailing, value, plain_word, short_or_plain, long_or_other, word_met, walked, walk, walk_from, nothing_held, used}
-use Rattle.clap.specs.Words.{is_simple, matches_of, takes, first_of, first_value, all_of, found_of, rows_of}
+use Rattle.clap.specs.Words.{App, HasMatchesOf, is_simple, matches_of, takes, first_of, first_value, all_of, found_of, rows_of}
 use Rattle.clap.specs.declared.parser.matches.ArgMatches.{ArgMatches}
 use Rattle.clap.proofs.WalkLemmas.{first_value-rows, raw_values-rows}
 use Rattle.clap.specs.Simple.{Shape, built}
@@ -18,7 +18,7 @@ use Rattle.command_words.specs.Words.{NoDash, NoDashes, line_of, words_of}
 
 -- ---- the command line
 
-pub command_app_is_simple : is_simple command_app ≡ true
+command_app_is_simple : is_simple command_app ≡ true
 unfolding clap_on_literals
 command_app_is_simple = refl
 
@@ -31,16 +31,20 @@ no_strip : (word : Text) → NoDash word → strip_byte 45 word ≡ None
 no_strip [] plain = refl
 no_strip (x ∷ xs) plain = rw plain refl
 
+-- nor is it `--`
 no_end : (word : Text) → NoDash word → bytes_eq word (45 ∷ 45 ∷ []) ≡ false
 no_end [] plain = refl
 no_end (x ∷ xs) plain = rw plain refl
 
+-- nor `--name`
 no_long : (word : Text) → NoDash word → long_of word ≡ None
 no_long word plain = ap (λ rest. option_and_then long_of_rest (option_and_then (strip_byte 45) rest)) (no_strip word plain)
 
+-- nor `-abc`
 no_short : (word : Text) → NoDash word → short_of word ≡ None
 no_short word plain = ap (option_and_then short_of_rest) (no_strip word plain)
 
+-- so it is a plain word, whatever waits for a value
 plain_met : (c : List Rule) (waiting : Waiting) (position : ℕ) (word : Text) (h : Held) → NoDash word
     → cond (bytes_eq word (45 ∷ 45 ∷ [])) (h, trailing position) (long_or_other c waiting word (long_of word) h) ≡ plain_word c waiting word h
 plain_met c waiting position word h plain =
@@ -77,31 +81,41 @@ after_values word values = record {
   stopped = None;
 }
 
+-- the first word is pending for the command
 first_word : (word : Text) → NoDash word → walked top.rules [] (walk_from nothing_held) word ≡ after_command word
 unfolding walked
 first_word word plain = rw (plain_idle top.rules 1 word nothing_held plain) refl
 
-first_value_word : (word v : Text) → NoDash v → walked top.rules [] (after_command word) v ≡ after_values word (v ∷ [])
+-- the second one settles the command and is pending for the values
+first_value_word : (word v : Text) → NoDash v
+    → walked top.rules [] (after_command word) v ≡ after_values word (v ∷ [])
 unfolding walked
 first_value_word word v plain = rw (plain_idle top.rules 2 v (after_command word).held plain) refl
 
-next_value_word : (word v : Text) (values : List Text) → NoDash v → walked top.rules [] (after_values word values) v ≡ after_values word (values ++ v ∷ [])
+-- each further one joins the values
+next_value_word : (word v : Text) (values : List Text) → NoDash v
+    → walked top.rules [] (after_values word values) v ≡ after_values word (values ++ v ∷ [])
 unfolding walked
 next_value_word word v values plain = rw (plain_positional top.rules 2 v (after_values word values).held plain) refl
 
-next_value_words : (word : Text) (values more : List Text) → NoDashes more → fold (walked top.rules []) (after_values word values) more ≡ after_values word (values ++ more)
+-- and so do all of them
+next_value_words : (word : Text) (values more : List Text) → NoDashes more
+    → fold (walked top.rules []) (after_values word values) more ≡ after_values word (values ++ more)
 next_value_words word values [] plain = ap (after_values word) (sym (append-nil values))
 next_value_words word values (v ∷ more) plain =
     ap (λ w. fold (walked top.rules []) w more) (next_value_word word v values plain.0)
     ∙ next_value_words word (values ++ v ∷ []) more plain.1
     ∙ ap (after_values word) (append_assoc values (v ∷ []) more)
 
-all_words : (word v : Text) (more : List Text) → NoDashes (word ∷ v ∷ more) → walk top.rules [] nothing_held (word ∷ v ∷ more) ≡ after_values word (v ∷ more)
+-- the walk over the whole line
+all_words : (word v : Text) (more : List Text) → NoDashes (word ∷ v ∷ more)
+    → walk top.rules [] nothing_held (word ∷ v ∷ more) ≡ after_values word (v ∷ more)
 all_words word v more plain =
     ap (λ w. fold (walked top.rules []) (walked top.rules [] w v) more) (first_word word plain.0)
     ∙ ap (λ w. fold (walked top.rules []) w more) (first_value_word word v plain.1.0)
     ∙ next_value_words word (v ∷ []) more plain.1.1
 
+-- the rows at its end
 values_of_words : (word : Text) (values : List Text) → NoDashes (word ∷ values)
     → (first_of (codes "command") (matches_of command_app (word ∷ values)) ≡ Some word)
     × (unwrap_or (all_of (codes "values") (matches_of command_app (word ∷ values))) [] ≡ values)
@@ -110,6 +124,7 @@ values_of_words word (v ∷ more) plain = rw (all_words word v more plain) (refl
 
 -- ---- each turn passes
 
+-- no flag is met that could be refused
 flags_pass_by : (again : Bool) (word : Text) (h : Held) → NoDash word
     → (bytes_eq word (45 ∷ 45 ∷ []) || flag_word_passes top.rules again (long_of word) word h) ≡ true
 flags_pass_by again word h plain =
@@ -130,6 +145,7 @@ turn_next_value : (word v : Text) (values : List Text) → NoDash v → turn_pas
 turn_next_value word v values plain =
     both (flags_pass_by false v (after_values word values).held plain) (rw (plain_positional top.rules 2 v (after_values word values).held plain) refl)
 
+-- each turn among the values passes
 turns_pass : (word : Text) (values more : List Text) → NoDashes more → walk_passes top [] (after_values word values) more ≡ true
 unfolding walk_passes
 turns_pass word values [] plain = refl
@@ -138,11 +154,14 @@ turns_pass word values (v ∷ more) plain =
 
 -- ---- clap takes the words
 
+-- any text is a value
 values_accepted : (values : List Text) → values_pass values_rule values ≡ true
 values_accepted [] = refl
 values_accepted (v ∷ values) = values_accepted values
 
-values_settle : (word v : Text) (values : List Text) → length (v ∷ values) ≤ usize_max → settle_passes top.rules false (after_values word (v ∷ values)).held ≡ true
+-- as many values as there are may settle
+values_settle : (word v : Text) (values : List Text) → length (v ∷ values) ≤ usize_max
+    → settle_passes top.rules false (after_values word (v ∷ values)).held ≡ true
 values_settle word v values fits =
     both (le-leb 0 (length (v ∷ values)) (omega arith)) (both (le-leb (length (v ∷ values)) usize_max fits) (values_accepted values))
 
@@ -150,7 +169,9 @@ one_word_passes : (word : Text) → NoDash word → built_takes (built command_a
 unfolding walk_passes
 one_word_passes word plain = rw (first_word word plain) (both (both (turn_command word plain) refl) refl)
 
-each_turn_passes : (word v : Text) (more : List Text) → NoDashes (word ∷ v ∷ more) → walk_passes top [] (walk_from nothing_held) (word ∷ v ∷ more) ≡ true
+-- and each turn of the walk
+each_turn_passes : (word v : Text) (more : List Text) → NoDashes (word ∷ v ∷ more)
+    → walk_passes top [] (walk_from nothing_held) (word ∷ v ∷ more) ≡ true
 unfolding walk_passes
 each_turn_passes word v more plain =
     both (turn_command word plain.0)
@@ -163,13 +184,15 @@ more_words_pass : (word v : Text) (more : List Text) → length (v ∷ more) ≤
 more_words_pass word v more fits plain =
     rw (all_words word v more plain) (both (each_turn_passes word v more plain) (both (values_settle word v more fits) refl))
 
-takes_words : (word : Text) (values : List Text) → length values ≤ usize_max → NoDashes (word ∷ values) → takes command_app (word ∷ values) ≡ true
+takes_words : (word : Text) (values : List Text) → length values ≤ usize_max → NoDashes (word ∷ values)
+    → takes command_app (word ∷ values) ≡ true
 takes_words word [] fits plain = both command_app_is_simple (one_word_passes word plain.0)
 takes_words word (v ∷ more) fits plain = both command_app_is_simple (more_words_pass word v more fits plain)
 
 -- ---- what was found
 
-pub line_of_words : (m : ArgMatches) (words : List Text) → 0 < length words → NoDashes words → rows_of (found_of m) ≡ matches_of command_app words
+-- the rows of such a walk are the command and its values
+line_of_words : (m : ArgMatches) (words : List Text) → 0 < length words → NoDashes words → rows_of (found_of m) ≡ matches_of command_app words
     → IsSome (first_value (found_of m) (codes "command")) × (words_of (line_of m) ≡ words)
 line_of_words m [] some plain rows = absurd (omega arith)
 line_of_words m (word ∷ values) some plain rows =
@@ -180,6 +203,13 @@ line_of_words m (word ∷ values) some plain rows =
     ap (λ o. unwrap_or o []) (raw_values-rows (found_of m) (codes "values") ∙ ap (all_of (codes "values")) rows) ∙ said.1 in
     (rw command refl, ap₂ (λ w vs. w ∷ vs) (ap (λ o. unwrap_or o []) command) rest)
 
-pub takes_line : (words : List Text) → 0 < length words → length words < 2 ^ 64 → NoDashes words → takes command_app words ≡ true
-takes_line [] some fits plain = absurd (omega arith)
-takes_line (word ∷ values) some fits plain = takes_words word values (omega arith) plain
+-- what clap finds in words without a dash is the words
+pub found_line : (app : App) (m : ArgMatches) (words : List Text) → app ≡ command_app → 0 < length words → NoDashes words → HasMatchesOf app words m
+    → IsSome (first_value (found_of m) (codes "command")) × (words_of (line_of m) ≡ words)
+found_line app m words is some plain has =
+    line_of_words m words some plain ((has (ap is_simple is ∙ command_app_is_simple)).0 ∙ ap (λ a. matches_of a words) is)
+
+-- clap takes words without a dash
+pub takes_line : (app : App) (words : List Text) → app ≡ command_app → 0 < length words → length words < 2 ^ 64 → NoDashes words → takes app words ≡ true
+takes_line app [] is some fits plain = absurd (omega arith)
+takes_line app (word ∷ values) is some fits plain = ap (λ a. takes a (word ∷ values)) is ∙ takes_words word values (omega arith) plain

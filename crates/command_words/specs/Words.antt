@@ -8,6 +8,7 @@ abbrev pub begins_with_dash : Text → Bool
 begins_with_dash [] = false
 begins_with_dash (x ∷ xs) = x == 45
 
+-- it does not
 abbrev pub NoDash : Text → Type 0
 NoDash word = begins_with_dash word ≡ false
 

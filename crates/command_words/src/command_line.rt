@@ -54,11 +54,12 @@ impl<'a> CommandLine<'a> {
     }
 }
 
+// What clap finds. It fails for want of memory alone.
 fn matches<'a>(alloc: Global, words: &'a [String]) -> Result<ArgMatches<'a>, Error>
     requires some { 0 < length words.now }
     requires plain { NoDashes (map string_bytes words.now) }
-    ensures command { IfOk result (λ m. IsSome (first_value (found_of m) (codes "command"))) }
-    ensures words { IfOk result (λ m. words_of (line_of m) ≡ map string_bytes words.entry.now) }
+    ensures found { IfOk result (λ m. IsSome (first_value (found_of m) (codes "command"))
+        × (words_of (line_of m) ≡ map string_bytes words.entry.now)) }
     ensures memory { length words.entry.now < 2 ^ 64 → IfErr result (λ e. kind_of e ≡ ErrorKind.OutOfMemory) }
 {
     grammar(alloc)?.try_get_matches_from(words)

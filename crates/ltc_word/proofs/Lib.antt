@@ -1,6 +1,9 @@
+pub mod BalanceChooses
+pub mod CountedByBytes
 pub mod InItsPlace
 pub mod LastBitFirst
 pub mod NoBitDiffers
 pub mod OneBitMore
 pub mod OneSpelling
 pub mod RowByRow
+pub mod SyncOnlyAtTheEnd

@@ -11,6 +11,7 @@ use Rattle.tc_address.specs.Label.{Address}
 use Rattle.tc_bits.specs.declared.flags.Flags.{Flags}
 use Rattle.tc_bits.specs.declared.place.Place.{Place}
 use Rattle.tc_bits.specs.Fields.{IsFields}
+use Rattle.ltc_word.specs.declared.places.TheConstants.{SYNC, SYNC_PATTERN}
 use Rattle.ltc_word.specs.declared.word.LtcWord.{LtcWord}
 use Rattle.ltc_word.specs.Balance.{IsBalanced}
 use Rattle.ltc_word.specs.Places.{polarity_place}
@@ -80,12 +81,12 @@ whole word bits polarity valid rows balance = record {
 
 -- the sum of the weights with nothing at the polarity correction
 abbrev pub uncorrected : LtcWord → ℕ
-uncorrected word = address_sum word.fields.label + flag_sum (system_with word.fields.label.count) word.fields.flags + user_sum word.fields.user + 49148 * 2 ^ 64
+uncorrected word = address_sum word.fields.label + flag_sum (system_with word.fields.label.count) word.fields.flags + user_sum word.fields.user + SYNC_PATTERN * 2 ^ SYNC.first
 
 -- what was made of the parts of a word is made of the word
 pub made_of : (word : LtcWord) (label : Address) (system : System) (flags : Flags) (groups a f u s : ℕ)
     → label ≡ word.fields.label → system ≡ system_with word.fields.label.count → flags ≡ word.fields.flags → groups ≡ word.fields.user
-    → a ≡ address_sum label → f ≡ flag_sum system flags → u ≡ user_sum groups → s ≡ 49148 * 2 ^ 64 → a + f + u + s ≡ uncorrected word
+    → a ≡ address_sum label → f ≡ flag_sum system flags → u ≡ user_sum groups → s ≡ SYNC_PATTERN * 2 ^ SYNC.first → a + f + u + s ≡ uncorrected word
 made_of word label system flags groups a f u s label_is system_is flags_are groups_are made_a made_f made_u made_s =
     rw (made_a ∙ ap address_sum label_is, made_f ∙ ap₂ flag_sum system_is flags_are, made_u ∙ ap user_sum groups_are, made_s) refl
 

@@ -1,18 +1,24 @@
 -- Each field stands in its place and in no other, so the bits fix the word, and the word fixes the
 -- bits.
-use Rattle.std.proofs.Common.{◌≡◌, ℕ, ◌+◌, ◌*◌, ◌/◌, ◌%◌, ◌^◌, ◌<◌, Bool, true, false, refl, sym, ap, ap₂, lit<, arith}
+use Rattle.std.proofs.Common.{◌≡◌, ℕ, ◌+◌, ◌*◌, ◌/◌, ◌%◌, ◌^◌, ◌<◌, Bool, true, false, refl, sym, ap, ap₂, lit<, arith, None}
 use Rattle.std.specs.Prelude.{◌↔◌, IsTrue}
 use Rattle.std.proofs.lemmas.Nat.{mod_below}
 use Rattle.tc_address.specs.declared.system.System.{System}
+use Rattle.tc_address.specs.declared.count.Count.{Count}
+use Rattle.tc_address.specs.Count.{system_with, rate_of}
+use Rattle.tc_address.specs.Label.{address, is_skipped}
 use Rattle.tc_bits.specs.declared.raw.RawFields.{RawFields}
 use Rattle.tc_bits.specs.declared.flags.Flags.{Flags}
 use Rattle.tc_bits.specs.Register.{number_in}
 use Rattle.tc_bits.specs.UserBits.{group}
-use Rattle.tc_bits.specs.Fields.{Contents, digits_of, Says}
+use Rattle.tc_bits.specs.Fields.{Contents, contents, agrees, digits_of, Says}
 use Rattle.ltc_word.specs.declared.places.TheConstants.{SYNC, SYNC_PATTERN, USER_GROUP_ONE, USER_GROUP_TWO, USER_GROUP_THREE, USER_GROUP_FOUR, USER_GROUP_FIVE, USER_GROUP_SIX, USER_GROUP_SEVEN, USER_GROUP_EIGHT}
 use Rattle.ltc_word.specs.declared.word.LtcWord.{LtcWord}
 use Rattle.ltc_word.specs.Balance.{IsBalanced}
-use Rattle.ltc_word.specs.Fault.{raw_in, flags_in, user_in}
+use Rattle.tc_bits.specs.Fault.{first_field_fault}
+use Rattle.std.proofs.lemmas.Grind.{common_steps}
+use Rattle.ltc_word.proofs.NoBitDiffers.{none_from_right}
+use Rattle.ltc_word.specs.Fault.{first_fault, raw_in, flags_in, user_in}
 use Rattle.ltc_word.specs.Spelling.{Spells, SpellsAddress, SpellsFlags, SpellsUserBits}
 
 -- eight numbers are the groups of some user bits
@@ -142,3 +148,31 @@ word_with fields balanced = record { fields = fields; balanced = balanced }
 -- one word has these fields and this balance
 pub same_word : (fields : Contents) (balanced : Bool) (word : LtcWord) → fields ≡ word.fields → balanced ≡ word.balanced → word_with fields balanced ≡ word
 same_word fields balanced word e b = ap₂ word_with e b
+
+same_fields : (system : System) (raw : RawFields) (a b : Contents) → Says system raw a → Says system raw b → a ≡ b
+same_fields system raw a b p q = grind (arith, common_steps)
+
+faultless : (system : System) (raw : RawFields) (c : Contents) → Says system raw c → first_field_fault system raw ≡ None
+faultless system raw c p = grind (arith, common_steps)
+
+-- the bits spell one word
+pub one_word : (system : System) (a b : LtcWord) (bits : ℕ) → Spells system a bits → Spells system b bits → a ≡ b
+one_word system a b bits p q =
+    same_word a.fields a.balanced b
+    (same_fields system (raw_in system bits) a.fields b.fields (says system a bits p) (says system b bits q))
+    (same_truth (IsBalanced bits) a.balanced b.balanced p.balance q.balance)
+
+-- a word that is spelled has no fault
+pub no_fault : (system : System) (word : LtcWord) (bits : ℕ) → Spells system word bits → first_fault system bits ≡ None
+no_fault system word bits s = rw (none_from_right bits s.sync, faultless system (raw_in system bits) word.fields (says system word bits s)) refl
+
+-- the parts of a word and its digits, each compared
+pub said : {system : System} {count : Count} {hours minutes seconds frames : ℕ} {flags : Flags} {user : ℕ} {raw : RawFields}
+    → hours < 24 → minutes < 60 → seconds < 60 → frames < rate_of (system_with count) → is_skipped (address count hours minutes seconds frames) ≡ false
+    → agrees count flags.bit10 ≡ true → system_with count ≡ system → digits_of (contents (address count hours minutes seconds frames) flags user) ≡ raw
+    → Says system raw (contents (address count hours minutes seconds frames) flags user)
+said h m s f counted flag count digits = record {
+  valid = record { label = record { hours = h; minutes = m; seconds = s; frames = f; counted = counted }; flag = flag };
+  count = count;
+  digits = digits;
+}

@@ -9,7 +9,7 @@ use Rattle.tc_address.specs.Label.{Address, IsLabel}
 use Rattle.tc_bits.specs.declared.flags.Flags.{Flags}
 use Rattle.tc_bits.specs.Register.{number_in}
 use Rattle.tc_bits.specs.UserBits.{group}
-use Rattle.ltc_word.specs.declared.places.TheConstants.{SYNC, SYNC_PATTERN}
+use Rattle.ltc_word.specs.declared.places.TheConstants.{FRAME_UNITS, USER_GROUP_ONE, FRAME_TENS, DROP_FRAME, COLOUR_FRAME, USER_GROUP_TWO, SECOND_UNITS, USER_GROUP_THREE, SECOND_TENS, BIT_27, USER_GROUP_FOUR, MINUTE_UNITS, USER_GROUP_FIVE, MINUTE_TENS, BIT_43, USER_GROUP_SIX, HOUR_UNITS, USER_GROUP_SEVEN, HOUR_TENS, GROUP_FLAG_ONE, BIT_59, USER_GROUP_EIGHT, SYNC, SYNC_PATTERN}
 use Rattle.ltc_word.specs.Places.{polarity_place, group_flag_zero_place, group_flag_two_place}
 use Rattle.ltc_word.specs.Spelling.{SpellsAddress, SpellsFlags, SpellsUserBits}
 use Rattle.ltc_word.proofs.InItsPlace.{Fit, Stand, stand}
@@ -20,20 +20,20 @@ digit flag = cond flag 1 0
 -- the weights of the address
 abbrev pub address_sum : Address → ℕ
 address_sum a =
-    a.frames % 10 * 2 ^ 0 + a.frames / 10 * 2 ^ 8 + a.seconds % 10 * 2 ^ 16 + a.seconds / 10 * 2 ^ 24
-    + a.minutes % 10 * 2 ^ 32 + a.minutes / 10 * 2 ^ 40 + a.hours % 10 * 2 ^ 48 + a.hours / 10 * 2 ^ 56
+    a.frames % 10 * 2 ^ FRAME_UNITS.first + a.frames / 10 * 2 ^ FRAME_TENS.first + a.seconds % 10 * 2 ^ SECOND_UNITS.first + a.seconds / 10 * 2 ^ SECOND_TENS.first
+    + a.minutes % 10 * 2 ^ MINUTE_UNITS.first + a.minutes / 10 * 2 ^ MINUTE_TENS.first + a.hours % 10 * 2 ^ HOUR_UNITS.first + a.hours / 10 * 2 ^ HOUR_TENS.first
 
 -- the weights of the flags
 abbrev pub flag_sum : System → Flags → ℕ
 flag_sum system f =
-    digit f.bit10 * 2 ^ 10 + digit f.colour * 2 ^ 11 + digit f.bgf0 * 2 ^ (group_flag_zero_place system).first
-    + digit f.bgf1 * 2 ^ 58 + digit f.bgf2 * 2 ^ (group_flag_two_place system).first
+    digit f.bit10 * 2 ^ DROP_FRAME.first + digit f.colour * 2 ^ COLOUR_FRAME.first + digit f.bgf0 * 2 ^ (group_flag_zero_place system).first
+    + digit f.bgf1 * 2 ^ GROUP_FLAG_ONE.first + digit f.bgf2 * 2 ^ (group_flag_two_place system).first
 
 -- the weights of the user groups
 abbrev pub user_sum : ℕ → ℕ
 user_sum user =
-    group 1 user * 2 ^ 4 + group 2 user * 2 ^ 12 + group 3 user * 2 ^ 20 + group 4 user * 2 ^ 28
-    + group 5 user * 2 ^ 36 + group 6 user * 2 ^ 44 + group 7 user * 2 ^ 52 + group 8 user * 2 ^ 60
+    group 1 user * 2 ^ USER_GROUP_ONE.first + group 2 user * 2 ^ USER_GROUP_TWO.first + group 3 user * 2 ^ USER_GROUP_THREE.first + group 4 user * 2 ^ USER_GROUP_FOUR.first
+    + group 5 user * 2 ^ USER_GROUP_FIVE.first + group 6 user * 2 ^ USER_GROUP_SIX.first + group 7 user * 2 ^ USER_GROUP_SEVEN.first + group 8 user * 2 ^ USER_GROUP_EIGHT.first
 
 -- all rows of the table but the balance, and what stands at the polarity correction
 pub record SpellsRows (system : System) (a : Address) (f : Flags) (user polarity bits : ℕ) : Type 0 where
@@ -52,7 +52,7 @@ flag_stands : (n : ℕ) (flag : Bool) → n ≡ digit flag → (n == 1) ≡ flag
 flag_stands n true e = rw e refl
 flag_stands n false e = rw e refl
 
-rate_within : (system : System) → rate_of system ≤ 30
+pub rate_within : (system : System) → rate_of system ≤ 30
 rate_within F24 = omega arith
 rate_within F25 = omega arith
 rate_within F30 = omega arith
@@ -103,7 +103,7 @@ fits a f user p q r label hp hq hr =
     }
 
 stands : (a : Address) (f : Flags) (user p q r bits : ℕ) → Fits a f user p q r
-    → bits ≡ address_sum a + (digit f.bit10 * 2 ^ 10 + digit f.colour * 2 ^ 11 + digit f.bgf1 * 2 ^ 58) + user_sum user + 49148 * 2 ^ 64 + p * 2 ^ 27 + q * 2 ^ 43 + r * 2 ^ 59
+    → bits ≡ address_sum a + (digit f.bit10 * 2 ^ DROP_FRAME.first + digit f.colour * 2 ^ COLOUR_FRAME.first + digit f.bgf1 * 2 ^ GROUP_FLAG_ONE.first) + user_sum user + SYNC_PATTERN * 2 ^ SYNC.first + p * 2 ^ BIT_27.first + q * 2 ^ BIT_43.first + r * 2 ^ BIT_59.first
     → Stands a f user p q r bits
 stands a f user p q r bits fit sum =
     stand (a.frames % 10) (group 1 user) (a.frames / 10) (digit f.bit10) (digit f.colour) (group 2 user) (a.seconds % 10) (group 3 user) (a.seconds / 10) p (group 4 user) (a.minutes % 10) (group 5 user) (a.minutes / 10) q (group 6 user) (a.hours % 10) (group 7 user) (a.hours / 10) (digit f.bgf1) r (group 8 user)
@@ -189,7 +189,7 @@ at_25 a f user polarity bits eight s =
     s.bit_59
 
 rows_at_24 : (a : Address) (f : Flags) (user polarity bits : ℕ) → IsLabel a → user < 2 ^ 32 → polarity < 2
-    → bits ≡ address_sum a + flag_sum F24 f + user_sum user + 49148 * 2 ^ 64 + polarity * 2 ^ (polarity_place F24).first
+    → bits ≡ address_sum a + flag_sum F24 f + user_sum user + SYNC_PATTERN * 2 ^ SYNC.first + polarity * 2 ^ (polarity_place F24).first
     → SpellsRows F24 a f user polarity bits
 rows_at_24 a f user polarity bits label eight low sum =
     at_24 a f user polarity bits eight
@@ -197,7 +197,7 @@ rows_at_24 a f user polarity bits label eight low sum =
 
 -- the sum of the weights spells each row
 pub spells_rows : (system : System) (a : Address) (f : Flags) (user polarity bits : ℕ) → IsLabel a → user < 2 ^ 32 → polarity < 2
-    → bits ≡ address_sum a + flag_sum system f + user_sum user + 49148 * 2 ^ 64 + polarity * 2 ^ (polarity_place system).first
+    → bits ≡ address_sum a + flag_sum system f + user_sum user + SYNC_PATTERN * 2 ^ SYNC.first + polarity * 2 ^ (polarity_place system).first
     → SpellsRows system a f user polarity bits
 spells_rows F24 a f user polarity bits label eight low sum = rows_at_24 a f user polarity bits label eight low sum
 spells_rows F25 a f user polarity bits label eight low sum =

@@ -8,7 +8,7 @@ use Rattle.tc_address.specs.declared.system.System.{System}
 use Rattle.tc_bits.specs.declared.fault.FieldFault.{FieldFault}
 use Rattle.tc_bits.specs.declared.flags.Flags.{Flags}
 use Rattle.tc_bits.specs.declared.raw.RawFields.{RawFields}
-use Rattle.tc_bits.specs.Fault as fields
+use Rattle.tc_bits.specs.Fault.{first_field_fault}
 use Rattle.tc_bits.specs.Register.{number_in, is_set}
 use Rattle.ltc_word.specs.declared.places.TheConstants.{FRAME_UNITS, USER_GROUP_ONE, FRAME_TENS, DROP_FRAME, COLOUR_FRAME, USER_GROUP_TWO, SECOND_UNITS, USER_GROUP_THREE, SECOND_TENS, USER_GROUP_FOUR, MINUTE_UNITS, USER_GROUP_FIVE, MINUTE_TENS, USER_GROUP_SIX, HOUR_UNITS, USER_GROUP_SEVEN, HOUR_TENS, GROUP_FLAG_ONE, USER_GROUP_EIGHT, SYNC, SYNC_PATTERN}
 use Rattle.ltc_word.specs.declared.word.WordFault.{WordFault}
@@ -67,9 +67,13 @@ sync_first None fault = option_map (λ f. Field f) fault
 
 -- the first fault
 abbrev pub first_fault : System → ℕ → Option WordFault
+<<<<<<< HEAD
 first_fault system bits = sync_first (wrong_sync_bit bits) (fields.first_fault system (raw_in system bits))
 
 -- the fault is not the sync word's
 abbrev pub IsOfFields : WordFault → Type 0
 IsOfFields (Sync place) = ⊥
 IsOfFields (Field fault) = Unit {0}
+=======
+first_fault system bits = sync_first (wrong_sync_bit bits) (first_field_fault system (raw_in system bits))
+>>>>>>> b636c9971a109bf3937dfb6f37793c701a5bb080

@@ -1,9 +1,11 @@
 -- Where the fields stand that have another place in each system (SMPTE 12M, the table of the
 -- linear time code word), and all places of a system.
+use Rattle.std.specs.Prelude.{ℕ, ◌+◌, Bool, ◌&&◌, ◌==◌, nat_le, nat_lt, List, [], ◌∷◌, count_by}
+use Rattle.std.specs.List.{list_all, range_with_len}
 use Rattle.tc_address.specs.declared.system.System.{System}
 use Rattle.tc_address.specs.declared.system.System.TheVariants.{F24, F25, F30}
 use Rattle.tc_bits.specs.declared.place.Place.{Place}
-use Rattle.ltc_word.specs.declared.places.TheConstants.{BIT_27, BIT_43, BIT_59}
+use Rattle.ltc_word.specs.declared.places.TheConstants.{FRAME_UNITS, USER_GROUP_ONE, FRAME_TENS, DROP_FRAME, COLOUR_FRAME, USER_GROUP_TWO, SECOND_UNITS, USER_GROUP_THREE, SECOND_TENS, USER_GROUP_FOUR, MINUTE_UNITS, USER_GROUP_FIVE, MINUTE_TENS, USER_GROUP_SIX, HOUR_UNITS, USER_GROUP_SEVEN, HOUR_TENS, GROUP_FLAG_ONE, USER_GROUP_EIGHT, SYNC, BIT_27, BIT_43, BIT_59}
 
 -- the polarity correction
 abbrev pub polarity_place : System → Place
@@ -22,3 +24,20 @@ abbrev pub group_flag_two_place : System → Place
 group_flag_two_place F24 = BIT_59
 group_flag_two_place F25 = BIT_43
 group_flag_two_place F30 = BIT_59
+
+-- all places of a system
+abbrev pub places_of : System → List Place
+places_of system =
+    FRAME_UNITS ∷ FRAME_TENS ∷ SECOND_UNITS ∷ SECOND_TENS ∷ MINUTE_UNITS ∷ MINUTE_TENS ∷ HOUR_UNITS ∷ HOUR_TENS
+    ∷ DROP_FRAME ∷ COLOUR_FRAME ∷ group_flag_zero_place system ∷ GROUP_FLAG_ONE ∷ group_flag_two_place system
+    ∷ USER_GROUP_ONE ∷ USER_GROUP_TWO ∷ USER_GROUP_THREE ∷ USER_GROUP_FOUR
+    ∷ USER_GROUP_FIVE ∷ USER_GROUP_SIX ∷ USER_GROUP_SEVEN ∷ USER_GROUP_EIGHT
+    ∷ polarity_place system ∷ SYNC ∷ []
+
+-- the bit belongs to the place
+abbrev pub is_in : ℕ → Place → Bool
+is_in bit place = nat_le place.first bit && nat_lt bit (place.first + place.width)
+
+-- each of the 80 bits belongs to exactly one of the places
+abbrev pub are_shared_out : List Place → Bool
+are_shared_out places = list_all (λ bit. count_by (is_in bit) places == 1) (range_with_len 0 80)

@@ -1,7 +1,7 @@
 -- Words that are read from the tape's end: the same 80 bits in the other order of time, and the sync
 -- word at the end of either.
-use Rattle.std.specs.Prelude.{◌≡◌, ℕ}
-use Rattle.std.specs.Int.{reverse_bits_onto}
+use Rattle.std.specs.Prelude.{◌≡◌, ℕ, ◌+◌, ◌<◌}
+use Rattle.std.specs.Int.{bit_at, reverse_bits_onto}
 use Rattle.tc_bits.specs.Register.{number_in}
 use Rattle.ltc_word.specs.declared.places.TheConstants.{SYNC, SYNC_PATTERN}
 
@@ -12,3 +12,7 @@ reversed_bits bits = reverse_bits_onto 80 bits 0
 -- bits 64 to 79 are the sync word
 abbrev pub EndsInSync : ℕ → Type 0
 EndsInSync bits = number_in SYNC bits ≡ SYNC_PATTERN
+
+-- twelve ones in a row, from bit i on
+abbrev pub HasTwelveOnes : ℕ → ℕ → Type 0
+HasTwelveOnes bits i = (k : ℕ) → k < 12 → bit_at bits (i + k) ≡ 1

@@ -1,12 +1,13 @@
 -- Which 80 bits spell a word of linear time code (SMPTE 12M, the table of the linear time code word).
-use Rattle.std.specs.Prelude.{◌≡◌, ℕ, ◌/◌, ◌%◌, ◌^◌, ◌<◌, ◌↔◌, IsTrue}
+use Rattle.std.specs.Prelude.{◌≡◌, ℕ, ◌/◌, ◌%◌, ◌^◌, ◌<◌, ◌↔◌, Bool, IsTrue}
 use Rattle.tc_address.specs.declared.system.System.{System}
+use Rattle.tc_address.specs.declared.count.Count.{Count}
 use Rattle.tc_address.specs.Count.{system_with}
-use Rattle.tc_address.specs.Label.{Address}
+use Rattle.tc_address.specs.Label.{Address, address}
 use Rattle.tc_bits.specs.declared.flags.Flags.{Flags}
 use Rattle.tc_bits.specs.Register.{number_in, is_set}
 use Rattle.tc_bits.specs.UserBits.{group}
-use Rattle.tc_bits.specs.Fields.{IsFields}
+use Rattle.tc_bits.specs.Fields.{IsFields, contents}
 use Rattle.ltc_word.specs.declared.places.TheConstants.{FRAME_UNITS, USER_GROUP_ONE, FRAME_TENS, DROP_FRAME, COLOUR_FRAME, USER_GROUP_TWO, SECOND_UNITS, USER_GROUP_THREE, SECOND_TENS, USER_GROUP_FOUR, MINUTE_UNITS, USER_GROUP_FIVE, MINUTE_TENS, USER_GROUP_SIX, HOUR_UNITS, USER_GROUP_SEVEN, HOUR_TENS, GROUP_FLAG_ONE, USER_GROUP_EIGHT, SYNC, SYNC_PATTERN}
 use Rattle.ltc_word.specs.declared.word.LtcWord.{LtcWord}
 use Rattle.ltc_word.specs.Balance.{IsBalanced}
@@ -53,3 +54,12 @@ pub record Spells (system : System) (word : LtcWord) (bits : ℕ) : Type 0 where
   pub user : SpellsUserBits word.fields.user bits
   pub sync : number_in SYNC bits ≡ SYNC_PATTERN
   pub balance : IsTrue word.balanced ↔ IsBalanced bits
+
+-- a word by its parts
+abbrev pub word_with : Count → ℕ → ℕ → ℕ → ℕ → Flags → ℕ → Bool → LtcWord
+word_with count hours minutes seconds frames flags user balanced =
+    record { fields = contents (address count hours minutes seconds frames) flags user; balanced = balanced }
+
+-- flags in the order of a report: drop-frame, colour-frame, binary group flags 0, 1 and 2
+abbrev pub flags : Bool → Bool → Bool → Bool → Bool → Flags
+flags drop_frame colour zero one two = record { bit10 = drop_frame; colour = colour; bgf0 = zero; bgf1 = one; bgf2 = two }

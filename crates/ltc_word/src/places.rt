@@ -139,33 +139,6 @@ pub const SYNC: Place = Place {
 /// The sync word as a number, bit 64 the least significant: in time `0 0 1 1 1 1 1 1 1 1 1 1 1 1 0 1`.
 pub const SYNC_PATTERN: u32 = 0xbffc;
 
-/// All places, in the order of the bits.
-pub const PLACES: [Place; 23] = [
-    FRAME_UNITS,
-    USER_GROUP_ONE,
-    FRAME_TENS,
-    DROP_FRAME,
-    COLOUR_FRAME,
-    USER_GROUP_TWO,
-    SECOND_UNITS,
-    USER_GROUP_THREE,
-    SECOND_TENS,
-    BIT_27,
-    USER_GROUP_FOUR,
-    MINUTE_UNITS,
-    USER_GROUP_FIVE,
-    MINUTE_TENS,
-    BIT_43,
-    USER_GROUP_SIX,
-    HOUR_UNITS,
-    USER_GROUP_SEVEN,
-    HOUR_TENS,
-    GROUP_FLAG_ONE,
-    BIT_59,
-    USER_GROUP_EIGHT,
-    SYNC,
-];
-
 /// Where the polarity correction stands.
 pub(crate) fn polarity(system: System) -> Place
     ensures { result ≡ polarity_place system }

@@ -1,9 +1,13 @@
 //! Reading a word from its 80 bits.
 
-ghost use Rattle.std.specs.Prelude.{◌≡◌, ◌^◌, ◌<◌, IfOk, IfErr, Some};
+ghost use Rattle.std.specs.Prelude.{◌≡◌, ◌+◌, ◌^◌, ◌<◌, ◌≤◌, IfOk, IfErr, Some};
 ghost use Rattle.ltc_word.specs.Spelling.{Spells};
+<<<<<<< HEAD
 ghost use Rattle.ltc_word.specs.Fault.{raw_in, flags_in, user_in, wrong_sync_bit, first_fault, IsOfFields};
 ghost use Rattle.ltc_word.specs.Reversal.{EndsInSync};
+=======
+ghost use Rattle.ltc_word.specs.Fault.{raw_in, flags_in, user_in, differs, wrong_sync_bit, first_fault};
+>>>>>>> b636c9971a109bf3937dfb6f37793c701a5bb080
 
 use crate::balance::is_balanced;
 use crate::places::*;
@@ -11,15 +15,23 @@ use crate::word::{LtcWord, WordFault};
 use tc_address::System;
 use tc_bits::{Flags, RawFields, UserBits, check_fields, get_field};
 
+/// Whether this bit, from 64 to 79, is another than the sync word's.
+fn is_wrong(bits: u128, place: u32) -> bool
+    requires { (SYNC.first ≤ place) × (place < SYNC.first + SYNC.width) }
+    ensures { result ≡ differs bits place }
+{
+    get_field(bits, place, 1) != get_field(SYNC_PATTERN as u128, place - SYNC.first, 1)
+}
+
 /// The first bit of the sync word that is wrong.
 #[tactic(auto, unfolding(crate::specs::Fault::wrong_sync_bit))]
 fn first_wrong_sync_bit(bits: u128) -> Option<u32>
     ensures { result ≡ wrong_sync_bit bits }
 {
-    (SYNC.first..SYNC.first + SYNC.width).find(|&place| get_field(bits, place, 1)
-        != get_field(SYNC_PATTERN as u128, place - SYNC.first, 1))
+    (SYNC.first..SYNC.first + SYNC.width).find(|&place| is_wrong(bits, place))
 }
 
+/// The flags that stand in the bits.
 fn flags_at(system: System, bits: u128) -> Flags
     ensures { result ≡ flags_in system bits }
 {
@@ -32,6 +44,7 @@ fn flags_at(system: System, bits: u128) -> Flags
     }
 }
 
+/// The user bits that stand in the bits.
 fn user_at(bits: u128) -> UserBits
     ensures { result ≡ user_in bits }
 {

@@ -82,14 +82,18 @@ one_shortest day a b d e h s t =
     let turns : (p.1 + q.0) * day ≡ (q.1 + p.0) * day = ap (λ n. n * day) same in
     omega (arith, ints, p.2, q.2, x, y, turns, s.reaches, t.reaches)
 
+-- a sum that is a place, or a place and a turn, has that place as its rest
+ends_at : (day b n : ℕ) → b < day → (n ≡ b) ⊎ (n ≡ b + day) → n % day ≡ b
+ends_at day b n h (inl q) = ap (λ k. k % day) q ∙ mod-eq_of_lt h
+ends_at day b n h (inr q) = ap (λ k. k % day) q ∙ add-mod_right b day ∙ mod-eq_of_lt h
+
 -- a way of more than half the circle is shorter backward
-pub back_way : (day a b ahead : ℕ) (d : ℤ) → d ≡ neg_ℤ (pos (day - ahead)) → day % 2 ≡ 0 → b < day → day / 2 < ahead → ahead < day →
-    (a + ahead ≡ b) ⊎ (a + ahead ≡ b + day) → IsShortest day a b d
+pub back_way : (day a b ahead : ℕ) (d : ℤ) → d ≡ neg_ℤ (pos (day - ahead)) → day % 2 ≡ 0 → b < day →
+    day / 2 < ahead → ahead < day → (a + ahead ≡ b) ⊎ (a + ahead ≡ b + day) → IsShortest day a b d
 back_way day a b ahead d e even hb half below ways =
     let turn : (pos a +ℤ d) +ℤ pos (1 * day) ≡ pos (a + ahead) = omega (arith, ints, e) in
     let rest : moved day a d ≡ (a + ahead) % day = rest_of day 1 (a + ahead) (pos a +ℤ d) (omega arith) turn in
-    let ends : (a + ahead) % day ≡ b = elim ways [ inl q ↦ ap (λ n. n % day) q ∙ mod-eq_of_lt hb | inr q ↦ ap (λ n. n % day) q ∙ add-mod_right b day ∙ mod-eq_of_lt hb ] in
-    record { reaches = rest ∙ ends; above = omega (arith, ints, e); within = omega (arith, ints, e) }
+    record { reaches = rest ∙ ends_at day b (a + ahead) hb ways; above = omega (arith, ints, e); within = omega (arith, ints, e) }
 
 pub ahead_low : (day a b : ℕ) → a ≤ b → b < day → b - a ≡ ahead day a b
 ahead_low day a b h k =
@@ -102,9 +106,9 @@ ahead_high day a b h k =
     sym (ap (λ n. n % day) e ∙ mod-eq_of_lt (omega arith))
 
 -- up to half the circle the way forward is shortest
-pub front_way : (day a b way : ℕ) (d : ℤ) → d ≡ pos way → b < day → 2 * way ≤ day → (a + way ≡ b) ⊎ (a + way ≡ b + day) → IsShortest day a b d
+pub front_way : (day a b way : ℕ) (d : ℤ) → d ≡ pos way → b < day → 2 * way ≤ day →
+    (a + way ≡ b) ⊎ (a + way ≡ b + day) → IsShortest day a b d
 front_way day a b way d e hb half ways =
     let turn : (pos a +ℤ d) +ℤ pos (0 * day) ≡ pos (a + way) = omega (arith, ints, e) in
     let rest : moved day a d ≡ (a + way) % day = rest_of day 0 (a + way) (pos a +ℤ d) (omega arith) turn in
-    let ends : (a + way) % day ≡ b = elim ways [ inl q ↦ ap (λ n. n % day) q ∙ mod-eq_of_lt hb | inr q ↦ ap (λ n. n % day) q ∙ add-mod_right b day ∙ mod-eq_of_lt hb ] in
-    record { reaches = rest ∙ ends; above = omega (arith, ints, e); within = omega (arith, ints, e) }
+    record { reaches = rest ∙ ends_at day b (a + way) hb ways; above = omega (arith, ints, e); within = omega (arith, ints, e) }

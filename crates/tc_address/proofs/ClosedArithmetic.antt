@@ -50,9 +50,9 @@ split_frames r n f h =
 pub address_of_frame-frame_of_day : (c : Count) (h m s f : ℕ) → m < 60 → s < 60 → f < rate_with c →
     address_of_frame c (frame_of_day c h m s f) ≡ address c h m s f
 address_of_frame-frame_of_day c h m s f hm hs hf =
-    let frames : ((rate_with c * (60 * (60 * h + m) + s) + f) / rate_with c ≡ 60 * (60 * h + m) + s) × ((rate_with c * (60 * (60 * h + m) + s) + f) % rate_with c ≡ f) = split_frames (rate_with c) (60 * (60 * h + m) + s) f hf in
-    let seconds : ((60 * (60 * h + m) + s) / 60 ≡ 60 * h + m) × ((60 * (60 * h + m) + s) % 60 ≡ s) = split_frames 60 (60 * h + m) s hs in
-    let minutes : ((60 * h + m) / 60 ≡ h) × ((60 * h + m) % 60 ≡ m) = split_frames 60 h m hm in
+    let frames = split_frames (rate_with c) (60 * (60 * h + m) + s) f hf in
+    let seconds = split_frames 60 (60 * h + m) s hs in
+    let minutes = split_frames 60 h m hm in
     rw (frames.0, frames.1, seconds.0, seconds.1, minutes.0, minutes.1) refl
 
 -- what is left out has frames 0 or 1 of second 0, in a minute that is no multiple of ten
@@ -69,7 +69,7 @@ place_by_tens h m s f l = let k : (m % 10 ≡ 0) ⊎ (2 ≤ 2 * s + f) = kept_sa
 until_by_tens : (t u r : ℕ) → u < 10 → r < 1800 → (u ≡ 0) ⊎ (2 ≤ r) → left_out_until Drop30 (17982 * t + (1798 * u + r)) ≡ 18 * t + 2 * u
 until_by_tens t u r hu hr k =
     let b : 1798 * u + r < 17982 = omega arith in
-    let tens : ((17982 * t + (1798 * u + r)) / 17982 ≡ t) × ((17982 * t + (1798 * u + r)) % 17982 ≡ 1798 * u + r) = split_frames 17982 t (1798 * u + r) b in
+    let tens = split_frames 17982 t (1798 * u + r) b in
     let minutes : (1798 * u + r - 2) / 1798 ≡ u = omega (arith, k) in
     rw (tens.0, tens.1, minutes) refl
 
@@ -88,7 +88,7 @@ left_out_until-place C30 h m s f l = refl
 left_out_until-place Drop30 h m s f l =
     let k : (m % 10 ≡ 0) ⊎ (2 ≤ 2 * s + f) = kept_says m s f l.counted in
     let j : (m % 10 ≡ 0) ⊎ (2 ≤ 30 * s + f) = grind (arith, k) in
-    let e : left_out_until Drop30 (17982 * (6 * h + m / 10) + (1798 * (m % 10) + (30 * s + f))) ≡ 18 * (6 * h + m / 10) + 2 * (m % 10) = until_by_tens (6 * h + m / 10) (m % 10) (30 * s + f) (omega arith) (omega arith) j in
+    let e = until_by_tens (6 * h + m / 10) (m % 10) (30 * s + f) (omega arith) (omega arith) j in
     ap (left_out_until Drop30) (place_by_tens h m s f l) ∙ e ∙ omega (arith, k)
 
 left_out_below : (c : Count) (h m s f : ℕ) → left_out c h m s f ≤ frame_of_day c h m s f

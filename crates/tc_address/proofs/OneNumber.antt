@@ -64,8 +64,9 @@ position_step c n x a rest true t l e at low later =
     omega (arith, same, at.number)
 position_step c n x a rest false t l e at low later =
     let apart : n ≡ place_of a → ⊥ = λ q.
-    let same : x ≡ a = at.same ∙ ap (label_with c) q ∙ ap (λ k. label_with k (place_of a)) (sym e) ∙ label_with-place a.count a.hours a.minutes a.seconds a.frames l in
-    let t2 : is_same_time x a ≡ true = ap (λ y. is_same_time y a) same ∙ same_time_self a in
+    let itself = label_with-place a.count a.hours a.minutes a.seconds a.frames l in
+    let same : x ≡ a = at.same ∙ ap (label_with c) q ∙ ap (λ k. label_with k (place_of a)) (sym e) ∙ itself in
+    let alike : is_same_time x a ≡ true = ap (λ y. is_same_time y a) same ∙ same_time_self a in
     cc in
     let more : n + 1 ≤ place_of a = omega (arith, apart) in
     omega (arith, later more)
@@ -109,7 +110,8 @@ number_of_get c n a e =
     (number_of_place a label ∙ ap place_of (sym same) ∙ found.2.number, ap (λ x. x.count) (sym same) ∙ found.2.count, label)
 
 -- the label at the place that a step leads to
-pub step_at : (a b : Address) (steps : ℤ) (n : ℕ) → slice_get (labels a.count) n ≡ Some b → n ≡ moved (day_length a.count) (number_of a) steps → b ≡ step a steps
+pub step_at : (a b : Address) (steps : ℤ) (n : ℕ) → slice_get (labels a.count) n ≡ Some b →
+    n ≡ moved (day_length a.count) (number_of a) steps → b ≡ step a steps
 unfolding step
 step_at a b steps n found e =
     let there : slice_get (labels a.count) (moved (length (labels a.count)) (number_of a) steps) ≡ Some b =

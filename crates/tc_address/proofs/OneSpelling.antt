@@ -73,7 +73,8 @@ number_back n = omega arith
 pub address_in-text_of : (a : Address) → address_in a.count (text_of a) ≡ a
 address_in-text_of a = rw (number_back a.hours, number_back a.minutes, number_back a.seconds, number_back a.frames) refl
 
-pub no_wrong_place : (c : Count) (text : List ℕ) (place : ℕ) (a : Address) → IsLabel a → a.count ≡ c → text ≡ text_of a → IsFirstWrongPlace c text place → ⊥
+pub no_wrong_place : (c : Count) (text : List ℕ) (place : ℕ) (a : Address) → IsLabel a → a.count ≡ c →
+    text ≡ text_of a → IsFirstWrongPlace c text place → ⊥
 no_wrong_place c text place a l e t w =
     let short : length text ≡ 11 = ap length t in
     let good : may_stand a.count place (slice_index (text_of a) place) ≡ true = good_text a l place (omega (arith, short, w.within)) in
@@ -107,12 +108,14 @@ label_in-text_of c text a l e t =
     rw (label, test) (ap (λ b. Some b) back)
 
 label_in_by : (c : Count) (text : List ℕ) → ((a : Address) → IsLabel a → a.count ≡ c → text ≡ text_of a → ⊥) →
-    (p q : Bool) → is_label (address_in c text) ≡ p → bytes_eq text (text_of (address_in c text)) ≡ q → cond (p && q) (Some (address_in c text)) None ≡ None
+    (p q : Bool) → is_label (address_in c text) ≡ p → bytes_eq text (text_of (address_in c text)) ≡ q →
+    cond (p && q) (Some (address_in c text)) None ≡ None
 label_in_by c text no_label false q e f = refl
 label_in_by c text no_label true false e f = refl
 label_in_by c text no_label true true e f =
     absurd (no_label (address_in c text) (label_from_test (address_in c text) e) refl ((bytes_eq-Decides text (text_of (address_in c text))).0 f))
 
 -- a text that no label has spells none
-pub label_in-none : (c : Count) (text : List ℕ) → ((a : Address) → IsLabel a → a.count ≡ c → text ≡ text_of a → ⊥) → label_in c text ≡ None
+pub label_in-none : (c : Count) (text : List ℕ) → ((a : Address) → IsLabel a → a.count ≡ c → text ≡ text_of a → ⊥) →
+    label_in c text ≡ None
 label_in-none c text no_label = label_in_by c text no_label (is_label (address_in c text)) (bytes_eq text (text_of (address_in c text))) refl refl

@@ -15,6 +15,7 @@ pub record Address : Type 0 where
   pub seconds : ℕ
   pub frames : ℕ
 
+-- the address with these parts
 abbrev pub address : Count → ℕ → ℕ → ℕ → ℕ → Address
 address c h m s f = record { count = c; hours = h; minutes = m; seconds = s; frames = f }
 
@@ -22,7 +23,7 @@ address c h m s f = record { count = c; hours = h; minutes = m; seconds = s; fra
 abbrev pub is_dropped : ℕ → ℕ → ℕ → Bool
 is_dropped minutes seconds frames = (seconds == 0) && nat_le frames 1 && not (minutes % 10 == 0)
 
--- the counts leave nothing out, but for drop-frame
+-- the count leaves out an address with these parts: only drop-frame does
 abbrev pub is_skipped_by : Count → ℕ → ℕ → ℕ → Bool
 is_skipped_by C24 minutes seconds frames = false
 is_skipped_by C25 minutes seconds frames = false
@@ -41,7 +42,7 @@ pub record IsLabel (a : Address) : Type 0 where
   pub frames : a.frames < rate_of (system_with a.count)
   pub counted : is_skipped a ≡ false
 
--- the same as a test
+-- whether the address is one of the labels of its count
 abbrev pub is_label : Address → Bool
 is_label a =
     nat_lt a.hours 24 && nat_lt a.minutes 60 && nat_lt a.seconds 60 && nat_lt a.frames (rate_of (system_with a.count)) && not (is_skipped a)
@@ -54,19 +55,22 @@ IsFirstFault Seconds a = (a.hours < 24) × (a.minutes < 60) × (60 ≤ a.seconds
 IsFirstFault Frames a = (a.hours < 24) × (a.minutes < 60) × (a.seconds < 60) × (rate_of (system_with a.count) ≤ a.frames)
 IsFirstFault Dropped a = (a.hours < 24) × (a.minutes < 60) × (a.seconds < 60) × (a.frames < rate_of (system_with a.count)) × (is_skipped a ≡ true)
 
--- the addresses of a second, of a minute, of an hour and of the day, in ascending order
+-- the addresses of a second, in ascending order
 unfoldable pub second_of : Count → ℕ → ℕ → ℕ → List Address
 second_of c h m s = map (λ f. address c h m s f) (range_with_len 0 (rate_of (system_with c)))
 
+-- the addresses of a minute: those of its seconds, one after another
 unfoldable pub minute_of : Count → ℕ → ℕ → List Address
 minute_of c h m = flat_map (λ s. second_of c h m s) (range_with_len 0 60)
 
+-- the addresses of an hour: those of its minutes
 unfoldable pub hour_of : Count → ℕ → List Address
 hour_of c h = flat_map (λ m. minute_of c h m) (range_with_len 0 60)
 
+-- the addresses of a day: those of its hours
 unfoldable pub addresses : Count → List Address
 addresses c = flat_map (λ h. hour_of c h) (range_with_len 0 24)
 
--- the labels of the day: the addresses that the count does not leave out, in ascending order
+-- the labels of a day, in ascending order: its addresses without those that the count leaves out
 unfoldable pub labels : Count → List Address
 labels c = filter (λ a. not (is_skipped a)) (addresses c)

@@ -1,4 +1,4 @@
--- The text of a label: `HH:MM:SS:FF`, and `HH:MM:SS;FF` for drop-frame.
+-- The text of a label: `HH:MM:SS:FF`, and `HH:MM:SS;FF` for drop-frame. The form is this project's own.
 use Rattle.std.specs.Prelude.{◌≡◌, ◌≢◌, ℕ, ◌+◌, ◌-◌, ◌*◌, ◌/◌, ◌%◌, ◌<◌, Bool, true, false, ◌&&◌, ◌==◌, if◌then◌else◌, nat_le, List, [], ◌∷◌, ◌++◌, length, slice_index, cond, Option, Some, None}
 use Rattle.std.specs.Str.{bytes_eq}
 use Rattle.tc_address.specs.declared.count.Count.{Count}
@@ -23,6 +23,7 @@ abbrev pub text_of : Address → List ℕ
 text_of a =
     two_digits a.hours ++ 58 ∷ two_digits a.minutes ++ 58 ∷ two_digits a.seconds ++ separator a.count ∷ two_digits a.frames
 
+-- a decimal digit in ASCII
 abbrev pub is_digit : ℕ → Bool
 is_digit byte = nat_le 48 byte && nat_le byte 57
 

@@ -32,19 +32,19 @@ impl Model for Label {
 #[derive(Clone, Copy, Debug, PartialEq, Eq, Drop, Error)]
 pub enum LabelFault {
     /// The hours are above 23.
-    #[error("hours")]
+    #[error("Hours")]
     Hours,
     /// The minutes are above 59.
-    #[error("minutes")]
+    #[error("Minutes")]
     Minutes,
     /// The seconds are above 59.
-    #[error("seconds")]
+    #[error("Seconds")]
     Seconds,
     /// The frames are not below the rate.
-    #[error("frames")]
+    #[error("Frames")]
     Frames,
     /// Drop-frame counting leaves the label out.
-    #[error("dropped")]
+    #[error("Dropped")]
     Dropped,
 }
 

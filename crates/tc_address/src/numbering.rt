@@ -15,7 +15,7 @@ const TEN_MINUTES: u32 = 17_982;
 const SHORT_MINUTE: u32 = 1_798;
 
 /// The subframes of a frame.
-pub const SUBFRAMES: u32 = 80;
+const SUBFRAMES: u32 = 80;
 
 /// How many labels a day has.
 #[tactic(auto, using(crate::proofs::DayInOrder::length_labels))]

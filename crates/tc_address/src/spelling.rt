@@ -10,13 +10,13 @@ use thiserror::Error;
 #[derive(Clone, Copy, Debug, PartialEq, Eq, Drop, Error)]
 pub enum TextFault {
     /// There are not eleven bytes.
-    #[error("length")]
+    #[error("Length")]
     Length,
     /// The byte at this place, from 0, is not the digit or the separator that stands there.
-    #[error("byte")]
+    #[error("Byte")]
     Byte(usize),
     /// The numbers are no label of the count.
-    #[error("label")]
+    #[error("Label")]
     Label(LabelFault),
 }
 

@@ -1,9 +1,11 @@
 -- A register is what stands above a field, the field, and what stands below it. To write the field
 -- is to put these three together again.
-use Rattle.std.proofs.Common.{◌≡◌, ℕ, ◌+◌, ◌-◌, ◌*◌, ◌/◌, ◌%◌, ◌^◌, ◌<◌, ◌≤◌, arith}
-use Rattle.std.proofs.lemmas.Nat.{pow-add, pow_pos, shr-shr, shr_below, shr_high, mod_low, shl_whole, mul-add-lt, mod_below, one_shl}
+use Rattle.std.proofs.Common.{◌≡◌, ℕ, ◌+◌, ◌-◌, ◌*◌, ◌/◌, ◌%◌, ◌^◌, ◌<◌, ◌≤◌, arith, sym, ap, ◌∙◌, ◌⊎◌, inl, inr}
+use Rattle.std.proofs.lemmas.Nat.{pow-add, pow_pos, shr-shr, shr_below, shr_high, mod_low, shl_whole, mul-add-lt, mod_below, one_shl, shr_split}
 use Rattle.std.proofs.Math.Nat.{pow-le-pow_right}
-use Rattle.tc_bits.specs.Register.{Replaces}
+use Rattle.std.proofs.lemmas.Nat.Bits.{bit_at_cat_low}
+use Rattle.std.specs.Int.{bit_at}
+use Rattle.tc_bits.specs.Register.{field, Replaces}
 
 -- a number of j digits and one of k digits behind it have j + k digits
 pub joined_below : (j k high low : ℕ) → high < 2 ^ j → low < 2 ^ k → high * 2 ^ k + low < 2 ^ (j + k)
@@ -58,3 +60,37 @@ stays_with bits first width value rest sum h some fits =
 
 pub stays : (bits first width value : ℕ) → bits < 2 ^ 128 → 1 ≤ width → first + width ≤ 128 → value < 2 ^ width → Stays bits first width value
 stays bits first width value h some within fits = stays_with bits first width value (128 - (first + width)) (omega arith) h some fits
+
+bit_of_low : (n k i : ℕ) → i < k → bit_at n i ≡ bit_at (n % 2 ^ k) i
+bit_of_low n k i lt = let h = bit_at_cat_low (n / 2 ^ k) k (n % 2 ^ k) i lt in rw (shr_split n k) at h
+
+bit_of_high : (n k i : ℕ) → k ≤ i → bit_at n i ≡ bit_at (n / 2 ^ k) (i - k)
+bit_of_high n k i le =
+    let e : k + (i - k) ≡ i = omega arith in
+    let h : n / 2 ^ k / 2 ^ (i - k) ≡ n / 2 ^ i = rw e at (shr-shr n k (i - k)) in
+    ap (λ (m : ℕ). m % 2) (sym h)
+
+-- a bit below the field or above it is as it was
+pub other_bits : (old new first width value i : ℕ) → Replaces old new first width value → (i < first) ⊎ (first + width ≤ i) → bit_at new i ≡ bit_at old i
+other_bits old new first width value i r (inl lt) =
+    bit_of_low new first i lt ∙ ap (λ (n : ℕ). bit_at n i) r.below ∙ sym (bit_of_low old first i lt)
+other_bits old new first width value i r (inr le) =
+    bit_of_high new (first + width) i le ∙ ap (λ (n : ℕ). bit_at n (i - (first + width))) r.above ∙ sym (bit_of_high old (first + width) i le)
+
+parts_of : (n first width : ℕ) → n ≡ (n / 2 ^ (first + width) * 2 ^ width + field n first width) * 2 ^ first + n % 2 ^ first
+parts_of n first width =
+    let outer = shr_split n first in
+    let inner : n / 2 ^ (first + width) * 2 ^ width + field n first width ≡ n / 2 ^ first = rw (← shr-shr n first width) (shr_split (n / 2 ^ first) width) in
+    rw inner (sym outer)
+
+-- the parts of a register are all of it
+pub one_register : (old a b first width value : ℕ) → Replaces old a first width value → Replaces old b first width value → a ≡ b
+one_register old a b first width value p q =
+    let above = p.above ∙ sym q.above in
+    let put = p.put ∙ sym q.put in
+    let below = p.below ∙ sym q.below in
+    parts_of a first width
+    ∙ ap (λ (h : ℕ). (h * 2 ^ width + field a first width) * 2 ^ first + a % 2 ^ first) above
+    ∙ ap (λ (m : ℕ). (b / 2 ^ (first + width) * 2 ^ width + m) * 2 ^ first + a % 2 ^ first) put
+    ∙ ap (λ (l : ℕ). (b / 2 ^ (first + width) * 2 ^ width + field b first width) * 2 ^ first + l) below
+    ∙ sym (parts_of b first width)

@@ -24,8 +24,8 @@ conditions system raw =
     ∷ []
 
 -- the first fault whose condition holds
-abbrev pub first_fault : System → RawFields → Option FieldFault
-first_fault system raw = option_map (λ row. row.1) (find (λ row. row.0) (conditions system raw))
+abbrev pub first_field_fault : System → RawFields → Option FieldFault
+first_field_fault system raw = option_map (λ row. row.1) (find (λ row. row.0) (conditions system raw))
 
 -- the name that a report prints
 abbrev pub name_of : FieldFault → List ℕ

@@ -1,10 +1,27 @@
-//! The fields of a time code word.
+//! The fields of a time code word: frame address, flag bits and user bits.
+//!
+//! A word of linear time code and a line of vertical interval time code say the same fields, in other
+//! places (SMPTE 12M). An address is eight decimal digits, units and tens of hours, minutes, seconds
+//! and frames. Beside it stand five flag bits and eight user groups of four bits each.
+//!
+//! What this crate promises:
+//! - `get_field` and `put_field` read and write some neighbouring bits of a register, and leave all
+//!   others (`specs/Register.antt`, `Replaces`).
+//! - `check_fields` gives the fields exactly where the digits say an address of the system
+//!   (`specs/Fields.antt`, `Says`), and else their first fault, in the order of `FieldFault`
+//!   (`specs/Fault.antt`, `first_field_fault`). `raw_of` gives the digits back.
+//! - Fields of 30 frames have the drop-frame flag exactly where their count is drop-frame.
+//!
+//! Read `place` and `register`, then `user_bits`, `flags`, `fields`, `raw`, `fault` and `checking`,
+//! with the files of specs/ beside them. `ltc_word` and `vitc_line` stand on this crate. Nothing here
+//! allocates or fails in any other way.
 #![tactic(auto)]
 
 mod checking;
 mod fault;
 mod fields;
 mod flags;
+pub mod laws;
 mod place;
 mod raw;
 mod register;
@@ -18,3 +35,6 @@ pub use place::Place;
 pub use raw::{RawFields, raw_of};
 pub use register::{get_field, put_field};
 pub use user_bits::UserBits;
+
+#[cfg(test)]
+mod tests;

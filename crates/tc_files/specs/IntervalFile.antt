@@ -78,12 +78,22 @@ end p = elim p.fault [
   | Some first ↦ Err first
   | None ↦ if nat_le HEADER_LENGTH p.taken && (length p.part == 0) then Ok tt else Err (fault.Truncated p.taken) ]
 
+-- with how many bytes each fault is found: a byte of the first eight at once, a number at its last byte
+abbrev pub FoundAt : FileFault → ℕ → Type 0
+FoundAt (fault.Magic place) taken = (place + 1 ≡ taken) × (taken ≤ HEAD_LENGTH)
+FoundAt (fault.Version place) taken = (place + 1 ≡ taken) × (taken ≤ HEAD_LENGTH)
+FoundAt (fault.System place) taken = (place + 1 ≡ taken) × (taken ≤ HEAD_LENGTH)
+FoundAt (fault.Reserved place) taken = (place + 1 ≡ taken) × (taken ≤ HEAD_LENGTH)
+FoundAt (fault.TickRate place) taken = (place ≡ HEAD_LENGTH) × (taken ≡ HEADER_LENGTH)
+FoundAt (fault.Interval place) taken = (place + 4 ≡ taken) × (HEADER_LENGTH < taken) × (taken % 4 ≡ 0)
+FoundAt (fault.Truncated place) taken = ⊥
+
 -- what so many bytes may complete: the header is whole with twelve, each interval with four more
 abbrev pub CompletesAt : Taken → ℕ → Type 0
 CompletesAt Nothing taken = (taken < HEADER_LENGTH) ⊎ (taken % 4 ≢ 0)
 CompletesAt (Header header) taken = (taken ≡ HEADER_LENGTH) × IsTickRate header.tick_rate
 CompletesAt (Interval ticks) taken = (HEADER_LENGTH < taken) × (taken % 4 ≡ 0) × (1 ≤ ticks) × (ticks ≤ MAX_INTERVAL)
-CompletesAt (Fault first) taken = Unit {0}
+CompletesAt (Fault first) taken = FoundAt first taken
 
 -- the progress of bytes, one after another
 abbrev pub progress_of : List ℕ → Progress

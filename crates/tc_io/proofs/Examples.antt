@@ -22,7 +22,8 @@ pub piece_of_nothing : piece_of (3 ∷ 0 ∷ []) 5 10 ≡ 1
 piece_of_nothing = refl
 
 -- the first call has the number 1
-pub first_call : after_pull (new_source (97 ∷ []) [] (1 ∷ [])) 2 ≡ record { left = 97 ∷ []; pieces = []; failing = 1 ∷ []; calls = 1; pulls = 0; faults = 1 }
+pub first_call : after_pull (new_source (97 ∷ []) [] (1 ∷ [])) 2
+    ≡ record { left = 97 ∷ []; pieces = []; failing = 1 ∷ []; calls = 1; pulls = 0; faults = 1 }
 first_call = refl
 
 -- a sink without room takes an empty piece

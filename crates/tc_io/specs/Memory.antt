@@ -20,6 +20,7 @@ pub record SourceInMemory : Type 0 where
   pub pulls : ℕ
   pub faults : ℕ
 
+-- a source as it is made
 abbrev pub new_source : List ℕ → List ℕ → List ℕ → SourceInMemory
 new_source bytes pieces failing =
     record { left = bytes; pieces = pieces; failing = failing; calls = 0; pulls = 0; faults = 0 }
@@ -33,9 +34,11 @@ piece_of pieces pulls room =
 abbrev pub given : SourceInMemory → ℕ → ℕ
 given s room = min (piece_of s.pieces s.pulls room) (length s.left)
 
+-- the answer of the next pull into so much room
 abbrev pub pull_answer : SourceInMemory → ℕ → Result ℕ Failed
 pull_answer s room = if is_failing s.failing s.calls then Err (record {}) else Ok (given s room)
 
+-- the source after it: a failed pull counts as a call and as a fault, and leaves the bytes
 abbrev pub after_pull : SourceInMemory → ℕ → SourceInMemory
 after_pull s room =
     if is_failing s.failing s.calls
@@ -53,6 +56,7 @@ pub record SinkInMemory : Type 0 where
   pub calls : ℕ
   pub faults : ℕ
 
+-- a sink as it is made
 abbrev pub new_sink : ℕ → List ℕ → SinkInMemory
 new_sink room failing = record { written = []; room = room; failing = failing; calls = 0; faults = 0 }
 
@@ -64,9 +68,11 @@ taken s len = min len (s.room - length s.written)
 abbrev pub is_refused : SinkInMemory → ℕ → Bool
 is_refused s len = is_failing s.failing s.calls || (not (len == 0) && (taken s len == 0))
 
+-- the answer of the next push of a piece of this length
 abbrev pub push_answer : SinkInMemory → ℕ → Result ℕ Failed
 push_answer s len = if is_refused s len then Err (record {}) else Ok (taken s len)
 
+-- the sink after the push of a piece: a failed push counts as a call and as a fault, and writes nothing
 abbrev pub after_push : SinkInMemory → List ℕ → SinkInMemory
 after_push s piece =
     if is_refused s (length piece)

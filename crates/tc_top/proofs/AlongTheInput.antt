@@ -68,6 +68,10 @@ pub both_ok : (P Q : Type 0) (result : Result (Unit {0}) Stop) → OnOk result P
 both_ok P Q (Ok done) p q = (p, q)
 both_ok P Q (Err stop) p q = tt
 
+pub err_both : (P : Stop → Type 0) (Q : Type 0) (result : Result (Unit {0}) Stop) → IfErr result P → OnErr result Q → IfErr result (λ stop. P stop × Q)
+err_both P Q (Ok done) p q = tt
+err_both P Q (Err stop) p q = (p, q)
+
 pub on_err : {P Q : Type 0} (result : Result (Unit {0}) Stop) → OnErr result P → (P → Q) → OnErr result Q
 on_err (Ok done) says to = tt
 on_err (Err stop) says to = to says

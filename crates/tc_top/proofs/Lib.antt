@@ -1,3 +1,4 @@
 pub mod AlongTheInput
 pub mod CountedEvents
 pub mod PushedLines
+pub mod ReadLines

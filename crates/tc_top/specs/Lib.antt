@@ -1,5 +1,6 @@
 pub mod LtcRead
 pub mod Output
+pub mod ReadEngine
 pub mod Reading
 pub mod Status
 pub mod Stops

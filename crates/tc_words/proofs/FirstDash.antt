@@ -1,5 +1,5 @@
 -- The first word with a dash is found by the bytes of the words, and where there is none no word has one.
-use Rattle.std.proofs.Common.{◌≡◌, ◌∙◌, ◌+◌, ◌<◌, ◌≤◌, ℕ, Bool, cond, true, false, not, inl, inr, refl, sym, ap, ap₂, arith, List, [], ◌∷◌, map, length, Option, Some, None, nat_lt, lt-ltb}
+use Rattle.std.proofs.Common.{◌≡◌, ◌+◌, ◌≤◌, ℕ, Bool, cond, true, false, not, inl, inr, refl, ap₂, arith, List, [], ◌∷◌, map, length, Some, None, nat_lt, lt-ltb}
 use Rattle.std.specs.List.{position, position_or_len, prefix_len}
 use Rattle.std.proofs.lemmas.Bool.{cases_lt}
 use Rattle.std.proofs.lemmas.List.{length-map}
@@ -25,7 +25,7 @@ none_within (word ∷ words) all = go (begins_with_dash word) refl all (none_wit
 pub no_dashes : (words : List (List ℕ)) → position begins_with_dash words ≡ None → NoDashes words
 no_dashes words none = elim (cases_lt (position_or_len begins_with_dash words) (length words)) [
   | inl found ↦
-    let some : Some (position_or_len begins_with_dash words) ≡ None = rw (lt-ltb (position_or_len begins_with_dash words) (length words) found) at none in
-    cc some
+      let some : Some (position_or_len begins_with_dash words) ≡ None = rw (lt-ltb (position_or_len begins_with_dash words) (length words) found) at none in
+      cc some
   | inr past ↦ none_within words past
 ]

@@ -1,6 +1,6 @@
 -- One to twenty digits are what std reads as a number, since no sign stands before them.
-use Rattle.std.proofs.Common.{◌≡◌, ◌≢◌, ◌∙◌, ◌<◌, ◌&&◌, ◌^◌, ℕ, Bool, true, false, refl, sym, ap, arith, List, [], ◌∷◌, Option, Some, None, Result, Ok, Err, inl, inr, length, le-ltb, lt-ltb}
-use Rattle.std.specs.Prelude.{nat_le, nat_lt, cond}
+use Rattle.std.proofs.Common.{◌≡◌, ◌≢◌, ◌<◌, ◌&&◌, ◌^◌, ℕ, Bool, true, false, refl, ap, arith, List, [], ◌∷◌, Some, Result, Ok, Err, inl, inr, length, le-ltb, lt-ltb}
+use Rattle.std.specs.Prelude.{nat_le, nat_lt}
 use Rattle.std.specs.Char.{is_ascii_digit, digit_value}
 use Rattle.std.specs.Int.{IsInRange}
 use Rattle.std.specs.List.{list_all}

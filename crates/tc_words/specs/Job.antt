@@ -1,8 +1,6 @@
 -- The job of a list of words, or their first fault.
-use Rattle.std.specs.Prelude.{ℕ, ◌==◌, Bool, false, List, [], ◌∷◌, Option, Some, None, Result, Ok, Err, if◌then◌else◌, position}
+use Rattle.std.specs.Prelude.{ℕ, List, [], ◌∷◌, Option, Some, None, Result, Ok, Err, if◌then◌else◌, position}
 use Rattle.std.specs.Str.{bytes_eq}
-use Rattle.tc_address.specs.declared.count.Count.{Count}
-use Rattle.tc_address.specs.Label.{Address}
 use Rattle.tc_words.specs.declared.job.Job.{Job}
 use Rattle.tc_words.specs.declared.job.Job.TheVariants as jobs
 use Rattle.tc_words.specs.declared.job.TheConstants.{LTC_READ, NUMBER, LABEL}
@@ -39,6 +37,7 @@ label_of (count ∷ number ∷ []) =
     with_value 1 (count_in count) (λ c. with_value 2 (numbered c number) (λ address. Ok (jobs.LabelOf address)))
 label_of _ = Err CountOfWords
 
+-- the row of the command that the word names
 abbrev pub job_of : Word → List Word → Answer
 job_of command values =
     if bytes_eq command LTC_READ.now then ltc_read values
@@ -48,10 +47,12 @@ job_of command values =
 
 -- ---- all words
 
+-- words of which none begins with a dash: the first is the command
 abbrev pub without_dashes : List Word → Answer
 without_dashes [] = Err Command
 without_dashes (command ∷ values) = job_of command values
 
+-- the first word that begins with a dash, or else the job
 abbrev pub after_dashes : Option ℕ → List Word → Answer
 after_dashes (Some place) words = Err (Dash place)
 after_dashes None words = without_dashes words

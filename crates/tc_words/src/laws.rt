@@ -8,5 +8,4 @@ pub fn each_command_has_its_word()
     ensures ltc_read { LTC_READ.now ≡ codes "ltc-read" }
     ensures number { NUMBER.now ≡ codes "number" }
     ensures label { LABEL.now ≡ codes "label" }
-{
-}
+{}

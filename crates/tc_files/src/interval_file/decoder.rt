@@ -1,4 +1,4 @@
-ghost use Rattle.std.specs.Prelude.{◌≡◌, ◌<◌, ◌≤◌, ◌^◌, ◌++◌, ◌+◌, [], ◌∷◌, length, IfNone};
+ghost use Rattle.std.specs.Prelude.{◌≡◌, ◌<◌, ◌≤◌, ◌^◌, ◌++◌, ◌+◌, [], ◌∷◌, length, IfNone, OnOk, ◌%◌};
 ghost use Rattle.byteorder.specs.Endian.{big_number};
 ghost use Rattle.arrayvec.specs.ArrayVec.{array_vec_len};
 ghost use Rattle.tc_files.specs.IntervalFile.{
@@ -92,7 +92,9 @@ impl IntervalDecoder {
     /// The end of the input: the earlier fault where there was one, and else whether the input may
     /// end here.
     pub fn finish(&self) -> Result<(), FileFault>
-        ensures { result ≡ end self.now }
+        ensures answers { result ≡ end self.now }
+        // The input may end after the header or after any interval.
+        ensures whole { OnOk result ((HEADER_LENGTH ≤ self.now.taken) × (self.now.taken % 4 ≡ 0)) }
     {
         match self.fault {
             Some(fault) => Err(fault),

@@ -11,4 +11,5 @@ returns-then-ahead-day-clause-shortest c =
 -- more than half the circle lies ahead, so the way back is taken
 pub returns-else-ahead-day-clause-shortest : goal.returns-else-ahead-day-clause-shortest
 returns-else-ahead-day-clause-shortest c =
-    back_way _ _ _ c.ahead-ahead.result _ (omega (arith, ints)) c.requires.even c.requires.to (omega arith) c.ahead-ahead.ensures.within c.ahead-ahead.ensures.reaches
+    back_way _ _ _ c.ahead-ahead.result _ (omega (arith, ints)) c.requires.even c.requires.to (omega arith)
+    c.ahead-ahead.ensures.within c.ahead-ahead.ensures.reaches

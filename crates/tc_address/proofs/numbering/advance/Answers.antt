@@ -9,7 +9,8 @@ use Rattle.tc_address.proofs.numbering.advance.Goals as goal
 -- the label was taken from the place that the step leads to
 pub returns-clause-label : goal.returns-clause-label
 returns-clause-label c =
-    let found : slice_get (labels c.args.label.now.count) c.moved.result ≡ Some c.label_of.result = rw c.count-count.ensures.value at c.label_of.ensures.label in
+    let found : slice_get (labels c.args.label.now.count) c.moved.result ≡ Some c.label_of.result =
+    rw c.count-count.ensures.value at c.label_of.ensures.label in
     let day = c.day_labels.ensures.value ∙ ap day_length c.count-count.ensures.value in
     let steps : to_z w64 (of_z w64 c.args.steps) ≡ c.args.steps = omega (arith, ints) in
     let place : c.moved.result ≡ moved (day_length c.args.label.now.count) (number_of c.args.label.now) c.args.steps =

@@ -14,7 +14,8 @@ returns-clause-reads c =
     let parts = c.in_ok-label.ensures.reads in
     let len : length c.args.text.now ≡ 11 = omega arith in
     let good : IsGoodBelow c.args.count c.args.text.now 11 = λ k h. c.in_default.ensures.none k (omega (arith, len)) in
-    let same : c.in_ok-label.label ≡ address_in c.args.count c.args.text.now = rw (c.number_at.ensures, c.number_at-2.ensures, c.number_at-3.ensures, c.number_at-4.ensures) at parts.0 in
+    let same : c.in_ok-label.label ≡ address_in c.args.count c.args.text.now =
+    rw (c.number_at.ensures, c.number_at-2.ensures, c.number_at-3.ensures, c.number_at-4.ensures) at parts.0 in
     let back : text_of c.in_ok-label.label ≡ c.args.text.now = ap text_of same ∙ text_of-address_in _ _ len good in
     (sym back, ap (λ a. a.count) same, subst IsLabel (sym parts.0) parts.1)
 

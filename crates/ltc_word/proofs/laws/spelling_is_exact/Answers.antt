@@ -1,0 +1,12 @@
+use Rattle.ltc_word.proofs.OneSpelling.{one_word, no_fault}
+use Rattle.ltc_word.proofs.BalanceChooses.{one_spelling}
+use Rattle.ltc_word.proofs.laws.spelling_is_exact.Goals as goal
+
+pub returns-clause-one_word : goal.returns-clause-one_word
+returns-clause-one_word c = one_word
+
+pub returns-clause-one_spelling : goal.returns-clause-one_spelling
+returns-clause-one_spelling c = one_spelling
+
+pub returns-clause-no_fault : goal.returns-clause-no_fault
+returns-clause-no_fault c = no_fault

@@ -1,0 +1,61 @@
+//! What follows from the definitions alone, and words from outside that pin the table.
+
+ghost use Rattle.std.specs.Prelude.{◌≡◌, ℕ, ◌<◌, ◌≤◌, ◌+◌, ◌-◌, ◌*◌, ◌^◌, None, true, false};
+ghost use Rattle.std.specs.Int.{bit_at};
+ghost use Rattle.tc_address.specs.declared.system.System.{System};
+ghost use Rattle.tc_address.specs.declared.system.System.TheVariants.{F24, F25, F30};
+ghost use Rattle.tc_address.specs.declared.count.Count.TheVariants.{C24, C25, C30, Drop30};
+ghost use Rattle.ltc_word.specs.declared.word.LtcWord.{LtcWord};
+ghost use Rattle.ltc_word.specs.Places.{are_shared_out, places_of};
+ghost use Rattle.ltc_word.specs.Spelling.{Spells, word_with, flags};
+ghost use Rattle.ltc_word.specs.Fault.{first_fault};
+ghost use Rattle.ltc_word.specs.Reversal.{reversed_bits, HasTwelveOnes};
+
+/// Each of the 80 bits belongs to exactly one place, in each system.
+pub fn each_bit_has_one_place()
+    ensures at_24 { are_shared_out (places_of F24) ≡ true }
+    ensures at_25 { are_shared_out (places_of F25) ≡ true }
+    ensures at_30 { are_shared_out (places_of F30) ≡ true }
+{}
+
+/// 80 bits spell one word at most, a word has one spelling at most, and bits that spell a word have
+/// no fault.
+pub fn spelling_is_exact()
+    ensures one_word { (system : System) (a b : LtcWord) (bits : ℕ) → Spells system a bits → Spells system b bits → a ≡ b }
+    ensures one_spelling { (system : System) (word : LtcWord) (a b : ℕ) → Spells system word a → Spells system word b → a ≡ b }
+    ensures no_fault { (system : System) (word : LtcWord) (bits : ℕ) → Spells system word bits → first_fault system bits ≡ None }
+{}
+
+/// Twelve ones in a row stand in a word only in its sync word, at the bits 66 to 77. In two words
+/// that follow each other they stand only in the two sync words.
+pub fn twelve_ones_are_the_sync_word()
+    ensures one { (system : System) (word : LtcWord) (bits i : ℕ) → Spells system word bits → i ≤ 68 → HasTwelveOnes bits i → i ≡ 66 }
+    ensures between { (system : System) (a b : LtcWord) (x y i : ℕ) → Spells system a x → Spells system b y → i < 80 → HasTwelveOnes (x + y * 2 ^ 80) i → i ≡ 66 }
+{}
+
+/// To take 80 bits in the other order of time twice gives them back.
+pub fn reversed_twice_is_the_same()
+    ensures bits { (bits i : ℕ) → i < 80 → bit_at (reversed_bits bits) i ≡ bit_at bits (79 - i) }
+    ensures twice { (bits : ℕ) → bits < 2 ^ 80 → reversed_bits (reversed_bits bits) ≡ bits }
+{}
+
+/// Words that spell a label of nothing but zeros, and one hour in drop-frame.
+pub fn words_of_round_labels()
+    ensures zero_at_30 { Spells F30 (word_with C30 0 0 0 0 (flags false false false false false) 0 true) 0xbffc0000000008000000 }
+    ensures zero_at_25 { Spells F25 (word_with C25 0 0 0 0 (flags false false false false false) 0 true) 0xbffc0800000000000000 }
+    ensures unbalanced { Spells F30 (word_with C30 0 0 0 0 (flags false false false false false) 0 false) 0xbffc0000000000000000 }
+    ensures one_hour { Spells F30 (word_with Drop30 1 0 0 0 (flags true false false false false) 0 true) 0xbffc0001000008000400 }
+{}
+
+/// 19:47:58:23 with the user bits `fce0ba6d`: 16 different digits, one in each place of the table,
+/// worked out from it by hand. In the three words of a system no two flags are set alike, nor
+/// is one set as the polarity correction.
+pub fn words_worked_out_by_hand()
+    ensures first_at_24 { Spells F24 (word_with C24 19 47 58 23 (flags true false true false false) 0xfce0ba6d true) 0xbffcf1c9ec07bda866d3 }
+    ensures first_at_25 { Spells F25 (word_with C25 19 47 58 23 (flags true false true false false) 0xfce0ba6d true) 0xbffcf9c9e407bda866d3 }
+    ensures second_at_25 { Spells F25 (word_with C25 19 47 58 23 (flags false true false true false) 0xfce0ba6d false) 0xbffcf5c9e407b5a86ad3 }
+    ensures third_at_25 { Spells F25 (word_with C25 19 47 58 23 (flags true true false false true) 0xfce0ba6d true) 0xbffcf1c9ec07b5a86ed3 }
+    ensures first_at_30 { Spells F30 (word_with Drop30 19 47 58 23 (flags true false true false false) 0xfce0ba6d true) 0xbffcf1c9ec07bda866d3 }
+    ensures second_at_30 { Spells F30 (word_with C30 19 47 58 23 (flags false true false true false) 0xfce0ba6d false) 0xbffcf5c9e407b5a86ad3 }
+    ensures third_at_30 { Spells F30 (word_with Drop30 19 47 58 23 (flags true true false false true) 0xfce0ba6d true) 0xbffcf9c9e407b5a86ed3 }
+{}

@@ -1,0 +1,29 @@
+//! What follows from the definitions alone.
+
+ghost use Rattle.std.specs.Prelude.{◌≡◌, ℕ, ◌+◌, ◌*◌, ◌^◌, ◌<◌, ◌≤◌, ◌⊎◌, None};
+ghost use Rattle.std.specs.Int.{bit_at};
+ghost use Rattle.tc_address.specs.declared.system.System.{System};
+ghost use Rattle.tc_bits.specs.declared.raw.RawFields.{RawFields};
+ghost use Rattle.tc_bits.specs.Register.{Replaces};
+ghost use Rattle.tc_bits.specs.UserBits.{group};
+ghost use Rattle.tc_bits.specs.Fields.{Contents, Says};
+ghost use Rattle.tc_bits.specs.Fault.{first_field_fault};
+
+/// A register with one field replaced keeps all other bits, and there is only one such register.
+pub fn replacing_is_exact()
+    ensures others { (old new first width value i : ℕ) → Replaces old new first width value → (i < first) ⊎ (first + width ≤ i) → bit_at new i ≡ bit_at old i }
+    ensures one { (old a b first width value : ℕ) → Replaces old a first width value → Replaces old b first width value → a ≡ b }
+{}
+
+/// The eight groups are the user bits.
+pub fn eight_groups_are_the_user_bits()
+    ensures { (user : ℕ) → user < 2 ^ 32 → user ≡
+        group 1 user + group 2 user * 2 ^ 4 + group 3 user * 2 ^ 8 + group 4 user * 2 ^ 12
+        + group 5 user * 2 ^ 16 + group 6 user * 2 ^ 20 + group 7 user * 2 ^ 24 + group 8 user * 2 ^ 28 }
+{}
+
+/// Digits say one address at most, and digits that say one have no fault.
+pub fn digits_are_exact()
+    ensures one { (system : System) (raw : RawFields) (a b : Contents) → Says system raw a → Says system raw b → a ≡ b }
+    ensures no_fault { (system : System) (raw : RawFields) (c : Contents) → Says system raw c → first_field_fault system raw ≡ None }
+{}
