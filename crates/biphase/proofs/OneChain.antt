@@ -7,12 +7,14 @@ use Rattle.biphase.specs.Chain.{flat, IsFront, IsChainAfter}
 use Rattle.biphase.proofs.Separation.{zero_is_no_half, first_half}
 
 -- a cell in front of both lists
-front_with : (cell : Cell) (one two : List Cell) → IsFront one two ⊎ IsFront two one → IsFront (cell ∷ one) (cell ∷ two) ⊎ IsFront (cell ∷ two) (cell ∷ one)
+front_with : (cell : Cell) (one two : List Cell) → IsFront one two ⊎ IsFront two one
+    → IsFront (cell ∷ one) (cell ∷ two) ⊎ IsFront (cell ∷ two) (cell ∷ one)
 front_with cell one two (inl (rest, same)) = inl (rest, ap (λ cells. cell ∷ cells) same)
 front_with cell one two (inr (rest, same)) = inr (rest, ap (λ cells. cell ∷ cells) same)
 
 pub comparable_after : (profile : Profile) (c : ℕ) (one two : List Cell) (rest other : List ℕ)
-    → IsChainAfter profile c one → IsChainAfter profile c two → flat one ++ rest ≡ flat two ++ other → IsFront one two ⊎ IsFront two one
+    → IsChainAfter profile c one → IsChainAfter profile c two → flat one ++ rest ≡ flat two ++ other
+    → IsFront one two ⊎ IsFront two one
 comparable_after profile c [] two rest other ones twos same = inl (two, refl)
 comparable_after profile c (cell ∷ one) [] rest other ones twos same = inr (cell ∷ one, refl)
 comparable_after profile c (Zero x ∷ one) (Zero y ∷ two) rest other ones twos same =
@@ -31,10 +33,12 @@ comparable_after profile c (One a b ∷ one) (One x y ∷ two) rest other ones t
     let second : b ≡ y = cc in
     let tail : flat one ++ rest ≡ flat two ++ other = cc in
     let twos_too : IsChainAfter profile (a + b) two = rw (first, second) twos.2 in
-    rw (← first, ← second) (front_with (One a b) one two (comparable_after profile (a + b) one two rest other ones.2 twos_too tail))
+    rw (← first, ← second) (front_with (One a b) one two
+    (comparable_after profile (a + b) one two rest other ones.2 twos_too tail))
 
 -- the same of the front of a list
 pub comparable : (profile : Profile) (c : ℕ) (one two : List Cell) (intervals : List ℕ)
-    → IsChainAfter profile c one → IsChainAfter profile c two → IsFront (flat one) intervals → IsFront (flat two) intervals → IsFront one two ⊎ IsFront two one
+    → IsChainAfter profile c one → IsChainAfter profile c two → IsFront (flat one) intervals → IsFront (flat two) intervals
+    → IsFront one two ⊎ IsFront two one
 comparable profile c one two intervals ones twos front front_too =
     comparable_after profile c one two front.0 front_too.0 ones twos (sym front.1 ∙ front_too.1)

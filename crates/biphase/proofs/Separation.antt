@@ -26,7 +26,8 @@ pub halves_are_equal : (profile : Profile) (x y : ℕ) → AreHalves profile x y
 halves_are_equal Normal x y halves = omega arith
 
 -- halves of two neighbouring ones are equal
-pub neighbours_are_equal : (profile : Profile) (a b x y : ℕ) → AreHalves profile a b → IsNextOne profile (a + b) x y → AreEqual profile b x
+pub neighbours_are_equal : (profile : Profile) (a b x y : ℕ) → AreHalves profile a b → IsNextOne profile (a + b) x y
+    → AreEqual profile b x
 neighbours_are_equal Normal a b x y halves one = omega arith
 
 -- a zero and then a half are unequal, and the zero is the greater
@@ -34,7 +35,8 @@ pub zero_then_half : (profile : Profile) (c x y : ℕ) → 1 ≤ x → IsNextOne
 zero_then_half Normal c x y tick one = ((λ equal. omega arith, omega arith), omega arith)
 
 -- a half and then a zero are unequal, and the zero is the greater
-pub half_then_zero : (profile : Profile) (a b x : ℕ) → 1 ≤ x → AreHalves profile a b → IsNextZero profile (a + b) x → AreUnequal profile b x × (b < x)
+pub half_then_zero : (profile : Profile) (a b x : ℕ) → 1 ≤ x → AreHalves profile a b → IsNextZero profile (a + b) x
+    → AreUnequal profile b x × (b < x)
 half_then_zero Normal a b x tick halves zero = ((λ equal. omega arith, omega arith), omega arith)
 
 -- a zero after a cell lasts a tick or more
@@ -44,6 +46,10 @@ zero_lasts Normal c x ticks zero = omega arith
 -- so do the halves of a one
 pub one_lasts : (profile : Profile) (c x y : ℕ) → 1 ≤ c → IsNextOne profile c x y → (1 ≤ x) × (1 ≤ y)
 one_lasts Normal c x y ticks one = (omega arith, omega arith)
+
+-- and so does a first half
+pub half_lasts : (profile : Profile) (c x : ℕ) → 1 ≤ c → IsFirstHalf profile c x → 1 ≤ x
+half_lasts Normal c x ticks half = omega arith
 
 -- after a cell of an unequal pair's greater interval the lesser is no zero
 pub step_is_no_zero : (profile : Profile) (c x : ℕ) → AreUnequal profile c x → IsNextZero profile c x → ⊥
@@ -67,7 +73,8 @@ half_or_not profile c x =
     ]
 
 -- a pair of another kind is not unequal
-pub other_kind : (profile : Profile) (a b : ℕ) (kind : PairKind) → IsKind profile a b kind → (kind ≡ Same) ⊎ (kind ≡ Wild) → AreUnequal profile a b → ⊥
+pub other_kind : (profile : Profile) (a b : ℕ) (kind : PairKind) → IsKind profile a b kind → (kind ≡ Same) ⊎ (kind ≡ Wild)
+    → AreUnequal profile a b → ⊥
 other_kind profile a b Same is other unequal = unequal.0 is
 other_kind profile a b Step is (inl other) unequal = cc
 other_kind profile a b Step is (inr other) unequal = cc

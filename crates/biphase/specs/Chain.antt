@@ -53,7 +53,8 @@ IsCell profile (One a b) = (1 ≤ a) × (1 ≤ b) × AreHalves profile a b
 -- cells that may follow one of length c: each is near the one before it
 abbrev pub IsChainAfter : Profile → ℕ → List Cell → Type 0
 IsChainAfter profile c [] = Unit {0}
-IsChainAfter profile c (cell ∷ cells) = IsCell profile cell × IsNear profile c (length_of cell) × IsChainAfter profile (length_of cell) cells
+IsChainAfter profile c (cell ∷ cells) =
+    IsCell profile cell × IsNear profile c (length_of cell) × IsChainAfter profile (length_of cell) cells
 
 -- a chain: each cell is near the one before it
 abbrev pub IsChain : Profile → List Cell → Type 0

@@ -1,4 +1,8 @@
+pub mod BeginsAtTheLock
+pub mod Computed
+mod Examples
+pub mod GainsOrBreaks
 pub mod LocalStretch
 pub mod LockStays
+pub mod OneStretch
 pub mod StretchGrows
-pub mod Fed

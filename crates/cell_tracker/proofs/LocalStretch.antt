@@ -38,8 +38,10 @@ no_more : (profile : Profile) (c : ℕ) (cells more : List Cell) (rest other : L
 no_more profile c cells [] rest other chain none same = omega (arith, length-append {A = Cell})
 no_more profile c cells (cell ∷ more) rest other chain none same =
     let tail : rest ≡ flat (cell ∷ more) ++ other =
-    append_cancel_left (flat cells) _ _ (same ∙ ap (λ xs. xs ++ other) (flat_map-append intervals_of cells (cell ∷ more)) ∙ append_assoc (flat cells) (flat (cell ∷ more)) other) in
-    absurd (none_goes_on profile (last_length c cells) cell more rest other none (chain_rest profile c cells (cell ∷ more) chain) tail)
+    append_cancel_left (flat cells) _ _ (same ∙ ap (λ xs. xs ++ other) (flat_map-append intervals_of cells (cell ∷ more))
+    ∙ append_assoc (flat cells) (flat (cell ∷ more)) other) in
+    absurd (none_goes_on profile (last_length c cells) cell more rest other none
+    (chain_rest profile c cells (cell ∷ more) chain) tail)
 
 -- a chain at whose end no cell fits has as many cells as any other
 pub no_longer : (profile : Profile) (c : ℕ) (cells others : List Cell) (rest other : List ℕ)
@@ -47,7 +49,8 @@ pub no_longer : (profile : Profile) (c : ℕ) (cells others : List Cell) (rest o
     → flat cells ++ rest ≡ flat others ++ other → length others ≤ length cells
 no_longer profile c cells others rest other chain chain_too none same =
     elim (comparable_after profile c cells others rest other chain chain_too same) [
-      | inl (more, is) ↦ rw is (no_more profile c cells more rest other (subst (IsChainAfter profile c) is chain_too) none (same ∙ ap (λ xs. flat xs ++ other) is))
+      | inl (more, is) ↦ rw is (no_more profile c cells more rest other (subst (IsChainAfter profile c) is chain_too) none
+          (same ∙ ap (λ xs. flat xs ++ other) is))
       | inr (more, is) ↦ omega (arith, ap length is, length-append others more)
     ]
 
@@ -62,7 +65,8 @@ pub record IsLocally (profile : Profile) (intervals : List ℕ) (stretch : Stret
 
 -- the rest of the list
 pub rest_is : (intervals : List ℕ) (stretch : Stretch) (first : ℕ) (more : List Cell) (rest : List ℕ)
-    → stretch.cells ≡ Zero first ∷ more → drop stretch.lock intervals ≡ first ∷ (flat more ++ rest) → drop (end_of stretch) intervals ≡ rest
+    → stretch.cells ≡ Zero first ∷ more → drop stretch.lock intervals ≡ first ∷ (flat more ++ rest)
+    → drop (end_of stretch) intervals ≡ rest
 rest_is intervals stretch first more rest cells there =
     sym (drop-drop (length (flat stretch.cells)) stretch.lock intervals)
     ∙ ap (drop (length (flat stretch.cells))) there
@@ -75,7 +79,7 @@ head_is intervals k x rest there =
     ap (λ n. get_or intervals n 0) (sym (add-zero k)) ∙ sym (get_or-drop k intervals 0 0) ∙ ap (λ xs. get_or xs 0 0) there
 
 -- the tails of equal lists are equal
-tail_is : {x y : ℕ} {xs ys : List ℕ} → x ∷ xs ≡ y ∷ ys → xs ≡ ys
+pub tail_is : {x y : ℕ} {xs ys : List ℕ} → x ∷ xs ≡ y ∷ ys → xs ≡ ys
 tail_is same = cc
 
 -- a chain from a lock by its first zero and the cells after it
@@ -103,8 +107,10 @@ parts_of profile intervals lock cells first head from =
     }
 
 -- and what has these parts is one
-chain_from : (profile : Profile) (intervals : List ℕ) (lock : ℕ) (cells : List Cell) (first : ℕ) (more : List Cell) (rest : List ℕ)
-    → cells ≡ Zero first ∷ more → 1 ≤ first → IsChainAfter profile first more → drop lock intervals ≡ first ∷ (flat more ++ rest)
+chain_from : (profile : Profile) (intervals : List ℕ) (lock : ℕ) (cells : List Cell) (first : ℕ) (more : List Cell)
+    (rest : List ℕ)
+    → cells ≡ Zero first ∷ more → 1 ≤ first → IsChainAfter profile first more
+    → drop lock intervals ≡ first ∷ (flat more ++ rest)
     → IsChainFrom profile intervals lock cells
 chain_from profile intervals lock cells first more rest same ticks chain there = record {
   first = (more, same ∙ ap (λ x. Zero x ∷ more) (sym (head_is intervals lock first (flat more ++ rest) there)));
@@ -118,22 +124,30 @@ pub stretch_from : (profile : Profile) (intervals : List ℕ) (stretch : Stretch
 stretch_from profile intervals stretch first more rest is = record {
   chain = chain_from profile intervals stretch.lock stretch.cells first more rest is.cells is.ticks is.chain is.there;
   longest = λ others from.
-      let parts = parts_of profile intervals stretch.lock others first (head_is intervals stretch.lock first (flat more ++ rest) is.there) from in
+      let parts =
+      parts_of profile intervals stretch.lock others first
+      (head_is intervals stretch.lock first (flat more ++ rest) is.there) from in
       let tails : flat more ++ rest ≡ flat parts.more ++ parts.rest = tail_is (sym is.there ∙ parts.there) in
-      let most : length parts.more ≤ length more = no_longer profile first more parts.more rest parts.rest is.chain parts.chain is.none tails in
+      let most : length parts.more ≤ length more =
+      no_longer profile first more parts.more rest parts.rest is.chain parts.chain is.none tails in
       omega (arith, most, ap length parts.same, ap length is.cells);
   broken =
-      rw (rest_is intervals stretch first more rest is.cells is.there) (subst (λ cells. IsBreak profile (last_length 0 cells) (end_of stretch) rest stretch.broken_at) (sym is.cells) is.broken);
+      rw (rest_is intervals stretch first more rest is.cells is.there)
+      (subst (λ cells. IsBreak profile (last_length 0 cells) (end_of stretch) rest stretch.broken_at)
+      (sym is.cells) is.broken);
 }
 
 -- the intervals of some cells and one more
-pub flat_push : (cells : List Cell) (cell : Cell) (rest : List ℕ) → flat (cells ++ cell ∷ []) ++ rest ≡ flat cells ++ (intervals_of cell ++ rest)
+pub flat_push : (cells : List Cell) (cell : Cell) (rest : List ℕ)
+    → flat (cells ++ cell ∷ []) ++ rest ≡ flat cells ++ (intervals_of cell ++ rest)
 flat_push cells cell rest =
-    ap (λ xs. xs ++ rest) (flat_map-append intervals_of cells (cell ∷ []) ∙ ap (λ xs. flat cells ++ xs) (append-nil (intervals_of cell)))
+    ap (λ xs. xs ++ rest) (flat_map-append intervals_of cells (cell ∷ [])
+    ∙ ap (λ xs. flat cells ++ xs) (append-nil (intervals_of cell)))
     ∙ append_assoc (flat cells) (intervals_of cell) rest
 
 -- no cell fits at the end of a stretch, or the chain with it would be longer
-too_long : (profile : Profile) (intervals : List ℕ) (stretch : Stretch) (first : ℕ) (more : List Cell) (cell : Cell) (rest : List ℕ)
+too_long : (profile : Profile) (intervals : List ℕ) (stretch : Stretch) (first : ℕ) (more : List Cell) (cell : Cell)
+    (rest : List ℕ)
     → IsStretch profile intervals stretch → stretch.cells ≡ Zero first ∷ more → 1 ≤ first → IsChainAfter profile first more
     → IsCell profile cell → IsNear profile (last_length first more) (length_of cell)
     → drop stretch.lock intervals ≡ first ∷ (flat more ++ (intervals_of cell ++ rest)) → ⊥
@@ -155,27 +169,34 @@ none_fits profile intervals stretch first more (x ∷ []) is same ticks chain th
     (zero_lasts profile (last_length first more) x (chain_lasts profile first more ticks chain) zero) zero there
 none_fits profile intervals stretch first more (x ∷ y ∷ rest) is same ticks chain there =
     let lasts : 1 ≤ last_length first more = chain_lasts profile first more ticks chain in (
-      λ zero. too_long profile intervals stretch first more (Zero x) (y ∷ rest) is same ticks chain (zero_lasts profile (last_length first more) x lasts zero) zero there,
+      λ zero. too_long profile intervals stretch first more (Zero x) (y ∷ rest) is same ticks chain
+          (zero_lasts profile (last_length first more) x lasts zero) zero there,
       λ one.
           let ticks_too = one_lasts profile (last_length first more) x y lasts one in
-          too_long profile intervals stretch first more (One x y) rest is same ticks chain (ticks_too.0, ticks_too.1, one.1) one.0 there,
+          too_long profile intervals stretch first more (One x y) rest is same ticks chain
+          (ticks_too.0, ticks_too.1, one.1) one.0 there,
     )
 
 -- each stretch is such
 pub locally : (profile : Profile) (intervals : List ℕ) (stretch : Stretch) → IsStretch profile intervals stretch
-    → (more : List Cell) × IsLocally profile intervals stretch (get_or intervals stretch.lock 0) more (drop (end_of stretch) intervals)
+    → (more : List Cell) × IsLocally profile intervals stretch (get_or intervals stretch.lock 0) more
+    (drop (end_of stretch) intervals)
 locally profile intervals stretch is =
     let first = get_or intervals stretch.lock 0 in
     let parts = parts_of profile intervals stretch.lock stretch.cells first refl is.chain in
-    let rest : drop (end_of stretch) intervals ≡ parts.rest = rest_is intervals stretch first parts.more parts.rest parts.same parts.there in
-    let there : drop stretch.lock intervals ≡ first ∷ (flat parts.more ++ drop (end_of stretch) intervals) = parts.there ∙ ap (λ xs. first ∷ (flat parts.more ++ xs)) (sym rest) in (
+    let rest : drop (end_of stretch) intervals ≡ parts.rest =
+    rest_is intervals stretch first parts.more parts.rest parts.same parts.there in
+    let there : drop stretch.lock intervals ≡ first ∷ (flat parts.more ++ drop (end_of stretch) intervals) =
+    parts.there ∙ ap (λ xs. first ∷ (flat parts.more ++ xs)) (sym rest) in (
       parts.more,
       record {
         cells = parts.same;
         ticks = parts.ticks;
         chain = parts.chain;
         there = there;
-        none = none_fits profile intervals stretch first parts.more (drop (end_of stretch) intervals) is parts.same parts.ticks parts.chain there;
-        broken = subst (λ cells. IsBreak profile (last_length 0 cells) (end_of stretch) (drop (end_of stretch) intervals) stretch.broken_at) parts.same is.broken;
+        none = none_fits profile intervals stretch first parts.more
+            (drop (end_of stretch) intervals) is parts.same parts.ticks parts.chain there;
+        broken = subst (λ cells. IsBreak profile (last_length 0 cells) (end_of stretch)
+            (drop (end_of stretch) intervals) stretch.broken_at) parts.same is.broken;
       },
     )

@@ -21,7 +21,8 @@ pub there_push : (intervals : List ℕ) (lock first x : ℕ) (more rest : List �
     → drop lock intervals ≡ first ∷ (more ++ rest) → drop lock (intervals ++ x ∷ []) ≡ first ∷ (more ++ (rest ++ x ∷ []))
 there_push intervals lock first x more rest there =
     let within : lock < length intervals = place_within intervals lock first (more ++ rest) there in
-    drop-append-le lock intervals (x ∷ []) (omega arith) ∙ ap (λ xs. xs ++ x ∷ []) there ∙ ap (λ xs. first ∷ xs) (append_assoc more rest (x ∷ []))
+    drop-append-le lock intervals (x ∷ []) (omega arith) ∙ ap (λ xs. xs ++ x ∷ []) there
+    ∙ ap (λ xs. first ∷ xs) (append_assoc more rest (x ∷ []))
 
 -- an interval at the end does not touch a break, nor what stands before it
 rest_stays : (profile : Profile) (c after : ℕ) (rest : List ℕ) (place : Option ℕ) (broken x : ℕ)
@@ -41,7 +42,9 @@ stretch_stays profile intervals stretch broken x is some =
     let first = get_or intervals stretch.lock 0 in
     let more = local.0 in
     let rest = drop (end_of stretch) intervals in
-    let stays = rest_stays profile (last_length first more) (end_of stretch) rest stretch.broken_at broken x local.1.none local.1.broken some in
+    let stays =
+    rest_stays profile (last_length first more)
+    (end_of stretch) rest stretch.broken_at broken x local.1.none local.1.broken some in
     stretch_from profile (intervals ++ x ∷ []) stretch first more (rest ++ x ∷ []) (record {
       cells = local.1.cells;
       ticks = local.1.ticks;
@@ -67,17 +70,25 @@ break_is profile c after (h ∷ y ∷ rest) place broken is some =
     ]
 
 -- a stretch ends in the list
-pub end_within : (profile : Profile) (intervals : List ℕ) (stretch : Stretch) → IsStretch profile intervals stretch → end_of stretch ≤ length intervals
+pub end_within : (profile : Profile) (intervals : List ℕ) (stretch : Stretch) → IsStretch profile intervals stretch
+    → end_of stretch ≤ length intervals
 end_within profile intervals stretch is =
     let local = locally profile intervals stretch is in
     let within : stretch.lock < length intervals = place_within intervals stretch.lock _ _ local.1.there in
-    omega (arith, ap length is.chain.front.1, length-drop stretch.lock intervals, length-append (flat stretch.cells) is.chain.front.0)
+    omega (
+      arith,
+      ap length is.chain.front.1,
+      length-drop stretch.lock intervals,
+      length-append (flat stretch.cells) is.chain.front.0,
+    )
 
 -- a break is at a place of the list
 pub break_within : (profile : Profile) (intervals : List ℕ) (stretch : Stretch) (broken : ℕ)
     → IsStretch profile intervals stretch → stretch.broken_at ≡ Some broken → broken < length intervals
 break_within profile intervals stretch broken is some =
-    let below = break_is profile (last_length 0 stretch.cells) (end_of stretch) (drop (end_of stretch) intervals) stretch.broken_at broken is.broken some in
+    let below =
+    break_is profile (last_length 0 stretch.cells) (end_of stretch)
+    (drop (end_of stretch) intervals) stretch.broken_at broken is.broken some in
     omega (arith, below, end_within profile intervals stretch is, length-drop (end_of stretch) intervals)
 
 -- a value that is there
@@ -88,19 +99,24 @@ some_value (Some value) is = (value, refl)
 -- where the stretches at the front are broken, those behind them alone change
 pub last_changes : (profile : Profile) (intervals : List ℕ) (x start : ℕ) (earlier last new : List Stretch)
     → start ≤ length intervals - 1 → All IsBroken earlier
-    → ((from : ℕ) → from ≤ length intervals - 1 → AreStretchesFrom profile intervals from last → AreStretchesFrom profile (intervals ++ x ∷ []) from new)
-    → AreStretchesFrom profile intervals start (earlier ++ last) → AreStretchesFrom profile (intervals ++ x ∷ []) start (earlier ++ new)
+    → ((from : ℕ) → from ≤ length intervals - 1 → AreStretchesFrom profile intervals from last
+    → AreStretchesFrom profile (intervals ++ x ∷ []) from new)
+    → AreStretchesFrom profile intervals start (earlier ++ last)
+    → AreStretchesFrom profile (intervals ++ x ∷ []) start (earlier ++ new)
 last_changes profile intervals x start [] last new low broken step are = step start low are
 last_changes profile intervals x start (stretch ∷ earlier) last new low broken step are =
     let there = some_value stretch.broken_at (All-head IsBroken stretch earlier broken) in
     let within = break_within profile intervals stretch there.0 are.1 there.1 in
     let after : AreStretchesFrom profile intervals there.0 (earlier ++ last) =
-    MatchOption-at_some (earlier ++ last ≡ []) (λ place. AreStretchesFrom profile intervals place (earlier ++ last)) there.0 there.1 are.2 in
+    MatchOption-at_some (earlier ++ last ≡ [])
+    (λ place. AreStretchesFrom profile intervals place (earlier ++ last)) there.0 there.1 are.2 in
     let rest : AreStretchesFrom profile (intervals ++ x ∷ []) there.0 (earlier ++ new) =
-    last_changes profile intervals x there.0 earlier last new (omega arith) (All-tail IsBroken stretch earlier broken) step after in (
+    last_changes profile intervals x there.0 earlier last new (omega arith)
+    (All-tail IsBroken stretch earlier broken) step after in (
       lock_stays profile intervals x start stretch.lock are.0,
       stretch_stays profile intervals stretch there.0 x are.1 there.1,
-      subst (λ place. MatchOption place (earlier ++ new ≡ []) (λ from. AreStretchesFrom profile (intervals ++ x ∷ []) from (earlier ++ new))) (sym there.1) rest,
+      subst (λ place. MatchOption place (earlier ++ new ≡ [])
+          (λ from. AreStretchesFrom profile (intervals ++ x ∷ []) from (earlier ++ new))) (sym there.1) rest,
     )
 
 -- what has a stretch behind it is broken
@@ -114,8 +130,11 @@ pub earlier_broken : (profile : Profile) (intervals : List ℕ) (start : ℕ) (e
     → AreStretchesFrom profile intervals start (earlier ++ last ∷ []) → All IsBroken earlier
 earlier_broken profile intervals start [] last are = All-nil IsBroken
 earlier_broken profile intervals start (stretch ∷ earlier) last are =
-    let followed = followed_breaks stretch.broken_at earlier last (λ place. AreStretchesFrom profile intervals place (earlier ++ last ∷ [])) are.2 in
-    All-cons IsBroken stretch earlier (ap is_some followed.1) (earlier_broken profile intervals followed.0 earlier last followed.2)
+    let followed =
+    followed_breaks stretch.broken_at earlier last
+    (λ place. AreStretchesFrom profile intervals place (earlier ++ last ∷ [])) are.2 in
+    All-cons IsBroken stretch earlier (ap is_some followed.1)
+    (earlier_broken profile intervals followed.0 earlier last followed.2)
 
 -- no stretches
 abbrev pub no_stretch : List Stretch
@@ -125,15 +144,24 @@ no_stretch = []
 pub last_grows : (profile : Profile) (intervals : List ℕ) (x : ℕ) (earlier : List Stretch) (stretch new : Stretch)
     → new.lock ≡ stretch.lock → (IsStretch profile intervals stretch → IsStretch profile (intervals ++ x ∷ []) new)
     → MatchOption new.broken_at (no_stretch ≡ []) (HasNoLock profile (intervals ++ x ∷ []))
-    → AreStretches profile intervals (earlier ++ stretch ∷ []) → AreStretches profile (intervals ++ x ∷ []) (earlier ++ new ∷ [])
+    → AreStretches profile intervals (earlier ++ stretch ∷ [])
+    → AreStretches profile (intervals ++ x ∷ []) (earlier ++ new ∷ [])
 last_grows profile intervals x earlier stretch new same grows after are =
-    last_changes profile intervals x 0 earlier (stretch ∷ []) (new ∷ []) (omega arith) (earlier_broken profile intervals 0 earlier stretch are)
-    (λ from low last. (subst (IsLock profile (intervals ++ x ∷ []) from) (sym same) (lock_stays profile intervals x from stretch.lock last.0), grows last.1, after)) are
+    last_changes profile intervals x 0 earlier (stretch ∷ []) (new ∷ []) (omega arith)
+    (earlier_broken profile intervals 0 earlier stretch are)
+    (λ from low last. (
+      subst (IsLock profile (intervals ++ x ∷ []) from) (sym same)
+          (lock_stays profile intervals x from stretch.lock last.0),
+      grows last.1,
+      after,
+    )) are
 
 -- the last stretch is one
 pub last_is_stretch : (profile : Profile) (intervals : List ℕ) (start : ℕ) (earlier : List Stretch) (last : Stretch)
     → AreStretchesFrom profile intervals start (earlier ++ last ∷ []) → IsStretch profile intervals last
 last_is_stretch profile intervals start [] last are = are.1
 last_is_stretch profile intervals start (stretch ∷ earlier) last are =
-    let followed = followed_breaks stretch.broken_at earlier last (λ place. AreStretchesFrom profile intervals place (earlier ++ last ∷ [])) are.2 in
+    let followed =
+    followed_breaks stretch.broken_at earlier last
+    (λ place. AreStretchesFrom profile intervals place (earlier ++ last ∷ [])) are.2 in
     last_is_stretch profile intervals followed.0 earlier last followed.2

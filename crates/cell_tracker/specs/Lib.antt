@@ -1,4 +1,8 @@
+pub use Rattle.biphase.specs.Chain
+pub use Rattle.biphase.specs.Pair
+pub use Rattle.biphase.specs.Profile
 pub mod Answer
+pub mod Kept
 pub mod Lock
 pub mod StandsFor
 pub mod State

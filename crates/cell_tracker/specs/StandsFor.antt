@@ -38,14 +38,18 @@ pub record MidCellStandsFor (state : MidCellState) (intervals : List ℕ) (earli
 -- what Hunting answers to an interval fits the list with the interval at its end: the search goes on, or a stretch begins
 abbrev pub StandsAfterHunting : FromHunting → ℕ → List ℕ → List Stretch → Type 0
 StandsAfterHunting (Hunt next) x intervals stretches = HuntingStandsFor next (intervals ++ x ∷ []) stretches
-StandsAfterHunting (StartAt next) x intervals stretches = AtCellStandsFor next (intervals ++ x ∷ []) stretches (begun (length intervals) x)
-StandsAfterHunting (StartMid next first) x intervals stretches = MidCellStandsFor next (intervals ++ x ∷ []) stretches (begun (length intervals - 1) first)
+StandsAfterHunting (StartAt next) x intervals stretches =
+    AtCellStandsFor next (intervals ++ x ∷ []) stretches (begun (length intervals) x)
+StandsAfterHunting (StartMid next first) x intervals stretches =
+    MidCellStandsFor next (intervals ++ x ∷ []) stretches (begun (length intervals - 1) first)
 StandsAfterHunting (StartBroken next first) x intervals stretches =
-    HuntingStandsFor next (intervals ++ x ∷ []) (stretches ++ with_break (length intervals) (begun (length intervals - 1) first) ∷ [])
+    HuntingStandsFor next (intervals ++ x ∷ [])
+    (stretches ++ with_break (length intervals) (begun (length intervals - 1) first) ∷ [])
 
 -- so does what AtCell answers: the stretch gains a zero, waits, or breaks at the interval
 abbrev pub StandsAfterAtCell : FromAtCell → ℕ → List ℕ → List Stretch → Stretch → Type 0
-StandsAfterAtCell (FromAtCell.Zero next) x intervals earlier stretch = AtCellStandsFor next (intervals ++ x ∷ []) earlier (with_cell (Cell.Zero x) stretch)
+StandsAfterAtCell (FromAtCell.Zero next) x intervals earlier stretch =
+    AtCellStandsFor next (intervals ++ x ∷ []) earlier (with_cell (Cell.Zero x) stretch)
 StandsAfterAtCell (Half next) x intervals earlier stretch = MidCellStandsFor next (intervals ++ x ∷ []) earlier stretch
 StandsAfterAtCell (FromAtCell.Broken next) x intervals earlier stretch =
     HuntingStandsFor next (intervals ++ x ∷ []) (earlier ++ with_break (length intervals) stretch ∷ [])

@@ -1,4 +1,4 @@
--- The stretches of a list of intervals: what is read of it as unbroken cells. The rules are this project's own.
+-- The stretches of a list of intervals: the longest chains from its locks, one after another. The rules are this project's own.
 use Rattle.std.specs.Prelude.{◌≡◌, ℕ, ◌+◌, ◌≤◌, List, [], ◌∷◌, ◌++◌, length, drop, slice_index, Option, Some, None, IsSome, MatchOption}
 use Rattle.biphase.specs.declared.profile.Profile.{Profile}
 use Rattle.biphase.specs.declared.cell.Cell.{Cell}
@@ -26,14 +26,14 @@ pub record IsChainFrom (profile : Profile) (intervals : List ℕ) (lock : ℕ) (
   pub chain : IsChain profile cells
   pub front : IsFront (flat cells) (drop lock intervals)
 
--- where a stretch breaks whose last cell has length c and whose cells end before the place `after`, from which `rest` is what follows:
--- at the interval there, and one later if it may be a first half; nowhere before the list goes on so far
+-- the place where a stretch breaks, if it does: its last cell has length c, and `rest` is the list from the place `after` it on
+-- it breaks at the next interval, or one later where that may be a first half, and not before the list goes on so far
 abbrev pub IsBreak : Profile → ℕ → ℕ → List ℕ → Option ℕ → Type 0
 IsBreak profile c after [] place = place ≡ None
 IsBreak profile c after (x ∷ []) place = (IsFirstHalf profile c x → place ≡ None) × (¬ IsFirstHalf profile c x → place ≡ Some after)
 IsBreak profile c after (x ∷ y ∷ rest) place = (IsFirstHalf profile c x → place ≡ Some (after + 1)) × (¬ IsFirstHalf profile c x → place ≡ Some after)
 
--- the longest chain from a lock, with its break
+-- the longest chain from a lock, since no other has more cells, with its break
 pub record IsStretch (profile : Profile) (intervals : List ℕ) (stretch : Stretch) : Type 0 where
   pub chain : IsChainFrom profile intervals stretch.lock stretch.cells
   pub longest : (others : List Cell) → IsChainFrom profile intervals stretch.lock others → length others ≤ length stretch.cells

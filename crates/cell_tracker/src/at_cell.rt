@@ -59,14 +59,20 @@ impl AtCell {
     pub fn feed(self, x: u32) -> FromAtCell
         requires least { 1 ≤ x }
         requires most { x ≤ MAX_INTERVAL }
+
+        // The answer by the tests of `biphase`.
         ensures zero { IsNextZero self.profile self.last x
             → result ≡ Zero (record { profile = self.profile; last = x }) }
         ensures half { IsFirstHalf self.profile self.last x
             → result ≡ Half (record { profile = self.profile; last = self.last; half = x }) }
-        ensures broken { ¬ IsNextZero self.profile self.last x → ¬ IsFirstHalf self.profile self.last x
+        ensures broken { ¬ IsNextZero self.profile self.last x
+            → ¬ IsFirstHalf self.profile self.last x
             → result ≡ Broken (search_from self.profile x) }
+
         ensures keeps { KeepsOfAtCell self x result }
-        ensures stands { (intervals : List ℕ) (earlier : List Stretch) (stretch : Stretch) → AtCellStandsFor self intervals earlier stretch
+        // What it means for the stretches of the intervals so far.
+        ensures stands { (intervals : List ℕ) (earlier : List Stretch) (stretch : Stretch)
+            → AtCellStandsFor self intervals earlier stretch
             → StandsAfterAtCell result x intervals earlier stretch }
     {
         let (profile, last) = (self.profile, self.last);

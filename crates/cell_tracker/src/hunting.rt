@@ -79,17 +79,24 @@ impl Hunting {
     pub fn feed(self, x: u32) -> FromHunting
         requires least { 1 ≤ x }
         requires most { x ≤ MAX_INTERVAL }
+
+        // The answer by the tests of `biphase`.
         ensures first { self.before ≡ None → result ≡ Hunt (search_from self.profile x) }
         ensures equal { IfSome self.before (λ z. ¬ AreUnequal self.profile z x
             → result ≡ Hunt (search_from self.profile x)) }
         ensures rising { IfSome self.before (λ z. AreUnequal self.profile z x → z < x
             → result ≡ StartAt (record { profile = self.profile; last = x })) }
-        ensures falling { IfSome self.before (λ z. AreUnequal self.profile z x → x < z → IsFirstHalf self.profile z x
+        ensures falling { IfSome self.before (λ z. AreUnequal self.profile z x → x < z
+            → IsFirstHalf self.profile z x
             → result ≡ StartMid (record { profile = self.profile; last = z; half = x }) z) }
-        ensures broken { IfSome self.before (λ z. AreUnequal self.profile z x → x < z → ¬ IsFirstHalf self.profile z x
+        ensures broken { IfSome self.before (λ z. AreUnequal self.profile z x → x < z
+            → ¬ IsFirstHalf self.profile z x
             → result ≡ StartBroken (search_from self.profile x) z) }
+
         ensures keeps { KeepsOfHunting self x result }
-        ensures stands { (intervals : List ℕ) (stretches : List Stretch) → HuntingStandsFor self intervals stretches
+        // What it means for the stretches of the intervals so far.
+        ensures stands { (intervals : List ℕ) (stretches : List Stretch)
+            → HuntingStandsFor self intervals stretches
             → StandsAfterHunting result x intervals stretches }
     {
         let profile = self.profile;

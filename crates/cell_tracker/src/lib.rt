@@ -1,23 +1,32 @@
 //! Following the cells of a recording, one interval at a time.
 //!
 //! A recording is a list of intervals, in ticks. Where two neighbouring intervals are unequal, the
-//! greater of them is a zero: there the tracker locks. From the lock on it takes cells that keep a
-//! profile's tolerance, as many as follow, a stretch; at the first interval that fits no cell the
-//! stretch breaks, and the search begins again there. The lock and the stretches are this project's
-//! own.
+//! greater of them is a zero: there is the lock. From the lock on the tracker takes cells that keep a
+//! profile's tolerance, as many as follow: a stretch. At the first interval that fits no cell the
+//! stretch breaks, and the search for the next lock begins there. The lock and the stretches are this
+//! project's own.
 //!
 //! What this crate promises:
-//! - Each `feed` answers exactly by the tests of `biphase`.
-//! - The states stand for the intervals so far: `Hunting` where no stretch is open, `AtCell` at the
-//!   end of an open stretch, `MidCell` one interval before that end.
+//! - Each `feed` answers exactly by the tests of `biphase` (its clauses but `stands`).
+//! - The three states stand for the intervals so far, without keeping them: `Hunting` where no
+//!   stretch is open, `AtCell` at the end of an open one, `MidCell` one interval before that end. What
+//!   a stretch gains, where one begins and where it breaks is fixed by the intervals
+//!   (`specs/StandsFor.antt`, clause `stands`).
+//! - Stretches are the longest chains from their locks, one after another (`specs/Stretch.antt`,
+//!   `AreStretches`), and a list has one list of them (`laws`).
 //!
-//! Read `hunting`, `at_cell` and `mid_cell`, in this order. `direction_reader` stands on this crate.
-//! Nothing here allocates or refuses.
+//! Read `hunting`, `at_cell` and `mid_cell`, in this order, and `specs/Lock.antt`, `Stretch.antt` and
+//! `StandsFor.antt` beside them. `specs/Kept.antt` says what a recording within the tolerance is.
+//! `direction_reader` stands on this crate; next on the way of an interval: its `window`. Nothing here
+//! allocates or refuses.
 #![tactic(auto)]
 
 mod at_cell;
 mod hunting;
+pub mod laws;
 mod mid_cell;
+#[cfg(test)]
+mod tests;
 
 pub use at_cell::{AtCell, FromAtCell};
 pub use hunting::{FromHunting, Hunting};

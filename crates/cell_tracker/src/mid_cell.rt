@@ -76,12 +76,17 @@ impl MidCell {
     pub fn feed(self, y: u32) -> FromMidCell
         requires least { 1 ≤ y }
         requires most { y ≤ MAX_INTERVAL }
+
+        // The answer by the tests of `biphase`.
         ensures one { IsNextOne self.profile self.last self.half y
             → result ≡ One (record { profile = self.profile; last = self.half + y }) self.half y }
         ensures broken { ¬ IsNextOne self.profile self.last self.half y
             → result ≡ Broken (search_from self.profile y) }
+
         ensures keeps { KeepsOfMidCell self y result }
-        ensures stands { (intervals : List ℕ) (earlier : List Stretch) (stretch : Stretch) → MidCellStandsFor self intervals earlier stretch
+        // What it means for the stretches of the intervals so far.
+        ensures stands { (intervals : List ℕ) (earlier : List Stretch) (stretch : Stretch)
+            → MidCellStandsFor self intervals earlier stretch
             → StandsAfterMidCell result y intervals earlier stretch }
     {
         let (profile, last, half) = (self.profile, self.last, self.half);

@@ -67,13 +67,9 @@ sync_first None fault = option_map (λ f. Field f) fault
 
 -- the first fault
 abbrev pub first_fault : System → ℕ → Option WordFault
-<<<<<<< HEAD
-first_fault system bits = sync_first (wrong_sync_bit bits) (fields.first_fault system (raw_in system bits))
+first_fault system bits = sync_first (wrong_sync_bit bits) (first_field_fault system (raw_in system bits))
 
 -- the fault is not the sync word's
 abbrev pub IsOfFields : WordFault → Type 0
 IsOfFields (Sync place) = ⊥
 IsOfFields (Field fault) = Unit {0}
-=======
-first_fault system bits = sync_first (wrong_sync_bit bits) (first_field_fault system (raw_in system bits))
->>>>>>> b636c9971a109bf3937dfb6f37793c701a5bb080

@@ -2,12 +2,10 @@
 
 ghost use Rattle.std.specs.Prelude.{◌≡◌, ◌+◌, ◌^◌, ◌<◌, ◌≤◌, IfOk, IfErr, Some};
 ghost use Rattle.ltc_word.specs.Spelling.{Spells};
-<<<<<<< HEAD
-ghost use Rattle.ltc_word.specs.Fault.{raw_in, flags_in, user_in, wrong_sync_bit, first_fault, IsOfFields};
+ghost use Rattle.ltc_word.specs.Fault.{
+    raw_in, flags_in, user_in, differs, wrong_sync_bit, first_fault, IsOfFields,
+};
 ghost use Rattle.ltc_word.specs.Reversal.{EndsInSync};
-=======
-ghost use Rattle.ltc_word.specs.Fault.{raw_in, flags_in, user_in, differs, wrong_sync_bit, first_fault};
->>>>>>> b636c9971a109bf3937dfb6f37793c701a5bb080
 
 use crate::balance::is_balanced;
 use crate::places::*;

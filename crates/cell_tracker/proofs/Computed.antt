@@ -1,0 +1,202 @@
+-- The stretches of a list, computed: the states are fed one interval after another, so each list has its stretches.
+use Rattle.std.proofs.Common.{◌≡◌, ℕ, ◌+◌, ◌-◌, ◌*◌, ◌<◌, ◌≤◌, Bool, true, false, not, ◌&&◌, leb, ltb, List, [], ◌∷◌, ◌++◌, length, min, max, Option, Some, None, refl, subst, sym, ◌∙◌, arith, append_assoc}
+use Rattle.std.specs.Int.{abs_diff}
+use Rattle.std.proofs.lemmas.Bool.{leb-true, le-leb, ltb-true, lt-ltb, false≢true}
+use Rattle.std.proofs.lemmas.List.{append-nil, length_push}
+use Rattle.std.proofs.lemmas.List.Elements.{All-nil}
+use Rattle.biphase.specs.declared.profile.Profile.{Profile}
+use Rattle.biphase.specs.declared.cell.Cell.TheVariants.{Zero, One}
+use Rattle.biphase.specs.Profile.{tolerance_of}
+use Rattle.biphase.specs.Pair.{AreUnequal}
+use Rattle.biphase.specs.Chain.{IsNextZero, IsFirstHalf, IsNextOne}
+use Rattle.cell_tracker.specs.Stretch.{Stretch, IsBroken, AreStretches, begun, with_cell, with_break}
+use Rattle.cell_tracker.specs.StandsFor.{HuntingStandsFor, AtCellStandsFor, MidCellStandsFor}
+use Rattle.cell_tracker.proofs.BeginsAtTheLock.{hunt_first, hunt_equal, start_at, start_mid, start_broken}
+use Rattle.cell_tracker.proofs.GainsOrBreaks.{gains_zero, waits, breaks, gains_one, breaks_behind}
+
+-- the test is true exactly where the fact holds
+record Tells (test : Bool) (P : Type 0) : Type 0 where
+  yes_it_is : test ≡ true → P
+  no_it_is_not : test ≡ false → P → ⊥
+
+leb_tells : (a b : ℕ) → Tells (leb a b) (a ≤ b)
+leb_tells a b = record { yes_it_is = leb-true a b; no_it_is_not = λ fails below. false≢true (sym fails ∙ le-leb a b below) }
+
+ltb_tells : (a b : ℕ) → Tells (ltb a b) (a < b)
+ltb_tells a b = record { yes_it_is = ltb-true a b; no_it_is_not = λ fails below. false≢true (sym fails ∙ lt-ltb a b below) }
+
+and_tells : (one two : Bool) {P Q : Type 0} → Tells one P → Tells two Q → Tells (one && two) (P × Q)
+and_tells true true p q =
+    record { yes_it_is = λ _. (p.yes_it_is refl, q.yes_it_is refl); no_it_is_not = λ fails. absurd (false≢true (sym fails)) }
+and_tells true false p q =
+    record { yes_it_is = λ holds. absurd (false≢true holds); no_it_is_not = λ _ both. q.no_it_is_not refl both.1 }
+and_tells false two p q =
+    record { yes_it_is = λ holds. absurd (false≢true holds); no_it_is_not = λ _ both. p.no_it_is_not refl both.0 }
+
+not_tells : (test : Bool) {P : Type 0} → Tells test P → Tells (not test) (¬ P)
+not_tells true p = record { yes_it_is = λ holds. absurd (false≢true holds); no_it_is_not = λ _ no_p. no_p (p.yes_it_is refl) }
+not_tells false p = record { yes_it_is = λ _. p.no_it_is_not refl; no_it_is_not = λ fails. absurd (false≢true (sym fails)) }
+
+-- the tests of biphase
+abbrev pub is_zero : Profile → ℕ → ℕ → Bool
+is_zero profile c x = leb ((tolerance_of profile).cell * abs_diff x c) c
+
+abbrev pub is_half : Profile → ℕ → ℕ → Bool
+is_half profile c x =
+    let low = (tolerance_of profile).least_half in
+    let high = (tolerance_of profile).greatest_half in
+    leb (low.part * c) (low.whole * x) && leb (high.whole * x) (high.part * c)
+
+abbrev pub is_one : Profile → ℕ → ℕ → ℕ → Bool
+is_one profile c x y = is_zero profile c (x + y) && leb ((tolerance_of profile).half * abs_diff x y) (x + y)
+
+abbrev pub is_unequal : Profile → ℕ → ℕ → Bool
+is_unequal profile a b =
+    let equal = (tolerance_of profile).equal in
+    let unequal = (tolerance_of profile).unequal in
+    not (leb (equal.part * max a b) (equal.whole * min a b)) && leb (unequal.part * max a b) (unequal.whole * min a b)
+
+zero_tells : (profile : Profile) (c x : ℕ) → Tells (is_zero profile c x) (IsNextZero profile c x)
+zero_tells profile c x = leb_tells _ _
+
+half_tells : (profile : Profile) (c x : ℕ) → Tells (is_half profile c x) (IsFirstHalf profile c x)
+half_tells profile c x = and_tells _ _ (leb_tells _ _) (leb_tells _ _)
+
+one_tells : (profile : Profile) (c x y : ℕ) → Tells (is_one profile c x y) (IsNextOne profile c x y)
+one_tells profile c x y = and_tells _ _ (leb_tells _ _) (leb_tells _ _)
+
+unequal_tells : (profile : Profile) (a b : ℕ) → Tells (is_unequal profile a b) (AreUnequal profile a b)
+unequal_tells profile a b = and_tells _ _ (not_tells _ (leb_tells _ _)) (leb_tells _ _)
+
+-- a state of the tracker with the stretches so far
+pub data Tracked : Type 0 where
+  hunting : Option ℕ → List Stretch → Tracked
+  at_cell : ℕ → List Stretch → Stretch → Tracked
+  mid_cell : ℕ → ℕ → List Stretch → Stretch → Tracked
+
+-- it stands for the list
+abbrev pub Tracks : Profile → List ℕ → Tracked → Type 0
+Tracks profile intervals (hunting before stretches) =
+    HuntingStandsFor (record { profile = profile; before = before }) intervals stretches
+Tracks profile intervals (at_cell last earlier stretch) =
+    AtCellStandsFor (record { profile = profile; last = last }) intervals earlier stretch
+Tracks profile intervals (mid_cell last half earlier stretch) =
+    MidCellStandsFor (record { profile = profile; last = last; half = half }) intervals earlier stretch
+
+-- the stretches so far
+abbrev pub stretches_in : Tracked → List Stretch
+stretches_in (hunting before stretches) = stretches
+stretches_in (at_cell last earlier stretch) = earlier ++ stretch ∷ []
+stretches_in (mid_cell last half earlier stretch) = earlier ++ stretch ∷ []
+
+-- what the interval at place n makes of it, by the answers of the tests
+abbrev pub from_pair : ℕ → List Stretch → ℕ → ℕ → Bool → Bool → Bool → Tracked
+from_pair n stretches z x false rises half = hunting (Some x) stretches
+from_pair n stretches z x true true half = at_cell x stretches (begun n x)
+from_pair n stretches z x true false true = mid_cell z x stretches (begun (n - 1) z)
+from_pair n stretches z x true false false = hunting (Some x) (stretches ++ with_break n (begun (n - 1) z) ∷ [])
+
+abbrev pub from_cell : ℕ → ℕ → List Stretch → Stretch → ℕ → Bool → Bool → Tracked
+from_cell n last earlier stretch x true half = at_cell x earlier (with_cell (Zero x) stretch)
+from_cell n last earlier stretch x false true = mid_cell last x earlier stretch
+from_cell n last earlier stretch x false false = hunting (Some x) (earlier ++ with_break n stretch ∷ [])
+
+abbrev pub from_half : ℕ → ℕ → List Stretch → Stretch → ℕ → Bool → Tracked
+from_half n half earlier stretch x true = at_cell (half + x) earlier (with_cell (One half x) stretch)
+from_half n half earlier stretch x false = hunting (Some x) (earlier ++ with_break n stretch ∷ [])
+
+abbrev pub step : Profile → ℕ → Tracked → ℕ → Tracked
+step profile n (hunting None stretches) x = hunting (Some x) stretches
+step profile n (hunting (Some z) stretches) x =
+    from_pair n stretches z x (is_unequal profile z x) (ltb z x) (is_half profile z x)
+step profile n (at_cell last earlier stretch) x =
+    from_cell n last earlier stretch x (is_zero profile last x) (is_half profile last x)
+step profile n (mid_cell last half earlier stretch) x = from_half n half earlier stretch x (is_one profile last half x)
+
+-- each step keeps what it stands for
+pair_steps : (profile : Profile) (intervals : List ℕ) (stretches : List Stretch) (z x : ℕ) (unequal rises half : Bool)
+    → Tells unequal (AreUnequal profile z x) → Tells rises (z < x) → Tells half (IsFirstHalf profile z x)
+    → Tracks profile intervals (hunting (Some z) stretches)
+    → Tracks profile (intervals ++ x ∷ []) (from_pair (length intervals) stretches z x unequal rises half)
+pair_steps profile intervals stretches z x false rises half u r h tracks =
+    hunt_equal _ intervals stretches z x tracks refl (u.no_it_is_not refl)
+pair_steps profile intervals stretches z x true true half u r h tracks =
+    start_at _ intervals stretches z x tracks refl (u.yes_it_is refl) (r.yes_it_is refl)
+pair_steps profile intervals stretches z x true false true u r h tracks =
+    let no_rise = r.no_it_is_not refl in
+    start_mid _ intervals stretches z x tracks refl (u.yes_it_is refl) (omega arith) (h.yes_it_is refl)
+pair_steps profile intervals stretches z x true false false u r h tracks =
+    let no_rise = r.no_it_is_not refl in
+    start_broken _ intervals stretches z x tracks refl (u.yes_it_is refl) (omega arith) (h.no_it_is_not refl)
+
+cell_steps : (profile : Profile) (intervals : List ℕ) (last : ℕ) (earlier : List Stretch) (stretch : Stretch) (x : ℕ)
+    (zero half : Bool)
+    → Tells zero (IsNextZero profile last x) → Tells half (IsFirstHalf profile last x)
+    → Tracks profile intervals (at_cell last earlier stretch)
+    → Tracks profile (intervals ++ x ∷ []) (from_cell (length intervals) last earlier stretch x zero half)
+cell_steps profile intervals last earlier stretch x true half z h tracks =
+    gains_zero _ intervals earlier stretch x tracks (z.yes_it_is refl)
+cell_steps profile intervals last earlier stretch x false true z h tracks =
+    waits _ intervals earlier stretch x tracks (h.yes_it_is refl)
+cell_steps profile intervals last earlier stretch x false false z h tracks =
+    breaks _ intervals earlier stretch x tracks (z.no_it_is_not refl) (h.no_it_is_not refl)
+
+half_steps : (profile : Profile) (intervals : List ℕ) (last half : ℕ) (earlier : List Stretch) (stretch : Stretch) (x : ℕ)
+    (one : Bool)
+    → Tells one (IsNextOne profile last half x)
+    → Tracks profile intervals (mid_cell last half earlier stretch)
+    → Tracks profile (intervals ++ x ∷ []) (from_half (length intervals) half earlier stretch x one)
+half_steps profile intervals last half earlier stretch x true o tracks =
+    gains_one _ intervals earlier stretch x tracks (o.yes_it_is refl)
+half_steps profile intervals last half earlier stretch x false o tracks =
+    breaks_behind _ intervals earlier stretch x tracks (o.no_it_is_not refl)
+
+steps : (profile : Profile) (intervals : List ℕ) (state : Tracked) (x : ℕ) → Tracks profile intervals state
+    → Tracks profile (intervals ++ x ∷ []) (step profile (length intervals) state x)
+steps profile intervals (hunting None stretches) x tracks = hunt_first _ intervals stretches x tracks refl
+steps profile intervals (hunting (Some z) stretches) x tracks =
+    pair_steps profile intervals stretches z x _ _ _ (unequal_tells profile z x) (ltb_tells z x) (half_tells profile z x) tracks
+steps profile intervals (at_cell last earlier stretch) x tracks =
+    cell_steps profile intervals last earlier stretch x _ _ (zero_tells profile last x) (half_tells profile last x) tracks
+steps profile intervals (mid_cell last half earlier stretch) x tracks =
+    half_steps profile intervals last half earlier stretch x _ (one_tells profile last half x) tracks
+
+-- the intervals from place n on, one after another
+unfoldable pub run : Profile → ℕ → Tracked → List ℕ → Tracked
+run profile n state [] = state
+run profile n state (x ∷ rest) = run profile (n + 1) (step profile n state x) rest
+
+runs : (profile : Profile) (intervals : List ℕ) (state : Tracked) (rest : List ℕ) → Tracks profile intervals state
+    → Tracks profile (intervals ++ rest) (run profile (length intervals) state rest)
+unfolding run
+runs profile intervals state [] tracks = subst (λ xs. Tracks profile xs state) (sym (append-nil intervals)) tracks
+runs profile intervals state (x ∷ rest) tracks =
+    let more : Tracks profile (intervals ++ x ∷ [] ++ rest)
+    (run profile (length (intervals ++ x ∷ [])) (step profile (length intervals) state x) rest) =
+    runs profile (intervals ++ x ∷ []) (step profile (length intervals) state x) rest
+    (steps profile intervals state x tracks) in
+    subst (λ n. Tracks profile (intervals ++ x ∷ rest) (run profile n (step profile (length intervals) state x) rest))
+    (length_push intervals x)
+    (subst (λ xs. Tracks profile xs (run profile (length (intervals ++ x ∷ [])) (step profile (length intervals) state x) rest))
+    (append_assoc intervals (x ∷ []) rest) more)
+
+-- the stretches of a list
+unfoldable pub stretches_of : Profile → List ℕ → List Stretch
+stretches_of profile intervals = stretches_in (run profile 0 (hunting None []) intervals)
+
+tracked_are : (profile : Profile) (intervals : List ℕ) (state : Tracked) → Tracks profile intervals state
+    → AreStretches profile intervals (stretches_in state)
+tracked_are profile intervals (hunting before stretches) tracks = tracks.stretches_are
+tracked_are profile intervals (at_cell last earlier stretch) tracks = tracks.stretches_are
+tracked_are profile intervals (mid_cell last half earlier stretch) tracks = tracks.stretches_are
+
+-- they are
+pub stretches_of-are : (profile : Profile) (intervals : List ℕ)
+    → AreStretches profile intervals (stretches_of profile intervals)
+unfolding stretches_of
+stretches_of-are profile intervals =
+    tracked_are profile intervals _ (runs profile [] (hunting None []) intervals (record {
+      stretches_are = λ k low at. omega (arith, at.0);
+      all_broken = All-nil IsBroken;
+      before = refl;
+    }))

@@ -1,0 +1,26 @@
+-- Recordings that keep a profile's tolerance: pieces of chains, cut anywhere, also inside a cell.
+use Rattle.std.specs.Prelude.{ℕ, ◌+◌, cond, ◌&&◌, nat_le, List, [], ◌∷◌, length, drop}
+use Rattle.biphase.specs.declared.profile.Profile.{Profile}
+use Rattle.biphase.specs.declared.cell.Cell.{Cell}
+use Rattle.biphase.specs.Chain.{intervals_of, flat, IsFront, IsChain}
+
+-- the list is what stands in the intervals of the chain from the place `cut` on, for as long as it goes
+pub record IsPiece (profile : Profile) (intervals : List ℕ) (cells : List Cell) (cut : ℕ) : Type 0 where
+  pub chain : IsChain profile cells
+  pub part : IsFront intervals (drop cut (flat cells))
+
+-- the list is kept: it is a piece of some chain
+abbrev pub IsKept : Profile → List ℕ → Type 0
+IsKept profile intervals = (cells : List Cell) × (cut : ℕ) × IsPiece profile intervals cells cut
+
+-- those of the cells, the first of which begins at the place `at`, that lie wholly in the places from `low` up to `high`
+abbrev pub cells_between : ℕ → ℕ → ℕ → List Cell → List Cell
+cells_between low high at [] = []
+cells_between low high at (cell ∷ cells) =
+    let end = at + length (intervals_of cell) in
+    let more = cells_between low high end cells in
+    cond (nat_le low at && nat_le end high) (cell ∷ more) more
+
+-- the cells of a chain that lie wholly in a piece of it, which begins at the place `cut`, and begin at the piece's place `from` or later
+abbrev pub cells_from : List Cell → ℕ → List ℕ → ℕ → List Cell
+cells_from cells cut intervals from = cells_between (cut + from) (cut + length intervals) 0 cells
