@@ -23,5 +23,5 @@ KeepsOfAtCell a x (FromAtCell.Broken next) = next ≡ search_from a.profile x
 -- a one is the waiting half and the interval, and a search begins at the interval
 abbrev pub KeepsOfMidCell : MidCellState → ℕ → FromMidCell → Type 0
 KeepsOfMidCell m x (FromMidCell.One next first second) =
-  (first ≡ m.half) × (second ≡ x) × (next ≡ record { profile = m.profile; last = m.half + x })
+    (first ≡ m.half) × (second ≡ x) × (next ≡ record { profile = m.profile; last = m.half + x })
 KeepsOfMidCell m x (FromMidCell.Broken next) = next ≡ search_from m.profile x

@@ -69,7 +69,9 @@ impl AtCell {
             → ¬ IsFirstHalf self.profile self.last x
             → result ≡ Broken (search_from self.profile x) }
 
+        // What the answer keeps of the state and the interval.
         ensures keeps { KeepsOfAtCell self x result }
+
         // What it means for the stretches of the intervals so far.
         ensures stands { (intervals : List ℕ) (earlier : List Stretch) (stretch : Stretch)
             → AtCellStandsFor self intervals earlier stretch

@@ -93,7 +93,9 @@ impl Hunting {
             → ¬ IsFirstHalf self.profile z x
             → result ≡ StartBroken (search_from self.profile x) z) }
 
+        // What the answer keeps of the state and the interval.
         ensures keeps { KeepsOfHunting self x result }
+
         // What it means for the stretches of the intervals so far.
         ensures stands { (intervals : List ℕ) (stretches : List Stretch)
             → HuntingStandsFor self intervals stretches

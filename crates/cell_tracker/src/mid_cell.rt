@@ -83,7 +83,9 @@ impl MidCell {
         ensures broken { ¬ IsNextOne self.profile self.last self.half y
             → result ≡ Broken (search_from self.profile y) }
 
+        // What the answer keeps of the state and the interval.
         ensures keeps { KeepsOfMidCell self y result }
+
         // What it means for the stretches of the intervals so far.
         ensures stands { (intervals : List ℕ) (earlier : List Stretch) (stretch : Stretch)
             → MidCellStandsFor self intervals earlier stretch

@@ -8,6 +8,8 @@ use Rattle.std.specs.Io.KnownBytes.{Appends, Consumes, IsAtEnd}
 use Rattle.std.proofs.lemmas.Grind.{common_steps}
 use Rattle.std.proofs.KnownBytes.{Appends-trans, Consumes-trans}
 use Rattle.tc_words.specs.declared.job.Job.{Job}
+use Rattle.tc_words.specs.declared.job.Job.TheVariants.{LtcRead, Number, LabelOf}
+use Rattle.tc_top.specs.Output.{IsEnd}
 use Rattle.tc_top.specs.declared.engine.Stop.{Stop}
 use Rattle.tc_top.specs.declared.engine.Stop.TheVariants.{Refused, ReadFault, WriteFault, Limit}
 use Rattle.tc_top.specs.Stops.{IsStop, Stops, IsEndStop, StopsAtEnd, StopsAlong}
@@ -101,9 +103,14 @@ along job ReadFault left bytes output is = absurd is
 along job WriteFault left bytes output is = inl is
 along job Limit left bytes output is = is
 
+end_of_job : (job : Job) (left : Option (List ℕ)) → IsAtEnd left → IsEnd job left
+end_of_job LtcRead left end = end
+end_of_job (Number label) left end = tt
+end_of_job (LabelOf label) left end = tt
+
 pub along_at_end : (job : Job) (stop : Stop) (left : Option (List ℕ)) (bytes output : List ℕ) → IsAtEnd left
   → IsEndStop job stop bytes output → StopsAlong job stop left bytes output
-along_at_end job (Refused fault) left bytes output end is = inr (end, is)
+along_at_end job (Refused fault) left bytes output end is = inr (end_of_job job left end, is)
 along_at_end job ReadFault left bytes output end is = absurd is
-along_at_end job WriteFault left bytes output end is = inr (end, is)
+along_at_end job WriteFault left bytes output end is = inr (end_of_job job left end, is)
 along_at_end job Limit left bytes output end is = absurd is

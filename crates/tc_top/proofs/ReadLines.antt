@@ -34,7 +34,7 @@ progress_more : (bytes : List ℕ) (x : ℕ) → progress_of (bytes ++ x ∷ [])
 progress_more bytes x = fold-append after no_progress bytes (x ∷ [])
 
 -- a fault stays
-fault_stays : (p : Progress) (f : FileFault) (more : List ℕ) → p.fault ≡ Some f → (fold after p more).fault ≡ Some f
+pub fault_stays : (p : Progress) (f : FileFault) (more : List ℕ) → p.fault ≡ Some f → (fold after p more).fault ≡ Some f
 fault_stays p f [] met = met
 fault_stays p f (x ∷ more) met =
   let same : after p x ≡ p = rw met refl in

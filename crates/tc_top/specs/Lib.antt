@@ -1,4 +1,6 @@
+pub mod Answer
 pub mod LtcRead
+pub mod Notes
 pub mod Output
 pub mod ReadEngine
 pub mod Reading

@@ -1,5 +1,8 @@
 -- What each job writes, and which inputs it takes: a case for each job.
 use Rattle.std.specs.Prelude.{◌≡◌, ℕ, List, [], ◌++◌, codes, decimal}
+use Rattle.std.specs.declared.option.Option.{Option}
+use Rattle.std.specs.Io.KnownBytes.{IsAtEnd}
+use Rattle.tc_address.specs.Label.{Address}
 use Rattle.tc_address.specs.Numbering.{number_of}
 use Rattle.tc_address.specs.Spelling.{text_of}
 use Rattle.tc_files.specs.declared.fault.FileFault.{FileFault}
@@ -7,9 +10,13 @@ use Rattle.tc_words.specs.declared.job.Job.{Job}
 use Rattle.tc_words.specs.declared.job.Job.TheVariants.{LtcRead, Number, LabelOf}
 use Rattle.tc_top.specs.LtcRead.{HasFileFault, PassesIntervals, IsGoodFile, EndsBadly, IsFile, IsReadPart, IsReadOutput}
 
--- the one line of a job that reads no input
+-- the one line of `number`
 abbrev pub number_line : ℕ → List ℕ
 number_line number = decimal number ++ codes "\n"
+
+-- the one line of `label`
+abbrev pub label_line : Address → List ℕ
+label_line label = text_of label ++ codes "\n"
 
 -- the bytes pulled have this fault of the command's grammar, before its limit
 abbrev pub HasFault : Job → List ℕ → FileFault → Type 0
@@ -35,6 +42,18 @@ EndsWith LtcRead bytes fault = EndsBadly bytes fault
 EndsWith (Number label) bytes fault = ⊥
 EndsWith (LabelOf label) bytes fault = ⊥
 
+-- the job is at its end where nothing is left of its input; a job that reads none is at once
+abbrev pub IsEnd : Job → Option (List ℕ) → Type 0
+IsEnd LtcRead left = IsAtEnd left
+IsEnd (Number label) left = Unit {0}
+IsEnd (LabelOf label) left = Unit {0}
+
+-- the job reads no input
+abbrev pub ReadsNothing : Job → Type 0
+ReadsNothing LtcRead = ⊥
+ReadsNothing (Number label) = Unit {0}
+ReadsNothing (LabelOf label) = Unit {0}
+
 -- the bytes are an input of the command, within its limit; a job that reads none takes any
 abbrev pub IsInput : Job → List ℕ → Type 0
 IsInput LtcRead bytes = IsFile bytes
@@ -50,5 +69,5 @@ IsPart (LabelOf label) bytes output = output ≡ []
 -- the whole output of an input
 abbrev pub IsOutput : Job → List ℕ → List ℕ → Type 0
 IsOutput LtcRead bytes output = IsReadOutput bytes output
-IsOutput (Number label) bytes output = output ≡ decimal (number_of label) ++ codes "\n"
-IsOutput (LabelOf label) bytes output = output ≡ text_of label ++ codes "\n"
+IsOutput (Number label) bytes output = (bytes ≡ []) × (output ≡ number_line (number_of label))
+IsOutput (LabelOf label) bytes output = (bytes ≡ []) × (output ≡ label_line label)

@@ -1,13 +1,13 @@
 -- Why a job stops before its end, what stands on the output then, and by whose fault.
 use Rattle.std.specs.Prelude.{◌≡◌, ◌⊎◌, ℕ, List, ◌++◌, Result, OnOk, IfErr}
 use Rattle.std.specs.declared.option.Option.{Option}
-use Rattle.std.specs.Io.KnownBytes.{Appends, IsAtEnd}
+use Rattle.std.specs.Io.KnownBytes.{Appends}
 use Rattle.tc_io.specs.Source.{Rose}
 use Rattle.tc_io.specs.Sink.{IsFront}
 use Rattle.tc_words.specs.declared.job.Job.{Job}
 use Rattle.tc_top.specs.declared.engine.Stop.{Stop}
 use Rattle.tc_top.specs.declared.engine.Stop.TheVariants.{Refused, ReadFault, WriteFault, Limit}
-use Rattle.tc_top.specs.Output.{HasFault, PassesLimit, IsGood, EndsWith, IsPart, IsOutput}
+use Rattle.tc_top.specs.Output.{HasFault, PassesLimit, IsGood, EndsWith, IsEnd, IsPart, IsOutput}
 
 -- the job stops for this cause at some of the bytes, and this was pushed for them
 abbrev pub IsStop : Job → Stop → List ℕ → List ℕ → Type 0
@@ -31,13 +31,14 @@ IsEndStop job Limit bytes output = ⊥
 abbrev pub StopsAtEnd : Job → Stop → Option (List ℕ) → Option (List ℕ) → List ℕ → List ℕ → Type 0
 StopsAtEnd job stop old new bytes output = (more : List ℕ) × Appends old new more × IsEndStop job stop bytes (output ++ more)
 
--- why a job stops along its input, of which this is left: a pull that failed stops it at no fault
+-- why a job stops along its input, of which this is left: at some of the bytes pulled, or at their end; a pull that failed stops it at no
+-- fault
 abbrev pub StopsAlong : Job → Stop → Option (List ℕ) → List ℕ → List ℕ → Type 0
 StopsAlong job ReadFault left bytes output = IsGood job bytes × IsPart job bytes output
 StopsAlong job (Refused fault) left bytes output =
-  IsStop job (Refused fault) bytes output ⊎ (IsAtEnd left × IsEndStop job (Refused fault) bytes output)
+  IsStop job (Refused fault) bytes output ⊎ (IsEnd job left × IsEndStop job (Refused fault) bytes output)
 StopsAlong job WriteFault left bytes output =
-  IsStop job WriteFault bytes output ⊎ (IsAtEnd left × IsEndStop job WriteFault bytes output)
+  IsStop job WriteFault bytes output ⊎ (IsEnd job left × IsEndStop job WriteFault bytes output)
 StopsAlong job Limit left bytes output = IsStop job Limit bytes output
 
 -- the count of the output's faults rose at a write fault, and else stands as it was
