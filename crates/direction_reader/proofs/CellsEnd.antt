@@ -15,7 +15,7 @@ use Rattle.direction_reader.specs.Spacing.{AreBoundariesTo, greatest_cell}
 
 -- one boundary more
 added : (end tick : ℕ) (bs : List ℕ) → AreBoundariesTo end bs → end < tick → tick ≤ end + greatest_cell
-  → AreBoundariesTo tick (bs ++ tick ∷ [])
+    → AreBoundariesTo tick (bs ++ tick ∷ [])
 added end tick [] are later near = absurd are
 added end tick (last ∷ []) are later near = (omega arith, omega arith, refl)
 added end tick (b ∷ next ∷ rest) are later near = (are.0, are.1, added end tick (next ∷ rest) are.2 later near)
@@ -28,13 +28,14 @@ without_oldest tick (b ∷ next ∷ rest) are more = are.2
 
 -- the boundaries that are kept, with one more
 pub kept : (end tick : ℕ) (bs : List ℕ) → AreBoundariesTo end bs → end < tick → tick ≤ end + greatest_cell
-  → AreBoundariesTo tick (with_tick bs tick)
+    → AreBoundariesTo tick (with_tick bs tick)
 kept end tick bs are later near = elim (dec_lt (length bs) 81) [
   | yes room ↦ (let test : nat_lt (length bs) 81 ≡ true = grind (arith, common_steps) in
       rw test (added end tick bs are later near))
   | no full ↦ (let test : nat_lt (length bs) 81 ≡ false = grind (arith, common_steps) in
       let many : 1 < length bs = omega arith in
-      rw test (added end tick (drop 1 bs) (without_oldest end bs are many) later near)) ]
+      rw test (added end tick (drop 1 bs) (without_oldest end bs are many) later near))
+]
 
 -- so many cells last so many ticks at least
 span-least : (tick : ℕ) (bs : List ℕ) → AreBoundariesTo tick bs → slice_index bs 0 + length bs ≤ tick + 1
@@ -50,20 +51,20 @@ span-most tick (b ∷ next ∷ rest) are = let more = span-most tick (next ∷ r
 
 -- the 80 cells of a full window
 pub window_length : (tick : ℕ) (bs : List ℕ) → AreBoundariesTo tick bs → length bs ≡ 81
-  → (slice_index bs 0 + 80 ≤ tick) × (tick ≤ slice_index bs 0 + 80 * greatest_cell)
+    → (slice_index bs 0 + 80 ≤ tick) × (tick ≤ slice_index bs 0 + 80 * greatest_cell)
 window_length tick bs are full = let least = span-least tick bs are in let most = span-most tick bs are in (omega arith, omega arith)
 
 -- a cell that ends is one boundary more
 pub cell_ended : (old next : Lock) (x tick : ℕ) (bit : Bool) (bs : List ℕ) → FitsLock old tick bs → 1 ≤ x → x ≤ MAX_INTERVAL
-  → Steps old x next (Cell bit) → AreBoundariesTo (tick + x) (with_tick bs (tick + x))
+    → Steps old x next (Cell bit) → AreBoundariesTo (tick + x) (with_tick bs (tick + x))
 cell_ended (Hunting h) next x tick bit bs fits least most steps = absurd steps
 cell_ended (AtCell a) next x tick bit bs fits least most steps = kept tick (tick + x) bs fits (omega arith) (omega arith)
 cell_ended (MidCell m) next x tick bit bs fits least most steps =
-  kept (tick - m.half) (tick + x) bs fits.3 (omega arith) (omega arith)
+    kept (tick - m.half) (tick + x) bs fits.3 (omega arith) (omega arith)
 
 -- and the state at its end fits these boundaries
 pub fits_after : (old next : Lock) (x tick : ℕ) (bit : Bool) (bs : List ℕ) → Steps old x next (Cell bit)
-  → AreBoundariesTo tick bs → FitsLock next tick bs
+    → AreBoundariesTo tick bs → FitsLock next tick bs
 fits_after (Hunting h) next x tick bit bs steps are = absurd steps
 fits_after (AtCell a) (Hunting n) x tick bit bs steps are = absurd steps.1
 fits_after (AtCell a) (MidCell n) x tick bit bs steps are = absurd steps.1

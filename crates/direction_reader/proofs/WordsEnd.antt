@@ -13,6 +13,6 @@ event_ends tick n (Refused d f t) bears least most = bears
 event_ends tick n (Lost p t) bears least most = absurd bears
 
 pub ends : (tick n : ℕ) (event : Option Event) → IfSome event (Bears tick n) → 80 ≤ n → n ≤ 80 * greatest_cell
-  → IfSome event (IsWordAt tick)
+    → IfSome event (IsWordAt tick)
 ends tick n None bears least most = tt
 ends tick n (Some event) bears least most = event_ends tick n event bears least most

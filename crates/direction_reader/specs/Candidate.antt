@@ -14,9 +14,9 @@ use Rattle.direction_reader.specs.declared.event.Events.{Events}
 -- the event of a candidate: the word that its bits spell, or the first fault of its fields
 abbrev pub IsEventOf : System → Direction → ℕ → ℕ → ℕ → Event → Type 0
 IsEventOf system direction bits end length (Word d word tick n) =
-  (d ≡ direction) × Spells system word bits × (tick ≡ end) × (n ≡ length)
+    (d ≡ direction) × Spells system word bits × (tick ≡ end) × (n ≡ length)
 IsEventOf system direction bits end length (Refused d fault tick) =
-  (d ≡ direction) × (first_fault system bits ≡ Some (Field fault)) × (tick ≡ end)
+    (d ≡ direction) × (first_fault system bits ≡ Some (Field fault)) × (tick ≡ end)
 IsEventOf system direction bits end length (Lost interval tick) = ⊥
 
 -- the events of a window of 80 bits: it is a forward candidate where it ends in the sync word, and a backward one where its bits in the
@@ -24,9 +24,9 @@ IsEventOf system direction bits end length (Lost interval tick) = ⊥
 pub record AreEventsOf (system : System) (bits end length : ℕ) (events : Events) : Type 0 where
   pub forward : EndsInSync bits → IsSomeAnd events.first (IsEventOf system Forward bits end length)
   pub backward : EndsInSync (reversed_bits bits) → ¬ EndsInSync bits
-    → IsSomeAnd events.first (IsEventOf system Backward (reversed_bits bits) end length) × (events.second ≡ None)
+      → IsSomeAnd events.first (IsEventOf system Backward (reversed_bits bits) end length) × (events.second ≡ None)
   pub both : EndsInSync bits → EndsInSync (reversed_bits bits)
-    → IsSomeAnd events.second (IsEventOf system Backward (reversed_bits bits) end length)
+      → IsSomeAnd events.second (IsEventOf system Backward (reversed_bits bits) end length)
   pub one : EndsInSync bits → ¬ EndsInSync (reversed_bits bits) → events.second ≡ None
   pub none : ¬ EndsInSync bits → ¬ EndsInSync (reversed_bits bits) → (events.first ≡ None) × (events.second ≡ None)
 

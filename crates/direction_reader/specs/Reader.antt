@@ -18,7 +18,7 @@ abbrev pub FitsLock : Lock → ℕ → List ℕ → Type 0
 FitsLock (Hunting h) tick boundaries = IfSome h.before (λ z. (1 ≤ z) × (z ≤ MAX_INTERVAL) × (z ≤ tick))
 FitsLock (AtCell a) tick boundaries = AreBoundariesTo tick boundaries
 FitsLock (MidCell m) tick boundaries =
-  (1 ≤ m.half) × (m.half ≤ MAX_INTERVAL) × (m.half ≤ tick) × AreBoundariesTo (tick - m.half) boundaries
+    (1 ≤ m.half) × (m.half ≤ MAX_INTERVAL) × (m.half ≤ tick) × AreBoundariesTo (tick - m.half) boundaries
 
 -- what a reader keeps fits what it counts
 pub record IsReading (intervals tick : ℕ) (lock : Lock) (cells : Cells) : Type 0 where

@@ -11,5 +11,4 @@ abbrev pub AreBoundariesTo : ℕ → List ℕ → Type 0
 AreBoundariesTo tick [] = ⊥
 AreBoundariesTo tick (last ∷ []) = last ≡ tick
 AreBoundariesTo tick (boundary ∷ next ∷ rest) =
-  (boundary < next) × (next ≤ boundary + greatest_cell) × AreBoundariesTo tick (next ∷ rest)
-
+    (boundary < next) × (next ≤ boundary + greatest_cell) × AreBoundariesTo tick (next ∷ rest)

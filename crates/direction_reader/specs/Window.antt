@@ -16,5 +16,5 @@ slid_by bits bit = bits / 2 + bit_value bit * 2 ^ 79
 -- one bit more at the end, in a window that is full with the eightieth
 abbrev pub with_bit : FillingBits → Bool → FromFilling
 with_bit f bit =
-  if nat_lt (f.count + 1) WINDOW_BITS then Filling (record { bits = slid_by f.bits bit; count = f.count + 1 })
-  else Full (slid_by f.bits bit)
+    if nat_lt (f.count + 1) WINDOW_BITS then Filling (record { bits = slid_by f.bits bit; count = f.count + 1 })
+    else Full (slid_by f.bits bit)

@@ -23,7 +23,10 @@ pub enum Event {
         tick: u64,
     },
     /// The stretch broke at the interval of this place, counted from 0.
-    Lost { interval: u64, tick: u64 },
+    Lost {
+        interval: u64,
+        tick: u64,
+    },
 }
 
 /// What one interval brought: nothing, one event as the first, or two.

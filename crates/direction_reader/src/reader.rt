@@ -70,7 +70,9 @@ impl DirectionReader {
         requires most { x ≤ MAX_INTERVAL }
         requires room { self.old.intervals < MAX_INTERVALS }
         ensures next { self.new ≡ record self.old {
-            intervals = self.old.intervals + 1; tick = self.old.tick + x } }
+          intervals = self.old.intervals + 1;
+          tick = self.old.tick + x;
+        } }
         ensures within { self.new.tick ≤ self.new.intervals * MAX_INTERVAL }
         ensures brings { Brings self.new.intervals self.new.tick result }
     {

@@ -67,7 +67,9 @@ impl Stretch {
     /// Adds a cell of this bit, which ends at this tick.
     pub fn add(&mut self, tick: u64, bit: bool)
         ensures added { self.new ≡ record {
-            window = after_bit self.old.window bit; boundaries = with_tick self.old.boundaries tick } }
+          window = after_bit self.old.window bit;
+          boundaries = with_tick self.old.boundaries tick;
+        } }
         ensures fits { HasBoundaries self.new.window self.new.boundaries }
     {
         self.window = self.window.bit(bit);

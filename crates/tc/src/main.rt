@@ -2,9 +2,8 @@
 //! and the exit number. All else is `tc_top::run`.
 #![tactic(auto)]
 
-use std::env;
-use std::io;
 use std::process::ExitCode;
+use std::{env, io};
 use tc_io::{ReadSource, WriteSink};
 use tc_top::{Status, run};
 

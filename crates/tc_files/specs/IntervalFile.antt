@@ -1,5 +1,5 @@
 -- The interval file, byte by byte: what each completes, and the first fault.
-use Rattle.std.specs.Prelude.{◌≡◌, ◌≢◌, ◌<◌, ◌≤◌, ◌%◌, ◌⊎◌, ℕ, ◌+◌, ◌*◌, ◌-◌, List, [], ◌∷◌, ◌++◌, length, slice_index, Option, Some, None, Result, Ok, Err, nat_lt, nat_le, ◌==◌, ◌&&◌, ◌||◌, not, is_some, fold, if◌then◌else◌}
+use Rattle.std.specs.Prelude.{◌≡◌, ◌≢◌, ◌<◌, ◌≤◌, ◌%◌, ◌⊎◌, ℕ, ◌+◌, ◌-◌, List, [], ◌∷◌, ◌++◌, length, slice_index, Option, Some, None, Result, Ok, Err, nat_lt, nat_le, ◌==◌, ◌&&◌, is_some, fold, if◌then◌else◌}
 use Rattle.byteorder.specs.Endian.{big_number}
 use Rattle.tc_address.specs.declared.system.System.{System}
 use Rattle.tc_files.specs.declared.interval_file.header.TheConstants.{MAGIC, VERSION, HEADER_LENGTH, HEAD_LENGTH, MAX_TICK_RATE}
@@ -19,30 +19,30 @@ no_progress = record { taken = 0; system = None; part = []; fault = None }
 -- what a byte at one of the first eight places must be, as a fault where it is not
 abbrev pub head_answer : ℕ → ℕ → Taken
 head_answer place byte =
-  if nat_lt place 4 then (if byte == slice_index MAGIC place then Nothing else Fault (fault.Magic place))
-  else if place == 4 then (if byte == VERSION then Nothing else Fault (fault.Version place))
-  else if place == 5 then (if is_some (system_at byte) then Nothing else Fault (fault.System place))
-  else (if byte == 0 then Nothing else Fault (fault.Reserved place))
+    if nat_lt place 4 then (if byte == slice_index MAGIC place then Nothing else Fault (fault.Magic place))
+    else if place == 4 then (if byte == VERSION then Nothing else Fault (fault.Version place))
+    else if place == 5 then (if is_some (system_at byte) then Nothing else Fault (fault.System place))
+    else (if byte == 0 then Nothing else Fault (fault.Reserved place))
 
 -- the header with a tick rate, or the fault of the tick rate
 abbrev pub header_answer : Option System → ℕ → Taken
 header_answer None rate = Fault (fault.TickRate HEAD_LENGTH)
 header_answer (Some system) rate =
-  if nat_le 1 rate && nat_le rate MAX_TICK_RATE then Header (record { system = system; tick_rate = rate })
-  else Fault (fault.TickRate HEAD_LENGTH)
+    if nat_le 1 rate && nat_le rate MAX_TICK_RATE then Header (record { system = system; tick_rate = rate })
+    else Fault (fault.TickRate HEAD_LENGTH)
 
 -- the interval that begins at a place, or its fault
 abbrev pub interval_answer : ℕ → ℕ → Taken
 interval_answer place ticks =
-  if nat_le 1 ticks && nat_le ticks MAX_INTERVAL then Interval ticks else Fault (fault.Interval place)
+    if nat_le 1 ticks && nat_le ticks MAX_INTERVAL then Interval ticks else Fault (fault.Interval place)
 
 -- what a byte at a place after the first eight completes, behind the bytes of its number: nothing but
 -- at the fourth
 abbrev pub whole_answer : ℕ → Option System → List ℕ → ℕ → Taken
 whole_answer place system part byte =
-  if nat_lt (length part) 3 then Nothing
-  else if nat_lt place HEADER_LENGTH then header_answer system (big_number 4 (part ++ byte ∷ []))
-  else interval_answer (place - 3) (big_number 4 (part ++ byte ∷ []))
+    if nat_lt (length part) 3 then Nothing
+    else if nat_lt place HEADER_LENGTH then header_answer system (big_number 4 (part ++ byte ∷ []))
+    else interval_answer (place - 3) (big_number 4 (part ++ byte ∷ []))
 
 -- the bytes of a number that is not whole, with one byte more
 abbrev pub kept_part : List ℕ → ℕ → List ℕ
@@ -52,7 +52,8 @@ kept_part part byte = if nat_lt (length part) 3 then part ++ byte ∷ [] else []
 abbrev pub answer : Progress → ℕ → Taken
 answer p byte = elim p.fault [
   | Some first ↦ Fault first
-  | None ↦ if nat_lt p.taken HEAD_LENGTH then head_answer p.taken byte else whole_answer p.taken p.system p.part byte ]
+  | None ↦ if nat_lt p.taken HEAD_LENGTH then head_answer p.taken byte else whole_answer p.taken p.system p.part byte
+]
 
 -- the fault in an answer
 abbrev pub fault_in : Taken → Option FileFault
@@ -66,17 +67,19 @@ abbrev pub after : Progress → ℕ → Progress
 after p byte = elim p.fault [
   | Some _ ↦ p
   | None ↦ record {
-      taken = p.taken + 1;
-      system = if p.taken == 5 then system_at byte else p.system;
-      part = if nat_lt p.taken HEAD_LENGTH then p.part else kept_part p.part byte;
-      fault = fault_in (answer p byte);
-    } ]
+    taken = p.taken + 1;
+    system = if p.taken == 5 then system_at byte else p.system;
+    part = if nat_lt p.taken HEAD_LENGTH then p.part else kept_part p.part byte;
+    fault = fault_in (answer p byte);
+  }
+]
 
 -- what the end of the input answers
 abbrev pub end : Progress → Result Unit FileFault
 end p = elim p.fault [
   | Some first ↦ Err first
-  | None ↦ if nat_le HEADER_LENGTH p.taken && (length p.part == 0) then Ok tt else Err (fault.Truncated p.taken) ]
+  | None ↦ if nat_le HEADER_LENGTH p.taken && (length p.part == 0) then Ok tt else Err (fault.Truncated p.taken)
+]
 
 -- with how many bytes each fault is found: a byte of the first eight at once, a number at its last byte
 abbrev pub FoundAt : FileFault → ℕ → Type 0

@@ -34,15 +34,15 @@ speed_of header length = 1000 * header.tick_rate / (rate_of header.system * leng
 -- the line of a word
 abbrev pub word_line : IntervalHeader → Direction → LtcWord → ℕ → ℕ → List ℕ
 word_line header direction word tick length =
-  codes "word " ++ direction_name direction ++ codes " " ++ text_of word.fields.label
-  ++ codes " user " ++ user_text word.fields.user ++ codes " flags " ++ flags_text word.fields.flags
-  ++ codes " balance " ++ flag_digit word.balanced ++ codes " tick " ++ decimal tick
-  ++ codes " length " ++ decimal length ++ codes " speed " ++ decimal (speed_of header length) ++ codes "\n"
+    codes "word " ++ direction_name direction ++ codes " " ++ text_of word.fields.label
+    ++ codes " user " ++ user_text word.fields.user ++ codes " flags " ++ flags_text word.fields.flags
+    ++ codes " balance " ++ flag_digit word.balanced ++ codes " tick " ++ decimal tick
+    ++ codes " length " ++ decimal length ++ codes " speed " ++ decimal (speed_of header length) ++ codes "\n"
 
 -- the line of a refused word
 abbrev pub refused_line : Direction → FieldFault → ℕ → List ℕ
 refused_line direction fault tick =
-  codes "refused " ++ direction_name direction ++ codes " " ++ name_of fault ++ codes " tick " ++ decimal tick ++ codes "\n"
+    codes "refused " ++ direction_name direction ++ codes " " ++ name_of fault ++ codes " tick " ++ decimal tick ++ codes "\n"
 
 -- the line of a break
 abbrev pub lost_line : ℕ → ℕ → List ℕ
@@ -57,8 +57,8 @@ event_line header (Lost interval tick) = lost_line interval tick
 -- the last line of a reading
 abbrev pub read_end_line : ℕ → ℕ → ℕ → ℕ → ℕ → List ℕ
 read_end_line intervals words refused lost ticks =
-  codes "end intervals " ++ decimal intervals ++ codes " words " ++ decimal words ++ codes " refused " ++ decimal refused
-  ++ codes " lost " ++ decimal lost ++ codes " ticks " ++ decimal ticks ++ codes "\n"
+    codes "end intervals " ++ decimal intervals ++ codes " words " ++ decimal words ++ codes " refused " ++ decimal refused
+    ++ codes " lost " ++ decimal lost ++ codes " ticks " ++ decimal ticks ++ codes "\n"
 
 -- the numbers of an event are small enough for its line
 abbrev pub FitsLine : Event → Type 0

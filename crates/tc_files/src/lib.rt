@@ -1,4 +1,18 @@
-//! Files.
+//! The files and the texts of the toolkit.
+//!
+//! An interval file, version 1, holds the lengths of the intervals between the transitions of a
+//! recording, in ticks of the recorder's clock. It is decoded one byte at a time. The lines of a
+//! report are texts of at most 128 bytes.
+//!
+//! What this crate promises:
+//! - `IntervalDecoder` answers each byte by the bytes before it: the header, an interval, nothing
+//!   yet, or the first fault with its byte place (`specs/IntervalFile.antt`, `answer` and `after`;
+//!   `CompletesAt` says at which places).
+//! - `event_text` and `read_end_text` give their lines byte for byte (`specs/Texts.antt`), and
+//!   `interval_header` the twelve bytes of a header.
+//!
+//! Read `interval_file`, its `header` and its `decoder`, and then `texts`: `line`, `event` and
+//! `summary`. `tc_top` stands on this crate. Nothing here allocates.
 #![tactic(auto)]
 
 mod fault;
@@ -7,7 +21,9 @@ mod texts;
 
 pub use fault::FileFault;
 pub use interval_file::decoder::{IntervalDecoder, Taken};
-pub use interval_file::header::{HEAD_LENGTH, HEADER_LENGTH, IntervalHeader, MAGIC, MAX_TICK_RATE, VERSION, interval_header};
+pub use interval_file::header::{
+    HEAD_LENGTH, HEADER_LENGTH, IntervalHeader, MAGIC, MAX_TICK_RATE, VERSION, interval_header,
+};
 pub use texts::event::event_text;
 pub use texts::line::{Text, push_bytes, push_number};
 pub use texts::summary::read_end_text;

@@ -17,40 +17,40 @@ use Rattle.tc_top.specs.Stops.{IsStop, Stops, IsEndStop, StopsAtEnd, StopsAlong}
 -- bytes that were worked on take each state and output to a later state and a longer output
 abbrev pub Works : (List ℕ → List ℕ → Type 0) → (List ℕ → List ℕ → Type 0) → Option (List ℕ) → Option (List ℕ) → List ℕ → Type 0
 Works before after old new bytes =
-  (front output : List ℕ) → before front output → (more : List ℕ) × Appends old new more × after (front ++ bytes) (output ++ more)
+    (front output : List ℕ) → before front output → (more : List ℕ) × Appends old new more × after (front ++ bytes) (output ++ more)
 
 -- one part of the bytes after another
 pub works_on : (start mid last : List ℕ → List ℕ → Type 0) (old between new : Option (List ℕ)) (bytes more : List ℕ)
-  → Works start mid old between bytes → Works mid last between new more → Works start last old new (bytes ++ more)
+    → Works start mid old between bytes → Works mid last between new more → Works start last old new (bytes ++ more)
 works_on start mid last old between new bytes more first second = λ front output stands.
-  let f = first front output stands in
-  let s = second (front ++ bytes) (output ++ f.0) f.2 in
-  let joined : (front ++ bytes) ++ more ≡ front ++ (bytes ++ more) = append_assoc front bytes more in
-  let pushed : (output ++ f.0) ++ s.0 ≡ output ++ (f.0 ++ s.0) = append_assoc output f.0 s.0 in
-  (f.0 ++ s.0, Appends-trans old between new f.0 s.0 f.1 s.1, subst (λ (w : List ℕ). last (front ++ (bytes ++ more)) w) pushed (subst (λ (b : List ℕ). last b ((output ++ f.0) ++ s.0)) joined s.2))
+    let f = first front output stands in
+    let s = second (front ++ bytes) (output ++ f.0) f.2 in
+    let joined : (front ++ bytes) ++ more ≡ front ++ (bytes ++ more) = append_assoc front bytes more in
+    let pushed : (output ++ f.0) ++ s.0 ≡ output ++ (f.0 ++ s.0) = append_assoc output f.0 s.0 in
+    (f.0 ++ s.0, Appends-trans old between new f.0 s.0 f.1 s.1, subst (λ (w : List ℕ). last (front ++ (bytes ++ more)) w) pushed (subst (λ (b : List ℕ). last b ((output ++ f.0) ++ s.0)) joined s.2))
 
 -- a stop after some bytes
 pub stops_on : (job : Job) (stop : Stop) (start mid : List ℕ → List ℕ → Type 0) (old between new : Option (List ℕ)) (bytes more : List ℕ)
-  → Works start mid old between bytes
-  → ((front output : List ℕ) → mid front output → Stops job stop between new (front ++ more) output)
-  → (front output : List ℕ) → start front output → Stops job stop old new (front ++ (bytes ++ more)) output
+    → Works start mid old between bytes
+    → ((front output : List ℕ) → mid front output → Stops job stop between new (front ++ more) output)
+    → (front output : List ℕ) → start front output → Stops job stop old new (front ++ (bytes ++ more)) output
 stops_on job stop start mid old between new bytes more first second = λ front output stands.
-  let f = first front output stands in
-  let s = second (front ++ bytes) (output ++ f.0) f.2 in
-  let joined : (front ++ bytes) ++ more ≡ front ++ (bytes ++ more) = append_assoc front bytes more in
-  let pushed : (output ++ f.0) ++ s.0 ≡ output ++ (f.0 ++ s.0) = append_assoc output f.0 s.0 in
-  (f.0 ++ s.0, Appends-trans old between new f.0 s.0 f.1 s.1, subst (λ (w : List ℕ). IsStop job stop (front ++ (bytes ++ more)) w) pushed (subst (λ (b : List ℕ). IsStop job stop b ((output ++ f.0) ++ s.0)) joined s.2))
+    let f = first front output stands in
+    let s = second (front ++ bytes) (output ++ f.0) f.2 in
+    let joined : (front ++ bytes) ++ more ≡ front ++ (bytes ++ more) = append_assoc front bytes more in
+    let pushed : (output ++ f.0) ++ s.0 ≡ output ++ (f.0 ++ s.0) = append_assoc output f.0 s.0 in
+    (f.0 ++ s.0, Appends-trans old between new f.0 s.0 f.1 s.1, subst (λ (w : List ℕ). IsStop job stop (front ++ (bytes ++ more)) w) pushed (subst (λ (b : List ℕ). IsStop job stop b ((output ++ f.0) ++ s.0)) joined s.2))
 
 -- a stop at the end of the bytes
 pub stops_at_end : (job : Job) (stop : Stop) (start mid : List ℕ → List ℕ → Type 0) (old between new : Option (List ℕ)) (bytes : List ℕ)
-  → Works start mid old between bytes
-  → ((front output : List ℕ) → mid front output → StopsAtEnd job stop between new front output)
-  → (front output : List ℕ) → start front output → StopsAtEnd job stop old new (front ++ bytes) output
+    → Works start mid old between bytes
+    → ((front output : List ℕ) → mid front output → StopsAtEnd job stop between new front output)
+    → (front output : List ℕ) → start front output → StopsAtEnd job stop old new (front ++ bytes) output
 stops_at_end job stop start mid old between new bytes first second = λ front output stands.
-  let f = first front output stands in
-  let s = second (front ++ bytes) (output ++ f.0) f.2 in
-  let pushed : (output ++ f.0) ++ s.0 ≡ output ++ (f.0 ++ s.0) = append_assoc output f.0 s.0 in
-  (f.0 ++ s.0, Appends-trans old between new f.0 s.0 f.1 s.1, subst (λ (w : List ℕ). IsEndStop job stop (front ++ bytes) w) pushed s.2)
+    let f = first front output stands in
+    let s = second (front ++ bytes) (output ++ f.0) f.2 in
+    let pushed : (output ++ f.0) ++ s.0 ≡ output ++ (f.0 ++ s.0) = append_assoc output f.0 s.0 in
+    (f.0 ++ s.0, Appends-trans old between new f.0 s.0 f.1 s.1, subst (λ (w : List ℕ). IsEndStop job stop (front ++ bytes) w) pushed s.2)
 
 -- a list is what stands before a place, what stands there, and what stands behind
 pub cut_at : (k : ℕ) (xs : List ℕ) → k < length xs → take k xs ++ get_or xs k 0 ∷ drop (k + 1) xs ≡ xs
@@ -88,16 +88,16 @@ if_err (Err stop) says to = to stop says
 
 -- a pull that gives no byte is the end
 pub ended_at : (a b c : Option (List ℕ)) (bytes read : List ℕ) (count : ℕ) → Consumes a b bytes → count ≡ 0 → 0 < length read
-  → Consumes b c (take count read) × (count ≡ 0 → 0 < length read → IsAtEnd c) → Consumes a c bytes × IsAtEnd c
+    → Consumes b c (take count read) × (count ≡ 0 → 0 < length read → IsAtEnd c) → Consumes a c bytes × IsAtEnd c
 ended_at a b c bytes read count first none room pulled =
-  let nothing : take count read ≡ [] = rw none refl in
-  let all = Consumes-trans a b c bytes (take count read) first pulled.0 in
-  let same : bytes ++ take count read ≡ bytes = rw nothing (append-nil bytes) in
-  (subst (Consumes a c) same all, pulled.1 none room)
+    let nothing : take count read ≡ [] = rw none refl in
+    let all = Consumes-trans a b c bytes (take count read) first pulled.0 in
+    let same : bytes ++ take count read ≡ bytes = rw nothing (append-nil bytes) in
+    (subst (Consumes a c) same all, pulled.1 none room)
 
 -- a stop at some of the bytes, and at their end
 pub along : (job : Job) (stop : Stop) (left : Option (List ℕ)) (bytes output : List ℕ) → IsStop job stop bytes output
-  → StopsAlong job stop left bytes output
+    → StopsAlong job stop left bytes output
 along job (Refused fault) left bytes output is = inl is
 along job ReadFault left bytes output is = absurd is
 along job WriteFault left bytes output is = inl is
@@ -109,7 +109,7 @@ end_of_job (Number label) left end = tt
 end_of_job (LabelOf label) left end = tt
 
 pub along_at_end : (job : Job) (stop : Stop) (left : Option (List ℕ)) (bytes output : List ℕ) → IsAtEnd left
-  → IsEndStop job stop bytes output → StopsAlong job stop left bytes output
+    → IsEndStop job stop bytes output → StopsAlong job stop left bytes output
 along_at_end job (Refused fault) left bytes output end is = inr (end_of_job job left end, is)
 along_at_end job ReadFault left bytes output end is = absurd is
 along_at_end job WriteFault left bytes output end is = inr (end_of_job job left end, is)

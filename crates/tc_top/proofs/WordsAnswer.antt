@@ -14,7 +14,7 @@ use Rattle.tc_top.specs.Answer.{IsAnswer, IsRunAnswer, status_of_words}
 
 -- the answer of a job is that of the words that name it
 pub job_answers : (all : List (List ℕ)) (job : Job) (status : Status) (left : Option (List ℕ)) (bytes output note : List ℕ)
-  → answer_to all ≡ Ok job → IsAnswer job status left bytes output note → IsRunAnswer all status left bytes output note
+    → answer_to all ≡ Ok job → IsAnswer job status left bytes output note → IsRunAnswer all status left bytes output note
 job_answers all job Done left bytes output note named is = (job, named, is)
 job_answers all job Usage left bytes output note named is = absurd is
 job_answers all job Refused left bytes output note named is = (job, named, is)
@@ -36,7 +36,7 @@ abbrev FaultOf : List (List ℕ) → WordsFault → Type 0
 FaultOf all fault = let answer : Result Job WordsFault = Err fault in (answer ≡ answer_to all) ⊎ (answer ≡ Err (words.Memory alloc_error))
 
 pub fault_answers : (all : List (List ℕ)) (fault : WordsFault) (left : Option (List ℕ)) (note : List ℕ) → FaultOf all fault
-  → note ≡ usage_note fault → IsRunAnswer all (status_of_words fault) left [] [] note
+    → note ≡ usage_note fault → IsRunAnswer all (status_of_words fault) left [] [] note
 fault_answers all (words.Dash place) left note (inl first) same = (words.Dash place, sym first, same, refl, refl)
 fault_answers all (words.Dash place) left note (inr other) same = absurd cc
 fault_answers all words.Command left note (inl first) same = (words.Command, sym first, same, refl, refl)

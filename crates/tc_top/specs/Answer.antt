@@ -47,12 +47,12 @@ IsAnswer job Memory left bytes output note = ⊥
 -- the words name a job, and this is its answer
 abbrev pub IsJobAnswer : List (List ℕ) → Status → Option (List ℕ) → List ℕ → List ℕ → List ℕ → Type 0
 IsJobAnswer words status left bytes output note =
-  (job : Job) × (answer_to words ≡ Ok job) × IsAnswer job status left bytes output note
+    (job : Job) × (answer_to words ≡ Ok job) × IsAnswer job status left bytes output note
 
 -- what the program answers to words: their first fault, want of memory, or the answer of their job
 abbrev pub IsRunAnswer : List (List ℕ) → Status → Option (List ℕ) → List ℕ → List ℕ → List ℕ → Type 0
 IsRunAnswer words Usage left bytes output note =
-  (fault : WordsFault) × (answer_to words ≡ Err fault) × (note ≡ usage_note fault) × (bytes ≡ []) × (output ≡ [])
+    (fault : WordsFault) × (answer_to words ≡ Err fault) × (note ≡ usage_note fault) × (bytes ≡ []) × (output ≡ [])
 IsRunAnswer words Memory left bytes output note = (note ≡ codes "tc: out of memory\n") × (bytes ≡ []) × (output ≡ [])
 IsRunAnswer words Done left bytes output note = IsJobAnswer words Done left bytes output note
 IsRunAnswer words Refused left bytes output note = IsJobAnswer words Refused left bytes output note

@@ -53,7 +53,7 @@ lines header events = flat_map (event_line header) events
 -- what is printed of bytes before their end: lines of events, none before the header
 abbrev pub IsReadPart : List ℕ → List ℕ → Type 0
 IsReadPart bytes output = (output ≡ [])
-  ⊎ ((header : IntervalHeader) × IsHeaderOf bytes header × ((events : List Event) × (output ≡ lines header events)))
+    ⊎ ((header : IntervalHeader) × IsHeaderOf bytes header × ((events : List Event) × (output ≡ lines header events)))
 
 abbrev pub is_word : Event → Bool
 is_word (Word direction word tick length) = true
@@ -82,4 +82,4 @@ pub record IsReadOutput (bytes output : List ℕ) : Type 0 where
   pub events : List Event
   pub ticks : ℕ
   pub are : output ≡ lines header events
-    ++ read_end_line (interval_count bytes) (count_by is_word events) (count_by is_refused events) (count_by is_lost events) ticks
+      ++ read_end_line (interval_count bytes) (count_by is_word events) (count_by is_refused events) (count_by is_lost events) ticks

@@ -67,4 +67,5 @@ is_part (Some r) bytes output printed = inr (r.header, printed.says, (printed.ev
 pub stands_well : (s : LtcRead) (bytes output : List ℕ) → Stands s bytes output → IsGoodFile bytes × IsReadPart bytes output
 stands_well s bytes output stands = (
   record { good = subst (λ (p : Progress). p.fault ≡ None) stands.progress stands.good; within = stands.within },
-  is_part s.reading bytes output stands.printed)
+  is_part s.reading bytes output stands.printed,
+)

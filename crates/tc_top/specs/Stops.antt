@@ -36,9 +36,9 @@ StopsAtEnd job stop old new bytes output = (more : List ℕ) × Appends old new 
 abbrev pub StopsAlong : Job → Stop → Option (List ℕ) → List ℕ → List ℕ → Type 0
 StopsAlong job ReadFault left bytes output = IsGood job bytes × IsPart job bytes output
 StopsAlong job (Refused fault) left bytes output =
-  IsStop job (Refused fault) bytes output ⊎ (IsEnd job left × IsEndStop job (Refused fault) bytes output)
+    IsStop job (Refused fault) bytes output ⊎ (IsEnd job left × IsEndStop job (Refused fault) bytes output)
 StopsAlong job WriteFault left bytes output =
-  IsStop job WriteFault bytes output ⊎ (IsEnd job left × IsEndStop job WriteFault bytes output)
+    IsStop job WriteFault bytes output ⊎ (IsEnd job left × IsEndStop job WriteFault bytes output)
 StopsAlong job Limit left bytes output = IsStop job Limit bytes output
 
 -- the count of the output's faults rose at a write fault, and else stands as it was

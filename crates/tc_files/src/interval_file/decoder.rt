@@ -2,8 +2,17 @@ ghost use Rattle.std.specs.Prelude.{◌≡◌, ◌<◌, ◌≤◌, ◌^◌, ◌+
 ghost use Rattle.byteorder.specs.Endian.{big_number};
 ghost use Rattle.arrayvec.specs.ArrayVec.{array_vec_len};
 ghost use Rattle.tc_files.specs.IntervalFile.{
-    no_progress, answer, after, end, fault_in, head_answer, header_answer, interval_answer,
-    kept_part, whole_answer, CompletesAt,
+  no_progress,
+  answer,
+  after,
+  end,
+  fault_in,
+  head_answer,
+  header_answer,
+  interval_answer,
+  kept_part,
+  whole_answer,
+  CompletesAt,
 };
 
 use crate::fault::FileFault;
@@ -129,12 +138,7 @@ fn head_byte(place: u64, byte: u8) -> Taken
 }
 
 /// Adds a byte to a number, and tests the number at its last byte.
-fn number_byte(
-    place: u64,
-    system: Option<System>,
-    part: &mut ArrayVec<u8, 4>,
-    byte: u8,
-) -> Taken
+fn number_byte(place: u64, system: Option<System>, part: &mut ArrayVec<u8, 4>, byte: u8) -> Taken
     requires part { array_vec_len part.old < 4 }
     requires place { 3 ≤ place }
     ensures part { part.new.items ≡ kept_part part.old.items byte }

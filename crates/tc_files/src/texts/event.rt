@@ -3,7 +3,14 @@ ghost use Rattle.std.specs.Prelude.{◌≡◌, ◌<◌, ◌≤◌, ◌+◌, ◌^
 ghost use Rattle.arrayvec.specs.ArrayVec.{array_vec_len};
 ghost use Rattle.tc_files.specs.IntervalHeader.{IsTickRate};
 ghost use Rattle.tc_files.specs.Texts.{
-    event_line, word_line, refused_line, lost_line, direction_name, speed_of, flags_text, FitsLine,
+  event_line,
+  word_line,
+  refused_line,
+  lost_line,
+  direction_name,
+  speed_of,
+  flags_text,
+  FitsLine,
 };
 
 use crate::interval_file::header::IntervalHeader;

@@ -34,8 +34,12 @@ impl Reading {
     pub(crate) fn new(header: IntervalHeader) -> Reading
         requires { IsTickRate header.tick_rate }
         ensures { result ≡ record {
-            header = header; reader = record { system = header.system; intervals = 0; tick = 0 };
-            words = 0; refused = 0; lost = 0 } }
+          header = header;
+          reader = record { system = header.system; intervals = 0; tick = 0 };
+          words = 0;
+          refused = 0;
+          lost = 0;
+        } }
     {
         Reading {
             header,

@@ -10,9 +10,9 @@ invariant-pulls g l = record {
   source : g.S.Source.faults l.source ≡ g.S.Source.faults l.fn.source;
   out : g.K.Sink.faults l.out ≡ g.K.Sink.faults l.fn.out;
   worked : (bytes output : List ℕ)
-    × Consumes (g.S.Source.left l.fn.source) (g.S.Source.left l.source) bytes
-    × Appends (g.K.Sink.written l.fn.out) (g.K.Sink.written l.out) output
-    × g.E.Engine.stands l.engine bytes output;
+      × Consumes (g.S.Source.left l.fn.source) (g.S.Source.left l.source) bytes
+      × Appends (g.K.Sink.written l.fn.out) (g.K.Sink.written l.out) output
+      × g.E.Engine.stands l.engine bytes output;
 }
 
 abbrev pub decreases-pulls : goal.decreases-pulls

@@ -7,19 +7,19 @@ use Rattle.direction_reader.proofs.stretch.Stretch.events.Goals as goal
 -- the oldest boundary comes first
 pub overflow_sub-length : goal.overflow_sub-length
 overflow_sub-length c =
-  let are : AreBoundariesTo c.args.tick c.self.inside.boundaries = rw (← c.self.view_is) at c.requires in
-  let lasts = window_length c.args.tick c.self.inside.boundaries are (rw c.in-Full.is at c.self.invariant) in
-  rw (c.oldest.ensures) (omega arith)
+    let are : AreBoundariesTo c.args.tick c.self.inside.boundaries = rw (← c.self.view_is) at c.requires in
+    let lasts = window_length c.args.tick c.self.inside.boundaries are (rw c.in-Full.is at c.self.invariant) in
+    rw (c.oldest.ensures) (omega arith)
 
 -- each event ends the window, and a word is as long as the window
 pub returns-in-Full : goal.returns-in-Full
 returns-in-Full c =
-  let are : AreBoundariesTo c.args.tick c.self.inside.boundaries = rw (← c.self.view_is) at c.requires in
-  let lasts = window_length c.args.tick c.self.inside.boundaries are (rw c.in-Full.is at c.self.invariant) in
-  let length = c.args.tick - c.oldest.result in
-  let least : 80 ≤ length = rw (c.oldest.ensures) (omega arith) in
-  let most : length ≤ 80 * greatest_cell = rw (c.oldest.ensures) (omega arith) in
-  record {
-    first = ends c.args.tick length _ c.window_events.ensures.bears.first least most;
-    second = ends c.args.tick length _ c.window_events.ensures.bears.second least most;
-  }
+    let are : AreBoundariesTo c.args.tick c.self.inside.boundaries = rw (← c.self.view_is) at c.requires in
+    let lasts = window_length c.args.tick c.self.inside.boundaries are (rw c.in-Full.is at c.self.invariant) in
+    let length = c.args.tick - c.oldest.result in
+    let least : 80 ≤ length = rw (c.oldest.ensures) (omega arith) in
+    let most : length ≤ 80 * greatest_cell = rw (c.oldest.ensures) (omega arith) in
+    record {
+      first = ends c.args.tick length _ c.window_events.ensures.bears.first least most;
+      second = ends c.args.tick length _ c.window_events.ensures.bears.second least most;
+    }

@@ -8,19 +8,19 @@ use Rattle.tc_top.proofs.engines.reading.Reading.interval.Goals as goal
 -- the limits of the file keep the numbers of the events small
 pub push-requires-clause-lines : goal.push-requires-clause-lines
 push-requires-clause-lines g c =
-  brought_fits _ _ c.feed-events.result (rw c.feed-events.ensures.next (omega arith)) c.feed-events.ensures.within c.feed-events.ensures.brings
+    brought_fits _ _ c.feed-events.result (rw c.feed-events.ensures.next (omega arith)) c.feed-events.ensures.within c.feed-events.ensures.brings
 
 -- the events of the interval were counted and pushed
 pub returns-clause-prints : goal.returns-clause-prints
 returns-clause-prints g c =
-  let events = event_list c.feed-events.result in
-  on_ok c.push.result (both_ok _ _ c.push.result c.push.ensures.counted c.push.ensures.all) (λ pushed. record {
-    events = events;
-    pushed = pushed.1;
-    words = ap (λ (r : Reading). r.words) pushed.0 ∙ words-all_counted events _;
-    refused = ap (λ (r : Reading). r.refused) pushed.0 ∙ refused-all_counted events _;
-    lost = ap (λ (r : Reading). r.lost) pushed.0 ∙ lost-all_counted events _;
-  })
+    let events = event_list c.feed-events.result in
+    on_ok c.push.result (both_ok _ _ c.push.result c.push.ensures.counted c.push.ensures.all) (λ pushed. record {
+      events = events;
+      pushed = pushed.1;
+      words = ap (λ (r : Reading). r.words) pushed.0 ∙ words-all_counted events _;
+      refused = ap (λ (r : Reading). r.refused) pushed.0 ∙ refused-all_counted events _;
+      lost = ap (λ (r : Reading). r.lost) pushed.0 ∙ lost-all_counted events _;
+    })
 
 -- a front of their lines was pushed
 pub returns-clause-front : goal.returns-clause-front
