@@ -1,7 +1,7 @@
 -- Each cell lasts a tick at least and twice the greatest interval at most, so the boundaries that are
 -- kept tell how long a window can be.
 use Rattle.std.proofs.Common.{◌≡◌, ◌<◌, ◌≤◌, ℕ, ◌+◌, ◌-◌, ◌*◌, List, [], ◌∷◌, ◌++◌, length, drop, Bool, arith, refl, true, false}
-use Rattle.std.specs.Prelude.{slice_index, nat_lt, if◌then◌else◌}
+use Rattle.std.specs.Prelude.{slice_index, nat_lt}
 use Rattle.std.proofs.Math.Decide.{dec_lt}
 use Rattle.std.proofs.lemmas.Grind.{common_steps}
 use Rattle.biphase.specs.declared.cell.TheConstants.{MAX_INTERVAL}

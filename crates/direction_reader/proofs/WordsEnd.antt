@@ -1,5 +1,5 @@
 -- A word that bears a tick and the length of its window ends at that tick and has the length of 80 cells.
-use Rattle.std.proofs.Common.{◌≡◌, ◌≤◌, ◌*◌, ℕ, IfSome, Some, None, arith}
+use Rattle.std.proofs.Common.{◌≤◌, ◌*◌, ℕ, IfSome, Some, None, arith}
 use Rattle.std.specs.declared.option.Option.{Option}
 use Rattle.direction_reader.specs.declared.event.Event.{Event}
 use Rattle.direction_reader.specs.declared.event.Event.TheVariants.{Word, Refused, Lost}

@@ -1,5 +1,5 @@
 -- Writing over the oldest place of a full ring drops its oldest entry and adds one at the end.
-use Rattle.std.proofs.Common.{◌≡◌, ◌<◌, ◌≤◌, ℕ, ◌+◌, List, [], ◌∷◌, ◌++◌, length, take, drop, arith, sym, ◌∙◌, ap, ap₂, refl, length-drop, append_assoc, append-nil, inl, inr, ◌%◌, false}
+use Rattle.std.proofs.Common.{◌≡◌, ◌<◌, ◌≤◌, ℕ, ◌+◌, List, [], ◌∷◌, ◌++◌, length, take, drop, arith, sym, ◌∙◌, ap, length-drop, append_assoc, append-nil, inl, inr, ◌%◌, false}
 use Rattle.std.specs.Prelude.{slice_set, nat_lt}
 use Rattle.std.specs.List.{refill}
 use Rattle.std.proofs.Math.Nat.{eq-or-lt_of_le}

@@ -1,5 +1,5 @@
 -- What a reader counts, and what it keeps of the stretch that is open.
-use Rattle.std.specs.Prelude.{◌≡◌, ℕ, ◌+◌, ◌-◌, ◌*◌, ◌<◌, ◌≤◌, List, [], ◌∷◌, IfSome}
+use Rattle.std.specs.Prelude.{ℕ, ◌-◌, ◌*◌, ◌≤◌, List, IfSome}
 use Rattle.biphase.specs.declared.cell.TheConstants.{MAX_INTERVAL}
 use Rattle.tc_address.specs.declared.system.System.{System}
 use Rattle.direction_reader.specs.declared.lock.Lock.{Lock}

@@ -1,5 +1,5 @@
 -- What was pushed for some bytes and then for those after them was pushed for all of them, in order.
-use Rattle.std.proofs.Common.{◌≡◌, ℕ, ◌+◌, ◌<◌, List, [], ◌∷◌, ◌++◌, length, take, drop, get_or, arith, sym, ◌∙◌, ap, subst, append_assoc, append-nil, refl, inl, inr}
+use Rattle.std.proofs.Common.{◌≡◌, ℕ, ◌+◌, ◌<◌, List, [], ◌∷◌, ◌++◌, length, take, drop, get_or, arith, subst, append_assoc, append-nil, refl, inl, inr}
 use Rattle.std.specs.Prelude.{OnOk, OnErr, IfErr, Ok, Err}
 use Rattle.std.specs.Result.{IsErrAnd}
 use Rattle.std.specs.declared.result.Result.{Result}

@@ -1,5 +1,5 @@
 -- An input of a command gives no cause to stop: a front of a file has no fault, and a file is within the limit.
-use Rattle.std.proofs.Common.{◌≡◌, ℕ, ◌+◌, ◌*◌, ◌≤◌, List, [], ◌∷◌, ◌++◌, length, Some, None, Ok, Err, refl, sym, ◌∙◌, ap, subst, inl, inr, arith, append_assoc, append-nil, length-append, fold}
+use Rattle.std.proofs.Common.{◌≡◌, ℕ, ◌+◌, List, ◌++◌, length, Some, None, Ok, sym, ◌∙◌, ap, subst, inl, inr, arith, append_assoc, append-nil, length-append, fold}
 use Rattle.std.specs.declared.option.Option.{Option}
 use Rattle.std.specs.Io.KnownBytes.{Consumes, IsAtEnd}
 use Rattle.std.proofs.lemmas.List.Sums.{fold-append}
@@ -11,7 +11,7 @@ use Rattle.tc_words.specs.declared.job.Job.{Job}
 use Rattle.tc_words.specs.declared.job.Job.TheVariants.{LtcRead, Number, LabelOf}
 use Rattle.tc_top.specs.declared.engine.Stop.{Stop}
 use Rattle.tc_top.specs.declared.engine.Stop.TheVariants as stops
-use Rattle.tc_top.specs.LtcRead.{HasFileFault, PassesIntervals, EndsBadly, IsFile, most_bytes}
+use Rattle.tc_top.specs.LtcRead.{HasFileFault, PassesIntervals, EndsBadly, IsFile}
 use Rattle.tc_top.specs.Notes.{stop_note}
 use Rattle.tc_top.specs.Output.{IsInput, IsEnd, HasFault, EndsWith, PassesLimit}
 use Rattle.tc_top.specs.Stops.{StopsAlong, SourceCauseOf, OutCauseOf}

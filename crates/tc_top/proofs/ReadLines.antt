@@ -1,8 +1,6 @@
 -- Each byte of a file is part of a header or of an interval, and what was printed grows by the lines of the interval's events.
-use Rattle.std.proofs.Common.{◌≡◌, ℕ, ◌+◌, ◌-◌, ◌*◌, ◌/◌, ◌%◌, ◌<◌, ◌≤◌, List, [], ◌∷◌, ◌++◌, length, take, drop, count_by, Bool, true, false, Some, None, refl, sym, ◌∙◌, ap, subst, inl, inr, arith, append_assoc, append-nil, length-append, fold, cond, ◌⊎◌, Ok, Err}
-use Rattle.std.specs.Prelude.{◌==◌}
+use Rattle.std.proofs.Common.{◌≡◌, ℕ, ◌+◌, ◌-◌, ◌/◌, ◌%◌, ◌<◌, ◌≤◌, List, [], ◌∷◌, ◌++◌, length, take, drop, count_by, Bool, Some, None, refl, sym, ◌∙◌, ap, subst, inl, inr, arith, append_assoc, append-nil, length-append, fold, cond, ◌⊎◌, Ok, Err}
 use Rattle.std.specs.declared.option.Option.{Option}
-use Rattle.std.specs.List.{flat_map}
 use Rattle.std.proofs.lemmas.Grind.{common_steps}
 use Rattle.std.proofs.lemmas.List.Sums.{fold-append, sum_by-append}
 use Rattle.std.proofs.lemmas.Grind.{flat_map-append}
@@ -11,8 +9,7 @@ use Rattle.direction_reader.specs.declared.event.Event.{Event}
 use Rattle.direction_reader.specs.declared.reader.TheConstants.{MAX_INTERVALS}
 use Rattle.tc_files.specs.declared.fault.FileFault.{FileFault}
 use Rattle.tc_files.specs.declared.fault.FileFault.TheVariants as fault
-use Rattle.tc_files.specs.declared.interval_file.decoder.Taken.{Taken}
-use Rattle.tc_files.specs.declared.interval_file.decoder.Taken.TheVariants.{Nothing, Header, Interval, Fault}
+use Rattle.tc_files.specs.declared.interval_file.decoder.Taken.TheVariants.{Header, Fault}
 use Rattle.tc_files.specs.declared.interval_file.header.IntervalHeader.{IntervalHeader}
 use Rattle.tc_files.specs.Progress.{Progress}
 use Rattle.tc_files.specs.IntervalFile.{progress_of, after, answer, end, fault_in, no_progress, IsHeaderOf, FoundAt}
@@ -20,10 +17,10 @@ use Rattle.tc_files.specs.Texts.{event_line, read_end_line}
 use Rattle.tc_io.specs.Sink.{IsFront}
 use Rattle.tc_words.specs.declared.job.Job.TheVariants as jobs
 use Rattle.tc_top.specs.declared.engine.Stop.{Stop}
-use Rattle.tc_top.specs.declared.engine.Stop.TheVariants.{Refused, ReadFault, WriteFault, Limit}
+use Rattle.tc_top.specs.declared.engine.Stop.TheVariants.{Refused, WriteFault, Limit}
 use Rattle.tc_top.specs.declared.engines.ltc_read.LtcRead.{LtcRead}
 use Rattle.tc_top.specs.declared.engines.reading.Reading.{Reading}
-use Rattle.tc_top.specs.LtcRead.{most_bytes, lines, is_word, is_refused, is_lost, interval_count, HasFileFault, PassesIntervals, IsReadPart, IsReadOutput}
+use Rattle.tc_top.specs.LtcRead.{most_bytes, lines, is_word, is_refused, is_lost, interval_count, IsReadPart, IsReadOutput}
 use Rattle.tc_top.specs.ReadEngine.{Stands, HasPrinted, Printed, IsGoing, FitsTaken, stop_at, is_part}
 use Rattle.tc_top.specs.Stops.{IsStop, IsEndStop}
 

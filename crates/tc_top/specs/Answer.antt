@@ -1,5 +1,5 @@
 -- The answer of a run: what was pulled and pushed, and the note, by status.
-use Rattle.std.specs.Prelude.{◌≡◌, ℕ, List, [], ◌++◌, codes, Ok, Err}
+use Rattle.std.specs.Prelude.{◌≡◌, ℕ, List, [], codes, Ok, Err}
 use Rattle.std.specs.declared.option.Option.{Option}
 use Rattle.tc_io.specs.Source.{Rose}
 use Rattle.tc_files.specs.declared.fault.FileFault.{FileFault}

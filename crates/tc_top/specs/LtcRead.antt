@@ -1,5 +1,5 @@
 -- `ltc-read`: what its input is, and what it prints of it.
-use Rattle.std.specs.Prelude.{◌≡◌, ◌⊎◌, ℕ, ◌+◌, ◌-◌, ◌*◌, ◌/◌, ◌<◌, ◌≤◌, Bool, true, false, List, [], ◌∷◌, ◌++◌, length, count_by, Some, None, Ok, Err}
+use Rattle.std.specs.Prelude.{◌≡◌, ◌⊎◌, ℕ, ◌+◌, ◌-◌, ◌*◌, ◌/◌, ◌<◌, ◌≤◌, Bool, true, false, List, [], ◌++◌, length, count_by, Some, None, Ok, Err}
 use Rattle.std.specs.List.{flat_map}
 use Rattle.direction_reader.specs.declared.event.Event.{Event}
 use Rattle.direction_reader.specs.declared.event.Event.TheVariants.{Word, Refused, Lost}
@@ -7,7 +7,6 @@ use Rattle.direction_reader.specs.declared.reader.TheConstants.{MAX_INTERVALS}
 use Rattle.tc_files.specs.declared.fault.FileFault.{FileFault}
 use Rattle.tc_files.specs.declared.interval_file.header.IntervalHeader.{IntervalHeader}
 use Rattle.tc_files.specs.declared.interval_file.header.TheConstants.{HEADER_LENGTH}
-use Rattle.tc_files.specs.Progress.{Progress}
 use Rattle.tc_files.specs.IntervalFile.{progress_of, end, IsHeaderOf}
 use Rattle.tc_files.specs.Texts.{event_line, read_end_line}
 

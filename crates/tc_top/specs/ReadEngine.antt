@@ -1,5 +1,5 @@
 -- The engine of `ltc-read`: what it keeps, and for which bytes and output it stands.
-use Rattle.std.specs.Prelude.{◌≡◌, ℕ, ◌+◌, ◌-◌, ◌*◌, ◌/◌, ◌<◌, ◌≤◌, List, [], length, count_by, Some, None, ◌==◌, if◌then◌else◌}
+use Rattle.std.specs.Prelude.{◌≡◌, ℕ, ◌+◌, ◌-◌, ◌/◌, ◌<◌, ◌≤◌, List, [], length, count_by, Some, None, ◌==◌, if◌then◌else◌}
 use Rattle.std.proofs.Common.{inl, inr, subst}
 use Rattle.std.specs.declared.option.Option.{Option}
 use Rattle.direction_reader.specs.declared.event.Event.{Event}

@@ -1,4 +1,4 @@
-use Rattle.std.proofs.Common.{◌≡◌, ◌+◌, ◌<◌, List, ℕ, ◌∷◌, ◌++◌, length, take, drop, get_or, sym}
+use Rattle.std.proofs.Common.{◌+◌, ◌∷◌, take, drop, get_or}
 use Rattle.tc_top.proofs.AlongTheInput.{stops_on, cut_at, through}
 use Rattle.tc_top.proofs.intake.feed.Goals as goal
 

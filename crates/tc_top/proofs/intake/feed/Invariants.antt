@@ -1,4 +1,4 @@
-use Rattle.std.proofs.Common.{◌≡◌, ◌+◌, ◌≤◌, List, ℕ, take}
+use Rattle.std.proofs.Common.{◌≡◌, ◌+◌, ◌≤◌, take}
 use Rattle.tc_top.proofs.AlongTheInput.{Works}
 use Rattle.tc_top.proofs.intake.feed.Given as goal
 

@@ -1,5 +1,4 @@
-use Rattle.std.proofs.Common.{◌≡◌, ◌++◌, take, arith, subst, sym}
-use Rattle.std.specs.Io.KnownBytes.{Appends, Consumes}
+use Rattle.std.proofs.Common.{◌++◌, take, arith}
 use Rattle.std.proofs.KnownBytes.{Appends-trans, Consumes-trans}
 use Rattle.tc_top.proofs.AlongTheInput.{ended_at, on_ok, if_err, through, along, along_at_end}
 use Rattle.tc_top.proofs.intake.work.Goals as goal

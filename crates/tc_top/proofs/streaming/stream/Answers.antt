@@ -1,4 +1,4 @@
-use Rattle.std.proofs.Common.{◌≡◌, [], refl}
+use Rattle.std.proofs.Common.{[], refl}
 use Rattle.std.proofs.KnownBytes.{Appends-nil}
 use Rattle.tc_top.proofs.OnlyDone.{answer_of, only_done}
 use Rattle.tc_top.proofs.streaming.stream.Goals as goal

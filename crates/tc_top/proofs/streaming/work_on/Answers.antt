@@ -1,4 +1,4 @@
-use Rattle.std.proofs.Common.{◌≡◌, [], refl, inr}
+use Rattle.std.proofs.Common.{[], refl, inr}
 use Rattle.std.proofs.KnownBytes.{Consumes-nil}
 use Rattle.tc_top.proofs.AlongTheInput.{on_ok, if_err, err_both}
 use Rattle.tc_top.proofs.streaming.work_on.Goals as goal

@@ -1,4 +1,4 @@
-use Rattle.std.proofs.Common.{◌≡◌, [], refl, map, string_bytes}
+use Rattle.std.proofs.Common.{[], map, string_bytes}
 use Rattle.std.proofs.KnownBytes.{Appends-nil, Consumes-nil}
 use Rattle.tc_top.proofs.WordsAnswer.{job_answers, named, fault_answers}
 use Rattle.tc_top.proofs.top_call.run.Goals as goal

@@ -1,5 +1,4 @@
-use Rattle.std.proofs.Common.{◌≡◌, ◌≤◌, ◌+◌, arith}
-use Rattle.direction_reader.specs.Spacing.{AreBoundariesTo}
+use Rattle.std.proofs.Common.{arith}
 use Rattle.direction_reader.proofs.CellsEnd.{cell_ended, fits_after}
 use Rattle.direction_reader.proofs.reader.DirectionReader.feed.Goals as goal
 

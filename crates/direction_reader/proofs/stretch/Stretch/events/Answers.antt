@@ -1,4 +1,4 @@
-use Rattle.std.proofs.Common.{◌≡◌, ◌≤◌, ◌-◌, ◌*◌, arith}
+use Rattle.std.proofs.Common.{◌≤◌, ◌-◌, ◌*◌, arith}
 use Rattle.direction_reader.specs.Spacing.{AreBoundariesTo, greatest_cell}
 use Rattle.direction_reader.proofs.CellsEnd.{window_length}
 use Rattle.direction_reader.proofs.WordsEnd.{ends}

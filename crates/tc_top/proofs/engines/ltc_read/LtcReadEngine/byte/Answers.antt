@@ -1,12 +1,11 @@
-use Rattle.std.proofs.Common.{rules, ◌≡◌, ◌+◌, ◌%◌, ◌++◌, ◌∷◌, [], Some, arith, refl, sym}
+use Rattle.std.proofs.Common.{rules, ◌≡◌, ◌∷◌, [], Some, arith, refl, sym}
 use Rattle.std.proofs.KnownBytes.{Appends-nil}
 use Rattle.std.proofs.lemmas.Grind.{common_steps}
-use Rattle.tc_files.specs.IntervalFile.{after, answer}
+use Rattle.tc_files.specs.IntervalFile.{after}
 use Rattle.direction_reader.specs.declared.reader.TheConstants.{MAX_INTERVALS}
 use Rattle.tc_top.specs.LtcRead.{lines}
 use Rattle.tc_top.specs.ReadEngine.{IsGoing}
 use Rattle.tc_top.specs.declared.engines.reading.Reading.{Reading}
-use Rattle.tc_top.specs.declared.engines.ltc_read.LtcRead.{LtcRead}
 use Rattle.tc_top.proofs.AlongTheInput.{on_ok, both_ok, if_err, err_both}
 use Rattle.tc_top.proofs.ReadLines.{stands_more, taken_after, printed_more, printed_behind, header_printed, interval_printed, front_printed, limit_passed, fault_stops}
 use Rattle.tc_top.proofs.engines.ltc_read.LtcReadEngine.byte.Goals as goal

@@ -1,4 +1,4 @@
-use Rattle.std.proofs.Common.{ℕ, List, ◌≡◌, ◌++◌, [], sym, subst}
+use Rattle.std.proofs.Common.{ℕ, List, ◌++◌, [], sym, subst}
 use Rattle.std.proofs.KnownBytes.{Appends-nil}
 use Rattle.tc_top.specs.LtcRead.{IsReadOutput}
 use Rattle.tc_top.proofs.AlongTheInput.{on_ok, if_err, err_both}

@@ -1,4 +1,3 @@
-use Rattle.std.proofs.Common.{◌≡◌, ◌++◌}
 use Rattle.tc_top.proofs.AlongTheInput.{on_ok, on_err, at_err}
 use Rattle.tc_top.proofs.PushedLines.{two_pushed, front_of_more, front_of_second}
 use Rattle.tc_top.proofs.engines.reading.Reading.push.Goals as goal
