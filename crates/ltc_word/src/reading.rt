@@ -3,7 +3,13 @@
 ghost use Rattle.std.specs.Prelude.{◌≡◌, ◌+◌, ◌^◌, ◌<◌, ◌≤◌, IfOk, IfErr, Some};
 ghost use Rattle.ltc_word.specs.Spelling.{Spells};
 ghost use Rattle.ltc_word.specs.Fault.{
-    raw_in, flags_in, user_in, differs, wrong_sync_bit, first_fault, IsOfFields,
+  raw_in,
+  flags_in,
+  user_in,
+  differs,
+  wrong_sync_bit,
+  first_fault,
+  IsOfFields,
 };
 ghost use Rattle.ltc_word.specs.Reversal.{EndsInSync};
 
