@@ -99,3 +99,54 @@ fn piece(pieces: &[usize], pulls: u64, room: usize) -> usize
     let place = (pulls % pieces.len() as u64) as usize;
     room.min(pieces[place].max(1))
 }
+
+#[cfg(test)]
+mod tests {
+    use super::*;
+    use std::test::Fail;
+
+    #[test]
+    fn a_ring_that_wraps_gives_its_bytes_in_order(rt: HostRuntime) -> Result<(), Fail> {
+        let alloc = rt.alloc();
+        let mut ring = HeapCircularBuffer::with_capacity(alloc, 4)?;
+        ring.fill_from_slice(b"xyab");
+        let mut gone = *b"..";
+        assert_eq!(rt; ring.read_into(&mut gone), 2);
+        ring.fill_from_slice(b"cd");
+        let mut source = MemorySource {
+            bytes: ring,
+            pieces: [3].to_vec(alloc)?,
+            failing: Vec::new(alloc),
+            calls: 0,
+            pulls: 0,
+            faults: 0,
+        };
+        let mut buf = *b"....";
+        assert_eq!(rt; source.pull(&mut buf), Ok(3));
+        assert_eq!(rt; buf, *b"abc.");
+        assert_eq!(rt; source.pull(&mut buf), Ok(1));
+        assert_eq!(rt; buf, *b"dbc.");
+        Ok(())
+    }
+
+    #[test]
+    fn counts_stop_at_their_last_value(rt: HostRuntime) -> Result<(), Fail> {
+        let alloc = rt.alloc();
+        let mut ring = HeapCircularBuffer::with_capacity(alloc, 1)?;
+        ring.fill_from_slice(b"a");
+        let mut source = MemorySource {
+            bytes: ring,
+            pieces: Vec::new(alloc),
+            failing: [u64::MAX].to_vec(alloc)?,
+            calls: u64::MAX - 1,
+            pulls: 0,
+            faults: u64::MAX - 1,
+        };
+        let mut buf = *b".";
+        for _ in 0..3 {
+            assert_eq!(rt; source.pull(&mut buf), Err(Failed));
+            assert_eq!(rt; (source.calls, source.faults), (u64::MAX, u64::MAX));
+        }
+        Ok(())
+    }
+}
