@@ -9,11 +9,6 @@ no_events = record { first = None; second = None }
 abbrev pub one_event : Event → Events
 one_event event = record { first = Some event; second = None }
 
--- the events that are there, in this order
-abbrev pub in_order : Option Event → Option Event → Events
-in_order None second = record { first = second; second = None }
-in_order (Some event) second = record { first = Some event; second = second }
-
 -- the events as a list
 abbrev pub listed : Option Event → List Event
 listed None = []

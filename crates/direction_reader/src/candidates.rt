@@ -1,6 +1,6 @@
 //! The words that a window of 80 bits may be. Next: `reader`.
 ghost use Rattle.std.specs.Prelude.{◌<◌, ◌^◌};
-ghost use Rattle.ltc_word.specs.Reversal.{EndsInSync};
+ghost use Rattle.ltc_word.specs.Reversal.{EndsInSync, reversed_bits};
 ghost use Rattle.direction_reader.specs.Candidate.{IsEventOf, AreEventsOf, Bears, BearsOnly};
 
 use crate::event::{Event, Events};
@@ -16,24 +16,26 @@ pub fn window_events(system: System, bits: u128, tick: u64, length: u64) -> Even
     ensures candidates { AreEventsOf system bits tick length result }
     ensures bears { BearsOnly tick length result }
 {
-    let is_forward = ends_in_sync(bits);
-    let is_backward = begins_in_reversed_sync(bits);
-    // Nearly every window is no candidate.
-    if !is_forward && !is_backward {
-        return Events::none();
+    match (ends_in_sync(bits), begins_in_reversed_sync(bits)) {
+        (false, false) => Events::none(),
+        (true, false) => Events::one(candidate(Direction::Forward, system, bits, tick, length)),
+        (false, true) => Events::one(backward_candidate(system, bits, tick, length)),
+        (true, true) => Events {
+            first: Some(candidate(Direction::Forward, system, bits, tick, length)),
+            second: Some(backward_candidate(system, bits, tick, length)),
+        },
     }
-    let forward = if is_forward {
-        Some(candidate(Direction::Forward, system, bits, tick, length))
-    } else {
-        None
-    };
-    let backward = if is_backward {
-        let bits = reversed(bits);
-        Some(candidate(Direction::Backward, system, bits, tick, length))
-    } else {
-        None
-    };
-    Events::in_order(forward, backward)
+}
+
+/// The event of a window that is read backward.
+fn backward_candidate(system: System, bits: u128, tick: u64, length: u64) -> Event
+    requires eighty { bits < 2 ^ 80 }
+    requires sync { EndsInSync (reversed_bits bits) }
+    ensures event { IsEventOf system Direction.Backward (reversed_bits bits) tick length result }
+    ensures bears { Bears tick length result }
+{
+    let bits = reversed(bits);
+    candidate(Direction::Backward, system, bits, tick, length)
 }
 
 /// The event of bits that end in the sync word, read in their direction.

@@ -37,7 +37,7 @@ pub struct Events {
 }
 
 impl Events {
-    ghost use Rattle.direction_reader.specs.Events.{no_events, one_event, in_order};
+    ghost use Rattle.direction_reader.specs.Events.{no_events, one_event};
 
     /// No event.
     pub(crate) fn none() -> Events
@@ -56,19 +56,6 @@ impl Events {
         Events {
             first: Some(event),
             second: None,
-        }
-    }
-
-    /// Those that are there, in this order.
-    pub(crate) fn in_order(first: Option<Event>, second: Option<Event>) -> Events
-        ensures { result ≡ in_order first second }
-    {
-        match first {
-            None => Events {
-                first: second,
-                second: None,
-            },
-            Some(_) => Events { first, second },
         }
     }
 }
