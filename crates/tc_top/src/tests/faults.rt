@@ -88,6 +88,53 @@ fn a_file_that_is_cut(rt: HostRuntime) -> Result<(), Fail> {
     Ok(())
 }
 
+#[test]
+fn the_lines_before_a_fault_stand(rt: HostRuntime) -> Result<(), Fail> {
+    let mut input = three_frames(rt.alloc())?;
+    let cut = input.get(..1167).ok_or("a file that is too short")?;
+    let output = lines(2).ok_or("a report that is too short")?;
+    let note = "tc: refused: truncated at byte 1167\n";
+    Trial::new("ltc-read", cut).ends(&rt, Status::Refused, output, note)?;
+
+    input.extend_from_slice(&[0; 4])?;
+    let output = lines(3).ok_or("a report that is too short")?;
+    let note = "tc: refused: interval at byte 1168\n";
+    Trial::new("ltc-read", &input).ends(&rt, Status::Refused, output, note)
+}
+
+/// A file with a fault at byte 5, cut into pulls of which the second fails.
+#[test]
+fn the_earliest_fault_along_the_input_is_told(rt: HostRuntime) -> Result<(), Fail> {
+    for (piece, status, note) in [
+        (5, Status::ReadFault, "tc: read fault\n"),
+        (6, Status::Refused, "tc: refused: system at byte 5\n"),
+    ] {
+        let trial = Trial {
+            pieces: &[piece],
+            failing_pulls: &[2],
+            failing_pushes: &[1],
+            ..Trial::new("ltc-read", b"LTCI\x01\x1a\x00\x00")
+        };
+        trial.ends(&rt, status, "", note)?;
+    }
+    Ok(())
+}
+
+#[test]
+fn exit_numbers(rt: HostRuntime) {
+    for (status, number) in [
+        (Status::Done, 0),
+        (Status::Usage, 2),
+        (Status::Refused, 3),
+        (Status::ReadFault, 4),
+        (Status::WriteFault, 5),
+        (Status::Memory, 6),
+        (Status::Limit, 7),
+    ] {
+        assert_eq!(rt; status.code(), number, "of {status:?}");
+    }
+}
+
 /// The first lines of the report of three frames, each of which has 94 bytes with its newline.
 fn lines(count: usize) -> Option<&'static str> {
     THREE_LINES.get(..count.checked_mul(94)?)

@@ -1,9 +1,11 @@
 //! Recordings and the lines that are read from them.
 use super::recording::{Pace, file, recorded, spelled, three_frames};
 use super::trial::Trial;
-use crate::Status;
+use crate::{Status, stream};
 use std::test::Fail;
 use tc_address::{Count, Direction, System};
+use tc_io::{MemorySink, SteadySource};
+use tc_words::Job;
 
 /// The report of three frames at 25 frames.
 pub const THREE_LINES: &str =
@@ -22,6 +24,63 @@ fn three_forward_words_in_any_pieces(rt: HostRuntime) -> Result<(), Fail> {
             ..Trial::new("ltc-read", &input)
         };
         trial.ends(&rt, Status::Done, THREE_LINES, "")?;
+    }
+    Ok(())
+}
+
+#[test]
+fn three_forward_words_by_their_job(rt: HostRuntime) -> Result<(), Fail> {
+    let alloc = rt.alloc();
+    let input = three_frames(alloc)?;
+    let mut source = SteadySource::new(alloc, &input)?;
+    let mut out = MemorySink::new(alloc, 2000, &[])?;
+    let mut notes = MemorySink::new(alloc, 100, &[])?;
+    let status = stream(&Job::LtcRead, &mut source, &mut out, &mut notes);
+    assert_eq!(rt; out.written(), THREE_LINES.as_bytes());
+    assert!(rt; notes.written().is_empty());
+    assert_eq!(rt; status, Status::Done);
+    Ok(())
+}
+
+/// Words as libltc 1.3.2 encoded them, and one of odd balance.
+#[test]
+fn user_bits_flags_and_balance_are_shown(rt: HostRuntime) -> Result<(), Fail> {
+    let alloc = rt.alloc();
+    for (system, bits, report) in [
+        (
+            System::F24,
+            0xbffc_0202_0509_0508_0201,
+            "word forward 22:59:58:21 user 00000000 flags 00000 balance 1 tick 1968 length 1920 speed 1041\n\
+            end intervals 107 words 1 refused 0 lost 0 ticks 1968\n",
+        ),
+        (
+            System::F25,
+            0xbffc_24a9_55f9_1595_c831,
+            "word forward 09:59:55:01 user 2a5f19c3 flags 01010 balance 1 tick 1968 length 1920 speed 1000\n\
+            end intervals 125 words 1 refused 0 lost 0 ticks 1968\n",
+        ),
+        (
+            System::F30,
+            0xbffc_8190_a0b0_c0d1_e2f9,
+            "word forward 10:00:01:29 user 89abcdef flags 00000 balance 1 tick 1968 length 1920 speed 833\n\
+            end intervals 121 words 1 refused 0 lost 0 ticks 1968\n",
+        ),
+        (
+            System::F30,
+            0xbffc_0000_0001_0005_0401,
+            "word forward 00:01:05;01 user 00000000 flags 10000 balance 1 tick 1968 length 1920 speed 833\n\
+            end intervals 101 words 1 refused 0 lost 0 ticks 1968\n",
+        ),
+        (
+            System::F30,
+            0xbffc_0000_0000_0000_0000,
+            "word forward 00:00:00:00 user 00000000 flags 00000 balance 0 tick 1968 length 1920 speed 833\n\
+            end intervals 96 words 1 refused 0 lost 0 ticks 1968\n",
+        ),
+    ] {
+        let intervals = recorded(alloc, Direction::Forward, Pace::Steady, &[bits])?;
+        let input = file(alloc, system, &intervals)?;
+        Trial::new("ltc-read", &input).ends(&rt, Status::Done, report, "")?;
     }
     Ok(())
 }
