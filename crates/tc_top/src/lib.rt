@@ -32,3 +32,6 @@ mod top_call;
 pub use status::Status;
 pub use streaming::stream;
 pub use top_call::run;
+
+#[cfg(test)]
+mod tests;

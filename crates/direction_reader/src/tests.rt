@@ -1,0 +1,61 @@
+//! Windows whose events are known from outside.
+use crate::{Event, Events, window_events};
+use ltc_word::LtcWord;
+use std::test::Fail;
+use tc_address::{Count, Direction, Label, System};
+use tc_bits::{FieldFault, Fields, Flags, UserBits};
+
+/// The word of 01:00:00:00 at 25 frames.
+const ONE_HOUR: u128 = 0xbffc_0001_0000_0000_0000;
+
+#[test]
+fn a_window_that_ends_both_ways_is_refused_twice(rt: HostRuntime) {
+    let refused = |direction| {
+        Some(Event::Refused {
+            direction,
+            fault: FieldFault::FrameUnits,
+            tick: 1920,
+        })
+    };
+    let events = window_events(System::F25, 0xbffc_0000_0000_0000_3ffd, 1920, 1920);
+    assert_eq!(rt; events.first, refused(Direction::Forward));
+    assert_eq!(rt; events.second, refused(Direction::Backward));
+}
+
+#[test]
+fn a_word_is_read_one_way_or_none(rt: HostRuntime) -> Result<(), Fail> {
+    let flags = Flags {
+        bit10: false,
+        colour: false,
+        bgf0: false,
+        bgf1: false,
+        bgf2: false,
+    };
+    let label = Label::new(Count::C25, 1, 0, 0, 0)?;
+    let word = LtcWord {
+        fields: Fields::new(label, flags, UserBits::new(0))?,
+        balanced: true,
+    };
+    let read = |direction| {
+        Some(Event::Word {
+            direction,
+            word,
+            tick: 1968,
+            length: 1920,
+        })
+    };
+    for (bits, first) in [
+        (ONE_HOUR, read(Direction::Forward)),
+        (0x8000_3ffd, read(Direction::Backward)),
+        (ONE_HOUR / 2, None),
+        (0, None),
+    ] {
+        let events = window_events(System::F25, bits, 1968, 1920);
+        let wanted = Events {
+            first,
+            second: None,
+        };
+        assert_eq!(rt; events, wanted, "of {bits:x}");
+    }
+    Ok(())
+}

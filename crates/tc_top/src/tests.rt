@@ -1,0 +1,7 @@
+//! Runs of the program whose status, output and note are known from outside.
+mod damage;
+mod faults;
+mod reading;
+mod recording;
+mod trial;
+mod words;
