@@ -77,3 +77,25 @@ fn the_mirrored_recording_reads_backward(rt: HostRuntime) -> Result<(), Fail> {
         end intervals 289 words 2 refused 0 lost 0 ticks 5808\n";
     Trial::new("ltc-read", &input).ends(&rt, Status::Done, report, "")
 }
+
+#[test]
+fn halves_that_differ_too_much_break_each_stretch(rt: HostRuntime) -> Result<(), Fail> {
+    let alloc = rt.alloc();
+    let intervals = recorded(alloc, Direction::Forward, Pace::Uneven, &THREE_WORDS)?;
+    let input = file(alloc, System::F25, &intervals)?;
+    let report = "lost interval 2 tick 48\n\
+        lost interval 52 tick 1224\n\
+        lost interval 71 tick 1656\n\
+        lost interval 96 tick 1968\n\
+        lost interval 147 tick 3144\n\
+        lost interval 159 tick 3408\n\
+        lost interval 167 tick 3576\n\
+        lost interval 192 tick 3888\n\
+        lost interval 195 tick 3936\n\
+        lost interval 243 tick 5064\n\
+        lost interval 255 tick 5328\n\
+        lost interval 263 tick 5496\n\
+        lost interval 288 tick 5808\n\
+        end intervals 289 words 0 refused 0 lost 13 ticks 5808\n";
+    Trial::new("ltc-read", &input).ends(&rt, Status::Done, report, "")
+}

@@ -105,6 +105,16 @@ fn intervals_without_a_word(rt: HostRuntime) -> Result<(), Fail> {
             [200, 130].as_slice(),
             "lost interval 1 tick 330\nend intervals 2 words 0 refused 0 lost 1 ticks 330\n",
         ),
+        // A first half at the end of the file is no loss.
+        (
+            [24, 12].as_slice(),
+            "end intervals 2 words 0 refused 0 lost 0 ticks 36\n",
+        ),
+        // A second half that does not fit is one, and the pair of the two halves counts no more.
+        (
+            [24, 12, 24, 60].as_slice(),
+            "lost interval 2 tick 60\nend intervals 4 words 0 refused 0 lost 1 ticks 120\n",
+        ),
     ] {
         let input = file(alloc, System::F25, intervals)?;
         Trial::new("ltc-read", &input).ends(&rt, Status::Done, report, "")?;

@@ -18,6 +18,8 @@ pub const THREE_WORDS: [u128; 3] = [
 pub enum Pace {
     /// Cells of 24 ticks.
     Steady,
+    /// Cells of 24 ticks whose halves are of 11 and 13 ticks.
+    Uneven,
     /// Cells from 800 ticks on, each 2 ticks shorter than the one before, down to 400 ticks.
     Faster,
     /// Half cells of 10.01 ticks: 29.97 frames a second at 48000 ticks.
@@ -29,6 +31,7 @@ impl Pace {
     fn halves(self, cell: u32) -> (u32, u32) {
         match self {
             Pace::Steady => (12, 12),
+            Pace::Uneven => (11, 13),
             Pace::Faster => {
                 let length = 800_u32.saturating_sub(cell.saturating_mul(2)).max(400);
                 (length / 2, length - length / 2)

@@ -48,18 +48,10 @@ impl<'a> Trial<'a> {
         let mut out = MemorySink::new(alloc, self.room, self.failing_pushes)?;
         let mut notes = MemorySink::new(alloc, self.notes_room, &[])?;
         let ended = run(alloc, &words, &mut source, &mut out, &mut notes);
-        assert_eq!(rt;
-            out.written(),
-            output.as_bytes(),
-            "the output of {}",
-            self.words
-        );
-        assert_eq!(rt;
-            notes.written(),
-            note.as_bytes(),
-            "the note of {}",
-            self.words
-        );
+        let written = str::from_utf8(out.written())?;
+        let noted = str::from_utf8(notes.written())?;
+        assert_eq!(rt; written, output, "the output of {}", self.words);
+        assert_eq!(rt; noted, note, "the note of {}", self.words);
         assert_eq!(rt; ended, status, "the status of {}", self.words);
         Ok(())
     }
