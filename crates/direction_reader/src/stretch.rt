@@ -3,7 +3,7 @@ ghost use Rattle.std.specs.Prelude.{◌≡◌, slice_index};
 ghost use Rattle.direction_reader.specs.Boundaries.{with_tick};
 ghost use Rattle.direction_reader.specs.Brings.{BringsAt};
 ghost use Rattle.direction_reader.specs.Spacing.{AreBoundariesTo};
-ghost use Rattle.direction_reader.specs.Stretch.{after_bit, no_cells, HasBoundaries};
+ghost use Rattle.direction_reader.specs.Stretch.{after_bit, no_cells, AreWindowEvents, HasBoundaries};
 
 use crate::boundaries::Boundaries;
 use crate::candidates::window_events;
@@ -79,7 +79,8 @@ impl Stretch {
     /// The events of the latest window, which ends at this tick.
     pub fn events(&self, system: System, tick: u64) -> Events
         requires { AreBoundariesTo tick self.now.boundaries }
-        ensures { BringsAt tick result }
+        ensures events { AreWindowEvents system self.now.window self.now.boundaries tick result }
+        ensures brings { BringsAt tick result }
     {
         match self.window {
             Window::Filling(_) => Events::none(),

@@ -12,8 +12,8 @@ overflow_sub-length c =
     rw (c.oldest.ensures) (omega arith)
 
 -- each event ends the window, and a word is as long as the window
-pub returns-in-Full : goal.returns-in-Full
-returns-in-Full c =
+pub returns-in-Full-clause-brings : goal.returns-in-Full-clause-brings
+returns-in-Full-clause-brings c =
     let are : AreBoundariesTo c.args.tick c.self.inside.boundaries = rw (← c.self.view_is) at c.requires in
     let lasts = window_length c.args.tick c.self.inside.boundaries are (rw c.in-Full.is at c.self.invariant) in
     let length = c.args.tick - c.oldest.result in
