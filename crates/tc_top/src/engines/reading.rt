@@ -1,5 +1,5 @@
 //! What `ltc-read` does behind the header: intervals become events, and events become lines.
-ghost use Rattle.std.specs.Prelude.{◌≡◌, ℕ, ◌≤◌, ◌<◌, ◌+◌, ◌*◌, ◌↔◌, List, IsTrue, OnOk, OnErr, IfErr};
+ghost use Rattle.std.specs.Prelude.{◌≡◌, ◌≤◌, ◌<◌, ◌+◌, ◌*◌, ◌↔◌, List, IsTrue, OnOk, OnErr, IfErr};
 ghost use Rattle.std.specs.Io.KnownBytes.{Appends};
 ghost use Rattle.biphase.specs.declared.cell.TheConstants.{MAX_INTERVAL};
 ghost use Rattle.direction_reader.specs.declared.reader.TheConstants.{MAX_INTERVALS};
@@ -133,8 +133,8 @@ impl Reading {
     /// The last line of the report.
     pub(crate) fn end_text(&self) -> Text
         requires { FitsReading self.now }
-        ensures { (ticks : ℕ) × (result.items ≡ read_end_line
-            self.now.reader.intervals self.now.words self.now.refused self.now.lost ticks) }
+        ensures { result.items ≡ read_end_line
+            self.now.reader.intervals self.now.words self.now.refused self.now.lost self.now.reader.tick }
     {
         read_end_text(
             self.reader.intervals(),
