@@ -1,9 +1,10 @@
 -- The faults of the fields of a word, in the order in which they are looked for (this project's).
-use Rattle.std.specs.Prelude.{ℕ, ◌+◌, ◌*◌, Bool, nat_lt, nat_le, List, [], ◌∷◌, codes, Option, find}
+use Rattle.std.specs.Prelude.{ℕ, ◌+◌, ◌*◌, Bool, nat_lt, nat_le, List, [], ◌∷◌, Option, find}
 use Rattle.std.specs.Option.{option_map}
 use Rattle.tc_address.specs.declared.system.System.{System}
 use Rattle.tc_address.specs.Count.{rate_of}
 use Rattle.tc_address.specs.Label.{is_skipped}
+use Rattle.tc_bits.specs.declared.names.TheConstants as names
 use Rattle.tc_bits.specs.declared.fault.FieldFault.{FieldFault}
 use Rattle.tc_bits.specs.declared.fault.FieldFault.TheVariants.{FrameUnits, Frames, SecondUnits, SecondTens, MinuteUnits, MinuteTens, HourUnits, Hours, DroppedLabel}
 use Rattle.tc_bits.specs.declared.raw.RawFields.{RawFields}
@@ -29,12 +30,12 @@ first_field_fault system raw = option_map (λ row. row.1) (find (λ row. row.0) 
 
 -- the name that a report prints
 abbrev pub name_of : FieldFault → List ℕ
-name_of FrameUnits = codes "frame-units"
-name_of Frames = codes "frames"
-name_of SecondUnits = codes "second-units"
-name_of SecondTens = codes "second-tens"
-name_of MinuteUnits = codes "minute-units"
-name_of MinuteTens = codes "minute-tens"
-name_of HourUnits = codes "hour-units"
-name_of Hours = codes "hours"
-name_of DroppedLabel = codes "dropped-label"
+name_of FrameUnits = names.FRAME_UNITS.now
+name_of Frames = names.FRAMES.now
+name_of SecondUnits = names.SECOND_UNITS.now
+name_of SecondTens = names.SECOND_TENS.now
+name_of MinuteUnits = names.MINUTE_UNITS.now
+name_of MinuteTens = names.MINUTE_TENS.now
+name_of HourUnits = names.HOUR_UNITS.now
+name_of Hours = names.HOURS.now
+name_of DroppedLabel = names.DROPPED_LABEL.now

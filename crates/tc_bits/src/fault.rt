@@ -3,6 +3,8 @@
 ghost use Rattle.std.specs.Prelude.{◌≡◌};
 ghost use Rattle.tc_bits.specs.Fault.{name_of};
 
+use crate::names;
+
 /// The first fault of the fields of a word, in the order of these variants.
 #[derive(Clone, Copy, Debug, PartialEq, Eq)]
 pub enum FieldFault {
@@ -32,15 +34,15 @@ impl FieldFault {
         ensures { result.now ≡ name_of self }
     {
         match self {
-            FieldFault::FrameUnits => "frame-units",
-            FieldFault::Frames => "frames",
-            FieldFault::SecondUnits => "second-units",
-            FieldFault::SecondTens => "second-tens",
-            FieldFault::MinuteUnits => "minute-units",
-            FieldFault::MinuteTens => "minute-tens",
-            FieldFault::HourUnits => "hour-units",
-            FieldFault::Hours => "hours",
-            FieldFault::DroppedLabel => "dropped-label",
+            FieldFault::FrameUnits => names::FRAME_UNITS,
+            FieldFault::Frames => names::FRAMES,
+            FieldFault::SecondUnits => names::SECOND_UNITS,
+            FieldFault::SecondTens => names::SECOND_TENS,
+            FieldFault::MinuteUnits => names::MINUTE_UNITS,
+            FieldFault::MinuteTens => names::MINUTE_TENS,
+            FieldFault::HourUnits => names::HOUR_UNITS,
+            FieldFault::Hours => names::HOURS,
+            FieldFault::DroppedLabel => names::DROPPED_LABEL,
         }
     }
 }

@@ -12,7 +12,7 @@
 //!   (`specs/Fault.antt`, `first_field_fault`). `raw_of` gives the digits back.
 //! - Fields of 30 frames have the drop-frame flag exactly where their count is drop-frame.
 //!
-//! Read `place` and `register`, then `user_bits`, `flags`, `fields`, `raw`, `fault` and `checking`,
+//! Read `place` and `register`, then `user_bits`, `flags`, `fields`, `raw`, `fault` with its `names`, and `checking`,
 //! with the files of specs/ beside them. `ltc_word` and `vitc_line` stand on this crate. Nothing here
 //! allocates or fails in any other way.
 #![tactic(auto)]
@@ -22,6 +22,7 @@ mod fault;
 mod fields;
 mod flags;
 pub mod laws;
+pub mod names;
 mod place;
 mod raw;
 mod register;

@@ -1,17 +1,18 @@
 -- The faults of an interval file: the name of each in notes, and its byte place.
-use Rattle.std.specs.Prelude.{ℕ, List, codes}
+use Rattle.std.specs.Prelude.{ℕ, List}
+use Rattle.tc_files.specs.declared.names.TheConstants as names
 use Rattle.tc_files.specs.declared.fault.FileFault.{FileFault}
 use Rattle.tc_files.specs.declared.fault.FileFault.TheVariants.{Magic, Version, System, Reserved, TickRate, Interval, Truncated}
 
 -- the name that notes print
 abbrev pub name_of : FileFault → List ℕ
-name_of (Magic _) = codes "magic"
-name_of (Version _) = codes "version"
-name_of (System _) = codes "system"
-name_of (Reserved _) = codes "reserved"
-name_of (TickRate _) = codes "tick-rate"
-name_of (Interval _) = codes "interval"
-name_of (Truncated _) = codes "truncated"
+name_of (Magic _) = names.MAGIC.now
+name_of (Version _) = names.VERSION.now
+name_of (System _) = names.SYSTEM.now
+name_of (Reserved _) = names.RESERVED.now
+name_of (TickRate _) = names.TICK_RATE.now
+name_of (Interval _) = names.INTERVAL.now
+name_of (Truncated _) = names.TRUNCATED.now
 
 -- the byte place at which the fault stands
 abbrev pub place_of : FileFault → ℕ

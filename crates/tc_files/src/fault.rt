@@ -1,5 +1,6 @@
 ghost use Rattle.std.specs.Prelude.{◌≡◌};
 
+use crate::names;
 use thiserror::Error;
 
 /// The first fault of an interval file, with the byte place, from 0, at which it stands.
@@ -36,13 +37,13 @@ impl FileFault {
         ensures { result.now ≡ name_of self }
     {
         match self {
-            FileFault::Magic(_) => "magic",
-            FileFault::Version(_) => "version",
-            FileFault::System(_) => "system",
-            FileFault::Reserved(_) => "reserved",
-            FileFault::TickRate(_) => "tick-rate",
-            FileFault::Interval(_) => "interval",
-            FileFault::Truncated(_) => "truncated",
+            FileFault::Magic(_) => names::MAGIC,
+            FileFault::Version(_) => names::VERSION,
+            FileFault::System(_) => names::SYSTEM,
+            FileFault::Reserved(_) => names::RESERVED,
+            FileFault::TickRate(_) => names::TICK_RATE,
+            FileFault::Interval(_) => names::INTERVAL,
+            FileFault::Truncated(_) => names::TRUNCATED,
         }
     }
 

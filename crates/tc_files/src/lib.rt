@@ -17,6 +17,7 @@
 
 mod fault;
 mod interval_file;
+pub mod names;
 mod texts;
 
 pub use fault::FileFault;
