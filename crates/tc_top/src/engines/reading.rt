@@ -73,6 +73,10 @@ impl Reading {
         ensures cause { HasOutCause (K.faults out.old) (K.faults out.new) result }
     {
         let events = self.reader.feed(x);
+        // Nearly every interval brings nothing.
+        if events.first.is_none() && events.second.is_none() {
+            return Ok(());
+        }
         self.push(events, out)
     }
 
