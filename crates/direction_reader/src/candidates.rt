@@ -1,4 +1,4 @@
-//! The words that a window of 80 bits may be. Next: `reader`.
+//! The words that a window of 80 bits may be. Next: `lock`.
 ghost use Rattle.std.specs.Prelude.{◌<◌, ◌^◌};
 ghost use Rattle.ltc_word.specs.Reversal.{EndsInSync, reversed_bits};
 ghost use Rattle.direction_reader.specs.Candidate.{IsEventOf, AreEventsOf, Bears, BearsOnly};

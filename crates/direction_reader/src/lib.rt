@@ -12,11 +12,11 @@
 //!   (`specs/Window.antt`).
 //! - `window_events` gives the candidates of one window, the forward one first
 //!   (`specs/Candidate.antt`).
-//! - `DirectionReader::feed` counts the intervals and sums their ticks, and each of its events bears
-//!   that sum (`specs/Reader.antt`).
+//! - `DirectionReader::feed` counts the intervals and sums their ticks (`specs/Reader.antt`), and each
+//!   of its events bears that sum (`specs/Brings.antt`).
 //!
-//! Read `event`, `window`, `boundaries`, `candidates` and `reader`, in this order. `tc_files` prints
-//! the events. Nothing here allocates.
+//! Read `event`, `window`, `boundaries`, `candidates`, `lock`, `stretch` and `reader`, in this order.
+//! `tc_files` prints the events. Nothing here allocates.
 #![tactic(auto)]
 
 mod boundaries;
