@@ -12,22 +12,12 @@ use Rattle.tc_words.specs.declared.job.Job.TheVariants.{LtcRead, Number, LabelOf
 use Rattle.tc_top.specs.Output.{IsEnd}
 use Rattle.tc_top.specs.declared.engine.Stop.{Stop}
 use Rattle.tc_top.specs.declared.engine.Stop.TheVariants.{Refused, ReadFault, WriteFault, Limit}
-use Rattle.tc_top.specs.Stops.{IsStop, Stops, IsEndStop, StopsAtEnd, StopsAlong}
+use Rattle.tc_top.specs.Stops.{IsStop, Stops, IsEndStop, StopsAlong}
 
 -- bytes that were worked on take each state and output to a later state and a longer output
 abbrev pub Works : (List ℕ → List ℕ → Type 0) → (List ℕ → List ℕ → Type 0) → Option (List ℕ) → Option (List ℕ) → List ℕ → Type 0
 Works before after old new bytes =
     (front output : List ℕ) → before front output → (more : List ℕ) × Appends old new more × after (front ++ bytes) (output ++ more)
-
--- one part of the bytes after another
-pub works_on : (start mid last : List ℕ → List ℕ → Type 0) (old between new : Option (List ℕ)) (bytes more : List ℕ)
-    → Works start mid old between bytes → Works mid last between new more → Works start last old new (bytes ++ more)
-works_on start mid last old between new bytes more first second = λ front output stands.
-    let f = first front output stands in
-    let s = second (front ++ bytes) (output ++ f.0) f.2 in
-    let joined : (front ++ bytes) ++ more ≡ front ++ (bytes ++ more) = append_assoc front bytes more in
-    let pushed : (output ++ f.0) ++ s.0 ≡ output ++ (f.0 ++ s.0) = append_assoc output f.0 s.0 in
-    (f.0 ++ s.0, Appends-trans old between new f.0 s.0 f.1 s.1, subst (λ (w : List ℕ). last (front ++ (bytes ++ more)) w) pushed (subst (λ (b : List ℕ). last b ((output ++ f.0) ++ s.0)) joined s.2))
 
 -- a stop after some bytes
 pub stops_on : (job : Job) (stop : Stop) (start mid : List ℕ → List ℕ → Type 0) (old between new : Option (List ℕ)) (bytes more : List ℕ)
@@ -40,17 +30,6 @@ stops_on job stop start mid old between new bytes more first second = λ front o
     let joined : (front ++ bytes) ++ more ≡ front ++ (bytes ++ more) = append_assoc front bytes more in
     let pushed : (output ++ f.0) ++ s.0 ≡ output ++ (f.0 ++ s.0) = append_assoc output f.0 s.0 in
     (f.0 ++ s.0, Appends-trans old between new f.0 s.0 f.1 s.1, subst (λ (w : List ℕ). IsStop job stop (front ++ (bytes ++ more)) w) pushed (subst (λ (b : List ℕ). IsStop job stop b ((output ++ f.0) ++ s.0)) joined s.2))
-
--- a stop at the end of the bytes
-pub stops_at_end : (job : Job) (stop : Stop) (start mid : List ℕ → List ℕ → Type 0) (old between new : Option (List ℕ)) (bytes : List ℕ)
-    → Works start mid old between bytes
-    → ((front output : List ℕ) → mid front output → StopsAtEnd job stop between new front output)
-    → (front output : List ℕ) → start front output → StopsAtEnd job stop old new (front ++ bytes) output
-stops_at_end job stop start mid old between new bytes first second = λ front output stands.
-    let f = first front output stands in
-    let s = second (front ++ bytes) (output ++ f.0) f.2 in
-    let pushed : (output ++ f.0) ++ s.0 ≡ output ++ (f.0 ++ s.0) = append_assoc output f.0 s.0 in
-    (f.0 ++ s.0, Appends-trans old between new f.0 s.0 f.1 s.1, subst (λ (w : List ℕ). IsEndStop job stop (front ++ bytes) w) pushed s.2)
 
 -- a list is what stands before a place, what stands there, and what stands behind
 pub cut_at : (k : ℕ) (xs : List ℕ) → k < length xs → take k xs ++ get_or xs k 0 ∷ drop (k + 1) xs ≡ xs
