@@ -31,6 +31,10 @@ header_answer (Some system) rate =
     if nat_le 1 rate && nat_le rate MAX_TICK_RATE then Header (record { system = system; tick_rate = rate })
     else Fault (fault.TickRate HEAD_LENGTH)
 
+-- a length in range, or the fault of the interval that begins at a place
+abbrev pub in_range : ℕ → ℕ → Result ℕ FileFault
+in_range place ticks = if nat_le 1 ticks && nat_le ticks MAX_INTERVAL then Ok ticks else Err (fault.Interval place)
+
 -- the interval that begins at a place, or its fault
 abbrev pub interval_answer : ℕ → ℕ → Taken
 interval_answer place ticks =
@@ -101,11 +105,3 @@ CompletesAt (Fault first) taken = FoundAt first taken
 -- the progress of bytes, one after another
 abbrev pub progress_of : List ℕ → Progress
 progress_of bytes = fold after no_progress bytes
-
--- the header that the first twelve of the bytes say
-pub record IsHeaderOf (bytes : List ℕ) (header : IntervalHeader) : Type 0 where
-  pub eleven : List ℕ
-  pub twelfth : ℕ
-  pub rest : List ℕ
-  pub are : bytes ≡ eleven ++ twelfth ∷ rest
-  pub says : answer (progress_of eleven) twelfth ≡ Header header

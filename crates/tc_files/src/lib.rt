@@ -21,7 +21,7 @@ pub mod names;
 mod texts;
 
 pub use fault::FileFault;
-pub use interval_file::decoder::{IntervalDecoder, Taken};
+pub use interval_file::decoder::{IntervalDecoder, Taken, interval_at};
 pub use interval_file::header::{
     HEAD_LENGTH, HEADER_LENGTH, IntervalHeader, MAGIC, MAX_TICK_RATE, VERSION, interval_header,
 };

@@ -1,17 +1,16 @@
 -- What was pushed for some bytes and then for those after them was pushed for all of them, in order.
-use Rattle.std.proofs.Common.{◌≡◌, ℕ, ◌+◌, ◌<◌, List, [], ◌∷◌, ◌++◌, length, take, drop, get_or, arith, subst, append_assoc, append-nil, refl, inl, inr}
+use Rattle.std.proofs.Common.{◌≡◌, ℕ, ◌+◌, ◌-◌, ◌<◌, ◌≤◌, List, [], ◌∷◌, ◌++◌, length, take, drop, arith, subst, append_assoc, append-nil, refl, inl, inr, sym, ◌∙◌, ap}
 use Rattle.std.specs.Prelude.{OnOk, OnErr, IfErr, Ok, Err}
 use Rattle.std.specs.Result.{IsErrAnd}
 use Rattle.std.specs.declared.result.Result.{Result}
 use Rattle.std.specs.declared.option.Option.{Option}
 use Rattle.std.specs.Io.KnownBytes.{Appends, Consumes, IsAtEnd}
 use Rattle.std.proofs.lemmas.Grind.{common_steps}
-use Rattle.std.proofs.KnownBytes.{Appends-trans, Consumes-trans}
-use Rattle.tc_words.specs.declared.job.Job.{Job}
-use Rattle.tc_words.specs.declared.job.Job.TheVariants.{LtcRead, Number, LabelOf}
-use Rattle.tc_top.specs.Output.{IsEnd}
-use Rattle.tc_top.specs.declared.engine.Stop.{Stop}
-use Rattle.tc_top.specs.declared.engine.Stop.TheVariants.{Refused, ReadFault, WriteFault, Limit}
+use Rattle.std.proofs.lemmas.List.{take-append-drop, drop-take}
+use Rattle.std.proofs.KnownBytes.{Appends-trans, Appends-nil, Consumes-trans}
+use Rattle.tc_top.specs.Meaning.{Meaning, IsEnd}
+use Rattle.tc_top.specs.declared.stop.Stop.{Stop}
+use Rattle.tc_top.specs.declared.stop.Stop.TheVariants.{Refused, ReadFault, WriteFault, Limit}
 use Rattle.tc_top.specs.Stops.{IsStop, Stops, IsEndStop, StopsAlong}
 
 -- bytes that were worked on take each state and output to a later state and a longer output
@@ -20,20 +19,49 @@ Works before after old new bytes =
     (front output : List ℕ) → before front output → (more : List ℕ) × Appends old new more × after (front ++ bytes) (output ++ more)
 
 -- a stop after some bytes
-pub stops_on : (job : Job) (stop : Stop) (start mid : List ℕ → List ℕ → Type 0) (old between new : Option (List ℕ)) (bytes more : List ℕ)
+pub stops_on : (m : Meaning) (stop : Stop) (start mid : List ℕ → List ℕ → Type 0) (old between new : Option (List ℕ)) (bytes more : List ℕ)
     → Works start mid old between bytes
-    → ((front output : List ℕ) → mid front output → Stops job stop between new (front ++ more) output)
-    → (front output : List ℕ) → start front output → Stops job stop old new (front ++ (bytes ++ more)) output
-stops_on job stop start mid old between new bytes more first second = λ front output stands.
+    → ((front output : List ℕ) → mid front output → Stops m stop between new (front ++ more) output)
+    → (front output : List ℕ) → start front output → Stops m stop old new (front ++ (bytes ++ more)) output
+stops_on m stop start mid old between new bytes more first second = λ front output stands.
     let f = first front output stands in
     let s = second (front ++ bytes) (output ++ f.0) f.2 in
     let joined : (front ++ bytes) ++ more ≡ front ++ (bytes ++ more) = append_assoc front bytes more in
     let pushed : (output ++ f.0) ++ s.0 ≡ output ++ (f.0 ++ s.0) = append_assoc output f.0 s.0 in
-    (f.0 ++ s.0, Appends-trans old between new f.0 s.0 f.1 s.1, subst (λ (w : List ℕ). IsStop job stop (front ++ (bytes ++ more)) w) pushed (subst (λ (b : List ℕ). IsStop job stop b ((output ++ f.0) ++ s.0)) joined s.2))
+    (f.0 ++ s.0, Appends-trans old between new f.0 s.0 f.1 s.1, subst (λ (w : List ℕ). IsStop m stop (front ++ (bytes ++ more)) w) pushed (subst (λ (b : List ℕ). IsStop m stop b ((output ++ f.0) ++ s.0)) joined s.2))
 
--- a list is what stands before a place, what stands there, and what stands behind
-pub cut_at : (k : ℕ) (xs : List ℕ) → k < length xs → take k xs ++ get_or xs k 0 ∷ drop (k + 1) xs ≡ xs
+-- what was worked on first, and then
+pub works_on : (start mid after : List ℕ → List ℕ → Type 0) (old between new : Option (List ℕ)) (bytes more : List ℕ)
+    → Works start mid old between bytes → Works mid after between new more → Works start after old new (bytes ++ more)
+works_on start mid after old between new bytes more first second = λ front output stands.
+    let f = first front output stands in
+    let s = second (front ++ bytes) (output ++ f.0) f.2 in
+    let joined : (front ++ bytes) ++ more ≡ front ++ (bytes ++ more) = append_assoc front bytes more in
+    let pushed : (output ++ f.0) ++ s.0 ≡ output ++ (f.0 ++ s.0) = append_assoc output f.0 s.0 in
+    (f.0 ++ s.0, Appends-trans old between new f.0 s.0 f.1 s.1, subst (λ (w : List ℕ). after (front ++ (bytes ++ more)) w) pushed (subst (λ (b : List ℕ). after b ((output ++ f.0) ++ s.0)) joined s.2))
+
+-- nothing was worked on yet
+pub works_nothing : (start : List ℕ → List ℕ → Type 0) (out : Option (List ℕ)) → Works start start out out []
+works_nothing start out = λ front output stands.
+    ([], Appends-nil out, subst (λ (b : List ℕ). start b (output ++ [])) (sym (append-nil front)) (subst (start front) (sym (append-nil output)) stands))
+
+-- a list is what stands before a place, and the rest
+pub cut_at : (k : ℕ) (xs : List ℕ) → k ≤ length xs → take k xs ++ take (length xs - k) (drop k xs) ≡ xs
 cut_at k xs within = grind (arith, common_steps)
+
+-- what is taken of the rest is no more than that
+pub within_rest : (k n : ℕ) (xs : List ℕ) → k ≤ length xs → n ≤ length (take (length xs - k) (drop k xs)) → k + n ≤ length xs
+within_rest k n xs within less = grind (arith, common_steps)
+
+-- and what is taken of the rest
+pub cut_more : (k n : ℕ) (xs : List ℕ) → k ≤ length xs → k + n ≤ length xs
+    → take k xs ++ take n (take (length xs - k) (drop k xs)) ≡ take (k + n) xs
+cut_more k n xs within less =
+    let all : take (length xs - k) (drop k xs) ≡ drop k xs = grind (arith, common_steps) in
+    let cut = take-append-drop k (take (k + n) xs) in
+    let behind = drop-take k n xs in
+    let front : take k (take (k + n) xs) ≡ take k xs = grind (arith, common_steps) in
+    rw (all, ← behind, ← front) cut
 
 -- what an error that is passed on says
 pub through : {P Q : Stop → Type 0} (result : Result (Unit {0}) Stop) → IsErrAnd result P → ((stop : Stop) → P stop → Q stop) → IfErr result Q
@@ -75,21 +103,16 @@ ended_at a b c bytes read count first none room pulled =
     (subst (Consumes a c) same all, pulled.1 none room)
 
 -- a stop at some of the bytes, and at their end
-pub along : (job : Job) (stop : Stop) (left : Option (List ℕ)) (bytes output : List ℕ) → IsStop job stop bytes output
-    → StopsAlong job stop left bytes output
-along job (Refused fault) left bytes output is = inl is
-along job ReadFault left bytes output is = absurd is
-along job WriteFault left bytes output is = inl is
-along job Limit left bytes output is = is
+pub along : (m : Meaning) (stop : Stop) (left : Option (List ℕ)) (bytes output : List ℕ) → IsStop m stop bytes output
+    → StopsAlong m stop left bytes output
+along m (Refused fault) left bytes output is = inl is
+along m ReadFault left bytes output is = absurd is
+along m WriteFault left bytes output is = inl is
+along m Limit left bytes output is = is
 
-end_of_job : (job : Job) (left : Option (List ℕ)) → IsAtEnd left → IsEnd job left
-end_of_job LtcRead left end = end
-end_of_job (Number label) left end = tt
-end_of_job (LabelOf label) left end = tt
-
-pub along_at_end : (job : Job) (stop : Stop) (left : Option (List ℕ)) (bytes output : List ℕ) → IsAtEnd left
-    → IsEndStop job stop bytes output → StopsAlong job stop left bytes output
-along_at_end job (Refused fault) left bytes output end is = inr (end_of_job job left end, is)
-along_at_end job ReadFault left bytes output end is = absurd is
-along_at_end job WriteFault left bytes output end is = inr (end_of_job job left end, is)
-along_at_end job Limit left bytes output end is = absurd is
+pub along_at_end : (m : Meaning) (stop : Stop) (left : Option (List ℕ)) (bytes output : List ℕ) → IsAtEnd left
+    → IsEndStop m stop bytes output → StopsAlong m stop left bytes output
+along_at_end m (Refused fault) left bytes output end is = inr ((λ reads. end), is)
+along_at_end m ReadFault left bytes output end is = absurd is
+along_at_end m WriteFault left bytes output end is = inr ((λ reads. end), is)
+along_at_end m Limit left bytes output end is = absurd is

@@ -1,7 +1,5 @@
 pub mod AlongTheInput
-pub mod CountedEvents
+pub mod AnItemMore
 pub mod Digits
-pub mod OnlyDone
 pub mod PushedLines
-pub mod ReadLines
-pub mod WordsAnswer
+pub mod RecordingGrows

@@ -23,3 +23,17 @@ front_of_second a b c first second pushed f =
     let e : first ++ (second ++ []) ≡ (first ++ f.0) ++ f.1.0 =
     ap (λ (l : List ℕ). first ++ l) (append-nil second ∙ f.1.1) ∙ sym (append_assoc first f.0 f.1.0) in
     (first ++ f.0, (f.1.0, e), Appends-trans a b c first f.0 pushed f.2)
+
+-- what came first, and a front of the next piece of the rest
+pub front_of_piece : (a b c : Option (List ℕ)) (whole first rest piece more : List ℕ) → whole ≡ first ++ rest → rest ≡ piece ++ more
+    → Appends a b first → AppendsFront b c piece → AppendsFront a c whole
+front_of_piece a b c whole first rest piece more all next pushed f =
+    let e : whole ≡ (first ++ f.0) ++ (f.1.0 ++ more) =
+        all ∙ ap (λ (l : List ℕ). first ++ l) (next ∙ ap (λ (l : List ℕ). l ++ more) f.1.1 ∙ append_assoc f.0 f.1.0 more)
+        ∙ sym (append_assoc first f.0 (f.1.0 ++ more)) in
+    (first ++ f.0, (f.1.0 ++ more, e), Appends-trans a b c first f.0 pushed f.2)
+
+-- what came first, and the next piece of the rest
+pub piece_pushed : (whole first rest piece more : List ℕ) → whole ≡ first ++ rest → rest ≡ piece ++ more → whole ≡ (first ++ piece) ++ more
+piece_pushed whole first rest piece more all next =
+    all ∙ ap (λ (l : List ℕ). first ++ l) next ∙ sym (append_assoc first piece more)

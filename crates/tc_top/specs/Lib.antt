@@ -1,8 +1,13 @@
+pub mod Along
 pub mod Answer
+pub mod Causes
+pub mod Commands
+pub mod KeptAlong
+pub mod KeptLine
+pub mod KeptReport
+pub mod Labels
 pub mod LtcRead
+pub mod Meaning
 pub mod Notes
-pub mod Output
-pub mod ReadEngine
-pub mod Reading
 pub mod Status
 pub mod Stops

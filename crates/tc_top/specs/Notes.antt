@@ -4,8 +4,8 @@ use Rattle.tc_files.specs.declared.fault.FileFault.{FileFault}
 use Rattle.tc_files.specs.Fault.{name_of, place_of}
 use Rattle.tc_words.specs.declared.fault.WordsFault.{WordsFault}
 use Rattle.tc_words.specs.declared.fault.WordsFault.TheVariants as words
-use Rattle.tc_top.specs.declared.engine.Stop.{Stop}
-use Rattle.tc_top.specs.declared.engine.Stop.TheVariants.{Refused, ReadFault, WriteFault, Limit}
+use Rattle.tc_top.specs.declared.stop.Stop.{Stop}
+use Rattle.tc_top.specs.declared.stop.Stop.TheVariants.{Refused, ReadFault, WriteFault, Limit}
 
 -- the fault of the file and its byte place
 abbrev pub refused_note : FileFault → List ℕ

@@ -1,64 +1,40 @@
--- Why a job stops before its end, what stands on the output then, and by whose fault.
-use Rattle.std.specs.Prelude.{◌≡◌, ◌⊎◌, ℕ, List, ◌++◌, Result, OnOk, IfErr}
-use Rattle.std.specs.declared.option.Option.{Option}
+-- Why a job stops before its end, and what was written then.
+use Rattle.std.specs.Prelude.{◌≡◌, ◌⊎◌, ℕ, IsTrue, List, ◌++◌, Option, Some}
 use Rattle.std.specs.Io.KnownBytes.{Appends}
-use Rattle.tc_io.specs.Source.{Rose}
 use Rattle.tc_io.specs.Sink.{IsFront}
-use Rattle.tc_words.specs.declared.job.Job.{Job}
-use Rattle.tc_top.specs.declared.engine.Stop.{Stop}
-use Rattle.tc_top.specs.declared.engine.Stop.TheVariants.{Refused, ReadFault, WriteFault, Limit}
-use Rattle.tc_top.specs.Output.{HasFault, PassesLimit, IsGood, EndsWith, IsEnd, IsPart, IsOutput}
+use Rattle.tc_files.specs.Verdict.{good, refused, past_limit}
+use Rattle.tc_top.specs.declared.stop.Stop.{Stop}
+use Rattle.tc_top.specs.declared.stop.Stop.TheVariants.{Refused, ReadFault, WriteFault, Limit}
+use Rattle.tc_top.specs.Meaning.{Meaning, IsInput, IsEnd}
 
--- the job stops for this cause at some of the bytes, and this was pushed for them
-abbrev pub IsStop : Job → Stop → List ℕ → List ℕ → Type 0
-IsStop job (Refused fault) bytes output = HasFault job bytes fault × IsPart job bytes output
-IsStop job ReadFault bytes output = ⊥
-IsStop job WriteFault bytes output = (whole : List ℕ) × IsPart job bytes whole × IsFront output whole
-IsStop job Limit bytes output = PassesLimit job bytes × IsPart job bytes output
+-- the job stops for this cause at some of the bytes pulled, and this was written for them
+abbrev pub IsStop : Meaning → Stop → List ℕ → List ℕ → Type 0
+IsStop m (Refused fault) pulled written = (m.verdict pulled ≡ refused fault) × m.part pulled written
+IsStop m ReadFault pulled written = ⊥
+IsStop m WriteFault pulled written = (part : List ℕ) × m.part pulled part × IsFront written part
+IsStop m Limit pulled written = (m.verdict pulled ≡ past_limit) × m.part pulled written
 
--- the same, where some of it was pushed before
-abbrev pub Stops : Job → Stop → Option (List ℕ) → Option (List ℕ) → List ℕ → List ℕ → Type 0
-Stops job stop old new bytes output = (more : List ℕ) × Appends old new more × IsStop job stop bytes (output ++ more)
+-- the same, where some of it was written before
+abbrev pub Stops : Meaning → Stop → Option (List ℕ) → Option (List ℕ) → List ℕ → List ℕ → Type 0
+Stops m stop old new pulled written = (more : List ℕ) × Appends old new more × IsStop m stop pulled (written ++ more)
 
--- the job stops for this cause at the end of the bytes, and this was pushed for them
-abbrev pub IsEndStop : Job → Stop → List ℕ → List ℕ → Type 0
-IsEndStop job (Refused fault) bytes output = EndsWith job bytes fault × IsPart job bytes output
-IsEndStop job ReadFault bytes output = ⊥
-IsEndStop job WriteFault bytes output = (whole : List ℕ) × IsOutput job bytes whole × IsFront output whole
-IsEndStop job Limit bytes output = ⊥
+-- the job stops for this cause at the end of the bytes pulled, which are good before it
+abbrev pub IsEndStop : Meaning → Stop → List ℕ → List ℕ → Type 0
+IsEndStop m (Refused fault) pulled written = (m.verdict pulled ≡ good) × (m.end_fault pulled ≡ Some fault) × m.part pulled written
+IsEndStop m ReadFault pulled written = ⊥
+IsEndStop m WriteFault pulled written = IsInput m pulled × ((output : List ℕ) × m.output pulled output × IsFront written output)
+IsEndStop m Limit pulled written = ⊥
 
--- the same, where some of it was pushed before
-abbrev pub StopsAtEnd : Job → Stop → Option (List ℕ) → Option (List ℕ) → List ℕ → List ℕ → Type 0
-StopsAtEnd job stop old new bytes output = (more : List ℕ) × Appends old new more × IsEndStop job stop bytes (output ++ more)
+-- the same, where some of it was written before
+abbrev pub StopsAtEnd : Meaning → Stop → Option (List ℕ) → Option (List ℕ) → List ℕ → List ℕ → Type 0
+StopsAtEnd m stop old new pulled written = (more : List ℕ) × Appends old new more × IsEndStop m stop pulled (written ++ more)
 
--- why a job stops along its input, of which this is left: at some of the bytes pulled, or at their end; a pull that failed stops it at no
--- fault
-abbrev pub StopsAlong : Job → Stop → Option (List ℕ) → List ℕ → List ℕ → Type 0
-StopsAlong job ReadFault left bytes output = IsGood job bytes × IsPart job bytes output
-StopsAlong job (Refused fault) left bytes output =
-    IsStop job (Refused fault) bytes output ⊎ (IsEnd job left × IsEndStop job (Refused fault) bytes output)
-StopsAlong job WriteFault left bytes output =
-    IsStop job WriteFault bytes output ⊎ (IsEnd job left × IsEndStop job WriteFault bytes output)
-StopsAlong job Limit left bytes output = IsStop job Limit bytes output
-
--- the count of the output's faults rose at a write fault, and else stands as it was
-abbrev pub OutCauseOf : Stop → ℕ → ℕ → Type 0
-OutCauseOf WriteFault before now = Rose before now
-OutCauseOf (Refused fault) before now = now ≡ before
-OutCauseOf ReadFault before now = now ≡ before
-OutCauseOf Limit before now = now ≡ before
-
--- the count of the source's faults rose at a read fault, and else stands as it was
-abbrev pub SourceCauseOf : Stop → ℕ → ℕ → Type 0
-SourceCauseOf ReadFault before now = Rose before now
-SourceCauseOf (Refused fault) before now = now ≡ before
-SourceCauseOf WriteFault before now = now ≡ before
-SourceCauseOf Limit before now = now ≡ before
-
-pub record HasOutCause {T : Type 0} (before now : ℕ) (result : Result T Stop) : Type 0 where
-  pub same : OnOk result (now ≡ before)
-  pub stop : IfErr result (λ stop. OutCauseOf stop before now)
-
-pub record HasSourceCause {T : Type 0} (before now : ℕ) (result : Result T Stop) : Type 0 where
-  pub same : OnOk result (now ≡ before)
-  pub stop : IfErr result (λ stop. SourceCauseOf stop before now)
+-- why a job stops along its input, of which this is left: at some of the bytes pulled, or at their end. A pull that failed stops it at
+-- neither a fault nor the limit
+abbrev pub StopsAlong : Meaning → Stop → Option (List ℕ) → List ℕ → List ℕ → Type 0
+StopsAlong m ReadFault left pulled written = IsTrue m.reads × (m.verdict pulled ≡ good) × m.part pulled written
+StopsAlong m (Refused fault) left pulled written =
+    IsStop m (Refused fault) pulled written ⊎ (IsEnd m left × IsEndStop m (Refused fault) pulled written)
+StopsAlong m WriteFault left pulled written =
+    IsStop m WriteFault pulled written ⊎ (IsEnd m left × IsEndStop m WriteFault pulled written)
+StopsAlong m Limit left pulled written = IsStop m Limit pulled written

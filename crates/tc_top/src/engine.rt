@@ -1,71 +1,66 @@
-//! What every command that reads an input is: an engine that takes its bytes one at a time. Next:
-//! `intake`.
-ghost use Rattle.std.specs.Prelude.{◌≡◌, ℕ, ◌<◌, List, [], ◌∷◌, ◌++◌, Option, OnOk, IfErr, Err};
+//! What every command that reads an input is: an engine that takes what was pulled. Next: `along`.
+ghost use Rattle.std.specs.Prelude.{◌≡◌, ℕ, ◌<◌, ◌≤◌, List, ◌++◌, length, take, OnOk, IfOk, IfErr, Err};
 ghost use Rattle.std.specs.Io.KnownBytes.{Appends};
-ghost use Rattle.tc_words.specs.declared.job.Job.{Job};
-ghost use Rattle.tc_top.specs.Output.{IsPart, IsGood, IsOutput};
-ghost use Rattle.tc_top.specs.Stops.{Stops, StopsAtEnd, HasOutCause};
+ghost use Rattle.tc_files.specs.Verdict.{good};
+ghost use Rattle.tc_top.specs.Causes.{HasOutCause};
+ghost use Rattle.tc_top.specs.Meaning.{Meaning, IsInput};
+ghost use Rattle.tc_top.specs.Stops.{Stops, StopsAtEnd};
 
-use tc_files::FileFault;
+use crate::stop::Stop;
 use tc_io::Sink;
-
-/// Why a job stopped before its end.
-#[derive(Clone, Copy, Debug, PartialEq, Eq)]
-pub enum Stop {
-    /// The input has a fault of the command's grammar.
-    Refused(FileFault),
-    /// A pull failed.
-    ReadFault,
-    /// A push on the output failed.
-    WriteFault,
-    /// The input is longer than the command takes.
-    Limit,
-}
 
 /// The work of one command along its input.
 pub(crate) trait Engine {
-    /// The job that it works.
-    ghost job: { Self → Job };
+    /// What the words choose for it.
+    type Choice;
+
+    /// What the command takes and what it writes.
+    ghost meaning: { Self.Choice → Meaning };
+
+    /// The choice that it was made with.
+    ghost choice: { Self → Self.Choice };
 
     /// It takes another byte.
     ghost is_going: { Self → Type 0 };
 
-    /// It was given these bytes, and pushed this output for them.
+    /// It was given these bytes, and wrote this for them.
     ghost stands: { Self → List ℕ → List ℕ → Type 0 };
 
-    /// How many bytes it still takes.
+    /// How many bytes it still takes, at most.
     ghost budget: { Self → ℕ };
 
-    /// Bytes that it was given have no fault and are within the limit, and what it pushed for them is
-    /// their part of the output.
-    ghost stands_well: { (engine : Self) (bytes output : List ℕ) → stands engine bytes output
-        → IsGood (job engine) bytes × IsPart (job engine) bytes output };
+    /// Bytes that it was given are good, and what it wrote is their part of the output.
+    ghost stands_well: { (engine : Self) (bytes written : List ℕ) → stands engine bytes written
+        → (Meaning.verdict (meaning (choice engine)) bytes ≡ good) × Meaning.part (meaning (choice engine)) bytes written };
 
-    /// Works on the next byte, and pushes what it completes.
-    fn byte<K: Sink>(&mut self, byte: u8, out: &mut K) -> Result<(), Stop>
-        requires { is_going self.old }
+    /// Works on the first of the bytes that were pulled, on one at least, and answers on how many.
+    /// What they complete is written.
+    fn take<K: Sink>(&mut self, bytes: &[u8], out: &mut K) -> Result<usize, Stop>
+        requires going { is_going self.old }
+        requires some { 0 < length bytes.now }
         ensures going { OnOk result (is_going self.new) }
         ensures budget { OnOk result (budget self.new < budget self.old) }
-        ensures job { job self.new ≡ job self.old }
+        ensures choice { choice self.new ≡ choice self.old }
+        ensures count { IfOk result (λ count. (1 ≤ count) × (count ≤ length bytes.now)) }
 
-        // What was pushed is the part of the byte.
-        ensures works { OnOk result ((bytes output : List ℕ) → stands self.old bytes output
+        // What was written is the part of these bytes.
+        ensures works { IfOk result (λ count. (front written : List ℕ) → stands self.old front written
             → (more : List ℕ) × Appends (K.written out.old) (K.written out.new) more
-            × stands self.new (bytes ++ byte ∷ []) (output ++ more)) }
-        // Whatever comes after the byte, this is why the job stops there.
-        ensures stops { IfErr result (λ stop. (bytes output rest : List ℕ) → stands self.old bytes output
-            → Stops (job self.old) stop (K.written out.old) (K.written out.new) (bytes ++ byte ∷ rest) output) }
+            × stands self.new (front ++ take count bytes.now) (written ++ more)) }
+        // The bytes pulled show why the job stops among them.
+        ensures stops { IfErr result (λ stop. (front written : List ℕ) → stands self.old front written
+            → Stops (meaning (choice self.old)) stop (K.written out.old) (K.written out.new) (front ++ bytes.now) written) }
         ensures cause { HasOutCause (K.faults out.old) (K.faults out.new) result }
         ensures no_pull { result ≡ Err Stop.ReadFault → ⊥ };
 
-    /// Works on the end of the input, and pushes what stands last.
+    /// Works on the end of the input, and writes what stands last.
     fn finish<K: Sink>(&self, out: &mut K) -> Result<(), Stop>
         requires { is_going self.now }
-        ensures ends { OnOk result ((bytes output : List ℕ) → stands self.now bytes output
+        ensures ends { OnOk result ((bytes written : List ℕ) → stands self.now bytes written
             → (more : List ℕ) × Appends (K.written out.old) (K.written out.new) more
-            × IsOutput (job self.now) bytes (output ++ more)) }
-        ensures stops { IfErr result (λ stop. (bytes output : List ℕ) → stands self.now bytes output
-            → StopsAtEnd (job self.now) stop (K.written out.old) (K.written out.new) bytes output) }
+            × IsInput (meaning (choice self.now)) bytes × Meaning.output (meaning (choice self.now)) bytes (written ++ more)) }
+        ensures stops { IfErr result (λ stop. (bytes written : List ℕ) → stands self.now bytes written
+            → StopsAtEnd (meaning (choice self.now)) stop (K.written out.old) (K.written out.new) bytes written) }
         ensures cause { HasOutCause (K.faults out.old) (K.faults out.new) result }
         ensures no_pull { result ≡ Err Stop.ReadFault → ⊥ };
 }

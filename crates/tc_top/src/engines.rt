@@ -1,3 +1,2 @@
-//! The engines, a file for each command that reads an input.
-pub mod ltc_read;
-pub mod reading;
+pub(crate) mod labels;
+pub(crate) mod ltc_read;

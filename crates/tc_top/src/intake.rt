@@ -1,10 +1,12 @@
-//! The way of the input into an engine, the same for each command. Next: `output`.
-ghost use Rattle.std.specs.Prelude.{◌≡◌, ℕ, ◌<◌, List, [], ◌++◌, length, OnOk, IfErr, Err};
-ghost use Rattle.std.specs.Io.KnownBytes.{Appends, Consumes, IsAtEnd};
-ghost use Rattle.tc_top.specs.Output.{IsOutput};
-ghost use Rattle.tc_top.specs.Stops.{Stops, StopsAlong, HasOutCause, HasSourceCause};
+//! The way of the input into an engine, the same for each command. Next: `along`.
+ghost use Rattle.std.specs.Prelude.{◌≡◌, ℕ, ◌<◌, List, ◌++◌, [], length, true, OnOk, IfErr, Err};
+ghost use Rattle.std.specs.Io.KnownBytes.{Appends, Consumes};
+ghost use Rattle.tc_top.specs.Causes.{HasOutCause, HasSourceCause};
+ghost use Rattle.tc_top.specs.Meaning.{Meaning, IsInput, IsEnd};
+ghost use Rattle.tc_top.specs.Stops.{Stops, StopsAlong};
 
-use crate::engine::{Engine, Stop};
+use crate::engine::Engine;
+use crate::stop::Stop;
 use tc_io::{Sink, Source};
 
 /// The room for the bytes of one pull.
@@ -18,14 +20,16 @@ pub(crate) fn work<E: Engine, S: Source, K: Sink>(
 ) -> Result<(), Stop>
     requires going { E.is_going engine.old }
     requires new { E.stands engine.old [] [] }
-    ensures ends { OnOk result ((bytes output : List ℕ)
-        × Consumes (S.left source.old) (S.left source.new) bytes
-        × Appends (K.written out.old) (K.written out.new) output
-        × IsAtEnd (S.left source.new) × IsOutput (E.job engine.old) bytes output) }
-    ensures stops { IfErr result (λ stop. (bytes output : List ℕ)
-        × Consumes (S.left source.old) (S.left source.new) bytes
-        × Appends (K.written out.old) (K.written out.new) output
-        × StopsAlong (E.job engine.old) stop (S.left source.new) bytes output) }
+    requires reads { Meaning.reads (E.meaning (E.choice engine.old)) ≡ true }
+    ensures ends { OnOk result ((pulled written : List ℕ)
+        × Consumes (S.left source.old) (S.left source.new) pulled
+        × Appends (K.written out.old) (K.written out.new) written
+        × IsEnd (E.meaning (E.choice engine.old)) (S.left source.new) × IsInput (E.meaning (E.choice engine.old)) pulled
+        × Meaning.output (E.meaning (E.choice engine.old)) pulled written) }
+    ensures stops { IfErr result (λ stop. (pulled written : List ℕ)
+        × Consumes (S.left source.old) (S.left source.new) pulled
+        × Appends (K.written out.old) (K.written out.new) written
+        × StopsAlong (E.meaning (E.choice engine.old)) stop (S.left source.new) pulled written) }
     ensures source { HasSourceCause (S.faults source.old) (S.faults source.new) result }
     ensures out { HasOutCause (K.faults out.old) (K.faults out.new) result }
 {
@@ -46,17 +50,18 @@ fn feed<E: Engine, K: Sink>(engine: &mut E, bytes: &[u8], out: &mut K) -> Result
     requires { E.is_going engine.old }
     ensures going { OnOk result (E.is_going engine.new) }
     ensures budget { 0 < length bytes.now → OnOk result (E.budget engine.new < E.budget engine.old) }
-    ensures job { E.job engine.new ≡ E.job engine.old }
-    ensures works { OnOk result ((before output : List ℕ) → E.stands engine.old before output
+    ensures choice { E.choice engine.new ≡ E.choice engine.old }
+    ensures works { OnOk result ((front written : List ℕ) → E.stands engine.old front written
         → (more : List ℕ) × Appends (K.written out.old) (K.written out.new) more
-        × E.stands engine.new (before ++ bytes.now) (output ++ more)) }
-    ensures stops { IfErr result (λ stop. (before output : List ℕ) → E.stands engine.old before output
-        → Stops (E.job engine.old) stop (K.written out.old) (K.written out.new) (before ++ bytes.now) output) }
+        × E.stands engine.new (front ++ bytes.now) (written ++ more)) }
+    ensures stops { IfErr result (λ stop. (front written : List ℕ) → E.stands engine.old front written
+        → Stops (E.meaning (E.choice engine.old)) stop (K.written out.old) (K.written out.new) (front ++ bytes.now) written) }
     ensures cause { HasOutCause (K.faults out.old) (K.faults out.new) result }
     ensures no_pull { result ≡ Err Stop.ReadFault → ⊥ }
 {
-    for byte in bytes {
-        engine.byte(*byte, out)?;
+    let mut at = 0;
+    'bytes: while at < bytes.len() {
+        at += engine.take(&bytes[at..], out)?;
     }
     Ok(())
 }

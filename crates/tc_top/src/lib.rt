@@ -19,13 +19,15 @@
 //! stands on this crate.
 #![tactic(auto)]
 
+mod along;
 mod engine;
 mod engines;
 mod intake;
-mod labels;
+mod making;
 mod notes;
-mod output;
+mod pushing;
 mod status;
+mod stop;
 mod streaming;
 mod top_call;
 

@@ -5,7 +5,7 @@ ghost use Rattle.tc_io.specs.Source.{Rose};
 ghost use Rattle.tc_io.specs.Sink.{AppendsFront};
 ghost use Rattle.tc_top.specs.Notes.{usage_note, stop_note, refused_note};
 
-use crate::engine::Stop;
+use crate::stop::Stop;
 use tc_files::{FileFault, Text, push_bytes, push_number};
 use tc_io::{Sink, push_all};
 use tc_words::WordsFault;

@@ -1,5 +1,9 @@
-//! How a run ended. Next: `engine`.
+//! How a run ended.
 ghost use Rattle.std.specs.Prelude.{◌≡◌};
+ghost use Rattle.tc_top.specs.Status.{code_of, status_of, status_of_words};
+
+use crate::stop::Stop;
+use tc_words::WordsFault;
 
 /// How a run ended.
 #[derive(Clone, Copy, Debug, PartialEq, Eq)]
@@ -21,8 +25,6 @@ pub enum Status {
 }
 
 impl Status {
-    ghost use Rattle.tc_top.specs.Status.{code_of};
-
     /// The exit number of the program.
     pub fn code(self) -> u8
         ensures { result ≡ code_of self }
@@ -35,6 +37,28 @@ impl Status {
             Status::WriteFault => 5,
             Status::Memory => 6,
             Status::Limit => 7,
+        }
+    }
+
+    /// The status of a job that stopped.
+    pub(crate) fn of_stop(stop: Stop) -> Status
+        ensures { result ≡ status_of stop }
+    {
+        match stop {
+            Stop::Refused(_) => Status::Refused,
+            Stop::ReadFault => Status::ReadFault,
+            Stop::WriteFault => Status::WriteFault,
+            Stop::Limit => Status::Limit,
+        }
+    }
+
+    /// The status of words that were not read.
+    pub(crate) fn of_words(fault: WordsFault) -> Status
+        ensures { result ≡ status_of_words fault }
+    {
+        match fault {
+            WordsFault::Memory(_) => Status::Memory,
+            _ => Status::Usage,
         }
     }
 }

@@ -1,19 +1,22 @@
-//! A job along its input. Next: `engine`.
-ghost use Rattle.std.specs.Prelude.{◌≡◌, ℕ, List, Some, OnOk, IfErr};
+//! A job along its input. Next: `intake`.
+ghost use Rattle.std.specs.Prelude.{◌≡◌, ◌⊎◌, ℕ, List, Some, false, OnOk, IfErr};
 ghost use Rattle.std.specs.Io.KnownBytes.{Appends, Consumes};
 ghost use Rattle.tc_io.specs.Source.{Rose};
-ghost use Rattle.tc_io.specs.Sink.{AppendsFront};
-ghost use Rattle.tc_top.specs.Answer.{IsAnswer, SourceCause, OutCause, status_of};
-ghost use Rattle.tc_top.specs.Output.{IsInput, IsEnd, IsOutput, ReadsNothing};
-ghost use Rattle.tc_top.specs.Stops.{StopsAlong, HasSourceCause, HasOutCause};
+ghost use Rattle.tc_top.specs.Answer.{Exchange, IsAnswer, IsPulled, IsWritten, IsNoted, status_on};
+ghost use Rattle.tc_top.specs.Causes.{SourceCause, OutCause, HasSourceCause, HasOutCause};
+ghost use Rattle.tc_top.specs.Commands.{meaning_of};
+ghost use Rattle.tc_top.specs.Meaning.{Meaning, IsInput, IsEnd};
+ghost use Rattle.tc_top.specs.Stops.{StopsAlong};
 
-use crate::engine::Stop;
-use crate::engines::ltc_read::LtcRead;
+use crate::along::Along;
+use crate::engines::labels::OneLine;
+use crate::engines::ltc_read::Report;
 use crate::intake::work;
-use crate::labels::{label_line, number_line};
+use crate::making::make;
 use crate::notes::{push_note, stop_note};
-use crate::output::push_line;
 use crate::status::Status;
+use crate::stop::Stop;
+use biphase::Profile;
 use tc_io::{Sink, Source};
 use tc_words::Job;
 
@@ -24,63 +27,54 @@ pub fn stream<S: Source, K: Sink, N: Sink>(
     out: &mut K,
     notes: &mut N,
 ) -> Status
-    // What was pulled, what was pushed, and the note are those of the status.
-    ensures answer { (bytes output note : List ℕ)
-        × Consumes (S.left source.old) (S.left source.new) bytes
-        × Appends (K.written out.old) (K.written out.new) output
-        × AppendsFront (N.written notes.old) (N.written notes.new) note
-        × (¬ Rose (N.faults notes.old) (N.faults notes.new) → Appends (N.written notes.old) (N.written notes.new) note)
-        × IsAnswer job.now result (S.left source.new) bytes output note }
+    // What was pulled, what was written, and the note are those of the status.
+    ensures answer { (e : Exchange) × IsPulled (S.left source.old) (S.left source.new) e
+        × IsWritten (K.written out.old) (K.written out.new) e
+        × IsNoted (N.written notes.old) (N.written notes.new) (N.faults notes.old) (N.faults notes.new) e
+        × IsAnswer (meaning_of job.now) result e }
     ensures no_note { result ≡ Status.Done → notes.new ≡ notes.old }
-    ensures idle { ReadsNothing job.now → source.new ≡ source.old }
 
     // A read fault and a write fault come only where a count of faults rose.
     ensures source { SourceCause result (S.faults source.old) (S.faults source.new) }
     ensures out { OutCause result (K.faults out.old) (K.faults out.new) }
 
-    // An input of the command is read to its end where no count of faults rises.
-    ensures complete { (bytes : List ℕ) → S.left source.old ≡ Some bytes → IsInput job.now bytes
+    // A job that reads nothing leaves the source, and stops only where the output fails.
+    ensures idle { Meaning.reads (meaning_of job.now) ≡ false → source.new ≡ source.old }
+    ensures writes { Meaning.reads (meaning_of job.now) ≡ false → (result ≡ Status.Done) ⊎ (result ≡ Status.WriteFault) }
+
+    // Where no count of faults rises, the job and the whole input leave one status.
+    ensures status { (input : List ℕ) → S.left source.old ≡ Some input
         → ¬ Rose (S.faults source.old) (S.faults source.new) → ¬ Rose (K.faults out.old) (K.faults out.new)
-        → result ≡ Status.Done }
+        → result ≡ status_on (meaning_of job.now) input }
 {
     match work_on(job, source, out) {
         Ok(()) => Status::Done,
         Err(stop) => {
             push_note(notes, &stop_note(stop));
-            status_of(stop)
+            Status::of_stop(stop)
         }
     }
 }
 
 /// Works a job to its end, or to where it stops.
 fn work_on<S: Source, K: Sink>(job: &Job, source: &mut S, out: &mut K) -> Result<(), Stop>
-    ensures ends { OnOk result ((bytes output : List ℕ)
-        × Consumes (S.left source.old) (S.left source.new) bytes
-        × Appends (K.written out.old) (K.written out.new) output
-        × IsEnd job.now (S.left source.new) × IsOutput job.now bytes output) }
-    ensures stops { IfErr result (λ stop. (bytes output : List ℕ)
-        × Consumes (S.left source.old) (S.left source.new) bytes
-        × Appends (K.written out.old) (K.written out.new) output
-        × StopsAlong job.now stop (S.left source.new) bytes output) }
-    ensures idle { ReadsNothing job.now → source.new ≡ source.old }
+    ensures ends { OnOk result ((pulled written : List ℕ)
+        × Consumes (S.left source.old) (S.left source.new) pulled
+        × Appends (K.written out.old) (K.written out.new) written
+        × IsEnd (meaning_of job.now) (S.left source.new) × IsInput (meaning_of job.now) pulled
+        × Meaning.output (meaning_of job.now) pulled written) }
+    ensures stops { IfErr result (λ stop. (pulled written : List ℕ)
+        × Consumes (S.left source.old) (S.left source.new) pulled
+        × Appends (K.written out.old) (K.written out.new) written
+        × StopsAlong (meaning_of job.now) stop (S.left source.new) pulled written) }
     ensures source { HasSourceCause (S.faults source.old) (S.faults source.new) result }
     ensures out { HasOutCause (K.faults out.old) (K.faults out.new) result }
+    ensures idle { Meaning.reads (meaning_of job.now) ≡ false → source.new ≡ source.old }
+    ensures writes { Meaning.reads (meaning_of job.now) ≡ false → IfErr result (λ stop. stop ≡ Stop.WriteFault) }
 {
     match job {
-        Job::LtcRead => work(&mut LtcRead::new(), source, out),
-        Job::Number { label } => push_line(out, &number_line(label)),
-        Job::LabelOf { label } => push_line(out, &label_line(label)),
-    }
-}
-
-/// The status of a job that stopped.
-fn status_of(stop: Stop) -> Status
-    ensures { result ≡ status_of stop }
-{
-    match stop {
-        Stop::Refused(_) => Status::Refused,
-        Stop::ReadFault => Status::ReadFault,
-        Stop::WriteFault => Status::WriteFault,
-        Stop::Limit => Status::Limit,
+        Job::LtcRead => work(&mut Along::<Report>::new(Profile::Normal), source, out),
+        Job::Number { label } => make(&mut OneLine::number(label), source, out),
+        Job::LabelOf { label } => make(&mut OneLine::label(label), source, out),
     }
 }

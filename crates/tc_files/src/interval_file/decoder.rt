@@ -1,4 +1,5 @@
-ghost use Rattle.std.specs.Prelude.{◌≡◌, ◌<◌, ◌≤◌, ◌^◌, ◌++◌, ◌+◌, [], ◌∷◌, length, IfNone, OnOk, ◌%◌};
+//! The decoder of an interval file. Next: `direction_reader/src/reader.rt`.
+ghost use Rattle.std.specs.Prelude.{◌≡◌, ◌<◌, ◌≤◌, ◌^◌, ◌++◌, ◌+◌, [], ◌∷◌, length, take, fold, IfNone, IfOk, OnOk, IsTrue, ◌%◌};
 ghost use Rattle.byteorder.specs.Endian.{big_number};
 ghost use Rattle.arrayvec.specs.ArrayVec.{array_vec_len};
 ghost use Rattle.tc_files.specs.IntervalFile.{
@@ -8,11 +9,13 @@ ghost use Rattle.tc_files.specs.IntervalFile.{
   end,
   head_answer,
   header_answer,
+  in_range,
   interval_answer,
   kept_part,
   whole_answer,
   CompletesAt,
 };
+ghost use Rattle.tc_files.specs.Recording.{Decoding, IsBetween, with_byte, with_number};
 
 use crate::fault::FileFault;
 use crate::interval_file::header::{
@@ -99,6 +102,45 @@ impl IntervalDecoder {
         taken
     }
 
+    /// The whole numbers at the front of a piece: none where the header or a number is half taken, or
+    /// behind a fault.
+    pub fn whole_numbers<'a>(&self, piece: &'a [u8]) -> &'a [u8]
+        ensures front { result.now ≡ take (length result.now) piece.now }
+        ensures within { length result.now ≤ length piece.now }
+        ensures whole { length result.now % 4 ≡ 0 }
+        ensures between { 0 < length result.now → IsBetween self.now }
+    {
+        if self.is_between() {
+            &piece[..piece.len() - piece.len() % 4]
+        } else {
+            &[]
+        }
+    }
+
+    /// Passes over so many bytes of whole numbers, all of them in range.
+    pub fn pass_over(&mut self, count: usize)
+        requires between { IsBetween self.old }
+        requires whole { count % 4 ≡ 0 }
+        requires room { self.old.taken + count < 2 ^ 62 }
+        ensures { self.new ≡ record self.old { taken = self.old.taken + count } }
+    {
+        self.taken += count as u64;
+    }
+
+    /// How many bytes were taken.
+    pub fn taken(&self) -> u64
+        ensures { result ≡ self.now.taken }
+    {
+        self.taken
+    }
+
+    /// Whether the bytes so far end between two intervals.
+    fn is_between(&self) -> bool
+        ensures { IsTrue result → IsBetween self.now }
+    {
+        self.fault.is_none() && HEADER_LENGTH <= self.taken && self.part.is_empty()
+    }
+
     /// The end of the input: the earlier fault where there was one, and else whether the input may
     /// end here.
     pub fn finish(&self) -> Result<(), FileFault>
@@ -111,6 +153,29 @@ impl IntervalDecoder {
             None if HEADER_LENGTH <= self.taken && self.part.is_empty() => Ok(()),
             None => Err(FileFault::Truncated(self.taken)),
         }
+    }
+}
+
+/// The interval whose four bytes stand first, the most significant one at this byte place.
+pub fn interval_at(place: u64, bytes: &[u8]) -> Result<u32, FileFault>
+    requires { 4 ≤ length bytes.now }
+    ensures range { IfOk result (λ x. (1 ≤ x) × (x ≤ MAX_INTERVAL)) }
+
+    // It is what a decoder that stands there makes of the four bytes, taken one by one.
+    ensures bytes { (d : Decoding) → IsBetween d.progress → d.progress.taken ≡ place
+        → fold with_byte d (take 4 bytes.now) ≡ with_number d result }
+{
+    in_range(place, BigEndian::read_u32(bytes))
+}
+
+/// The number of ticks that begins at a byte place, where it is in range.
+fn in_range(place: u64, ticks: u32) -> Result<u32, FileFault>
+    ensures { result ≡ in_range place ticks }
+{
+    if 1 <= ticks && ticks <= MAX_INTERVAL {
+        Ok(ticks)
+    } else {
+        Err(FileFault::Interval(place))
     }
 }
 
@@ -164,9 +229,8 @@ fn whole_header(system: Option<System>, tick_rate: u32) -> Taken
 fn whole_interval(place: u64, ticks: u32) -> Taken
     ensures { result ≡ interval_answer place ticks }
 {
-    if 1 <= ticks && ticks <= MAX_INTERVAL {
-        Taken::Interval(ticks)
-    } else {
-        Taken::Fault(FileFault::Interval(place))
+    match in_range(place, ticks) {
+        Ok(ticks) => Taken::Interval(ticks),
+        Err(fault) => Taken::Fault(fault),
     }
 }

@@ -1,81 +1,163 @@
-//! The engine of `ltc-read`: an interval file becomes the lines of its events. Next: `reading`.
-ghost use Rattle.std.specs.Prelude.{◌≡◌, ℕ, ◌<◌, List, [], ◌∷◌, ◌++◌, OnOk, IfErr, Err};
+//! The engine of `ltc-read`: intervals become events, and events become lines. Next:
+//! `tc_files/src/texts/event.rt`.
+ghost use Rattle.std.specs.Prelude.{◌≡◌, ◌≤◌, ◌<◌, ◌+◌, ◌*◌, List, ◌∷◌, ◌++◌, [], ℕ, OnOk, OnErr, IfOk, IfErr};
 ghost use Rattle.std.specs.Io.KnownBytes.{Appends};
-ghost use Rattle.tc_top.specs.ReadEngine.{IsGoing, Stands, stop_at};
+ghost use Rattle.biphase.specs.declared.cell.TheConstants.{MAX_INTERVAL};
+ghost use Rattle.direction_reader.specs.declared.reader.TheConstants.{MAX_INTERVALS};
+ghost use Rattle.direction_reader.specs.declared.event.Event.{Event};
+ghost use Rattle.direction_reader.specs.Events.{event_list};
+ghost use Rattle.tc_files.specs.declared.interval_file.header.IntervalHeader.{IntervalHeader};
+ghost use Rattle.tc_files.specs.IntervalHeader.{IsTickRate};
+ghost use Rattle.tc_files.specs.Texts.{event_line, read_end_line, FitsLine};
+ghost use Rattle.tc_io.specs.Sink.{AppendsFront};
+ghost use Rattle.tc_top.specs.Along.{Printing};
+ghost use Rattle.tc_top.specs.Causes.{HasOutCause};
+ghost use Rattle.tc_top.specs.LtcRead.{lines};
+ghost use Rattle.tc_top.specs.KeptReport.{counted, all_counted, FitLines, FitsReport, Prints, Stands};
 
-use crate::engine::{Engine, Stop};
-use crate::engines::reading::Reading;
-use crate::output::push_line;
-use tc_files::{FileFault, IntervalDecoder, Taken};
+use crate::along::Behind;
+use crate::pushing::push_line;
+use crate::stop::Stop;
+use biphase::{MAX_INTERVAL, Profile};
+use direction_reader::{DirectionReader, Event, Events, MAX_INTERVALS};
+use tc_files::{IntervalHeader, Text, event_text, read_end_text};
 use tc_io::Sink;
 
-/// Reads an interval file and prints its events.
+/// The report of a recording: its header, its reader, and how many events of each kind were printed.
 #[derive(Drop)]
-pub struct LtcRead {
-    decoder: IntervalDecoder,
-    reading: Option<Reading>,
+pub(crate) struct Report {
+    header: IntervalHeader,
+    reader: DirectionReader,
+    words: u64,
+    refused: u64,
+    lost: u64,
 }
 
-impl LtcRead {
-    /// An engine that stands before the first byte.
-    pub(crate) fn new() -> LtcRead
-        ensures going { IsGoing result }
-        ensures stands { Stands result [] [] }
+impl Report {
+    /// Takes an interval, of `x` ticks, and pushes the lines of what it brought.
+    fn feed<K: Sink>(&mut self, x: u32, out: &mut K) -> Result<(), Stop>
+        requires least { 1 ≤ x }
+        requires most { x ≤ MAX_INTERVAL }
+        requires room { self.old.reader.intervals < MAX_INTERVALS }
+        requires fits { FitsReport self.old }
+        ensures fits { OnOk result (FitsReport self.new) }
+        ensures counts { OnOk result (self.new.reader.intervals ≡ self.old.reader.intervals + 1) }
+        ensures header { self.new.header ≡ self.old.header }
+        ensures prints { OnOk result (Prints self.old self.new (K.written out.old) (K.written out.new)) }
+        ensures front { OnErr result ((events : List Event)
+            × AppendsFront (K.written out.old) (K.written out.new) (lines self.old.header events)) }
+        ensures why { IfErr result (λ stop. stop ≡ Stop.WriteFault) }
+        ensures cause { HasOutCause (K.faults out.old) (K.faults out.new) result }
     {
-        LtcRead {
-            decoder: IntervalDecoder::new(),
-            reading: None,
+        let events = self.reader.feed(x);
+        // Nearly every interval brings nothing.
+        if events.first.is_none() && events.second.is_none() {
+            return Ok(());
         }
+        self.push(events, out)
     }
 
-    /// Why a fault of the file stops the job: an interval past the limit is not looked at.
-    fn stop_at(&self, fault: FileFault) -> Stop
-        ensures { result ≡ stop_at self.now.reading fault }
+    /// Counts the events of an interval, and pushes their lines.
+    fn push<K: Sink>(&mut self, events: Events, out: &mut K) -> Result<(), Stop>
+        requires lines { FitLines events }
+        requires header { IsTickRate self.old.header.tick_rate }
+        requires room { self.old.words + self.old.refused + self.old.lost ≤ 2 * MAX_INTERVALS }
+        ensures counted { OnOk result (self.new ≡ all_counted (event_list events) self.old) }
+        ensures header { self.new.header ≡ self.old.header }
+        ensures all { OnOk result (Appends (K.written out.old) (K.written out.new)
+            (lines self.old.header (event_list events))) }
+        ensures front { OnErr result (AppendsFront (K.written out.old) (K.written out.new)
+            (lines self.old.header (event_list events))) }
+        ensures why { IfErr result (λ stop. stop ≡ Stop.WriteFault) }
+        ensures cause { HasOutCause (K.faults out.old) (K.faults out.new) result }
     {
-        match (fault, &self.reading) {
-            (FileFault::Interval(_), Some(reading)) if reading.is_at_limit() => Stop::Limit,
-            _ => Stop::Refused(fault),
-        }
-    }
-}
-
-impl Engine for LtcRead {
-    ghost use Rattle.tc_words.specs.declared.job.Job.TheVariants as jobs;
-    ghost use Rattle.tc_top.specs.ReadEngine.{IsGoing, Stands, bytes_left, stands_well};
-
-    ghost job = { λ _. jobs.LtcRead };
-
-    ghost is_going = { λ engine. IsGoing engine };
-
-    ghost stands = { λ engine bytes output. Stands engine bytes output };
-
-    ghost budget = { λ engine. bytes_left engine };
-
-    ghost stands_well = { λ engine bytes output stands. stands_well engine bytes output stands };
-
-    fn byte<K: Sink>(&mut self, byte: u8, out: &mut K) -> Result<(), Stop> {
-        let taken = self.decoder.byte(byte);
-        match taken {
-            Taken::Nothing => Ok(()),
-            Taken::Header(header) => {
-                self.reading = Some(Reading::new(header));
-                Ok(())
+        match (events.first, events.second) {
+            (Some(first), Some(second)) => {
+                self.push_one(&first, out)?;
+                self.push_one(&second, out)
             }
-            Taken::Interval(x) => match &mut self.reading {
-                Some(reading) if !reading.is_at_limit() => reading.interval(x, out),
-                _ => Err(Stop::Limit),
-            },
-            Taken::Fault(fault) => Err(self.stop_at(fault)),
+            (Some(event), None) | (None, Some(event)) => self.push_one(&event, out),
+            (None, None) => Ok(()),
         }
+    }
+
+    /// Counts an event, and pushes its line.
+    fn push_one<K: Sink>(&mut self, event: &Event, out: &mut K) -> Result<(), Stop>
+        requires line { FitsLine event.now }
+        requires header { IsTickRate self.old.header.tick_rate }
+        requires room { self.old.words + self.old.refused + self.old.lost ≤ 2 * MAX_INTERVALS + 1 }
+        ensures counted { self.new ≡ counted event.now self.old }
+        ensures header { self.new.header ≡ self.old.header }
+        ensures all { OnOk result (Appends (K.written out.old) (K.written out.new)
+            (event_line self.old.header event.now)) }
+        ensures front { OnErr result (AppendsFront (K.written out.old) (K.written out.new)
+            (event_line self.old.header event.now)) }
+        ensures why { IfErr result (λ stop. stop ≡ Stop.WriteFault) }
+        ensures cause { HasOutCause (K.faults out.old) (K.faults out.new) result }
+    {
+        self.count(event);
+        push_line(out, &event_text(event, &self.header))
+    }
+
+    /// Counts an event.
+    fn count(&mut self, event: &Event)
+        requires { self.old.words + self.old.refused + self.old.lost ≤ 2 * MAX_INTERVALS + 1 }
+        ensures { self.new ≡ counted event.now self.old }
+    {
+        match event {
+            Event::Word { .. } => self.words += 1,
+            Event::Refused { .. } => self.refused += 1,
+            Event::Lost { .. } => self.lost += 1,
+        }
+    }
+
+    /// The last line of the report.
+    fn end_text(&self) -> Text
+        requires { FitsReport self.now }
+        ensures { result.items ≡ read_end_line
+            self.now.reader.intervals self.now.words self.now.refused self.now.lost self.now.reader.tick }
+    {
+        read_end_text(
+            self.reader.intervals(),
+            self.words,
+            self.refused,
+            self.lost,
+            self.reader.tick(),
+        )
+    }
+}
+
+impl Behind for Report {
+    ghost use Rattle.tc_top.specs.LtcRead.{report};
+    ghost use Rattle.tc_top.specs.KeptReport.{FitsReport, Stands, stands_well, part_grows};
+
+    type Choice = Profile;
+
+    ghost printing = { λ _. report };
+
+    ghost fits = { λ r count. FitsReport r × (r.reader.intervals ≡ count) };
+
+    ghost stands = { λ r _ header intervals written. Stands r header intervals written };
+
+    ghost stands_well = { λ r _ header intervals written stands. stands_well r header intervals written stands };
+
+    ghost part_grows = { λ _ header intervals more written part. part_grows header intervals more written part };
+
+    fn begin<K: Sink>(profile: Profile, header: IntervalHeader, _out: &mut K) -> Result<Report, Stop> {
+        Ok(Report {
+            header,
+            reader: DirectionReader::new(header.system, profile),
+            words: 0,
+            refused: 0,
+            lost: 0,
+        })
+    }
+
+    fn interval<K: Sink>(&mut self, x: u32, out: &mut K) -> Result<(), Stop> {
+        self.feed(x, out)
     }
 
     fn finish<K: Sink>(&self, out: &mut K) -> Result<(), Stop> {
-        if let Err(fault) = self.decoder.finish() {
-            return Err(Stop::Refused(fault));
-        }
-        match &self.reading {
-            Some(reading) => push_line(out, &reading.end_text()),
-            None => unreachable!(),
-        }
+        push_line(out, &self.end_text())
     }
 }

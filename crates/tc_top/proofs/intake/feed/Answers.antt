@@ -1,15 +1,24 @@
-use Rattle.std.proofs.Common.{◌+◌, ◌∷◌, take, drop, get_or}
-use Rattle.tc_top.proofs.AlongTheInput.{stops_on, cut_at, through}
+use Rattle.std.proofs.Common.{◌+◌, ◌≤◌, ◌<◌, take, drop, length, arith, ◌∙◌, subst, ◌-◌}
+use Rattle.tc_top.proofs.AlongTheInput.{Works, works_on, cut_more, within_rest}
 use Rattle.tc_top.proofs.intake.feed.Goals as goal
 
--- the bytes before this one were worked on, and this one stops the job
-pub returns-in_err-byte-clause-stops : goal.returns-in_err-byte-clause-stops
-returns-in_err-byte-clause-stops g c =
+-- the bytes before these were worked on, and then these
+pub bytes-preserved : goal.bytes-preserved
+bytes-preserved g c =
+    let i = c.bytes.invariant in
+    let e = c.in_ok-at.ensures in
+    let n = c.in_ok-at.field-0 in
     let bytes = c.args.bytes.now in
-    let k = c.loop-byte.byte-index in
-    let rest = drop (k + 1) bytes in
-    let cut = cut_at k bytes c.loop-byte-test.true in
-    through c.from_residual.result c.from_residual.ensures.1 (λ stop same before output stands.
-    let stopped = stops_on (g.E.Engine.job c.loop-byte.engine) c.in_err-byte.field-0.0 _ _ _ _ _ (take k bytes) (get_or bytes k 0 ∷ rest)
-    c.loop-byte.invariant.works (λ front pushed then. c.in_err-byte.ensures.stops front pushed rest then) before output stands in
-    rw (same, ← c.loop-byte.invariant.job) (rw cut at stopped))
+    let inside = within_rest c.bytes.at n bytes i.within e.count.1 in
+    let cut = cut_more c.bytes.at n bytes i.within inside in
+    record {
+      within = inside;
+      going = e.going;
+      budget = omega (arith, e.budget, i.budget);
+      falls = λ some. omega (arith, e.budget, i.budget);
+      choice = e.choice ∙ i.choice;
+      works = subst (λ bs. Works (g.E.Engine.stands c.args.engine.now) (g.E.Engine.stands c.take.new.self) (g.K.Sink.written c.args.out.now) (g.K.Sink.written c.take.new.out) bs) cut
+          (works_on (g.E.Engine.stands c.args.engine.now) (g.E.Engine.stands c.bytes.engine) (g.E.Engine.stands c.take.new.self)
+              (g.K.Sink.written c.args.out.now) (g.K.Sink.written c.bytes.out) (g.K.Sink.written c.take.new.out) _ _ i.works e.works);
+      same = e.cause ∙ i.same;
+    }

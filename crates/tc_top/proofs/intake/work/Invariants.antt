@@ -6,13 +6,13 @@ use Rattle.tc_top.proofs.intake.work.Given as goal
 abbrev pub invariant-pulls : goal.invariant-pulls
 invariant-pulls g l = record {
   going : g.E.Engine.is_going l.engine;
-  job : g.E.Engine.job l.engine ≡ g.E.Engine.job l.fn.engine;
+  choice : g.E.Engine.choice l.engine ≡ g.E.Engine.choice l.fn.engine;
   source : g.S.Source.faults l.source ≡ g.S.Source.faults l.fn.source;
   out : g.K.Sink.faults l.out ≡ g.K.Sink.faults l.fn.out;
-  worked : (bytes output : List ℕ)
-      × Consumes (g.S.Source.left l.fn.source) (g.S.Source.left l.source) bytes
-      × Appends (g.K.Sink.written l.fn.out) (g.K.Sink.written l.out) output
-      × g.E.Engine.stands l.engine bytes output;
+  worked : (pulled written : List ℕ)
+      × Consumes (g.S.Source.left l.fn.source) (g.S.Source.left l.source) pulled
+      × Appends (g.K.Sink.written l.fn.out) (g.K.Sink.written l.out) written
+      × g.E.Engine.stands l.engine pulled written;
 }
 
 abbrev pub decreases-pulls : goal.decreases-pulls

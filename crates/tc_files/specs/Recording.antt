@@ -1,0 +1,100 @@
+-- What the bytes of an interval file say of its recording, as far as they go.
+use Rattle.std.specs.Prelude.{◌≡◌, ℕ, ◌+◌, ◌-◌, ◌*◌, ◌/◌, ◌%◌, ◌<◌, ◌≤◌, List, [], ◌∷◌, ◌++◌, length, Option, Some, None, Result, Ok, Err, nat_lt, fold, if◌then◌else◌}
+use Rattle.direction_reader.specs.declared.reader.TheConstants.{MAX_INTERVALS}
+use Rattle.tc_files.specs.declared.fault.FileFault.{FileFault}
+use Rattle.tc_files.specs.declared.interval_file.decoder.Taken.{Taken}
+use Rattle.tc_files.specs.declared.interval_file.decoder.Taken.TheVariants.{Nothing, Header, Interval, Fault}
+use Rattle.tc_files.specs.declared.interval_file.header.IntervalHeader.{IntervalHeader}
+use Rattle.tc_files.specs.declared.interval_file.header.TheConstants.{HEADER_LENGTH}
+use Rattle.tc_files.specs.IntervalFile.{no_progress, answer, after, end}
+use Rattle.tc_files.specs.Progress.{Progress}
+use Rattle.tc_files.specs.Verdict.{Verdict, good, refused, past_limit}
+
+-- the header where it is whole, the whole intervals before a fault and within the limit, and whether
+-- the bytes have a fault or pass the limit
+pub record Recording : Type 0 where
+  pub header : Option IntervalHeader
+  pub intervals : List ℕ
+  pub verdict : Verdict
+
+-- of no bytes
+abbrev pub no_recording : Recording
+no_recording = record { header = None; intervals = []; verdict = good }
+
+-- the header comes once
+abbrev pub with_header : Option IntervalHeader → IntervalHeader → Option IntervalHeader
+with_header None header = Some header
+with_header (Some first) header = Some first
+
+-- with one item more. An interval past the limit is not looked at, so its fault is none
+abbrev pub with_item : Recording → Taken → Recording
+with_item r Nothing = r
+with_item r (Header header) = record r { header = with_header r.header header }
+with_item r (Interval x) =
+    if nat_lt (length r.intervals) MAX_INTERVALS then record r { intervals = r.intervals ++ x ∷ [] } else record r { verdict = past_limit }
+with_item r (Fault first) = record r { verdict = if nat_lt (length r.intervals) MAX_INTERVALS then refused first else past_limit }
+
+-- behind a fault or the limit nothing is looked at
+abbrev pub with_taken : Recording → Taken → Recording
+with_taken r taken = elim r.verdict [
+  | good ↦ with_item r taken
+  | refused fault ↦ r
+  | past_limit ↦ r
+]
+
+-- how far bytes have come, and what they say
+pub record Decoding : Type 0 where
+  pub progress : Progress
+  pub recording : Recording
+
+abbrev pub no_decoding : Decoding
+no_decoding = record { progress = no_progress; recording = no_recording }
+
+-- with one byte more
+abbrev pub with_byte : Decoding → ℕ → Decoding
+with_byte d byte = record { progress = after d.progress byte; recording = with_taken d.recording (answer d.progress byte) }
+
+abbrev pub decoding_of : List ℕ → Decoding
+decoding_of bytes = fold with_byte no_decoding bytes
+
+abbrev pub recording_of : List ℕ → Recording
+recording_of bytes = (decoding_of bytes).recording
+
+-- the fault in the answer at the end of the input
+abbrev pub fault_at_end : Result Unit FileFault → Option FileFault
+fault_at_end (Ok _) = None
+fault_at_end (Err fault) = Some fault
+
+-- the fault of bytes after which the input may not end
+abbrev pub end_fault_of : List ℕ → Option FileFault
+end_fault_of bytes = fault_at_end (end (decoding_of bytes).progress)
+
+-- ---- by the number of the bytes
+
+-- how many whole intervals so many bytes hold
+abbrev pub intervals_in : ℕ → ℕ
+intervals_in taken = (taken - HEADER_LENGTH) / 4
+
+-- more bytes than a file within the limit may have, with a part of one more interval
+abbrev pub too_many_bytes : ℕ
+too_many_bytes = HEADER_LENGTH + 4 * MAX_INTERVALS + 4
+
+-- ---- whole numbers
+
+-- the bytes so far end between two intervals
+pub record IsBetween (p : Progress) : Type 0 where
+  pub no_fault : p.fault ≡ None
+  pub header : HEADER_LENGTH ≤ p.taken
+  pub no_part : p.part ≡ []
+  pub whole : p.taken % 4 ≡ 0
+
+-- with the four bytes of an interval more
+abbrev pub with_number : Decoding → Result ℕ FileFault → Decoding
+with_number d (Ok x) = record {
+  progress = record d.progress { taken = d.progress.taken + 4 };
+  recording = with_taken d.recording (Interval x);
+}
+with_number d (Err fault) = record {
+  progress = record d.progress { taken = d.progress.taken + 4; fault = Some fault };
+  recording = with_taken d.recording (Fault fault);
+}

@@ -1,0 +1,291 @@
+-- What an item of an interval file does to a command along it: nothing, a header or an interval more leaves it standing, and else this is
+-- why it stops, whatever bytes follow.
+use Rattle.std.proofs.Common.{◌≡◌, ℕ, ◌+◌, ◌-◌, ◌%◌, ◌<◌, ◌≤◌, List, [], ◌∷◌, ◌++◌, length, take, drop, Ok, Err, Bool, true, false, Some, None, refl, sym, ◌∙◌, ap, subst, append_assoc, append-nil, fold, arith, length-append}
+use Rattle.std.specs.Prelude.{nat_lt, if◌then◌else◌, IsSome}
+use Rattle.std.proofs.lemmas.List.{take-append-drop}
+use Rattle.std.specs.declared.option.Option.{Option}
+use Rattle.std.specs.Io.KnownBytes.{Appends}
+use Rattle.std.proofs.lemmas.Bool.{lt-ltb, le-ltb, false≢true}
+use Rattle.tc_io.specs.Sink.{AppendsFront, IsFront}
+use Rattle.direction_reader.specs.declared.reader.TheConstants.{MAX_INTERVALS}
+use Rattle.tc_files.specs.declared.fault.FileFault.{FileFault}
+use Rattle.tc_files.specs.declared.interval_file.decoder.Taken.{Taken}
+use Rattle.tc_files.specs.declared.interval_file.decoder.Taken.TheVariants.{Nothing, Header, Interval, Fault}
+use Rattle.tc_files.specs.declared.interval_file.header.IntervalHeader.{IntervalHeader}
+use Rattle.tc_files.specs.IntervalFile.{after, answer}
+use Rattle.tc_files.specs.Progress.{Progress}
+use Rattle.tc_files.specs.Recording.{Recording, Decoding, IsBetween, with_byte, with_item, with_taken, with_number, decoding_of, recording_of}
+use Rattle.tc_files.specs.Verdict.{Verdict, good, refused, past_limit}
+use Rattle.tc_top.specs.declared.stop.Stop.{Stop}
+use Rattle.tc_top.specs.declared.stop.Stop.TheVariants.{Refused, ReadFault, WriteFault, Limit}
+use Rattle.tc_top.specs.Along.{Printing, IsPartBehind, IsPartOf, along_intervals}
+use Rattle.tc_top.specs.KeptAlong.{HasHeader, IntervalStops, Printed, Stands, longer, printed_well, stop_at}
+use Rattle.tc_top.specs.Stops.{IsStop, Stops}
+use Rattle.tc_top.proofs.AlongTheInput.{cut_at}
+use Rattle.tc_top.proofs.RecordingGrows.{Grows, good_step, grows, grows_by_item, grows_itself, grows_more, more_bytes, past_stays, refused_stays}
+
+-- these bytes complete this item behind a front
+abbrev pub Completes : List ℕ → List ℕ → Taken → Progress → Type 0
+Completes front bytes item next = decoding_of (front ++ bytes) ≡ record { progress = next; recording = with_taken (recording_of front) item }
+
+-- what stands for the relation of a command, and its laws
+abbrev pub Relation : Type 0 → Type 0 → Type 1
+Relation B C = B → C → IntervalHeader → List ℕ → List ℕ → Type 0
+
+abbrev pub StandsWell : {B C : Type 0} → (C → Printing) → Relation B C → Type 0
+StandsWell {B} {C} printing stands = (behind : B) (choice : C) (header : IntervalHeader) (intervals written : List ℕ)
+    → stands behind choice header intervals written → Printing.part (printing choice) header intervals written
+
+abbrev pub PartGrows : {C : Type 0} → (C → Printing) → Type 0
+PartGrows {C} printing = (choice : C) (header : IntervalHeader) (intervals more written : List ℕ)
+    → Printing.part (printing choice) header intervals written
+    → (rest : List ℕ) × Printing.part (printing choice) header (intervals ++ more) (written ++ rest)
+
+-- the recording with the item
+completed : (front bytes : List ℕ) (item : Taken) (next : Progress) → Completes front bytes item next → (recording_of front).verdict ≡ good
+    → recording_of (front ++ bytes) ≡ with_item (recording_of front) item
+completed front bytes item next is still = ap (λ (d : Decoding). d.recording) is ∙ good_step (recording_of front) item still
+
+-- ---- the command goes on
+
+pub nothing_more : {B C : Type 0} (stands : Relation B C) (decoder next : Progress) (behind : Option B) (count : ℕ) (choice : C)
+    (front bytes written : List ℕ) → Stands stands decoder behind count choice front written → Completes front bytes Nothing next
+    → Stands stands next behind count choice (front ++ bytes) (written ++ [])
+nothing_more stands decoder next behind count choice front bytes written s is =
+    let same = completed front bytes Nothing next is s.good in
+    record {
+      progress = ap (λ (d : Decoding). d.progress) (sym is);
+      good = ap (λ (r : Recording). r.verdict) same ∙ s.good;
+      counts = s.counts ∙ ap (λ (r : Recording). length r.intervals) (sym same);
+      printed = subst (λ (w : List ℕ). Printed stands behind choice (recording_of (front ++ bytes)) w) (sym (append-nil written))
+          (subst (λ (r : Recording). Printed stands behind choice r written) (sym same) s.printed);
+    }
+
+-- a header, where none was before
+pub a_header : {B C : Type 0} (stands : Relation B C) (decoder next : Progress) (before : Option B) (behind : B) (count : ℕ) (choice : C)
+    (header : IntervalHeader) (front bytes written first : List ℕ) → HasHeader before decoder.taken → decoder.taken + 1 ≡ 12
+    → Stands stands decoder before count choice front written → Completes front bytes (Header header) next
+    → stands behind choice header [] first → Stands stands next (Some behind) count choice (front ++ bytes) (written ++ first)
+a_header stands decoder next (Some b) behind count choice header front bytes written first has twelve s is begun = absurd (omega (arith, has, twelve))
+a_header stands decoder next None behind count choice header front bytes written first has twelve s is begun =
+    let same = completed front bytes (Header header) next is s.good in
+    let p = s.printed in
+    let head : (recording_of (front ++ bytes)).header ≡ Some header = ap (λ (r : Recording). r.header) same ∙ rw p.0 refl in
+    let none : (recording_of (front ++ bytes)).intervals ≡ [] = ap (λ (r : Recording). r.intervals) same ∙ p.1 in
+    record {
+      progress = ap (λ (d : Decoding). d.progress) (sym is);
+      good = ap (λ (r : Recording). r.verdict) same ∙ s.good;
+      counts = s.counts ∙ ap length p.1 ∙ ap length (sym none);
+      printed = (header, head, subst (λ (xs : List ℕ). stands behind choice header xs (written ++ first)) (sym none)
+          (subst (λ (w : List ℕ). stands behind choice header [] w) (ap (λ (w : List ℕ). w ++ first) (sym p.2)) begun));
+    }
+
+-- the recording with an interval within the limit
+with_interval : (r : Recording) (x : ℕ) → length r.intervals < MAX_INTERVALS → with_item r (Interval x) ≡ longer r x
+with_interval r x below = rw (lt-ltb (length r.intervals) MAX_INTERVALS below) refl
+
+one_longer : {B C : Type 0} (stands : Relation B C) (decoder next : Progress) (behind : Option B) (count : ℕ) (choice : C) (x : ℕ)
+    (front bytes written : List ℕ) → Stands stands decoder behind count choice front written → Completes front bytes (Interval x) next
+    → count < MAX_INTERVALS → recording_of (front ++ bytes) ≡ longer (recording_of front) x
+one_longer stands decoder next behind count choice x front bytes written s is below =
+    completed front bytes (Interval x) next is s.good ∙ with_interval (recording_of front) x (subst (λ (n : ℕ). n < MAX_INTERVALS) s.counts below)
+
+pub an_interval : {B C : Type 0} (stands : Relation B C) (decoder next : Progress) (before behind : Option B) (count now : ℕ) (choice : C) (x : ℕ)
+    (front bytes written after : List ℕ) → Stands stands decoder before count choice front written → Completes front bytes (Interval x) next
+    → count < MAX_INTERVALS → now ≡ count + 1 → Printed stands behind choice (longer (recording_of front) x) after
+    → Stands stands next behind now choice (front ++ bytes) after
+an_interval stands decoder next before behind count now choice x front bytes written after s is below one printed =
+    let same = one_longer stands decoder next before count choice x front bytes written s is below in
+    record {
+      progress = ap (λ (d : Decoding). d.progress) (sym is);
+      good = ap (λ (r : Recording). r.verdict) same ∙ s.good;
+      counts = one ∙ ap (λ (n : ℕ). n + 1) s.counts ∙ sym (length-append (recording_of front).intervals (x ∷ []))
+          ∙ ap (λ (r : Recording). length r.intervals) (sym same);
+      printed = subst (λ (r : Recording). Printed stands behind choice r after) (sym same) printed;
+    }
+
+-- ---- the command stops
+
+-- the part of a recording that grows
+part_extends : {C : Type 0} (printing : C → Printing) → PartGrows printing → (choice : C) (header : IntervalHeader) (r s : Recording) (written : List ℕ)
+    → r.header ≡ Some header → Grows r s → Printing.part (printing choice) header r.intervals written
+    → (rest : List ℕ) × IsPartOf (printing choice) s (written ++ rest)
+part_extends printing extends choice header r s written head g part =
+    let more = extends choice header r.intervals g.rest written part in
+    (more.0, subst (λ (h : Option IntervalHeader). IsPartBehind (printing choice) h s.intervals (written ++ more.0)) (sym (g.keeps header head))
+        (subst (λ (xs : List ℕ). Printing.part (printing choice) header xs (written ++ more.0)) (sym g.grown) more.1))
+
+-- the recording of more bytes
+and_rest : (front bytes rest : List ℕ) → decoding_of (front ++ (bytes ++ rest)) ≡ fold with_byte (decoding_of (front ++ bytes)) rest
+and_rest front bytes rest = ap decoding_of (sym (append_assoc front bytes rest)) ∙ more_bytes (front ++ bytes) rest
+
+-- a fault, or an interval past the limit: nothing that follows is looked at
+abbrev verdict_now : Recording → Verdict → Recording
+verdict_now r v = record { header = r.header; intervals = r.intervals; verdict = v }
+
+ends_refused : (front bytes rest : List ℕ) (f : FileFault) (r : Recording) → recording_of (front ++ bytes) ≡ verdict_now r (refused f)
+    → recording_of (front ++ (bytes ++ rest)) ≡ verdict_now r (refused f)
+ends_refused front bytes rest f r e =
+    ap (λ (d : Decoding). d.recording) (and_rest front bytes rest)
+    ∙ refused_stays (decoding_of (front ++ bytes)) f rest (ap (λ (s : Recording). s.verdict) e) ∙ e
+
+ends_past : (front bytes rest : List ℕ) (r : Recording) → recording_of (front ++ bytes) ≡ verdict_now r past_limit
+    → recording_of (front ++ (bytes ++ rest)) ≡ verdict_now r past_limit
+ends_past front bytes rest r e =
+    ap (λ (d : Decoding). d.recording) (and_rest front bytes rest)
+    ∙ past_stays (decoding_of (front ++ bytes)) rest (ap (λ (s : Recording). s.verdict) e) ∙ e
+
+-- the part where nothing was written any more
+part_now : {B C : Type 0} (printing : C → Printing) (stands : Relation B C) → StandsWell printing stands
+    → (behind : Option B) (choice : C) (r s : Recording) (v : Verdict) (written : List ℕ) → Printed stands behind choice r written
+    → s ≡ verdict_now r v → IsPartOf (printing choice) s (written ++ [])
+part_now printing stands well behind choice r s v written printed e =
+    subst (λ (w : List ℕ). IsPartOf (printing choice) s w) (sym (append-nil written))
+        (subst (λ (t : Recording). IsPartOf (printing choice) t written) (sym e) (printed_well printing stands well behind choice r written printed))
+
+-- past the limit
+pub a_limit : {B C : Type 0} (printing : C → Printing) (stands : Relation B C) → StandsWell printing stands
+    → (decoder next : Progress) (behind : Option B) (count : ℕ) (choice : C) (x : ℕ) (front bytes rest written : List ℕ)
+    → Stands stands decoder behind count choice front written → Completes front bytes (Interval x) next → count ≡ MAX_INTERVALS
+    → IsStop (along_intervals (printing choice)) Limit (front ++ (bytes ++ rest)) (written ++ [])
+a_limit printing stands well decoder next behind count choice x front bytes rest written s is full =
+    let r = recording_of front in
+    let past : with_item r (Interval x) ≡ verdict_now r past_limit =
+        rw (le-ltb (length r.intervals) MAX_INTERVALS (let counts = s.counts in omega arith)) refl in
+    let now = ends_past front bytes rest r (completed front bytes (Interval x) next is s.good ∙ past) in
+    (ap (λ (t : Recording). t.verdict) now, part_now printing stands well behind choice r _ past_limit written s.printed now)
+
+-- a fault
+at_fault : {B C : Type 0} (printing : C → Printing) (stands : Relation B C) → StandsWell printing stands
+    → (behind : Option B) (choice : C) (f : FileFault) (front bytes rest written : List ℕ) (below : Bool)
+    → Printed stands behind choice (recording_of front) written
+    → recording_of (front ++ bytes) ≡ verdict_now (recording_of front) (if below then refused f else past_limit)
+    → IsStop (along_intervals (printing choice)) (if below then Refused f else Limit) (front ++ (bytes ++ rest)) (written ++ [])
+at_fault printing stands well behind choice f front bytes rest written true printed e =
+    let now = ends_refused front bytes rest f (recording_of front) e in
+    (ap (λ (t : Recording). t.verdict) now, part_now printing stands well behind choice (recording_of front) _ (refused f) written printed now)
+at_fault printing stands well behind choice f front bytes rest written false printed e =
+    let now = ends_past front bytes rest (recording_of front) e in
+    (ap (λ (t : Recording). t.verdict) now, part_now printing stands well behind choice (recording_of front) _ past_limit written printed now)
+
+pub a_fault : {B C : Type 0} (printing : C → Printing) (stands : Relation B C) → StandsWell printing stands
+    → (decoder next : Progress) (behind : Option B) (count : ℕ) (choice : C) (f : FileFault) (front bytes rest written : List ℕ)
+    → Stands stands decoder behind count choice front written → Completes front bytes (Fault f) next
+    → IsStop (along_intervals (printing choice)) (stop_at count f) (front ++ (bytes ++ rest)) (written ++ [])
+a_fault printing stands well decoder next behind count choice f front bytes rest written s is =
+    subst (λ (n : ℕ). IsStop (along_intervals (printing choice)) (stop_at n f) (front ++ (bytes ++ rest)) (written ++ [])) (sym s.counts)
+        (at_fault printing stands well behind choice f front bytes rest written (nat_lt (length (recording_of front).intervals) MAX_INTERVALS) s.printed
+            (completed front bytes (Fault f) next is s.good))
+
+-- a push that failed: a front of the part was written
+front_of_part : (m : List ℕ → Type 0) (old new : Option (List ℕ)) (written part rest : List ℕ) → m ((written ++ part) ++ rest) → AppendsFront old new part
+    → (more : List ℕ) × Appends old new more × ((whole : List ℕ) × m whole × IsFront (written ++ more) whole)
+front_of_part m old new written part rest is f =
+    let e : (written ++ part) ++ rest ≡ (written ++ f.0) ++ (f.1.0 ++ rest) =
+        ap (λ (l : List ℕ). (written ++ l) ++ rest) f.1.1 ∙ ap (λ (l : List ℕ). l ++ rest) (sym (append_assoc written f.0 f.1.0))
+        ∙ append_assoc (written ++ f.0) f.1.0 rest in
+    (f.0, f.2, ((written ++ part) ++ rest, is, (f.1.0 ++ rest, e)))
+
+-- what a recording of more bytes is of
+grows_behind : (front bytes rest : List ℕ) (s : Recording) → recording_of (front ++ bytes) ≡ s → Grows s (recording_of (front ++ (bytes ++ rest)))
+grows_behind front bytes rest s e =
+    subst (λ (r : Recording). Grows r (recording_of (front ++ (bytes ++ rest)))) e
+        (subst (λ (d : Decoding). Grows (recording_of (front ++ bytes)) d.recording) (sym (and_rest front bytes rest)) (grows (decoding_of (front ++ bytes)) rest))
+
+-- of an interval
+pub a_write_fault : {B C : Type 0} (printing : C → Printing) (stands : Relation B C) → PartGrows printing
+    → (decoder next : Progress) (b : B) (count : ℕ) (choice : C) (x : ℕ) (old new : Option (List ℕ)) (front bytes rest written : List ℕ)
+    → Stands stands decoder (Some b) count choice front written → Completes front bytes (Interval x) next
+    → IntervalStops (printing choice) stands (Some b) count choice old new x WriteFault
+    → Stops (along_intervals (printing choice)) WriteFault old new (front ++ (bytes ++ rest)) written
+a_write_fault printing stands extends decoder next b count choice x old new front bytes rest written s is why =
+    let same = one_longer stands decoder next (Some b) count choice x front bytes written s is why.0 in
+    let p = s.printed in
+    let part = why.1 (recording_of front) written p in
+    let now : Printing.part (printing choice) p.0 (longer (recording_of front) x).intervals (written ++ part.0) =
+        subst (λ (h : Option IntervalHeader). IsPartBehind (printing choice) h (longer (recording_of front) x).intervals (written ++ part.0)) p.1 part.1 in
+    let more = part_extends printing extends choice p.0 (longer (recording_of front) x) (recording_of (front ++ (bytes ++ rest))) (written ++ part.0) p.1
+        (grows_behind front bytes rest (longer (recording_of front) x) same) now in
+    front_of_part (λ w. IsPartOf (printing choice) (recording_of (front ++ (bytes ++ rest))) w) old new written part.0 more.0 more.1 part.2
+
+-- of a header
+pub a_header_fault : {B C : Type 0} (printing : C → Printing) (stands : Relation B C) → PartGrows printing
+    → (decoder next : Progress) (before : Option B) (count : ℕ) (choice : C) (header : IntervalHeader) (old new : Option (List ℕ))
+    (front bytes rest written part : List ℕ) → HasHeader before decoder.taken → decoder.taken + 1 ≡ 12
+    → Stands stands decoder before count choice front written → Completes front bytes (Header header) next
+    → Printing.part (printing choice) header [] part → AppendsFront old new part
+    → Stops (along_intervals (printing choice)) WriteFault old new (front ++ (bytes ++ rest)) written
+a_header_fault printing stands extends decoder next (Some b) count choice header old new front bytes rest written part has twelve s is begun pushed =
+    absurd (omega (arith, has, twelve))
+a_header_fault printing stands extends decoder next None count choice header old new front bytes rest written part has twelve s is begun pushed =
+    let p = s.printed in
+    let same = completed front bytes (Header header) next is s.good in
+    let first : Recording = record { header = Some header; intervals = []; verdict = (recording_of front).verdict } in
+    let begins : recording_of (front ++ bytes) ≡ first = same ∙ rw (p.0, p.1) refl in
+    let now : Printing.part (printing choice) header [] (written ++ part) =
+        subst (λ (w : List ℕ). Printing.part (printing choice) header [] w) (ap (λ (w : List ℕ). w ++ part) (sym p.2)) begun in
+    let more = part_extends printing extends choice header first (recording_of (front ++ (bytes ++ rest))) (written ++ part) refl
+        (grows_behind front bytes rest first begins) now in
+    front_of_part (λ w. IsPartOf (printing choice) (recording_of (front ++ (bytes ++ rest))) w) old new written part more.0 more.1 pushed
+
+-- ---- the bytes of an item
+
+-- a byte
+pub by_byte : (decoder : Progress) (front : List ℕ) (byte : ℕ) (item : Taken) → decoder ≡ (decoding_of front).progress → item ≡ answer decoder byte
+    → Completes front (byte ∷ []) item (after decoder byte)
+by_byte decoder front byte item same says =
+    subst (λ (i : Taken). decoding_of (front ++ byte ∷ []) ≡ record { progress = after decoder byte; recording = with_taken (recording_of front) i }) (sym says)
+        (subst (λ (p : Progress). decoding_of (front ++ byte ∷ []) ≡ record { progress = after p byte; recording = with_taken (recording_of front) (answer p byte) })
+            (sym same) (more_bytes front (byte ∷ [])))
+
+-- why an interval stops the command
+pub interval_stops : {B C : Type 0} (printing : C → Printing) (stands : Relation B C) → StandsWell printing stands → PartGrows printing
+    → (decoder next : Progress) (behind : Option B) (count : ℕ) (choice : C) (x : ℕ) (old new : Option (List ℕ)) (front bytes rest written : List ℕ)
+    (stop : Stop) → HasHeader behind decoder.taken → 12 ≤ decoder.taken
+    → Stands stands decoder behind count choice front written → Completes front bytes (Interval x) next
+    → IntervalStops (printing choice) stands behind count choice old new x stop
+    → Stops (along_intervals (printing choice)) stop old new (front ++ (bytes ++ rest)) written
+interval_stops printing stands well extends decoder next behind count choice x old new front bytes rest written Limit has late s is why =
+    ([], why.1, a_limit printing stands well decoder next behind count choice x front bytes rest written s is why.0)
+interval_stops printing stands well extends decoder next None count choice x old new front bytes rest written WriteFault has late s is why =
+    absurd (omega (arith, has, late))
+interval_stops printing stands well extends decoder next (Some b) count choice x old new front bytes rest written WriteFault has late s is why =
+    a_write_fault printing stands extends decoder next b count choice x old new front bytes rest written s is why
+interval_stops printing stands well extends decoder next behind count choice x old new front bytes rest written ReadFault has late s is why = absurd why
+interval_stops printing stands well extends decoder next behind count choice x old new front bytes rest written (Refused f) has late s is why = absurd why
+
+-- four bytes
+pub by_number : (decoder : Progress) (front bytes : List ℕ) (x : ℕ) → decoder ≡ (decoding_of front).progress
+    → fold with_byte (decoding_of front) bytes ≡ with_number (decoding_of front) (Ok x)
+    → Completes front bytes (Interval x) (record decoder { taken = decoder.taken + 4 })
+by_number decoder front bytes x same is =
+    subst (λ (p : Progress). decoding_of (front ++ bytes) ≡ record { progress = record p { taken = p.taken + 4 }; recording = with_taken (recording_of front) (Interval x) })
+        (sym same) (more_bytes front bytes ∙ is)
+
+pub by_bad_number : (decoder : Progress) (front bytes : List ℕ) (f : FileFault) → decoder ≡ (decoding_of front).progress
+    → fold with_byte (decoding_of front) bytes ≡ with_number (decoding_of front) (Err f)
+    → Completes front bytes (Fault f) (record decoder { taken = decoder.taken + 4; fault = Some f })
+by_bad_number decoder front bytes f same is =
+    subst (λ (p : Progress). decoding_of (front ++ bytes) ≡ record { progress = record p { taken = p.taken + 4; fault = Some f }; recording = with_taken (recording_of front) (Fault f) })
+        (sym same) (more_bytes front bytes ∙ is)
+
+-- with some numbers passed over, a decoder is between two intervals as before
+pub passed_over : (d : Progress) (count : ℕ) → IsBetween d → count % 4 ≡ 0 → IsBetween (record d { taken = d.taken + count })
+passed_over d count between whole = record {
+  no_fault = between.no_fault;
+  header = (let late = between.header in omega arith);
+  no_part = between.no_part;
+  whole = (let even = between.whole in omega arith);
+}
+
+pub has_header : {B : Type 0} (behind : Option B) (taken : ℕ) → IsSome behind → 12 ≤ taken → HasHeader behind taken
+has_header None taken some late = absurd (false≢true some)
+has_header (Some b) taken some late = late
+
+-- numbers are those before a place, the four bytes there, and the rest
+pub cut_number : (k : ℕ) (numbers rest : List ℕ) → k ≤ length numbers
+    → take k numbers ++ (take 4 (take (length numbers - k) (drop k numbers)) ++ (drop 4 (take (length numbers - k) (drop k numbers)) ++ rest)) ≡ numbers ++ rest
+cut_number k numbers rest within =
+    let left = take (length numbers - k) (drop k numbers) in
+    ap (λ (l : List ℕ). take k numbers ++ l) (sym (append_assoc (take 4 left) (drop 4 left) rest) ∙ ap (λ (l : List ℕ). l ++ rest) (take-append-drop 4 left))
+    ∙ sym (append_assoc (take k numbers) left rest) ∙ ap (λ (l : List ℕ). l ++ rest) (cut_at k numbers within)

@@ -1,0 +1,11 @@
+-- What a command of one line keeps. No promise speaks of it.
+use Rattle.std.specs.Prelude.{ℕ, List, [], Option, Some, None}
+use Rattle.arrayvec.specs.ArrayVec.{ArrayVec}
+
+abbrev pub rest_of : Option (ArrayVec ℕ) → List ℕ
+rest_of None = []
+rest_of (Some line) = line.items
+
+abbrev pub pieces_of : Option (ArrayVec ℕ) → ℕ
+pieces_of None = 0
+pieces_of (Some line) = 1

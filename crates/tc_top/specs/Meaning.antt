@@ -1,0 +1,36 @@
+-- What a command takes and what it writes.
+use Rattle.std.specs.Prelude.{◌≡◌, ℕ, Bool, true, false, IsTrue, List, [], Option, None}
+use Rattle.std.specs.Io.KnownBytes.{IsAtEnd}
+use Rattle.tc_files.specs.declared.fault.FileFault.{FileFault}
+use Rattle.tc_files.specs.Verdict.{Verdict, good}
+
+pub record Meaning : Type 1 where
+  -- it pulls an input
+  pub reads : Bool
+  -- what its grammar and its limit make of bytes, whatever follows them
+  pub verdict : List ℕ → Verdict
+  -- the fault of an input that ends with these bytes, where they are good
+  pub end_fault : List ℕ → Option FileFault
+  -- what is written of bytes before their end
+  pub part : List ℕ → List ℕ → Type 0
+  -- what is written of a whole input
+  pub output : List ℕ → List ℕ → Type 0
+
+-- a command that reads nothing and writes this
+abbrev pub writes : List ℕ → Meaning
+writes text = record {
+  reads = false;
+  verdict = λ bytes. good;
+  end_fault = λ bytes. None;
+  part = λ bytes written. written ≡ [];
+  output = λ bytes written. (bytes ≡ []) × (written ≡ text);
+}
+
+-- the bytes are an input of the command
+pub record IsInput (m : Meaning) (bytes : List ℕ) : Type 0 where
+  pub verdict : m.verdict bytes ≡ good
+  pub end : m.end_fault bytes ≡ None
+
+-- the command is at its end where nothing is left of its input; one that reads none is at once
+abbrev pub IsEnd : Meaning → Option (List ℕ) → Type 0
+IsEnd m left = IsTrue m.reads → IsAtEnd left

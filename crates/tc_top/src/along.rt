@@ -1,0 +1,254 @@
+//! The way along an interval file, the same for each command that reads one. Next:
+//! `tc_files/src/interval_file/decoder.rt`, and behind it the engines.
+ghost use Rattle.std.specs.Prelude.{◌≡◌, ℕ, ◌+◌, ◌-◌, ◌%◌, ◌<◌, ◌≤◌, List, [], ◌∷◌, ◌++◌, length, take, drop, OnOk, IfOk, IfErr, IsSome, Err};
+ghost use Rattle.std.specs.Io.KnownBytes.{Appends};
+ghost use Rattle.biphase.specs.declared.cell.TheConstants.{MAX_INTERVAL};
+ghost use Rattle.direction_reader.specs.declared.reader.TheConstants.{MAX_INTERVALS};
+ghost use Rattle.tc_files.specs.declared.interval_file.header.IntervalHeader.{IntervalHeader};
+ghost use Rattle.tc_files.specs.IntervalHeader.{IsTickRate};
+ghost use Rattle.tc_files.specs.Recording.{IsBetween, Recording};
+ghost use Rattle.tc_io.specs.Sink.{AppendsFront};
+ghost use Rattle.tc_top.specs.Along.{Printing, along_intervals};
+ghost use Rattle.tc_top.specs.Causes.{HasOutCause};
+ghost use Rattle.tc_top.specs.Stops.{Stops};
+ghost use Rattle.tc_top.specs.KeptAlong.{FitsBehind, IntervalStops, IsGoing, Printed, Stands, longer, stop_at};
+
+use crate::engine::Engine;
+use crate::stop::Stop;
+use biphase::MAX_INTERVAL;
+use direction_reader::MAX_INTERVALS;
+use tc_files::{FileFault, IntervalDecoder, IntervalHeader, Taken, interval_at};
+use tc_io::Sink;
+
+/// The work of one command behind the header of an interval file.
+pub(crate) trait Behind: Drop {
+    /// What the words choose for it.
+    type Choice: Copy;
+
+    /// What it writes.
+    ghost printing: { Self.Choice → Printing };
+
+    /// What it keeps fits the intervals that it was given, so many.
+    ghost fits: { Self → ℕ → Type 0 };
+
+    /// It was begun with this choice and this header, was given these intervals, and wrote this.
+    ghost stands: { Self → Self.Choice → IntervalHeader → List ℕ → List ℕ → Type 0 };
+
+    /// What it wrote is the part of the intervals.
+    ghost stands_well: { (behind : Self) (choice : Self.Choice) (header : IntervalHeader) (intervals written : List ℕ)
+        → stands behind choice header intervals written
+        → Printing.part (printing choice) header intervals written };
+
+    /// The part of more intervals begins with the part of the first.
+    ghost part_grows: { (choice : Self.Choice) (header : IntervalHeader) (intervals more written : List ℕ)
+        → Printing.part (printing choice) header intervals written
+        → (rest : List ℕ) × Printing.part (printing choice) header (intervals ++ more) (written ++ rest) };
+
+    /// Takes the header, and writes what stands first.
+    fn begin<K: Sink>(choice: Self::Choice, header: IntervalHeader, out: &mut K) -> Result<Self, Stop>
+        requires { IsTickRate header.tick_rate }
+        ensures fits { IfOk result (λ behind. fits behind 0) }
+        ensures begins { IfOk result (λ behind. (written : List ℕ)
+            × Appends (K.written out.old) (K.written out.new) written × stands behind choice header [] written) }
+        ensures front { IfErr result (λ stop. (stop ≡ Stop.WriteFault) × ((part : List ℕ)
+            × Printing.part (printing choice) header [] part × AppendsFront (K.written out.old) (K.written out.new) part)) }
+        ensures cause { HasOutCause (K.faults out.old) (K.faults out.new) result };
+
+    /// Takes an interval, of `x` ticks, and writes what it brings.
+    fn interval<K: Sink>(&mut self, x: u32, out: &mut K) -> Result<(), Stop>
+        requires least { 1 ≤ x }
+        requires most { x ≤ MAX_INTERVAL }
+        requires fits { (count : ℕ) × (count < MAX_INTERVALS) × fits self.old count }
+        ensures fits { OnOk result ((count : ℕ) → fits self.old count → fits self.new (count + 1)) }
+        ensures works { OnOk result ((choice : Self.Choice) (header : IntervalHeader) (intervals written : List ℕ)
+            → stands self.old choice header intervals written
+            → (more : List ℕ) × Appends (K.written out.old) (K.written out.new) more
+            × stands self.new choice header (intervals ++ x ∷ []) (written ++ more)) }
+        ensures front { IfErr result (λ stop. (stop ≡ Stop.WriteFault)
+            × ((choice : Self.Choice) (header : IntervalHeader) (intervals written : List ℕ)
+            → stands self.old choice header intervals written
+            → (part : List ℕ) × Printing.part (printing choice) header (intervals ++ x ∷ []) (written ++ part)
+            × AppendsFront (K.written out.old) (K.written out.new) part)) }
+        ensures cause { HasOutCause (K.faults out.old) (K.faults out.new) result };
+
+    /// Takes the end of the recording, and writes what stands last.
+    fn finish<K: Sink>(&self, out: &mut K) -> Result<(), Stop>
+        requires fits { (count : ℕ) × (count ≤ MAX_INTERVALS) × fits self.now count }
+        ensures ends { OnOk result ((choice : Self.Choice) (header : IntervalHeader) (intervals written : List ℕ)
+            → stands self.now choice header intervals written
+            → (more : List ℕ) × Appends (K.written out.old) (K.written out.new) more
+            × Printing.whole (printing choice) header intervals (written ++ more)) }
+        ensures front { IfErr result (λ stop. (stop ≡ Stop.WriteFault)
+            × ((choice : Self.Choice) (header : IntervalHeader) (intervals written : List ℕ)
+            → stands self.now choice header intervals written
+            → (last : List ℕ) × Printing.whole (printing choice) header intervals (written ++ last)
+            × AppendsFront (K.written out.old) (K.written out.new) last)) }
+        ensures cause { HasOutCause (K.faults out.old) (K.faults out.new) result };
+}
+
+/// A command along an interval file.
+#[derive(Drop)]
+pub(crate) struct Along<B: Behind> {
+    decoder: IntervalDecoder,
+    choice: B::Choice,
+    behind: Option<B>,
+    intervals: u64,
+}
+
+impl<B: Behind> Along<B> {
+    /// A command with this choice that stands before the first byte.
+    pub(crate) fn new(choice: B::Choice) -> Along<B>
+        ensures choice { result.choice ≡ choice }
+        ensures going { IsGoing B.fits result.decoder result.behind result.intervals }
+        ensures stands { Stands B.stands result.decoder result.behind result.intervals result.choice [] [] }
+    {
+        Along {
+            decoder: IntervalDecoder::new(),
+            choice,
+            behind: None,
+            intervals: 0,
+        }
+    }
+
+    /// Works on one byte.
+    fn byte<K: Sink>(&mut self, byte: u8, out: &mut K) -> Result<(), Stop>
+        requires { IsGoing B.fits self.old.decoder self.old.behind self.old.intervals }
+        ensures going { OnOk result (IsGoing B.fits self.new.decoder self.new.behind self.new.intervals) }
+        ensures taken { OnOk result (self.new.decoder.taken ≡ self.old.decoder.taken + 1) }
+        ensures choice { self.new.choice ≡ self.old.choice }
+        ensures works { OnOk result ((front written : List ℕ)
+            → Stands B.stands self.old.decoder self.old.behind self.old.intervals self.old.choice front written
+            → (more : List ℕ) × Appends (K.written out.old) (K.written out.new) more
+            × Stands B.stands self.new.decoder self.new.behind self.new.intervals self.new.choice (front ++ byte ∷ []) (written ++ more)) }
+        ensures stops { IfErr result (λ stop. (front written rest : List ℕ)
+            → Stands B.stands self.old.decoder self.old.behind self.old.intervals self.old.choice front written
+            → Stops (along_intervals (B.printing self.old.choice)) stop (K.written out.old) (K.written out.new) (front ++ byte ∷ rest) written) }
+        ensures cause { HasOutCause (K.faults out.old) (K.faults out.new) result }
+        ensures no_pull { result ≡ Err Stop.ReadFault → ⊥ }
+    {
+        match self.decoder.byte(byte) {
+            Taken::Nothing => Ok(()),
+            Taken::Header(header) => {
+                self.behind = Some(B::begin(self.choice, header, out)?);
+                Ok(())
+            }
+            Taken::Interval(x) => self.interval(x, out),
+            Taken::Fault(fault) => Err(self.stop_at(fault)),
+        }
+    }
+
+    /// Works on whole numbers, four bytes each.
+    fn numbers<K: Sink>(&mut self, numbers: &[u8], out: &mut K) -> Result<(), Stop>
+        requires between { IsBetween self.old.decoder }
+        requires whole { length numbers.now % 4 ≡ 0 }
+        requires going { IsGoing B.fits self.old.decoder self.old.behind self.old.intervals }
+        ensures going { OnOk result (IsGoing B.fits self.new.decoder self.new.behind self.new.intervals) }
+        ensures taken { OnOk result (self.new.decoder.taken ≡ self.old.decoder.taken + length numbers.now) }
+        ensures choice { self.new.choice ≡ self.old.choice }
+        ensures works { OnOk result ((front written : List ℕ)
+            → Stands B.stands self.old.decoder self.old.behind self.old.intervals self.old.choice front written
+            → (more : List ℕ) × Appends (K.written out.old) (K.written out.new) more
+            × Stands B.stands self.new.decoder self.new.behind self.new.intervals self.new.choice (front ++ numbers.now) (written ++ more)) }
+        ensures stops { IfErr result (λ stop. (front written rest : List ℕ)
+            → Stands B.stands self.old.decoder self.old.behind self.old.intervals self.old.choice front written
+            → Stops (along_intervals (B.printing self.old.choice)) stop (K.written out.old) (K.written out.new)
+                (front ++ (numbers.now ++ rest)) written) }
+        ensures cause { HasOutCause (K.faults out.old) (K.faults out.new) result }
+        ensures no_pull { result ≡ Err Stop.ReadFault → ⊥ }
+    {
+        let first = self.decoder.taken();
+        let mut at = 0;
+        'numbers: while at < numbers.len() {
+            match interval_at(first + at as u64, &numbers[at..]) {
+                Ok(x) => self.interval(x, out)?,
+                Err(fault) => return Err(self.stop_at(fault)),
+            }
+            at += 4;
+        }
+        self.decoder.pass_over(numbers.len());
+        Ok(())
+    }
+
+    /// Works on an interval, of `x` ticks.
+    fn interval<K: Sink>(&mut self, x: u32, out: &mut K) -> Result<(), Stop>
+        requires least { 1 ≤ x }
+        requires most { x ≤ MAX_INTERVAL }
+        requires fits { FitsBehind B.fits self.old.behind self.old.intervals }
+        requires header { IsSome self.old.behind }
+        ensures decoder { self.new.decoder ≡ self.old.decoder }
+        ensures choice { self.new.choice ≡ self.old.choice }
+        ensures count { OnOk result ((self.old.intervals < MAX_INTERVALS) × (self.new.intervals ≡ self.old.intervals + 1)) }
+        ensures fits { OnOk result (FitsBehind B.fits self.new.behind self.new.intervals) }
+        ensures header { OnOk result (IsSome self.new.behind) }
+        ensures works { OnOk result ((r : Recording) (written : List ℕ)
+            → Printed B.stands self.old.behind self.old.choice r written
+            → (more : List ℕ) × Appends (K.written out.old) (K.written out.new) more
+            × Printed B.stands self.new.behind self.new.choice (longer r x) (written ++ more)) }
+        ensures stops { IfErr result (IntervalStops (B.printing self.old.choice) B.stands self.old.behind self.old.intervals
+            self.old.choice (K.written out.old) (K.written out.new) x) }
+        ensures cause { HasOutCause (K.faults out.old) (K.faults out.new) result }
+        ensures no_pull { result ≡ Err Stop.ReadFault → ⊥ }
+    {
+        match &mut self.behind {
+            Some(behind) if self.intervals < MAX_INTERVALS => {
+                behind.interval(x, out)?;
+                self.intervals += 1;
+                Ok(())
+            }
+            _ => Err(Stop::Limit),
+        }
+    }
+
+    /// Why a fault of the file stops the job: an interval past the limit is not looked at.
+    fn stop_at(&self, fault: FileFault) -> Stop
+        ensures { result ≡ stop_at self.now.intervals fault }
+    {
+        if self.intervals < MAX_INTERVALS {
+            Stop::Refused(fault)
+        } else {
+            Stop::Limit
+        }
+    }
+}
+
+impl<B: Behind> Engine for Along<B> {
+    ghost use Rattle.tc_files.specs.Recording.{too_many_bytes};
+    ghost use Rattle.tc_top.specs.Along.{along_intervals};
+    ghost use Rattle.tc_top.specs.KeptAlong.{IsGoing, Stands, printed_well};
+
+    type Choice = B::Choice;
+
+    ghost meaning = { λ choice. along_intervals (B.printing choice) };
+
+    ghost choice = { λ s. s.choice };
+
+    ghost is_going = { λ s. IsGoing B.fits s.decoder s.behind s.intervals };
+
+    ghost stands = { λ s bytes written. Stands B.stands s.decoder s.behind s.intervals s.choice bytes written };
+
+    ghost budget = { λ s. too_many_bytes - s.decoder.taken };
+
+    ghost stands_well = { λ s bytes written stands.
+        (stands.good, printed_well B.printing B.stands B.stands_well s.behind s.choice _ written stands.printed) };
+
+    fn take<K: Sink>(&mut self, bytes: &[u8], out: &mut K) -> Result<usize, Stop> {
+        let numbers = self.decoder.whole_numbers(bytes);
+        if numbers.is_empty() {
+            self.byte(bytes[0], out)?;
+            Ok(1)
+        } else {
+            self.numbers(numbers, out)?;
+            Ok(numbers.len())
+        }
+    }
+
+    fn finish<K: Sink>(&self, out: &mut K) -> Result<(), Stop> {
+        if let Err(fault) = self.decoder.finish() {
+            return Err(Stop::Refused(fault));
+        }
+        match &self.behind {
+            Some(behind) => behind.finish(out),
+            None => unreachable!(),
+        }
+    }
+}
