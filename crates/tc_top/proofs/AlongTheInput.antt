@@ -1,5 +1,5 @@
 -- What was pushed for some bytes and then for those after them was pushed for all of them, in order.
-use Rattle.std.proofs.Common.{◌≡◌, ℕ, ◌+◌, ◌-◌, ◌<◌, ◌≤◌, List, [], ◌∷◌, ◌++◌, length, take, drop, arith, subst, append_assoc, append-nil, refl, inl, inr, sym, ◌∙◌, ap}
+use Rattle.std.proofs.Common.{◌≡◌, ℕ, ◌+◌, ◌-◌, ◌<◌, ◌≤◌, List, [], ◌∷◌, ◌++◌, length, take, drop, get_or, arith, subst, append_assoc, append-nil, refl, inl, inr, sym, ◌∙◌, ap}
 use Rattle.std.specs.Prelude.{OnOk, OnErr, IfErr, Ok, Err}
 use Rattle.std.specs.Result.{IsErrAnd}
 use Rattle.std.specs.declared.result.Result.{Result}
@@ -64,7 +64,7 @@ cut_more k n xs within less =
     rw (all, ← behind, ← front) cut
 
 -- what an error that is passed on says
-pub through : {P Q : Stop → Type 0} (result : Result (Unit {0}) Stop) → IsErrAnd result P → ((stop : Stop) → P stop → Q stop) → IfErr result Q
+pub through : {T : Type 0} {P Q : Stop → Type 0} (result : Result T Stop) → IsErrAnd result P → ((stop : Stop) → P stop → Q stop) → IfErr result Q
 through (Ok done) says to = absurd says
 through (Err stop) says to = to stop says
 
@@ -116,3 +116,12 @@ along_at_end m (Refused fault) left bytes output end is = inr ((λ reads. end), 
 along_at_end m ReadFault left bytes output end is = absurd is
 along_at_end m WriteFault left bytes output end is = inr ((λ reads. end), is)
 along_at_end m Limit left bytes output end is = absurd is
+
+-- a list that is not empty is its first item and the rest
+pub first_and_rest : (xs : List ℕ) → 0 < length xs → get_or xs 0 0 ∷ drop 1 xs ≡ xs
+first_and_rest [] some = absurd (omega (arith, some))
+first_and_rest (x ∷ xs) some = refl
+
+-- a front of a list, and the rest
+pub front_and_rest : (front xs : List ℕ) → front ≡ take (length front) xs → front ++ drop (length front) xs ≡ xs
+front_and_rest front xs same = ap (λ (l : List ℕ). l ++ drop (length front) xs) same ∙ take-append-drop (length front) xs

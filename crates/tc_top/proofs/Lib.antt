@@ -1,5 +1,9 @@
 pub mod AlongTheInput
 pub mod AnItemMore
+pub mod CountedEvents
 pub mod Digits
+pub mod LinesGrow
+pub mod OneStatus
 pub mod PushedLines
 pub mod RecordingGrows
+pub mod WordsAnswer

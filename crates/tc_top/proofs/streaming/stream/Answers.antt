@@ -1,0 +1,45 @@
+use Rattle.std.proofs.Common.{[], refl, ◌≡◌, subst}
+use Rattle.std.specs.declared.option.Option.{Option}
+use Rattle.std.specs.Io.KnownBytes.{Consumes}
+use Rattle.std.proofs.KnownBytes.{Appends-nil}
+use Rattle.tc_top.specs.Answer.{Exchange}
+use Rattle.tc_top.specs.Commands.{meaning_of}
+use Rattle.tc_top.proofs.OneStatus.{answer_of, done_is_final, settles, stop_is_final}
+use Rattle.tc_top.proofs.streaming.stream.Goals as goal
+
+-- the job is done
+pub returns-in-Ok-clause-answer : goal.returns-in-Ok-clause-answer
+returns-in-Ok-clause-answer g c =
+    let e = c.in-Ok.ensures.ends in
+    let went : Exchange = record { pulled = e.0; left = g.S.Source.left c.work_on.new.source; written = e.1; note = [] } in (
+      went,
+      record { bytes = e.2; left = refl },
+      e.3,
+      record { front = ([], ([], refl), Appends-nil _); all = λ _. Appends-nil _ },
+      record { end = e.4; input = e.5; output = e.6; note = refl },
+    )
+
+-- the job stopped
+pub returns-in-Err-clause-answer : goal.returns-in-Err-clause-answer
+returns-in-Err-clause-answer g c =
+    let e = c.in-Err.ensures.stops in
+    let went : Exchange = record { pulled = e.0; left = g.S.Source.left c.work_on.new.source; written = e.1; note = c.stop_note.result.items } in (
+      went,
+      record { bytes = e.2; left = refl },
+      e.3,
+      record { front = c.push_note.ensures.front; all = c.push_note.ensures.all },
+      rw c.of_stop.ensures (answer_of (meaning_of c.args.job.now) c.in-Err.stop went e.4 c.stop_note.ensures),
+    )
+
+-- the end of an input is the end of the whole input
+pub returns-in-Ok-clause-status : goal.returns-in-Ok-clause-status
+returns-in-Ok-clause-status g c = λ input told no_read no_write.
+    let e = c.in-Ok.ensures.ends in
+    done_is_final (meaning_of c.args.job.now) (settles c.args.job.now) _ input e.0 (rw told at e.2) e.4 e.5
+
+-- a stop among some bytes is that of the whole input
+pub returns-in-Err-clause-status : goal.returns-in-Err-clause-status
+returns-in-Err-clause-status g c = λ input told no_read no_write.
+    let e = c.in-Err.ensures.stops in
+    rw c.of_stop.ensures (stop_is_final (meaning_of c.args.job.now) (settles c.args.job.now) c.in-Err.stop _ input e.0 e.1 _ _ _ _
+        (rw told at e.2) e.4 c.in-Err.ensures.source c.in-Err.ensures.out no_read no_write)

@@ -1,0 +1,5 @@
+use Rattle.tc_top.proofs.streaming.work_on.Goals as goal
+
+-- a front of the label was written
+pub returns-in-LabelOf-clause-stops : goal.returns-in-LabelOf-clause-stops
+returns-in-LabelOf-clause-stops g c = rw (c.in-LabelOf.is, ← c.label.ensures) c.make-in-LabelOf.ensures.stops

@@ -1,0 +1,24 @@
+use Rattle.std.proofs.Common.{[], refl, map, string_bytes}
+use Rattle.std.proofs.KnownBytes.{Appends-nil, Consumes-nil}
+use Rattle.tc_top.specs.Answer.{Exchange}
+use Rattle.tc_top.proofs.WordsAnswer.{job_answers, named, fault_answers}
+use Rattle.tc_top.proofs.top_call.run.Goals as goal
+
+-- the answer of the job that the words name
+pub returns-in-Ok-clause-answer : goal.returns-in-Ok-clause-answer
+returns-in-Ok-clause-answer g c =
+    let words = map string_bytes c.args.words.now in
+    let a = c.stream.ensures.answer in
+    (a.0, a.1, a.2, a.3, job_answers words c.in-Ok.job c.stream.result a.0 (named words c.in-Ok.job c.in-Ok.ensures) a.4)
+
+-- the fault of the words
+pub returns-in-Err-clause-answer : goal.returns-in-Err-clause-answer
+returns-in-Err-clause-answer g c =
+    let words = map string_bytes c.args.words.now in
+    let went : Exchange = record { pulled = []; left = g.S.Source.left c.args.source.now; written = []; note = c.usage_note.result.items } in (
+      went,
+      record { bytes = Consumes-nil _; left = refl },
+      Appends-nil _,
+      record { front = c.push_note.ensures.front; all = c.push_note.ensures.all },
+      rw c.of_words.ensures (fault_answers words c.in-Err.fault _ c.usage_note.result.items c.in-Err.ensures c.usage_note.ensures),
+    )
