@@ -16,8 +16,8 @@
 //!   numbers in what `events` gives of it are those of the interval (`specs/Brings.antt`). `feed` is
 //!   the one and then the other: nearly every interval brings nothing, and then `step` is enough.
 //!
-//! Read `brought`, `event`, `candidates`, `window`, `latest_bits`, `boundaries`, `latest_cells`,
-//! `tracker` and `reader`, in this order. `specs/Invariants.antt` is what the code keeps. `tc_files`
+//! Read `reader`, `tracker`, `latest_cells`, `latest_bits`, `window`, `boundaries`, `brought`,
+//! `candidates` and `event`, in this order: the way of an interval. `specs/Invariants.antt` is what the code keeps. `tc_files`
 //! prints the events. Nothing here allocates.
 #![tactic(auto)]
 

@@ -1,4 +1,4 @@
-//! From intervals to events, one interval at a time. Next: the lines of `tc_files`.
+//! From intervals to events, one interval at a time. Next: `tracker`.
 ghost use Rattle.std.specs.Prelude.{◌≡◌, ◌<◌, ◌≤◌, ◌+◌, ◌-◌, ◌*◌};
 ghost use Rattle.biphase.specs.declared.cell.TheConstants.{MAX_INTERVAL};
 ghost use Rattle.direction_reader.specs.Brings.{Brings};
@@ -80,8 +80,10 @@ impl DirectionReader {
         ensures within { self.new.tick ≤ self.new.intervals * MAX_INTERVAL }
         ensures brings { Brings self.new.intervals self.new.tick result }
     {
-        let brought = self.step(x);
-        self.events(brought)
+        match self.step(x) {
+            Brought::Nothing => Events::none(),
+            brought => self.events(brought),
+        }
     }
 
     /// Takes the next interval, of `x` ticks, and tells whether it brought an event. `events` then

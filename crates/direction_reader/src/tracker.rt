@@ -1,4 +1,5 @@
-//! Where the tracker stands, and what an interval does to it. Next: `latest_cells`.
+//! Where the tracker stands, and what an interval does to it. Next: the states of `cell_tracker`, and
+//! with what they answer `latest_cells`.
 ghost use Rattle.std.specs.Prelude.{◌≤◌};
 ghost use Rattle.biphase.specs.declared.cell.TheConstants.{MAX_INTERVAL};
 ghost use Rattle.direction_reader.specs.Tracker.{Steps};

@@ -1,4 +1,4 @@
-//! A window: 80 bits of a stretch that stand together. Next: `latest_bits`.
+//! A window: 80 bits of a stretch that stand together. Next: `brought`.
 ghost use Rattle.std.specs.Prelude.{◌≡◌, ◌<◌, ◌^◌, ◌↔◌, IsTrue};
 ghost use Rattle.direction_reader.specs.Candidate.{IsCandidate};
 ghost use Rattle.direction_reader.specs.Window.{with_bit, slid_by};
