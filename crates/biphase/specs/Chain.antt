@@ -1,5 +1,5 @@
 -- Cells of biphase mark (SMPTE 12M, linear time code), and the lists of them that keep a profile's tolerance.
-use Rattle.std.specs.Prelude.{◌≡◌, ℕ, ◌+◌, ◌≤◌, Bool, true, false, List, [], ◌∷◌, ◌++◌, flat_map, map}
+use Rattle.std.specs.Prelude.{◌≡◌, ℕ, ◌+◌, ◌≤◌, List, [], ◌∷◌, ◌++◌, flat_map}
 use Rattle.biphase.specs.declared.profile.Profile.{Profile}
 use Rattle.biphase.specs.declared.cell.Cell.{Cell}
 use Rattle.biphase.specs.declared.cell.Cell.TheVariants.{Zero, One}
@@ -15,18 +15,9 @@ abbrev pub intervals_of : Cell → List ℕ
 intervals_of (Zero x) = x ∷ []
 intervals_of (One a b) = a ∷ b ∷ []
 
--- the bit that a cell stands for
-abbrev pub bit_of : Cell → Bool
-bit_of (Zero x) = false
-bit_of (One a b) = true
-
 -- the intervals of a list of cells
 abbrev pub flat : List Cell → List ℕ
 flat cells = flat_map intervals_of cells
-
--- the bits of a list of cells
-abbrev pub bits : List Cell → List Bool
-bits cells = map bit_of cells
 
 -- the length of the last of some cells that follow one of length c, and c where there are none
 abbrev pub last_length : ℕ → List Cell → ℕ
@@ -34,8 +25,8 @@ last_length c [] = c
 last_length c (cell ∷ cells) = last_length (length_of cell) cells
 
 -- the one list begins the other
-abbrev pub IsFront : {A : Type 0} → List A → List A → Type 0
-IsFront {A} front list = (rest : List A) × (list ≡ front ++ rest)
+abbrev pub Begins : {A : Type 0} → List A → List A → Type 0
+Begins {A} front list = (rest : List A) × (list ≡ front ++ rest)
 
 -- a cell of length next may stand directly after one of length c
 abbrev pub IsNear : Profile → ℕ → ℕ → Type 0

@@ -6,7 +6,7 @@ use Rattle.std.proofs.lemmas.Option.{slice_get-get_or, slice_get_within, get_or_
 use Rattle.biphase.specs.declared.profile.Profile.{Profile}
 use Rattle.biphase.specs.Pair.{AreUnequal}
 use Rattle.biphase.specs.Chain.{IsFirstHalf}
-use Rattle.biphase.proofs.Separation.{step_is_no_zero, unequal_differ}
+use Rattle.biphase.specs.Laws.{step_is_no_zero, unequal_differ}
 use Rattle.cell_tracker.specs.Lock.{IsUnequalAt, HasNoLock}
 use Rattle.cell_tracker.specs.State.{HuntingState, search_from}
 use Rattle.cell_tracker.specs.Stretch.{Stretch, IsBroken, IsStretch, AreStretchesFrom, AreStretches, begun, with_break}

@@ -6,9 +6,9 @@ use Rattle.biphase.specs.declared.profile.Profile.{Profile}
 use Rattle.biphase.specs.declared.cell.Cell.{Cell}
 use Rattle.biphase.specs.declared.cell.Cell.TheVariants.{Zero, One}
 use Rattle.biphase.specs.Chain.{length_of, intervals_of, flat, last_length, IsCell, IsNear, IsChain, IsChainAfter, IsNextZero, IsNextOne}
-use Rattle.biphase.proofs.Chains.{chain_rest, chain-append, chain_lasts}
-use Rattle.biphase.proofs.OneChain.{comparable_after}
-use Rattle.biphase.proofs.Separation.{zero_lasts, one_lasts}
+use Rattle.cell_tracker.proofs.Chains.{chain_rest, chain-append, chain_lasts}
+use Rattle.biphase.specs.OneChain.{comparable_after}
+use Rattle.biphase.specs.Laws.{zero_lasts, one_lasts}
 use Rattle.cell_tracker.specs.Stretch.{Stretch, end_of, IsChainFrom, IsBreak, IsStretch}
 
 -- after a cell of length c no cell fits the front of the list

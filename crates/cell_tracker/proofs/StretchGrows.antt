@@ -6,7 +6,7 @@ use Rattle.std.proofs.lemmas.Option.{MatchOption-at_some}
 use Rattle.std.proofs.lemmas.List.{drop-append-le, length-drop, length_push}
 use Rattle.biphase.specs.declared.profile.Profile.{Profile}
 use Rattle.biphase.specs.Chain.{flat, last_length, IsFirstHalf}
-use Rattle.biphase.proofs.Separation.{first_half, half_or_not}
+use Rattle.biphase.specs.Laws.{first_half, half_or_not}
 use Rattle.cell_tracker.specs.Lock.{HasNoLock, IsLock}
 use Rattle.cell_tracker.specs.Stretch.{Stretch, IsBroken, end_of, IsBreak, IsStretch, AreStretchesFrom, AreStretches}
 use Rattle.cell_tracker.proofs.LocalStretch.{NoneFits, stretch_from, locally}
