@@ -1,3 +1,4 @@
 pub mod CellsEnd
+pub mod OneList
 pub mod WordsEnd
 pub mod WrittenOver

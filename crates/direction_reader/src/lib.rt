@@ -27,6 +27,7 @@ mod candidates;
 mod event;
 mod latest_bits;
 mod latest_cells;
+pub mod laws;
 mod reader;
 mod tracker;
 mod window;
