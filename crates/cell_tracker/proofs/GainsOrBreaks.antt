@@ -1,5 +1,6 @@
 -- An open stretch gains the cell that an interval completes, waits behind a first half, or breaks.
-use Rattle.std.proofs.Common.{◌≡◌, ℕ, ◌+◌, ◌-◌, ◌≤◌, List, [], ◌∷◌, ◌++◌, length, drop, get_or, Some, None, inl, inr, refl, ap, subst, sym, ◌∙◌, arith, length-append, MatchOption}
+use Rattle.std.proofs.Common.{◌≡◌, ℕ, ◌+◌, ◌-◌, ◌≤◌, List, [], ◌∷◌, ◌++◌, length, drop, get_or, Some, None, inl, inr, refl, ap, subst, sym}
+use Rattle.std.proofs.Common.{◌∙◌, arith, length-append, MatchOption}
 use Rattle.std.proofs.lemmas.List.{append-nil, drop_more, drop_all, length_push}
 use Rattle.std.proofs.lemmas.List.Elements.{All-push}
 use Rattle.biphase.specs.declared.profile.Profile.{Profile}

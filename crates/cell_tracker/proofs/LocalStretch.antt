@@ -1,5 +1,6 @@
 -- A chain is the longest one exactly where no next cell fits what follows it.
-use Rattle.std.proofs.Common.{◌≡◌, ℕ, ◌≤◌, List, [], ◌∷◌, ◌++◌, length, drop, get_or, inl, inr, refl, ap, subst, sym, ◌∙◌, arith, append_assoc, length-append, add-zero}
+use Rattle.std.proofs.Common.{◌≡◌, ℕ, ◌≤◌, List, [], ◌∷◌, ◌++◌, length, drop, get_or, inl, inr, refl, ap, subst, sym, ◌∙◌, arith}
+use Rattle.std.proofs.Common.{append_assoc, length-append, add-zero}
 use Rattle.std.proofs.lemmas.List.{append_cancel_left, append-nil, drop_at, drop-drop, get_or-drop, length_push}
 use Rattle.std.proofs.lemmas.Grind.{flat_map-append}
 use Rattle.biphase.specs.declared.profile.Profile.{Profile}

@@ -1,5 +1,6 @@
 -- A lock, its longest chain and its break are each fixed by the list, so a list has one list of stretches.
-use Rattle.std.proofs.Common.{◌≡◌, ◌≢◌, ℕ, ◌+◌, ◌≤◌, List, [], ◌∷◌, ◌++◌, length, get_or, Option, Some, None, inl, inr, refl, ap, subst, sym, ◌∙◌, arith, length-append, MatchOption}
+use Rattle.std.proofs.Common.{◌≡◌, ◌≢◌, ℕ, ◌+◌, ◌≤◌, List, [], ◌∷◌, ◌++◌, length, get_or, Option, Some, None, inl, inr, refl, ap, subst}
+use Rattle.std.proofs.Common.{sym, ◌∙◌, arith, length-append, MatchOption}
 use Rattle.std.proofs.lemmas.Bool.{cases_order}
 use Rattle.std.proofs.lemmas.List.{append-nil, nil_from_length}
 use Rattle.biphase.specs.declared.profile.Profile.{Profile}

@@ -1,5 +1,6 @@
 -- An interval at the end of a list changes its last stretch alone.
-use Rattle.std.proofs.Common.{◌≡◌, ℕ, ◌+◌, ◌-◌, ◌<◌, ◌≤◌, List, [], ◌∷◌, ◌++◌, length, drop, get_or, Option, Some, None, inl, inr, refl, ap, subst, sym, ◌∙◌, arith, append_assoc, length-append, All, IsSome, is_some, MatchOption}
+use Rattle.std.proofs.Common.{◌≡◌, ℕ, ◌+◌, ◌-◌, ◌<◌, ◌≤◌, List, [], ◌∷◌, ◌++◌, length, drop, get_or, Option, Some, None, inl, inr, refl, ap}
+use Rattle.std.proofs.Common.{subst, sym, ◌∙◌, arith, append_assoc, length-append, All, IsSome, is_some, MatchOption}
 use Rattle.std.proofs.lemmas.Bool.{false≢true}
 use Rattle.std.proofs.lemmas.List.Elements.{All-nil, All-cons, All-head, All-tail}
 use Rattle.std.proofs.lemmas.Option.{MatchOption-at_some}

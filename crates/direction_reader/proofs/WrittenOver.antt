@@ -1,5 +1,6 @@
 -- Writing over the oldest place of a ring drops its oldest entry and adds one at the end.
-use Rattle.std.proofs.Common.{◌≡◌, ◌<◌, ◌≤◌, ℕ, ◌+◌, List, [], ◌∷◌, ◌++◌, length, take, drop, arith, sym, ◌∙◌, ap, length-drop, append_assoc, append-nil, inl, inr, ◌%◌}
+use Rattle.std.proofs.Common.{◌≡◌, ◌<◌, ◌≤◌, ℕ, ◌+◌, List, [], ◌∷◌, ◌++◌, length, take, drop, arith, sym, ◌∙◌, ap, length-drop}
+use Rattle.std.proofs.Common.{append_assoc, append-nil, inl, inr, ◌%◌}
 use Rattle.std.specs.Prelude.{slice_set}
 use Rattle.std.proofs.Math.Nat.{eq-or-lt_of_le}
 use Rattle.direction_reader.specs.Boundaries.{with_tick}
