@@ -1,5 +1,5 @@
 -- Cells of biphase mark (SMPTE 12M, linear time code), and the lists of them that keep a profile's tolerance.
-use Rattle.std.specs.Prelude.{◌≡◌, ℕ, ◌+◌, ◌≤◌, Bool, true, false, List, [], ◌∷◌, ◌++◌, flat_map, map}
+use Rattle.std.specs.Prelude.{◌≡◌, ℕ, ◌+◌, ◌≤◌, List, [], ◌∷◌, ◌++◌, flat_map, Bool, true, false, map}
 use Rattle.biphase.specs.declared.profile.Profile.{Profile}
 use Rattle.biphase.specs.declared.cell.Cell.{Cell}
 use Rattle.biphase.specs.declared.cell.Cell.TheVariants.{Zero, One}
@@ -34,8 +34,8 @@ last_length c [] = c
 last_length c (cell ∷ cells) = last_length (length_of cell) cells
 
 -- the one list begins the other
-abbrev pub IsFront : {A : Type 0} → List A → List A → Type 0
-IsFront {A} front list = (rest : List A) × (list ≡ front ++ rest)
+abbrev pub Begins : {A : Type 0} → List A → List A → Type 0
+Begins {A} front list = (rest : List A) × (list ≡ front ++ rest)
 
 -- a cell of length next may stand directly after one of length c
 abbrev pub IsNear : Profile → ℕ → ℕ → Type 0

@@ -1,3 +1,5 @@
 pub mod Chain
+pub mod Laws
+pub mod OneChain
 pub mod Pair
 pub mod Profile

@@ -2,14 +2,15 @@
 use Rattle.std.specs.Prelude.{ℕ, ◌*◌, ◌≤◌}
 use Rattle.std.specs.Int.{abs_diff}
 use Rattle.biphase.specs.declared.profile.Profile.{Profile}
-use Rattle.biphase.specs.declared.profile.Profile.TheVariants.{Normal}
+use Rattle.biphase.specs.declared.profile.Profile.TheVariants.{Normal, Worn}
 use Rattle.biphase.specs.declared.profile.Ratio.{Ratio}
 use Rattle.biphase.specs.declared.profile.Tolerance.{Tolerance}
-use Rattle.biphase.specs.declared.profile.TheConstants.{NORMAL}
+use Rattle.biphase.specs.declared.profile.TheConstants.{NORMAL, WORN}
 
 -- the numbers of a profile
 abbrev pub tolerance_of : Profile → Tolerance
 tolerance_of Normal = NORMAL
+tolerance_of Worn = WORN
 
 -- a is at least this part of b
 abbrev pub IsAtLeast : Ratio → ℕ → ℕ → Type 0

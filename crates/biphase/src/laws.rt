@@ -1,12 +1,18 @@
-//! What follows from the tolerance alone.
-ghost use Rattle.std.specs.Prelude.{◌≡◌, ℕ, ◌+◌, ◌*◌, ◌<◌, ◌≤◌, ◌↔◌, ◌⊎◌, List, min, max};
+//! What follows from the tolerance alone, and the numbers that code and definitions share.
+ghost use Rattle.std.specs.Prelude.{◌≡◌, ℕ, ◌+◌, ◌-◌, ◌*◌, ◌^◌, ◌<◌, ◌≤◌, ◌↔◌, ◌⊎◌, List, min, max};
 ghost use Rattle.std.specs.Int.{abs_diff};
 ghost use Rattle.biphase.specs.declared.cell.Cell.{Cell};
+ghost use Rattle.biphase.specs.declared.cell.TheConstants.{MAX_INTERVAL};
 ghost use Rattle.biphase.specs.declared.pair.PairKind.{PairKind};
 ghost use Rattle.biphase.specs.declared.profile.Profile.{Profile};
-ghost use Rattle.biphase.specs.declared.profile.Profile.TheVariants.{Normal};
+ghost use Rattle.biphase.specs.declared.profile.Profile.TheVariants.{Normal, Worn};
 ghost use Rattle.biphase.specs.Pair.{AreEqual, AreUnequal, IsKind};
-ghost use Rattle.biphase.specs.Chain.{flat, IsFront, AreHalves, IsChainAfter, IsNextZero, IsFirstHalf, IsNextOne};
+ghost use Rattle.biphase.specs.Chain.{flat, Begins, AreHalves, IsChainAfter, IsNextZero, IsFirstHalf, IsNextOne};
+
+/// The greatest length of an interval, in ticks: 24 bits.
+pub fn the_greatest_interval_is_this()
+    ensures { MAX_INTERVAL ≡ 2 ^ 24 - 1 }
+{}
 
 /// The tests of the normal tolerance in numbers: cells within an eighth, halves within a sixteenth.
 pub fn the_normal_tests_are_these()
@@ -16,6 +22,16 @@ pub fn the_normal_tests_are_these()
         ↔ ((8 * abs_diff (x + y) c ≤ c) × (16 * abs_diff x y ≤ x + y)) }
     ensures equal { (a b : ℕ) → a ≤ b → AreEqual Normal a b ↔ (2 * b ≤ 3 * a) }
     ensures unequal { (a b : ℕ) → a ≤ b → AreUnequal Normal a b ↔ ((3 * a < 2 * b) × (2 * b ≤ 5 * a)) }
+{}
+
+/// The tests of the tolerance for worn recordings: cells within a sixth, halves within a twelfth.
+pub fn the_worn_tests_are_these()
+    ensures zero { (c x : ℕ) → IsNextZero Worn c x ↔ (6 * abs_diff x c ≤ c) }
+    ensures half { (c x : ℕ) → IsFirstHalf Worn c x ↔ ((3 * c ≤ 8 * x) × (3 * x ≤ 2 * c)) }
+    ensures one { (c x y : ℕ) → IsNextOne Worn c x y
+        ↔ ((6 * abs_diff (x + y) c ≤ c) × (12 * abs_diff x y ≤ x + y)) }
+    ensures equal { (a b : ℕ) → a ≤ b → AreEqual Worn a b ↔ (2 * b ≤ 3 * a) }
+    ensures unequal { (a b : ℕ) → a ≤ b → AreUnequal Worn a b ↔ ((3 * a < 2 * b) × (3 * b ≤ 8 * a)) }
 {}
 
 /// A pair is of one kind, whatever the order of its intervals.
@@ -61,11 +77,24 @@ pub fn the_normal_ratios_are_these()
         → (105 * c ≤ 256 * x) × (28 * x ≤ 17 * c) }
 {}
 
+/// How far apart they are under the tolerance for worn recordings: equal neighbours from 55/78 on, a
+/// zero and a half from 55/144 to 13/20.
+pub fn the_worn_ratios_are_these()
+    ensures zeros { (c x : ℕ) → IsNextZero Worn c x → 55 * max c x ≤ 78 * min c x }
+    ensures halves { (x y : ℕ) → AreHalves Worn x y → 55 * max x y ≤ 78 * min x y }
+    ensures neighbours { (a b x y : ℕ) → AreHalves Worn a b → IsNextOne Worn (a + b) x y
+        → 55 * max b x ≤ 78 * min b x }
+    ensures rising { (a b x : ℕ) → AreHalves Worn a b → IsNextZero Worn (a + b) x
+        → (55 * x ≤ 144 * b) × (20 * b ≤ 13 * x) }
+    ensures falling { (c x y : ℕ) → IsNextOne Worn c x y
+        → (55 * c ≤ 144 * x) × (20 * x ≤ 13 * c) }
+{}
+
 /// Of two chains that follow cells of one length at the front of one list of intervals, one is a
 /// front of the other.
 pub fn chains_at_one_place_agree()
     ensures { (profile : Profile) (c : ℕ) (one two : List Cell) (intervals : List ℕ)
         → IsChainAfter profile c one → IsChainAfter profile c two
-        → IsFront (flat one) intervals → IsFront (flat two) intervals
-        → IsFront one two ⊎ IsFront two one }
+        → Begins (flat one) intervals → Begins (flat two) intervals
+        → Begins one two ⊎ Begins two one }
 {}

@@ -11,9 +11,11 @@
 //!   (`specs/Chain.antt`, `IsNextZero`, `IsFirstHalf`, `IsNextOne`).
 //! - In a list of cells within the tolerance, a chain, these tests never mistake one for the other
 //!   (`laws`).
+//! All of it holds for each profile.
 //!
-//! Read `profile`, `cell`, `pair` and `tolerance`, in this order, and `specs/Chain.antt` beside them.
-//! `cell_tracker` stands on this crate. Nothing here allocates or refuses.
+//! Read `cell`, `pair`, `tolerance` and `profile`, in this order, and `specs/Chain.antt` beside them.
+//! What the proofs of the crates above want of a tolerance stands, proved, in `specs/Laws.antt` and
+//! `specs/OneChain.antt`. `cell_tracker` stands on this crate. Nothing here allocates or refuses.
 #![tactic(auto)]
 
 mod cell;

@@ -1,4 +1,5 @@
-//! The tolerance profiles, and all their numbers.
+//! The tolerance profiles, and all their numbers. Next: the states of `cell_tracker`, which act on
+//! what the tests tell.
 ghost use Rattle.std.specs.Prelude.{◌≡◌, ◌*◌, ◌<◌, ◌^◌, ◌↔◌, IsTrue};
 ghost use Rattle.biphase.specs.Profile.{tolerance_of, IsAtLeast, IsAtMost, IsWithin};
 
@@ -8,6 +9,9 @@ pub enum Profile {
     /// A cell lasts within one eighth of the cell before, and halves differ by at most one sixteenth
     /// of their cell.
     Normal,
+    /// For worn recordings: a cell lasts within one sixth of the cell before, and halves differ by at
+    /// most one twelfth of their cell.
+    Worn,
 }
 
 /// A part of a whole, as two parts of three.
@@ -44,6 +48,16 @@ pub const NORMAL: Tolerance = Tolerance {
     greatest_half: Ratio { part: 5, whole: 8 },
 };
 
+/// The numbers of `Profile::Worn`.
+pub const WORN: Tolerance = Tolerance {
+    cell: 6,
+    half: 12,
+    equal: Ratio { part: 2, whole: 3 },
+    unequal: Ratio { part: 3, whole: 8 },
+    least_half: Ratio { part: 3, whole: 8 },
+    greatest_half: Ratio { part: 2, whole: 3 },
+};
+
 impl Profile {
     /// The numbers of the profile.
     pub(crate) fn tolerance(self) -> Tolerance
@@ -51,6 +65,7 @@ impl Profile {
     {
         match self {
             Profile::Normal => NORMAL,
+            Profile::Worn => WORN,
         }
     }
 }

@@ -62,3 +62,16 @@ fn halves_at_the_edges_of_a_one(rt: HostRuntime) {
         );
     }
 }
+
+#[test]
+fn a_worn_recording_may_differ_more(rt: HostRuntime) {
+    for (profile, step, half, zero) in [
+        (Profile::Worn, PairKind::Step, true, true),
+        (Profile::Normal, PairKind::Wild, false, false),
+    ] {
+        assert_eq!(rt; kind(profile, 24, 9), step);
+        assert_eq!(rt; may_begin_one(profile, 24, 16), half);
+        assert_eq!(rt; is_zero(profile, 24, 28), zero);
+        assert_eq!(rt; is_one(profile, 24, 13, 11), zero, "halves of 13 and 11");
+    }
+}

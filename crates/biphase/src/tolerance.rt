@@ -1,4 +1,4 @@
-//! The tests of the tolerance, each of what comes after a cell.
+//! The tests of the tolerance, each of what comes after a cell. Next: `profile`.
 ghost use Rattle.std.specs.Prelude.{◌↔◌, IsTrue};
 ghost use Rattle.biphase.specs.Chain.{IsNextZero, IsFirstHalf, IsNextOne};
 

@@ -1,5 +1,6 @@
 -- The stretches of a list, computed: the states are fed one interval after another, so each list has its stretches.
-use Rattle.std.proofs.Common.{◌≡◌, ℕ, ◌+◌, ◌-◌, ◌*◌, ◌<◌, ◌≤◌, Bool, true, false, not, ◌&&◌, leb, ltb, List, [], ◌∷◌, ◌++◌, length, min, max, Option, Some, None, refl, subst, sym, ◌∙◌, arith, append_assoc}
+use Rattle.std.proofs.Common.{◌≡◌, ℕ, ◌+◌, ◌-◌, ◌*◌, ◌<◌, ◌≤◌, Bool, true, false, not, ◌&&◌, leb, ltb, List, [], ◌∷◌, ◌++◌, length, min}
+use Rattle.std.proofs.Common.{max, Option, Some, None, refl, subst, sym, ◌∙◌, arith, append_assoc}
 use Rattle.std.specs.Int.{abs_diff}
 use Rattle.std.proofs.lemmas.Bool.{leb-true, le-leb, ltb-true, lt-ltb, false≢true}
 use Rattle.std.proofs.lemmas.List.{append-nil, length_push}

@@ -1,13 +1,14 @@
 -- An open stretch gains the cell that an interval completes, waits behind a first half, or breaks.
-use Rattle.std.proofs.Common.{◌≡◌, ℕ, ◌+◌, ◌-◌, ◌≤◌, List, [], ◌∷◌, ◌++◌, length, drop, get_or, Some, None, inl, inr, refl, ap, subst, sym, ◌∙◌, arith, length-append, MatchOption}
+use Rattle.std.proofs.Common.{◌≡◌, ℕ, ◌+◌, ◌-◌, ◌≤◌, List, [], ◌∷◌, ◌++◌, length, drop, get_or, Some, None, inl, inr, refl, ap, subst, sym}
+use Rattle.std.proofs.Common.{◌∙◌, arith, length-append, MatchOption}
 use Rattle.std.proofs.lemmas.List.{append-nil, drop_more, drop_all, length_push}
 use Rattle.std.proofs.lemmas.List.Elements.{All-push}
 use Rattle.biphase.specs.declared.profile.Profile.{Profile}
 use Rattle.biphase.specs.declared.cell.Cell.{Cell}
 use Rattle.biphase.specs.declared.cell.Cell.TheVariants.{Zero, One}
 use Rattle.biphase.specs.Chain.{flat, intervals_of, length_of, last_length, IsCell, IsNear, IsFirstHalf, IsNextZero, IsNextOne}
-use Rattle.biphase.proofs.Chains.{chain-append, chain_lasts, last_length-append}
-use Rattle.biphase.proofs.Separation.{half_lasts, zero_is_no_half, half_or_not, zero_lasts, one_lasts}
+use Rattle.cell_tracker.proofs.Chains.{chain-append, chain_lasts, last_length-append}
+use Rattle.biphase.specs.Laws.{half_lasts, zero_is_no_half, half_or_not, zero_lasts, one_lasts}
 use Rattle.cell_tracker.specs.Lock.{HasNoLock}
 use Rattle.cell_tracker.specs.State.{AtCellState, MidCellState, search_from}
 use Rattle.cell_tracker.specs.Stretch.{Stretch, IsBroken, end_of, IsBreak, IsStretch, AreStretches, with_cell, with_break}

@@ -1,4 +1,5 @@
 pub mod BeginsAtTheLock
+pub mod Chains
 pub mod Computed
 mod Examples
 pub mod GainsOrBreaks

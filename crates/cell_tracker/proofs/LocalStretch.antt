@@ -1,14 +1,15 @@
 -- A chain is the longest one exactly where no next cell fits what follows it.
-use Rattle.std.proofs.Common.{◌≡◌, ℕ, ◌≤◌, List, [], ◌∷◌, ◌++◌, length, drop, get_or, inl, inr, refl, ap, subst, sym, ◌∙◌, arith, append_assoc, length-append, add-zero}
+use Rattle.std.proofs.Common.{◌≡◌, ℕ, ◌≤◌, List, [], ◌∷◌, ◌++◌, length, drop, get_or, inl, inr, refl, ap, subst, sym, ◌∙◌, arith}
+use Rattle.std.proofs.Common.{append_assoc, length-append, add-zero}
 use Rattle.std.proofs.lemmas.List.{append_cancel_left, append-nil, drop_at, drop-drop, get_or-drop, length_push}
 use Rattle.std.proofs.lemmas.Grind.{flat_map-append}
 use Rattle.biphase.specs.declared.profile.Profile.{Profile}
 use Rattle.biphase.specs.declared.cell.Cell.{Cell}
 use Rattle.biphase.specs.declared.cell.Cell.TheVariants.{Zero, One}
 use Rattle.biphase.specs.Chain.{length_of, intervals_of, flat, last_length, IsCell, IsNear, IsChain, IsChainAfter, IsNextZero, IsNextOne}
-use Rattle.biphase.proofs.Chains.{chain_rest, chain-append, chain_lasts}
-use Rattle.biphase.proofs.OneChain.{comparable_after}
-use Rattle.biphase.proofs.Separation.{zero_lasts, one_lasts}
+use Rattle.cell_tracker.proofs.Chains.{chain_rest, chain-append, chain_lasts}
+use Rattle.biphase.specs.OneChain.{comparable_after}
+use Rattle.biphase.specs.Laws.{zero_lasts, one_lasts}
 use Rattle.cell_tracker.specs.Stretch.{Stretch, end_of, IsChainFrom, IsBreak, IsStretch}
 
 -- after a cell of length c no cell fits the front of the list

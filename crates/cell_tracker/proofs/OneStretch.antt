@@ -1,13 +1,14 @@
 -- A lock, its longest chain and its break are each fixed by the list, so a list has one list of stretches.
-use Rattle.std.proofs.Common.{◌≡◌, ◌≢◌, ℕ, ◌+◌, ◌≤◌, List, [], ◌∷◌, ◌++◌, length, get_or, Option, Some, None, inl, inr, refl, ap, subst, sym, ◌∙◌, arith, length-append, MatchOption}
+use Rattle.std.proofs.Common.{◌≡◌, ◌≢◌, ℕ, ◌+◌, ◌≤◌, List, [], ◌∷◌, ◌++◌, length, get_or, Option, Some, None, inl, inr, refl, ap, subst}
+use Rattle.std.proofs.Common.{sym, ◌∙◌, arith, length-append, MatchOption}
 use Rattle.std.proofs.lemmas.Bool.{cases_order}
 use Rattle.std.proofs.lemmas.List.{append-nil, nil_from_length}
 use Rattle.biphase.specs.declared.profile.Profile.{Profile}
 use Rattle.biphase.specs.declared.cell.Cell.{Cell}
 use Rattle.biphase.specs.declared.cell.Cell.TheVariants.{Zero}
-use Rattle.biphase.specs.Chain.{IsFront}
-use Rattle.biphase.proofs.OneChain.{comparable_after}
-use Rattle.biphase.proofs.Separation.{half_or_not, unequal_differ}
+use Rattle.biphase.specs.Chain.{Begins}
+use Rattle.biphase.specs.OneChain.{comparable_after}
+use Rattle.biphase.specs.Laws.{half_or_not, unequal_differ}
 use Rattle.cell_tracker.specs.Lock.{IsLock}
 use Rattle.cell_tracker.specs.Stretch.{Stretch, IsBreak, IsStretch, AreStretchesFrom}
 use Rattle.cell_tracker.proofs.LocalStretch.{locally, tail_is}
@@ -39,7 +40,7 @@ lock_is_one profile intervals start lock other is is_too =
     ]
 
 -- a front that is as long as the list is the list
-front_is : (one two : List Cell) → IsFront one two → length two ≤ length one → one ≡ two
+front_is : (one two : List Cell) → Begins one two → length two ≤ length one → one ≡ two
 front_is one two (rest, is) long =
     let none : rest ≡ [] = nil_from_length rest (omega (arith, ap length is, length-append one rest)) in
     sym (is ∙ ap (λ xs. one ++ xs) none ∙ append-nil one)

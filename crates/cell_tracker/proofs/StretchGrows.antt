@@ -1,12 +1,13 @@
 -- An interval at the end of a list changes its last stretch alone.
-use Rattle.std.proofs.Common.{◌≡◌, ℕ, ◌+◌, ◌-◌, ◌<◌, ◌≤◌, List, [], ◌∷◌, ◌++◌, length, drop, get_or, Option, Some, None, inl, inr, refl, ap, subst, sym, ◌∙◌, arith, append_assoc, length-append, All, IsSome, is_some, MatchOption}
+use Rattle.std.proofs.Common.{◌≡◌, ℕ, ◌+◌, ◌-◌, ◌<◌, ◌≤◌, List, [], ◌∷◌, ◌++◌, length, drop, get_or, Option, Some, None, inl, inr, refl, ap}
+use Rattle.std.proofs.Common.{subst, sym, ◌∙◌, arith, append_assoc, length-append, All, IsSome, is_some, MatchOption}
 use Rattle.std.proofs.lemmas.Bool.{false≢true}
 use Rattle.std.proofs.lemmas.List.Elements.{All-nil, All-cons, All-head, All-tail}
 use Rattle.std.proofs.lemmas.Option.{MatchOption-at_some}
 use Rattle.std.proofs.lemmas.List.{drop-append-le, length-drop, length_push}
 use Rattle.biphase.specs.declared.profile.Profile.{Profile}
 use Rattle.biphase.specs.Chain.{flat, last_length, IsFirstHalf}
-use Rattle.biphase.proofs.Separation.{first_half, half_or_not}
+use Rattle.biphase.specs.Laws.{first_half, half_or_not}
 use Rattle.cell_tracker.specs.Lock.{HasNoLock, IsLock}
 use Rattle.cell_tracker.specs.Stretch.{Stretch, IsBroken, end_of, IsBreak, IsStretch, AreStretchesFrom, AreStretches}
 use Rattle.cell_tracker.proofs.LocalStretch.{NoneFits, stretch_from, locally}

@@ -2,12 +2,12 @@
 use Rattle.std.specs.Prelude.{ℕ, ◌+◌, cond, ◌&&◌, nat_le, List, [], ◌∷◌, length, drop}
 use Rattle.biphase.specs.declared.profile.Profile.{Profile}
 use Rattle.biphase.specs.declared.cell.Cell.{Cell}
-use Rattle.biphase.specs.Chain.{intervals_of, flat, IsFront, IsChain}
+use Rattle.biphase.specs.Chain.{intervals_of, flat, Begins, IsChain}
 
 -- the list is what stands in the intervals of the chain from the place `cut` on, for as long as it goes
 pub record IsPiece (profile : Profile) (intervals : List ℕ) (cells : List Cell) (cut : ℕ) : Type 0 where
   pub chain : IsChain profile cells
-  pub part : IsFront intervals (drop cut (flat cells))
+  pub part : Begins intervals (drop cut (flat cells))
 
 -- the list is kept: it is a piece of some chain
 abbrev pub IsKept : Profile → List ℕ → Type 0

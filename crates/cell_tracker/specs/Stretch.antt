@@ -3,7 +3,7 @@ use Rattle.std.specs.Prelude.{◌≡◌, ℕ, ◌+◌, ◌≤◌, List, [], ◌�
 use Rattle.biphase.specs.declared.profile.Profile.{Profile}
 use Rattle.biphase.specs.declared.cell.Cell.{Cell}
 use Rattle.biphase.specs.declared.cell.Cell.TheVariants.{Zero}
-use Rattle.biphase.specs.Chain.{flat, last_length, IsFront, IsChain, IsFirstHalf}
+use Rattle.biphase.specs.Chain.{flat, last_length, Begins, IsChain, IsFirstHalf}
 use Rattle.cell_tracker.specs.Lock.{IsLock, HasNoLock}
 
 -- the place of its first zero, its cells, and the place of the interval at which it breaks, if it does
@@ -24,7 +24,7 @@ end_of stretch = stretch.lock + length (flat stretch.cells)
 pub record IsChainFrom (profile : Profile) (intervals : List ℕ) (lock : ℕ) (cells : List Cell) : Type 0 where
   pub first : (more : List Cell) × (cells ≡ Zero (slice_index intervals lock) ∷ more)
   pub chain : IsChain profile cells
-  pub front : IsFront (flat cells) (drop lock intervals)
+  pub front : Begins (flat cells) (drop lock intervals)
 
 -- the place where a stretch breaks, if it does: its last cell has length c, and `rest` is the list from the place `after` it on
 -- it breaks at the next interval, or one later where that may be a first half, and not before the list goes on so far

@@ -17,8 +17,8 @@
 //!
 //! Read `hunting`, `at_cell` and `mid_cell`, in this order, and `specs/Lock.antt`, `Stretch.antt` and
 //! `StandsFor.antt` beside them. `specs/Kept.antt` says what a recording within the tolerance is.
-//! `direction_reader` stands on this crate; next on the way of an interval: its `window`. Nothing here
-//! allocates or refuses.
+//! `direction_reader` stands on this crate; next on the way of an interval: its `latest_cells`. Nothing
+//! here allocates or refuses.
 #![tactic(auto)]
 
 mod at_cell;

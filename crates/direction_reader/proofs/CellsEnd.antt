@@ -5,13 +5,13 @@ use Rattle.std.specs.Prelude.{slice_index, nat_lt}
 use Rattle.std.proofs.Math.Decide.{dec_lt}
 use Rattle.std.proofs.lemmas.Grind.{common_steps}
 use Rattle.biphase.specs.declared.cell.TheConstants.{MAX_INTERVAL}
-use Rattle.direction_reader.specs.declared.lock.Lock.{Lock}
-use Rattle.direction_reader.specs.declared.lock.Lock.TheVariants.{Hunting, AtCell, MidCell}
-use Rattle.direction_reader.specs.declared.lock.Step.TheVariants.{Cell}
-use Rattle.direction_reader.specs.Lock.{Steps}
-use Rattle.direction_reader.specs.Boundaries.{with_tick}
-use Rattle.direction_reader.specs.Reader.{FitsLock}
-use Rattle.direction_reader.specs.Spacing.{AreBoundariesTo, greatest_cell}
+use Rattle.direction_reader.specs.declared.tracker.Tracker.{Tracker}
+use Rattle.direction_reader.specs.declared.tracker.Tracker.TheVariants.{Hunting, AtCell, MidCell}
+use Rattle.direction_reader.specs.declared.tracker.Step.TheVariants.{Cell}
+use Rattle.direction_reader.specs.Tracker.{Steps}
+use Rattle.direction_reader.specs.LatestCells.{with_boundary}
+use Rattle.direction_reader.specs.Invariants.{AreBoundariesTo, FitsTracker}
+use Rattle.direction_reader.specs.Brings.{greatest_cell}
 
 -- one boundary more
 added : (end tick : ℕ) (bs : List ℕ) → AreBoundariesTo end bs → end < tick → tick ≤ end + greatest_cell
@@ -28,7 +28,7 @@ without_oldest tick (b ∷ next ∷ rest) are more = are.2
 
 -- the boundaries that are kept, with one more
 pub kept : (end tick : ℕ) (bs : List ℕ) → AreBoundariesTo end bs → end < tick → tick ≤ end + greatest_cell
-    → AreBoundariesTo tick (with_tick bs tick)
+    → AreBoundariesTo tick (with_boundary bs tick)
 kept end tick bs are later near = elim (dec_lt (length bs) 81) [
   | yes room ↦ (let test : nat_lt (length bs) 81 ≡ true = grind (arith, common_steps) in
       rw test (added end tick bs are later near))
@@ -55,16 +55,16 @@ pub window_length : (tick : ℕ) (bs : List ℕ) → AreBoundariesTo tick bs →
 window_length tick bs are full = let least = span-least tick bs are in let most = span-most tick bs are in (omega arith, omega arith)
 
 -- a cell that ends is one boundary more
-pub cell_ended : (old next : Lock) (x tick : ℕ) (bit : Bool) (bs : List ℕ) → FitsLock old tick bs → 1 ≤ x → x ≤ MAX_INTERVAL
-    → Steps old x next (Cell bit) → AreBoundariesTo (tick + x) (with_tick bs (tick + x))
+pub cell_ended : (old next : Tracker) (x tick : ℕ) (bit : Bool) (bs : List ℕ) → FitsTracker old tick bs → 1 ≤ x → x ≤ MAX_INTERVAL
+    → Steps old x next (Cell bit) → AreBoundariesTo (tick + x) (with_boundary bs (tick + x))
 cell_ended (Hunting h) next x tick bit bs fits least most steps = absurd steps
 cell_ended (AtCell a) next x tick bit bs fits least most steps = kept tick (tick + x) bs fits (omega arith) (omega arith)
 cell_ended (MidCell m) next x tick bit bs fits least most steps =
     kept (tick - m.half) (tick + x) bs fits.3 (omega arith) (omega arith)
 
 -- and the state at its end fits these boundaries
-pub fits_after : (old next : Lock) (x tick : ℕ) (bit : Bool) (bs : List ℕ) → Steps old x next (Cell bit)
-    → AreBoundariesTo tick bs → FitsLock next tick bs
+pub fits_after : (old next : Tracker) (x tick : ℕ) (bit : Bool) (bs : List ℕ) → Steps old x next (Cell bit)
+    → AreBoundariesTo tick bs → FitsTracker next tick bs
 fits_after (Hunting h) next x tick bit bs steps are = absurd steps
 fits_after (AtCell a) (Hunting n) x tick bit bs steps are = absurd steps.1
 fits_after (AtCell a) (MidCell n) x tick bit bs steps are = absurd steps.1
@@ -72,3 +72,10 @@ fits_after (AtCell a) (AtCell n) x tick bit bs steps are = are
 fits_after (MidCell m) (Hunting n) x tick bit bs steps are = absurd steps.1
 fits_after (MidCell m) (MidCell n) x tick bit bs steps are = absurd steps.1
 fits_after (MidCell m) (AtCell n) x tick bit bs steps are = are
+
+-- what the reader keeps fits where a cell has ended
+pub cell_fits : (old next : Tracker) (x tick now : ℕ) (bit : Bool) (bs new : List ℕ) → FitsTracker old tick bs → 1 ≤ x → x ≤ MAX_INTERVAL
+    → Steps old x next (Cell bit) → now ≡ tick + x → new ≡ with_boundary bs now → FitsTracker next now new
+cell_fits old next x tick now bit bs new fits least most steps is are =
+    let ended = cell_ended old next x tick bit bs fits least most steps in
+    rw (are, is) (fits_after old next x (tick + x) bit (with_boundary bs (tick + x)) steps ended)

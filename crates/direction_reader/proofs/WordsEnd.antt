@@ -5,7 +5,7 @@ use Rattle.direction_reader.specs.declared.event.Event.{Event}
 use Rattle.direction_reader.specs.declared.event.Event.TheVariants.{Word, Refused, Lost}
 use Rattle.direction_reader.specs.Brings.{IsWordAt}
 use Rattle.direction_reader.specs.Candidate.{Bears}
-use Rattle.direction_reader.specs.Spacing.{greatest_cell}
+use Rattle.direction_reader.specs.Brings.{greatest_cell}
 
 event_ends : (tick n : ℕ) (event : Event) → Bears tick n event → 80 ≤ n → n ≤ 80 * greatest_cell → IsWordAt tick event
 event_ends tick n (Word d w t l) bears least most = (bears.0, omega arith, omega arith)

@@ -1,15 +1,11 @@
--- Writing over the oldest place of a full ring drops its oldest entry and adds one at the end.
-use Rattle.std.proofs.Common.{◌≡◌, ◌<◌, ◌≤◌, ℕ, ◌+◌, List, [], ◌∷◌, ◌++◌, length, take, drop, arith, sym, ◌∙◌, ap, length-drop, append_assoc, append-nil, inl, inr, ◌%◌, false}
-use Rattle.std.specs.Prelude.{slice_set, nat_lt}
-use Rattle.std.specs.List.{refill}
+-- Writing over the oldest place of a ring drops its oldest entry and adds one at the end.
+use Rattle.std.proofs.Common.{◌≡◌, ◌<◌, ◌≤◌, ℕ, ◌+◌, List, [], ◌∷◌, ◌++◌, length, take, drop, arith, sym, ◌∙◌, ap, length-drop}
+use Rattle.std.proofs.Common.{append_assoc, append-nil, inl, inr, ◌%◌}
+use Rattle.std.specs.Prelude.{slice_set}
 use Rattle.std.proofs.Math.Nat.{eq-or-lt_of_le}
 use Rattle.direction_reader.specs.Boundaries.{with_tick}
 use Rattle.std.proofs.lemmas.Grind.{common_steps}
-use Rattle.std.proofs.lemmas.List.{drop-set-lt, take_more_set, drop-append-le, drop-drop, length-set}
-
--- a list of the ring's length is put into it whole
-pub refill-same_length : (xs ws : List ℕ) → length ws ≡ length xs → refill (length xs) xs ws ≡ ws
-refill-same_length xs ws e = grind (arith, common_steps)
+use Rattle.std.proofs.lemmas.List.{drop-set-lt, take_more_set, drop-append-le, drop-drop}
 
 -- without its first entry, a list that begins at place k begins at the next
 drop_one-turned : (xs : List ℕ) (k : ℕ) → k < length xs → drop 1 (drop k xs ++ take k xs) ≡ drop (k + 1) xs ++ take k xs
@@ -35,19 +31,10 @@ written_at_the_end xs k v p =
     let none : drop (k + 1) (slice_set xs k v) ≡ [] = grind (arith, common_steps) in
     append-nil (slice_set xs k v) ∙ (rw (none, whole) at over)
 
--- the next place is one further round the ring
-next_place : (xs : List ℕ) (k v : ℕ) → length xs ≡ 81 → k < 81 →
-    drop ((k + 1) % 81) (slice_set xs k v) ++ take ((k + 1) % 81) (slice_set xs k v) ≡ drop 1 (drop k xs ++ take k xs) ++ v ∷ []
-next_place xs k v e p = elim (eq-or-lt_of_le (let h : k + 1 ≤ 81 = omega arith in h)) [
+-- the next place is one further round the ring, so writing over the oldest of 81 adds one and drops the oldest
+pub overwritten : (xs : List ℕ) (k v : ℕ) → length xs ≡ 81 → k < 81 →
+    drop ((k + 1) % 81) (slice_set xs k v) ++ take ((k + 1) % 81) (slice_set xs k v) ≡ with_tick (drop k xs ++ take k xs) v
+overwritten xs k v e p = elim (eq-or-lt_of_le (let h : k + 1 ≤ 81 = omega arith in h)) [
   | inr before ↦ (let same : (k + 1) % 81 ≡ k + 1 = omega arith in rw same (written_over xs k v (omega arith)))
   | inl last ↦ (let first : (k + 1) % 81 ≡ 0 = omega arith in rw first (written_at_the_end xs k v (omega arith)))
 ]
-
--- writing over the oldest of 81 boundaries adds one and drops the oldest
-pub overwritten : (xs : List ℕ) (k v : ℕ) → length xs ≡ 81 → k < 81 →
-    let ws = refill (length xs) xs (slice_set xs k v) in
-    drop ((k + 1) % 81) ws ++ take ((k + 1) % 81) ws ≡ with_tick (drop k xs ++ take k xs) v
-overwritten xs k v e p =
-    let same : refill (length xs) xs (slice_set xs k v) ≡ slice_set xs k v = refill-same_length xs _ (length-set xs k v) in
-    let full : nat_lt (length (drop k xs ++ take k xs)) 81 ≡ false = grind (arith, common_steps) in
-    rw (same, full) (next_place xs k v e p)

@@ -3,7 +3,11 @@ use Rattle.std.specs.Prelude.{◌≡◌, ℕ, ◌+◌, ◌*◌, ◌≤◌, IfSom
 use Rattle.direction_reader.specs.declared.event.Event.{Event}
 use Rattle.direction_reader.specs.declared.event.Event.TheVariants.{Word, Refused, Lost}
 use Rattle.direction_reader.specs.declared.event.Events.{Events}
-use Rattle.direction_reader.specs.Spacing.{greatest_cell}
+use Rattle.biphase.specs.declared.cell.TheConstants.{MAX_INTERVAL}
+
+-- a cell lasts so many ticks at most
+abbrev pub greatest_cell : ℕ
+greatest_cell = 2 * MAX_INTERVAL
 
 -- a word or a refused word that ends at a tick, a word with the length of 80 cells
 abbrev pub IsWordAt : ℕ → Event → Type 0

@@ -1,5 +1,5 @@
 -- The candidates of a window, and the event of each.
-use Rattle.std.specs.Prelude.{◌≡◌, ℕ, Some, None, IsSomeAnd, IfSome}
+use Rattle.std.specs.Prelude.{◌≡◌, ℕ, ◌⊎◌, Some, None, IsSomeAnd, IfSome}
 use Rattle.tc_address.specs.declared.system.System.{System}
 use Rattle.tc_address.specs.declared.direction.Direction.{Direction}
 use Rattle.tc_address.specs.declared.direction.Direction.TheVariants.{Forward, Backward}
@@ -10,6 +10,10 @@ use Rattle.ltc_word.specs.Spelling.{Spells}
 use Rattle.direction_reader.specs.declared.event.Event.{Event}
 use Rattle.direction_reader.specs.declared.event.Event.TheVariants.{Word, Refused, Lost}
 use Rattle.direction_reader.specs.declared.event.Events.{Events}
+
+-- a window of 80 bits is a candidate, read forward, backward or both ways
+abbrev pub IsCandidate : ℕ → Type 0
+IsCandidate bits = EndsInSync bits ⊎ EndsInSync (reversed_bits bits)
 
 -- the event of a candidate: the word that its bits spell, or the first fault of its fields
 abbrev pub IsEventOf : System → Direction → ℕ → ℕ → ℕ → Event → Type 0

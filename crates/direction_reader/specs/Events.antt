@@ -1,6 +1,7 @@
--- What one interval brought, in order.
-use Rattle.std.specs.Prelude.{List, [], ◌∷◌, ◌++◌, Option, Some, None}
+-- What one interval brought, in order, and the kinds of event.
+use Rattle.std.specs.Prelude.{List, [], ◌∷◌, ◌++◌, Option, Some, None, Bool, true, false}
 use Rattle.direction_reader.specs.declared.event.Event.{Event}
+use Rattle.direction_reader.specs.declared.event.Event.TheVariants.{Word, Refused, Lost}
 use Rattle.direction_reader.specs.declared.event.Events.{Events}
 
 abbrev pub no_events : Events
@@ -16,3 +17,21 @@ listed (Some event) = event ∷ []
 
 abbrev pub event_list : Events → List Event
 event_list events = listed events.first ++ listed events.second
+
+-- the event is a word
+abbrev pub is_word : Event → Bool
+is_word (Word direction word tick length) = true
+is_word (Refused direction fault tick) = false
+is_word (Lost interval tick) = false
+
+-- the event is a candidate whose fields are at fault
+abbrev pub is_refused : Event → Bool
+is_refused (Word direction word tick length) = false
+is_refused (Refused direction fault tick) = true
+is_refused (Lost interval tick) = false
+
+-- the event is the end of a stretch
+abbrev pub is_lost : Event → Bool
+is_lost (Word direction word tick length) = false
+is_lost (Refused direction fault tick) = false
+is_lost (Lost interval tick) = true

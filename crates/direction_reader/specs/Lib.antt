@@ -1,10 +1,13 @@
+pub use Rattle.cell_tracker.specs.State
 pub mod Bits
 pub mod Boundaries
 pub mod Brings
 pub mod Candidate
 pub mod Events
-pub mod Lock
+pub mod Invariants
+pub mod LatestBits
+pub mod LatestCells
+pub mod ListEvents
 pub mod Reader
-pub mod Spacing
-pub mod Stretch
+pub mod Tracker
 pub mod Window

@@ -1,58 +1,54 @@
-//! The ticks at the latest boundaries of cells. Next: `candidates`.
-ghost use Rattle.std.specs.Prelude.{◌≡◌, ◌+◌, ◌%◌, ◌<◌, [], ◌∷◌, length, slice_index};
+//! The ticks at the latest boundaries of cells. Next: `candidates`, with a window that is one.
+ghost use Rattle.std.specs.Prelude.{◌≡◌, ◌+◌, ◌%◌, ◌<◌, length, slice_index};
 ghost use Rattle.direction_reader.specs.Boundaries.{with_tick};
 
-use arrayvec::ArrayVec;
 use std::marker::Model;
 
 /// A window has so many boundaries: one before each of its 80 cells, and the one at its end.
 pub const BOUNDARIES: usize = 81;
 
-/// The ticks of the latest boundaries of a stretch, 81 at most, the oldest first.
+/// The latest 81 ticks that it was given, the oldest first, with zeros for those before the first.
 #[derive(Drop)]
 pub struct Boundaries {
-    ring: ArrayVec<u64, 81>,
+    ring: [u64; 81],
     oldest: usize,
 }
 
 impl Model for Boundaries {
-    ghost use Rattle.std.specs.Prelude.{ℕ, ◌≡◌, ◌<◌, ◌≤◌, List, length, ◌++◌, drop, take};
+    ghost use Rattle.std.specs.Prelude.{ℕ, ◌≡◌, ◌<◌, List, length, ◌++◌, drop, take};
     ghost use Rattle.direction_reader.specs.declared.boundaries.TheConstants.{BOUNDARIES};
 
     ghost Value = { List ℕ };
 
-    ghost view = { λ b. drop b.oldest b.ring.items ++ take b.oldest b.ring.items };
+    ghost view = { λ b. drop b.oldest b.ring ++ take b.oldest b.ring };
 
-    ghost invariant = { λ b. (length b.ring.items ≤ BOUNDARIES) × (b.oldest < BOUNDARIES)
-        × (length b.ring.items < BOUNDARIES → b.oldest ≡ 0) };
+    ghost invariant = { λ b. (length b.ring ≡ BOUNDARIES) × (b.oldest < BOUNDARIES) };
 }
 
 impl Boundaries {
-    /// No boundary.
+    /// Zeros only.
     pub fn new() -> Boundaries
-        ensures { result ≡ [] }
+        ensures all { length result ≡ BOUNDARIES }
     {
         Boundaries {
-            ring: ArrayVec::new(),
+            ring: [0; 81],
             oldest: 0,
         }
     }
 
-    /// Adds a boundary, and drops the oldest of 81.
+    /// Adds a boundary, and drops the oldest.
+    #[inline(always)]
     pub fn push(&mut self, tick: u64)
-        ensures { self.new ≡ with_tick self.old tick }
+        ensures added { self.new ≡ with_tick self.old tick }
+        ensures all { length self.new ≡ BOUNDARIES }
     {
-        if self.ring.is_full() {
-            self.ring[self.oldest] = tick;
-            self.oldest = place_after(self.oldest);
-        } else {
-            self.ring.push(tick);
-        }
+        let place = self.oldest;
+        self.ring[place] = tick;
+        self.oldest = place_after(place);
     }
 
     /// The tick of the oldest boundary.
     pub fn oldest(&self) -> u64
-        requires { 0 < length self.now }
         ensures { result ≡ slice_index self.now 0 }
     {
         self.ring[self.oldest]

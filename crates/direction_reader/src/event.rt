@@ -1,4 +1,4 @@
-//! What the reader answers. Next: `window`.
+//! What the reader answers. Next: `texts/event` of `tc_files`.
 ghost use Rattle.std.specs.Prelude.{◌≡◌};
 
 use ltc_word::LtcWord;

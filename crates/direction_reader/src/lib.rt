@@ -12,21 +12,27 @@
 //!   (`specs/Window.antt`).
 //! - `window_events` gives the candidates of one window, the forward one first
 //!   (`specs/Candidate.antt`).
-//! - `DirectionReader::feed` counts the intervals and sums their ticks (`specs/Reader.antt`), and each
-//!   of its events bears that sum (`specs/Brings.antt`).
+//! - `DirectionReader::step` counts the intervals and sums their ticks (`specs/Reader.antt`), and the
+//!   numbers in what `events` gives of it are those of the interval (`specs/Brings.antt`). `feed` is
+//!   the one and then the other: nearly every interval brings nothing, and then `step` is enough.
 //!
-//! Read `event`, `window`, `boundaries`, `candidates`, `lock`, `stretch` and `reader`, in this order.
-//! `tc_files` prints the events. Nothing here allocates.
+//! Read `reader`, `tracker`, `latest_cells`, `latest_bits`, `window`, `boundaries`, `brought`,
+//! `candidates` and `event`, in this order: the way of an interval. `specs/Invariants.antt` is what the code keeps. `tc_files`
+//! prints the events. Nothing here allocates.
 #![tactic(auto)]
 
 mod boundaries;
+mod brought;
 mod candidates;
 mod event;
-mod lock;
+mod latest_bits;
+mod latest_cells;
+pub mod laws;
 mod reader;
-mod stretch;
+mod tracker;
 mod window;
 
+pub use brought::Brought;
 pub use candidates::window_events;
 pub use event::{Event, Events};
 pub use reader::{DirectionReader, MAX_INTERVALS};

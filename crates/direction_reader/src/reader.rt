@@ -1,11 +1,13 @@
-//! From intervals to events, one interval at a time: the last step of the way down.
-ghost use Rattle.std.specs.Prelude.{◌≡◌, ◌<◌, ◌≤◌, ◌+◌, ◌*◌};
+//! From intervals to events, one interval at a time. Next: `tracker`.
+ghost use Rattle.std.specs.Prelude.{◌≡◌, ◌<◌, ◌≤◌, ◌+◌, ◌-◌, ◌*◌};
 ghost use Rattle.biphase.specs.declared.cell.TheConstants.{MAX_INTERVAL};
 ghost use Rattle.direction_reader.specs.Brings.{Brings};
+ghost use Rattle.direction_reader.specs.Events.{no_events, one_event};
 
+use crate::brought::Brought;
 use crate::event::{Event, Events};
-use crate::lock::{Lock, Step};
-use crate::stretch::Stretch;
+use crate::latest_cells::LatestCells;
+use crate::tracker::{Step, Tracker};
 use biphase::{MAX_INTERVAL, Profile};
 use cell_tracker::Hunting;
 use std::marker::Model;
@@ -20,18 +22,19 @@ pub struct DirectionReader {
     system: System,
     intervals: u64,
     tick: u64,
-    lock: Lock,
-    stretch: Stretch,
+    tracker: Tracker,
+    cells: LatestCells,
 }
 
 impl Model for DirectionReader {
-    ghost use Rattle.direction_reader.specs.Reader.{Reading, IsReading};
+    ghost use Rattle.direction_reader.specs.Invariants.{IsReading};
+    ghost use Rattle.direction_reader.specs.Reader.{Reading};
 
     ghost Value = { Reading };
 
     ghost view = { λ r. record { system = r.system; intervals = r.intervals; tick = r.tick } };
 
-    ghost invariant = { λ r. IsReading r.intervals r.tick r.lock r.stretch };
+    ghost invariant = { λ r. IsReading r.intervals r.tick r.tracker r.cells };
 }
 
 impl DirectionReader {
@@ -43,8 +46,8 @@ impl DirectionReader {
             system,
             intervals: 0,
             tick: 0,
-            lock: Lock::Hunting(Hunting::new(profile)),
-            stretch: Stretch::new(0),
+            tracker: Tracker::Hunting(Hunting::new(profile)),
+            cells: LatestCells::new(),
         }
     }
 
@@ -65,6 +68,7 @@ impl DirectionReader {
     }
 
     /// Takes the next interval, of `x` ticks, and answers what it brought.
+    #[inline(always)]
     pub fn feed(&mut self, x: u32) -> Events
         requires least { 1 ≤ x }
         requires most { x ≤ MAX_INTERVAL }
@@ -76,30 +80,71 @@ impl DirectionReader {
         ensures within { self.new.tick ≤ self.new.intervals * MAX_INTERVAL }
         ensures brings { Brings self.new.intervals self.new.tick result }
     {
+        match self.step(x) {
+            Brought::Nothing => Events::none(),
+            brought => self.events(brought),
+        }
+    }
+
+    /// Takes the next interval, of `x` ticks, and tells whether it brought an event. `events` then
+    /// gives what it brought.
+    #[inline(always)]
+    pub fn step(&mut self, x: u32) -> Brought
+        requires least { 1 ≤ x }
+        requires most { x ≤ MAX_INTERVAL }
+        requires room { self.old.intervals < MAX_INTERVALS }
+        ensures next { self.new ≡ record self.old {
+          intervals = self.old.intervals + 1;
+          tick = self.old.tick + x;
+        } }
+        ensures within { self.new.tick ≤ self.new.intervals * MAX_INTERVAL }
+        ensures taken { 1 ≤ self.new.intervals }
+    {
         let before = self.tick;
-        let place = self.intervals;
-        self.tick = before + u64::from(x);
-        self.intervals = place + 1;
-        let (lock, step) = self.lock.step(x);
-        self.lock = lock;
-        match step {
-            Step::Nothing => Events::none(),
+        let now = before + u64::from(x);
+        self.tick = now;
+        self.intervals += 1;
+        match self.tracker.step(x) {
+            Step::Cell(bit) => {
+                if self.cells.add(now, bit) {
+                    Brought::Candidate
+                } else {
+                    Brought::Nothing
+                }
+            }
+            Step::Nothing => Brought::Nothing,
             Step::FirstZero => {
-                self.stretch = Stretch::new(before);
-                self.stretch.add(self.tick, false);
-                Events::none()
+                self.cells.begin(before);
+                let _ = self.cells.add(now, false);
+                Brought::Nothing
             }
             Step::ZeroBefore(zero) => {
-                self.stretch = Stretch::new(before - u64::from(zero));
-                self.stretch.add(before, false);
-                Events::none()
+                self.cells.begin(before - u64::from(zero));
+                let _ = self.cells.add(before, false);
+                Brought::Nothing
             }
-            Step::Cell(bit) => {
-                self.stretch.add(self.tick, bit);
-                self.stretch.events(self.system, self.tick)
-            }
-            Step::Break => Events::one(Event::Lost {
-                interval: place,
+            Step::Break => Brought::Break,
+        }
+    }
+
+    /// The events of the latest interval, where `brought` is what `step` told of it.
+    #[cold]
+    #[inline(never)]
+    pub fn events(&self, brought: Brought) -> Events
+        requires { 1 ≤ self.now.intervals }
+        ensures brings { Brings self.now.intervals self.now.tick result }
+        ensures quiet { brought ≡ Brought.Nothing → result ≡ no_events }
+        ensures breaks { brought ≡ Brought.Break
+            → result ≡ one_event (Event.Lost (self.now.intervals - 1) self.now.tick) }
+    {
+        match brought {
+            Brought::Nothing => Events::none(),
+            Brought::Candidate => match self.tracker {
+                Tracker::AtCell(_) => self.cells.events(self.system, self.tick),
+                Tracker::MidCell(_) | Tracker::Hunting(_) => Events::none(),
+            },
+            Brought::Break => Events::one(Event::Lost {
+                interval: self.intervals - 1,
                 tick: self.tick,
             }),
         }

@@ -1,5 +1,6 @@
-//! Windows whose events are known from outside.
-use crate::{Event, Events, window_events};
+//! Windows and recordings whose events are known from outside.
+use crate::{Brought, DirectionReader, Event, Events, MAX_INTERVALS, window_events};
+use biphase::{MAX_INTERVAL, Profile};
 use ltc_word::LtcWord;
 use std::test::Fail;
 use tc_address::{Count, Direction, Label, System};
@@ -58,4 +59,50 @@ fn a_word_is_read_one_way_or_none(rt: HostRuntime) -> Result<(), Fail> {
         assert_eq!(rt; events, wanted, "of {bits:x}");
     }
     Ok(())
+}
+
+/// Steps, and the event that the last of them brings, if each interval may be taken and none before
+/// the last brings one.
+fn only_event(reader: &mut DirectionReader, intervals: &[u32]) -> Option<Event> {
+    let mut event = None;
+    for &x in intervals {
+        if event.is_some() || x == 0 || x > MAX_INTERVAL || reader.intervals() >= MAX_INTERVALS {
+            return None;
+        }
+        let brought = reader.step(x);
+        if brought != Brought::Nothing {
+            event = reader.events(brought).first;
+        }
+    }
+    event
+}
+
+#[test]
+fn a_word_behind_one_zero_is_read_from_its_first_bit(rt: HostRuntime) {
+    // The zero is the lock. Then comes the word of 01:00:00:00 at 25 frames from its end: the sync
+    // word `1011 1111 1111 1100`, and of the other bits only that of the hour is a one.
+    let mut reader = DirectionReader::new(System::F25, Profile::Normal);
+    assert_eq!(rt; only_event(&mut reader, &[24, 12, 12, 24]), None);
+    assert_eq!(rt; only_event(&mut reader, &[12; 24]), None);
+    assert_eq!(rt; only_event(&mut reader, &[24; 17]), None);
+    assert_eq!(rt; only_event(&mut reader, &[12, 12]), None);
+    assert_eq!(rt; only_event(&mut reader, &[24; 47]), None);
+    let Some(
+        Event::Word {
+            direction,
+            tick,
+            length,
+            ..
+        },
+    ) = only_event(&mut reader, &[24])
+    else {
+        panic!(rt; "no word");
+    };
+    assert_eq!(rt; direction, Direction::Backward);
+    assert_eq!(rt; (tick, length), (1944, 1920));
+    let lost = Event::Lost {
+        interval: 95,
+        tick: 1949,
+    };
+    assert_eq!(rt; only_event(&mut reader, &[5]), Some(lost));
 }

@@ -1,7 +1,9 @@
-//! The latest bits of a stretch. Next: `boundaries`.
-ghost use Rattle.std.specs.Prelude.{◌≡◌, ◌<◌, ◌^◌};
+//! A window: 80 bits of a stretch that stand together. Next: `brought`.
+ghost use Rattle.std.specs.Prelude.{◌≡◌, ◌<◌, ◌^◌, ◌↔◌, IsTrue};
+ghost use Rattle.direction_reader.specs.Candidate.{IsCandidate};
 ghost use Rattle.direction_reader.specs.Window.{with_bit, slid_by};
 
+use ltc_word::{begins_in_reversed_sync, ends_in_sync};
 use std::marker::Model;
 
 /// The bits of a window.
@@ -85,6 +87,14 @@ impl Full {
         Full {
             bits: slid(self.bits, bit),
         }
+    }
+
+    /// Whether the window ends in the sync word, as read forward or as read backward. The two tests
+    /// cost less together than a branch between them.
+    pub fn is_candidate(&self) -> bool
+        ensures { IsTrue result ↔ IsCandidate self.now }
+    {
+        ends_in_sync(self.bits) | begins_in_reversed_sync(self.bits)
     }
 
     /// The bits as one number below 2^80, the oldest in bit 0.

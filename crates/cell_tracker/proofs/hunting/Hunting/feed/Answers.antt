@@ -1,7 +1,7 @@
 use Rattle.std.proofs.Common.{[], ◌∷◌, ◌++◌, ◌-◌, length, subst, sym}
 use Rattle.biphase.specs.Pair.{AreUnequal}
 use Rattle.biphase.specs.Chain.{IsFirstHalf}
-use Rattle.biphase.proofs.Separation.{other_kind}
+use Rattle.biphase.specs.Laws.{other_kind}
 use Rattle.cell_tracker.specs.Stretch.{begun, with_break}
 use Rattle.cell_tracker.specs.StandsFor.{HuntingStandsFor, AtCellStandsFor, MidCellStandsFor}
 use Rattle.cell_tracker.proofs.BeginsAtTheLock.{hunt_first, hunt_equal, start_at, start_mid, start_broken}

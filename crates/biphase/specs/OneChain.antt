@@ -1,20 +1,21 @@
--- Each next cell is fixed by the intervals, so of two chains at the front of one list one is a front of the other.
+-- A law of chains, for the proofs of the crates above: each next cell is fixed by the intervals, so of two chains at the front of one list
+-- one is a front of the other. All of this is proved here, and no promise rests on it.
 use Rattle.std.proofs.Common.{◌≡◌, ℕ, ◌+◌, List, [], ◌∷◌, ◌++◌, ◌⊎◌, inl, inr, refl, ap, sym, ◌∙◌}
 use Rattle.biphase.specs.declared.profile.Profile.{Profile}
 use Rattle.biphase.specs.declared.cell.Cell.{Cell}
 use Rattle.biphase.specs.declared.cell.Cell.TheVariants.{Zero, One}
-use Rattle.biphase.specs.Chain.{flat, IsFront, IsChainAfter}
-use Rattle.biphase.proofs.Separation.{zero_is_no_half, first_half}
+use Rattle.biphase.specs.Chain.{flat, Begins, IsChainAfter}
+use Rattle.biphase.specs.Laws.{zero_is_no_half, first_half}
 
 -- a cell in front of both lists
-front_with : (cell : Cell) (one two : List Cell) → IsFront one two ⊎ IsFront two one
-    → IsFront (cell ∷ one) (cell ∷ two) ⊎ IsFront (cell ∷ two) (cell ∷ one)
+front_with : (cell : Cell) (one two : List Cell) → Begins one two ⊎ Begins two one
+    → Begins (cell ∷ one) (cell ∷ two) ⊎ Begins (cell ∷ two) (cell ∷ one)
 front_with cell one two (inl (rest, same)) = inl (rest, ap (λ cells. cell ∷ cells) same)
 front_with cell one two (inr (rest, same)) = inr (rest, ap (λ cells. cell ∷ cells) same)
 
 pub comparable_after : (profile : Profile) (c : ℕ) (one two : List Cell) (rest other : List ℕ)
     → IsChainAfter profile c one → IsChainAfter profile c two → flat one ++ rest ≡ flat two ++ other
-    → IsFront one two ⊎ IsFront two one
+    → Begins one two ⊎ Begins two one
 comparable_after profile c [] two rest other ones twos same = inl (two, refl)
 comparable_after profile c (cell ∷ one) [] rest other ones twos same = inr (cell ∷ one, refl)
 comparable_after profile c (Zero x ∷ one) (Zero y ∷ two) rest other ones twos same =
@@ -38,7 +39,7 @@ comparable_after profile c (One a b ∷ one) (One x y ∷ two) rest other ones t
 
 -- the same of the front of a list
 pub comparable : (profile : Profile) (c : ℕ) (one two : List Cell) (intervals : List ℕ)
-    → IsChainAfter profile c one → IsChainAfter profile c two → IsFront (flat one) intervals → IsFront (flat two) intervals
-    → IsFront one two ⊎ IsFront two one
+    → IsChainAfter profile c one → IsChainAfter profile c two → Begins (flat one) intervals → Begins (flat two) intervals
+    → Begins one two ⊎ Begins two one
 comparable profile c one two intervals ones twos front front_too =
     comparable_after profile c one two front.0 front_too.0 ones twos (sym front.1 ∙ front_too.1)

@@ -1,63 +1,49 @@
--- A half lasts about half a cell and a zero a whole one, so the tests never take one for the other.
-use Rattle.std.proofs.Common.{◌≡◌, ℕ, ◌+◌, ◌*◌, ◌<◌, ◌≤◌, ◌≢◌, ◌⊎◌, inl, inr, arith}
+-- Laws of the tolerance, for the proofs of the crates above: a half lasts about half a cell and a zero a whole one, so the tests never take
+-- one for the other. All of this is proved here, and no promise rests on it.
+use Rattle.std.proofs.Common.{◌≡◌, ℕ, ◌*◌, ◌≤◌, ◌≢◌, ◌⊎◌, inl, inr, arith}
 use Rattle.std.proofs.lemmas.Bool.{cases_lt}
 use Rattle.biphase.specs.declared.profile.Profile.{Profile}
-use Rattle.biphase.specs.declared.profile.Profile.TheVariants.{Normal}
+use Rattle.biphase.specs.declared.profile.Profile.TheVariants.{Normal, Worn}
 use Rattle.biphase.specs.Profile.{tolerance_of}
 use Rattle.biphase.specs.declared.pair.PairKind.{PairKind}
 use Rattle.biphase.specs.declared.pair.PairKind.TheVariants.{Same, Step, Wild}
-use Rattle.biphase.specs.Pair.{AreEqual, AreUnequal, IsKind}
-use Rattle.biphase.specs.Chain.{AreHalves, IsNextZero, IsFirstHalf, IsNextOne}
+use Rattle.biphase.specs.Pair.{AreUnequal, IsKind}
+use Rattle.biphase.specs.Chain.{IsNextZero, IsFirstHalf, IsNextOne}
 
 -- no interval is both a next zero and a next first half
 pub zero_is_no_half : (profile : Profile) (c x : ℕ) → 1 ≤ x → IsNextZero profile c x → IsFirstHalf profile c x → ⊥
 zero_is_no_half Normal c x tick zero half = omega arith
+zero_is_no_half Worn c x tick zero half = omega arith
 
 -- the first half of a one that follows lasts about half as long as the cell before
 pub first_half : (profile : Profile) (c x y : ℕ) → IsNextOne profile c x y → IsFirstHalf profile c x
 first_half Normal c x y one = (omega arith, omega arith)
-
--- a zero and then its near neighbour are equal
-pub zeros_are_equal : (profile : Profile) (c x : ℕ) → IsNextZero profile c x → AreEqual profile c x
-zeros_are_equal Normal c x zero = omega arith
-
--- the two halves of a one are equal
-pub halves_are_equal : (profile : Profile) (x y : ℕ) → AreHalves profile x y → AreEqual profile x y
-halves_are_equal Normal x y halves = omega arith
-
--- halves of two neighbouring ones are equal
-pub neighbours_are_equal : (profile : Profile) (a b x y : ℕ) → AreHalves profile a b → IsNextOne profile (a + b) x y
-    → AreEqual profile b x
-neighbours_are_equal Normal a b x y halves one = omega arith
-
--- a zero and then a half are unequal, and the zero is the greater
-pub zero_then_half : (profile : Profile) (c x y : ℕ) → 1 ≤ x → IsNextOne profile c x y → AreUnequal profile c x × (x < c)
-zero_then_half Normal c x y tick one = ((λ equal. omega arith, omega arith), omega arith)
-
--- a half and then a zero are unequal, and the zero is the greater
-pub half_then_zero : (profile : Profile) (a b x : ℕ) → 1 ≤ x → AreHalves profile a b → IsNextZero profile (a + b) x
-    → AreUnequal profile b x × (b < x)
-half_then_zero Normal a b x tick halves zero = ((λ equal. omega arith, omega arith), omega arith)
+first_half Worn c x y one = (omega arith, omega arith)
 
 -- a zero after a cell lasts a tick or more
 pub zero_lasts : (profile : Profile) (c x : ℕ) → 1 ≤ c → IsNextZero profile c x → 1 ≤ x
 zero_lasts Normal c x ticks zero = omega arith
+zero_lasts Worn c x ticks zero = omega arith
 
 -- so do the halves of a one
 pub one_lasts : (profile : Profile) (c x y : ℕ) → 1 ≤ c → IsNextOne profile c x y → (1 ≤ x) × (1 ≤ y)
 one_lasts Normal c x y ticks one = (omega arith, omega arith)
+one_lasts Worn c x y ticks one = (omega arith, omega arith)
 
 -- and so does a first half
 pub half_lasts : (profile : Profile) (c x : ℕ) → 1 ≤ c → IsFirstHalf profile c x → 1 ≤ x
 half_lasts Normal c x ticks half = omega arith
+half_lasts Worn c x ticks half = omega arith
 
 -- after a cell of an unequal pair's greater interval the lesser is no zero
 pub step_is_no_zero : (profile : Profile) (c x : ℕ) → AreUnequal profile c x → IsNextZero profile c x → ⊥
 step_is_no_zero Normal c x unequal zero = absurd (unequal.0 (omega arith))
+step_is_no_zero Worn c x unequal zero = absurd (unequal.0 (omega arith))
 
 -- the intervals of an unequal pair differ
 pub unequal_differ : (profile : Profile) (a b : ℕ) → AreUnequal profile a b → a ≢ b
 unequal_differ Normal a b unequal = omega arith
+unequal_differ Worn a b unequal = omega arith
 
 -- an interval can be a first half, or it cannot
 pub half_or_not : (profile : Profile) (c x : ℕ) → IsFirstHalf profile c x ⊎ ¬ IsFirstHalf profile c x

@@ -1,0 +1,42 @@
+-- What the code keeps; no promise speaks of it.
+use Rattle.std.specs.Prelude.{◌≡◌, ℕ, ◌+◌, ◌-◌, ◌*◌, ◌<◌, ◌≤◌, List, [], ◌∷◌, length, drop, IfSome}
+use Rattle.biphase.specs.declared.cell.TheConstants.{MAX_INTERVAL}
+use Rattle.direction_reader.specs.declared.latest_bits.LatestBits.{LatestBits}
+use Rattle.direction_reader.specs.declared.latest_bits.LatestBits.TheVariants as latest
+use Rattle.direction_reader.specs.declared.tracker.Tracker.{Tracker}
+use Rattle.direction_reader.specs.declared.tracker.Tracker.TheVariants.{AtCell, MidCell, Hunting}
+use Rattle.direction_reader.specs.Brings.{greatest_cell}
+use Rattle.direction_reader.specs.LatestCells.{Cells}
+
+-- how many cells the latest bits have
+abbrev pub cell_count : LatestBits → ℕ
+cell_count (latest.Full _) = 80
+cell_count (latest.Filling f) = f.count
+
+-- of a ring of 81 ticks, those at the boundaries of so many cells
+abbrev pub latest_ticks : LatestBits → List ℕ → List ℕ
+latest_ticks bits ticks = drop (80 - cell_count bits) ticks
+
+-- a boundary before each cell, and one at the end
+abbrev pub HasBoundaries : LatestBits → List ℕ → Type 0
+HasBoundaries bits boundaries = length boundaries ≡ cell_count bits + 1
+
+-- boundaries of cells, the last of them at a tick
+abbrev pub AreBoundariesTo : ℕ → List ℕ → Type 0
+AreBoundariesTo tick [] = ⊥
+AreBoundariesTo tick (last ∷ []) = last ≡ tick
+AreBoundariesTo tick (boundary ∷ next ∷ rest) =
+    (boundary < next) × (next ≤ boundary + greatest_cell) × AreBoundariesTo tick (next ∷ rest)
+
+-- the state of the tracker, the sum of the intervals and the boundaries of the stretch fit each other
+abbrev pub FitsTracker : Tracker → ℕ → List ℕ → Type 0
+FitsTracker (AtCell a) tick boundaries = AreBoundariesTo tick boundaries
+FitsTracker (MidCell m) tick boundaries =
+    (1 ≤ m.half) × (m.half ≤ MAX_INTERVAL) × (m.half ≤ tick) × AreBoundariesTo (tick - m.half) boundaries
+FitsTracker (Hunting h) tick boundaries = IfSome h.before (λ z. (1 ≤ z) × (z ≤ MAX_INTERVAL) × (z ≤ tick))
+
+-- what a reader keeps fits what it counts
+pub record IsReading (intervals tick : ℕ) (tracker : Tracker) (cells : Cells) : Type 0 where
+  pub count : intervals ≤ 1000000000
+  pub sum : tick ≤ intervals * MAX_INTERVAL
+  pub fits : FitsTracker tracker tick cells.boundaries

@@ -1,0 +1,29 @@
+-- The latest cells of the stretch that is open.
+use Rattle.std.specs.Prelude.{◌≡◌, ℕ, ◌-◌, List, [], ◌∷◌, ◌++◌, length, drop, slice_index, if◌then◌else◌, nat_lt}
+use Rattle.tc_address.specs.declared.system.System.{System}
+use Rattle.direction_reader.specs.declared.boundaries.TheConstants.{BOUNDARIES}
+use Rattle.direction_reader.specs.declared.event.Events.{Events}
+use Rattle.direction_reader.specs.declared.latest_bits.LatestBits.{LatestBits}
+use Rattle.direction_reader.specs.declared.latest_bits.LatestBits.TheVariants as latest
+use Rattle.direction_reader.specs.Candidate.{AreEventsOf}
+use Rattle.direction_reader.specs.Events.{no_events}
+
+-- the latest bits, and the ticks at the boundaries of their cells: one before each, and one at the end
+pub record Cells : Type 0 where
+  pub bits : LatestBits
+  pub boundaries : List ℕ
+
+-- a stretch that begins at a tick, with no cell yet
+abbrev pub no_cells : ℕ → Cells
+no_cells tick = record { bits = latest.Filling (record { bits = 0; count = 0 }); boundaries = tick ∷ [] }
+
+-- one boundary more, and the oldest of 81 gone
+abbrev pub with_boundary : List ℕ → ℕ → List ℕ
+with_boundary boundaries tick =
+    if nat_lt (length boundaries) BOUNDARIES then boundaries ++ tick ∷ [] else drop 1 boundaries ++ tick ∷ []
+
+-- the events of the latest window, which ends at a tick: none before it is full, and then those of its bits, with the length from its
+-- oldest boundary on
+abbrev pub AreWindowEvents : System → LatestBits → List ℕ → ℕ → Events → Type 0
+AreWindowEvents system (latest.Full bits) boundaries end events = AreEventsOf system bits end (end - slice_index boundaries 0) events
+AreWindowEvents system (latest.Filling _) boundaries end events = events ≡ no_events

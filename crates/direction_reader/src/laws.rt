@@ -1,0 +1,43 @@
+//! What follows from the definitions alone, and the numbers that code and definitions share.
+ghost use Rattle.std.specs.Prelude.{◌≡◌, ℕ, ◌*◌, List};
+ghost use Rattle.biphase.specs.declared.profile.Profile.{Profile};
+ghost use Rattle.direction_reader.specs.declared.boundaries.TheConstants.{BOUNDARIES};
+ghost use Rattle.direction_reader.specs.declared.event.Event.{Event};
+ghost use Rattle.direction_reader.specs.declared.event.Events.{Events};
+ghost use Rattle.direction_reader.specs.declared.reader.TheConstants.{MAX_INTERVALS};
+ghost use Rattle.direction_reader.specs.declared.window.TheConstants.{WINDOW_BITS};
+ghost use Rattle.direction_reader.specs.Brings.{greatest_cell};
+ghost use Rattle.direction_reader.specs.Candidate.{AreEventsOf};
+ghost use Rattle.direction_reader.specs.ListEvents.{AreEvents};
+ghost use Rattle.tc_address.specs.declared.system.System.{System};
+
+use cell_tracker::laws::a_list_has_one_list_of_stretches;
+use ltc_word::laws::spelling_is_exact;
+
+/// A reader takes a thousand million intervals, a window has 80 bits and 81 boundaries, and its
+/// greatest length in ticks is that of 160 intervals of 24 bits.
+pub fn the_limits_are_these()
+    ensures intervals { MAX_INTERVALS ≡ 1000000000 }
+    ensures bits { WINDOW_BITS ≡ 80 }
+    ensures boundaries { BOUNDARIES ≡ 81 }
+    ensures length { 80 * greatest_cell ≡ 2684354400 }
+{}
+
+/// A window, at its tick and with its length, has the events that it has, and no others.
+pub fn a_window_has_one_list_of_events()
+    ensures { (system : System) (bits end length : ℕ) (events others : Events)
+        → AreEventsOf system bits end length events
+        → AreEventsOf system bits end length others → events ≡ others }
+{
+    spelling_is_exact();
+}
+
+/// A list of intervals has the events that it has, and no others.
+pub fn a_list_has_one_list_of_events()
+    ensures { (system : System) (profile : Profile) (intervals : List ℕ)
+        (events others : List Event) → AreEvents system profile intervals events
+        → AreEvents system profile intervals others → events ≡ others }
+{
+    spelling_is_exact();
+    a_list_has_one_list_of_stretches();
+}
