@@ -10,7 +10,7 @@ use Rattle.direction_reader.specs.declared.reader.TheConstants.{MAX_INTERVALS}
 use Rattle.direction_reader.specs.Brings.{IsLatest, Brings}
 use Rattle.tc_files.specs.Texts.{FitsLine}
 use Rattle.tc_top.specs.declared.engines.ltc_read.Report.{Report}
-use Rattle.tc_top.specs.LtcRead.{is_word, is_refused, is_lost}
+use Rattle.direction_reader.specs.Events.{is_word, is_refused, is_lost}
 use Rattle.tc_top.specs.KeptReport.{counted, all_counted, FitLines}
 
 pub words-all_counted : (events : List Event) (r : Report) → (all_counted events r).words ≡ r.words + count_by is_word events

@@ -7,7 +7,8 @@ use Rattle.tc_files.specs.declared.interval_file.header.IntervalHeader.{Interval
 use Rattle.tc_files.specs.Texts.{event_line, read_end_line}
 use Rattle.tc_top.specs.declared.engines.ltc_read.Report.{Report}
 use Rattle.tc_top.specs.KeptReport.{Stands}
-use Rattle.tc_top.specs.LtcRead.{lines, is_word, is_refused, is_lost, IsReadPart, IsReadWhole}
+use Rattle.direction_reader.specs.Events.{is_word, is_refused, is_lost}
+use Rattle.tc_top.specs.LtcRead.{lines, IsReadPart, IsReadWhole}
 
 -- how many of some events and more are of a kind
 count_of_more : (kind : Event → Bool) (events more : List Event) → count_by kind (events ++ more) ≡ count_by kind events + count_by kind more

@@ -11,7 +11,8 @@ use Rattle.tc_files.specs.declared.interval_file.header.IntervalHeader.{Interval
 use Rattle.tc_files.specs.IntervalHeader.{IsTickRate}
 use Rattle.tc_files.specs.Texts.{FitsLine}
 use Rattle.tc_top.specs.declared.engines.ltc_read.Report.{Report}
-use Rattle.tc_top.specs.LtcRead.{lines, is_word, is_refused, is_lost, IsReadPart}
+use Rattle.direction_reader.specs.Events.{is_word, is_refused, is_lost}
+use Rattle.tc_top.specs.LtcRead.{lines, IsReadPart}
 
 -- one event more of its kind
 abbrev pub counted : Event → Report → Report

@@ -1,8 +1,8 @@
 -- `ltc-read`: what it prints of a recording.
-use Rattle.std.specs.Prelude.{◌≡◌, ℕ, Bool, true, false, List, ◌++◌, length, count_by}
+use Rattle.std.specs.Prelude.{◌≡◌, ℕ, List, ◌++◌, length, count_by}
 use Rattle.std.specs.List.{flat_map}
 use Rattle.direction_reader.specs.declared.event.Event.{Event}
-use Rattle.direction_reader.specs.declared.event.Event.TheVariants.{Word, Refused, Lost}
+use Rattle.direction_reader.specs.Events.{is_word, is_refused, is_lost}
 use Rattle.tc_files.specs.declared.interval_file.header.IntervalHeader.{IntervalHeader}
 use Rattle.tc_files.specs.Texts.{event_line, read_end_line}
 use Rattle.tc_top.specs.Along.{Printing}
@@ -15,21 +15,6 @@ lines header events = flat_map (event_line header) events
 pub record IsReadPart (header : IntervalHeader) (intervals written : List ℕ) : Type 0 where
   pub events : List Event
   pub are : written ≡ lines header events
-
-abbrev pub is_word : Event → Bool
-is_word (Word direction word tick length) = true
-is_word (Refused direction fault tick) = false
-is_word (Lost interval tick) = false
-
-abbrev pub is_refused : Event → Bool
-is_refused (Word direction word tick length) = false
-is_refused (Refused direction fault tick) = true
-is_refused (Lost interval tick) = false
-
-abbrev pub is_lost : Event → Bool
-is_lost (Word direction word tick length) = false
-is_lost (Refused direction fault tick) = false
-is_lost (Lost interval tick) = true
 
 -- the whole: lines of events, and a last line that counts intervals and events
 pub record IsReadWhole (header : IntervalHeader) (intervals written : List ℕ) : Type 0 where

@@ -19,7 +19,7 @@ use crate::along::Behind;
 use crate::pushing::push_line;
 use crate::stop::Stop;
 use biphase::{MAX_INTERVAL, Profile};
-use direction_reader::{DirectionReader, Event, Events, MAX_INTERVALS};
+use direction_reader::{Brought, DirectionReader, Event, Events, MAX_INTERVALS};
 use tc_files::{IntervalHeader, Text, event_text, read_end_text};
 use tc_io::Sink;
 
@@ -49,11 +49,31 @@ impl Report {
         ensures why { IfErr result (λ stop. stop ≡ Stop.WriteFault) }
         ensures cause { HasOutCause (K.faults out.old) (K.faults out.new) result }
     {
-        let events = self.reader.feed(x);
-        // Nearly every interval brings nothing.
-        if events.first.is_none() && events.second.is_none() {
-            return Ok(());
+        match self.reader.step(x) {
+            Brought::Nothing => Ok(()),
+            brought => self.print(brought, out),
         }
+    }
+
+    /// Prints what the latest interval brought. Nearly every interval brings nothing.
+    #[cold]
+    #[inline(never)]
+    fn print<K: Sink>(&mut self, brought: Brought, out: &mut K) -> Result<(), Stop>
+        requires taken { 1 ≤ self.old.reader.intervals }
+        requires within { self.old.reader.intervals ≤ MAX_INTERVALS }
+        requires sum { self.old.reader.tick ≤ self.old.reader.intervals * MAX_INTERVAL }
+        requires header { IsTickRate self.old.header.tick_rate }
+        requires events { self.old.words + self.old.refused + self.old.lost + 2 ≤ 2 * self.old.reader.intervals }
+        ensures fits { OnOk result (FitsReport self.new) }
+        ensures reader { self.new.reader ≡ self.old.reader }
+        ensures header { self.new.header ≡ self.old.header }
+        ensures prints { OnOk result (Prints self.old self.new (K.written out.old) (K.written out.new)) }
+        ensures front { OnErr result ((events : List Event)
+            × AppendsFront (K.written out.old) (K.written out.new) (lines self.old.header events)) }
+        ensures why { IfErr result (λ stop. stop ≡ Stop.WriteFault) }
+        ensures cause { HasOutCause (K.faults out.old) (K.faults out.new) result }
+    {
+        let events = self.reader.events(brought);
         self.push(events, out)
     }
 
@@ -63,6 +83,7 @@ impl Report {
         requires header { IsTickRate self.old.header.tick_rate }
         requires room { self.old.words + self.old.refused + self.old.lost ≤ 2 * MAX_INTERVALS }
         ensures counted { OnOk result (self.new ≡ all_counted (event_list events) self.old) }
+        ensures reader { self.new.reader ≡ self.old.reader }
         ensures header { self.new.header ≡ self.old.header }
         ensures all { OnOk result (Appends (K.written out.old) (K.written out.new)
             (lines self.old.header (event_list events))) }
@@ -87,6 +108,7 @@ impl Report {
         requires header { IsTickRate self.old.header.tick_rate }
         requires room { self.old.words + self.old.refused + self.old.lost ≤ 2 * MAX_INTERVALS + 1 }
         ensures counted { self.new ≡ counted event.now self.old }
+        ensures reader { self.new.reader ≡ self.old.reader }
         ensures header { self.new.header ≡ self.old.header }
         ensures all { OnOk result (Appends (K.written out.old) (K.written out.new)
             (event_line self.old.header event.now)) }

@@ -3,17 +3,17 @@ use Rattle.direction_reader.specs.Events.{event_list}
 use Rattle.tc_top.specs.declared.engines.ltc_read.Report.{Report}
 use Rattle.tc_top.proofs.AlongTheInput.{on_ok, on_err, both_ok}
 use Rattle.tc_top.proofs.CountedEvents.{words-all_counted, refused-all_counted, lost-all_counted, brought_fits}
-use Rattle.tc_top.proofs.engines.ltc_read.Report.feed.Goals as goal
+use Rattle.tc_top.proofs.engines.ltc_read.Report.print.Goals as goal
 
 -- the limits of the file keep the numbers of the events small
 pub push-requires-clause-lines : goal.push-requires-clause-lines
 push-requires-clause-lines g c =
-    brought_fits _ _ c.feed-events.result (rw c.feed-events.ensures.next (omega arith)) c.feed-events.ensures.within c.feed-events.ensures.brings
+    brought_fits _ _ c.events-events.result c.requires.within c.requires.sum c.events-events.ensures.brings
 
 -- the events of the interval were counted and pushed
 pub returns-clause-prints : goal.returns-clause-prints
 returns-clause-prints g c =
-    let events = event_list c.feed-events.result in
+    let events = event_list c.events-events.result in
     on_ok c.push.result (both_ok _ _ c.push.result c.push.ensures.counted c.push.ensures.all) (λ pushed. record {
       events = events;
       pushed = pushed.1;
