@@ -61,7 +61,7 @@ completes t u system part x r e late long =
 
 is_passed : (t u : ℕ) (system : Option System) (part : List ℕ) (x : ℕ) (r : Recording) → u ≡ t + 3 → 12 ≤ t → length part ≡ 3
     → after (at u system part r).progress x
-        ≡ record { taken = t + 4; system = system; part = []; fault = fault_in (answer (at u system part r).progress x) }
+    ≡ record { taken = t + 4; system = system; part = []; fault = fault_in (answer (at u system part r).progress x) }
 is_passed t u system part x r e late long =
     let next : u + 1 ≡ t + 4 = omega arith in
     rw (ne_eqb u 5 (λ e. omega arith), le-ltb u 8 (omega arith), le-ltb (length part) 3 (omega arith), next) refl
@@ -75,7 +75,7 @@ fourth_byte t u system part x r e late long =
 -- an interval, or its fault
 by_range : (in_range : Bool) (t n : ℕ) (system : Option System) (r : Recording)
     → behind (t + 4) system (if in_range then Interval n else Fault (fault.Interval t)) r
-        ≡ with_number (at t system [] r) (if in_range then Ok n else Err (fault.Interval t))
+    ≡ with_number (at t system [] r) (if in_range then Ok n else Err (fault.Interval t))
 by_range true t n system r = refl
 by_range false t n system r = refl
 
@@ -101,7 +101,7 @@ whole : (d : Decoding) (a b c e : ℕ) → IsBetween d.progress
 whole d a b c e between =
     let same = is_between d between in
     subst (λ (s : Decoding). fold with_byte s (a ∷ b ∷ c ∷ e ∷ []) ≡ with_number s (in_range d.progress.taken (big_number 4 (a ∷ b ∷ c ∷ e ∷ []))))
-        (sym same) (four d.progress.taken d.progress.system d.recording a b c e between.header)
+    (sym same) (four d.progress.taken d.progress.system d.recording a b c e between.header)
 
 pub whole_number : (d : Decoding) (bytes : List ℕ) → 4 ≤ length bytes → IsBetween d.progress
     → fold with_byte d (take 4 bytes) ≡ with_number d (in_range d.progress.taken (big_number 4 bytes))

@@ -7,7 +7,10 @@
 //! What this crate promises:
 //! - `IntervalDecoder` answers each byte by the bytes before it: the header, an interval, nothing
 //!   yet, or the first fault with its byte place (`specs/IntervalFile.antt`, `answer` and `after`;
-//!   `CompletesAt` says at which places).
+//!   `CompletesAt` says at which places). `whole_numbers` and `interval_at` take four bytes at once,
+//!   and answer what the bytes one by one would.
+//! - What the bytes of a file say so far is one value: the header, the intervals, and whether they
+//!   are good, refused or past the limit (`specs/Recording.antt`, `recording_of`).
 //! - `event_text` and `read_end_text` give their lines byte for byte (`specs/Texts.antt`), and
 //!   `interval_header` the twelve bytes of a header.
 //!
@@ -17,6 +20,7 @@
 
 mod fault;
 mod interval_file;
+pub mod laws;
 pub mod names;
 mod texts;
 

@@ -76,8 +76,12 @@ a_header stands decoder next None behind count choice header front bytes written
       progress = ap (λ (d : Decoding). d.progress) (sym is);
       good = ap (λ (r : Recording). r.verdict) same ∙ s.good;
       counts = s.counts ∙ ap length p.1 ∙ ap length (sym none);
-      printed = (header, head, subst (λ (xs : List ℕ). stands behind choice header xs (written ++ first)) (sym none)
-          (subst (λ (w : List ℕ). stands behind choice header [] w) (ap (λ (w : List ℕ). w ++ first) (sym p.2)) begun));
+      printed = (
+        header,
+        head,
+        subst (λ (xs : List ℕ). stands behind choice header xs (written ++ first)) (sym none)
+            (subst (λ (w : List ℕ). stands behind choice header [] w) (ap (λ (w : List ℕ). w ++ first) (sym p.2)) begun),
+      );
     }
 
 -- the recording with an interval within the limit
@@ -111,9 +115,11 @@ part_extends : {C : Type 0} (printing : C → Printing) → PartGrows printing �
     → r.header ≡ Some header → Grows r s → Printing.part (printing choice) header r.intervals written
     → (rest : List ℕ) × IsPartOf (printing choice) s (written ++ rest)
 part_extends printing extends choice header r s written head g part =
-    let more = extends choice header r.intervals g.rest written part in
-    (more.0, subst (λ (h : Option IntervalHeader). IsPartBehind (printing choice) h s.intervals (written ++ more.0)) (sym (g.keeps header head))
-        (subst (λ (xs : List ℕ). Printing.part (printing choice) header xs (written ++ more.0)) (sym g.grown) more.1))
+    let more = extends choice header r.intervals g.rest written part in (
+      more.0,
+      subst (λ (h : Option IntervalHeader). IsPartBehind (printing choice) h s.intervals (written ++ more.0)) (sym (g.keeps header head))
+          (subst (λ (xs : List ℕ). Printing.part (printing choice) header xs (written ++ more.0)) (sym g.grown) more.1),
+    )
 
 -- the recording of more bytes
 and_rest : (front bytes rest : List ℕ) → decoding_of (front ++ (bytes ++ rest)) ≡ fold with_byte (decoding_of (front ++ bytes)) rest
@@ -141,7 +147,7 @@ part_now : {B C : Type 0} (printing : C → Printing) (stands : Relation B C) �
     → s ≡ verdict_now r v → IsPartOf (printing choice) s (written ++ [])
 part_now printing stands well behind choice r s v written printed e =
     subst (λ (w : List ℕ). IsPartOf (printing choice) s w) (sym (append-nil written))
-        (subst (λ (t : Recording). IsPartOf (printing choice) t written) (sym e) (printed_well printing stands well behind choice r written printed))
+    (subst (λ (t : Recording). IsPartOf (printing choice) t written) (sym e) (printed_well printing stands well behind choice r written printed))
 
 -- past the limit
 pub a_limit : {B C : Type 0} (printing : C → Printing) (stands : Relation B C) → StandsWell printing stands
@@ -151,7 +157,7 @@ pub a_limit : {B C : Type 0} (printing : C → Printing) (stands : Relation B C)
 a_limit printing stands well decoder next behind count choice x front bytes rest written s is full =
     let r = recording_of front in
     let past : with_item r (Interval x) ≡ verdict_now r past_limit =
-        rw (le-ltb (length r.intervals) MAX_INTERVALS (let counts = s.counts in omega arith)) refl in
+    rw (le-ltb (length r.intervals) MAX_INTERVALS (let counts = s.counts in omega arith)) refl in
     let now = ends_past front bytes rest r (completed front bytes (Interval x) next is s.good ∙ past) in
     (ap (λ (t : Recording). t.verdict) now, part_now printing stands well behind choice r _ past_limit written s.printed now)
 
@@ -174,23 +180,23 @@ pub a_fault : {B C : Type 0} (printing : C → Printing) (stands : Relation B C)
     → IsStop (along_intervals (printing choice)) (stop_at count f) (front ++ (bytes ++ rest)) (written ++ [])
 a_fault printing stands well decoder next behind count choice f front bytes rest written s is =
     subst (λ (n : ℕ). IsStop (along_intervals (printing choice)) (stop_at n f) (front ++ (bytes ++ rest)) (written ++ [])) (sym s.counts)
-        (at_fault printing stands well behind choice f front bytes rest written (nat_lt (length (recording_of front).intervals) MAX_INTERVALS) s.printed
-            (completed front bytes (Fault f) next is s.good))
+    (at_fault printing stands well behind choice f front bytes rest written (nat_lt (length (recording_of front).intervals) MAX_INTERVALS) s.printed
+    (completed front bytes (Fault f) next is s.good))
 
 -- a push that failed: a front of the part was written
 front_of_part : (m : List ℕ → Type 0) (old new : Option (List ℕ)) (written part rest : List ℕ) → m ((written ++ part) ++ rest) → AppendsFront old new part
     → (more : List ℕ) × Appends old new more × ((whole : List ℕ) × m whole × IsFront (written ++ more) whole)
 front_of_part m old new written part rest is f =
     let e : (written ++ part) ++ rest ≡ (written ++ f.0) ++ (f.1.0 ++ rest) =
-        ap (λ (l : List ℕ). (written ++ l) ++ rest) f.1.1 ∙ ap (λ (l : List ℕ). l ++ rest) (sym (append_assoc written f.0 f.1.0))
-        ∙ append_assoc (written ++ f.0) f.1.0 rest in
+    ap (λ (l : List ℕ). (written ++ l) ++ rest) f.1.1 ∙ ap (λ (l : List ℕ). l ++ rest) (sym (append_assoc written f.0 f.1.0))
+    ∙ append_assoc (written ++ f.0) f.1.0 rest in
     (f.0, f.2, ((written ++ part) ++ rest, is, (f.1.0 ++ rest, e)))
 
 -- what a recording of more bytes is of
 grows_behind : (front bytes rest : List ℕ) (s : Recording) → recording_of (front ++ bytes) ≡ s → Grows s (recording_of (front ++ (bytes ++ rest)))
 grows_behind front bytes rest s e =
     subst (λ (r : Recording). Grows r (recording_of (front ++ (bytes ++ rest)))) e
-        (subst (λ (d : Decoding). Grows (recording_of (front ++ bytes)) d.recording) (sym (and_rest front bytes rest)) (grows (decoding_of (front ++ bytes)) rest))
+    (subst (λ (d : Decoding). Grows (recording_of (front ++ bytes)) d.recording) (sym (and_rest front bytes rest)) (grows (decoding_of (front ++ bytes)) rest))
 
 -- of an interval
 pub a_write_fault : {B C : Type 0} (printing : C → Printing) (stands : Relation B C) → PartGrows printing
@@ -203,9 +209,9 @@ a_write_fault printing stands extends decoder next b count choice x old new fron
     let p = s.printed in
     let part = why.1 (recording_of front) written p in
     let now : Printing.part (printing choice) p.0 (longer (recording_of front) x).intervals (written ++ part.0) =
-        subst (λ (h : Option IntervalHeader). IsPartBehind (printing choice) h (longer (recording_of front) x).intervals (written ++ part.0)) p.1 part.1 in
+    subst (λ (h : Option IntervalHeader). IsPartBehind (printing choice) h (longer (recording_of front) x).intervals (written ++ part.0)) p.1 part.1 in
     let more = part_extends printing extends choice p.0 (longer (recording_of front) x) (recording_of (front ++ (bytes ++ rest))) (written ++ part.0) p.1
-        (grows_behind front bytes rest (longer (recording_of front) x) same) now in
+    (grows_behind front bytes rest (longer (recording_of front) x) same) now in
     front_of_part (λ w. IsPartOf (printing choice) (recording_of (front ++ (bytes ++ rest))) w) old new written part.0 more.0 more.1 part.2
 
 -- of a header
@@ -223,9 +229,9 @@ a_header_fault printing stands extends decoder next None count choice header old
     let first : Recording = record { header = Some header; intervals = []; verdict = (recording_of front).verdict } in
     let begins : recording_of (front ++ bytes) ≡ first = same ∙ rw (p.0, p.1) refl in
     let now : Printing.part (printing choice) header [] (written ++ part) =
-        subst (λ (w : List ℕ). Printing.part (printing choice) header [] w) (ap (λ (w : List ℕ). w ++ part) (sym p.2)) begun in
+    subst (λ (w : List ℕ). Printing.part (printing choice) header [] w) (ap (λ (w : List ℕ). w ++ part) (sym p.2)) begun in
     let more = part_extends printing extends choice header first (recording_of (front ++ (bytes ++ rest))) (written ++ part) refl
-        (grows_behind front bytes rest first begins) now in
+    (grows_behind front bytes rest first begins) now in
     front_of_part (λ w. IsPartOf (printing choice) (recording_of (front ++ (bytes ++ rest))) w) old new written part more.0 more.1 pushed
 
 -- ---- the bytes of an item
@@ -235,8 +241,8 @@ pub by_byte : (decoder : Progress) (front : List ℕ) (byte : ℕ) (item : Taken
     → Completes front (byte ∷ []) item (after decoder byte)
 by_byte decoder front byte item same says =
     subst (λ (i : Taken). decoding_of (front ++ byte ∷ []) ≡ record { progress = after decoder byte; recording = with_taken (recording_of front) i }) (sym says)
-        (subst (λ (p : Progress). decoding_of (front ++ byte ∷ []) ≡ record { progress = after p byte; recording = with_taken (recording_of front) (answer p byte) })
-            (sym same) (more_bytes front (byte ∷ [])))
+    (subst (λ (p : Progress). decoding_of (front ++ byte ∷ []) ≡ record { progress = after p byte; recording = with_taken (recording_of front) (answer p byte) })
+    (sym same) (more_bytes front (byte ∷ [])))
 
 -- why an interval stops the command
 pub interval_stops : {B C : Type 0} (printing : C → Printing) (stands : Relation B C) → StandsWell printing stands → PartGrows printing
@@ -260,14 +266,14 @@ pub by_number : (decoder : Progress) (front bytes : List ℕ) (x : ℕ) → deco
     → Completes front bytes (Interval x) (record decoder { taken = decoder.taken + 4 })
 by_number decoder front bytes x same is =
     subst (λ (p : Progress). decoding_of (front ++ bytes) ≡ record { progress = record p { taken = p.taken + 4 }; recording = with_taken (recording_of front) (Interval x) })
-        (sym same) (more_bytes front bytes ∙ is)
+    (sym same) (more_bytes front bytes ∙ is)
 
 pub by_bad_number : (decoder : Progress) (front bytes : List ℕ) (f : FileFault) → decoder ≡ (decoding_of front).progress
     → fold with_byte (decoding_of front) bytes ≡ with_number (decoding_of front) (Err f)
     → Completes front bytes (Fault f) (record decoder { taken = decoder.taken + 4; fault = Some f })
 by_bad_number decoder front bytes f same is =
     subst (λ (p : Progress). decoding_of (front ++ bytes) ≡ record { progress = record p { taken = p.taken + 4; fault = Some f }; recording = with_taken (recording_of front) (Fault f) })
-        (sym same) (more_bytes front bytes ∙ is)
+    (sym same) (more_bytes front bytes ∙ is)
 
 -- with some numbers passed over, a decoder is between two intervals as before
 pub passed_over : (d : Progress) (count : ℕ) → IsBetween d → count % 4 ≡ 0 → IsBetween (record d { taken = d.taken + count })

@@ -29,8 +29,8 @@ pub front_of_piece : (a b c : Option (List ℕ)) (whole first rest piece more : 
     → Appends a b first → AppendsFront b c piece → AppendsFront a c whole
 front_of_piece a b c whole first rest piece more all next pushed f =
     let e : whole ≡ (first ++ f.0) ++ (f.1.0 ++ more) =
-        all ∙ ap (λ (l : List ℕ). first ++ l) (next ∙ ap (λ (l : List ℕ). l ++ more) f.1.1 ∙ append_assoc f.0 f.1.0 more)
-        ∙ sym (append_assoc first f.0 (f.1.0 ++ more)) in
+    all ∙ ap (λ (l : List ℕ). first ++ l) (next ∙ ap (λ (l : List ℕ). l ++ more) f.1.1 ∙ append_assoc f.0 f.1.0 more)
+    ∙ sym (append_assoc first f.0 (f.1.0 ++ more)) in
     (first ++ f.0, (f.1.0 ++ more, e), Appends-trans a b c first f.0 pushed f.2)
 
 -- what came first, and the next piece of the rest

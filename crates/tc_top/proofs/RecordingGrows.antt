@@ -65,7 +65,7 @@ grows_itself r = stays r r.verdict
 
 by_interval : (r : Recording) (x : ℕ) (below : Bool)
     → Grows r (if below then record { header = r.header; intervals = r.intervals ++ x ∷ []; verdict = r.verdict }
-        else record { header = r.header; intervals = r.intervals; verdict = past_limit })
+    else record { header = r.header; intervals = r.intervals; verdict = past_limit })
 by_interval r x true = record { keeps = λ h e. e; rest = x ∷ []; grown = refl }
 by_interval r x false = stays r past_limit
 
@@ -91,4 +91,4 @@ pub grows : (d : Decoding) (more : List ℕ) → Grows d.recording (fold with_by
 grows d [] = grows_itself d.recording
 grows d (x ∷ more) =
     grows_more d.recording (with_byte d x).recording (fold with_byte (with_byte d x) more).recording
-        (by_verdict d.recording (answer d.progress x) d.recording.verdict) (grows (with_byte d x) more)
+    (by_verdict d.recording (answer d.progress x) d.recording.verdict) (grows (with_byte d x) more)

@@ -66,11 +66,11 @@ stop_at count fault = if nat_lt count MAX_INTERVALS then Refused fault else Limi
 -- what was written is a part of the output
 pub printed_well : {B C : Type 0} (printing : C → Printing) (stands : B → C → IntervalHeader → List ℕ → List ℕ → Type 0)
     → ((behind : B) (choice : C) (header : IntervalHeader) (intervals written : List ℕ) → stands behind choice header intervals written
-        → Printing.part (printing choice) header intervals written)
+    → Printing.part (printing choice) header intervals written)
     → (behind : Option B) (choice : C) (r : Recording) (written : List ℕ) → Printed stands behind choice r written
     → IsPartOf (printing choice) r written
 printed_well printing stands well None choice r written printed =
     subst (λ (h : Option IntervalHeader). IsPartBehind (printing choice) h r.intervals written) (sym printed.0) printed.2
 printed_well printing stands well (Some behind) choice r written printed =
     subst (λ (h : Option IntervalHeader). IsPartBehind (printing choice) h r.intervals written) (sym printed.1)
-        (well behind choice printed.0 r.intervals written printed.2)
+    (well behind choice printed.0 r.intervals written printed.2)

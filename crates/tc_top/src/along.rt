@@ -45,7 +45,11 @@ pub(crate) trait Behind: Drop {
         → (rest : List ℕ) × Printing.part (printing choice) header (intervals ++ more) (written ++ rest) };
 
     /// Takes the header, and writes what stands first.
-    fn begin<K: Sink>(choice: Self::Choice, header: IntervalHeader, out: &mut K) -> Result<Self, Stop>
+    fn begin<K: Sink>(
+        choice: Self::Choice,
+        header: IntervalHeader,
+        out: &mut K,
+    ) -> Result<Self, Stop>
         requires { IsTickRate header.tick_rate }
         ensures fits { IfOk result (λ behind. fits behind 0) }
         ensures begins { IfOk result (λ behind. (written : List ℕ)
@@ -152,7 +156,7 @@ impl<B: Behind> Along<B> {
         ensures stops { IfErr result (λ stop. (front written rest : List ℕ)
             → Stands B.stands self.old.decoder self.old.behind self.old.intervals self.old.choice front written
             → Stops (along_intervals (B.printing self.old.choice)) stop (K.written out.old) (K.written out.new)
-                (front ++ (numbers.now ++ rest)) written) }
+            (front ++ (numbers.now ++ rest)) written) }
         ensures cause { HasOutCause (K.faults out.old) (K.faults out.new) result }
         ensures no_pull { result ≡ Err Stop.ReadFault → ⊥ }
     {
@@ -170,6 +174,7 @@ impl<B: Behind> Along<B> {
     }
 
     /// Works on an interval, of `x` ticks.
+    #[inline(always)]
     fn interval<K: Sink>(&mut self, x: u32, out: &mut K) -> Result<(), Stop>
         requires least { 1 ≤ x }
         requires most { x ≤ MAX_INTERVAL }
@@ -189,14 +194,15 @@ impl<B: Behind> Along<B> {
         ensures cause { HasOutCause (K.faults out.old) (K.faults out.new) result }
         ensures no_pull { result ≡ Err Stop.ReadFault → ⊥ }
     {
-        match &mut self.behind {
-            Some(behind) if self.intervals < MAX_INTERVALS => {
-                behind.interval(x, out)?;
-                self.intervals += 1;
-                Ok(())
-            }
-            _ => Err(Stop::Limit),
+        if self.intervals == MAX_INTERVALS {
+            return Err(Stop::Limit);
         }
+        match &mut self.behind {
+            Some(behind) => behind.interval(x, out)?,
+            None => unreachable!(),
+        }
+        self.intervals += 1;
+        Ok(())
     }
 
     /// Why a fault of the file stops the job: an interval past the limit is not looked at.

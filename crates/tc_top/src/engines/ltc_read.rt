@@ -35,6 +35,7 @@ pub(crate) struct Report {
 
 impl Report {
     /// Takes an interval, of `x` ticks, and pushes the lines of what it brought.
+    #[inline(always)]
     fn feed<K: Sink>(&mut self, x: u32, out: &mut K) -> Result<(), Stop>
         requires least { 1 ≤ x }
         requires most { x ≤ MAX_INTERVAL }
@@ -165,7 +166,11 @@ impl Behind for Report {
 
     ghost part_grows = { λ _ header intervals more written part. part_grows header intervals more written part };
 
-    fn begin<K: Sink>(profile: Profile, header: IntervalHeader, _out: &mut K) -> Result<Report, Stop> {
+    fn begin<K: Sink>(
+        profile: Profile,
+        header: IntervalHeader,
+        _out: &mut K,
+    ) -> Result<Report, Stop> {
         Ok(Report {
             header,
             reader: DirectionReader::new(header.system, profile),
@@ -175,6 +180,7 @@ impl Behind for Report {
         })
     }
 
+    #[inline(always)]
     fn interval<K: Sink>(&mut self, x: u32, out: &mut K) -> Result<(), Stop> {
         self.feed(x, out)
     }

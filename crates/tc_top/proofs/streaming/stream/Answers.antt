@@ -42,4 +42,4 @@ pub returns-in-Err-clause-status : goal.returns-in-Err-clause-status
 returns-in-Err-clause-status g c = λ input told no_read no_write.
     let e = c.in-Err.ensures.stops in
     rw c.of_stop.ensures (stop_is_final (meaning_of c.args.job.now) (settles c.args.job.now) c.in-Err.stop _ input e.0 e.1 _ _ _ _
-        (rw told at e.2) e.4 c.in-Err.ensures.source c.in-Err.ensures.out no_read no_write)
+    (rw told at e.2) e.4 c.in-Err.ensures.source c.in-Err.ensures.out no_read no_write)

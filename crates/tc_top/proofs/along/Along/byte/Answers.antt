@@ -24,8 +24,8 @@ returns-in_err-begin-in-Header-clause-stops g c =
     let twelve = rw c.requires.good at c.in-Header.ensures.completes in
     through c.from_residual.result c.from_residual.ensures.1 (λ stop same front written rest stands.
     rw (same, f.0) (a_header_fault g.B.Behind.printing g.B.Behind.stands g.B.Behind.part_grows s.decoder _ s.behind s.intervals s.choice c.in-Header.header
-        _ _ front (c.args.byte ∷ []) rest written f.1.0 c.requires.header twelve.0 stands
-        (by_byte s.decoder front c.args.byte _ stands.progress c.in-Header.ensures.answers) f.1.1 f.1.2))
+    _ _ front (c.args.byte ∷ []) rest written f.1.0 c.requires.header twelve.0 stands
+    (by_byte s.decoder front c.args.byte _ stands.progress c.in-Header.ensures.answers) f.1.1 f.1.2))
 
 -- the byte completes an interval
 pub returns-in-Interval-clause-works : goal.returns-in-Interval-clause-works
@@ -38,9 +38,9 @@ returns-in-Interval-clause-works g c =
       w.1,
       rw (c.interval.ensures.decoder, c.interval.ensures.choice, c.byte.ensures.next)
           (an_interval g.B.Behind.stands s.decoder (after s.decoder c.args.byte) s.behind c.interval.new.self.behind s.intervals c.interval.new.self.intervals
-              s.choice c.in-Interval.x front (c.args.byte ∷ []) written (written ++ w.0) stands
-              (by_byte s.decoder front c.args.byte _ stands.progress c.in-Interval.ensures.answers) h.0.0 h.0.1
-              (rw c.interval.ensures.choice at w.2)),
+          s.choice c.in-Interval.x front (c.args.byte ∷ []) written (written ++ w.0) stands
+          (by_byte s.decoder front c.args.byte _ stands.progress c.in-Interval.ensures.answers) h.0.0 h.0.1
+          (rw c.interval.ensures.choice at w.2)),
     ))
 
 -- the interval is past the limit, or its output was not taken
@@ -50,8 +50,8 @@ returns-in-Interval-clause-stops g c =
     let late = rw c.requires.good at c.in-Interval.ensures.completes in
     if_err c.interval.result c.interval.ensures.stops (λ stop why front written rest stands.
     interval_stops g.B.Behind.printing g.B.Behind.stands g.B.Behind.stands_well g.B.Behind.part_grows s.decoder _ s.behind s.intervals s.choice
-        c.in-Interval.x _ _ front (c.args.byte ∷ []) rest written stop c.requires.header (omega (arith, late.0)) stands
-        (by_byte s.decoder front c.args.byte _ stands.progress c.in-Interval.ensures.answers) why)
+    c.in-Interval.x _ _ front (c.args.byte ∷ []) rest written stop c.requires.header (omega (arith, late.0)) stands
+    (by_byte s.decoder front c.args.byte _ stands.progress c.in-Interval.ensures.answers) why)
 
 -- the byte completes a fault
 pub returns-in-Fault-clause-stops : goal.returns-in-Fault-clause-stops

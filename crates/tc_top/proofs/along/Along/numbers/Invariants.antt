@@ -17,7 +17,7 @@ invariant-numbers g l = record {
   counts : l.self.intervals ≡ intervals_in (l.fn.self.decoder.taken + l.at);
   works : Works (λ front written. Stands g.B.Behind.stands l.fn.self.decoder l.fn.self.behind l.fn.self.intervals l.fn.self.choice front written)
       (λ front written. Stands g.B.Behind.stands (record l.fn.self.decoder { taken = l.fn.self.decoder.taken + l.at }) l.self.behind l.self.intervals
-          l.fn.self.choice front written)
+      l.fn.self.choice front written)
       (g.K.Sink.written l.fn.out) (g.K.Sink.written l.out) (take l.at l.numbers);
   same : g.K.Sink.faults l.out ≡ g.K.Sink.faults l.fn.out;
 }

@@ -17,6 +17,8 @@ returns-clause-works g c =
 pub returns-clause-front : goal.returns-clause-front
 returns-clause-front g c =
     let r = c.args.self.now in
-    if_err c.feed.result (err_both _ _ c.feed.result c.feed.ensures.why c.feed.ensures.front) (λ stop h.
-    (h.0, (λ profile header intervals written stands.
-    (lines r.header h.1.0, part_of_more r header intervals (c.args.x ∷ []) written h.1.0 stands, h.1.1))))
+    if_err c.feed.result (err_both _ _ c.feed.result c.feed.ensures.why c.feed.ensures.front) (λ stop h. (
+      h.0,
+      (λ profile header intervals written stands.
+          (lines r.header h.1.0, part_of_more r header intervals (c.args.x ∷ []) written h.1.0 stands, h.1.1)),
+    ))
