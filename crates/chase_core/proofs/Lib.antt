@@ -1,1 +1,4 @@
 pub mod CauseOfALoss
+pub mod ErrorShrinks
+pub mod LockIsHeld
+pub mod PullingShrinks

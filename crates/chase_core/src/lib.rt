@@ -16,6 +16,7 @@
 
 mod chase;
 mod command;
+pub mod laws;
 mod mode;
 mod outcome;
 mod report;
