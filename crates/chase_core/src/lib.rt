@@ -20,6 +20,8 @@ pub mod laws;
 mod mode;
 mod outcome;
 mod report;
+#[cfg(test)]
+mod tests;
 
 pub use chase::Chase;
 pub use command::{Command, Master};
