@@ -82,10 +82,30 @@ frame_below Drop30 n direction = grind (arith, ints)
 -- where the transport moves by m, and the master by f, what led from one to the other is changed by their difference
 follow : (count : Count) (a b c e : ℕ) (d m f : ℤ) → Leads (day_of count) a b d → Leads (day_of count) a c m → Leads (day_of count) b e f →
     Leads (day_of count) c e ((d +ℤ f) -ℤ m)
-follow C24 a b c e d m f x y z = record { back = x.back + z.back + y.over; over = x.over + z.over + y.back; leads = omega (arith, ints, x.leads, y.leads, z.leads) }
-follow C25 a b c e d m f x y z = record { back = x.back + z.back + y.over; over = x.over + z.over + y.back; leads = omega (arith, ints, x.leads, y.leads, z.leads) }
-follow C30 a b c e d m f x y z = record { back = x.back + z.back + y.over; over = x.over + z.over + y.back; leads = omega (arith, ints, x.leads, y.leads, z.leads) }
-follow Drop30 a b c e d m f x y z = record { back = x.back + z.back + y.over; over = x.over + z.over + y.back; leads = omega (arith, ints, x.leads, y.leads, z.leads) }
+follow C24 a b c e d m f x y z =
+    record {
+      back = x.back + z.back + y.over;
+      over = x.over + z.over + y.back;
+      leads = omega (arith, ints, x.leads, y.leads, z.leads);
+    }
+follow C25 a b c e d m f x y z =
+    record {
+      back = x.back + z.back + y.over;
+      over = x.over + z.over + y.back;
+      leads = omega (arith, ints, x.leads, y.leads, z.leads);
+    }
+follow C30 a b c e d m f x y z =
+    record {
+      back = x.back + z.back + y.over;
+      over = x.over + z.over + y.back;
+      leads = omega (arith, ints, x.leads, y.leads, z.leads);
+    }
+follow Drop30 a b c e d m f x y z =
+    record {
+      back = x.back + z.back + y.over;
+      over = x.over + z.over + y.back;
+      leads = omega (arith, ints, x.leads, y.leads, z.leads);
+    }
 
 -- two short ways to one place are one way
 one_way : (count : Count) (a b : ℕ) (d e : ℤ) → Leads (day_of count) a b d → Leads (day_of count) a b e →
@@ -117,7 +137,8 @@ motion_cancels e m taken slip = omega (arith, ints)
 -- the error of the next frame: what the order leaves of this one's, less the slip
 pub error_after : (count : Count) (p n : ℕ) (direction : Direction) (taken slip : ℤ) → p < day_of count → n < day_length count →
     unsigned_abs taken ≤ 1_280 → unsigned_abs slip ≤ 8 →
-    (unsigned_abs (error_to count p n -ℤ (taken +ℤ slip)) ≤ 1_000) ⊎ (unsigned_abs (error_to count p n -ℤ (taken +ℤ slip)) < unsigned_abs (error_to count p n)) →
+    (unsigned_abs (error_to count p n -ℤ (taken +ℤ slip)) ≤ 1_000) ⊎
+    (unsigned_abs (error_to count p n -ℤ (taken +ℤ slip)) < unsigned_abs (error_to count p n)) →
     error_to count (moved (day_of count) p ((motion_of direction +ℤ taken) +ℤ slip)) (moved (day_length count) n (frame_in direction)) ≡
     error_to count p n -ℤ (taken +ℤ slip)
 error_after count p n direction taken slip hp hn ht hs small =
@@ -135,7 +156,8 @@ error_after count p n direction taken slip hp hn ht hs small =
     let rest : (error_to count p n +ℤ motion_of direction) -ℤ order ≡ error_to count p n -ℤ (taken +ℤ slip) =
     motion_cancels (error_to count p n) (motion_of direction) taken slip in
     one_way count there (80 * next) _ _ (leads_within _ _ _ _ (shortest_within count there (80 * next) hc he))
-    (subst (λ d. Leads (day_of count) there (80 * next) d) rest way) (shortest_is_short count there (80 * next) hc he) (short_enough count _ _ (shortest_is_short count p (80 * n) hp hb) small)
+    (subst (λ d. Leads (day_of count) there (80 * next) d) rest way)
+    (shortest_is_short count there (80 * next) hc he) (short_enough count _ _ (shortest_is_short count p (80 * n) hp hb) small)
 
 -- half of the longest day
 pub error_most : (count : Count) (p n : ℕ) → p < day_of count → n < day_length count → unsigned_abs (error_to count p n) ≤ 103_680_000

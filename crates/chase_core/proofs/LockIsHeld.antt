@@ -14,13 +14,18 @@ use Rattle.chase_core.specs.declared.mode.Mode.{Mode}
 use Rattle.chase_core.specs.declared.mode.Mode.TheVariants.{Waiting, Locating, Pulling, Locked}
 use Rattle.chase_core.specs.declared.outcome.Outcome.{Outcome}
 use Rattle.chase_core.specs.declared.report.State.TheVariants as states
-use Rattle.chase_core.specs.Step.{error_to, held, motion_of, row, located, pulled, kept, after_command, outcome_of, state_of}
-use Rattle.chase_core.specs.Trace.{Loop, Row, Traced, outcome_in, after_row, traced, trace, next_of, GoesOn, IsRowOf, AreSteady, lock_bound}
+use Rattle.chase_core.specs.Step.{error_to, held, motion_of, table_row, located, pulled, kept, after_command, outcome_of, state_of}
+use Rattle.chase_core.specs.Trace.{Loop, Row, Traced, outcome_in, after_row, traced, trace, next_of, GoesOn, IsRowOf, lock_bound}
 use Rattle.chase_core.proofs.ErrorShrinks.{error_after, frame_below, moved_below}
+
+-- each of the rows after a first one goes on steadily from the one before it
+unfoldable pub AreSteady : Count → Row → List Row → Type 0
+AreSteady count row [] = Unit {0}
+AreSteady count row (next ∷ rows) = GoesOn count row next × AreSteady count next rows
 
 -- what a row that ends Locked answers
 abbrev pub locked_row : Direction → ℤ → Outcome
-locked_row direction error = row Locked error (motion_of direction +ℤ held 24 error) None
+locked_row direction error = table_row Locked error (motion_of direction +ℤ held 24 error) None
 
 -- the row is worked with this master, ends Locked, and its error is within the bound
 pub record HoldsLock (loop : Loop) (r : Row) (bound : ℕ) : Type 0 where
@@ -138,7 +143,8 @@ says_locked loop r bound h = record {
 next_half : (loop : Loop) (r next : Row) → HoldsLock loop r 40 → GoesOn loop.chase.count r next → HoldsLock (after_row loop r) next 24
 next_half loop r next h g = hold_next loop r next 40 24 (omega arith) (λ e near. rest_of_half e r.slip near g.slip) h g
 
-next_slip : (loop : Loop) (r next : Row) (bound : ℕ) → bound ≤ 24 → HoldsLock loop r bound → GoesOn loop.chase.count r next → HoldsLock (after_row loop r) next 8
+next_slip : (loop : Loop) (r next : Row) (bound : ℕ) → bound ≤ 24 →
+    HoldsLock loop r bound → GoesOn loop.chase.count r next → HoldsLock (after_row loop r) next 8
 next_slip loop r next bound small h g =
     hold_next loop r next bound 8 (omega arith) (λ e near. rest_of_slip e r.slip (at_most _ bound 24 near small) g.slip) h g
 

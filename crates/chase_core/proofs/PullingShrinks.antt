@@ -1,5 +1,6 @@
 -- A row that ends Pulling takes 1,280 subframes of its error and gains 8 by the slip at most, so each one comes 1,272 nearer.
-use Rattle.std.proofs.Common.{◌≡◌, ℕ, suc, zero, ◌+◌, ◌*◌, ◌<◌, ◌≤◌, ◌⊎◌, inl, inr, ℤ, ◌+ℤ◌, ◌-ℤ◌, refl, sym, ap, ◌∙◌, subst, Option, Some, None, List, [], ◌∷◌, arith}
+use Rattle.std.proofs.Common.{◌≡◌, ℕ, suc, zero, ◌+◌, ◌*◌, ◌<◌, ◌≤◌, ◌⊎◌, inl, inr, ℤ, ◌+ℤ◌, ◌-ℤ◌, refl, sym, ap, ◌∙◌}
+use Rattle.std.proofs.Common.{subst, Option, Some, None, List, [], ◌∷◌, arith}
 use Rattle.std.specs.Prelude.{unsigned_abs, slice_get, IfSome}
 use Rattle.std.proofs.lemmas.Int.{ints, clamps}
 use Rattle.std.proofs.lemmas.Grind.{common_steps}
@@ -13,10 +14,10 @@ use Rattle.chase_core.specs.declared.mode.Mode.{Mode}
 use Rattle.chase_core.specs.declared.mode.Mode.TheVariants.{Pulling}
 use Rattle.chase_core.specs.declared.outcome.Outcome.{Outcome}
 use Rattle.chase_core.specs.declared.report.State.TheVariants as states
-use Rattle.chase_core.specs.Step.{error_to, held, motion_of, row, pulled, after_command, outcome_of}
-use Rattle.chase_core.specs.Trace.{Loop, Row, Traced, outcome_in, after_row, traced, trace, next_of, GoesOn, IsRowOf, AreSteady, lock_bound}
+use Rattle.chase_core.specs.Step.{error_to, held, motion_of, table_row, pulled, after_command, outcome_of}
+use Rattle.chase_core.specs.Trace.{Loop, Row, Traced, outcome_in, after_row, traced, trace, next_of, GoesOn, IsRowOf, lock_bound}
 use Rattle.chase_core.proofs.ErrorShrinks.{error_after, frame_below, moved_below}
-use Rattle.chase_core.proofs.LockIsHeld.{HoldsLock, SaysLocked, pulled_near, at_most, same_master, first_line, lock_is_held}
+use Rattle.chase_core.proofs.LockIsHeld.{AreSteady, HoldsLock, SaysLocked, pulled_near, at_most, same_master, first_line, lock_is_held}
 
 -- the row is worked Pulling with this master, and its error is within the bound
 pub record Pulls (loop : Loop) (r : Row) (bound : ℕ) : Type 0 where
@@ -28,7 +29,7 @@ pub record Pulls (loop : Loop) (r : Row) (bound : ℕ) : Type 0 where
   pub answer : outcome_in loop r ≡ pulled master.direction (error_to loop.chase.count loop.position master.number)
 
 abbrev pulling_row : Direction → ℤ → Outcome
-pulling_row direction error = row Pulling error (motion_of direction +ℤ held 1_280 error) None
+pulling_row direction error = table_row Pulling error (motion_of direction +ℤ held 1_280 error) None
 
 pulled_far : (direction : Direction) (e : ℤ) → 40 < unsigned_abs e → pulled direction e ≡ pulling_row direction e
 pulled_far direction e h = grind (arith, common_steps)
@@ -121,7 +122,8 @@ held_from n i line bound s = record { no_loss = s.no_loss; locked = λ _. s.lock
 
 first_pulls : (loop : Loop) (r : Row) (n bound : ℕ) (line : Traced) → Pulls loop r bound → Some (traced loop r) ≡ Some line → SaysPulled (suc n) 0 line
 first_pulls loop r n bound line h e =
-    let quiet : (traced loop r).report.loss ≡ None = ap (λ (o : Outcome). o.loss) h.answer ∙ pulled_quiet h.master.direction (error_to loop.chase.count loop.position h.master.number) in
+    let quiet : (traced loop r).report.loss ≡ None =
+    ap (λ (o : Outcome). o.loss) h.answer ∙ pulled_quiet h.master.direction (error_to loop.chase.count loop.position h.master.number) in
     record { no_loss = subst (λ (l : Traced). l.report.loss ≡ None) (first_line _ line e) quiet; locked = λ (p : suc n ≤ 0). absurd (omega arith) }
 
 shorter : (n : ℕ) → 40 + 1_272 * suc n ≡ (40 + 1_272 * n) + 1_272
@@ -132,7 +134,8 @@ nearer_by_one : (n : ℕ) →
     slice_get (trace loop (r ∷ rows)) i ≡ Some line → SaysPulled n i line) →
     (loop : Loop) (r : Row) (rows : List Row) (line : Traced) (i : ℕ) (h : Pulls loop r ((40 + 1_272 * n) + 1_272)) → AreSteady loop.chase.count r rows →
     slice_get (trace loop (r ∷ rows)) i ≡ Some line →
-    (unsigned_abs (error_to loop.chase.count loop.position h.master.number) ≤ 40) ⊎ (40 < unsigned_abs (error_to loop.chase.count loop.position h.master.number)) →
+    (unsigned_abs (error_to loop.chase.count loop.position h.master.number) ≤ 40) ⊎
+    (40 < unsigned_abs (error_to loop.chase.count loop.position h.master.number)) →
     SaysPulled (suc n) i line
 unfolding AreSteady trace
 nearer_by_one n rest loop r rows line i h s e (inl near) =

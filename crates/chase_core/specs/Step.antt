@@ -65,34 +65,34 @@ motion_of Forward = pos 80
 motion_of Backward = neg_ℤ (pos 80)
 
 -- what a row of the table says: the new state, error, order and loss
-abbrev pub row : Mode → ℤ → ℤ → Option Loss → Outcome
-row mode error order loss = record { mode = mode; error = error; order = order; loss = loss }
+abbrev pub table_row : Mode → ℤ → ℤ → Option Loss → Outcome
+table_row mode error order loss = record { mode = mode; error = error; order = order; loss = loss }
 
 -- Locating: at the target it waits, and else it goes on, at most 32 frames at once
 abbrev pub located : ℕ → ℤ → Outcome
 located n error = cond (is_near error)
-    (row Waiting error (pos 0) None)
-    (row (Locating n) error (held 2560 error) None)
+    (table_row Waiting error (pos 0) None)
+    (table_row (Locating n) error (held 2560 error) None)
 
 -- Pulling with a master: near it the chase locks, and else it pulls, 16 frames at most
 abbrev pub pulled : Direction → ℤ → Outcome
 pulled direction error = cond (is_near error)
-    (row Locked error (motion_of direction +ℤ held 24 error) None)
-    (row Pulling error (motion_of direction +ℤ held 1_280 error) None)
+    (table_row Locked error (motion_of direction +ℤ held 24 error) None)
+    (table_row Pulling error (motion_of direction +ℤ held 1_280 error) None)
 
 -- Locked with a master: near it the chase stays locked, and else the lock is lost
 abbrev pub kept : Direction → ℤ → Outcome
 kept direction error = cond (is_near error)
-    (row Locked error (motion_of direction +ℤ held 24 error) None)
-    (row Pulling error (motion_of direction +ℤ held 1_280 error) (Some (Window error)))
+    (table_row Locked error (motion_of direction +ℤ held 24 error) None)
+    (table_row Pulling error (motion_of direction +ℤ held 1_280 error) (Some (Window error)))
 
 -- then the frame is worked: what comes of it in each state
 abbrev pub outcome_of : Count → Mode → Option Master → ℕ → Outcome
-outcome_of count Waiting master position = row Waiting (pos 0) (pos 0) None
+outcome_of count Waiting master position = table_row Waiting (pos 0) (pos 0) None
 outcome_of count (Locating n) master position = located n (error_to count position n)
-outcome_of count Pulling None position = row Pulling (pos 0) (pos 0) None
+outcome_of count Pulling None position = table_row Pulling (pos 0) (pos 0) None
 outcome_of count Pulling (Some master) position = pulled master.direction (error_to count position master.number)
-outcome_of count Locked None position = row Pulling (pos 0) (pos 0) (Some NoCode)
+outcome_of count Locked None position = table_row Pulling (pos 0) (pos 0) (Some NoCode)
 outcome_of count Locked (Some master) position = kept master.direction (error_to count position master.number)
 
 -- the step: the command, and then the frame

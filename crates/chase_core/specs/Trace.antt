@@ -1,6 +1,6 @@
 -- The closed loop: chase and transport take turns, a row a frame. First the chase steps, and then the transport moves by
 -- its order and slips.
-use Rattle.std.specs.Prelude.{◌≡◌, ℕ, ◌<◌, ℤ, pos, neg_ℤ, List, [], ◌∷◌, Option, Some, None, zero, suc, IfSome}
+use Rattle.std.specs.Prelude.{◌≡◌, ℕ, ◌<◌, ◌≤◌, ℤ, pos, neg_ℤ, List, [], ◌∷◌, Option, Some, None, zero, suc, IfSome, slice_get, take}
 use Rattle.tc_address.specs.declared.count.Count.{Count}
 use Rattle.tc_address.specs.declared.direction.Direction.{Direction}
 use Rattle.tc_address.specs.declared.direction.Direction.TheVariants.{Forward, Backward}
@@ -78,14 +78,22 @@ pub record GoesOn (count : Count) (row next : Row) : Type 0 where
   pub steady : next.master ≡ Some (next_of count master)
   pub slip : HonoursBound row.slip
 
--- each of the rows after a first one goes on steadily from the one before it
-unfoldable pub AreSteady : Count → Row → List Row → Type 0
-AreSteady count row [] = Unit {0}
-AreSteady count row (next ∷ rows) = GoesOn count row next × AreSteady count next rows
+-- in a list of rows, each one from a first to a last goes on steadily to the next
+abbrev pub IsSteadyFromTo : Count → List Row → ℕ → ℕ → Type 0
+IsSteadyFromTo count rows first last =
+    (i : ℕ) (row next : Row) → first ≤ i → i < last → slice_get rows i ≡ Some row → slice_get rows (suc i) ≡ Some next → GoesOn count row next
 
 -- the row's master reads a label of the count, if it reads one
 abbrev pub IsRowOf : Count → Row → Type 0
 IsRowOf count row = IfSome row.master (λ master. master.number < day_length count)
+
+-- each row of a list does
+abbrev pub AreRowsOf : Count → List Row → Type 0
+AreRowsOf count rows = (i : ℕ) (row : Row) → slice_get rows i ≡ Some row → IsRowOf count row
+
+-- the loop in which a row of a list is worked
+abbrev pub loop_at : Loop → List Row → ℕ → Loop
+loop_at loop rows i = after_rows loop (take i rows)
 
 -- how far a locked transport is from its master, so many rows after the first: the lock takes hold in the first row, the
 -- order takes what is left of half a frame in two, and from then on the slip alone is left

@@ -1,6 +1,6 @@
 //! What a frame comes to in each mode, by the error of that frame. Next: `chase.rt`.
 ghost use Rattle.std.specs.Prelude.{◌≡◌, ◌≤◌, pos, ◌+ℤ◌, None, unsigned_abs};
-ghost use Rattle.chase_core.specs.Step.{held, motion_of, row, located, pulled, kept, is_near};
+ghost use Rattle.chase_core.specs.Step.{held, motion_of, table_row, located, pulled, kept, is_near};
 
 use crate::mode::Mode;
 use crate::report::Loss;
@@ -46,7 +46,7 @@ fn is_near(error: i32) -> bool
 
 /// Nothing is moved, and no error is taken.
 pub(crate) fn still(mode: Mode, loss: Option<Loss>) -> Outcome
-    ensures value { result ≡ row mode (pos 0) (pos 0) loss }
+    ensures value { result ≡ table_row mode (pos 0) (pos 0) loss }
     ensures order { unsigned_abs result.order ≤ 2_560 }
 {
     Outcome {
@@ -82,7 +82,7 @@ pub(crate) fn located(target: u32, error: i32) -> Outcome
 /// With the master, and back by the error, up to a bound.
 fn followed(mode: Mode, direction: Direction, error: i32, most: u32) -> Outcome
     requires { most ≤ 1_280 }
-    ensures value { result ≡ row mode error (motion_of direction +ℤ held most error) None }
+    ensures value { result ≡ table_row mode error (motion_of direction +ℤ held most error) None }
     ensures order { unsigned_abs result.order ≤ 2_560 }
 {
     Outcome {
