@@ -8,14 +8,14 @@ pub enum Command {
     Play,
     /// Leave the transport alone.
     Wait,
-    /// Go to the first subframe of the label of this number.
+    /// Go to the first subframe of the label of this number, which is below the labels of a day.
     Locate(u32),
 }
 
 /// What the master's timecode reads.
 #[derive(Clone, Copy, Debug, PartialEq, Eq)]
 pub struct Master {
-    /// The number of the label, of the chase's count.
+    /// The number of the label, of the chase's count and below the labels of a day.
     pub number: u32,
     /// The way in which the master moves, one frame for each of the chase's.
     pub direction: Direction,
