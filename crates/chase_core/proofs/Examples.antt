@@ -1,0 +1,49 @@
+-- Traces worked by hand, as theorems on the definition.
+use Rattle.std.proofs.Common.{◌≡◌, ℕ, ℤ, pos, neg_ℤ, Option, Some, None, [], ◌∷◌, refl}
+use Rattle.tc_address.specs.declared.count.Count.{Count}
+use Rattle.tc_address.specs.declared.count.Count.TheVariants.{C25, Drop30}
+use Rattle.tc_address.specs.declared.direction.Direction.{Direction}
+use Rattle.tc_address.specs.declared.direction.Direction.TheVariants.{Forward, Backward}
+use Rattle.chase_core.specs.declared.command.Command.{Command}
+use Rattle.chase_core.specs.declared.command.Command.TheVariants.{Play, Locate}
+use Rattle.chase_core.specs.declared.mode.Mode.TheVariants as modes
+use Rattle.chase_core.specs.declared.report.State.{State}
+use Rattle.chase_core.specs.declared.report.State.TheVariants.{Waiting, Locating, Pulling, Locked}
+use Rattle.chase_core.specs.declared.report.Loss.{Loss}
+use Rattle.chase_core.specs.declared.report.Loss.TheVariants.{NoCode, Window}
+use Rattle.chase_core.specs.Trace.{Loop, Row, Traced, trace}
+
+begun : Count → ℕ → Loop
+begun count position = record { chase = record { count = count; mode = modes.Waiting }; position = position }
+
+frame : Option Command → Direction → ℕ → ℤ → Row
+frame command direction number slip = record { command = command; master = Some (record { number = number; direction = direction }); slip = slip }
+
+bare : Option Command → Row
+bare command = record { command = command; master = None; slip = pos 0 }
+
+line : State → ℤ → ℤ → Option Loss → ℕ → Traced
+line state error order loss position = record { report = record { state = state; error = error; order = order; loss = loss }; position = position }
+
+-- a slip of 60 loses the lock for a frame, and a master that reads nothing loses it
+lost_twice : trace (begun C25 0) (frame (Some Play) Forward 0 (pos 0) ∷ frame None Forward 1 (pos 60) ∷ frame None Forward 2 (pos 0) ∷
+    frame None Forward 3 (pos 0) ∷ bare None ∷ []) ≡
+    line Locked (pos 0) (pos 80) None 80 ∷ line Locked (pos 0) (pos 80) None 220 ∷
+    line Pulling (neg_ℤ (pos 60)) (pos 20) (Some (Window (neg_ℤ (pos 60)))) 240 ∷ line Locked (pos 0) (pos 80) None 320 ∷
+    line Pulling (pos 0) (pos 0) (Some NoCode) 320 ∷ []
+unfolding begun frame bare line trace
+lost_twice = refl
+
+-- backward over midnight of a drop-frame day
+over_midnight : trace (begun Drop30 80) (frame (Some Play) Backward 1 (neg_ℤ (pos 5)) ∷ frame None Backward 0 (pos 0) ∷
+    frame None Backward 2_589_407 (pos 8) ∷ []) ≡
+    line Locked (pos 0) (neg_ℤ (pos 80)) None 207_152_635 ∷ line Locked (pos 5) (neg_ℤ (pos 75)) None 207_152_560 ∷
+    line Locked (pos 0) (neg_ℤ (pos 80)) None 207_152_488 ∷ []
+unfolding begun frame bare line trace
+over_midnight = refl
+
+-- on the way to a label, and there
+located_and_there : trace (begun C25 0) (bare (Some (Locate 25)) ∷ bare None ∷ []) ≡
+    line Locating (pos 2_000) (pos 2_000) None 2_000 ∷ line Waiting (pos 0) (pos 0) None 2_000 ∷ []
+unfolding begun frame bare line trace
+located_and_there = refl

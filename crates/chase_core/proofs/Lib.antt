@@ -1,0 +1,6 @@
+pub mod CauseOfALoss
+pub mod ErrorShrinks
+pub mod LockIsHeld
+pub mod PullingShrinks
+pub mod FromRowToRow
+mod Examples

@@ -1,0 +1,36 @@
+//! What a chase says of a frame. Next: `mode.rt`.
+
+/// What a chase does.
+#[derive(Clone, Copy, Debug, PartialEq, Eq)]
+pub enum State {
+    /// It leaves the transport alone.
+    Waiting,
+    /// It goes to a label, whatever the master does.
+    Locating,
+    /// It follows the master and is not at its place yet.
+    Pulling,
+    /// It follows the master within half a frame.
+    Locked,
+}
+
+/// Why the lock is lost.
+#[derive(Clone, Copy, Debug, PartialEq, Eq)]
+pub enum Loss {
+    /// The master reads nothing.
+    NoCode,
+    /// The error, in subframes, is more than half a frame.
+    Window(i32),
+}
+
+/// What a chase says of one frame.
+#[derive(Clone, Copy, Debug, PartialEq, Eq)]
+pub struct Report {
+    /// The state after the frame.
+    pub state: State,
+    /// The way from the transport to where it is wanted, in subframes. 0 where it is wanted nowhere.
+    pub error: i32,
+    /// Where to the transport moves in this frame, in subframes.
+    pub order: i32,
+    /// The lock was there before this frame, and is lost.
+    pub loss: Option<Loss>,
+}
