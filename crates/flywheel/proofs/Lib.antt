@@ -1,0 +1,3 @@
+pub mod DueInOrder
+pub mod GivenSoFar
+pub mod PairsOfWords
