@@ -44,38 +44,44 @@ given_up limit words before tick given has h =
 pub waits : (limit : ℕ) (reference : Option HeardWord) (n : ℕ) (words : List HeardWord) (before tick : ℕ) (given : List Frame) →
     HasGiven limit reference n words before given → before ≤ tick → is_next_due reference n tick ≡ false →
     HasGiven limit reference n words tick given × (frames limit words tick ≡ given)
-waits limit (Some word) n words before tick given has h over = (record {
-      earlier = has.earlier;
-      told = has.told;
-      given_are = has.given_are;
-      least = has.least;
-      within = has.within;
-      before = omega (arith, has.before);
-      due = still_due word n before tick h has.due;
-    }, given_after limit word n words before tick given has h over)
+waits limit (Some word) n words before tick given has h over = (
+  record {
+    earlier = has.earlier;
+    told = has.told;
+    given_are = has.given_are;
+    least = has.least;
+    within = has.within;
+    before = omega (arith, has.before);
+    due = still_due word n before tick h has.due;
+  },
+  given_after limit word n words before tick given has h over,
+)
 waits limit None n words before tick given (inl none) h over = (inl none, rw (none.0, none.1) refl)
-waits limit None n words before tick given (inr has) h over = (inr (record {
-      earlier = has.earlier;
-      word = has.word;
-      told = has.told;
-      given_are = has.given_are;
-      least = has.least;
-      due = is_due-later has.word (limit + 1) before tick h has.due;
-    }), given_up limit words before tick given has h)
+waits limit None n words before tick given (inr has) h over = (
+  inr (record {
+    earlier = has.earlier;
+    word = has.word;
+    told = has.told;
+    given_are = has.given_are;
+    least = has.least;
+    due = is_due-later has.word (limit + 1) before tick h has.due;
+  }),
+  given_up limit words before tick given has h,
+)
 
 -- one step more is due, and within the limit
 pub invents : (limit : ℕ) (word : HeardWord) (n : ℕ) (words : List HeardWord) (before tick : ℕ) (given : List Frame) →
     HasGivenAfter limit word n words before given → before ≤ tick → is_due word (n + 1) tick ≡ true → n + 1 ≤ limit →
     HasGivenAfter limit word (n + 1) words tick (given ++ invented_after word (n + 1) ∷ [])
 invents limit word n words before tick given has h due within = record {
-      earlier = has.earlier;
-      told = has.told;
-      given_are = rw (has.given_are, first_invented-more word n) (simp append_assoc);
-      least = has.least;
-      within = within;
-      before = omega (arith, has.before);
-      due = λ k l u. is_due-before word k (n + 1) tick u due;
-    }
+  earlier = has.earlier;
+  told = has.told;
+  given_are = rw (has.given_are, first_invented-more word n) (simp append_assoc);
+  least = has.least;
+  within = within;
+  before = omega (arith, has.before);
+  due = λ k l u. is_due-before word k (n + 1) tick u due;
+}
 
 -- one step more is due than the limit
 pub gives_up : (limit : ℕ) (word : HeardWord) (n : ℕ) (words : List HeardWord) (before tick : ℕ) (given : List Frame) →
@@ -129,14 +135,14 @@ pub hears : (limit : ℕ) (reference : Option HeardWord) (n : ℕ) (words : List
     HasGiven limit reference n words before given → before ≤ word.tick → 1 ≤ word.length → is_next_due reference n word.tick ≡ false →
     HasGivenAfter limit word 0 (words ++ word ∷ []) word.tick (given ++ heard_as (is_next_of reference n word) word ∷ [])
 hears limit reference n words before given word has h least over = record {
-      earlier = words;
-      told = refl;
-      given_are = hears_given limit reference n words before given word has h least over;
-      least = least;
-      within = omega arith;
-      before = omega arith;
-      due = λ k l u. absurd (omega arith);
-    }
+  earlier = words;
+  told = refl;
+  given_are = hears_given limit reference n words before given word has h least over;
+  least = least;
+  within = omega arith;
+  before = omega arith;
+  due = λ k l u. absurd (omega arith);
+}
 
 -- an invented frame has the label and the tick of its step
 pub frame_is : (word : HeardWord) (k : ℕ) (label : Address) (tick : ℕ) → label ≡ label_after word k → tick ≡ tick_after word k →

@@ -20,6 +20,14 @@ still limit = wheel_of limit None 0
 abbrev pub running : ℕ → HeardWord → ℕ → Wheel
 running limit word invented = wheel_of limit (Some word) invented
 
+-- how many frames may still be given before the next word: those up to the limit, and the end
+abbrev pub left_after : ℕ → Option HeardWord → ℕ → ℕ
+left_after limit None invented = 0
+left_after limit (Some word) invented = limit + 1 - invented
+
+abbrev pub frames_left : Wheel → ℕ
+frames_left wheel = left_after wheel.limit wheel.reference wheel.invented
+
 -- the next frame after a reference is due at a tick
 abbrev pub is_next_due : Option HeardWord → ℕ → ℕ → Bool
 is_next_due None invented tick = false

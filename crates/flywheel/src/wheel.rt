@@ -4,7 +4,7 @@ ghost use Rattle.flywheel.specs.declared.heard.HeardWord.{HeardWord};
 ghost use Rattle.flywheel.specs.declared.frame.Frame.{Frame};
 ghost use Rattle.flywheel.specs.declared.frame.Frame.TheVariants.{Gone};
 ghost use Rattle.flywheel.specs.Frames.{frames, heard_as, invented_after, is_due, tick_after};
-ghost use Rattle.flywheel.specs.Wheel.{goes_on_with, has_frame_due, running, still, IsInRange};
+ghost use Rattle.flywheel.specs.Wheel.{frames_left, goes_on_with, has_frame_due, running, still, IsInRange};
 ghost use Rattle.flywheel.specs.StandsFor.{StandsFor, StandsAfterTick};
 
 use crate::frame::Frame;
@@ -92,6 +92,11 @@ impl Flywheel {
         ensures gone { IfSome self.old.reference (λ word. let step = self.old.invented + 1 in
             is_due word step tick ≡ true → self.old.limit < step
             → (result ≡ Some (Gone (tick_after word step))) × (self.new ≡ still self.old.limit)) }
+
+        // So a loop until none ends, and its calls may be made.
+        ensures fewer { IfSome result (λ _. frames_left self.new < frames_left self.old) }
+        ensures limit { self.new.limit ≡ self.old.limit }
+        ensures not_before { IfSome self.new.reference (λ word. word.tick ≤ tick) }
 
         // What it means for the frames of the words so far.
         ensures stands { (words : List HeardWord) (earlier : ℕ) (given : List Frame)
