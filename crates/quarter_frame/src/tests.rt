@@ -75,11 +75,16 @@ fn pieces_of_addresses(rt: HostRuntime) -> Result<(), Fail> {
             let label = read_text(spelled, *count)?;
             for piece in 0..8u32 {
                 let bits = pieces[piece as usize];
-                assert_eq!(rt; quarter(&label, piece), [0xf1, 16 * piece as u8 + bits]);
+                assert_eq!(rt; quarter(&label, piece), [0xf1, (16 * piece) as u8 | bits]);
             }
         }
     }
     Ok(())
+}
+
+/// The second bytes of four quarter frames.
+fn data(room: &[u8; 18]) -> [u8; 4] {
+    [room[1], room[3], room[5], room[7]]
 }
 
 #[test]
@@ -123,19 +128,20 @@ fn two_frames_carry_an_address(rt: HostRuntime) -> Result<(), Fail> {
                 Direction::Forward => (label, advance(&label, 1)),
                 Direction::Backward => (advance(&label, 1), label),
             };
-            let mut turn = 0u8;
-            for frame in [heard(first, direction, true), invented(second, direction)] {
-                assert_eq!(rt; writer.frame(&frame, &mut room), 8);
-                for place in 0..4usize {
-                    let piece = match direction {
-                        Direction::Forward => turn,
-                        Direction::Backward => 7 - turn,
-                    };
-                    assert_eq!(rt; room[2 * place], 0xf1);
-                    assert_eq!(rt; room[2 * place + 1], 16 * piece + pieces[piece as usize]);
-                    turn = turn.wrapping_add(1);
-                }
-            }
+            let [a, b, c, d, e, f, g, h] = *pieces;
+            let low = [a, 0x10 | b, 0x20 | c, 0x30 | d];
+            let high = [0x40 | e, 0x50 | f, 0x60 | g, 0x70 | h];
+            let (front, back) = match direction {
+                Direction::Forward => (low, high),
+                Direction::Backward => (
+                    [high[3], high[2], high[1], high[0]],
+                    [low[3], low[2], low[1], low[0]],
+                ),
+            };
+            assert_eq!(rt; writer.frame(&heard(first, direction, true), &mut room), 8);
+            assert_eq!(rt; data(&room), front);
+            assert_eq!(rt; writer.frame(&invented(second, direction), &mut room), 8);
+            assert_eq!(rt; data(&room), back);
         }
     }
     Ok(())
