@@ -41,11 +41,14 @@ filter-none p a (suc n) never = rw (never a (omega arith)) (filter-none p (a + 1
 filter-first : (p : ℕ → Bool) (a n m : ℕ) → n ≤ m → ((k : ℕ) → a ≤ k → k < a + n → p k ≡ true) → ((k : ℕ) → a + n ≤ k → k < a + m → p k ≡ false) →
     filter p (range_with_len a m) ≡ range_with_len a n
 filter-first p a zero zero h held never = refl
-filter-first p a zero (suc m) h held never = rw (never a (omega arith) (omega arith)) (filter-first p (a + 1) zero m (omega arith) (λ k l u. absurd (omega arith)) (λ k l u. never k (omega arith) (omega arith)))
+filter-first p a zero (suc m) h held never =
+    let rest = filter-first p (a + 1) zero m (omega arith) (λ k l u. absurd (omega arith)) (λ k l u. never k (omega arith) (omega arith)) in
+    rw (never a (omega arith) (omega arith)) rest
 filter-first p a (suc n) zero h held never = absurd (omega arith)
 filter-first p a (suc n) (suc m) h held never =
-    rw (held a (omega arith) (omega arith))
-    (ap (λ more. a ∷ more) (filter-first p (a + 1) n m (omega arith) (λ k l u. held k (omega arith) (omega arith)) (λ k l u. never k (omega arith) (omega arith))))
+    let held_after : (k : ℕ) → a + 1 ≤ k → k < a + 1 + n → p k ≡ true = λ k l u. held k (omega arith) (omega arith) in
+    let rest = filter-first p (a + 1) n m (omega arith) held_after (λ k l u. never k (omega arith) (omega arith)) in
+    rw (held a (omega arith) (omega arith)) (ap (λ more. a ∷ more) rest)
 
 -- the first n steps are due and no more, so these are the due steps
 pub due_steps-first : (limit : ℕ) (word : HeardWord) (n tick : ℕ) → n ≤ limit → ((k : ℕ) → 1 ≤ k → k ≤ n → is_due word k tick ≡ true) →

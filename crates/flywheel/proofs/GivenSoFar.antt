@@ -112,7 +112,8 @@ hears_next : (limit : ℕ) (earlier words : List HeardWord) (before word : Heard
     given ++ heard_as joined word ∷ [] ≡ frames limit (words ++ word ∷ []) word.tick ++ first_invented word 0
 hears_next limit earlier words before word joined given told h given_are joins =
     let next = frames-next limit earlier before word word.tick in
-    let all : frames limit (words ++ word ∷ []) word.tick ≡ frames limit words word.tick ++ heard_as (is_joined limit before word) word ∷ frames_between limit word word.tick =
+    let added = heard_as (is_joined limit before word) word ∷ frames_between limit word word.tick in
+    let all : frames limit (words ++ word ∷ []) word.tick ≡ frames limit words word.tick ++ added =
     rw told next in
     rw (all, given_are, joins, frames_between-own limit word h) (simp append_assoc)
 

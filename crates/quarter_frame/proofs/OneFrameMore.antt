@@ -1,5 +1,5 @@
 -- The text of the frames to come is what is written of the next one, and then the text of those that come after it.
-use Rattle.std.proofs.Common.{◌≡◌, ℕ, ◌+◌, ◌*◌, ◌%◌, Bool, true, false, List, [], ◌∷◌, ◌++◌, length, Option, Some, None, refl, sym, ◌∙◌, ap, subst, append_assoc, append-nil, arith}
+use Rattle.std.proofs.Common.{◌≡◌, ℕ, ◌+◌, ◌%◌, Bool, true, false, List, [], ◌∷◌, ◌++◌, length, Option, Some, None, refl, sym, ◌∙◌, ap, append_assoc, append-nil, arith}
 use Rattle.std.specs.List.{take_while}
 use Rattle.std.proofs.lemmas.List.Sums.{take_while-cons}
 use Rattle.tc_address.specs.declared.direction.Direction.{Direction}
@@ -9,7 +9,7 @@ use Rattle.flywheel.specs.declared.frame.Frame.{Frame}
 use Rattle.flywheel.specs.declared.frame.Frame.TheVariants.{Heard, Invented, Gone}
 use Rattle.quarter_frame.specs.declared.half.Half.{Half}
 use Rattle.quarter_frame.specs.declared.half.Half.TheVariants.{First, Second}
-use Rattle.quarter_frame.specs.Runs.{four_of, goes_on, is_even, quarters_of, quarters_from, mtc_from, mtc_of}
+use Rattle.quarter_frame.specs.Runs.{four_of, goes_on, is_even, quarters_of, quarters_from, mtc_of}
 use Rattle.quarter_frame.specs.StandsFor.{position_of, other_half, written, next_half, text_to_come, StandsFor}
 
 is_even-two : (position : ℕ) → is_even (position + 2) ≡ is_even position
@@ -47,7 +47,8 @@ quarters_from-cons half frame more on =
     let taken : take_while goes_on (frame ∷ more) ≡ frame ∷ take_while goes_on more = take_while-cons goes_on frame more ∙ rw on refl in
     rw (taken, ← quarters_from-other half (take_while goes_on more)) refl
 
-step : (half : Option Half) (frame : Frame) (more : List Frame) → text_to_come half (frame ∷ more) ≡ written half frame ++ text_to_come (next_half half frame) more
+step : (half : Option Half) (frame : Frame) (more : List Frame) →
+    text_to_come half (frame ∷ more) ≡ written half frame ++ text_to_come (next_half half frame) more
 step None (Heard label direction joined tick) more = simp append_assoc
 step None (Invented label direction invented tick) more = simp append_assoc
 step None (Gone tick) more = refl
@@ -62,12 +63,17 @@ nothing : (half : Option Half) → text_to_come half [] ≡ []
 nothing None = refl
 nothing (Some half) = refl
 
+-- the last frame
+step-last : (half : Option Half) (frame : Frame) → text_to_come half (frame ∷ []) ≡ written half frame
+step-last half frame =
+    step half frame [] ∙ ap (λ text. written half frame ++ text) (nothing (next_half half frame)) ∙ append-nil (written half frame)
+
 -- a writer that stands for frames stands for one frame more, and has written what their text gained
 pub after_frame : (half new : Option Half) (frames : List Frame) (frame : Frame) (bytes : List ℕ) → StandsFor half frames → bytes ≡ written half frame →
     new ≡ next_half half frame → StandsFor new (frames ++ frame ∷ []) × (mtc_of (frames ++ frame ∷ []) ≡ mtc_of frames ++ bytes)
 after_frame half new frames frame bytes stands are is_new =
     let whole : mtc_of (frames ++ frame ∷ []) ≡ mtc_of frames ++ written half frame =
-    stands (frame ∷ []) ∙ ap (λ text. mtc_of frames ++ text) (step half frame [] ∙ ap (λ text. written half frame ++ text) (nothing (next_half half frame)) ∙ append-nil (written half frame)) in
+    stands (frame ∷ []) ∙ ap (λ text. mtc_of frames ++ text) (step-last half frame) in
     let more_come : StandsFor (next_half half frame) (frames ++ frame ∷ []) =
     λ more.
     let along : mtc_of ((frames ++ frame ∷ []) ++ more) ≡ mtc_of (frames ++ frame ∷ more) = ap mtc_of (append_assoc frames (frame ∷ []) more) in

@@ -1,5 +1,5 @@
 -- What a writer keeps, what it writes of the next frame, and for which frames it stands.
-use Rattle.std.specs.Prelude.{◌≡◌, ℕ, Bool, true, false, not, cond, List, [], ◌∷◌, ◌++◌, Option, Some, None}
+use Rattle.std.specs.Prelude.{◌≡◌, ℕ, false, cond, List, [], ◌++◌, Option, Some, None}
 use Rattle.std.specs.List.{take_while}
 use Rattle.flywheel.specs.declared.frame.Frame.{Frame}
 use Rattle.quarter_frame.specs.declared.half.Half.{Half}

@@ -1,4 +1,4 @@
-use Rattle.std.proofs.Common.{◌≡◌, ◌++◌, length, ◌∙◌, ap, ap₂, true}
+use Rattle.std.proofs.Common.{◌++◌, length, ◌∙◌, ap, ap₂, true}
 use Rattle.quarter_frame.proofs.OneFrameMore.{length_four}
 use Rattle.quarter_frame.proofs.TwoParts.{two_parts}
 use Rattle.quarter_frame.proofs.writer.QuarterWriter.begin.Goals as goal
