@@ -8,8 +8,9 @@ use Rattle.flywheel.specs.declared.frame.Frame.{Frame}
 use Rattle.flywheel.specs.declared.frame.Frame.TheVariants.{Invented, Gone}
 use Rattle.flywheel.specs.Frames.{label_after, frames, frames_between, invented_after, is_due, is_gone, is_joined, is_next, due_steps, heard_as, tick_after}
 use Rattle.flywheel.specs.Wheel.{Wheel, still, running, has_frame_due, goes_on_with, is_next_due, is_next_of}
-use Rattle.flywheel.specs.StandsFor.{first_invented, HasGivenAfter, HasGivenUp, HasGiven, StandsFor}
-use Rattle.flywheel.proofs.DueInOrder.{is_due-before, is_due-later, not_due-after, due_steps-first, frames_between-first, frames_between-gone, frames_between-own}
+use Rattle.flywheel.specs.StandsFor.{first_invented, HasGivenAfter, HasGivenUp, HasGiven, StandsFor, HasGivenAll}
+use Rattle.flywheel.proofs.DueInOrder.{is_due-before, is_due-later, not_due-after, not_due-own, due_steps-first}
+use Rattle.flywheel.proofs.DueInOrder.{frames_between-first, frames_between-gone, frames_between-own}
 use Rattle.flywheel.proofs.PairsOfWords.{frames-last, frames-next}
 
 -- one invented frame more
@@ -172,6 +173,9 @@ after_gone wheel new word words before tick given end stands reference due over 
 pub after_heard : (wheel new : Wheel) (word : HeardWord) (words : List HeardWord) (before : ℕ) (given : List Frame) (joined : Bool) →
     StandsFor wheel words before given → before ≤ word.tick → 1 ≤ word.length → has_frame_due wheel word.tick ≡ false →
     new ≡ running wheel.limit word 0 → joined ≡ goes_on_with wheel word →
-    StandsFor new (words ++ word ∷ []) word.tick (given ++ heard_as joined word ∷ [])
+    HasGivenAll new (words ++ word ∷ []) word.tick (given ++ heard_as joined word ∷ [])
 after_heard wheel new word words before given joined stands h least over is_new is_joined =
-    rw (is_new, is_joined) (hears wheel.limit wheel.reference wheel.invented words before given word stands h least over)
+    let has = hears wheel.limit wheel.reference wheel.invented words before given word stands h least over in
+    let more = given ++ heard_as (goes_on_with wheel word) word ∷ [] in
+    rw (is_new, is_joined)
+    (waits wheel.limit (Some word) 0 (words ++ word ∷ []) word.tick word.tick more has (omega arith) (not_due-own word (0 + 1) least))

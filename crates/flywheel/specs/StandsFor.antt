@@ -38,7 +38,11 @@ HasGiven limit None invented words tick given = ((words ≡ []) × (given ≡ []
 abbrev pub StandsFor : Wheel → List HeardWord → ℕ → List Frame → Type 0
 StandsFor wheel words tick given = HasGiven wheel.limit wheel.reference wheel.invented words tick given
 
--- what was given before a tick, with what the tick brought: where it brought nothing, these are all the frames of the words up to the tick
+-- and these are all frames of the words up to the tick
+abbrev pub HasGivenAll : Wheel → List HeardWord → ℕ → List Frame → Type 0
+HasGivenAll wheel words tick given = StandsFor wheel words tick given × (frames wheel.limit words tick ≡ given)
+
+-- what was given before a tick, with what the tick brought: where it brought nothing, all was given
 abbrev pub StandsAfterTick : Wheel → List HeardWord → ℕ → List Frame → Option Frame → Type 0
-StandsAfterTick wheel words tick given None = StandsFor wheel words tick given × (frames wheel.limit words tick ≡ given)
+StandsAfterTick wheel words tick given None = HasGivenAll wheel words tick given
 StandsAfterTick wheel words tick given (Some frame) = StandsFor wheel words tick (given ++ frame ∷ [])

@@ -5,7 +5,7 @@ ghost use Rattle.flywheel.specs.declared.frame.Frame.{Frame};
 ghost use Rattle.flywheel.specs.declared.frame.Frame.TheVariants.{Gone};
 ghost use Rattle.flywheel.specs.Frames.{frames, heard_as, invented_after, is_due, tick_after};
 ghost use Rattle.flywheel.specs.Wheel.{frames_left, goes_on_with, has_frame_due, running, still, IsInRange};
-ghost use Rattle.flywheel.specs.StandsFor.{StandsFor, StandsAfterTick};
+ghost use Rattle.flywheel.specs.StandsFor.{HasGivenAll, StandsFor, StandsAfterTick};
 
 use crate::frame::Frame;
 use crate::heard::HeardWord;
@@ -71,7 +71,7 @@ impl Flywheel {
         // Where nothing is due, all frames of the words so far were given.
         ensures stands { (words : List HeardWord) (earlier : ℕ) (given : List Frame)
             → StandsFor self.now words earlier given → earlier ≤ tick
-            → result ≡ false → StandsAfterTick self.now words tick given None }
+            → result ≡ false → HasGivenAll self.now words tick given }
     {
         self.due_from <= tick
     }
@@ -146,7 +146,7 @@ impl Flywheel {
         // What it means for the frames of the words so far.
         ensures stands { (words : List HeardWord) (earlier : ℕ) (given : List Frame)
             → StandsFor self.old words earlier given → earlier ≤ word.now.tick
-            → StandsFor self.new (words ++ word.now ∷ []) word.now.tick (given ++ result ∷ []) }
+            → HasGivenAll self.new (words ++ word.now ∷ []) word.now.tick (given ++ result ∷ []) }
     {
         let joined = self.goes_on_with(word);
         *self = Flywheel::since(self.limit, *word, 0);

@@ -1,5 +1,5 @@
-use Rattle.std.proofs.Common.{None, subst, sym, ◌∙◌, ◌≤◌, IfSome}
-use Rattle.flywheel.specs.StandsFor.{StandsFor, StandsAfterTick}
+use Rattle.std.proofs.Common.{subst, sym, ◌∙◌, ◌≤◌, IfSome}
+use Rattle.flywheel.specs.StandsFor.{StandsFor, HasGivenAll}
 use Rattle.flywheel.specs.Wheel.{Wheel}
 use Rattle.flywheel.proofs.DueInOrder.{first_due}
 use Rattle.flywheel.proofs.GivenSoFar.{waits}
@@ -11,5 +11,5 @@ returns-clause-stands c = λ words earlier given stands h late.
     let has = subst (λ wheel. StandsFor wheel words earlier given) (sym c.self.view_is) stands in
     let behind = subst (λ (wheel : Wheel). IfSome wheel.reference (λ word. word.tick ≤ c.args.tick)) (sym c.self.view_is) c.requires.not_before in
     let over = sym (first_due _ _ _ c.args.tick c.self.invariant.due behind c.requires.below) ∙ late in
-    subst (λ wheel. StandsAfterTick wheel words c.args.tick given None) c.self.view_is
+    subst (λ wheel. HasGivenAll wheel words c.args.tick given) c.self.view_is
     (waits c.self.inside.limit c.self.inside.reference c.self.inside.invented words earlier c.args.tick given has h over)
