@@ -1,0 +1,4 @@
+pub mod BoundedInvention
+pub mod DueInOrder
+pub mod GivenSoFar
+pub mod PairsOfWords

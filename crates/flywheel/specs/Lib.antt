@@ -1,0 +1,6 @@
+pub use Rattle.tc_address.specs.Label
+pub use Rattle.tc_address.specs.Numbering
+pub mod Frames
+pub mod Marked
+pub mod StandsFor
+pub mod Wheel

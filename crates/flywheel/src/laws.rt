@@ -1,0 +1,27 @@
+//! What follows from the definition of frames alone.
+ghost use Rattle.std.specs.Prelude.{◌≡◌, ℕ, ◌≤◌, ◌+◌, ◌↔◌, true, List, map, length, None};
+ghost use Rattle.std.specs.List.{filter, range_with_len};
+ghost use Rattle.tc_address.specs.Label.{Address};
+ghost use Rattle.flywheel.specs.declared.heard.HeardWord.{HeardWord};
+ghost use Rattle.flywheel.specs.Frames.{due_steps, frames, is_due, is_next, label_after};
+ghost use Rattle.flywheel.specs.Marked.{AreMarked, words_in, word_of};
+
+/// Between two heard frames, and after the last, stand at most `limit` invented ones, with the steps
+/// 1, 2 and so on, and the heard frames are exactly the words.
+pub fn invention_is_bounded_and_marked()
+    ensures marked { (limit last : ℕ) (words : List HeardWord) → AreMarked limit None (frames limit words last) }
+    ensures heard { (limit last : ℕ) (words : List HeardWord) → words_in (frames limit words last) ≡ map word_of words }
+{}
+
+/// The steps up to the limit that are due are the first ones, as many as there are.
+pub fn steps_are_due_in_order()
+    ensures first { (limit tick : ℕ) (word : HeardWord) → due_steps limit word tick ≡ range_with_len 1 (length (due_steps limit word tick)) }
+    ensures due { (limit tick k : ℕ) (word : HeardWord) → 1 ≤ k → k ≤ limit
+        → (k ≤ length (due_steps limit word tick)) ↔ (is_due word k tick ≡ true) }
+{}
+
+/// A word is the next exactly where direction, count and label fit.
+pub fn the_next_word_fits()
+    ensures { (before word : HeardWord) (k : ℕ) → (is_next before k word ≡ true)
+        ↔ ((word.direction ≡ before.direction) × (word.label ≡ label_after before k)) }
+{}

@@ -1,0 +1,2 @@
+pub mod OneFrameMore
+pub mod TwoParts
