@@ -1,5 +1,6 @@
 -- Each field stands in its place and in no other, so the bits fix the word, and the word fixes the bits.
 use Rattle.std.proofs.Common.{◌≡◌, ℕ, ◌+◌, ◌*◌, ◌/◌, ◌%◌, ◌^◌, ◌<◌, Bool, true, false, refl, sym, ap, ap₂, ◌∙◌, lit<, arith, None, not}
+use Rattle.std.specs.Int.{bit_at}
 use Rattle.std.proofs.lemmas.Nat.{mod_below}
 use Rattle.std.proofs.lemmas.Bool.{eqb-true, eq-eqb}
 use Rattle.std.proofs.lemmas.Grind.{common_steps}
@@ -15,12 +16,13 @@ use Rattle.tc_bits.specs.Fault.{first_field_fault}
 use Rattle.tc_bits.specs.Fields.{Contents, contents, agrees, digits_of, Says, IsFields}
 use Rattle.vitc_line.specs.declared.places.TheConstants as places
 use Rattle.vitc_line.specs.declared.word.VitcWord.{VitcWord}
-use Rattle.vitc_line.specs.CheckBits.{residue, is_wrong_residue, wrong_residue}
+use Rattle.vitc_line.specs.CheckBits.{bits_of_residue, residue, is_wrong_residue, wrong_residue}
 use Rattle.vitc_line.specs.Fault.{is_wrong_pair, wrong_sync_pair, first_fault}
 use Rattle.vitc_line.specs.Places.{sync_pair_place, field_mark_place}
 use Rattle.vitc_line.specs.Reading.{raw_in, flags_in, user_in}
 use Rattle.vitc_line.specs.Spelling.{Spells}
 use Rattle.vitc_line.proofs.CheckBehind.{one_check}
+use Rattle.vitc_line.proofs.FoldedCheck.{each_residue, sum_at, residue_is_parity}
 use Rattle.vitc_line.proofs.FieldsSaid.{user_spelled, user_read, address_spelled, flags_spelled, same_raw, flags_read}
 use Rattle.vitc_line.proofs.RowOfALine.{base_sum, whole_sum, SpellsRows, spells_rows, rows_sum}
 use Rattle.vitc_line.proofs.Searches.{find_none, none_found, not_false}
@@ -48,6 +50,15 @@ pub none_from_check : (bits : ℕ) → ((r : ℕ) → r < 8 → residue r bits �
 unfolding wrong_residue
 none_from_check bits right =
     none_found (is_wrong_residue bits) 0 8 (λ r lt. let k : 0 + r ≡ r = omega arith in rw k (ap not (eq-eqb _ _ (right r lt))))
+
+abbrev HasEvenOnes : ℕ → ℕ → Type 0
+HasEvenOnes r bits = sum_at (bit_at bits) (bits_of_residue r) % 2 ≡ 0
+
+-- a check, computed: each residue has an even number of ones
+pub check_by_sums : (bits : ℕ) → HasEvenOnes 0 bits → HasEvenOnes 1 bits → HasEvenOnes 2 bits → HasEvenOnes 3 bits → HasEvenOnes 4 bits → HasEvenOnes 5 bits → HasEvenOnes 6 bits
+    → HasEvenOnes 7 bits → wrong_residue bits ≡ None
+check_by_sums bits a b c d e f g h =
+    none_from_check bits (λ r lt. residue_is_parity r bits ∙ each_residue (λ r. HasEvenOnes r bits) a b c d e f g h r lt)
 
 abbrev pub word_of : Contents → Bool → VitcWord
 word_of fields mark = record { fields = fields; field_mark = mark }
