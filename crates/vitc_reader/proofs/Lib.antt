@@ -1,0 +1,5 @@
+pub mod BitsOfCells
+pub mod LevelOfARun
+pub mod ReadSoFar
+pub mod WholeCells
+pub mod WrittenSoFar
