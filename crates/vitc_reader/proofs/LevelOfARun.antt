@@ -1,11 +1,10 @@
 -- The lowest bits of one level are as many as the trailing ones or zeros.
-use Rattle.std.proofs.Common.{◌≡◌, ℕ, zero, suc, ◌+◌, ◌-◌, ◌*◌, ◌/◌, ◌%◌, ◌^◌, ◌<◌, ◌≤◌, Bool, true, false, refl, sym, ap, ◌∙◌, arith, ◌⊎◌, inl, inr}
+use Rattle.std.proofs.Common.{◌≡◌, ℕ, zero, suc, ◌+◌, ◌-◌, ◌*◌, ◌/◌, ◌%◌, ◌^◌, ◌<◌, ◌≤◌, refl, sym, ◌∙◌, arith, inl, inr}
 use Rattle.std.specs.Int.{bit_at, trailing_zeros, trailing_ones, w128}
 use Rattle.std.proofs.Math.Nat.{div-eq_of_lt, pow-le-pow_right}
 use Rattle.std.proofs.lemmas.Bool.{cases_lt}
 use Rattle.std.proofs.lemmas.Nat.{pow-add, pow_pos, mod_below, mul-le, shr_split}
 use Rattle.std.proofs.lemmas.Nat.Bits.{bit_at-trailing_zeros, bit_at-trailing_ones, same_from_bits_below, bit_at_cat_low, bit_at_ones, bit_at-zero}
-use Rattle.vitc_reader.specs.Runs.{bits_of_run}
 
 low_bits : (n k i : ℕ) → i < k → bit_at (n % 2 ^ k) i ≡ bit_at n i
 low_bits n k i lt = let h = bit_at_cat_low (n / 2 ^ k) k (n % 2 ^ k) i lt in sym (rw (shr_split n k) at h)
@@ -50,10 +49,10 @@ set_within : (n k : ℕ) → n < 2 ^ 90 → bit_at n k ≡ 1 → k ≤ 90
 set_within n k width set =
     elim (cases_lt 90 k) [
       | inl lt ↦
-      let h = pow-le-pow_right {n = 2} (omega arith) {i = 90} {j = k} (omega (arith, lt)) in
-      let e : n / 2 ^ k ≡ 0 = div-eq_of_lt (omega (arith, h)) in
-      let z : bit_at n k ≡ 0 = rw e refl in
-      absurd (omega (arith, z, set))
+          let h = pow-le-pow_right {n = 2} (omega arith) {i = 90} {j = k} (omega (arith, lt)) in
+          let e : n / 2 ^ k ≡ 0 = div-eq_of_lt (omega (arith, h)) in
+          let z : bit_at n k ≡ 0 = rw e refl in
+          absurd (omega (arith, z, set))
       | inr le ↦ le
     ]
 
@@ -77,23 +76,27 @@ least_zeros n k some e =
 
 pub ones_level : (n : ℕ) → n < 2 ^ 90 → n % 2 ≡ 1 → Level n (trailing_ones w128 n) (2 ^ trailing_ones w128 n - 1) × (n / 2 ^ trailing_ones w128 n % 2 ≡ 0)
 ones_level n width odd =
-    let t = bit_at-trailing_ones w128 n (omega arith) in
-    (record {
-      least = one_or_more n (trailing_ones w128 n) 0 t.1 (λ e. omega (arith, e, odd));
-      within = no_more n (trailing_ones w128 n) width t.2;
-      run = all_ones n (trailing_ones w128 n) t.2;
-      some = least_ones n (trailing_ones w128 n) (one_or_more n (trailing_ones w128 n) 0 t.1 (λ e. omega (arith, e, odd))) (all_ones n (trailing_ones w128 n) t.2);
-    }, t.1)
+    let t = bit_at-trailing_ones w128 n (omega arith) in (
+      record {
+        least = one_or_more n (trailing_ones w128 n) 0 t.1 (λ e. omega (arith, e, odd));
+        within = no_more n (trailing_ones w128 n) width t.2;
+        run = all_ones n (trailing_ones w128 n) t.2;
+        some = least_ones n (trailing_ones w128 n) (one_or_more n (trailing_ones w128 n) 0 t.1 (λ e. omega (arith, e, odd))) (all_ones n (trailing_ones w128 n) t.2);
+      },
+      t.1,
+    )
 
 pub zeros_level : (n : ℕ) → n < 2 ^ 90 → 1 ≤ n → n % 2 ≡ 0 → Level n (trailing_zeros w128 n) 0 × (n / 2 ^ trailing_zeros w128 n % 2 ≡ 1)
 zeros_level n width some even =
-    let t = bit_at-trailing_zeros w128 n some (omega arith) in
-    (record {
-      least = one_or_more n (trailing_zeros w128 n) 1 t.1 (λ e. omega (arith, e, even));
-      within = set_within n (trailing_zeros w128 n) width t.1;
-      run = all_zeros n (trailing_zeros w128 n) t.2;
-      some = least_zeros n (trailing_zeros w128 n) (one_or_more n (trailing_zeros w128 n) 1 t.1 (λ e. omega (arith, e, even))) t.1;
-    }, t.1)
+    let t = bit_at-trailing_zeros w128 n some (omega arith) in (
+      record {
+        least = one_or_more n (trailing_zeros w128 n) 1 t.1 (λ e. omega (arith, e, even));
+        within = set_within n (trailing_zeros w128 n) width t.1;
+        run = all_zeros n (trailing_zeros w128 n) t.2;
+        some = least_zeros n (trailing_zeros w128 n) (one_or_more n (trailing_zeros w128 n) 1 t.1 (λ e. omega (arith, e, even))) t.1;
+      },
+      t.1,
+    )
 
 pub not_odd : (n : ℕ) → (n % 2 ≡ 1 → ⊥) → n % 2 ≡ 0
 not_odd n h = grind arith

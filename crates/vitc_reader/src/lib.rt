@@ -23,7 +23,7 @@ mod reading;
 mod writing;
 
 pub use fault::{ReadFault, RunFault};
-//pub use field::{FieldAnswer, FieldReader};
+pub use field::{FieldAnswer, FieldReader};
 pub use reading::read_runs;
 pub use writing::runs_of;
 

@@ -30,11 +30,7 @@ fn run_bits(is_high: bool, cells: u32) -> u128
     ensures value { result ≡ bits_of_run is_high cells }
     ensures width { result < 2 ^ cells }
 {
-    if is_high {
-        (1 << cells) - 1
-    } else {
-        0
-    }
+    if is_high { (1 << cells) - 1 } else { 0 }
 }
 
 /// The bits that the runs of a line stand for. Each run is in ticks, as the length of the line is, from

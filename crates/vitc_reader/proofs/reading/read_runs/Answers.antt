@@ -1,4 +1,4 @@
-use Rattle.std.proofs.Common.{◌≡◌, ℕ, ◌+◌, ◌*◌, ◌%◌, ◌^◌, ◌<◌, ◌≤◌, Ok, ap, arith}
+use Rattle.std.proofs.Common.{ℕ, ◌+◌, ◌*◌, ◌^◌, ◌<◌, Ok, ap, arith}
 use Rattle.std.proofs.lemmas.Nat.{shl_whole}
 use Rattle.vitc_reader.proofs.BitsOfCells.{more_below}
 use Rattle.vitc_reader.proofs.ReadSoFar.{read_more, bits_below, below_ninety, stands, only, no_cells, too_many, run_fault, too_long}

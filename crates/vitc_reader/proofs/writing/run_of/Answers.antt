@@ -1,4 +1,4 @@
-use Rattle.std.proofs.Common.{◌≡◌, true, false, arith}
+use Rattle.std.proofs.Common.{arith}
 use Rattle.vitc_reader.proofs.LevelOfARun.{ones_level, zeros_level, not_odd}
 use Rattle.vitc_reader.proofs.writing.run_of.Goals as goal
 
