@@ -36,7 +36,8 @@ is_parity : (bits : ℕ) (is : List ℕ) → exclusive_or (map (bit_at bits) is)
 is_parity bits [] = refl
 is_parity bits (i ∷ is) =
     let rest = is_parity bits is in
-    let here = xor_of_bits (bit_at bits i) (exclusive_or (map (bit_at bits) is)) (bit_at-lt bits i) (rw rest (mod_below (sum_at (bit_at bits) is) 2 (lit< tt))) in
+    let below : exclusive_or (map (bit_at bits) is) < 2 = rw rest (mod_below (sum_at (bit_at bits) is) 2 (lit< tt)) in
+    let here = xor_of_bits (bit_at bits i) (exclusive_or (map (bit_at bits) is)) (bit_at-lt bits i) below in
     omega (arith, here, rest)
 
 pub residue_is_parity : (r bits : ℕ) → residue r bits ≡ sum_at (bit_at bits) (bits_of_residue r) % 2

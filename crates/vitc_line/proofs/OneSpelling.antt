@@ -55,7 +55,8 @@ abbrev HasEvenOnes : ℕ → ℕ → Type 0
 HasEvenOnes r bits = sum_at (bit_at bits) (bits_of_residue r) % 2 ≡ 0
 
 -- a check, computed: each residue has an even number of ones
-pub check_by_sums : (bits : ℕ) → HasEvenOnes 0 bits → HasEvenOnes 1 bits → HasEvenOnes 2 bits → HasEvenOnes 3 bits → HasEvenOnes 4 bits → HasEvenOnes 5 bits → HasEvenOnes 6 bits
+pub check_by_sums : (bits : ℕ) → HasEvenOnes 0 bits → HasEvenOnes 1 bits → HasEvenOnes 2 bits → HasEvenOnes 3 bits
+    → HasEvenOnes 4 bits → HasEvenOnes 5 bits → HasEvenOnes 6 bits
     → HasEvenOnes 7 bits → wrong_residue bits ≡ None
 check_by_sums bits a b c d e f g h =
     none_from_check bits (λ r lt. residue_is_parity r bits ∙ each_residue (λ r. HasEvenOnes r bits) a b c d e f g h r lt)
@@ -142,16 +143,20 @@ checked_alike a b base ca cb below wa wb ea eb ha hb =
 pub one_spelling : OnlySumHolds → (system : System) (word : VitcWord) (a b : ℕ) → Spells system word a → Spells system word b → a ≡ b
 one_spelling law system word a b p q =
     let base = base_sum system word.fields.label word.fields.flags word.fields.user word.field_mark in
-    let ea : a ≡ base + number_in places.CHECK a * 2 ^ 82 = rows_sum law system word.fields.label word.fields.flags word.fields.user word.field_mark a p.valid.label (rows_of system word a p) in
-    let eb : b ≡ base + number_in places.CHECK b * 2 ^ 82 = rows_sum law system word.fields.label word.fields.flags word.fields.user word.field_mark b q.valid.label (rows_of system word b q) in
-    checked_alike a b base (number_in places.CHECK a) (number_in places.CHECK b) (base_below a base p.width ea) (check_below a) (check_below b) ea eb p.check q.check
+    let ea : a ≡ base + number_in places.CHECK a * 2 ^ 82 =
+    rows_sum law system word.fields.label word.fields.flags word.fields.user word.field_mark a p.valid.label (rows_of system word a p) in
+    let eb : b ≡ base + number_in places.CHECK b * 2 ^ 82 =
+    rows_sum law system word.fields.label word.fields.flags word.fields.user word.field_mark b q.valid.label (rows_of system word b q) in
+    checked_alike a b base (number_in places.CHECK a) (number_in places.CHECK b) (base_below a base p.width ea)
+    (check_below a) (check_below b) ea eb p.check q.check
 
 -- the sum of the weights with a check that holds spells the word
 pub spells_sum : SumHolds → (word : VitcWord) (check bits : ℕ) → IsFields word.fields → word.fields.user < 2 ^ 32 → check < 2 ^ 8
     → bits ≡ whole_sum (system_with word.fields.label.count) word.fields.label word.fields.flags word.fields.user word.field_mark check
     → ((r : ℕ) → r < 8 → residue r bits ≡ 0) → Spells (system_with word.fields.label.count) word bits
 spells_sum law word check bits valid eight low sum holds =
-    let rows = spells_rows law (system_with word.fields.label.count) word.fields.label word.fields.flags word.fields.user word.field_mark check bits valid.label eight low sum in
+    let rows = spells_rows law (system_with word.fields.label.count) word.fields.label word.fields.flags word.fields.user word.field_mark
+    check bits valid.label eight low sum in
     record {
       width = rows.width;
       valid = valid;

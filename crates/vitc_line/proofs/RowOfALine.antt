@@ -90,7 +90,8 @@ pub sum_of_parts : (system : System) (a : Address) (f : Flags) (user : ℕ) (mar
     → label ≡ a → told ≡ system → flags ≡ f → groups ≡ user
     → address_part ≡ address_sum label → flag_part ≡ flag_sum told flags → mark_part ≡ mark_sum told mark → user_part ≡ user_sum groups
     → address_part + flag_part + mark_part + user_part + places.ALL_SYNC_PAIRS ≡ base_sum system a f user mark
-sum_of_parts system a f user mark label told flags groups address_part flag_part mark_part user_part label_is told_is flags_are groups_are made_a made_f made_m made_u =
+sum_of_parts system a f user mark label told flags groups address_part flag_part mark_part user_part
+    label_is told_is flags_are groups_are made_a made_f made_m made_u =
     rw (
       made_a ∙ ap address_sum label_is,
       made_f ∙ ap₂ flag_sum told_is flags_are,
@@ -329,7 +330,8 @@ held_with a f user p q r bits s u pairs drop colour one hp hq hr =
     (also u.eight (also (pairs 8 (lit< tt)) (also refl tt)))))))))))))))))))))))))))))))
 
 -- bits that spell each row hold the row of numbers
-rows_held : (system : System) (a : Address) (f : Flags) (user : ℕ) (mark : Bool) (bits : ℕ) → SpellsRows system a f user mark (number_in places.CHECK bits) bits
+rows_held : (system : System) (a : Address) (f : Flags) (user : ℕ) (mark : Bool) (bits : ℕ)
+    → SpellsRows system a f user mark (number_in places.CHECK bits) bits
     → Holds (row_of system a f user mark (number_in places.CHECK bits)) bits
 rows_held F24 a f user mark bits s = held_with a f user _ _ _ bits s.address s.user_bits s.sync_pairs
     (bit_is _ _ (bit_below bits 14) s.flags.drop_frame) (bit_is _ _ (bit_below bits 15) s.flags.colour_frame)

@@ -38,7 +38,8 @@ append_assoc' [] more last other = refl
 append_assoc' (w ∷ same) more last other = ap (λ (words : List VitcWord). w ∷ words) (append_assoc' same more last other)
 
 -- the first word after lines that said none
-pub first_word : (before : List Said) (fault : ReadFault) (word : VitcWord) → IsAnswerTo before (Nothing fault) → IsAnswerTo (before ++ Ok word ∷ []) (Agreed word)
+pub first_word : (before : List Said) (fault : ReadFault) (word : VitcWord)
+    → IsAnswerTo before (Nothing fault) → IsAnswerTo (before ++ Ok word ∷ []) (Agreed word)
 first_word before fault word a = ([], words_with before word ∙ ap (λ (words : List VitcWord). words ++ word ∷ []) a.2, tt)
 
 -- no word again
@@ -47,15 +48,18 @@ no_word before fault next a =
     (a.0 ++ Err next ∷ [], ap (λ (said : List Said). said ++ Err next ∷ []) a.1, words_without before next ∙ a.2)
 
 -- the same word again
-pub same_word : (before : List Said) (first word : VitcWord) → word ≡ first → IsAnswerTo before (Agreed first) → IsAnswerTo (before ++ Ok word ∷ []) (Agreed first)
+pub same_word : (before : List Said) (first word : VitcWord) → word ≡ first
+    → IsAnswerTo before (Agreed first) → IsAnswerTo (before ++ Ok word ∷ []) (Agreed first)
 same_word before first word e a =
     (a.0 ++ word ∷ [], words_with before word ∙ ap (λ (words : List VitcWord). words ++ word ∷ []) a.1, AllAre-last first a.0 word a.2 e)
 
-pub agreed_still : (before : List Said) (first : VitcWord) (fault : ReadFault) → IsAnswerTo before (Agreed first) → IsAnswerTo (before ++ Err fault ∷ []) (Agreed first)
+pub agreed_still : (before : List Said) (first : VitcWord) (fault : ReadFault)
+    → IsAnswerTo before (Agreed first) → IsAnswerTo (before ++ Err fault ∷ []) (Agreed first)
 agreed_still before first fault a = (a.0, words_without before fault ∙ a.1, a.2)
 
 -- the first word that differs
-pub other_word : (before : List Said) (first word : VitcWord) → word ≢ first → IsAnswerTo before (Agreed first) → IsAnswerTo (before ++ Ok word ∷ []) (Conflict first word)
+pub other_word : (before : List Said) (first word : VitcWord) → word ≢ first
+    → IsAnswerTo before (Agreed first) → IsAnswerTo (before ++ Ok word ∷ []) (Conflict first word)
 other_word before first word differs a =
     (a.0, [], words_with before word ∙ ap (λ (words : List VitcWord). words ++ word ∷ []) a.1, a.2, differs)
 

@@ -76,12 +76,13 @@ least_zeros n k some e =
 
 pub ones_level : (n : ℕ) → n < 2 ^ 90 → n % 2 ≡ 1 → Level n (trailing_ones w128 n) (2 ^ trailing_ones w128 n - 1) × (n / 2 ^ trailing_ones w128 n % 2 ≡ 0)
 ones_level n width odd =
-    let t = bit_at-trailing_ones w128 n (omega arith) in (
+    let t = bit_at-trailing_ones w128 n (omega arith) in
+    let least = one_or_more n (trailing_ones w128 n) 0 t.1 (λ e. omega (arith, e, odd)) in (
       record {
-        least = one_or_more n (trailing_ones w128 n) 0 t.1 (λ e. omega (arith, e, odd));
+        least = least;
         within = no_more n (trailing_ones w128 n) width t.2;
         run = all_ones n (trailing_ones w128 n) t.2;
-        some = least_ones n (trailing_ones w128 n) (one_or_more n (trailing_ones w128 n) 0 t.1 (λ e. omega (arith, e, odd))) (all_ones n (trailing_ones w128 n) t.2);
+        some = least_ones n (trailing_ones w128 n) least (all_ones n (trailing_ones w128 n) t.2);
       },
       t.1,
     )

@@ -18,7 +18,6 @@
 
 mod fault;
 mod field;
-pub mod laws;
 mod reading;
 mod writing;
 

@@ -6,41 +6,51 @@ use Rattle.vitc_reader.proofs.writing.runs_of.Goals as goal
 -- bits that are left are within the line
 pub begin_of-requires-clause-cell : goal.begin_of-requires-clause-cell
 begin_of-requires-clause-cell c =
-    cells_left c.args.length c.args.bits c.args.runs.now c.loop-rest.runs c.loop-rest.rest c.loop-rest.cell c.loop-rest.number c.run_of-cells.result c.loop-rest.is_high c.loop-rest.invariant
+    cells_left c.args.length c.args.bits c.args.runs.now c.loop-rest.runs
+    c.loop-rest.rest c.loop-rest.cell c.loop-rest.number c.run_of-cells.result c.loop-rest.is_high c.loop-rest.invariant
     c.requires.width c.run_of-cells.ensures.least c.run_of-cells.ensures.some
 
 -- a run has a cell at least, so there is room for one more
 pub offset_bounds-runs-number : goal.offset_bounds-runs-number
 offset_bounds-runs-number c =
-    let left = cells_left c.args.length c.args.bits c.args.runs.now c.loop-rest.runs c.loop-rest.rest c.loop-rest.cell c.loop-rest.number c.run_of-cells.result c.loop-rest.is_high c.loop-rest.invariant
+    let left = cells_left c.args.length c.args.bits c.args.runs.now c.loop-rest.runs
+    c.loop-rest.rest c.loop-rest.cell c.loop-rest.number c.run_of-cells.result c.loop-rest.is_high c.loop-rest.invariant
     c.requires.width c.run_of-cells.ensures.least c.run_of-cells.ensures.some in
-    let room = room c.args.length c.args.bits c.args.runs.now c.loop-rest.runs c.loop-rest.rest c.loop-rest.cell c.loop-rest.number c.loop-rest.is_high c.loop-rest.invariant in
+    let room = room c.args.length c.args.bits c.args.runs.now c.loop-rest.runs
+    c.loop-rest.rest c.loop-rest.cell c.loop-rest.number c.loop-rest.is_high c.loop-rest.invariant in
     let least = c.run_of-cells.ensures.least in
     omega (arith, left, room, least)
 
 pub bounds-runs-number : goal.bounds-runs-number
 bounds-runs-number c =
-    let left = cells_left c.args.length c.args.bits c.args.runs.now c.loop-rest.runs c.loop-rest.rest c.loop-rest.cell c.loop-rest.number c.run_of-cells.result c.loop-rest.is_high c.loop-rest.invariant
+    let left = cells_left c.args.length c.args.bits c.args.runs.now c.loop-rest.runs
+    c.loop-rest.rest c.loop-rest.cell c.loop-rest.number c.run_of-cells.result c.loop-rest.is_high c.loop-rest.invariant
     c.requires.width c.run_of-cells.ensures.least c.run_of-cells.ensures.some in
-    let room = room c.args.length c.args.bits c.args.runs.now c.loop-rest.runs c.loop-rest.rest c.loop-rest.cell c.loop-rest.number c.loop-rest.is_high c.loop-rest.invariant in
+    let room = room c.args.length c.args.bits c.args.runs.now c.loop-rest.runs
+    c.loop-rest.rest c.loop-rest.cell c.loop-rest.number c.loop-rest.is_high c.loop-rest.invariant in
     let least = c.run_of-cells.ensures.least in
     omega (arith, left, room, least)
 
 pub overflow_add-number : goal.overflow_add-number
 overflow_add-number c =
-    let left = cells_left c.args.length c.args.bits c.args.runs.now c.loop-rest.runs c.loop-rest.rest c.loop-rest.cell c.loop-rest.number c.run_of-cells.result c.loop-rest.is_high c.loop-rest.invariant
+    let left = cells_left c.args.length c.args.bits c.args.runs.now c.loop-rest.runs
+    c.loop-rest.rest c.loop-rest.cell c.loop-rest.number c.run_of-cells.result c.loop-rest.is_high c.loop-rest.invariant
     c.requires.width c.run_of-cells.ensures.least c.run_of-cells.ensures.some in
-    let room = room c.args.length c.args.bits c.args.runs.now c.loop-rest.runs c.loop-rest.rest c.loop-rest.cell c.loop-rest.number c.loop-rest.is_high c.loop-rest.invariant in
+    let room = room c.args.length c.args.bits c.args.runs.now c.loop-rest.runs
+    c.loop-rest.rest c.loop-rest.cell c.loop-rest.number c.loop-rest.is_high c.loop-rest.invariant in
     let least = c.run_of-cells.ensures.least in
     omega (arith, left, room, least)
 
 pub loop-rest-preserved : goal.loop-rest-preserved
 loop-rest-preserved c =
-    let left = cells_left c.args.length c.args.bits c.args.runs.now c.loop-rest.runs c.loop-rest.rest c.loop-rest.cell c.loop-rest.number c.run_of-cells.result c.loop-rest.is_high c.loop-rest.invariant
+    let left = cells_left c.args.length c.args.bits c.args.runs.now c.loop-rest.runs
+    c.loop-rest.rest c.loop-rest.cell c.loop-rest.number c.run_of-cells.result c.loop-rest.is_high c.loop-rest.invariant
     c.requires.width c.run_of-cells.ensures.least c.run_of-cells.ensures.some in
-    let room = room c.args.length c.args.bits c.args.runs.now c.loop-rest.runs c.loop-rest.rest c.loop-rest.cell c.loop-rest.number c.loop-rest.is_high c.loop-rest.invariant in
+    let room = room c.args.length c.args.bits c.args.runs.now c.loop-rest.runs
+    c.loop-rest.rest c.loop-rest.cell c.loop-rest.number c.loop-rest.is_high c.loop-rest.invariant in
     let least = c.run_of-cells.ensures.least in
-    let more = write_more c.args.length c.args.bits c.args.runs.now c.loop-rest.runs c.loop-rest.rest c.loop-rest.cell c.loop-rest.number c.run_of-cells.result c.loop-rest.is_high
+    let more = write_more c.args.length c.args.bits c.args.runs.now c.loop-rest.runs
+    c.loop-rest.rest c.loop-rest.cell c.loop-rest.number c.run_of-cells.result c.loop-rest.is_high
     c.loop-rest.invariant c.requires.width (omega (arith, left, room, least)) c.run_of-cells.ensures.least c.run_of-cells.ensures.some
     c.run_of-cells.ensures.run c.run_of-cells.ensures.change in
     rw (c.begin_of.ensures.value, c.begin_of-in-loop-rest.ensures.value) more
