@@ -1,9 +1,8 @@
 pub mod BalanceChooses
 pub mod CountedByBytes
-pub mod InItsPlace
 pub mod LastBitFirst
 pub mod NoBitDiffers
 pub mod OneBitMore
 pub mod OneSpelling
-pub mod RowByRow
+pub mod RowOfAWord
 pub mod SyncOnlyAtTheEnd

@@ -11,12 +11,13 @@ use Rattle.tc_address.specs.Label.{Address}
 use Rattle.tc_bits.specs.declared.flags.Flags.{Flags}
 use Rattle.tc_bits.specs.declared.place.Place.{Place}
 use Rattle.tc_bits.specs.Fields.{IsFields}
-use Rattle.ltc_word.specs.declared.places.TheConstants.{SYNC, SYNC_PATTERN}
+use Rattle.tc_bits.specs.Row.{SumHolds}
+use Rattle.ltc_word.specs.declared.places.TheConstants as places
 use Rattle.ltc_word.specs.declared.word.LtcWord.{LtcWord}
 use Rattle.ltc_word.specs.Balance.{IsBalanced}
 use Rattle.ltc_word.specs.Places.{polarity_place}
 use Rattle.ltc_word.specs.Spelling.{Spells}
-use Rattle.ltc_word.proofs.RowByRow.{address_sum, flag_sum, user_sum, SpellsRows, spells_rows}
+use Rattle.ltc_word.proofs.RowOfAWord.{address_sum, flag_sum, user_sum, SpellsRows, spells_rows}
 
 ones_of_even : (n : ℕ) → count_ones (n * 2 + 1) ≡ count_ones (n * 2) + 1
 unfolding count_ones
@@ -45,14 +46,12 @@ ones_of_set n place clear =
     omega arith
 
 -- 80 bits with one bit more are balanced where they were not
-pub balance_turns : (n place : ℕ) → n + 2 ^ place < 2 ^ 80 → n / 2 ^ place % 2 ≡ 0 → (IsBalanced n → IsBalanced (n + 2 ^ place) → ⊥) × ((IsBalanced n → ⊥) → IsBalanced (n + 2 ^ place))
+pub balance_turns : (n place : ℕ) → n + 2 ^ place < 2 ^ 80 → n / 2 ^ place % 2 ≡ 0
+    → (IsBalanced n → IsBalanced (n + 2 ^ place) → ⊥) × ((IsBalanced n → ⊥) → IsBalanced (n + 2 ^ place))
 balance_turns n place width clear =
     let within = ones-le 80 (n + 2 ^ place) width in
     let more = ones_of_set n place clear in
     (λ p q. omega arith, λ p. omega arith)
-
-not_true : (b : Bool) → b ≡ false → IsTrue b → ⊥
-not_true b e t = cc
 
 other_truth : (a b : Bool) (P Q : Type 0) → beq a b ≡ false → (IsTrue a ↔ P) → (P → Q → ⊥) → ((P → ⊥) → Q) → (IsTrue b ↔ Q)
 other_truth true true P Q e p apart either = absurd cc
@@ -66,7 +65,8 @@ same_truth true false P e p = absurd cc
 same_truth false true P e p = absurd cc
 same_truth false false P e p = p
 
-whole : (word : LtcWord) (bits polarity : ℕ) → IsFields word.fields → SpellsRows (system_with word.fields.label.count) word.fields.label word.fields.flags word.fields.user polarity bits
+whole : (word : LtcWord) (bits polarity : ℕ) → IsFields word.fields
+    → SpellsRows (system_with word.fields.label.count) word.fields.label word.fields.flags word.fields.user polarity bits
     → (IsTrue word.balanced ↔ IsBalanced bits) → Spells (system_with word.fields.label.count) word bits
 whole word bits polarity valid rows balance = record {
   width = rows.width;
@@ -81,27 +81,29 @@ whole word bits polarity valid rows balance = record {
 
 -- the sum of the weights with nothing at the polarity correction
 abbrev pub uncorrected : LtcWord → ℕ
-uncorrected word = address_sum word.fields.label + flag_sum (system_with word.fields.label.count) word.fields.flags + user_sum word.fields.user + SYNC_PATTERN * 2 ^ SYNC.first
+uncorrected word = address_sum word.fields.label + flag_sum
+    (system_with word.fields.label.count) word.fields.flags + user_sum word.fields.user + places.SYNC_PATTERN * 2 ^ places.SYNC.first
 
 -- what was made of the parts of a word is made of the word
 pub made_of : (word : LtcWord) (label : Address) (system : System) (flags : Flags) (groups a f u s : ℕ)
     → label ≡ word.fields.label → system ≡ system_with word.fields.label.count → flags ≡ word.fields.flags → groups ≡ word.fields.user
-    → a ≡ address_sum label → f ≡ flag_sum system flags → u ≡ user_sum groups → s ≡ SYNC_PATTERN * 2 ^ SYNC.first → a + f + u + s ≡ uncorrected word
+    → a ≡ address_sum label → f ≡ flag_sum system flags → u ≡ user_sum groups → s ≡ places.SYNC_PATTERN * 2 ^ places.SYNC.first
+    → a + f + u + s ≡ uncorrected word
 made_of word label system flags groups a f u s label_is system_is flags_are groups_are made_a made_f made_u made_s =
     rw (made_a ∙ ap address_sum label_is, made_f ∙ ap₂ flag_sum system_is flags_are, made_u ∙ ap user_sum groups_are, made_s) refl
 
-rows_with : (word : LtcWord) (bits polarity : ℕ) → IsFields word.fields → word.fields.user < 2 ^ 32 → polarity < 2
+rows_with : SumHolds → (word : LtcWord) (bits polarity : ℕ) → IsFields word.fields → word.fields.user < 2 ^ 32 → polarity < 2
     → bits ≡ uncorrected word + polarity * 2 ^ (polarity_place (system_with word.fields.label.count)).first
     → SpellsRows (system_with word.fields.label.count) word.fields.label word.fields.flags word.fields.user polarity bits
-rows_with word bits polarity valid eight low sum =
-    spells_rows (system_with word.fields.label.count) word.fields.label word.fields.flags word.fields.user polarity bits valid.label eight low sum
+rows_with law word bits polarity valid eight low sum =
+    spells_rows law (system_with word.fields.label.count) word.fields.label word.fields.flags word.fields.user polarity bits valid.label eight low sum
 
 -- the bits have the balance of the word already
-pub spells_as_is : (word : LtcWord) (bits : ℕ) (answer : Bool) → IsFields word.fields → word.fields.user < 2 ^ 32
+pub spells_as_is : SumHolds → (word : LtcWord) (bits : ℕ) (answer : Bool) → IsFields word.fields → word.fields.user < 2 ^ 32
     → bits ≡ uncorrected word → (IsTrue answer ↔ IsBalanced bits) → beq answer word.balanced ≡ true
     → Spells (system_with word.fields.label.count) word bits
-spells_as_is word bits answer valid eight sum told same =
-    whole word bits 0 valid (rows_with word bits 0 valid eight (lit< tt) (omega arith)) (same_truth answer word.balanced (IsBalanced bits) same told)
+spells_as_is law word bits answer valid eight sum told same =
+    whole word bits 0 valid (rows_with law word bits 0 valid eight (lit< tt) (omega arith)) (same_truth answer word.balanced (IsBalanced bits) same told)
 
 one_wide : (system : System) → (polarity_place system).width ≡ 1
 one_wide F24 = refl
@@ -109,17 +111,19 @@ one_wide F25 = refl
 one_wide F30 = refl
 
 -- the correction gives them the balance of the word
-pub spells_corrected : (word : LtcWord) (system : System) (place : Place) (plain more : ℕ) (answer : Bool) → IsFields word.fields → word.fields.user < 2 ^ 32
+pub spells_corrected : SumHolds → (word : LtcWord) (system : System) (place : Place) (plain more : ℕ) (answer : Bool) → IsFields word.fields
+    → word.fields.user < 2 ^ 32
     → plain ≡ uncorrected word → system ≡ system_with word.fields.label.count → place ≡ polarity_place system → more ≡ 1 * 2 ^ place.first
     → (IsTrue answer ↔ IsBalanced plain) → beq answer word.balanced ≡ false
     → Spells (system_with word.fields.label.count) word (plain + more)
-spells_corrected word system place plain more answer valid eight sum system_is place_is one told other =
+spells_corrected law word system place plain more answer valid eight sum system_is place_is one told other =
     let right = system_with word.fields.label.count in
     let first = (polarity_place right).first in
     let moved : place.first ≡ first = ap (λ (p : Place). p.first) (place_is ∙ ap polarity_place system_is) in
     let is : more ≡ 2 ^ first = rw (one, moved) (omega arith) in
-    let before = rows_with word plain 0 valid eight (lit< tt) (omega arith) in
-    let after = rows_with word (plain + 2 ^ first) 1 valid eight (lit< tt) (omega arith) in
+    let before = rows_with law word plain 0 valid eight (lit< tt) (omega arith) in
+    let after = rows_with law word (plain + 2 ^ first) 1 valid eight (lit< tt) (omega arith) in
     let clear : plain / 2 ^ first % 2 ^ 1 ≡ 0 = rw (one_wide right) at before.correction in
     let turns = balance_turns plain first after.width clear in
-    rw is (whole word (plain + 2 ^ first) 1 valid after (other_truth answer word.balanced (IsBalanced plain) (IsBalanced (plain + 2 ^ first)) other told turns.0 turns.1))
+    rw is (whole word (plain + 2 ^ first) 1 valid after
+    (other_truth answer word.balanced (IsBalanced plain) (IsBalanced (plain + 2 ^ first)) other told turns.0 turns.1))

@@ -12,13 +12,14 @@ use Rattle.tc_bits.specs.declared.flags.Flags.{Flags}
 use Rattle.tc_bits.specs.Register.{number_in}
 use Rattle.tc_bits.specs.UserBits.{group}
 use Rattle.tc_bits.specs.Fields.{Contents, contents, agrees, digits_of, Says}
-use Rattle.ltc_word.specs.declared.places.TheConstants.{SYNC, SYNC_PATTERN, USER_GROUP_ONE, USER_GROUP_TWO, USER_GROUP_THREE, USER_GROUP_FOUR, USER_GROUP_FIVE, USER_GROUP_SIX, USER_GROUP_SEVEN, USER_GROUP_EIGHT}
+use Rattle.ltc_word.specs.declared.places.TheConstants as places
 use Rattle.ltc_word.specs.declared.word.LtcWord.{LtcWord}
 use Rattle.ltc_word.specs.Balance.{IsBalanced}
 use Rattle.tc_bits.specs.Fault.{first_field_fault}
 use Rattle.std.proofs.lemmas.Grind.{common_steps}
 use Rattle.ltc_word.proofs.NoBitDiffers.{none_from_right}
-use Rattle.ltc_word.specs.Fault.{first_fault, raw_in, flags_in, user_in}
+use Rattle.ltc_word.specs.Fault.{first_fault}
+use Rattle.ltc_word.specs.Reading.{raw_in, flags_in, user_in}
 use Rattle.ltc_word.specs.Spelling.{Spells, SpellsAddress, SpellsFlags, SpellsUserBits}
 
 -- eight numbers are the groups of some user bits
@@ -47,7 +48,8 @@ groups_of_sum a b c d e f g h ha hb hc hd he hf hg hh = record {
   no_more = omega arith;
 }
 
-sum_of_groups : (a b c d e f g h user : ℕ) → AreGroups a b c d e f g h user → user ≡ a + b * 2 ^ 4 + c * 2 ^ 8 + d * 2 ^ 12 + e * 2 ^ 16 + f * 2 ^ 20 + g * 2 ^ 24 + h * 2 ^ 28
+sum_of_groups : (a b c d e f g h user : ℕ) → AreGroups a b c d e f g h user
+    → user ≡ a + b * 2 ^ 4 + c * 2 ^ 8 + d * 2 ^ 12 + e * 2 ^ 16 + f * 2 ^ 20 + g * 2 ^ 24 + h * 2 ^ 28
 sum_of_groups a b c d e f g h user are = omega arith
 
 below_sixteen : (n first : ℕ) → n / 2 ^ first % 2 ^ 4 < 16
@@ -55,17 +57,31 @@ below_sixteen n first = mod_below (n / 2 ^ first) (2 ^ 4) (lit< tt)
 
 user_spelled : (user bits : ℕ) → user ≡ user_in bits → SpellsUserBits user bits
 user_spelled user bits e =
-    let s = groups_of_sum (number_in USER_GROUP_ONE bits) (number_in USER_GROUP_TWO bits) (number_in USER_GROUP_THREE bits) (number_in USER_GROUP_FOUR bits)
-    (number_in USER_GROUP_FIVE bits) (number_in USER_GROUP_SIX bits) (number_in USER_GROUP_SEVEN bits) (number_in USER_GROUP_EIGHT bits)
+    let s = groups_of_sum (number_in places.USER_GROUP_ONE bits)
+    (number_in places.USER_GROUP_TWO bits) (number_in places.USER_GROUP_THREE bits) (number_in places.USER_GROUP_FOUR bits)
+    (number_in places.USER_GROUP_FIVE bits) (number_in places.USER_GROUP_SIX bits)
+    (number_in places.USER_GROUP_SEVEN bits) (number_in places.USER_GROUP_EIGHT bits)
     (below_sixteen bits 4) (below_sixteen bits 12) (below_sixteen bits 20) (below_sixteen bits 28)
     (below_sixteen bits 36) (below_sixteen bits 44) (below_sixteen bits 52) (below_sixteen bits 60) in
     let s' = rw (← e) at s in
-    record { one = s'.one; two = s'.two; three = s'.three; four = s'.four; five = s'.five; six = s'.six; seven = s'.seven; eight = s'.eight; no_more = s'.no_more }
+    record {
+      one = s'.one;
+      two = s'.two;
+      three = s'.three;
+      four = s'.four;
+      five = s'.five;
+      six = s'.six;
+      seven = s'.seven;
+      eight = s'.eight;
+      no_more = s'.no_more;
+    }
 
 user_read : (user bits : ℕ) → SpellsUserBits user bits → user ≡ user_in bits
 user_read user bits s =
-    sum_of_groups (number_in USER_GROUP_ONE bits) (number_in USER_GROUP_TWO bits) (number_in USER_GROUP_THREE bits) (number_in USER_GROUP_FOUR bits)
-    (number_in USER_GROUP_FIVE bits) (number_in USER_GROUP_SIX bits) (number_in USER_GROUP_SEVEN bits) (number_in USER_GROUP_EIGHT bits) user
+    sum_of_groups (number_in places.USER_GROUP_ONE bits) (number_in places.USER_GROUP_TWO bits)
+    (number_in places.USER_GROUP_THREE bits) (number_in places.USER_GROUP_FOUR bits)
+    (number_in places.USER_GROUP_FIVE bits) (number_in places.USER_GROUP_SIX bits)
+    (number_in places.USER_GROUP_SEVEN bits) (number_in places.USER_GROUP_EIGHT bits) user
     (record { one = s.one; two = s.two; three = s.three; four = s.four; five = s.five; six = s.six; seven = s.seven; eight = s.eight; no_more = s.no_more })
 
 address_spelled : (system : System) (bits : ℕ) (c : Contents) → digits_of c ≡ raw_in system bits → SpellsAddress c.label bits
@@ -90,7 +106,7 @@ flags_spelled system bits flags e = record {
 }
 
 -- the fields that the bits say are spelled by them
-pub spelled : (system : System) (word : LtcWord) (bits : ℕ) → bits < 2 ^ 80 → number_in SYNC bits ≡ SYNC_PATTERN
+pub spelled : (system : System) (word : LtcWord) (bits : ℕ) → bits < 2 ^ 80 → number_in places.SYNC bits ≡ places.SYNC_PATTERN
     → Says system (raw_in system bits) word.fields → (IsTrue word.balanced ↔ IsBalanced bits) → Spells system word bits
 spelled system word bits width sync says balance = record {
   width = width;
@@ -110,7 +126,18 @@ same_flags : (p q r s t p' q' r' s' t' : Bool) → p ≡ p' → q ≡ q' → r �
 same_flags p q r s t p' q' r' s' t' hp hq hr hs ht = cc
 
 abbrev raw_with : ℕ → ℕ → ℕ → ℕ → ℕ → ℕ → ℕ → ℕ → Flags → ℕ → RawFields
-raw_with a b c d e f g h flags user = record { frame_units = a; frame_tens = b; second_units = c; second_tens = d; minute_units = e; minute_tens = f; hour_units = g; hour_tens = h; flags = flags; user = user }
+raw_with a b c d e f g h flags user = record {
+  frame_units = a;
+  frame_tens = b;
+  second_units = c;
+  second_tens = d;
+  minute_units = e;
+  minute_tens = f;
+  hour_units = g;
+  hour_tens = h;
+  flags = flags;
+  user = user;
+}
 
 same_raw : (a b c d e f g h : ℕ) (flags : Flags) (user : ℕ) (a' b' c' d' e' f' g' h' : ℕ) (flags' : Flags) (user' : ℕ)
     → a ≡ a' → b ≡ b' → c ≡ c' → d ≡ d' → e ≡ e' → f ≡ f' → g ≡ g' → h ≡ h' → flags ≡ flags' → user ≡ user'

@@ -9,7 +9,7 @@ use Rattle.tc_address.specs.Count.{system_with}
 use Rattle.ltc_word.specs.declared.word.LtcWord.{LtcWord}
 use Rattle.ltc_word.specs.Spelling.{Spells}
 use Rattle.ltc_word.specs.Reversal.{HasTwelveOnes}
-use Rattle.ltc_word.proofs.RowByRow.{rate_within}
+use Rattle.ltc_word.proofs.RowOfAWord.{rate_within}
 
 -- a bit that stands in the twelve is set
 set_at : (bits i p : ℕ) → HasTwelveOnes bits i → i ≤ p → p < i + 12 → bit_at bits p ≡ 1

@@ -3,7 +3,7 @@
 use Rattle.std.specs.Prelude.{◌≡◌, ℕ, ◌+◌, ◌<◌}
 use Rattle.std.specs.Int.{bit_at, reverse_bits_onto}
 use Rattle.tc_bits.specs.Register.{number_in}
-use Rattle.ltc_word.specs.declared.places.TheConstants.{SYNC, SYNC_PATTERN}
+use Rattle.ltc_word.specs.declared.places.TheConstants as places
 
 -- the lowest 80 bits, the last one first
 abbrev pub reversed_bits : ℕ → ℕ
@@ -11,7 +11,7 @@ reversed_bits bits = reverse_bits_onto 80 bits 0
 
 -- bits 64 to 79 are the sync word
 abbrev pub EndsInSync : ℕ → Type 0
-EndsInSync bits = number_in SYNC bits ≡ SYNC_PATTERN
+EndsInSync bits = number_in places.SYNC bits ≡ places.SYNC_PATTERN
 
 -- twelve ones in a row, from bit i on
 abbrev pub HasTwelveOnes : ℕ → ℕ → Type 0

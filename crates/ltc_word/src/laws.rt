@@ -11,6 +11,8 @@ ghost use Rattle.ltc_word.specs.Spelling.{Spells, word_with, flags};
 ghost use Rattle.ltc_word.specs.Fault.{first_fault};
 ghost use Rattle.ltc_word.specs.Reversal.{reversed_bits, HasTwelveOnes};
 
+use tc_bits::laws::a_row_is_its_sum;
+
 /// Each of the 80 bits belongs to exactly one place, in each system.
 pub fn each_bit_has_one_place()
     ensures at_24 { are_shared_out (places_of F24) ≡ true }
@@ -24,13 +26,16 @@ pub fn spelling_is_exact()
     ensures one_word { (system : System) (a b : LtcWord) (bits : ℕ) → Spells system a bits → Spells system b bits → a ≡ b }
     ensures one_spelling { (system : System) (word : LtcWord) (a b : ℕ) → Spells system word a → Spells system word b → a ≡ b }
     ensures no_fault { (system : System) (word : LtcWord) (bits : ℕ) → Spells system word bits → first_fault system bits ≡ None }
-{}
+{
+    a_row_is_its_sum();
+}
 
 /// Twelve ones in a row stand in a word only in its sync word, at the bits 66 to 77. In two words
 /// that follow each other they stand only in the two sync words.
 pub fn twelve_ones_are_the_sync_word()
     ensures one { (system : System) (word : LtcWord) (bits i : ℕ) → Spells system word bits → i ≤ 68 → HasTwelveOnes bits i → i ≡ 66 }
-    ensures between { (system : System) (a b : LtcWord) (x y i : ℕ) → Spells system a x → Spells system b y → i < 80 → HasTwelveOnes (x + y * 2 ^ 80) i → i ≡ 66 }
+    ensures between { (system : System) (a b : LtcWord) (x y i : ℕ) → Spells system a x → Spells system b y
+        → i < 80 → HasTwelveOnes (x + y * 2 ^ 80) i → i ≡ 66 }
 {}
 
 /// To take 80 bits in the other order of time twice gives them back.

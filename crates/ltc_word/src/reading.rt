@@ -2,15 +2,8 @@
 
 ghost use Rattle.std.specs.Prelude.{◌≡◌, ◌+◌, ◌^◌, ◌<◌, ◌≤◌, IfOk, IfErr, Some};
 ghost use Rattle.ltc_word.specs.Spelling.{Spells};
-ghost use Rattle.ltc_word.specs.Fault.{
-  raw_in,
-  flags_in,
-  user_in,
-  differs,
-  wrong_sync_bit,
-  first_fault,
-  IsOfFields,
-};
+ghost use Rattle.ltc_word.specs.Fault.{differs, wrong_sync_bit, first_fault, IsOfFields};
+ghost use Rattle.ltc_word.specs.Reading.{raw_in, flags_in, user_in};
 ghost use Rattle.ltc_word.specs.Reversal.{EndsInSync};
 
 use crate::balance::is_balanced;

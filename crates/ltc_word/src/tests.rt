@@ -1,3 +1,5 @@
+//! Words that other software wrote, and words with one thing wrong.
+
 use super::*;
 use std::test::Fail;
 use tc_address::{Count, Label, System, system_of};

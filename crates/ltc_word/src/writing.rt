@@ -10,6 +10,7 @@ use crate::balance::is_balanced;
 use crate::places::*;
 use crate::word::LtcWord;
 use tc_address::{Label, System, system_of};
+use tc_bits::laws::a_row_is_its_sum;
 use tc_bits::{Flags, get_field};
 
 /// The digits of the address in their places.
@@ -73,6 +74,8 @@ fn user_group_bits(groups: u32) -> u128
 pub fn encode(word: &LtcWord) -> u128
     ensures { Spells (system_with word.now.fields.label.count) word.now result }
 {
+    // The numbers stand side by side, so each of them stands in its place of their sum.
+    a_row_is_its_sum();
     let label = word.fields.label();
     let system = system_of(label.count());
     let uncorrected = address_bits(&label)

@@ -1,1 +1,2 @@
 pub mod AroundAField
+pub mod SideBySide

@@ -5,6 +5,7 @@ ghost use Rattle.std.specs.Int.{bit_at};
 ghost use Rattle.tc_address.specs.declared.system.System.{System};
 ghost use Rattle.tc_bits.specs.declared.raw.RawFields.{RawFields};
 ghost use Rattle.tc_bits.specs.Register.{Replaces};
+ghost use Rattle.tc_bits.specs.Row.{SumHolds, OnlySumHolds};
 ghost use Rattle.tc_bits.specs.UserBits.{group};
 ghost use Rattle.tc_bits.specs.Fields.{Contents, Says};
 ghost use Rattle.tc_bits.specs.Fault.{first_field_fault};
@@ -13,6 +14,13 @@ ghost use Rattle.tc_bits.specs.Fault.{first_field_fault};
 pub fn replacing_is_exact()
     ensures others { (old new first width value i : ℕ) → Replaces old new first width value → (i < first) ⊎ (first + width ≤ i) → bit_at new i ≡ bit_at old i }
     ensures one { (old a b first width value : ℕ) → Replaces old a first width value → Replaces old b first width value → a ≡ b }
+{}
+
+/// Numbers that fit their places, side by side in a row, stand each in its place of their sum by
+/// weights, and of no other register of so many bits.
+pub fn a_row_is_its_sum()
+    ensures holds { SumHolds }
+    ensures only { OnlySumHolds }
 {}
 
 /// The eight groups are the user bits.

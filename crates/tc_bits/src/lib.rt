@@ -7,13 +7,16 @@
 //! What this crate promises:
 //! - `get_field` and `put_field` read and write some neighbouring bits of a register, and leave all
 //!   others (`specs/Register.antt`, `Replaces`).
+//! - Numbers that fit their places, side by side, stand each in its place of their sum, and of no other
+//!   register (`specs/Row.antt`; the law `a_row_is_its_sum`). So a word of a table has one spelling.
 //! - `check_fields` gives the fields exactly where the digits say an address of the system
 //!   (`specs/Fields.antt`, `Says`), and else their first fault, in the order of `FieldFault`
 //!   (`specs/Fault.antt`, `first_field_fault`). `raw_of` gives the digits back.
 //! - Fields of 30 frames have the drop-frame flag exactly where their count is drop-frame.
 //!
-//! Read `place` and `register`, then `user_bits`, `flags`, `fields`, `raw`, `fault` with its `names`, and `checking`,
-//! with the files of specs/ beside them. `ltc_word` and `vitc_line` stand on this crate. Nothing here
+//! Read `place` and `register`, then `user_bits`, `flags`, `fields`, `raw`, `fault` with its `names`,
+//! and `checking`, with the files of specs/ beside them. `ltc_word` and `vitc_line` read and write these
+//! fields in their places. `direction_reader`, `tc_files` and `tc_top` take them from there. Nothing here
 //! allocates or fails in any other way.
 #![tactic(auto)]
 

@@ -1,3 +1,5 @@
+//! Digits with their labels and faults, and registers with their fields.
+
 use super::*;
 use std::test::Fail;
 use tc_address::{Count, Label, System};

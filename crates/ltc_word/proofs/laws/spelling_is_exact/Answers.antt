@@ -6,7 +6,7 @@ pub returns-clause-one_word : goal.returns-clause-one_word
 returns-clause-one_word c = one_word
 
 pub returns-clause-one_spelling : goal.returns-clause-one_spelling
-returns-clause-one_spelling c = one_spelling
+returns-clause-one_spelling c = one_spelling c.a_row_is_its_sum.ensures.only
 
 pub returns-clause-no_fault : goal.returns-clause-no_fault
 returns-clause-no_fault c = no_fault

@@ -13,7 +13,8 @@ returns-then-is_balanced-word c =
     c.address_bits.result c.flag_bits.result c.user_group_bits.result c.holding.result
     c.label-label.ensures.value system c.flags.ensures.value (c.groups.ensures.value ∙ c.user.ensures.value)
     c.address_bits.ensures.sum c.flag_bits.ensures.sum c.user_group_bits.ensures.sum c.holding.ensures in
-    spells_as_is w _ c.is_balanced.result c.label-label.ensures.valid eight made c.is_balanced.ensures c.if-is_balanced-word.true
+    spells_as_is c.a_row_is_its_sum.ensures.holds w _ c.is_balanced.result c.label-label.ensures.valid eight made
+    c.is_balanced.ensures c.if-is_balanced-word.true
 
 -- they have the other one, and the correction turns it
 pub returns-else-is_balanced-word : goal.returns-else-is_balanced-word
@@ -25,5 +26,6 @@ returns-else-is_balanced-word c =
     c.address_bits.result c.flag_bits.result c.user_group_bits.result c.holding.result
     c.label-label.ensures.value system c.flags.ensures.value (c.groups.ensures.value ∙ c.user.ensures.value)
     c.address_bits.ensures.sum c.flag_bits.ensures.sum c.user_group_bits.ensures.sum c.holding.ensures in
-    spells_corrected w c.system_of-system.result c.polarity.result _ _ c.is_balanced.result c.label-label.ensures.valid eight made
+    spells_corrected c.a_row_is_its_sum.ensures.holds w c.system_of-system.result c.polarity.result _ _ c.is_balanced.result
+    c.label-label.ensures.valid eight made
     system c.polarity.ensures c.holding-else-is_balanced-word.ensures c.is_balanced.ensures c.if-is_balanced-word.false

@@ -1,0 +1,12 @@
+pub mod CheckBits
+pub mod Fault
+pub mod Places
+pub mod Reading
+pub mod Spelling
+-- what the public clauses cite of the crates below
+pub use Rattle.tc_address.specs.Count
+pub use Rattle.tc_address.specs.Label
+pub use Rattle.tc_bits.specs.Fault as FieldFaults
+pub use Rattle.tc_bits.specs.Fields
+pub use Rattle.tc_bits.specs.Register
+pub use Rattle.tc_bits.specs.UserBits
