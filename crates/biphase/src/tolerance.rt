@@ -38,8 +38,8 @@ pub fn is_one(profile: Profile, c: u32, x: u32, y: u32) -> bool
 fn next_zero(tolerance: Tolerance, c: u32, x: u32) -> bool
     ensures { IsTrue result ↔ IsWithin tolerance.cell x c c }
 {
-    let (length, next) = (u64::from(c), u64::from(x));
-    is_within(tolerance.cell, next, length, length)
+    let (cell, next) = (u64::from(c), u64::from(x));
+    is_within(tolerance.cell, next, cell, cell)
 }
 
 fn first_half(tolerance: Tolerance, c: u32, x: u32) -> bool
