@@ -1,5 +1,5 @@
 -- Cells of biphase mark (SMPTE 12M, linear time code), and the lists of them that keep a profile's tolerance.
-use Rattle.std.specs.Prelude.{◌≡◌, ℕ, ◌+◌, ◌≤◌, List, [], ◌∷◌, ◌++◌, flat_map}
+use Rattle.std.specs.Prelude.{◌≡◌, ℕ, ◌+◌, ◌≤◌, List, [], ◌∷◌, ◌++◌, flat_map, Bool, true, false, map}
 use Rattle.biphase.specs.declared.profile.Profile.{Profile}
 use Rattle.biphase.specs.declared.cell.Cell.{Cell}
 use Rattle.biphase.specs.declared.cell.Cell.TheVariants.{Zero, One}
@@ -15,9 +15,18 @@ abbrev pub intervals_of : Cell → List ℕ
 intervals_of (Zero x) = x ∷ []
 intervals_of (One a b) = a ∷ b ∷ []
 
+-- the bit that a cell stands for
+abbrev pub bit_of : Cell → Bool
+bit_of (Zero x) = false
+bit_of (One a b) = true
+
 -- the intervals of a list of cells
 abbrev pub flat : List Cell → List ℕ
 flat cells = flat_map intervals_of cells
+
+-- the bits of a list of cells
+abbrev pub bits : List Cell → List Bool
+bits cells = map bit_of cells
 
 -- the length of the last of some cells that follow one of length c, and c where there are none
 abbrev pub last_length : ℕ → List Cell → ℕ

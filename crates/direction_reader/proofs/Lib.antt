@@ -1,4 +1,5 @@
 pub mod CellsEnd
 pub mod OneList
+pub mod OneListOfEvents
 pub mod WordsEnd
 pub mod WrittenOver

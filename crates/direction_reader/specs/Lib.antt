@@ -7,6 +7,7 @@ pub mod Events
 pub mod Invariants
 pub mod LatestBits
 pub mod LatestCells
+pub mod ListEvents
 pub mod Reader
 pub mod Tracker
 pub mod Window

@@ -1,13 +1,17 @@
 //! What follows from the definitions alone, and the numbers that code and definitions share.
-ghost use Rattle.std.specs.Prelude.{◌≡◌, ℕ, ◌*◌};
+ghost use Rattle.std.specs.Prelude.{◌≡◌, ℕ, ◌*◌, List};
+ghost use Rattle.biphase.specs.declared.profile.Profile.{Profile};
 ghost use Rattle.direction_reader.specs.declared.boundaries.TheConstants.{BOUNDARIES};
+ghost use Rattle.direction_reader.specs.declared.event.Event.{Event};
 ghost use Rattle.direction_reader.specs.declared.event.Events.{Events};
 ghost use Rattle.direction_reader.specs.declared.reader.TheConstants.{MAX_INTERVALS};
 ghost use Rattle.direction_reader.specs.declared.window.TheConstants.{WINDOW_BITS};
 ghost use Rattle.direction_reader.specs.Brings.{greatest_cell};
 ghost use Rattle.direction_reader.specs.Candidate.{AreEventsOf};
+ghost use Rattle.direction_reader.specs.ListEvents.{AreEvents};
 ghost use Rattle.tc_address.specs.declared.system.System.{System};
 
+use cell_tracker::laws::a_list_has_one_list_of_stretches;
 use ltc_word::laws::spelling_is_exact;
 
 /// A reader takes a thousand million intervals, a window has 80 bits and 81 boundaries, and its
@@ -26,4 +30,14 @@ pub fn a_window_has_one_list_of_events()
         → AreEventsOf system bits end length others → events ≡ others }
 {
     spelling_is_exact();
+}
+
+/// A list of intervals has the events that it has, and no others.
+pub fn a_list_has_one_list_of_events()
+    ensures { (system : System) (profile : Profile) (intervals : List ℕ)
+        (events others : List Event) → AreEvents system profile intervals events
+        → AreEvents system profile intervals others → events ≡ others }
+{
+    spelling_is_exact();
+    a_list_has_one_list_of_stretches();
 }

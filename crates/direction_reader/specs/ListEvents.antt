@@ -1,0 +1,70 @@
+-- The events of a list of intervals: the candidates of all windows of its stretches, and its breaks. Nothing here is kept from one interval
+-- to the next: all of it is said of the finished list.
+use Rattle.std.specs.Prelude.{◌≡◌, ℕ, ◌+◌, ◌-◌, ◌*◌, List, [], ◌∷◌, ◌++◌, length, take, drop, map, sum, Bool, Option, Some, None}
+use Rattle.std.specs.List.{range_with_len}
+use Rattle.biphase.specs.declared.cell.Cell.{Cell}
+use Rattle.biphase.specs.declared.profile.Profile.{Profile}
+use Rattle.biphase.specs.Chain.{flat, bits}
+use Rattle.cell_tracker.specs.Stretch.{Stretch, AreStretches}
+use Rattle.tc_address.specs.declared.system.System.{System}
+use Rattle.direction_reader.specs.declared.event.Event.{Event}
+use Rattle.direction_reader.specs.declared.event.Event.TheVariants.{Lost}
+use Rattle.direction_reader.specs.declared.event.Events.{Events}
+use Rattle.direction_reader.specs.Candidate.{AreEventsOf}
+use Rattle.direction_reader.specs.Events.{event_list}
+use Rattle.direction_reader.specs.Window.{bit_value}
+
+-- bits as one number, the oldest in bit 0
+abbrev pub number_of : List Bool → ℕ
+number_of [] = 0
+number_of (bit ∷ more) = bit_value bit + 2 * number_of more
+
+-- a window: its 80 bits as a number, the tick at its end, and the sum of its intervals
+pub record CellWindow : Type 0 where
+  pub bits : ℕ
+  pub end : ℕ
+  pub length : ℕ
+
+-- of cells that begin at a tick, the window of the 80 from place k on
+abbrev pub window_at : ℕ → List Cell → ℕ → CellWindow
+window_at tick cells k = record {
+  bits = number_of (bits (take 80 (drop k cells)));
+  end = tick + sum (flat (take (k + 80) cells));
+  length = sum (flat (take 80 (drop k cells)));
+}
+
+-- all windows of cells that begin at a tick, in order
+abbrev pub windows : ℕ → List Cell → List CellWindow
+windows tick cells = map (window_at tick cells) (range_with_len 0 (length cells - 79))
+
+-- the events of windows, one window after another
+abbrev pub AreEventsOfWindows : System → List CellWindow → List Event → Type 0
+AreEventsOfWindows system [] events = events ≡ []
+AreEventsOfWindows system (window ∷ more) events = (own : Events) × (rest : List Event)
+    × AreEventsOf system window.bits window.end window.length own × AreEventsOfWindows system more rest × (events ≡ event_list own ++ rest)
+
+-- the tick at which a stretch begins
+abbrev pub begin_of : List ℕ → Stretch → ℕ
+begin_of intervals stretch = sum (take stretch.lock intervals)
+
+-- the end of a stretch, if it has one: the place of the interval at which it breaks, and the sum up to and with that
+abbrev pub break_events : List ℕ → Option ℕ → List Event
+break_events intervals None = []
+break_events intervals (Some place) = Lost place (sum (take (place + 1) intervals)) ∷ []
+
+-- the events of a stretch: those of its windows, and then its break
+abbrev pub AreEventsOfStretch : System → List ℕ → Stretch → List Event → Type 0
+AreEventsOfStretch system intervals stretch events = (own : List Event)
+    × AreEventsOfWindows system (windows (begin_of intervals stretch) stretch.cells) own
+    × (events ≡ own ++ break_events intervals stretch.broken_at)
+
+-- the events of stretches, one stretch after another
+abbrev pub AreEventsOfStretches : System → List ℕ → List Stretch → List Event → Type 0
+AreEventsOfStretches system intervals [] events = events ≡ []
+AreEventsOfStretches system intervals (stretch ∷ more) events = (own rest : List Event)
+    × AreEventsOfStretch system intervals stretch own × AreEventsOfStretches system intervals more rest × (events ≡ own ++ rest)
+
+-- the events of a list of intervals
+abbrev pub AreEvents : System → Profile → List ℕ → List Event → Type 0
+AreEvents system profile intervals events = (stretches : List Stretch)
+    × AreStretches profile intervals stretches × AreEventsOfStretches system intervals stretches events
