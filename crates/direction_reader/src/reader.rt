@@ -32,7 +32,13 @@ impl Model for DirectionReader {
 
     ghost Value = { Reading };
 
-    ghost view = { λ r. record { system = r.system; intervals = r.intervals; tick = r.tick } };
+    ghost view = { λ r. record {
+      system = r.system;
+      intervals = r.intervals;
+      tick = r.tick;
+      tracker = r.tracker;
+      cells = r.cells;
+    } };
 
     ghost invariant = { λ r. IsReading r.intervals r.tick r.tracker r.cells };
 }
