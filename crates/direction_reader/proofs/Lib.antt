@@ -4,6 +4,8 @@ pub mod CellsGrow
 pub mod EventsJoin
 pub mod OneList
 pub mod OneListOfEvents
+pub mod ReaderSteps
+pub mod TrackerSteps
 pub mod WindowsGrow
 pub mod WordsEnd
 pub mod WrittenOver

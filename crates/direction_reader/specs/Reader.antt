@@ -1,5 +1,5 @@
 -- What a reader counts, and what it keeps of the stretch that is open.
-use Rattle.std.specs.Prelude.{ℕ}
+use Rattle.std.specs.Prelude.{◌≡◌, ℕ, ◌+◌}
 use Rattle.tc_address.specs.declared.system.System.{System}
 use Rattle.direction_reader.specs.declared.tracker.Tracker.{Tracker}
 use Rattle.direction_reader.specs.LatestCells.{Cells}
@@ -11,3 +11,9 @@ pub record Reading : Type 0 where
   pub tick : ℕ
   pub tracker : Tracker
   pub cells : Cells
+
+-- a reader takes one interval more
+pub record Takes (old : Reading) (x : ℕ) (new : Reading) : Type 0 where
+  pub system : new.system ≡ old.system
+  pub intervals : new.intervals ≡ old.intervals + 1
+  pub tick : new.tick ≡ old.tick + x

@@ -1,16 +1,23 @@
 -- Which lists of intervals a reader stands for, each list with its events. What it keeps of the cells is tied to the list here.
-use Rattle.std.specs.Prelude.{◌≡◌, ℕ, ◌+◌, ◌*◌, ◌^◌, ◌≤◌, ◌<◌, List, [], ◌∷◌, ◌++◌, length, sum, Option, Some, None, IfSome}
+use Rattle.std.specs.Prelude.{◌≡◌, ℕ, ◌+◌, ◌-◌, ◌*◌, ◌^◌, ◌≤◌, ◌<◌, List, [], ◌∷◌, ◌++◌, length, sum, Option, Some, None, IfSome, IsSome, ◌⊎◌}
 use Rattle.biphase.specs.declared.cell.Cell.{Cell}
 use Rattle.biphase.specs.declared.profile.Profile.{Profile}
-use Rattle.biphase.specs.Chain.{length_of, bits}
-use Rattle.cell_tracker.specs.Stretch.{Stretch}
-use Rattle.cell_tracker.specs.StandsFor.{HuntingStandsFor, AtCellStandsFor, MidCellStandsFor}
+use Rattle.biphase.specs.Chain.{length_of, bit_of, bits}
+use Rattle.cell_tracker.specs.Stretch.{Stretch, begun, with_cell, with_break}
+use Rattle.cell_tracker.specs.StandsFor.{last_of, HuntingStandsFor, AtCellStandsFor, MidCellStandsFor}
+use Rattle.direction_reader.specs.declared.brought.Brought.{Brought}
+use Rattle.direction_reader.specs.declared.brought.Brought.TheVariants.{Candidate}
 use Rattle.direction_reader.specs.declared.event.Event.{Event}
+use Rattle.direction_reader.specs.declared.event.Event.TheVariants.{Lost}
+use Rattle.direction_reader.specs.declared.event.Events.{Events}
+use Rattle.direction_reader.specs.Events.{no_events, one_event}
 use Rattle.direction_reader.specs.declared.latest_bits.LatestBits.{LatestBits}
 use Rattle.direction_reader.specs.declared.latest_bits.LatestBits.TheVariants as newest
 use Rattle.direction_reader.specs.declared.tracker.Tracker.{Tracker}
 use Rattle.direction_reader.specs.declared.tracker.Tracker.TheVariants.{AtCell, MidCell, Hunting}
-use Rattle.direction_reader.specs.LatestCells.{Cells}
+use Rattle.direction_reader.specs.declared.tracker.Step.{Step}
+use Rattle.direction_reader.specs.declared.tracker.Step.TheVariants.{Nothing, FirstZero, ZeroBefore, Break}
+use Rattle.direction_reader.specs.LatestCells.{Cells, AreWindowEvents}
 use Rattle.direction_reader.specs.ListEvents.{duration, number_of, begin_of, windows, AreEventsOfWindows, AreEventsOfStretches}
 use Rattle.direction_reader.specs.Reader.{Reading}
 
@@ -42,11 +49,41 @@ pub record CellsStandFor (kept : Cells) (tick : ℕ) (cells : List Cell) : Type 
   pub bits_are : BitsStandFor kept.bits older newest
   pub boundaries_are : kept.boundaries ≡ ticks (tick + duration older) newest
 
+-- a cell ended with the latest interval
+abbrev pub IsAtCell : Tracker → Type 0
+IsAtCell (AtCell a) = Unit {0}
+IsAtCell (MidCell m) = ⊥
+IsAtCell (Hunting h) = ⊥
+
 -- the half that waits behind the last cell
 abbrev pub waiting : Tracker → ℕ
 waiting (AtCell a) = 0
 waiting (MidCell m) = m.half
 waiting (Hunting h) = 0
+
+-- the last interval of the list is the first zero of the stretch that begins with it
+abbrev pub IsLastZero : List ℕ → ℕ → Type 0
+IsLastZero intervals first = last_of intervals ≡ Some first
+
+-- the stretch that breaks is the open one, or one that begins with the last interval
+abbrev pub MayBreak : List ℕ → Option Stretch → Stretch → Type 0
+MayBreak intervals (Some open_yet) stretch = stretch ≡ open_yet
+MayBreak intervals None stretch =
+    (first : ℕ) × IsLastZero intervals first × (stretch ≡ begun (length intervals - 1) first)
+
+-- what a step of the tracker means for the stretches of the intervals with x at their end
+abbrev pub StandsAfter : Tracker → Tracker → ℕ → List ℕ → List Stretch → Option Stretch → Step → Type 0
+StandsAfter old next x intervals earlier open_yet Nothing =
+    TrackerStandsFor next (intervals ++ x ∷ []) earlier open_yet × (IsSome open_yet → waiting next ≡ waiting old + x)
+StandsAfter old next x intervals earlier open_yet FirstZero = (open_yet ≡ None) × (waiting next ≡ 0)
+    × TrackerStandsFor next (intervals ++ x ∷ []) earlier (Some (begun (length intervals) x))
+StandsAfter old next x intervals earlier open_yet (ZeroBefore first) = (open_yet ≡ None) × IsLastZero intervals first × (waiting next ≡ x)
+    × TrackerStandsFor next (intervals ++ x ∷ []) earlier (Some (begun (length intervals - 1) first))
+StandsAfter old next x intervals earlier open_yet (Step.Cell bit) = (stretch : Stretch) × (cell : Cell) × (open_yet ≡ Some stretch)
+    × (bit_of cell ≡ bit) × (length_of cell ≡ waiting old + x) × (waiting next ≡ 0)
+    × TrackerStandsFor next (intervals ++ x ∷ []) earlier (Some (with_cell cell stretch))
+StandsAfter old next x intervals earlier open_yet Break = (stretch : Stretch) × MayBreak intervals open_yet stretch
+    × TrackerStandsFor next (intervals ++ x ∷ []) (earlier ++ with_break (length intervals) stretch ∷ []) None
 
 -- the open stretch, the part of it that is kept, and the events of its windows
 pub record OpenStandsFor (reader : Reading) (intervals : List ℕ) (stretch : Stretch) (events : List Event) : Type 0 where
@@ -83,3 +120,9 @@ pub record StandsFor (reader : Reading) (intervals : List ℕ) (events : List Ev
   pub past_are : AreEventsOfStretches reader.system intervals earlier past
   pub latest_are : LatestStandsFor reader intervals open_yet latest
   pub all : events ≡ past ++ latest
+
+-- what the latest interval brought, where the reader told so of it
+abbrev pub Tells : Reading → Brought → Events → Type 0
+Tells reader Brought.Nothing events = events ≡ no_events
+Tells reader Candidate events = IsAtCell reader.tracker × AreWindowEvents reader.system reader.cells.bits reader.cells.boundaries reader.tick events
+Tells reader Brought.Break events = events ≡ one_event (Lost (reader.intervals - 1) reader.tick)

@@ -3,6 +3,8 @@ ghost use Rattle.std.specs.Prelude.{◌≡◌, ◌<◌, ◌≤◌, ◌+◌, ◌-
 ghost use Rattle.biphase.specs.declared.cell.TheConstants.{MAX_INTERVAL};
 ghost use Rattle.direction_reader.specs.Brings.{Brings};
 ghost use Rattle.direction_reader.specs.Events.{no_events, one_event};
+ghost use Rattle.direction_reader.specs.LatestCells.{no_cells};
+ghost use Rattle.direction_reader.specs.Reader.{Takes};
 
 use crate::brought::Brought;
 use crate::event::{Event, Events};
@@ -46,7 +48,13 @@ impl Model for DirectionReader {
 impl DirectionReader {
     /// A reader of a recording of this system, whose cells keep the tolerance of the profile.
     pub fn new(system: System, profile: Profile) -> DirectionReader
-        ensures { result ≡ record { system = system; intervals = 0; tick = 0 } }
+        ensures value { result ≡ record {
+          system = system;
+          intervals = 0;
+          tick = 0;
+          tracker = Tracker.Hunting (record { profile = profile; before = None });
+          cells = no_cells 0;
+        } }
     {
         DirectionReader {
             system,
@@ -79,10 +87,7 @@ impl DirectionReader {
         requires least { 1 ≤ x }
         requires most { x ≤ MAX_INTERVAL }
         requires room { self.old.intervals < MAX_INTERVALS }
-        ensures next { self.new ≡ record self.old {
-          intervals = self.old.intervals + 1;
-          tick = self.old.tick + x;
-        } }
+        ensures next { Takes self.old x self.new }
         ensures within { self.new.tick ≤ self.new.intervals * MAX_INTERVAL }
         ensures brings { Brings self.new.intervals self.new.tick result }
     {
@@ -99,10 +104,7 @@ impl DirectionReader {
         requires least { 1 ≤ x }
         requires most { x ≤ MAX_INTERVAL }
         requires room { self.old.intervals < MAX_INTERVALS }
-        ensures next { self.new ≡ record self.old {
-          intervals = self.old.intervals + 1;
-          tick = self.old.tick + x;
-        } }
+        ensures next { Takes self.old x self.new }
         ensures within { self.new.tick ≤ self.new.intervals * MAX_INTERVAL }
         ensures taken { 1 ≤ self.new.intervals }
     {

@@ -5,7 +5,7 @@ use Rattle.direction_reader.proofs.reader.DirectionReader.step.Goals as goal
 -- what is kept fits the cell's end
 pub invariant_of-self : goal.invariant_of-self
 invariant_of-self c =
-    let steps = rw c.in-Cell.is at c.step.ensures in
+    let steps = rw c.in-Cell.is at c.step.ensures.steps in
     let room = rw (← c.self.view_is) at c.requires.room in
     record {
       count = omega arith;
