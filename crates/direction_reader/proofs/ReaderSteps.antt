@@ -21,7 +21,8 @@ use Rattle.direction_reader.specs.LatestBits.{after_bit}
 use Rattle.direction_reader.specs.LatestCells.{Cells, no_cells, with_boundary, AreWindowEvents}
 use Rattle.direction_reader.specs.ListEvents.{duration, begin_of, windows, window_at, AreEventsOfWindows, AreEventsOfStretch, AreEventsOfStretches}
 use Rattle.direction_reader.specs.Reader.{Reading, Takes}
-use Rattle.direction_reader.specs.StandsFor.{waiting, CellsStandFor, OpenStandsFor, LatestStandsFor, IsInside, AreInside, StandsFor, StandsAfter, BitsStandFor}
+use Rattle.direction_reader.specs.StandsFor.{waiting, CellsStandFor, OpenStandsFor, LatestStandsFor, TrackerStandsFor, IsInside, StandsFor, StandsAfter}
+use Rattle.direction_reader.specs.StandsFor.{BitsStandFor, MayBreak, IsLastZero}
 use Rattle.direction_reader.proofs.CellsGrow.{cell_more, none_yet, kept_events, duration_more}
 use Rattle.direction_reader.proofs.EventsJoin.{window_more, stretch_more, begin_stays, stretches_stay, all_inside, one_inside}
 use Rattle.direction_reader.proofs.WindowsGrow.{few, one_more}
@@ -67,3 +68,107 @@ nothing_ended r n x l es takes same stands after = record {
   latest_are = latest_waits r n x l stands.open_yet stands.latest takes same after.1 stands.latest_are;
   all = stands.all;
 }
+
+-- ---- a cell ended
+
+-- the windows of one cell more
+windows_after : (system : System) (kept : Cells) (b : LatestBits) (tick end : ℕ) (cells : List Cell) (cell : Cell) (es : List Event) (own : Events)
+    → kept.bits ≡ b → CellsStandFor kept tick (cells ++ cell ∷ []) → end ≡ tick + duration (cells ++ cell ∷ [])
+    → AreWindowEvents system kept.bits kept.boundaries end own → AreEventsOfWindows system (windows tick cells) es
+    → AreEventsOfWindows system (windows tick (cells ++ cell ∷ [])) (es ++ event_list own)
+windows_after system kept (latest.Full n) tick end cells cell es own full stands ends are before =
+    let last = kept_events system kept n tick end (cells ++ cell ∷ []) own stands full ends are in
+    let count = length-append cells (cell ∷ []) in
+    let many = last.0 in
+    let place : length (cells ++ cell ∷ []) - 80 ≡ length cells - 79 = omega arith in
+    let is = rw place at last.1 in
+    rw (one_more tick cells cell (omega arith)) (window_more system (windows tick cells) _ es own before is)
+windows_after system kept (latest.Filling f) tick end cells cell es own filling stands ends are before =
+    let is = subst (λ (b : LatestBits). BitsStandFor b stands.older stands.newest) filling stands.bits_are in
+    let all = stands.are in
+    let alone : stands.older ++ stands.newest ≡ stands.newest = rw is.0 refl in
+    let room = is.2.1 in
+    let count : length (cells ++ cell ∷ []) ≡ length stands.newest = ap length all ∙ ap length alone in
+    let before_count = length-append cells (cell ∷ []) in
+    let none : own ≡ no_events = subst (λ (b : LatestBits). AreWindowEvents system b kept.boundaries end own) filling are in
+    let was : es ≡ [] = rw (few tick cells (omega arith)) at before in
+    let nothing : es ++ event_list own ≡ [] = rw (none, was) refl in
+    rw (few tick (cells ++ cell ∷ []) (omega arith)) nothing
+
+cell_opens : (r n : Reading) (x : ℕ) (l : List ℕ) (s : Stretch) (cell : Cell) (es : List Event) (own : Events) → Takes r x n
+    → n.cells.bits ≡ after_bit r.cells.bits (bit_of cell) → n.cells.boundaries ≡ with_boundary r.cells.boundaries n.tick
+    → AreWindowEvents n.system n.cells.bits n.cells.boundaries n.tick own → length_of cell ≡ waiting r.tracker + x → waiting n.tracker ≡ 0
+    → OpenStandsFor r l s es → OpenStandsFor n (l ++ x ∷ []) (with_cell cell s) (es ++ event_list own)
+cell_opens r n x l s cell es own takes is_bits is_boundaries are long waits is =
+    let begin = begin_of l s in
+    let begins : begin_of (l ++ x ∷ []) s ≡ begin = begin_stays l (x ∷ []) s is.lock in
+    let ticks = takes.tick in
+    let was = is.ends in
+    let more = duration_more s.cells cell in
+    let count = count_more l x in
+    let inside = is.lock in
+    let ends : n.tick ≡ begin + duration s.cells + length_of cell = omega arith in
+    let kept = cell_more r.cells n.cells begin n.tick s.cells cell is.kept ends is_bits is_boundaries in
+    let ends_all : n.tick ≡ begin + duration (s.cells ++ cell ∷ []) = omega arith in
+    let before : AreEventsOfWindows n.system (windows begin s.cells) es = rw takes.system is.events_are in
+    let events = windows_after n.system n.cells n.cells.bits begin n.tick s.cells cell es own refl kept ends_all are before in
+    record {
+      lock = omega arith;
+      kept = rw begins kept;
+      ends = rw begins (omega arith);
+      events_are = rw begins events;
+    }
+
+pub cell_ended : (r n : Reading) (x : ℕ) (l : List ℕ) (es : List Event) (own : Events) (s : Stretch) (cell : Cell) → Takes r x n
+    → n.cells.bits ≡ after_bit r.cells.bits (bit_of cell) → n.cells.boundaries ≡ with_boundary r.cells.boundaries n.tick
+    → AreWindowEvents n.system n.cells.bits n.cells.boundaries n.tick own → length_of cell ≡ waiting r.tracker + x → waiting n.tracker ≡ 0
+    → (stands : StandsFor r l es) → stands.open_yet ≡ Some s
+    → TrackerStandsFor n.tracker (l ++ x ∷ []) stands.earlier (Some (with_cell cell s)) → StandsFor n (l ++ x ∷ []) (es ++ event_list own)
+cell_ended r n x l es own s cell takes is_bits is_boundaries are long waits stands open_yet tracker =
+    let is : OpenStandsFor r l s stands.latest = subst (λ (o : Option Stretch). LatestStandsFor r l o stands.latest) open_yet stands.latest_are in
+    record {
+      count = takes.intervals ∙ ap (λ m. m + 1) stands.count ∙ sym (count_more l x);
+      sum_is = takes.tick ∙ ap (λ m. m + x) stands.sum_is ∙ sym (sum_more l x);
+      earlier = stands.earlier;
+      open_yet = Some (with_cell cell s);
+      tracker = tracker;
+      inside = all_inside (length l) (length (l ++ x ∷ [])) stands.earlier (omega (arith, count_more l x)) stands.inside;
+      past = stands.past;
+      latest = stands.latest ++ event_list own;
+      past_are = rw takes.system (stretches_stay r.system l (x ∷ []) stands.earlier stands.past stands.inside stands.past_are);
+      latest_are = cell_opens r n x l s cell stands.latest own takes is_bits is_boundaries are long waits is;
+      all = ap (λ e. e ++ event_list own) stands.all ∙ append_assoc stands.past stands.latest (event_list own);
+    }
+
+-- ---- a stretch begins
+
+-- where no stretch is open there are no events of one
+none_open : (r : Reading) (l : List ℕ) (es : List Event) (stands : StandsFor r l es) → stands.open_yet ≡ None → es ≡ stands.past
+none_open r l es stands closed =
+    let none : stands.latest ≡ [] = subst (λ (o : Option Stretch). LatestStandsFor r l o stands.latest) closed stands.latest_are in
+    stands.all ∙ ap (λ e. stands.past ++ e) none ∙ append-nil stands.past
+
+-- a stretch begins with its first zero, which begins at a tick
+begins : (r n : Reading) (x : ℕ) (l : List ℕ) (es : List Event) (lock first tick : ℕ) → Takes r x n
+    → n.cells.bits ≡ after_bit (no_cells tick).bits false → n.cells.boundaries ≡ with_boundary (no_cells tick).boundaries (tick + first)
+    → lock ≤ length l → begin_of (l ++ x ∷ []) (begun lock first) ≡ tick → n.tick ≡ tick + first + waiting n.tracker
+    → (stands : StandsFor r l es) → stands.open_yet ≡ None
+    → TrackerStandsFor n.tracker (l ++ x ∷ []) stands.earlier (Some (begun lock first)) → StandsFor n (l ++ x ∷ []) es
+begins r n x l es lock first tick takes is_bits is_boundaries within start ends stands closed tracker =
+    let one : duration (cell.Zero first ∷ []) ≡ first = omega arith in
+    let zero_ends : tick + first ≡ tick + duration [] + first = omega arith in
+    let kept = cell_more (no_cells tick) n.cells tick (tick + first) [] (cell.Zero first) (none_yet tick) zero_ends is_bits is_boundaries in
+    let count = count_more l x in
+    record {
+      count = takes.intervals ∙ ap (λ m. m + 1) stands.count ∙ sym (count_more l x);
+      sum_is = takes.tick ∙ ap (λ m. m + x) stands.sum_is ∙ sym (sum_more l x);
+      earlier = stands.earlier;
+      open_yet = Some (begun lock first);
+      tracker = tracker;
+      inside = all_inside (length l) (length (l ++ x ∷ [])) stands.earlier (omega (arith, count_more l x)) stands.inside;
+      past = stands.past;
+      latest = [];
+      past_are = rw takes.system (stretches_stay r.system l (x ∷ []) stands.earlier stands.past stands.inside stands.past_are);
+      latest_are = record { lock = omega arith; kept = rw start kept; ends = rw (start, one) ends; events_are = refl };
+      all = none_open r l es stands closed ∙ sym (append-nil stands.past);
+    }
