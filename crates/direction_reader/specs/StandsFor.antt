@@ -124,5 +124,11 @@ pub record StandsFor (reader : Reading) (intervals : List ℕ) (events : List Ev
 -- what the latest interval brought, where the reader told so of it
 abbrev pub Tells : Reading → Brought → Events → Type 0
 Tells reader Brought.Nothing events = events ≡ no_events
-Tells reader Candidate events = IsAtCell reader.tracker × AreWindowEvents reader.system reader.cells.bits reader.cells.boundaries reader.tick events
+Tells reader Candidate events = AreWindowEvents reader.system reader.cells.bits reader.cells.boundaries reader.tick events
 Tells reader Brought.Break events = events ≡ one_event (Lost (reader.intervals - 1) reader.tick)
+
+-- a candidate is told only where a cell has just ended
+abbrev pub MayTell : Reading → Brought → Type 0
+MayTell reader Brought.Nothing = Unit {0}
+MayTell reader Candidate = IsAtCell reader.tracker
+MayTell reader Brought.Break = Unit {0}
