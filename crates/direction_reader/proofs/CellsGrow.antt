@@ -1,6 +1,6 @@
 -- What is kept of some cells becomes what is kept of one cell more.
-use Rattle.std.proofs.Common.{◌≡◌, ◌<◌, ◌≤◌, ℕ, ◌+◌, ◌-◌, ◌*◌, ◌^◌, List, [], ◌∷◌, ◌++◌, length, drop, map, ap, sym, ◌∙◌, arith, refl, subst}
-use Rattle.std.proofs.Common.{length-append, append_assoc, zero, suc, Bool, true, false}
+use Rattle.std.proofs.Common.{◌≡◌, ◌<◌, ℕ, ◌+◌, ◌-◌, ◌*◌, ◌^◌, List, [], ◌∷◌, ◌++◌, length, drop, ap, sym, ◌∙◌, arith, refl, subst}
+use Rattle.std.proofs.Common.{length-append, append_assoc, zero, suc, true, false}
 use Rattle.std.specs.Prelude.{nat_lt, slice_index}
 use Rattle.std.proofs.lemmas.Grind.{common_steps}
 use Rattle.std.proofs.lemmas.List.{map-append, length-map}
@@ -81,11 +81,12 @@ full_more n bs kept tick end older (first ∷ rest) cell is at ends is_bits is_b
       newest = rest ++ cell ∷ [];
       are = append_assoc older (first ∷ rest) (cell ∷ []) ∙ sym (append_assoc older (first ∷ []) (rest ++ cell ∷ []));
       bits_are = subst (λ (b : LatestBits). BitsStandFor b (older ++ first ∷ []) (rest ++ cell ∷ [])) (sym is_bits) (
-          omega (arith, length-append rest (cell ∷ [])),
-          ap (λ m. slid_by m (bit_of cell)) is.1 ∙ shifted ∙ ap number_of (sym (bits-append rest cell)));
+        omega (arith, length-append rest (cell ∷ [])),
+        ap (λ m. slid_by m (bit_of cell)) is.1 ∙ shifted ∙ ap number_of (sym (bits-append rest cell)),
+      );
       boundaries_are = is_boundaries ∙ ap (λ l. with_boundary l end) at
           ∙ boundary_last (tick + duration older) (ticks (tick + duration older + length_of first) rest) end
-            (omega (arith, length-ticks (tick + duration older + length_of first) rest))
+          (omega (arith, length-ticks (tick + duration older + length_of first) rest))
           ∙ sym (rw begin (ticks-append (tick + duration older + length_of first) end rest cell (omega arith)));
     }
 
@@ -179,7 +180,7 @@ kept_events system kept n tick end cells events stands full ends are =
     let count : length cells ≡ length stands.older + 80 = ap length same ∙ length-append stands.older stands.newest ∙ ap (λ m. length stands.older + m) is.0 in
     let place : length cells - 80 ≡ length stands.older = omega arith in
     let window : window_at tick cells (length cells - 80)
-        ≡ record { bits = number_of (bits stands.newest); end = tick + duration (stands.older ++ stands.newest); length = duration stands.newest } =
+    ≡ record { bits = number_of (bits stands.newest); end = tick + duration (stands.older ++ stands.newest); length = duration stands.newest } =
     rw place (rw same (last_window tick stands.older stands.newest is.0)) in
     let of_full = subst (λ (b : LatestBits). AreWindowEvents system b kept.boundaries end events) full are in
     let first : slice_index kept.boundaries 0 ≡ tick + duration stands.older = ap (λ l. slice_index l 0) stands.boundaries_are ∙ oldest _ stands.newest in

@@ -1,5 +1,5 @@
 -- Events of more windows, of more stretches and of more intervals stand behind those that were there.
-use Rattle.std.proofs.Common.{◌≡◌, ◌<◌, ◌≤◌, ℕ, ◌+◌, List, [], ◌∷◌, ◌++◌, length, take, sum, ap, ap₂, sym, ◌∙◌, arith, refl, subst, append_assoc}
+use Rattle.std.proofs.Common.{◌≡◌, ◌<◌, ◌≤◌, ℕ, ◌+◌, List, [], ◌∷◌, ◌++◌, length, sum, ap, sym, ◌∙◌, arith, refl, subst, append_assoc}
 use Rattle.std.proofs.Common.{append-nil, IfSome, Some, None, Option}
 use Rattle.std.proofs.lemmas.List.{take-append-le}
 use Rattle.cell_tracker.specs.Stretch.{Stretch}
@@ -16,9 +16,13 @@ use Rattle.direction_reader.specs.StandsFor.{IsInside, AreInside}
 pub window_more : (system : System) (ws : List CellWindow) (w : CellWindow) (es : List Event) (own : Events) → AreEventsOfWindows system ws es
     → AreEventsOf system w.bits w.end w.length own → AreEventsOfWindows system (ws ++ w ∷ []) (es ++ event_list own)
 window_more system [] w es own are is = (own, [], is, refl, ap (λ l. l ++ event_list own) are ∙ sym (append-nil (event_list own)))
-window_more system (v ∷ ws) w es own (first, rest, is_first, others, join) is =
-    (first, rest ++ event_list own, is_first, window_more system ws w rest own others is,
-    ap (λ l. l ++ event_list own) join ∙ append_assoc (event_list first) rest (event_list own))
+window_more system (v ∷ ws) w es own (first, rest, is_first, others, join) is = (
+  first,
+  rest ++ event_list own,
+  is_first,
+  window_more system ws w rest own others is,
+  ap (λ l. l ++ event_list own) join ∙ append_assoc (event_list first) rest (event_list own),
+)
 
 -- one stretch more
 pub stretch_more : (system : System) (l : List ℕ) (ss : List Stretch) (s : Stretch) (es own : List Event) → AreEventsOfStretches system l ss es
@@ -39,9 +43,10 @@ break_stays l more (Some p) within = let front = take-append-le (p + 1) l more (
 stretch_stays : (system : System) (l more : List ℕ) (s : Stretch) (es : List Event) → IsInside (length l) s → AreEventsOfStretch system l s es
     → AreEventsOfStretch system (l ++ more) s es
 stretch_stays system l more s es inside (own, are, join) = (
-    own,
-    subst (λ tick. AreEventsOfWindows system (windows tick s.cells) own) (sym (begin_stays l more s inside.lock)) are,
-    join ∙ ap (λ e. own ++ e) (sym (break_stays l more s.broken_at inside.broken)))
+  own,
+  subst (λ tick. AreEventsOfWindows system (windows tick s.cells) own) (sym (begin_stays l more s inside.lock)) are,
+  join ∙ ap (λ e. own ++ e) (sym (break_stays l more s.broken_at inside.broken)),
+)
 
 -- the events of the stretches that were there
 pub stretches_stay : (system : System) (l more : List ℕ) (ss : List Stretch) (es : List Event) → AreInside (length l) ss

@@ -5,6 +5,7 @@ pub mod EventsJoin
 pub mod OneList
 pub mod OneListOfEvents
 pub mod ReaderSteps
+pub mod TheEvents
 pub mod TrackerSteps
 pub mod WindowsGrow
 pub mod WordsEnd

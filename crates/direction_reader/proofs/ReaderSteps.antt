@@ -1,6 +1,6 @@
 -- Each step of the tracker takes the reader from a list with its events to the list with one interval more, with the events that are new.
-use Rattle.std.proofs.Common.{◌≡◌, ◌<◌, ◌≤◌, ℕ, ◌+◌, ◌-◌, List, [], ◌∷◌, ◌++◌, length, take, sum, ap, ap₂, sym, ◌∙◌, arith, refl, subst}
-use Rattle.std.proofs.Common.{append-nil, append_assoc, length-append, IfSome, Some, None, Option, IsSome, false, get_or, Bool, ◌⊎◌, inl, inr}
+use Rattle.std.proofs.Common.{◌≡◌, ◌<◌, ◌≤◌, ℕ, ◌+◌, ◌-◌, List, [], ◌∷◌, ◌++◌, length, take, sum, ap, sym, ◌∙◌, arith, refl, subst}
+use Rattle.std.proofs.Common.{append-nil, append_assoc, length-append, Some, None, Option, IsSome, false, get_or, Bool, ◌⊎◌, inl, inr}
 use Rattle.std.proofs.lemmas.List.{take-append-le, take_all, take_more}
 use Rattle.std.proofs.lemmas.Option.{slice_get_within, get_or_from_slice_get}
 use Rattle.std.proofs.lemmas.List.Sums.{sum_by-append}
@@ -20,9 +20,9 @@ use Rattle.direction_reader.specs.declared.tracker.Step.{Step}
 use Rattle.direction_reader.specs.Events.{event_list, no_events, one_event}
 use Rattle.direction_reader.specs.LatestBits.{after_bit, EndsInCandidate}
 use Rattle.direction_reader.specs.LatestCells.{Cells, no_cells, with_boundary, AreWindowEvents}
-use Rattle.direction_reader.specs.ListEvents.{duration, begin_of, windows, window_at, AreEventsOfWindows, AreEventsOfStretch, AreEventsOfStretches}
+use Rattle.direction_reader.specs.ListEvents.{duration, begin_of, windows, AreEventsOfWindows, AreEventsOfStretch}
 use Rattle.direction_reader.specs.Reader.{Reading, Takes}
-use Rattle.direction_reader.specs.StandsFor.{waiting, CellsStandFor, OpenStandsFor, LatestStandsFor, TrackerStandsFor, IsInside, StandsFor, StandsAfter}
+use Rattle.direction_reader.specs.StandsFor.{waiting, CellsStandFor, OpenStandsFor, LatestStandsFor, TrackerStandsFor, StandsFor, StandsAfter}
 use Rattle.direction_reader.specs.StandsFor.{BitsStandFor, MayBreak, IsLastZero, IsAtCell, Tells}
 use Rattle.direction_reader.specs.Tracker.{Steps}
 use Rattle.direction_reader.specs.declared.tracker.Tracker.TheVariants as tracker

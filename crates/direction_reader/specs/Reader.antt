@@ -3,6 +3,7 @@ use Rattle.std.specs.Prelude.{◌≡◌, ℕ, ◌+◌}
 use Rattle.tc_address.specs.declared.system.System.{System}
 use Rattle.direction_reader.specs.declared.tracker.Tracker.{Tracker}
 use Rattle.direction_reader.specs.LatestCells.{Cells}
+use Rattle.direction_reader.specs.Tracker.{profile_of}
 
 -- the system, the number and the sum of the intervals taken, the state of the tracker, and the latest cells
 pub record Reading : Type 0 where
@@ -15,5 +16,6 @@ pub record Reading : Type 0 where
 -- a reader takes one interval more
 pub record Takes (old : Reading) (x : ℕ) (new : Reading) : Type 0 where
   pub system : new.system ≡ old.system
+  pub profile : profile_of new.tracker ≡ profile_of old.tracker
   pub intervals : new.intervals ≡ old.intervals + 1
   pub tick : new.tick ≡ old.tick + x

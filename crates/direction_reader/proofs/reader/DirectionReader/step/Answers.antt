@@ -22,7 +22,7 @@ pub returns-after-add-clause-stands : goal.returns-after-add-clause-stands
 returns-after-add-clause-stands c = λ l es own stands told.
     let is = subst (λ (r : Reading). StandsFor r l es) (sym c.self.view_is) stands in
     cell_told _ _ c.args.x l es own c.in-Cell.bit c.if-add.result
-    (record { system = refl; intervals = refl; tick = ap (λ m. c.self.inside.tick + m) c.from.ensures })
+    (record { system = refl; profile = c.step.ensures.profile; intervals = refl; tick = ap (λ m. c.self.inside.tick + m) c.from.ensures })
     c.add.ensures.bits c.add.ensures.boundaries
     (elim c.if-add.branch [
       | then-add w ↦ inl w.result-is
@@ -35,7 +35,7 @@ pub returns-in-Nothing-clause-stands : goal.returns-in-Nothing-clause-stands
 returns-in-Nothing-clause-stands c = λ l es own stands told.
     let is = subst (λ (r : Reading). StandsFor r l es) (sym c.self.view_is) stands in
     quiet _ _ es own (nothing_ended _ _ c.args.x l es
-    (record { system = refl; intervals = refl; tick = ap (λ m. c.self.inside.tick + m) c.from.ensures })
+    (record { system = refl; profile = c.step.ensures.profile; intervals = refl; tick = ap (λ m. c.self.inside.tick + m) c.from.ensures })
     refl is (c.in-Nothing.ensures.stands l is.earlier is.open_yet is.tracker)) told
 
 -- the interval is the first zero of a stretch
@@ -43,7 +43,7 @@ pub returns-in-FirstZero-clause-stands : goal.returns-in-FirstZero-clause-stands
 returns-in-FirstZero-clause-stands c = λ l es own stands told.
     let is = subst (λ (r : Reading). StandsFor r l es) (sym c.self.view_is) stands in
     quiet _ _ es own (begins_now _ _ c.args.x l es
-    (record { system = refl; intervals = refl; tick = ap (λ m. c.self.inside.tick + m) c.from.ensures })
+    (record { system = refl; profile = c.step.ensures.profile; intervals = refl; tick = ap (λ m. c.self.inside.tick + m) c.from.ensures })
     (rw c.begin.ensures at c.add-in-FirstZero.ensures.bits) (rw c.begin.ensures at c.add-in-FirstZero.ensures.boundaries)
     is (c.in-FirstZero.ensures.stands l is.earlier is.open_yet is.tracker)) told
 
@@ -52,7 +52,7 @@ pub returns-in-ZeroBefore-clause-stands : goal.returns-in-ZeroBefore-clause-stan
 returns-in-ZeroBefore-clause-stands c = λ l es own stands told.
     let is = subst (λ (r : Reading). StandsFor r l es) (sym c.self.view_is) stands in
     quiet _ _ es own (begins_before _ _ c.args.x c.in-ZeroBefore.zero _ l es
-    (record { system = refl; intervals = refl; tick = ap (λ m. c.self.inside.tick + m) c.from.ensures })
+    (record { system = refl; profile = c.step.ensures.profile; intervals = refl; tick = ap (λ m. c.self.inside.tick + m) c.from.ensures })
     (ap (λ m. c.self.inside.tick - m) c.from-in-ZeroBefore.ensures)
     (rw c.begin-in-ZeroBefore.ensures at c.add-in-ZeroBefore.ensures.bits)
     (rw c.begin-in-ZeroBefore.ensures at c.add-in-ZeroBefore.ensures.boundaries)
@@ -63,5 +63,5 @@ pub returns-in-Break-clause-stands : goal.returns-in-Break-clause-stands
 returns-in-Break-clause-stands c = λ l es own stands told.
     let is = subst (λ (r : Reading). StandsFor r l es) (sym c.self.view_is) stands in
     rw told (broken _ _ c.args.x l es
-    (record { system = refl; intervals = refl; tick = ap (λ m. c.self.inside.tick + m) c.from.ensures })
+    (record { system = refl; profile = c.step.ensures.profile; intervals = refl; tick = ap (λ m. c.self.inside.tick + m) c.from.ensures })
     is (c.in-Break.ensures.stands l is.earlier is.open_yet is.tracker))
