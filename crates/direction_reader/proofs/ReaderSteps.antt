@@ -259,7 +259,8 @@ broken r n x l es takes stands (s, breaks, tracker) =
           (record { lock = omega arith; broken = omega arith });
       past = stands.past ++ (stands.latest ++ lost);
       latest = [];
-      past_are = rw takes.system (stretch_more r.system (l ++ x ∷ []) stands.earlier (with_break (length l) s) stands.past (stands.latest ++ lost) past with.1);
+      past_are = rw takes.system
+          (stretch_more r.system (l ++ x ∷ []) stands.earlier (with_break (length l) s) stands.past (stands.latest ++ lost) past with.1);
       latest_are = refl;
       all = ap (λ e. es ++ e) same ∙ ap (λ e. e ++ lost) stands.all ∙ append_assoc stands.past stands.latest lost
           ∙ sym (append-nil (stands.past ++ (stands.latest ++ lost)));
