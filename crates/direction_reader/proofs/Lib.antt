@@ -1,5 +1,12 @@
+pub mod BitsShift
 pub mod CellsEnd
+pub mod CellsGrow
+pub mod EventsJoin
 pub mod OneList
 pub mod OneListOfEvents
+pub mod ReaderSteps
+pub mod TheEvents
+pub mod TrackerSteps
+pub mod WindowsGrow
 pub mod WordsEnd
 pub mod WrittenOver

@@ -5,7 +5,6 @@ use Rattle.biphase.specs.declared.profile.Profile.{Profile}
 use Rattle.cell_tracker.specs.Stretch.{Stretch, AreStretches}
 use Rattle.tc_address.specs.declared.system.System.{System}
 use Rattle.direction_reader.specs.declared.event.Event.{Event}
-use Rattle.direction_reader.specs.declared.event.Events.{Events}
 use Rattle.direction_reader.specs.Events.{event_list}
 use Rattle.direction_reader.specs.ListEvents.{CellWindow, windows, begin_of, break_events, AreEventsOfWindows, AreEventsOfStretch}
 use Rattle.direction_reader.specs.ListEvents.{AreEventsOfStretches, AreEvents}

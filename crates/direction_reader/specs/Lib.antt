@@ -9,5 +9,6 @@ pub mod LatestBits
 pub mod LatestCells
 pub mod ListEvents
 pub mod Reader
+pub mod StandsFor
 pub mod Tracker
 pub mod Window

@@ -19,6 +19,10 @@ abbrev pub number_of : List Bool → ℕ
 number_of [] = 0
 number_of (bit ∷ more) = bit_value bit + 2 * number_of more
 
+-- the sum of the intervals of cells
+abbrev pub duration : List Cell → ℕ
+duration cells = sum (flat cells)
+
 -- a window: its 80 bits as a number, the tick at its end, and the sum of its intervals
 pub record CellWindow : Type 0 where
   pub bits : ℕ
@@ -29,8 +33,8 @@ pub record CellWindow : Type 0 where
 abbrev pub window_at : ℕ → List Cell → ℕ → CellWindow
 window_at tick cells k = record {
   bits = number_of (bits (take 80 (drop k cells)));
-  end = tick + sum (flat (take (k + 80) cells));
-  length = sum (flat (take 80 (drop k cells)));
+  end = tick + duration (take (k + 80) cells);
+  length = duration (take 80 (drop k cells));
 }
 
 -- all windows of cells that begin at a tick, in order

@@ -1,10 +1,17 @@
 -- What an interval does to the tracker's state, and to the stretch.
 use Rattle.std.specs.Prelude.{◌≡◌, ℕ, ◌+◌, true, false, Some}
+use Rattle.biphase.specs.declared.profile.Profile.{Profile}
 use Rattle.cell_tracker.specs.State.{HuntingState, AtCellState, MidCellState}
 use Rattle.direction_reader.specs.declared.tracker.Tracker.{Tracker}
 use Rattle.direction_reader.specs.declared.tracker.Tracker.TheVariants.{AtCell, MidCell, Hunting}
 use Rattle.direction_reader.specs.declared.tracker.Step.{Step}
 use Rattle.direction_reader.specs.declared.tracker.Step.TheVariants.{Nothing, FirstZero, ZeroBefore, Cell, Break}
+
+-- the tolerance that a state keeps
+abbrev pub profile_of : Tracker → Profile
+profile_of (AtCell a) = a.profile
+profile_of (MidCell m) = m.profile
+profile_of (Hunting h) = h.profile
 
 -- the search begins at the interval
 abbrev pub SearchesFrom : ℕ → Tracker → Type 0

@@ -9,6 +9,9 @@ ghost use Rattle.direction_reader.specs.declared.window.TheConstants.{WINDOW_BIT
 ghost use Rattle.direction_reader.specs.Brings.{greatest_cell};
 ghost use Rattle.direction_reader.specs.Candidate.{AreEventsOf};
 ghost use Rattle.direction_reader.specs.ListEvents.{AreEvents};
+ghost use Rattle.direction_reader.specs.Reader.{Reading};
+ghost use Rattle.direction_reader.specs.StandsFor.{StandsFor};
+ghost use Rattle.direction_reader.specs.Tracker.{profile_of};
 ghost use Rattle.tc_address.specs.declared.system.System.{System};
 
 use cell_tracker::laws::a_list_has_one_list_of_stretches;
@@ -41,3 +44,10 @@ pub fn a_list_has_one_list_of_events()
     spelling_is_exact();
     a_list_has_one_list_of_stretches();
 }
+
+/// What a reader stands for are the events of its intervals.
+pub fn a_reader_gives_the_events_of_its_list()
+    ensures { (reader : Reading) (intervals : List ℕ) (events : List Event)
+        → StandsFor reader intervals events
+        → AreEvents reader.system (profile_of reader.tracker) intervals events }
+{}

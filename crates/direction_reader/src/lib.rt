@@ -8,17 +8,19 @@
 //! that it keeps is of a fixed size.
 //!
 //! What this crate promises:
-//! - `Filling` and `Full` hold the latest bits of a stretch, the oldest in bit 0
-//!   (`specs/Window.antt`).
+//! - The events of a list of intervals are the candidates of all windows of its stretches, and its
+//!   breaks, in order (`specs/ListEvents.antt`, `AreEvents`). A list has one list of them (`laws`).
+//! - `DirectionReader` stands for the intervals that it was fed and for their events
+//!   (`specs/StandsFor.antt`). `feed`, and `step` with `events` after it, give exactly those that are
+//!   new, under either tolerance (clause `stands`). Nearly every interval brings nothing, and then
+//!   `step` is enough.
 //! - `window_events` gives the candidates of one window, the forward one first
 //!   (`specs/Candidate.antt`).
-//! - `DirectionReader::step` counts the intervals and sums their ticks (`specs/Reader.antt`), and the
-//!   numbers in what `events` gives of it are those of the interval (`specs/Brings.antt`). `feed` is
-//!   the one and then the other: nearly every interval brings nothing, and then `step` is enough.
+//! - The numbers of an event are in the ranges of `specs/Brings.antt`.
 //!
 //! Read `reader`, `tracker`, `latest_cells`, `latest_bits`, `window`, `boundaries`, `brought`,
-//! `candidates` and `event`, in this order: the way of an interval. `specs/Invariants.antt` is what the code keeps. `tc_files`
-//! prints the events. Nothing here allocates.
+//! `candidates` and `event`, in this order: the way of an interval. `specs/Invariants.antt` is what
+//! the code keeps. `tc_files` prints the events. Nothing here allocates.
 #![tactic(auto)]
 
 mod boundaries;

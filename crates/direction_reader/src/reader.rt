@@ -1,8 +1,13 @@
 //! From intervals to events, one interval at a time. Next: `tracker`.
-ghost use Rattle.std.specs.Prelude.{◌≡◌, ◌<◌, ◌≤◌, ◌+◌, ◌-◌, ◌*◌};
+ghost use Rattle.std.specs.Prelude.{◌≡◌, ℕ, ◌<◌, ◌≤◌, ◌+◌, ◌*◌, List, [], ◌∷◌, ◌++◌};
 ghost use Rattle.biphase.specs.declared.cell.TheConstants.{MAX_INTERVAL};
 ghost use Rattle.direction_reader.specs.Brings.{Brings};
-ghost use Rattle.direction_reader.specs.Events.{no_events, one_event};
+ghost use Rattle.direction_reader.specs.declared.event.Event.{Event};
+ghost use Rattle.direction_reader.specs.declared.event.Events.{Events};
+ghost use Rattle.direction_reader.specs.Events.{event_list};
+ghost use Rattle.direction_reader.specs.LatestCells.{no_cells};
+ghost use Rattle.direction_reader.specs.Reader.{Takes};
+ghost use Rattle.direction_reader.specs.StandsFor.{StandsFor, Tells, MayTell};
 
 use crate::brought::Brought;
 use crate::event::{Event, Events};
@@ -32,7 +37,13 @@ impl Model for DirectionReader {
 
     ghost Value = { Reading };
 
-    ghost view = { λ r. record { system = r.system; intervals = r.intervals; tick = r.tick } };
+    ghost view = { λ r. record {
+      system = r.system;
+      intervals = r.intervals;
+      tick = r.tick;
+      tracker = r.tracker;
+      cells = r.cells;
+    } };
 
     ghost invariant = { λ r. IsReading r.intervals r.tick r.tracker r.cells };
 }
@@ -40,7 +51,14 @@ impl Model for DirectionReader {
 impl DirectionReader {
     /// A reader of a recording of this system, whose cells keep the tolerance of the profile.
     pub fn new(system: System, profile: Profile) -> DirectionReader
-        ensures { result ≡ record { system = system; intervals = 0; tick = 0 } }
+        ensures value { result ≡ record {
+          system = system;
+          intervals = 0;
+          tick = 0;
+          tracker = Tracker.Hunting (record { profile = profile; before = None });
+          cells = no_cells 0;
+        } }
+        ensures stands { StandsFor result [] [] }
     {
         DirectionReader {
             system,
@@ -73,12 +91,12 @@ impl DirectionReader {
         requires least { 1 ≤ x }
         requires most { x ≤ MAX_INTERVAL }
         requires room { self.old.intervals < MAX_INTERVALS }
-        ensures next { self.new ≡ record self.old {
-          intervals = self.old.intervals + 1;
-          tick = self.old.tick + x;
-        } }
+        ensures next { Takes self.old x self.new }
         ensures within { self.new.tick ≤ self.new.intervals * MAX_INTERVAL }
         ensures brings { Brings self.new.intervals self.new.tick result }
+        ensures stands { (intervals : List ℕ) (events : List Event)
+            → StandsFor self.old intervals events
+            → StandsFor self.new (intervals ++ x ∷ []) (events ++ event_list result) }
     {
         match self.step(x) {
             Brought::Nothing => Events::none(),
@@ -93,12 +111,13 @@ impl DirectionReader {
         requires least { 1 ≤ x }
         requires most { x ≤ MAX_INTERVAL }
         requires room { self.old.intervals < MAX_INTERVALS }
-        ensures next { self.new ≡ record self.old {
-          intervals = self.old.intervals + 1;
-          tick = self.old.tick + x;
-        } }
+        ensures next { Takes self.old x self.new }
         ensures within { self.new.tick ≤ self.new.intervals * MAX_INTERVAL }
         ensures taken { 1 ≤ self.new.intervals }
+        ensures may { MayTell self.new result }
+        ensures stands { (intervals : List ℕ) (events : List Event) (own : Events)
+            → StandsFor self.old intervals events → Tells self.new result own
+            → StandsFor self.new (intervals ++ x ∷ []) (events ++ event_list own) }
     {
         let before = self.tick;
         let now = before + u64::from(x);
@@ -133,9 +152,7 @@ impl DirectionReader {
     pub fn events(&self, brought: Brought) -> Events
         requires { 1 ≤ self.now.intervals }
         ensures brings { Brings self.now.intervals self.now.tick result }
-        ensures quiet { brought ≡ Brought.Nothing → result ≡ no_events }
-        ensures breaks { brought ≡ Brought.Break
-            → result ≡ one_event (Event.Lost (self.now.intervals - 1) self.now.tick) }
+        ensures told { MayTell self.now brought → Tells self.now brought result }
     {
         match brought {
             Brought::Nothing => Events::none(),

@@ -1,8 +1,10 @@
 //! Where the tracker stands, and what an interval does to it. Next: the states of `cell_tracker`, and
 //! with what they answer `latest_cells`.
-ghost use Rattle.std.specs.Prelude.{◌≤◌};
+ghost use Rattle.std.specs.Prelude.{◌≡◌, ◌≤◌, ℕ, List, Option};
+ghost use Rattle.cell_tracker.specs.Stretch.{Stretch};
 ghost use Rattle.biphase.specs.declared.cell.TheConstants.{MAX_INTERVAL};
-ghost use Rattle.direction_reader.specs.Tracker.{Steps};
+ghost use Rattle.direction_reader.specs.StandsFor.{TrackerStandsFor, StandsAfter};
+ghost use Rattle.direction_reader.specs.Tracker.{profile_of, Steps};
 
 use biphase::MAX_INTERVAL;
 use cell_tracker::{AtCell, FromAtCell, FromHunting, FromMidCell, Hunting, MidCell};
@@ -36,7 +38,11 @@ impl Tracker {
     pub fn step(&mut self, x: u32) -> Step
         requires least { 1 ≤ x }
         requires most { x ≤ MAX_INTERVAL }
-        ensures { Steps self.old x self.new result }
+        ensures steps { Steps self.old x self.new result }
+        ensures profile { profile_of self.new ≡ profile_of self.old }
+        ensures stands { (intervals : List ℕ) (earlier : List Stretch) (open_yet : Option Stretch)
+            → TrackerStandsFor self.old intervals earlier open_yet
+            → StandsAfter self.old self.new x intervals earlier open_yet result }
     {
         match self {
             Tracker::AtCell(at_cell) => match at_cell.feed(x) {
