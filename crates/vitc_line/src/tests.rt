@@ -1,8 +1,12 @@
 //! Lines that other software read, and lines with one thing wrong.
 
+ghost use Rattle.std.specs.Prelude.{◌≡◌, true};
+ghost use Rattle.tc_address.specs.Count.{system_with};
+ghost use Rattle.vitc_line.specs.Places.{HasLines};
+
 use super::*;
 use std::test::Fail;
-use tc_address::{Count, Label, System, system_of};
+use tc_address::{Count, Label, System};
 use tc_bits::{FieldFault, Fields, Flags, UserBits};
 
 /// The count, the label, the user bits, the flags in the order of a report, the field mark and the bits.
@@ -100,13 +104,38 @@ const ROWS: [Row; 9] = [
     ),
 ];
 
+/// Whether the word is of a system that has lines.
+fn has_lines(word: &VitcWord) -> bool
+    ensures { result ≡ true → HasLines (system_with word.now.fields.label.count) }
+{
+    match word.fields.label().count() {
+        Count::C24 => false,
+        Count::C25 | Count::C30 | Count::Drop30 => true,
+    }
+}
+
+/// The system of a count that has lines.
+fn system_with_lines(count: Count) -> System
+    ensures { HasLines result }
+{
+    match count {
+        Count::C25 => System::F25,
+        Count::C24 | Count::C30 | Count::Drop30 => System::F30,
+    }
+}
+
 #[test]
 fn lines_that_other_software_read(rt: HostRuntime) -> Result<(), Fail> {
     for row in ROWS {
         let word = word_of(row)?;
         let (count, _, _, _, _, bits) = row;
+        assert!(rt; has_lines(&word));
         assert_eq!(rt; encode(&word), bits, "{row:?}");
-        assert_eq!(rt; decode(system_of(count), bits), Ok(word), "{bits:x}");
+        assert_eq!(rt;
+            decode(system_with_lines(count), bits),
+            Ok(word),
+            "{bits:x}"
+        );
     }
     Ok(())
 }
@@ -167,6 +196,7 @@ const FAULTS: [(u128, LineFault); 19] = [
 #[test]
 fn first_faults(rt: HostRuntime) {
     for (bits, fault) in FAULTS {
+        assert!(rt; bits < 1 << 90);
         assert_eq!(rt; decode(System::F30, bits), Err(fault), "{bits:x}");
     }
 }

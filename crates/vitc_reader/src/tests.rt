@@ -1,8 +1,12 @@
 //! Lines that other software read, lines with one thing wrong, and fields of several lines.
 
+ghost use Rattle.std.specs.Prelude.{◌≡◌, true};
+ghost use Rattle.tc_address.specs.Count.{system_with};
+ghost use Rattle.vitc_line.specs.Places.{HasLines};
+
 use super::*;
 use std::test::Fail;
-use tc_address::{Count, Label, System, system_of};
+use tc_address::{Count, Label, System};
 use tc_bits::{FieldFault, Fields, Flags, UserBits};
 use vitc_line::{LineFault, VitcWord, decode, encode};
 
@@ -136,13 +140,34 @@ const LINES: [Line; 7] = [
     ),
 ];
 
+/// Whether the word is of a system that has lines.
+fn has_lines(word: &VitcWord) -> bool
+    ensures { result ≡ true → HasLines (system_with word.now.fields.label.count) }
+{
+    match word.fields.label().count() {
+        Count::C24 => false,
+        Count::C25 | Count::C30 | Count::Drop30 => true,
+    }
+}
+
+/// The system of a count that has lines.
+fn system_with_lines(count: Count) -> System
+    ensures { HasLines result }
+{
+    match count {
+        Count::C25 => System::F25,
+        Count::C24 | Count::C30 | Count::Drop30 => System::F30,
+    }
+}
+
 #[test]
 fn lines_that_other_software_read(rt: HostRuntime) -> Result<(), Fail> {
     for (length, runs, said) in LINES {
         let word = word_of(said)?;
         let bits = read_runs(length, runs)?;
+        assert!(rt; has_lines(&word));
         assert_eq!(rt; bits, encode(&word));
-        assert_eq!(rt; decode(system_of(said.0), bits), Ok(word));
+        assert_eq!(rt; decode(system_with_lines(said.0), bits), Ok(word));
     }
     Ok(())
 }
@@ -242,6 +267,11 @@ const ONE: &[u16] = &[
     4, 4, 4, 28, 4, 36, 4, 36, 4, 36, 4, 36, 4, 36, 4, 36, 4, 36, 4, 4, 4, 20, 4,
 ];
 
+/// What they say.
+const FIRST: Said = (Count::C30, [0, 0, 0, 0], 0, [false; 5], false);
+
+const SECOND: Said = (Count::C30, [0, 0, 0, 1], 0, [false; 5], false);
+
 /// A line that says no word, and what a reader says of it alone.
 const BAD: [(u16, ReadFault); 4] = [
     (4, ReadFault::Line(LineFault::SyncPair(1))),
@@ -253,26 +283,35 @@ const BAD: [(u16, ReadFault); 4] = [
 fn answer_of(lines: &[&[u16]]) -> FieldAnswer {
     let mut reader = FieldReader::new(System::F30, 460);
     for line in lines {
-        reader.line(line);
+        if line.len() % 2 == 1 && line.len() <= 89 {
+            reader.line(line);
+        }
     }
     reader.answer()
 }
 
 #[test]
 fn answers_of_fields(rt: HostRuntime) -> Result<(), Fail> {
-    let zero = word_of((Count::C30, [0, 0, 0, 0], 0, [false; 5], false))?;
-    let one = word_of((Count::C30, [0, 0, 0, 1], 0, [false; 5], false))?;
     assert_eq!(rt; answer_of(&[]), FieldAnswer::NoLine);
-    assert_eq!(rt; answer_of(&[ZERO, ZERO]), FieldAnswer::Agreed(zero));
-    assert_eq!(rt; answer_of(&[ZERO, ONE]), FieldAnswer::Conflict(zero, one));
+    assert_eq!(rt;
+        answer_of(&[ZERO, ZERO]),
+        FieldAnswer::Agreed(word_of(FIRST)?)
+    );
+    assert_eq!(rt;
+        answer_of(&[ZERO, ONE]),
+        FieldAnswer::Conflict(word_of(FIRST)?, word_of(SECOND)?)
+    );
     assert_eq!(rt;
         answer_of(&[ONE, ONE, ZERO, ONE]),
-        FieldAnswer::Conflict(one, zero)
+        FieldAnswer::Conflict(word_of(SECOND)?, word_of(FIRST)?)
     );
     for (run, fault) in BAD {
         assert_eq!(rt; answer_of(&[&[run]]), FieldAnswer::Nothing(fault));
         assert_eq!(rt; answer_of(&[&[run], &[6]]), FieldAnswer::Nothing(fault));
-        assert_eq!(rt; answer_of(&[&[run], ZERO]), FieldAnswer::Agreed(zero));
+        assert_eq!(rt;
+            answer_of(&[&[run], ZERO]),
+            FieldAnswer::Agreed(word_of(FIRST)?)
+        );
     }
     Ok(())
 }
