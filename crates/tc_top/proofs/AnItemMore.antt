@@ -22,7 +22,7 @@ use Rattle.tc_top.specs.Along.{Printing, IsPartBehind, IsPartOf, along_intervals
 use Rattle.tc_top.specs.KeptAlong.{HasHeader, IntervalStops, Printed, Stands, longer, printed_well, stop_at}
 use Rattle.tc_top.specs.Stops.{IsStop, Stops}
 use Rattle.tc_top.proofs.AlongTheInput.{cut_at}
-use Rattle.tc_top.proofs.RecordingGrows.{Grows, good_step, grows, grows_by_item, grows_itself, grows_more, more_bytes, past_stays, refused_stays}
+use Rattle.tc_top.proofs.VerdictStays.{good_step, more_bytes, past_stays, refused_stays}
 
 -- these bytes complete this item behind a front
 abbrev pub Completes : List ℕ → List ℕ → Taken → Progress → Type 0
@@ -35,11 +35,6 @@ Relation B C = B → C → IntervalHeader → List ℕ → List ℕ → Type 0
 abbrev pub StandsWell : {B C : Type 0} → (C → Printing) → Relation B C → Type 0
 StandsWell {B} {C} printing stands = (behind : B) (choice : C) (header : IntervalHeader) (intervals written : List ℕ)
     → stands behind choice header intervals written → Printing.part (printing choice) header intervals written
-
-abbrev pub PartGrows : {C : Type 0} → (C → Printing) → Type 0
-PartGrows {C} printing = (choice : C) (header : IntervalHeader) (intervals more written : List ℕ)
-    → Printing.part (printing choice) header intervals written
-    → (rest : List ℕ) × Printing.part (printing choice) header (intervals ++ more) (written ++ rest)
 
 -- the recording with the item
 completed : (front bytes : List ℕ) (item : Taken) (next : Progress) → Completes front bytes item next → (recording_of front).verdict ≡ good
@@ -110,17 +105,6 @@ an_interval stands decoder next before behind count now choice x front bytes wri
 
 -- ---- the command stops
 
--- the part of a recording that grows
-part_extends : {C : Type 0} (printing : C → Printing) → PartGrows printing → (choice : C) (header : IntervalHeader) (r s : Recording) (written : List ℕ)
-    → r.header ≡ Some header → Grows r s → Printing.part (printing choice) header r.intervals written
-    → (rest : List ℕ) × IsPartOf (printing choice) s (written ++ rest)
-part_extends printing extends choice header r s written head g part =
-    let more = extends choice header r.intervals g.rest written part in (
-      more.0,
-      subst (λ (h : Option IntervalHeader). IsPartBehind (printing choice) h s.intervals (written ++ more.0)) (sym (g.keeps header head))
-          (subst (λ (xs : List ℕ). Printing.part (printing choice) header xs (written ++ more.0)) (sym g.grown) more.1),
-    )
-
 -- the recording of more bytes
 and_rest : (front bytes rest : List ℕ) → decoding_of (front ++ (bytes ++ rest)) ≡ fold with_byte (decoding_of (front ++ bytes)) rest
 and_rest front bytes rest = ap decoding_of (sym (append_assoc front bytes rest)) ∙ more_bytes (front ++ bytes) rest
@@ -183,56 +167,45 @@ a_fault printing stands well decoder next behind count choice f front bytes rest
     (at_fault printing stands well behind choice f front bytes rest written (nat_lt (length (recording_of front).intervals) MAX_INTERVALS) s.printed
     (completed front bytes (Fault f) next is s.good))
 
--- a push that failed: a front of the part was written
-front_of_part : (m : List ℕ → Type 0) (old new : Option (List ℕ)) (written part rest : List ℕ) → m ((written ++ part) ++ rest) → AppendsFront old new part
-    → (more : List ℕ) × Appends old new more × ((whole : List ℕ) × m whole × IsFront (written ++ more) whole)
-front_of_part m old new written part rest is f =
-    let e : (written ++ part) ++ rest ≡ (written ++ f.0) ++ (f.1.0 ++ rest) =
-    ap (λ (l : List ℕ). (written ++ l) ++ rest) f.1.1 ∙ ap (λ (l : List ℕ). l ++ rest) (sym (append_assoc written f.0 f.1.0))
-    ∙ append_assoc (written ++ f.0) f.1.0 rest in
-    (f.0, f.2, ((written ++ part) ++ rest, is, (f.1.0 ++ rest, e)))
-
--- what a recording of more bytes is of
-grows_behind : (front bytes rest : List ℕ) (s : Recording) → recording_of (front ++ bytes) ≡ s → Grows s (recording_of (front ++ (bytes ++ rest)))
-grows_behind front bytes rest s e =
-    subst (λ (r : Recording). Grows r (recording_of (front ++ (bytes ++ rest)))) e
-    (subst (λ (d : Decoding). Grows (recording_of (front ++ bytes)) d.recording) (sym (and_rest front bytes rest)) (grows (decoding_of (front ++ bytes)) rest))
+-- a push that failed: a front of what was due with the item was written
+front_of_part : (m : List ℕ → List ℕ → Type 0) (old new : Option (List ℕ)) (front bytes rest written part : List ℕ) → m (front ++ bytes) (written ++ part)
+    → AppendsFront old new part
+    → (more : List ℕ) × Appends old new more
+        × ((due whole : List ℕ) × IsFront due (front ++ (bytes ++ rest)) × m due whole × IsFront (written ++ more) whole)
+front_of_part m old new front bytes rest written part is f =
+    let e : written ++ part ≡ (written ++ f.0) ++ f.1.0 = ap (λ (l : List ℕ). written ++ l) f.1.1 ∙ sym (append_assoc written f.0 f.1.0) in
+    (f.0, f.2, (front ++ bytes, written ++ part, (rest, sym (append_assoc front bytes rest)), is, (f.1.0, e)))
 
 -- of an interval
-pub a_write_fault : {B C : Type 0} (printing : C → Printing) (stands : Relation B C) → PartGrows printing
+pub a_write_fault : {B C : Type 0} (printing : C → Printing) (stands : Relation B C)
     → (decoder next : Progress) (b : B) (count : ℕ) (choice : C) (x : ℕ) (old new : Option (List ℕ)) (front bytes rest written : List ℕ)
     → Stands stands decoder (Some b) count choice front written → Completes front bytes (Interval x) next
     → IntervalStops (printing choice) stands (Some b) count choice old new x WriteFault
     → Stops (along_intervals (printing choice)) WriteFault old new (front ++ (bytes ++ rest)) written
-a_write_fault printing stands extends decoder next b count choice x old new front bytes rest written s is why =
+a_write_fault printing stands decoder next b count choice x old new front bytes rest written s is why =
     let same = one_longer stands decoder next (Some b) count choice x front bytes written s is why.0 in
-    let p = s.printed in
-    let part = why.1 (recording_of front) written p in
-    let now : Printing.part (printing choice) p.0 (longer (recording_of front) x).intervals (written ++ part.0) =
-    subst (λ (h : Option IntervalHeader). IsPartBehind (printing choice) h (longer (recording_of front) x).intervals (written ++ part.0)) p.1 part.1 in
-    let more = part_extends printing extends choice p.0 (longer (recording_of front) x) (recording_of (front ++ (bytes ++ rest))) (written ++ part.0) p.1
-    (grows_behind front bytes rest (longer (recording_of front) x) same) now in
-    front_of_part (λ w. IsPartOf (printing choice) (recording_of (front ++ (bytes ++ rest))) w) old new written part.0 more.0 more.1 part.2
+    let part = why.1 (recording_of front) written s.printed in
+    front_of_part (λ due w. IsPartOf (printing choice) (recording_of due) w) old new front bytes rest written part.0
+        (subst (λ (r : Recording). IsPartOf (printing choice) r (written ++ part.0)) (sym same) part.1) part.2
 
 -- of a header
-pub a_header_fault : {B C : Type 0} (printing : C → Printing) (stands : Relation B C) → PartGrows printing
+pub a_header_fault : {B C : Type 0} (printing : C → Printing) (stands : Relation B C)
     → (decoder next : Progress) (before : Option B) (count : ℕ) (choice : C) (header : IntervalHeader) (old new : Option (List ℕ))
     (front bytes rest written part : List ℕ) → HasHeader before decoder.taken → decoder.taken + 1 ≡ 12
     → Stands stands decoder before count choice front written → Completes front bytes (Header header) next
     → Printing.part (printing choice) header [] part → AppendsFront old new part
     → Stops (along_intervals (printing choice)) WriteFault old new (front ++ (bytes ++ rest)) written
-a_header_fault printing stands extends decoder next (Some b) count choice header old new front bytes rest written part has twelve s is begun pushed =
+a_header_fault printing stands decoder next (Some b) count choice header old new front bytes rest written part has twelve s is begun pushed =
     absurd (omega (arith, has, twelve))
-a_header_fault printing stands extends decoder next None count choice header old new front bytes rest written part has twelve s is begun pushed =
+a_header_fault printing stands decoder next None count choice header old new front bytes rest written part has twelve s is begun pushed =
     let p = s.printed in
     let same = completed front bytes (Header header) next is s.good in
     let first : Recording = record { header = Some header; intervals = []; verdict = (recording_of front).verdict } in
     let begins : recording_of (front ++ bytes) ≡ first = same ∙ rw (p.0, p.1) refl in
     let now : Printing.part (printing choice) header [] (written ++ part) =
-    subst (λ (w : List ℕ). Printing.part (printing choice) header [] w) (ap (λ (w : List ℕ). w ++ part) (sym p.2)) begun in
-    let more = part_extends printing extends choice header first (recording_of (front ++ (bytes ++ rest))) (written ++ part) refl
-    (grows_behind front bytes rest first begins) now in
-    front_of_part (λ w. IsPartOf (printing choice) (recording_of (front ++ (bytes ++ rest))) w) old new written part more.0 more.1 pushed
+        subst (λ (w : List ℕ). Printing.part (printing choice) header [] w) (ap (λ (w : List ℕ). w ++ part) (sym p.2)) begun in
+    front_of_part (λ due w. IsPartOf (printing choice) (recording_of due) w) old new front bytes rest written part
+        (subst (λ (r : Recording). IsPartOf (printing choice) r (written ++ part)) (sym begins) now) pushed
 
 -- ---- the bytes of an item
 
@@ -245,20 +218,20 @@ by_byte decoder front byte item same says =
     (sym same) (more_bytes front (byte ∷ [])))
 
 -- why an interval stops the command
-pub interval_stops : {B C : Type 0} (printing : C → Printing) (stands : Relation B C) → StandsWell printing stands → PartGrows printing
+pub interval_stops : {B C : Type 0} (printing : C → Printing) (stands : Relation B C) → StandsWell printing stands
     → (decoder next : Progress) (behind : Option B) (count : ℕ) (choice : C) (x : ℕ) (old new : Option (List ℕ)) (front bytes rest written : List ℕ)
     (stop : Stop) → HasHeader behind decoder.taken → 12 ≤ decoder.taken
     → Stands stands decoder behind count choice front written → Completes front bytes (Interval x) next
     → IntervalStops (printing choice) stands behind count choice old new x stop
     → Stops (along_intervals (printing choice)) stop old new (front ++ (bytes ++ rest)) written
-interval_stops printing stands well extends decoder next behind count choice x old new front bytes rest written Limit has late s is why =
+interval_stops printing stands well decoder next behind count choice x old new front bytes rest written Limit has late s is why =
     ([], why.1, a_limit printing stands well decoder next behind count choice x front bytes rest written s is why.0)
-interval_stops printing stands well extends decoder next None count choice x old new front bytes rest written WriteFault has late s is why =
+interval_stops printing stands well decoder next None count choice x old new front bytes rest written WriteFault has late s is why =
     absurd (omega (arith, has, late))
-interval_stops printing stands well extends decoder next (Some b) count choice x old new front bytes rest written WriteFault has late s is why =
-    a_write_fault printing stands extends decoder next b count choice x old new front bytes rest written s is why
-interval_stops printing stands well extends decoder next behind count choice x old new front bytes rest written ReadFault has late s is why = absurd why
-interval_stops printing stands well extends decoder next behind count choice x old new front bytes rest written (Refused f) has late s is why = absurd why
+interval_stops printing stands well decoder next (Some b) count choice x old new front bytes rest written WriteFault has late s is why =
+    a_write_fault printing stands decoder next b count choice x old new front bytes rest written s is why
+interval_stops printing stands well decoder next behind count choice x old new front bytes rest written ReadFault has late s is why = absurd why
+interval_stops printing stands well decoder next behind count choice x old new front bytes rest written (Refused f) has late s is why = absurd why
 
 -- four bytes
 pub by_number : (decoder : Progress) (front bytes : List ℕ) (x : ℕ) → decoder ≡ (decoding_of front).progress

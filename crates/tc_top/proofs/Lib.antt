@@ -5,5 +5,5 @@ pub mod Digits
 pub mod LinesGrow
 pub mod OneStatus
 pub mod PushedLines
-pub mod RecordingGrows
+pub mod VerdictStays
 pub mod WordsAnswer

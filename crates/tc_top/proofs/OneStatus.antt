@@ -23,7 +23,7 @@ use Rattle.tc_top.specs.Meaning.{Meaning, IsEnd, IsInput, writes}
 use Rattle.tc_top.specs.Notes.{stop_note}
 use Rattle.tc_top.specs.Status.{status_of}
 use Rattle.tc_top.specs.Stops.{StopsAlong}
-use Rattle.tc_top.proofs.RecordingGrows.{more_bytes, past_stays, refused_stays}
+use Rattle.tc_top.proofs.VerdictStays.{more_bytes, past_stays, refused_stays}
 
 -- ---- a job that stopped answers so
 

@@ -1,5 +1,6 @@
 -- The meaning of each job.
 use Rattle.std.specs.Prelude.{true}
+use Rattle.biphase.specs.declared.profile.Profile.TheVariants.{Normal}
 use Rattle.tc_address.specs.Numbering.{number_of}
 use Rattle.tc_words.specs.declared.job.Job.{Job}
 use Rattle.tc_words.specs.declared.job.Job.TheVariants.{LtcRead, Number, LabelOf}
@@ -9,6 +10,6 @@ use Rattle.tc_top.specs.LtcRead.{report}
 use Rattle.tc_top.specs.Meaning.{Meaning, writes}
 
 abbrev pub meaning_of : Job → Meaning
-meaning_of LtcRead = along_intervals report
+meaning_of LtcRead = along_intervals (report Normal)
 meaning_of (Number label) = writes (number_line (number_of label))
 meaning_of (LabelOf label) = writes (label_line label)

@@ -7,11 +7,12 @@ use Rattle.tc_top.specs.declared.stop.Stop.{Stop}
 use Rattle.tc_top.specs.declared.stop.Stop.TheVariants.{Refused, ReadFault, WriteFault, Limit}
 use Rattle.tc_top.specs.Meaning.{Meaning, IsInput, IsEnd}
 
--- the job stops for this cause at some of the bytes pulled, and this was written for them
+-- the job stops for this cause at some of the bytes pulled, and this was written for them: where a push failed, a front of what was due for
+-- a front of them
 abbrev pub IsStop : Meaning → Stop → List ℕ → List ℕ → Type 0
 IsStop m (Refused fault) pulled written = (m.verdict pulled ≡ refused fault) × m.part pulled written
 IsStop m ReadFault pulled written = ⊥
-IsStop m WriteFault pulled written = (part : List ℕ) × m.part pulled part × IsFront written part
+IsStop m WriteFault pulled written = (front part : List ℕ) × IsFront front pulled × m.part front part × IsFront written part
 IsStop m Limit pulled written = (m.verdict pulled ≡ past_limit) × m.part pulled written
 
 -- the same, where some of it was written before

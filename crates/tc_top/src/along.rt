@@ -39,11 +39,6 @@ pub(crate) trait Behind: Drop {
         → stands behind choice header intervals written
         → Printing.part (printing choice) header intervals written };
 
-    /// The part of more intervals begins with the part of the first.
-    ghost part_grows: { (choice : Self.Choice) (header : IntervalHeader) (intervals more written : List ℕ)
-        → Printing.part (printing choice) header intervals written
-        → (rest : List ℕ) × Printing.part (printing choice) header (intervals ++ more) (written ++ rest) };
-
     /// Takes the header, and writes what stands first.
     fn begin<K: Sink>(
         choice: Self::Choice,

@@ -5,7 +5,10 @@ ghost use Rattle.std.specs.Io.KnownBytes.{Appends};
 ghost use Rattle.biphase.specs.declared.cell.TheConstants.{MAX_INTERVAL};
 ghost use Rattle.direction_reader.specs.declared.reader.TheConstants.{MAX_INTERVALS};
 ghost use Rattle.direction_reader.specs.declared.event.Event.{Event};
+ghost use Rattle.direction_reader.specs.declared.event.Events.{Events};
 ghost use Rattle.direction_reader.specs.Events.{event_list};
+ghost use Rattle.direction_reader.specs.Reader.{Takes};
+ghost use Rattle.direction_reader.specs.StandsFor.{MayTell, Tells};
 ghost use Rattle.tc_files.specs.declared.interval_file.header.IntervalHeader.{IntervalHeader};
 ghost use Rattle.tc_files.specs.IntervalHeader.{IsTickRate};
 ghost use Rattle.tc_files.specs.Texts.{event_line, read_end_line, FitsLine};
@@ -13,12 +16,13 @@ ghost use Rattle.tc_io.specs.Sink.{AppendsFront};
 ghost use Rattle.tc_top.specs.Along.{Printing};
 ghost use Rattle.tc_top.specs.Causes.{HasOutCause};
 ghost use Rattle.tc_top.specs.LtcRead.{lines};
-ghost use Rattle.tc_top.specs.KeptReport.{counted, all_counted, FitLines, FitsReport, Prints, Stands};
+ghost use Rattle.tc_top.specs.KeptReport.{counted, all_counted, Feeds, FitLines, FitsReport, Prints, Stands};
 
 use crate::along::Behind;
 use crate::pushing::push_line;
 use crate::stop::Stop;
 use biphase::{MAX_INTERVAL, Profile};
+use direction_reader::laws::a_reader_gives_the_events_of_its_list;
 use direction_reader::{Brought, DirectionReader, Event, Events, MAX_INTERVALS};
 use tc_files::{IntervalHeader, Text, event_text, read_end_text};
 use tc_io::Sink;
@@ -42,11 +46,12 @@ impl Report {
         requires room { self.old.reader.intervals < MAX_INTERVALS }
         requires fits { FitsReport self.old }
         ensures fits { OnOk result (FitsReport self.new) }
-        ensures counts { OnOk result (self.new.reader.intervals ≡ self.old.reader.intervals + 1) }
+        ensures takes { Takes self.old.reader x self.new.reader }
         ensures header { self.new.header ≡ self.old.header }
-        ensures prints { OnOk result (Prints self.old self.new (K.written out.old) (K.written out.new)) }
-        ensures front { OnErr result ((events : List Event)
-            × AppendsFront (K.written out.old) (K.written out.new) (lines self.old.header events)) }
+        ensures prints { OnOk result ((own : Events) × Feeds self.old self.new x own
+            × Prints self.old self.new (event_list own) (K.written out.old) (K.written out.new)) }
+        ensures front { OnErr result ((own : Events) × Feeds self.old self.new x own
+            × AppendsFront (K.written out.old) (K.written out.new) (lines self.old.header (event_list own))) }
         ensures why { IfErr result (λ stop. stop ≡ Stop.WriteFault) }
         ensures cause { HasOutCause (K.faults out.old) (K.faults out.new) result }
     {
@@ -63,14 +68,16 @@ impl Report {
         requires taken { 1 ≤ self.old.reader.intervals }
         requires within { self.old.reader.intervals ≤ MAX_INTERVALS }
         requires sum { self.old.reader.tick ≤ self.old.reader.intervals * MAX_INTERVAL }
+        requires may { MayTell self.old.reader brought }
         requires header { IsTickRate self.old.header.tick_rate }
         requires events { self.old.words + self.old.refused + self.old.lost + 2 ≤ 2 * self.old.reader.intervals }
         ensures fits { OnOk result (FitsReport self.new) }
         ensures reader { self.new.reader ≡ self.old.reader }
         ensures header { self.new.header ≡ self.old.header }
-        ensures prints { OnOk result (Prints self.old self.new (K.written out.old) (K.written out.new)) }
-        ensures front { OnErr result ((events : List Event)
-            × AppendsFront (K.written out.old) (K.written out.new) (lines self.old.header events)) }
+        ensures prints { OnOk result ((own : Events) × Tells self.old.reader brought own
+            × Prints self.old self.new (event_list own) (K.written out.old) (K.written out.new)) }
+        ensures front { OnErr result ((own : Events) × Tells self.old.reader brought own
+            × AppendsFront (K.written out.old) (K.written out.new) (lines self.old.header (event_list own))) }
         ensures why { IfErr result (λ stop. stop ≡ Stop.WriteFault) }
         ensures cause { HasOutCause (K.faults out.old) (K.faults out.new) result }
     {
@@ -152,25 +159,24 @@ impl Report {
 
 impl Behind for Report {
     ghost use Rattle.tc_top.specs.LtcRead.{report};
-    ghost use Rattle.tc_top.specs.KeptReport.{FitsReport, Stands, stands_well, part_grows};
+    ghost use Rattle.tc_top.specs.KeptReport.{FitsReport, Stands, stands_well};
 
     type Choice = Profile;
 
-    ghost printing = { λ _. report };
+    ghost printing = { λ profile. report profile };
 
     ghost fits = { λ r count. FitsReport r × (r.reader.intervals ≡ count) };
 
-    ghost stands = { λ r _ header intervals written. Stands r header intervals written };
+    ghost stands = { λ r profile header intervals written. Stands r profile header intervals written };
 
-    ghost stands_well = { λ r _ header intervals written stands. stands_well r header intervals written stands };
-
-    ghost part_grows = { λ _ header intervals more written part. part_grows header intervals more written part };
+    ghost stands_well = { λ r profile header intervals written stands. stands_well r profile header intervals written stands };
 
     fn begin<K: Sink>(
         profile: Profile,
         header: IntervalHeader,
         _out: &mut K,
     ) -> Result<Report, Stop> {
+        a_reader_gives_the_events_of_its_list();
         Ok(Report {
             header,
             reader: DirectionReader::new(header.system, profile),
@@ -182,6 +188,7 @@ impl Behind for Report {
 
     #[inline(always)]
     fn interval<K: Sink>(&mut self, x: u32, out: &mut K) -> Result<(), Stop> {
+        a_reader_gives_the_events_of_its_list();
         self.feed(x, out)
     }
 

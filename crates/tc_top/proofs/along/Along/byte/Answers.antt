@@ -23,7 +23,7 @@ returns-in_err-begin-in-Header-clause-stops g c =
     let f = c.in_err-begin-in-Header.ensures.front in
     let twelve = rw c.requires.good at c.in-Header.ensures.completes in
     through c.from_residual.result c.from_residual.ensures.1 (λ stop same front written rest stands.
-    rw (same, f.0) (a_header_fault g.B.Behind.printing g.B.Behind.stands g.B.Behind.part_grows s.decoder _ s.behind s.intervals s.choice c.in-Header.header
+    rw (same, f.0) (a_header_fault g.B.Behind.printing g.B.Behind.stands s.decoder _ s.behind s.intervals s.choice c.in-Header.header
     _ _ front (c.args.byte ∷ []) rest written f.1.0 c.requires.header twelve.0 stands
     (by_byte s.decoder front c.args.byte _ stands.progress c.in-Header.ensures.answers) f.1.1 f.1.2))
 
@@ -49,7 +49,7 @@ returns-in-Interval-clause-stops g c =
     let s = c.args.self.now in
     let late = rw c.requires.good at c.in-Interval.ensures.completes in
     if_err c.interval.result c.interval.ensures.stops (λ stop why front written rest stands.
-    interval_stops g.B.Behind.printing g.B.Behind.stands g.B.Behind.stands_well g.B.Behind.part_grows s.decoder _ s.behind s.intervals s.choice
+    interval_stops g.B.Behind.printing g.B.Behind.stands g.B.Behind.stands_well s.decoder _ s.behind s.intervals s.choice
     c.in-Interval.x _ _ front (c.args.byte ∷ []) rest written stop c.requires.header (omega (arith, late.0)) stands
     (by_byte s.decoder front c.args.byte _ stands.progress c.in-Interval.ensures.answers) why)
 

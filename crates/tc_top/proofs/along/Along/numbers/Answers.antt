@@ -27,7 +27,7 @@ returns-in_err-interval-in-Ok-clause-stops g c =
     (λ f w. Stands g.B.Behind.stands virtual c.numbers.self.behind c.numbers.self.intervals s.choice f w)
     (g.K.Sink.written c.args.out.now) (g.K.Sink.written c.numbers.out) (g.K.Sink.written c.interval.new.out)
     (take at numbers) (take 4 left ++ (drop 4 left ++ rest)) i.works
-    (λ f w then. interval_stops g.B.Behind.printing g.B.Behind.stands g.B.Behind.stands_well g.B.Behind.part_grows virtual _ c.numbers.self.behind
+    (λ f w then. interval_stops g.B.Behind.printing g.B.Behind.stands g.B.Behind.stands_well virtual _ c.numbers.self.behind
     c.numbers.self.intervals s.choice c.in-Ok.x _ _ f (take 4 left) (drop 4 left ++ rest) w c.in_err-interval-in-Ok.field-0.0
     (has_header c.numbers.self.behind virtual.taken i.behind between.header) between.header then
     (by_number virtual f (take 4 left) c.in-Ok.x then.progress

@@ -13,15 +13,19 @@ push-requires-clause-lines g c =
 -- the events of the interval were counted and pushed
 pub returns-clause-prints : goal.returns-clause-prints
 returns-clause-prints g c =
-    let events = event_list c.events-events.result in
-    on_ok c.push.result (both_ok _ _ c.push.result c.push.ensures.counted c.push.ensures.all) (λ pushed. record {
-      events = events;
-      pushed = pushed.1;
-      words = ap (λ (r : Report). r.words) pushed.0 ∙ words-all_counted events _;
-      refused = ap (λ (r : Report). r.refused) pushed.0 ∙ refused-all_counted events _;
-      lost = ap (λ (r : Report). r.lost) pushed.0 ∙ lost-all_counted events _;
-    })
+    let own = c.events-events.result in
+    let events = event_list own in
+    on_ok c.push.result (both_ok _ _ c.push.result c.push.ensures.counted c.push.ensures.all) (λ pushed. (
+      own,
+      c.events-events.ensures.told c.requires.may,
+      record {
+        pushed = pushed.1;
+        words = ap (λ (r : Report). r.words) pushed.0 ∙ words-all_counted events _;
+        refused = ap (λ (r : Report). r.refused) pushed.0 ∙ refused-all_counted events _;
+        lost = ap (λ (r : Report). r.lost) pushed.0 ∙ lost-all_counted events _;
+      },
+    ))
 
 -- a front of their lines was pushed
 pub returns-clause-front : goal.returns-clause-front
-returns-clause-front g c = on_err c.push.result c.push.ensures.front (λ front. (_, front))
+returns-clause-front g c = on_err c.push.result c.push.ensures.front (λ front. (c.events-events.result, c.events-events.ensures.told c.requires.may, front))

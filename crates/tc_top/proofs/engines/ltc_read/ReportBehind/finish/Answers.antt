@@ -1,17 +1,15 @@
 use Rattle.tc_top.proofs.AlongTheInput.{on_ok, if_err, err_both}
-use Rattle.tc_top.proofs.LinesGrow.{last_line}
+use Rattle.tc_top.proofs.LinesGrow.{ends_with}
 use Rattle.tc_top.proofs.engines.ltc_read.ReportBehind.finish.Goals as goal
 
 -- the last line counts what was printed
 pub returns-clause-ends : goal.returns-clause-ends
 returns-clause-ends g c = on_ok c.push_line.result c.push_line.ensures.all (λ pushed profile header intervals written stands.
-    (c.end_text.result.items, pushed, last_line c.args.self.now header intervals written c.end_text.result.items stands c.end_text.ensures))
+    (c.end_text.result.items, pushed, ends_with c.args.self.now profile header intervals written c.end_text.result.items stands c.end_text.ensures))
 
 -- a front of it was printed
 pub returns-clause-front : goal.returns-clause-front
 returns-clause-front g c =
-    if_err c.push_line.result (err_both _ _ c.push_line.result c.push_line.ensures.why c.push_line.ensures.front) (λ stop h. (
-      h.0,
-      (λ profile header intervals written stands.
-          (c.end_text.result.items, last_line c.args.self.now header intervals written c.end_text.result.items stands c.end_text.ensures, h.1)),
-    ))
+    if_err c.push_line.result (err_both _ _ c.push_line.result c.push_line.ensures.why c.push_line.ensures.front) (λ stop h.
+    (h.0, (λ profile header intervals written stands.
+    (c.end_text.result.items, ends_with c.args.self.now profile header intervals written c.end_text.result.items stands c.end_text.ensures, h.1))))
