@@ -3,6 +3,7 @@ pub mod AnItemMore
 pub mod CountedEvents
 pub mod Digits
 pub mod LinesGrow
+pub mod OneOutput
 pub mod OneStatus
 pub mod PushedLines
 pub mod VerdictStays

@@ -23,6 +23,7 @@ mod along;
 mod engine;
 mod engines;
 mod intake;
+pub mod laws;
 mod making;
 mod notes;
 mod pushing;
