@@ -24,7 +24,7 @@ pub enum FieldFault {
     HourUnits,
     /// The hours are above 23.
     Hours,
-    /// Drop-frame counting skips this label.
+    /// Drop-frame counting drops this label.
     DroppedLabel,
 }
 
