@@ -1,4 +1,4 @@
-// Words as they are typed, and what they say.
+//! Words as they are typed, and what they say.
 use super::*;
 use std::alloc::{AllocError, Global};
 use std::test::Fail;
