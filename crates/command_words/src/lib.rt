@@ -15,3 +15,6 @@
 mod command_line;
 
 pub use command_line::CommandLine;
+
+#[cfg(test)]
+mod tests;

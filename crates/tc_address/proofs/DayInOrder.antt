@@ -7,7 +7,8 @@ use Rattle.tc_address.specs.declared.count.Count.{Count}
 use Rattle.tc_address.specs.declared.count.Count.TheVariants.{C24, C25, C30, Drop30}
 use Rattle.tc_address.specs.Label.{Address, address, is_dropped, is_dropped_by, IsLabel, second_of, minute_of, hour_of, addresses, labels}
 use Rattle.tc_address.specs.Numbering.{day_length}
-use Rattle.tc_address.proofs.DroppedLabels.{rate_with, place, place_of, label_with, label_with-place, place-label, place-dropped, place-second, place-minute, place-hour}
+use Rattle.tc_address.proofs.DroppedLabels.{rate_with, place, place_of, label_with, label_with-place, place-label}
+use Rattle.tc_address.proofs.DroppedLabels.{place-dropped, place-second, place-minute, place-hour}
 
 -- the address is the label of number n
 pub record IsAt (c : Count) (n : ℕ) (a : Address) : Type 0 where
