@@ -16,7 +16,7 @@ use Rattle.std.proofs.lemmas.Bool.{le-leb}
 use Rattle.std.specs.Option.{option_map_or}
 use Rattle.clap.proofs.OnLiterals.{clap_on_literals}
 use Rattle.command_words.specs.Grammar.{command_rule, values_rule, command_app}
-use Rattle.command_words.specs.Words.{NoDash, NoDashes, line_of, words_of}
+use Rattle.command_words.specs.CommandLine.{NoDash, NoDashes, line_of, words_of}
 
 -- ---- the command line
 

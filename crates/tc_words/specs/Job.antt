@@ -7,7 +7,7 @@ use Rattle.tc_words.specs.declared.commands.TheConstants as commands
 use Rattle.tc_words.specs.declared.fault.WordsFault.{WordsFault}
 use Rattle.tc_words.specs.declared.fault.WordsFault.TheVariants.{Dash, Command, CountOfWords, Value}
 use Rattle.tc_words.specs.Values.{Word, count_in, numbered, spelled}
-use Rattle.command_words.specs.Words.{begins_with_dash}
+use Rattle.command_words.specs.CommandLine.{begins_with_dash}
 
 -- the job, or the first fault
 abbrev pub Answer : Type 0

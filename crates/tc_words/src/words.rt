@@ -1,7 +1,7 @@
 //! The words of the command line as a job, or their first fault. Next: `values` for each value, then
 //! `job`.
 ghost use Rattle.std.specs.Prelude.{◌≡◌, ◌⊎◌, map, position, string_bytes, alloc_error};
-ghost use Rattle.command_words.specs.Words.{begins_with_dash};
+ghost use Rattle.command_words.specs.CommandLine.{begins_with_dash};
 ghost use Rattle.tc_words.specs.Job.{answer_to, without_dashes, job_of, no_values, number, label_of};
 
 use crate::commands;
