@@ -1,10 +1,12 @@
 -- A walk of clap over words without a dash: the first is the command, and each other one is a value.
-use Rattle.std.proofs.Common.{◌≡◌, ◌∙◌, ◌≤◌, ◌<◌, ◌^◌, ◌&&◌, ◌||◌, ℕ, Bool, true, false, refl, sym, ap, ap₂, arith, List, [], ◌∷◌, ◌++◌, length, Some, None, append_assoc, append-nil, codes, cond}
+use Rattle.std.proofs.Common.{◌≡◌, ◌∙◌, ◌≤◌, ◌<◌, ◌^◌, ◌&&◌, ◌||◌, ℕ, Bool, true, false, refl, sym, ap, ap₂, arith}
+use Rattle.std.proofs.Common.{List, [], ◌∷◌, ◌++◌, length, Some, None, append_assoc, append-nil, codes, cond}
 use Rattle.std.specs.Prelude.{IsSome, option_and_then, unwrap_or}
 use Rattle.std.specs.List.{fold}
 use Rattle.std.specs.Str.{bytes_eq}
 use Rattle.clap.specs.Lexer.{usize_max, long_of, long_of_rest, short_of, short_of_rest, strip_byte}
-use Rattle.clap.specs.Walk.{Held, Row, Rule, Text, Waiting, Walk, idle, positional, trailing, value, plain_word, short_or_plain, long_or_other, word_met, walked, walk, walk_from, nothing_held, used}
+use Rattle.clap.specs.Walk.{Held, Row, Rule, Text, Waiting, Walk, idle, positional, trailing, value, plain_word}
+use Rattle.clap.specs.Walk.{short_or_plain, long_or_other, word_met, walked, walk, walk_from, nothing_held, used}
 use Rattle.clap.specs.Words.{App, HasMatchesOf, is_simple, matches_of, takes, first_of, first_value, all_of, found_of, rows_of}
 use Rattle.clap.specs.declared.parser.matches.ArgMatches.{ArgMatches}
 use Rattle.clap.proofs.WalkLemmas.{first_value-rows, raw_values-rows}
@@ -14,7 +16,7 @@ use Rattle.std.proofs.lemmas.Bool.{le-leb}
 use Rattle.std.specs.Option.{option_map_or}
 use Rattle.clap.proofs.OnLiterals.{clap_on_literals}
 use Rattle.command_words.specs.Grammar.{command_rule, values_rule, command_app}
-use Rattle.command_words.specs.Words.{NoDash, NoDashes, line_of, words_of}
+use Rattle.command_words.specs.CommandLine.{NoDash, NoDashes, line_of, words_of}
 
 -- ---- the command line
 

@@ -1,7 +1,8 @@
+//! The words of a command line, as clap reads them. Next: `words` of `tc_words`.
 ghost use Rattle.std.specs.Prelude.{◌≡◌, ℕ, ◌<◌, ◌^◌, List, length, map, IfOk, IfErr, IsSome, string_bytes, codes};
 ghost use Rattle.clap.specs.Words.{app_of, first_value, found_of, kind_of};
 ghost use Rattle.command_words.specs.Grammar.{command_app};
-ghost use Rattle.command_words.specs.Words.{NoDashes, line_of, words_of};
+ghost use Rattle.command_words.specs.CommandLine.{NoDashes, line_of, words_of};
 
 use clap::error::ErrorKind;
 use clap::{Arg, ArgAction, ArgMatches, Command, Error};
@@ -17,7 +18,7 @@ pub struct CommandLine<'a> {
 impl<'a> Model for CommandLine<'a> {
     ghost use Rattle.std.specs.Prelude.{IsSome, codes};
     ghost use Rattle.clap.specs.Words.{first_value, found_of};
-    ghost use Rattle.command_words.specs.Words.{Line, line_of};
+    ghost use Rattle.command_words.specs.CommandLine.{Line, line_of};
 
     ghost Value = { Line };
 

@@ -7,7 +7,7 @@
 //!
 //! What this crate promises: of words without a dash in front, the first is the command and the
 //! others are the values, each as it was given and in order; and nothing fails but for want of
-//! memory (`specs/Words.antt`).
+//! memory (`specs/CommandLine.antt`).
 //!
 //! Read `command_line`. `tc_words` stands on this crate.
 #![tactic(auto)]
@@ -15,3 +15,6 @@
 mod command_line;
 
 pub use command_line::CommandLine;
+
+#[cfg(test)]
+mod tests;

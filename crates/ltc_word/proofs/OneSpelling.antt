@@ -6,7 +6,7 @@ use Rattle.std.proofs.lemmas.Nat.{mod_below}
 use Rattle.tc_address.specs.declared.system.System.{System}
 use Rattle.tc_address.specs.declared.count.Count.{Count}
 use Rattle.tc_address.specs.Count.{system_with, rate_of}
-use Rattle.tc_address.specs.Label.{address, is_skipped}
+use Rattle.tc_address.specs.Label.{address, is_dropped}
 use Rattle.tc_bits.specs.declared.raw.RawFields.{RawFields}
 use Rattle.tc_bits.specs.declared.flags.Flags.{Flags}
 use Rattle.tc_bits.specs.Register.{number_in}
@@ -195,7 +195,7 @@ no_fault system word bits s = rw (none_from_right bits s.sync, faultless system 
 
 -- the parts of a word and its digits, each compared
 pub said : {system : System} {count : Count} {hours minutes seconds frames : ℕ} {flags : Flags} {user : ℕ} {raw : RawFields}
-    → hours < 24 → minutes < 60 → seconds < 60 → frames < rate_of (system_with count) → is_skipped (address count hours minutes seconds frames) ≡ false
+    → hours < 24 → minutes < 60 → seconds < 60 → frames < rate_of (system_with count) → is_dropped (address count hours minutes seconds frames) ≡ false
     → agrees count flags.bit10 ≡ true → system_with count ≡ system → digits_of (contents (address count hours minutes seconds frames) flags user) ≡ raw
     → Says system raw (contents (address count hours minutes seconds frames) flags user)
 said h m s f counted flag count digits = record {

@@ -5,9 +5,10 @@ use Rattle.std.proofs.lemmas.List.Elements.{filter-append}
 use Rattle.std.proofs.lemmas.List.Concat.{flat_map-cons, flat_map_single}
 use Rattle.tc_address.specs.declared.count.Count.{Count}
 use Rattle.tc_address.specs.declared.count.Count.TheVariants.{C24, C25, C30, Drop30}
-use Rattle.tc_address.specs.Label.{Address, address, is_skipped, is_skipped_by, IsLabel, second_of, minute_of, hour_of, addresses, labels}
+use Rattle.tc_address.specs.Label.{Address, address, is_dropped, is_dropped_by, IsLabel, second_of, minute_of, hour_of, addresses, labels}
 use Rattle.tc_address.specs.Numbering.{day_length}
-use Rattle.tc_address.proofs.ClosedArithmetic.{rate_with, place, place_of, label_with, label_with-place, place-label, place-skipped, place-second, place-minute, place-hour}
+use Rattle.tc_address.proofs.DroppedLabels.{rate_with, place, place_of, label_with, label_with-place, place-label}
+use Rattle.tc_address.proofs.DroppedLabels.{place-dropped, place-second, place-minute, place-hour}
 
 -- the address is the label of number n
 pub record IsAt (c : Count) (n : ℕ) (a : Address) : Type 0 where
@@ -22,7 +23,7 @@ Runs c n [] m = n ≡ m
 Runs c n (a ∷ rest) m = IsAt c n a × Runs c (n + 1) rest m
 
 abbrev pub counted : Address → Bool
-counted a = not (is_skipped a)
+counted a = not (is_dropped a)
 
 pub Runs-append : (c : Count) (n k m : ℕ) (xs ys : List Address) → Runs c n xs k → Runs c k ys m → Runs c n (xs ++ ys) m
 Runs-append c n k m [] ys e r = let P : ℕ → Type 0 = λ j. Runs c j ys m in subst P (sym e) r
@@ -53,10 +54,10 @@ Runs-all c start f len xs end e ends h =
     let last : start (0 + len) ≡ end = ap start (omega arith) ∙ ends in
     subst P (sym e) (subst Q last (Runs-rows c start f 0 len each))
 
--- one address is a label, with the next number, or is left out
-leaf_by : (c : Count) (h m s f : ℕ) (b : Bool) → is_skipped_by c m s f ≡ b → h < 24 → m < 60 → s < 60 → f < rate_with c →
+-- one address is a label, with the next number, or is dropped
+leaf_by : (c : Count) (h m s f : ℕ) (b : Bool) → is_dropped_by c m s f ≡ b → h < 24 → m < 60 → s < 60 → f < rate_with c →
     Runs c (place c h m s f) (cond (not b) (address c h m s f ∷ []) []) (place c h m s (f + 1))
-leaf_by c h m s f true e hh hm hs hf = place-skipped c h m s f e
+leaf_by c h m s f true e hh hm hs hf = place-dropped c h m s f e
 leaf_by c h m s f false e hh hm hs hf =
     let l : IsLabel (address c h m s f) = record { hours = hh; minutes = hm; seconds = hs; frames = hf; counted = e } in
     (record { label = l; count = refl; number = refl; same = sym (label_with-place c h m s f l) }, place-label c h m s f e)
@@ -67,7 +68,7 @@ unfolding second_of
 second_runs c h m s hh hm hs =
     Runs-all c (λ f. place c h m s f) (λ f. address c h m s f ∷ []) (rate_with c) (second_of c h m s) (place c h m (s + 1) 0)
     (sym (flat_map_single (λ f. address c h m s f) (range_with_len 0 (rate_with c)))) (place-second c h m s)
-    (λ f hf. leaf_by c h m s f (is_skipped_by c m s f) refl hh hm hs hf)
+    (λ f hf. leaf_by c h m s f (is_dropped_by c m s f) refl hh hm hs hf)
 
 minute_runs : (c : Count) (h m : ℕ) → h < 24 → m < 60 →
     Runs c (place c h m 0 0) (filter counted (minute_of c h m)) (place c h (m + 1) 0 0)

@@ -3,31 +3,31 @@ use Rattle.std.proofs.Common.{◌≡◌, ℕ, ◌<◌, length, Some, None, slice
 use Rattle.std.specs.Prelude.{codes}
 use Rattle.std.specs.List.{filter}
 use Rattle.tc_address.specs.declared.count.Count.TheVariants.{C25, Drop30}
-use Rattle.tc_address.specs.Label.{address, is_skipped, IsLabel, second_of, minute_of}
+use Rattle.tc_address.specs.Label.{address, is_dropped, IsLabel, second_of, minute_of}
 use Rattle.tc_address.specs.Numbering.{number_of}
 use Rattle.tc_address.specs.Circle.{moved, shortest_way}
 use Rattle.tc_address.specs.Spelling.{text_of, label_in}
 use Rattle.tc_address.proofs.OneNumber.{number_of_place}
 
 -- SMPTE 12M, "drop frame": minute 1 has 1,798 labels, and begins with frame 2
-minute_one : length (filter (λ a. not (is_skipped a)) (minute_of Drop30 0 1)) ≡ 1798
+minute_one : length (filter (λ a. not (is_dropped a)) (minute_of Drop30 0 1)) ≡ 1798
 unfolding minute_of second_of
 minute_one = refl
 
-first_of_minute_one : slice_get (filter (λ a. not (is_skipped a)) (minute_of Drop30 0 1)) 0 ≡ Some (address Drop30 0 1 0 2)
+first_of_minute_one : slice_get (filter (λ a. not (is_dropped a)) (minute_of Drop30 0 1)) 0 ≡ Some (address Drop30 0 1 0 2)
 unfolding minute_of second_of
 first_of_minute_one = refl
 
 -- minute 10 and minute 0 have all of their 1,800
-minute_ten : length (filter (λ a. not (is_skipped a)) (minute_of Drop30 0 10)) ≡ 1800
+minute_ten : length (filter (λ a. not (is_dropped a)) (minute_of Drop30 0 10)) ≡ 1800
 unfolding minute_of second_of
 minute_ten = refl
 
-minute_zero : length (filter (λ a. not (is_skipped a)) (minute_of Drop30 7 0)) ≡ 1800
+minute_zero : length (filter (λ a. not (is_dropped a)) (minute_of Drop30 7 0)) ≡ 1800
 unfolding minute_of second_of
 minute_zero = refl
 
-is_label_at : (h m s f : ℕ) → h < 24 → m < 60 → s < 60 → f < 30 → is_skipped (address Drop30 h m s f) ≡ false → IsLabel (address Drop30 h m s f)
+is_label_at : (h m s f : ℕ) → h < 24 → m < 60 → s < 60 → f < 30 → is_dropped (address Drop30 h m s f) ≡ false → IsLabel (address Drop30 h m s f)
 is_label_at h m s f p q r t e = record { hours = p; minutes = q; seconds = r; frames = t; counted = e }
 
 -- numbers of known labels
@@ -66,5 +66,5 @@ a_text_at_twenty_five = refl
 a_wrong_separator : label_in C25 (codes "01:00:00;00") ≡ None
 a_wrong_separator = refl
 
-a_left_out_label : label_in Drop30 (codes "00:01:00;00") ≡ None
-a_left_out_label = refl
+a_dropped_label : label_in Drop30 (codes "00:01:00;00") ≡ None
+a_dropped_label = refl

@@ -1,5 +1,5 @@
 pub mod AroundTheDay
-pub mod ClosedArithmetic
+pub mod DroppedLabels
 pub mod DayInOrder
 mod Examples
 pub mod OneNumber

@@ -1,5 +1,6 @@
 -- Each number of the day has one label and each label one number, so each is found from the other.
-use Rattle.std.proofs.Common.{◌≡◌, ℕ, zero, suc, ◌+◌, ◌<◌, ◌≤◌, Bool, true, false, cond, not, List, [], ◌∷◌, length, Some, None, slice_get, ℤ, pos, ◌+ℤ◌, refl, sym, ◌∙◌, ap, subst, arith}
+use Rattle.std.proofs.Common.{◌≡◌, ℕ, zero, suc, ◌+◌, ◌<◌, ◌≤◌, Bool, true, false, cond, not, List, [], ◌∷◌}
+use Rattle.std.proofs.Common.{length, Some, None, slice_get, ℤ, pos, ◌+ℤ◌, refl, sym, ◌∙◌, ap, subst, arith}
 use Rattle.std.specs.List.{position_or_len}
 use Rattle.std.specs.Option.{unwrap_or}
 use Rattle.std.proofs.lemmas.Option.{slice_get_past, slice_get_within}
@@ -10,7 +11,7 @@ use Rattle.tc_address.specs.Label.{Address, address, IsLabel, labels}
 use Rattle.tc_address.specs.Numbering.{day_length, is_same_time, number_of, step}
 use Rattle.tc_address.specs.Circle.{moved}
 use Rattle.tc_address.proofs.AroundTheDay.{moved-below, moved-zero, moved-add}
-use Rattle.tc_address.proofs.ClosedArithmetic.{place_of, label_with, label_with-place, place-below}
+use Rattle.tc_address.proofs.DroppedLabels.{place_of, label_with, label_with-place, place-below}
 use Rattle.tc_address.proofs.DayInOrder.{IsAt, Runs, labels_run, length_labels}
 
 -- what stands at a place of a run has the number of that place
@@ -34,9 +35,6 @@ get_labels c n h = let found = found_at c n h in found.1 ∙ ap (λ a. Some a) f
 
 pub is_label_with : (c : Count) (n : ℕ) → n < day_length c → IsLabel (label_with c n)
 is_label_with c n h = let found = found_at c n h in subst IsLabel found.2.same found.2.label
-
-pub place_of-label_with : (c : Count) (n : ℕ) → n < day_length c → place_of (label_with c n) ≡ n
-place_of-label_with c n h = let found = found_at c n h in ap place_of (sym found.2.same) ∙ found.2.number
 
 pub get_labels_past : (c : Count) (n : ℕ) → day_length c ≤ n → slice_get (labels c) n ≡ None
 get_labels_past c n h = slice_get_past (labels c) n (omega (arith, length_labels c))

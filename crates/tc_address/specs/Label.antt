@@ -20,19 +20,19 @@ abbrev pub address : Count → ℕ → ℕ → ℕ → ℕ → Address
 address c h m s f = record { count = c; hours = h; minutes = m; seconds = s; frames = f }
 
 -- frames 0 and 1 of second 0, in a minute that is no multiple of ten
-abbrev pub is_dropped : ℕ → ℕ → ℕ → Bool
-is_dropped minutes seconds frames = (seconds == 0) && nat_le frames 1 && not (minutes % 10 == 0)
+abbrev pub drop_frame_drops : ℕ → ℕ → ℕ → Bool
+drop_frame_drops minutes seconds frames = (seconds == 0) && nat_le frames 1 && not (minutes % 10 == 0)
 
--- the count leaves out an address with these parts: only drop-frame does
-abbrev pub is_skipped_by : Count → ℕ → ℕ → ℕ → Bool
-is_skipped_by C24 minutes seconds frames = false
-is_skipped_by C25 minutes seconds frames = false
-is_skipped_by C30 minutes seconds frames = false
-is_skipped_by Drop30 minutes seconds frames = is_dropped minutes seconds frames
+-- the count drops an address with these parts: only drop-frame does
+abbrev pub is_dropped_by : Count → ℕ → ℕ → ℕ → Bool
+is_dropped_by C24 minutes seconds frames = false
+is_dropped_by C25 minutes seconds frames = false
+is_dropped_by C30 minutes seconds frames = false
+is_dropped_by Drop30 minutes seconds frames = drop_frame_drops minutes seconds frames
 
--- the count leaves the address out
-abbrev pub is_skipped : Address → Bool
-is_skipped a = is_skipped_by a.count a.minutes a.seconds a.frames
+-- the count drops the address
+abbrev pub is_dropped : Address → Bool
+is_dropped a = is_dropped_by a.count a.minutes a.seconds a.frames
 
 -- the address is one of the labels of its count
 pub record IsLabel (a : Address) : Type 0 where
@@ -40,12 +40,12 @@ pub record IsLabel (a : Address) : Type 0 where
   pub minutes : a.minutes < 60
   pub seconds : a.seconds < 60
   pub frames : a.frames < rate_of (system_with a.count)
-  pub counted : is_skipped a ≡ false
+  pub counted : is_dropped a ≡ false
 
 -- whether the address is one of the labels of its count
 abbrev pub is_label : Address → Bool
 is_label a =
-    nat_lt a.hours 24 && nat_lt a.minutes 60 && nat_lt a.seconds 60 && nat_lt a.frames (rate_of (system_with a.count)) && not (is_skipped a)
+    nat_lt a.hours 24 && nat_lt a.minutes 60 && nat_lt a.seconds 60 && nat_lt a.frames (rate_of (system_with a.count)) && not (is_dropped a)
 
 -- the fault is there, and none that is tested before it
 abbrev pub IsFirstFault : LabelFault → Address → Type 0
@@ -53,7 +53,7 @@ IsFirstFault Hours a = 24 ≤ a.hours
 IsFirstFault Minutes a = (a.hours < 24) × (60 ≤ a.minutes)
 IsFirstFault Seconds a = (a.hours < 24) × (a.minutes < 60) × (60 ≤ a.seconds)
 IsFirstFault Frames a = (a.hours < 24) × (a.minutes < 60) × (a.seconds < 60) × (rate_of (system_with a.count) ≤ a.frames)
-IsFirstFault Dropped a = (a.hours < 24) × (a.minutes < 60) × (a.seconds < 60) × (a.frames < rate_of (system_with a.count)) × (is_skipped a ≡ true)
+IsFirstFault Dropped a = (a.hours < 24) × (a.minutes < 60) × (a.seconds < 60) × (a.frames < rate_of (system_with a.count)) × (is_dropped a ≡ true)
 
 -- the addresses of a second, in ascending order
 unfoldable pub second_of : Count → ℕ → ℕ → ℕ → List Address
@@ -71,6 +71,6 @@ hour_of c h = flat_map (λ m. minute_of c h m) (range_with_len 0 60)
 unfoldable pub addresses : Count → List Address
 addresses c = flat_map (λ h. hour_of c h) (range_with_len 0 24)
 
--- the labels of a day, in ascending order: its addresses without those that the count leaves out
+-- the labels of a day, in ascending order: its addresses without those that the count drops
 unfoldable pub labels : Count → List Address
-labels c = filter (λ a. not (is_skipped a)) (addresses c)
+labels c = filter (λ a. not (is_dropped a)) (addresses c)

@@ -1,3 +1,4 @@
+//! How the frames of a day are counted, and the system of each count. Next: `label`.
 ghost use Rattle.std.specs.Prelude.{◌≡◌};
 ghost use Rattle.tc_address.specs.Count.{system_with};
 
@@ -13,7 +14,7 @@ pub enum Count {
     /// 30 frames a second.
     C30,
     /// 30 frames a second, drop-frame: frames 0 and 1 of each minute that is no multiple of ten are
-    /// left out.
+    /// dropped.
     Drop30,
 }
 

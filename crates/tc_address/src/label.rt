@@ -1,5 +1,7 @@
+//! A frame address that is a label of its count, and the first fault of one that is none. Next:
+//! `numbering`.
 ghost use Rattle.std.specs.Prelude.{◌≡◌, IfOk, IfErr};
-ghost use Rattle.tc_address.specs.Label.{address, is_skipped_by, IsLabel, IsFirstFault};
+ghost use Rattle.tc_address.specs.Label.{address, is_dropped_by, IsLabel, IsFirstFault};
 
 use crate::count::{Count, system_of};
 use crate::system::rate;
@@ -43,14 +45,14 @@ pub enum LabelFault {
     /// The frames are not below the rate.
     #[error("Frames")]
     Frames,
-    /// Drop-frame counting leaves the label out.
+    /// Drop-frame counting drops the label.
     #[error("Dropped")]
     Dropped,
 }
 
-/// Whether the count leaves out the address.
-fn is_left_out(count: Count, minutes: u32, seconds: u32, frames: u32) -> bool
-    ensures { result ≡ is_skipped_by count minutes seconds frames }
+/// Whether the count drops the address.
+fn is_dropped(count: Count, minutes: u32, seconds: u32, frames: u32) -> bool
+    ensures { result ≡ is_dropped_by count minutes seconds frames }
 {
     match count {
         Count::Drop30 => seconds == 0 && frames <= 1 && minutes % 10 != 0,
@@ -83,7 +85,7 @@ impl Label {
         if frames >= rate(system_of(count)) {
             return Err(LabelFault::Frames);
         }
-        if is_left_out(count, minutes, seconds, frames) {
+        if is_dropped(count, minutes, seconds, frames) {
             return Err(LabelFault::Dropped);
         }
         Ok(Label {

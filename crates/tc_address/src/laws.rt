@@ -1,3 +1,4 @@
+//! What follows from the definitions alone: of the list of a day, of steps, ways and texts.
 ghost use Rattle.std.specs.Prelude.{◌≡◌, ℕ, ◌<◌, ℤ, pos, ◌+ℤ◌, slice_get};
 ghost use Rattle.tc_address.specs.declared.count.Count.{Count};
 ghost use Rattle.tc_address.specs.Label.{Address, labels, IsLabel};

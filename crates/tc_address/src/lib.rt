@@ -1,7 +1,7 @@
 //! Frame addresses: the labels of a day of timecode, their numbers, steps and texts.
 //!
 //! A label is hours, minutes, seconds and frames together with the count that it belongs to: 24, 25
-//! or 30 frames a second, or 30 with drop-frame counting, which leaves out the frame numbers 0 and 1
+//! or 30 frames a second, or 30 with drop-frame counting, which drops the frame numbers 0 and 1
 //! of each minute that is no multiple of ten (SMPTE 12M, "time address" and "drop frame"). The number
 //! of a label is how many labels of its count stand before it in the day. A subframe is an eightieth
 //! of a frame.
@@ -19,14 +19,15 @@
 //! - Within a day number and label are inverse, steps add up, one way is shortest, and a text has one
 //!   label (`laws`).
 //!
-//! Read `system`, `count`, `label`, `numbering`, `circle` and `spelling`, in this order, with the file
-//! of the same name in specs/ beside it. The other crates of the workspace that speak of labels stand
+//! Read `system`, `count`, `label`, `numbering`, `drop_frame`, `circle` and `spelling`, in this order,
+//! with the file of the same name in specs/ beside it (that of `system` is `specs/Count.antt`). The other crates of the workspace that speak of labels stand
 //! on this one. Nothing here allocates, and no call fails in any other way.
 #![tactic(auto)]
 
 mod circle;
 mod count;
 mod direction;
+mod drop_frame;
 mod label;
 pub mod laws;
 mod numbering;

@@ -1,18 +1,13 @@
+//! The number of a label in the list of its day, and the label of a number. Next: `drop_frame`.
 ghost use Rattle.std.specs.Prelude.{◌≡◌, ◌+◌, ◌*◌, ◌%◌, ◌<◌, ◌≤◌, ◌↔◌, length, slice_get, IfSome, IsNone};
 ghost use Rattle.tc_address.specs.Label.{labels, IsLabel};
-ghost use Rattle.tc_address.specs.DropFrame.{left_out_before, left_out_until};
 ghost use Rattle.tc_address.specs.Numbering.{day_length, number_of, step};
 
 use crate::circle::moved;
 use crate::count::{Count, system_of};
+use crate::drop_frame::{dropped_before, dropped_until};
 use crate::label::Label;
 use crate::system::rate;
-
-/// The labels of ten minutes of drop-frame counting.
-const TEN_MINUTES: u32 = 17_982;
-
-/// The labels of a minute of drop-frame counting that leaves two out.
-const SHORT_MINUTE: u32 = 1_798;
 
 /// The subframes of a frame.
 const SUBFRAMES: u32 = 80;
@@ -46,17 +41,6 @@ pub fn day_subframes(count: Count) -> u32
     SUBFRAMES * day_labels(count)
 }
 
-/// How many addresses the count leaves out before a minute of the day.
-fn left_out_before(count: Count, minutes: u32) -> u32
-    requires { minutes < 1440 }
-    ensures { result ≡ left_out_before count minutes }
-{
-    match count {
-        Count::Drop30 => 2 * (minutes - minutes / 10),
-        _ => 0,
-    }
-}
-
 /// How many labels of the count stand before the label in its day.
 #[tactic(auto, using(crate::proofs::OneNumber::number_of_place, crate::proofs::OneNumber::get_number_of))]
 pub fn number(label: &Label) -> u32
@@ -69,22 +53,7 @@ pub fn number(label: &Label) -> u32
     let minutes = 60 * label.hours() + label.minutes();
     let seconds = 60 * minutes + label.seconds();
     let count = label.count();
-    rate(system_of(count)) * seconds + label.frames() - left_out_before(count, minutes)
-}
-
-/// How many addresses the count leaves out before the label of number n.
-fn left_out_until(count: Count, n: u32) -> u32
-    requires { n < day_length count }
-    ensures { result ≡ left_out_until count n }
-{
-    match count {
-        Count::Drop30 => {
-            let tens = n / TEN_MINUTES;
-            let minutes = (n % TEN_MINUTES).saturating_sub(2) / SHORT_MINUTE;
-            18 * tens + 2 * minutes
-        }
-        _ => 0,
-    }
+    rate(system_of(count)) * seconds + label.frames() - dropped_before(count, minutes)
 }
 
 /// The label of a number of the day.
@@ -95,7 +64,7 @@ fn label_of(count: Count, n: u32) -> Label
     ensures valid { IsLabel result }
     ensures count { result.count ≡ count }
 {
-    let frames = n + left_out_until(count, n);
+    let frames = n + dropped_until(count, n);
     let rate = rate(system_of(count));
     let seconds = frames / rate;
     let minutes = seconds / 60;

@@ -1,3 +1,4 @@
+//! Labels, numbers and texts that are known from outside, and each label of each day.
 use super::*;
 use std::test::Fail;
 
@@ -105,7 +106,7 @@ fn the_first_fault_of_a_text(rt: HostRuntime) {
 }
 
 #[test]
-fn steps_pass_over_left_out_labels_and_midnight(rt: HostRuntime) -> Result<(), Fail> {
+fn steps_pass_over_dropped_labels_and_midnight(rt: HostRuntime) -> Result<(), Fail> {
     let rows: [(Count, &[u8], i64, &[u8]); 7] = [
         (Count::Drop30, b"00:00:59;29", 1, b"00:01:00;02"),
         (Count::Drop30, b"00:01:00;02", -1, b"00:00:59;29"),

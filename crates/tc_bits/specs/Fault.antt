@@ -3,7 +3,7 @@ use Rattle.std.specs.Prelude.{ℕ, ◌+◌, ◌*◌, Bool, nat_lt, nat_le, List,
 use Rattle.std.specs.Option.{option_map}
 use Rattle.tc_address.specs.declared.system.System.{System}
 use Rattle.tc_address.specs.Count.{rate_of}
-use Rattle.tc_address.specs.Label.{is_skipped}
+use Rattle.tc_address.specs.Label.{is_dropped}
 use Rattle.tc_bits.specs.declared.names.TheConstants as names
 use Rattle.tc_bits.specs.declared.fault.FieldFault.{FieldFault}
 use Rattle.tc_bits.specs.declared.fault.FieldFault.TheVariants.{FrameUnits, Frames, SecondUnits, SecondTens, MinuteUnits, MinuteTens}
@@ -22,7 +22,7 @@ conditions system raw =
     ∷ (nat_lt 5 raw.minute_tens, MinuteTens)
     ∷ (nat_lt 9 raw.hour_units, HourUnits)
     ∷ (nat_lt 23 (10 * raw.hour_tens + raw.hour_units), Hours)
-    ∷ (is_skipped (address_of system raw), DroppedLabel)
+    ∷ (is_dropped (address_of system raw), DroppedLabel)
     ∷ []
 
 -- the first fault whose condition holds

@@ -1,5 +1,6 @@
 -- The sources and the sink in memory: what each call answers, and what stands after it.
-use Rattle.std.specs.Prelude.{ℕ, ◌%◌, ◌-◌, min, max, Bool, if◌then◌else◌, ◌==◌, ◌&&◌, ◌||◌, not, List, [], ◌++◌, length, take, drop, slice_index, Result, Ok, Err}
+use Rattle.std.specs.Prelude.{ℕ, ◌%◌, ◌-◌, min, max, Bool, if◌then◌else◌, ◌==◌, ◌&&◌, ◌||◌, not}
+use Rattle.std.specs.Prelude.{List, [], ◌++◌, length, take, drop, slice_index, Result, Ok, Err}
 use Rattle.std.specs.List.{list_any}
 use Rattle.tc_io.specs.Source.{one_more}
 use Rattle.tc_io.specs.declared.failed.Failed.{Failed}

@@ -1,4 +1,4 @@
-//! What is pushed bytes, and the call that pushes all of them. Next: `memory_source`.
+//! What is pushed bytes, and the call that pushes all of them. Next: `adapters`.
 ghost use Rattle.std.specs.Prelude.{◌≡◌, ℕ, List, [], Option, OnOk, OnErr, IsOk};
 ghost use Rattle.std.specs.Io.{WritesAtMost};
 ghost use Rattle.std.specs.Io.KnownBytes.{Appends, WriteAppends};

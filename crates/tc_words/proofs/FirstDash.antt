@@ -1,9 +1,10 @@
 -- The first word with a dash is found by the bytes of the words, and where there is none no word has one.
-use Rattle.std.proofs.Common.{◌≡◌, ◌+◌, ◌≤◌, ℕ, Bool, cond, true, false, not, inl, inr, refl, ap₂, arith, List, [], ◌∷◌, map, length, Some, None, nat_lt, lt-ltb}
+use Rattle.std.proofs.Common.{◌≡◌, ◌+◌, ◌≤◌, ℕ, Bool, cond, true, false, not, inl, inr, refl, ap₂}
+use Rattle.std.proofs.Common.{arith, List, [], ◌∷◌, map, length, Some, None, nat_lt, lt-ltb}
 use Rattle.std.specs.List.{position, position_or_len, prefix_len}
 use Rattle.std.proofs.lemmas.Bool.{cases_lt}
 use Rattle.std.proofs.lemmas.List.{length-map}
-use Rattle.command_words.specs.Words.{NoDash, NoDashes, begins_with_dash}
+use Rattle.command_words.specs.CommandLine.{NoDash, NoDashes, begins_with_dash}
 
 prefix_len-map : {X Y : Type 0} (p : Y → Bool) (f : X → Y) (xs : List X) → prefix_len p (map f xs) ≡ prefix_len (λ x. p (f x)) xs
 prefix_len-map p f [] = refl

@@ -1,5 +1,6 @@
 -- One to twenty digits are what std reads as a number, since no sign stands before them.
-use Rattle.std.proofs.Common.{◌≡◌, ◌≢◌, ◌<◌, ◌&&◌, ◌^◌, ℕ, Bool, true, false, refl, ap, arith, List, [], ◌∷◌, Some, Result, Ok, Err, inl, inr, length, le-ltb, lt-ltb}
+use Rattle.std.proofs.Common.{◌≡◌, ◌≢◌, ◌<◌, ◌&&◌, ◌^◌, ℕ, Bool, true, false, refl, ap, arith, List}
+use Rattle.std.proofs.Common.{[], ◌∷◌, Some, Result, Ok, Err, inl, inr, length, le-ltb, lt-ltb}
 use Rattle.std.specs.Prelude.{nat_le, nat_lt}
 use Rattle.std.specs.Char.{is_ascii_digit, digit_value}
 use Rattle.std.specs.Int.{IsInRange}
@@ -41,7 +42,8 @@ no_plus (c ∷ ds) h =
 
 is_numeral : (word : Word) → is_number word ≡ true → IsNumeral 10 (without_leading_plus word)
 is_numeral word digits =
-    let some : 0 < length word = leb-true 1 (length word) (first_true (nat_lt 0 (length word)) _ (first_true (nat_lt 0 (length word) && nat_le (length word) 20) _ digits)) in
+    let bounds = first_true (nat_lt 0 (length word) && nat_le (length word) 20) _ digits in
+    let some : 0 < length word = leb-true 1 (length word) (first_true (nat_lt 0 (length word)) _ bounds) in
     let all = second_true (nat_lt 0 (length word) && nat_le (length word) 20) _ digits in
     rw (no_plus word all) (some, all_digits word all)
 

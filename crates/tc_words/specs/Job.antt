@@ -3,11 +3,11 @@ use Rattle.std.specs.Prelude.{ℕ, List, [], ◌∷◌, Option, Some, None, Resu
 use Rattle.std.specs.Str.{bytes_eq}
 use Rattle.tc_words.specs.declared.job.Job.{Job}
 use Rattle.tc_words.specs.declared.job.Job.TheVariants as jobs
-use Rattle.tc_words.specs.declared.job.TheConstants.{LTC_READ, NUMBER, LABEL}
+use Rattle.tc_words.specs.declared.commands.TheConstants as commands
 use Rattle.tc_words.specs.declared.fault.WordsFault.{WordsFault}
 use Rattle.tc_words.specs.declared.fault.WordsFault.TheVariants.{Dash, Command, CountOfWords, Value}
 use Rattle.tc_words.specs.Values.{Word, count_in, numbered, spelled}
-use Rattle.command_words.specs.Words.{begins_with_dash}
+use Rattle.command_words.specs.CommandLine.{begins_with_dash}
 
 -- the job, or the first fault
 abbrev pub Answer : Type 0
@@ -18,12 +18,12 @@ abbrev pub with_value : {X : Type 0} → ℕ → Option X → (X → Answer) →
 with_value place None next = Err (Value place)
 with_value place (Some value) next = next value
 
--- ---- the table of the commands: the values of each, and how each is read
+-- ---- the commands: the values of each, and how each is read
 
--- `ltc-read`
-abbrev pub ltc_read : List Word → Answer
-ltc_read [] = Ok jobs.LtcRead
-ltc_read _ = Err CountOfWords
+-- a command without values
+abbrev pub no_values : Job → List Word → Answer
+no_values job [] = Ok job
+no_values job _ = Err CountOfWords
 
 -- `number COUNT LABEL`
 abbrev pub number : List Word → Answer
@@ -37,12 +37,14 @@ label_of (count ∷ number ∷ []) =
     with_value 1 (count_in count) (λ c. with_value 2 (numbered c number) (λ address. Ok (jobs.LabelOf address)))
 label_of _ = Err CountOfWords
 
+-- ---- the table of the commands: a row each
+
 -- the row of the command that the word names
 abbrev pub job_of : Word → List Word → Answer
 job_of command values =
-    if bytes_eq command LTC_READ.now then ltc_read values
-    else if bytes_eq command NUMBER.now then number values
-    else if bytes_eq command LABEL.now then label_of values
+    if bytes_eq command commands.LTC_READ.now then no_values jobs.LtcRead values
+    else if bytes_eq command commands.NUMBER.now then number values
+    else if bytes_eq command commands.LABEL.now then label_of values
     else Err Command
 
 -- ---- all words

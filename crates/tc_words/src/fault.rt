@@ -1,3 +1,4 @@
+//! The first fault of the words. Next: `tc_top`, which answers it as a status.
 use std::alloc::AllocError;
 use thiserror::Error;
 

@@ -1,3 +1,4 @@
+//! What the words name. Next: `tc_top`, which does it.
 use tc_address::Label;
 
 /// What the program is to do.
@@ -10,12 +11,3 @@ pub enum Job {
     /// `label COUNT NUMBER`: writes the label of that number of the day.
     LabelOf { label: Label },
 }
-
-/// The word of `Job::LtcRead`.
-pub const LTC_READ: &str = "ltc-read";
-
-/// The word of `Job::Number`.
-pub const NUMBER: &str = "number";
-
-/// The word of `Job::LabelOf`.
-pub const LABEL: &str = "label";

@@ -1,11 +1,10 @@
-//! The command words as they are typed, which the code and the definitions share.
+//! The words of the commands, letter by letter: what holds the constants of `commands`.
 ghost use Rattle.std.specs.Prelude.{◌≡◌, codes};
+ghost use Rattle.tc_words.specs.declared.commands.TheConstants as commands;
 
-use crate::job::{LABEL, LTC_READ, NUMBER};
-
-/// The words of the commands.
+/// Each command has its word.
 pub fn each_command_has_its_word()
-    ensures ltc_read { LTC_READ.now ≡ codes "ltc-read" }
-    ensures number { NUMBER.now ≡ codes "number" }
-    ensures label { LABEL.now ≡ codes "label" }
+    ensures ltc_read { commands.LTC_READ.now ≡ codes "ltc-read" }
+    ensures number { commands.NUMBER.now ≡ codes "number" }
+    ensures label { commands.LABEL.now ≡ codes "label" }
 {}

@@ -7,11 +7,18 @@
 //! the order of `WordsFault`, and want of memory is an answer of its own (`specs/Job.antt`,
 //! `answer_to`).
 //!
-//! Read `fault`, `job`, `values` and `words`, with `specs/Job.antt` and `specs/Values.antt` beside
-//! them. A later command is a row more in `words` and in `specs/Job.antt`: its word, and how each of
-//! its values is read. `tc_top` stands on this crate.
+//! Read `commands`, `fault`, `job`, `values` and `words`, with `specs/Job.antt` and `specs/Values.antt`
+//! beside them: `words` and `Job.antt` have the same rows. `tc_top` stands on this crate.
+//!
+//! A later command joins in these places:
+//! - its job, a variant of `Job` (`job`);
+//! - its word, a constant (`commands`), spelled again by a line of `each_command_has_its_word` (`laws`);
+//! - its row in `job_of`, in `words` and in `specs/Job.antt`, which is `no_values` with its job where it
+//!   has none, and else a function there and there, which reads its values;
+//! - its lines in the tables of `tests`.
 #![tactic(auto)]
 
+pub mod commands;
 mod fault;
 mod job;
 pub mod laws;
@@ -19,7 +26,7 @@ mod values;
 mod words;
 
 pub use fault::WordsFault;
-pub use job::{Job, LABEL, LTC_READ, NUMBER};
+pub use job::Job;
 pub use words::read_words;
 
 #[cfg(test)]

@@ -1,4 +1,4 @@
-// Words as they are typed, and what they say.
+//! Words as they are typed, and what they say.
 use super::*;
 use std::alloc::{AllocError, Global};
 use std::test::Fail;
@@ -26,6 +26,13 @@ fn the_first_fault_is_told(rt: HostRuntime) -> Result<(), Fail> {
         ("number 30d 00:01:00;00", WordsFault::Value(2)),
         ("label 30d 2589408", WordsFault::Value(2)),
         ("label 30d +1", WordsFault::Value(2)),
+        ("label 25 --", WordsFault::Dash(2)),
+        ("-", WordsFault::Dash(0)),
+        ("LTC-READ", WordsFault::Command),
+        (
+            "label 25 1 2 3 4 5 6 7 8 9 10 11 12 13 14 15 16 17 18",
+            WordsFault::CountOfWords,
+        ),
     ] {
         let words = typed(alloc, line)?;
         assert_eq!(rt; read_words(alloc, &words), Err(fault), "at {line}");

@@ -1,4 +1,4 @@
-//! The values of the words, one by one.
+//! The values of the words, one by one. Next: `tc_address`, which reads labels and numbers.
 ghost use Rattle.std.specs.Prelude.{◌≡◌};
 ghost use Rattle.std.specs.Char.{is_ascii_digit};
 ghost use Rattle.std.specs.List.{list_all};

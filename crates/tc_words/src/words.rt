@@ -1,9 +1,12 @@
+//! The words of the command line as a job, or their first fault. Next: `values` for each value, then
+//! `job`.
 ghost use Rattle.std.specs.Prelude.{◌≡◌, ◌⊎◌, map, position, string_bytes, alloc_error};
-ghost use Rattle.command_words.specs.Words.{begins_with_dash};
-ghost use Rattle.tc_words.specs.Job.{answer_to, without_dashes, job_of, ltc_read, number, label_of};
+ghost use Rattle.command_words.specs.CommandLine.{begins_with_dash};
+ghost use Rattle.tc_words.specs.Job.{answer_to, without_dashes, job_of, no_values, number, label_of};
 
+use crate::commands;
 use crate::fault::WordsFault;
-use crate::job::{Job, LABEL, LTC_READ, NUMBER};
+use crate::job::Job;
 use crate::values::{count_in, numbered, spelled};
 use command_words::CommandLine;
 use std::alloc::Global;
@@ -46,27 +49,29 @@ fn begins_with_dash(word: &str) -> bool
     word.as_bytes().first() == Some(&b'-')
 }
 
-// The table of the commands.
+// The table of the commands: a row each, and below it how the values of each are read.
 fn job_of(command: &str, values: &[&str]) -> Result<Job, WordsFault>
     ensures { result ≡ job_of command.now (map (λ v. v.now) values.now) }
 {
     match command {
-        LTC_READ => ltc_read(values),
-        NUMBER => number(values),
-        LABEL => label_of(values),
+        commands::LTC_READ => no_values(values, Job::LtcRead),
+        commands::NUMBER => number(values),
+        commands::LABEL => label_of(values),
         _ => Err(WordsFault::Command),
     }
 }
 
-fn ltc_read(values: &[&str]) -> Result<Job, WordsFault>
-    ensures { result ≡ ltc_read (map (λ v. v.now) values.now) }
+// A command without values.
+fn no_values(values: &[&str], job: Job) -> Result<Job, WordsFault>
+    ensures { result ≡ no_values job (map (λ v. v.now) values.now) }
 {
     match values {
-        [] => Ok(Job::LtcRead),
+        [] => Ok(job),
         _ => Err(WordsFault::CountOfWords),
     }
 }
 
+// `number COUNT LABEL`
 fn number(values: &[&str]) -> Result<Job, WordsFault>
     ensures { result ≡ number (map (λ v. v.now) values.now) }
 {
@@ -78,6 +83,7 @@ fn number(values: &[&str]) -> Result<Job, WordsFault>
     Ok(Job::Number { label })
 }
 
+// `label COUNT NUMBER`
 fn label_of(values: &[&str]) -> Result<Job, WordsFault>
     ensures { result ≡ label_of (map (λ v. v.now) values.now) }
 {

@@ -7,6 +7,7 @@ use Rattle.tc_address.proofs.numbering.number.Goals as goal
 -- the label stands at the place that its number says
 pub returns-clause-place : goal.returns-clause-place
 returns-clause-place c =
-    let before : c.rate.result * (60 * (60 * c.hours.result + c.minutes.result) + c.seconds.result) + c.frames.result - c.left_out_before.result ≡ number_of c.args.label.now =
+    let seconds = 60 * (60 * c.hours.result + c.minutes.result) + c.seconds.result in
+    let before : c.rate.result * seconds + c.frames.result - c.dropped_before.result ≡ number_of c.args.label.now =
     grind (arith, number_of_place) in
     ap (slice_get (labels c.args.label.now.count)) before ∙ get_number_of c.args.label.now c.hours.ensures.valid

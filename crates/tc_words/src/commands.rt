@@ -1,0 +1,11 @@
+//! The words of the commands, as they are typed, which the code and the definitions share. `laws`
+//! spells each of them. Next: `words`.
+
+/// The word of `Job::LtcRead`.
+pub const LTC_READ: &str = "ltc-read";
+
+/// The word of `Job::Number`.
+pub const NUMBER: &str = "number";
+
+/// The word of `Job::LabelOf`.
+pub const LABEL: &str = "label";
