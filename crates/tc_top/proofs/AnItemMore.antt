@@ -171,7 +171,7 @@ a_fault printing stands well decoder next behind count choice f front bytes rest
 front_of_part : (m : List ℕ → List ℕ → Type 0) (old new : Option (List ℕ)) (front bytes rest written part : List ℕ) → m (front ++ bytes) (written ++ part)
     → AppendsFront old new part
     → (more : List ℕ) × Appends old new more
-        × ((due whole : List ℕ) × IsFront due (front ++ (bytes ++ rest)) × m due whole × IsFront (written ++ more) whole)
+    × ((due whole : List ℕ) × IsFront due (front ++ (bytes ++ rest)) × m due whole × IsFront (written ++ more) whole)
 front_of_part m old new front bytes rest written part is f =
     let e : written ++ part ≡ (written ++ f.0) ++ f.1.0 = ap (λ (l : List ℕ). written ++ l) f.1.1 ∙ sym (append_assoc written f.0 f.1.0) in
     (f.0, f.2, (front ++ bytes, written ++ part, (rest, sym (append_assoc front bytes rest)), is, (f.1.0, e)))
@@ -186,7 +186,7 @@ a_write_fault printing stands decoder next b count choice x old new front bytes 
     let same = one_longer stands decoder next (Some b) count choice x front bytes written s is why.0 in
     let part = why.1 (recording_of front) written s.printed in
     front_of_part (λ due w. IsPartOf (printing choice) (recording_of due) w) old new front bytes rest written part.0
-        (subst (λ (r : Recording). IsPartOf (printing choice) r (written ++ part.0)) (sym same) part.1) part.2
+    (subst (λ (r : Recording). IsPartOf (printing choice) r (written ++ part.0)) (sym same) part.1) part.2
 
 -- of a header
 pub a_header_fault : {B C : Type 0} (printing : C → Printing) (stands : Relation B C)
@@ -203,9 +203,9 @@ a_header_fault printing stands decoder next None count choice header old new fro
     let first : Recording = record { header = Some header; intervals = []; verdict = (recording_of front).verdict } in
     let begins : recording_of (front ++ bytes) ≡ first = same ∙ rw (p.0, p.1) refl in
     let now : Printing.part (printing choice) header [] (written ++ part) =
-        subst (λ (w : List ℕ). Printing.part (printing choice) header [] w) (ap (λ (w : List ℕ). w ++ part) (sym p.2)) begun in
+    subst (λ (w : List ℕ). Printing.part (printing choice) header [] w) (ap (λ (w : List ℕ). w ++ part) (sym p.2)) begun in
     front_of_part (λ due w. IsPartOf (printing choice) (recording_of due) w) old new front bytes rest written part
-        (subst (λ (r : Recording). IsPartOf (printing choice) r (written ++ part)) (sym begins) now) pushed
+    (subst (λ (r : Recording). IsPartOf (printing choice) r (written ++ part)) (sym begins) now) pushed
 
 -- ---- the bytes of an item
 

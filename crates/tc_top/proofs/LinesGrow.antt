@@ -33,7 +33,7 @@ pub more_printed : (r next : Report) (profile : Profile) (header : IntervalHeade
     (old new : Option (List ℕ)) → Stands r profile header intervals written → next.header ≡ r.header → Takes r.reader x next.reader → Feeds r next x own
     → Prints r next (event_list own) old new
     → ((reader : Reading) (intervals : List ℕ) (events : List Event) → StandsFor reader intervals events
-        → AreEvents reader.system (profile_of reader.tracker) intervals events)
+    → AreEvents reader.system (profile_of reader.tracker) intervals events)
     → Stands next profile header (intervals ++ x ∷ []) (written ++ lines r.header (event_list own))
 more_printed r next profile header intervals written x own old new s same takes feeds prints law =
     let all = s.events ++ event_list own in
@@ -58,7 +58,7 @@ more_printed r next profile header intervals written x own old new s same takes 
 pub part_of_more : (r next : Report) (profile : Profile) (header : IntervalHeader) (intervals written : List ℕ) (x : ℕ) (own : Events)
     → Stands r profile header intervals written → Takes r.reader x next.reader → Feeds r next x own
     → ((reader : Reading) (intervals : List ℕ) (events : List Event) → StandsFor reader intervals events
-        → AreEvents reader.system (profile_of reader.tracker) intervals events)
+    → AreEvents reader.system (profile_of reader.tracker) intervals events)
     → IsReadPart profile header (intervals ++ x ∷ []) (written ++ lines r.header (event_list own))
 part_of_more r next profile header intervals written x own s takes feeds law =
     let all = s.events ++ event_list own in
@@ -66,7 +66,7 @@ part_of_more r next profile header intervals written x own s takes feeds law =
       events = all;
       are_events = subst (λ (p : Profile). AreEvents header.system p (intervals ++ x ∷ []) all) (takes.profile ∙ s.keeps)
           (subst (λ (y : System). AreEvents y (profile_of next.reader.tracker) (intervals ++ x ∷ []) all) (takes.system ∙ s.system)
-              (law next.reader _ all (feeds.stands intervals s.events s.reader)));
+          (law next.reader _ all (feeds.stands intervals s.events s.reader)));
       are = ap (λ (h : IntervalHeader). written ++ lines h (event_list own)) s.says ∙ lines_of_more header s.events (event_list own) written s.are;
     }
 

@@ -8,7 +8,7 @@ use Rattle.direction_reader.specs.ListEvents.{AreEvents}
 use Rattle.tc_files.specs.declared.interval_file.header.IntervalHeader.{IntervalHeader}
 use Rattle.tc_files.specs.Recording.{recording_of}
 use Rattle.tc_words.specs.declared.job.Job.{Job}
-use Rattle.tc_words.specs.declared.job.Job.TheVariants.{LtcRead, Number, LabelOf}
+use Rattle.tc_words.specs.declared.job.Job.TheVariants.{LtcRead, LtcWorn, Number, LabelOf}
 use Rattle.tc_top.specs.Along.{IsPartBehind, IsWholeBehind}
 use Rattle.tc_top.specs.Commands.{meaning_of}
 use Rattle.tc_top.specs.LtcRead.{report, lines, last_line}
@@ -33,11 +33,13 @@ one_part law profile (Some header) intervals a b x y =
 pub one_output : OneListOfEvents → (job : Job) (input a b : List ℕ) → Meaning.output (meaning_of job) input a
     → Meaning.output (meaning_of job) input b → a ≡ b
 one_output law LtcRead input a b x y = one_whole law _ (recording_of input).header (recording_of input).intervals a b x y
+one_output law LtcWorn input a b x y = one_whole law _ (recording_of input).header (recording_of input).intervals a b x y
 one_output law (Number label) input a b x y = x.1 ∙ sym y.1
 one_output law (LabelOf label) input a b x y = x.1 ∙ sym y.1
 
 pub one_part_of : OneListOfEvents → (job : Job) (pulled a b : List ℕ) → Meaning.part (meaning_of job) pulled a
     → Meaning.part (meaning_of job) pulled b → a ≡ b
 one_part_of law LtcRead pulled a b x y = one_part law _ (recording_of pulled).header (recording_of pulled).intervals a b x y
+one_part_of law LtcWorn pulled a b x y = one_part law _ (recording_of pulled).header (recording_of pulled).intervals a b x y
 one_part_of law (Number label) pulled a b x y = x ∙ sym y
 one_part_of law (LabelOf label) pulled a b x y = x ∙ sym y

@@ -74,6 +74,7 @@ fn work_on<S: Source, K: Sink>(job: &Job, source: &mut S, out: &mut K) -> Result
 {
     match job {
         Job::LtcRead => work(&mut Along::<Report>::new(Profile::Normal), source, out),
+        Job::LtcWorn => work(&mut Along::<Report>::new(Profile::Worn), source, out),
         Job::Number { label } => make(&mut OneLine::number(label), source, out),
         Job::LabelOf { label } => make(&mut OneLine::label(label), source, out),
     }

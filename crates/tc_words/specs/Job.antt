@@ -43,6 +43,7 @@ label_of _ = Err CountOfWords
 abbrev pub job_of : Word → List Word → Answer
 job_of command values =
     if bytes_eq command commands.LTC_READ.now then no_values jobs.LtcRead values
+    else if bytes_eq command commands.LTC_WORN.now then no_values jobs.LtcWorn values
     else if bytes_eq command commands.NUMBER.now then number values
     else if bytes_eq command commands.LABEL.now then label_of values
     else Err Command

@@ -4,6 +4,9 @@
 /// The word of `Job::LtcRead`.
 pub const LTC_READ: &str = "ltc-read";
 
+/// The word of `Job::LtcWorn`.
+pub const LTC_WORN: &str = "ltc-worn";
+
 /// The word of `Job::Number`.
 pub const NUMBER: &str = "number";
 

@@ -6,6 +6,8 @@ use tc_address::Label;
 pub enum Job {
     /// `ltc-read`: reads an interval file, and writes a line for each word, refusal and loss.
     LtcRead,
+    /// `ltc-worn`: the same under the tolerance of worn recordings.
+    LtcWorn,
     /// `number COUNT LABEL`: writes how many labels of the count stand before the label in the day.
     Number { label: Label },
     /// `label COUNT NUMBER`: writes the label of that number of the day.

@@ -5,6 +5,7 @@ ghost use Rattle.tc_words.specs.declared.commands.TheConstants as commands;
 /// Each command has its word.
 pub fn each_command_has_its_word()
     ensures ltc_read { commands.LTC_READ.now ≡ codes "ltc-read" }
+    ensures ltc_worn { commands.LTC_WORN.now ≡ codes "ltc-worn" }
     ensures number { commands.NUMBER.now ≡ codes "number" }
     ensures label { commands.LABEL.now ≡ codes "label" }
 {}

@@ -21,6 +21,7 @@ fn the_first_fault_is_told(rt: HostRuntime) -> Result<(), Fail> {
         ("ltc-red -x", WordsFault::Dash(1)),
         ("ltc-red", WordsFault::Command),
         ("ltc-read x", WordsFault::CountOfWords),
+        ("ltc-worn 25", WordsFault::CountOfWords),
         ("number 30d", WordsFault::CountOfWords),
         ("number 29 00:01:00;02", WordsFault::Value(1)),
         ("number 30d 00:01:00;00", WordsFault::Value(2)),
@@ -43,7 +44,7 @@ fn the_first_fault_is_told(rt: HostRuntime) -> Result<(), Fail> {
 /// The text of the label that the job is about.
 fn label_text(job: &Job) -> Option<[u8; 11]> {
     match job {
-        Job::LtcRead => None,
+        Job::LtcRead | Job::LtcWorn => None,
         Job::Number { label } => Some(text(label)),
         Job::LabelOf { label } => Some(text(label)),
     }
@@ -54,6 +55,8 @@ fn jobs_are_read(rt: HostRuntime) -> Result<(), Fail> {
     let alloc = rt.alloc();
     let words = typed(alloc, "ltc-read")?;
     assert_eq!(rt; read_words(alloc, &words), Ok(Job::LtcRead));
+    let words = typed(alloc, "ltc-worn")?;
+    assert_eq!(rt; read_words(alloc, &words), Ok(Job::LtcWorn));
     for (line, wanted) in [
         ("label 30 2591999", *b"23:59:59:29"),
         ("label 25 0", *b"00:00:00:00"),

@@ -55,6 +55,7 @@ fn job_of(command: &str, values: &[&str]) -> Result<Job, WordsFault>
 {
     match command {
         commands::LTC_READ => no_values(values, Job::LtcRead),
+        commands::LTC_WORN => no_values(values, Job::LtcWorn),
         commands::NUMBER => number(values),
         commands::LABEL => label_of(values),
         _ => Err(WordsFault::Command),

@@ -1,4 +1,5 @@
 //! Recordings that are damaged, begin in the middle of a cell, or run the other way.
+use super::reading::THREE_LINES;
 use super::recording::{Pace, THREE_WORDS, file, recorded, spelled};
 use super::trial::Trial;
 use crate::Status;
@@ -97,5 +98,7 @@ fn halves_that_differ_too_much_break_each_stretch(rt: HostRuntime) -> Result<(),
         lost interval 263 tick 5496\n\
         lost interval 288 tick 5808\n\
         end intervals 289 words 0 refused 0 lost 13 ticks 5808\n";
-    Trial::new("ltc-read", &input).ends(&rt, Status::Done, report, "")
+    Trial::new("ltc-read", &input).ends(&rt, Status::Done, report, "")?;
+    // The tolerance of worn recordings takes these halves.
+    Trial::new("ltc-worn", &input).ends(&rt, Status::Done, THREE_LINES, "")
 }

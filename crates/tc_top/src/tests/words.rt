@@ -45,7 +45,6 @@ fn commands_to_come_are_unknown(rt: HostRuntime) -> Result<(), Fail> {
         "vitc-read",
         "vitc-make 30 00:00:00:00 1 460",
         "chase 25 00:00:00:00",
-        "ltc-worn",
         "ltc-convert 2",
         "pcm-ltc 25 48000 1000",
         "mtc-read",

@@ -20,11 +20,13 @@ returns-clause-works g c =
 pub returns-clause-front : goal.returns-clause-front
 returns-clause-front g c =
     let r = c.args.self.now in
-    if_err c.feed.result (err_both _ _ c.feed.result c.feed.ensures.why c.feed.ensures.front) (λ stop h.
-    (h.0, (λ profile header intervals written stands.
-    let f = h.1 in (
-      lines r.header (event_list f.0),
-      part_of_more r c.feed.new.self profile header intervals written c.args.x f.0 stands c.feed.ensures.takes f.1
-          c.a_reader_gives_the_events_of_its_list.ensures,
-      f.2,
-    ))))
+    if_err c.feed.result (err_both _ _ c.feed.result c.feed.ensures.why c.feed.ensures.front) (λ stop h. (
+      h.0,
+      (λ profile header intervals written stands.
+          let f = h.1 in (
+            lines r.header (event_list f.0),
+            part_of_more r c.feed.new.self profile header intervals written c.args.x f.0 stands c.feed.ensures.takes f.1
+                c.a_reader_gives_the_events_of_its_list.ensures,
+            f.2,
+          )),
+    ))
