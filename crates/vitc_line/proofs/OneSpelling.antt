@@ -7,7 +7,7 @@ use Rattle.std.proofs.lemmas.Grind.{common_steps}
 use Rattle.tc_address.specs.declared.system.System.{System}
 use Rattle.tc_address.specs.declared.count.Count.{Count}
 use Rattle.tc_address.specs.Count.{system_with, rate_of}
-use Rattle.tc_address.specs.Label.{address, is_skipped}
+use Rattle.tc_address.specs.Label.{address, is_dropped}
 use Rattle.tc_bits.specs.declared.raw.RawFields.{RawFields}
 use Rattle.tc_bits.specs.declared.flags.Flags.{Flags}
 use Rattle.tc_bits.specs.Register.{number_in, is_set}
@@ -171,7 +171,7 @@ spells_sum law word check bits valid eight low sum holds =
 
 -- the parts of a word and its digits, each compared
 pub said : {system : System} {count : Count} {hours minutes seconds frames : ℕ} {flags : Flags} {user : ℕ} {raw : RawFields}
-    → hours < 24 → minutes < 60 → seconds < 60 → frames < rate_of (system_with count) → is_skipped (address count hours minutes seconds frames) ≡ false
+    → hours < 24 → minutes < 60 → seconds < 60 → frames < rate_of (system_with count) → is_dropped (address count hours minutes seconds frames) ≡ false
     → agrees count flags.bit10 ≡ true → system_with count ≡ system → digits_of (contents (address count hours minutes seconds frames) flags user) ≡ raw
     → Says system raw (contents (address count hours minutes seconds frames) flags user)
 said h m s f counted flag count digits = record {
