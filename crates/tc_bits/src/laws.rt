@@ -1,6 +1,6 @@
 //! What follows from the definitions alone.
 
-ghost use Rattle.std.specs.Prelude.{◌≡◌, ℕ, ◌+◌, ◌*◌, ◌^◌, ◌<◌, ◌≤◌, ◌⊎◌, None};
+ghost use Rattle.std.specs.Prelude.{codes, ◌≡◌, ℕ, ◌+◌, ◌*◌, ◌^◌, ◌<◌, ◌≤◌, ◌⊎◌, None};
 ghost use Rattle.std.specs.Int.{bit_at};
 ghost use Rattle.tc_address.specs.declared.system.System.{System};
 ghost use Rattle.tc_bits.specs.declared.raw.RawFields.{RawFields};
@@ -9,6 +9,7 @@ ghost use Rattle.tc_bits.specs.Row.{SumHolds, OnlySumHolds};
 ghost use Rattle.tc_bits.specs.UserBits.{group};
 ghost use Rattle.tc_bits.specs.Fields.{Contents, Says};
 ghost use Rattle.tc_bits.specs.Fault.{first_field_fault};
+ghost use Rattle.tc_bits.specs.declared.names.TheConstants as names;
 
 /// A register with one field replaced keeps all other bits, and there is only one such register.
 pub fn replacing_is_exact()
@@ -34,4 +35,17 @@ pub fn eight_groups_are_the_user_bits()
 pub fn digits_are_exact()
     ensures one { (system : System) (raw : RawFields) (a b : Contents) → Says system raw a → Says system raw b → a ≡ b }
     ensures no_fault { (system : System) (raw : RawFields) (c : Contents) → Says system raw c → first_field_fault system raw ≡ None }
+{}
+
+/// The faults of the fields have these names in lines.
+pub fn each_fault_has_its_name()
+    ensures frame_units { names.FRAME_UNITS.now ≡ codes "frame-units" }
+    ensures frames { names.FRAMES.now ≡ codes "frames" }
+    ensures second_units { names.SECOND_UNITS.now ≡ codes "second-units" }
+    ensures second_tens { names.SECOND_TENS.now ≡ codes "second-tens" }
+    ensures minute_units { names.MINUTE_UNITS.now ≡ codes "minute-units" }
+    ensures minute_tens { names.MINUTE_TENS.now ≡ codes "minute-tens" }
+    ensures hour_units { names.HOUR_UNITS.now ≡ codes "hour-units" }
+    ensures hours { names.HOURS.now ≡ codes "hours" }
+    ensures dropped_label { names.DROPPED_LABEL.now ≡ codes "dropped-label" }
 {}

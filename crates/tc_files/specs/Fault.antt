@@ -6,13 +6,13 @@ use Rattle.tc_files.specs.declared.fault.FileFault.TheVariants.{Magic, Version, 
 
 -- the name that notes print
 abbrev pub name_of : FileFault → List ℕ
-name_of (Magic _) = names.MAGIC.now
-name_of (Version _) = names.VERSION.now
-name_of (System _) = names.SYSTEM.now
-name_of (Reserved _) = names.RESERVED.now
-name_of (TickRate _) = names.TICK_RATE.now
-name_of (Interval _) = names.INTERVAL.now
-name_of (Truncated _) = names.TRUNCATED.now
+name_of (Magic _) = names.MAGIC_NAME.now
+name_of (Version _) = names.VERSION_NAME.now
+name_of (System _) = names.SYSTEM_NAME.now
+name_of (Reserved _) = names.RESERVED_NAME.now
+name_of (TickRate _) = names.TICK_RATE_NAME.now
+name_of (Interval _) = names.INTERVAL_NAME.now
+name_of (Truncated _) = names.TRUNCATED_NAME.now
 
 -- the byte place at which the fault stands
 abbrev pub place_of : FileFault → ℕ

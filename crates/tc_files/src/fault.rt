@@ -1,3 +1,4 @@
+//! The faults of an interval file. Next: `tc_top/src/notes.rt`, which prints them.
 ghost use Rattle.std.specs.Prelude.{◌≡◌};
 
 use crate::names;
@@ -37,13 +38,13 @@ impl FileFault {
         ensures { result.now ≡ name_of self }
     {
         match self {
-            FileFault::Magic(_) => names::MAGIC,
-            FileFault::Version(_) => names::VERSION,
-            FileFault::System(_) => names::SYSTEM,
-            FileFault::Reserved(_) => names::RESERVED,
-            FileFault::TickRate(_) => names::TICK_RATE,
-            FileFault::Interval(_) => names::INTERVAL,
-            FileFault::Truncated(_) => names::TRUNCATED,
+            FileFault::Magic(_) => names::MAGIC_NAME,
+            FileFault::Version(_) => names::VERSION_NAME,
+            FileFault::System(_) => names::SYSTEM_NAME,
+            FileFault::Reserved(_) => names::RESERVED_NAME,
+            FileFault::TickRate(_) => names::TICK_RATE_NAME,
+            FileFault::Interval(_) => names::INTERVAL_NAME,
+            FileFault::Truncated(_) => names::TRUNCATED_NAME,
         }
     }
 

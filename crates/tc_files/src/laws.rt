@@ -15,11 +15,11 @@ pub fn a_header_is_this()
 
 /// The faults of an interval file have these names in notes.
 pub fn each_fault_has_its_name()
-    ensures magic { names.MAGIC.now ≡ codes "magic" }
-    ensures version { names.VERSION.now ≡ codes "version" }
-    ensures system { names.SYSTEM.now ≡ codes "system" }
-    ensures reserved { names.RESERVED.now ≡ codes "reserved" }
-    ensures tick_rate { names.TICK_RATE.now ≡ codes "tick-rate" }
-    ensures interval { names.INTERVAL.now ≡ codes "interval" }
-    ensures truncated { names.TRUNCATED.now ≡ codes "truncated" }
+    ensures magic { names.MAGIC_NAME.now ≡ codes "magic" }
+    ensures version { names.VERSION_NAME.now ≡ codes "version" }
+    ensures system { names.SYSTEM_NAME.now ≡ codes "system" }
+    ensures reserved { names.RESERVED_NAME.now ≡ codes "reserved" }
+    ensures tick_rate { names.TICK_RATE_NAME.now ≡ codes "tick-rate" }
+    ensures interval { names.INTERVAL_NAME.now ≡ codes "interval" }
+    ensures truncated { names.TRUNCATED_NAME.now ≡ codes "truncated" }
 {}

@@ -32,3 +32,6 @@ pub use interval_file::header::{
 pub use texts::event::event_text;
 pub use texts::line::{Text, push_bytes, push_number};
 pub use texts::summary::read_end_text;
+
+#[cfg(test)]
+mod tests;

@@ -1,2 +1,4 @@
+//! The commands, a file each. A command behind an interval file is a `Behind` (`along`), one that
+//! reads nothing a `Maker` (`making`). Next: `ltc_read`.
 pub(crate) mod labels;
 pub(crate) mod ltc_read;

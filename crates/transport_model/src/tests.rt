@@ -1,3 +1,4 @@
+//! Moves of a transport that were worked out by hand.
 use super::*;
 use tc_address::{Count, day_subframes};
 

@@ -1,3 +1,4 @@
+//! The header of an interval file, and the numbers of its table. Next: `decoder`.
 ghost use Rattle.std.specs.Prelude.{◌≡◌, ◌++◌, [], ◌∷◌, IfSome};
 ghost use Rattle.byteorder.specs.Endian.{big_bytes};
 ghost use Rattle.tc_address.specs.Count.{rate_of};
