@@ -1,6 +1,7 @@
-pub mod AroundTheDay
-pub mod DroppedLabels
-pub mod DayInOrder
 mod Examples
+pub mod AroundTheDay
+pub mod DayInOrder
+pub mod DroppedLabels
 pub mod OneNumber
 pub mod OneSpelling
+pub mod OneTextFault

@@ -1,10 +1,11 @@
 //! What follows from the definitions alone: of the list of a day, of steps, ways and texts.
-ghost use Rattle.std.specs.Prelude.{◌≡◌, ℕ, ◌<◌, ℤ, pos, ◌+ℤ◌, slice_get};
+ghost use Rattle.std.specs.Prelude.{◌≡◌, ℕ, ◌<◌, List, ℤ, pos, ◌+ℤ◌, slice_get};
 ghost use Rattle.tc_address.specs.declared.count.Count.{Count};
 ghost use Rattle.tc_address.specs.Label.{Address, labels, IsLabel};
 ghost use Rattle.tc_address.specs.Numbering.{number_of, step};
 ghost use Rattle.tc_address.specs.Circle.{IsShortest};
-ghost use Rattle.tc_address.specs.Spelling.{text_of};
+ghost use Rattle.tc_address.specs.declared.spelling.TextFault.{TextFault};
+ghost use Rattle.tc_address.specs.Spelling.{text_of, IsFirstTextFault};
 
 /// Within a day a label is found by its number, and what is found by a number has that number.
 pub fn number_and_label_are_inverse()
@@ -26,4 +27,10 @@ pub fn one_way_is_shortest()
 /// Two labels of a count with one text are one label.
 pub fn a_text_has_one_label()
     ensures { (a b : Address) → a.count ≡ b.count → text_of a ≡ text_of b → a ≡ b }
+{}
+
+/// A text has one first fault at most.
+pub fn a_text_has_one_first_fault()
+    ensures { (c : Count) (text : List ℕ) (fault other : TextFault) → IsFirstTextFault c text fault
+        → IsFirstTextFault c text other → fault ≡ other }
 {}

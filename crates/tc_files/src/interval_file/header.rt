@@ -1,7 +1,9 @@
 //! The header of an interval file, and the numbers of its table. Next: `decoder`.
-ghost use Rattle.std.specs.Prelude.{◌≡◌, ◌++◌, [], ◌∷◌, IfSome};
+ghost use Rattle.std.specs.Prelude.{◌≡◌, ◌++◌, [], ◌∷◌, IfSome, Some};
 ghost use Rattle.byteorder.specs.Endian.{big_bytes};
 ghost use Rattle.tc_address.specs.Count.{rate_of};
+ghost use Rattle.tc_files.specs.Recording.{recording_of};
+ghost use Rattle.tc_files.specs.Verdict.{good};
 ghost use Rattle.tc_files.specs.IntervalHeader.{IsTickRate, system_at};
 
 use byteorder::{BigEndian, ByteOrder};
@@ -34,7 +36,9 @@ pub struct IntervalHeader {
 /// The header as it stands in a file.
 pub fn interval_header(header: &IntervalHeader) -> [u8; 12]
     requires { IsTickRate header.now.tick_rate }
-    ensures { result ≡ MAGIC ++ VERSION ∷ rate_of header.now.system ∷ 0 ∷ 0 ∷ big_bytes 4 header.now.tick_rate }
+    ensures bytes { result ≡ MAGIC ++ VERSION ∷ rate_of header.now.system ∷ 0 ∷ 0 ∷ big_bytes 4 header.now.tick_rate }
+    // What is written is read back.
+    ensures back { recording_of result ≡ record { header = Some header.now; intervals = []; verdict = good } }
 {
     let [l, t, c, i] = MAGIC;
     let system = rate(header.system) as u8;
