@@ -1,4 +1,5 @@
 pub mod BoundedInvention
 pub mod DueInOrder
+pub mod GivenComeFirst
 pub mod GivenSoFar
 pub mod PairsOfWords

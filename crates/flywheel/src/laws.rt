@@ -1,9 +1,12 @@
 //! What follows from the definition of frames alone.
-ghost use Rattle.std.specs.Prelude.{◌≡◌, ℕ, ◌≤◌, ◌+◌, ◌↔◌, true, List, map, length, None};
+ghost use Rattle.std.specs.Prelude.{◌≡◌, ℕ, ◌≤◌, ◌+◌, ◌↔◌, true, List, [], ◌∷◌, ◌++◌, map, length, None};
 ghost use Rattle.std.specs.List.{filter, range_with_len};
 ghost use Rattle.tc_address.specs.Label.{Address};
 ghost use Rattle.flywheel.specs.declared.heard.HeardWord.{HeardWord};
 ghost use Rattle.flywheel.specs.Frames.{due_steps, frames, is_due, is_next, label_after};
+ghost use Rattle.flywheel.specs.declared.frame.Frame.{Frame};
+ghost use Rattle.flywheel.specs.StandsFor.{StandsFor};
+ghost use Rattle.flywheel.specs.Wheel.{Wheel};
 ghost use Rattle.flywheel.specs.Marked.{AreMarked, words_in, word_of};
 
 /// Between two heard frames, and after the last, stand at most `limit` invented ones, with the steps
@@ -24,4 +27,13 @@ pub fn steps_are_due_in_order()
 pub fn the_next_word_fits()
     ensures { (before word : HeardWord) (k : ℕ) → (is_next before k word ≡ true)
         ↔ ((word.direction ≡ before.direction) × (word.label ≡ label_after before k)) }
+{}
+
+/// What a flywheel has given so far comes first among the frames of the words, and a later word adds
+/// frames behind them.
+pub fn frames_come_in_order()
+    ensures given { (wheel : Wheel) (words : List HeardWord) (tick : ℕ) (given : List Frame)
+        → StandsFor wheel words tick given → (rest : List Frame) × (frames wheel.limit words tick ≡ given ++ rest) }
+    ensures word { (limit : ℕ) (words : List HeardWord) (word : HeardWord)
+        → (rest : List Frame) × (frames limit (words ++ word ∷ []) word.tick ≡ frames limit words word.tick ++ rest) }
 {}

@@ -1,4 +1,5 @@
 pub mod Fault
+pub mod FrameTexts
 pub mod IntervalFile
 pub mod IntervalHeader
 pub mod Line

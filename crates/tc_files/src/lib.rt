@@ -30,8 +30,9 @@ pub use interval_file::header::{
     HEAD_LENGTH, HEADER_LENGTH, IntervalHeader, MAGIC, MAX_TICK_RATE, VERSION, interval_header,
 };
 pub use texts::event::event_text;
+pub use texts::frame::frame_text;
 pub use texts::line::{Text, push_bytes, push_number};
-pub use texts::summary::read_end_text;
+pub use texts::summary::{fly_end_text, read_end_text};
 
 #[cfg(test)]
 mod tests;

@@ -1,4 +1,5 @@
 //! The lines of the reports.
 pub mod event;
+pub mod frame;
 pub mod line;
 pub mod summary;

@@ -109,7 +109,7 @@ fn lost_text(interval: u64, tick: u64) -> Text
 }
 
 /// The name of a direction in a line.
-fn direction_name(direction: Direction) -> &'static str
+pub(crate) fn direction_name(direction: Direction) -> &'static str
     ensures { result.now ≡ direction_name direction }
 {
     match direction {

@@ -1,0 +1,79 @@
+//! The line of a flywheel's frame. Next: `summary`.
+ghost use Rattle.std.specs.Prelude.{◌≡◌, ◌<◌, ◌^◌};
+ghost use Rattle.tc_files.specs.FrameTexts.{frame_line, FitsFrameLine};
+ghost use Rattle.flywheel.specs.declared.frame.Frame.{Frame};
+
+use crate::texts::event::direction_name;
+use crate::texts::line::{Text, push_bytes, push_flag, push_number};
+use flywheel::Frame;
+use tc_address::{Direction, Label, text};
+
+/// The line of a frame that was heard or invented, or of the end of invention.
+pub fn frame_text(frame: &Frame) -> Text
+    requires { FitsFrameLine frame.now }
+    ensures { result.items ≡ frame_line frame.now }
+{
+    match *frame {
+        Frame::Heard {
+            label,
+            direction,
+            joined,
+            tick,
+        } => heard_text(&label, direction, joined, tick),
+        Frame::Invented {
+            label,
+            direction,
+            step,
+            tick,
+        } => invented_text(&label, direction, step, tick),
+        Frame::Gone { tick } => gone_text(tick),
+    }
+}
+
+#[tactic(auto, using(crate::proofs::Digits::digits_of_tick))]
+fn heard_text(label: &Label, direction: Direction, joined: bool, tick: u64) -> Text
+    requires { tick < 2 ^ 60 }
+    ensures { result.items ≡ frame_line (Frame.Heard label.now direction joined tick) }
+{
+    let mut line = Text::new();
+    push_bytes(&mut line, b"heard ");
+    push_bytes(&mut line, direction_name(direction).as_bytes());
+    push_bytes(&mut line, b" ");
+    push_bytes(&mut line, &text(label));
+    push_bytes(&mut line, b" joined ");
+    push_flag(&mut line, joined);
+    push_bytes(&mut line, b" tick ");
+    push_number(&mut line, tick);
+    push_bytes(&mut line, b"\n");
+    line
+}
+
+#[tactic(auto, using(crate::proofs::Digits::digits_of_length, crate::proofs::Digits::digits_of_tick))]
+fn invented_text(label: &Label, direction: Direction, step: u32, tick: u64) -> Text
+    requires { tick < 2 ^ 60 }
+    ensures { result.items ≡ frame_line (Frame.Invented label.now direction step tick) }
+{
+    let mut line = Text::new();
+    push_bytes(&mut line, b"invented ");
+    push_bytes(&mut line, direction_name(direction).as_bytes());
+    push_bytes(&mut line, b" ");
+    push_bytes(&mut line, &text(label));
+    push_bytes(&mut line, b" step ");
+    push_number(&mut line, u64::from(step));
+    push_bytes(&mut line, b" tick ");
+    push_number(&mut line, tick);
+    push_bytes(&mut line, b"\n");
+    line
+}
+
+#[tactic(auto, using(crate::proofs::Digits::digits_of_tick))]
+fn gone_text(tick: u64) -> Text
+    requires { tick < 2 ^ 60 }
+    ensures { result.items ≡ frame_line (Frame.Gone tick) }
+{
+    let mut line = Text::new();
+    push_bytes(&mut line, b"gone tick ");
+    push_number(&mut line, tick);
+    push_bytes(&mut line, b"\n");
+    line
+}
