@@ -6,7 +6,7 @@ use Rattle.tc_words.specs.declared.job.Job.TheVariants as jobs
 use Rattle.tc_words.specs.declared.commands.TheConstants as commands
 use Rattle.tc_words.specs.declared.fault.WordsFault.{WordsFault}
 use Rattle.tc_words.specs.declared.fault.WordsFault.TheVariants.{Dash, Command, CountOfWords, Value}
-use Rattle.tc_words.specs.Values.{Word, count_in, numbered, spelled}
+use Rattle.tc_words.specs.Values.{Word, count_in, limit_in, numbered, spelled}
 use Rattle.command_words.specs.CommandLine.{begins_with_dash}
 
 -- the job, or the first fault
@@ -24,6 +24,11 @@ with_value place (Some value) next = next value
 abbrev pub no_values : Job → List Word → Answer
 no_values job [] = Ok job
 no_values job _ = Err CountOfWords
+
+-- `ltc-fly LIMIT`
+abbrev pub ltc_fly : List Word → Answer
+ltc_fly (limit ∷ []) = with_value 1 (limit_in limit) (λ n. Ok (jobs.LtcFly n))
+ltc_fly _ = Err CountOfWords
 
 -- `number COUNT LABEL`
 abbrev pub number : List Word → Answer
@@ -44,6 +49,7 @@ abbrev pub job_of : Word → List Word → Answer
 job_of command values =
     if bytes_eq command commands.LTC_READ.now then no_values jobs.LtcRead values
     else if bytes_eq command commands.LTC_WORN.now then no_values jobs.LtcWorn values
+    else if bytes_eq command commands.LTC_FLY.now then ltc_fly values
     else if bytes_eq command commands.NUMBER.now then number values
     else if bytes_eq command commands.LABEL.now then label_of values
     else Err Command

@@ -30,6 +30,10 @@ is_number word = nat_lt 0 (length word) && nat_le (length word) 20 && list_all i
 abbrev pub number_in : Word → Option ℕ
 number_in word = if is_number word && nat_lt (digits_value 10 word) (2 ^ 64) then Some (digits_value 10 word) else None
 
+-- a number up to 255
+abbrev pub limit_in : Word → Option ℕ
+limit_in word = option_and_then (λ n. if nat_le n 255 then Some n else None) (number_in word)
+
 -- the label of the count that is spelled so
 abbrev pub spelled : Count → Word → Option Address
 spelled = label_in

@@ -7,6 +7,9 @@ pub const LTC_READ: &str = "ltc-read";
 /// The word of `Job::LtcWorn`.
 pub const LTC_WORN: &str = "ltc-worn";
 
+/// The word of `Job::LtcFly`.
+pub const LTC_FLY: &str = "ltc-fly";
+
 /// The word of `Job::Number`.
 pub const NUMBER: &str = "number";
 

@@ -8,6 +8,9 @@ pub enum Job {
     LtcRead,
     /// `ltc-worn`: the same under the tolerance of worn recordings.
     LtcWorn,
+    /// `ltc-fly LIMIT`: reads an interval file, and writes a line for each frame of its words, with at
+    /// most so many invented frames in a row.
+    LtcFly { limit: u8 },
     /// `number COUNT LABEL`: writes how many labels of the count stand before the label in the day.
     Number { label: Label },
     /// `label COUNT NUMBER`: writes the label of that number of the day.

@@ -6,6 +6,7 @@ ghost use Rattle.tc_words.specs.declared.commands.TheConstants as commands;
 pub fn each_command_has_its_word()
     ensures ltc_read { commands.LTC_READ.now ≡ codes "ltc-read" }
     ensures ltc_worn { commands.LTC_WORN.now ≡ codes "ltc-worn" }
+    ensures ltc_fly { commands.LTC_FLY.now ≡ codes "ltc-fly" }
     ensures number { commands.NUMBER.now ≡ codes "number" }
     ensures label { commands.LABEL.now ≡ codes "label" }
 {}

@@ -22,6 +22,9 @@ fn the_first_fault_is_told(rt: HostRuntime) -> Result<(), Fail> {
         ("ltc-red", WordsFault::Command),
         ("ltc-read x", WordsFault::CountOfWords),
         ("ltc-worn 25", WordsFault::CountOfWords),
+        ("ltc-fly", WordsFault::CountOfWords),
+        ("ltc-fly 256", WordsFault::Value(1)),
+        ("ltc-fly two", WordsFault::Value(1)),
         ("number 30d", WordsFault::CountOfWords),
         ("number 29 00:01:00;02", WordsFault::Value(1)),
         ("number 30d 00:01:00;00", WordsFault::Value(2)),
@@ -44,7 +47,7 @@ fn the_first_fault_is_told(rt: HostRuntime) -> Result<(), Fail> {
 /// The text of the label that the job is about.
 fn label_text(job: &Job) -> Option<[u8; 11]> {
     match job {
-        Job::LtcRead | Job::LtcWorn => None,
+        Job::LtcRead | Job::LtcWorn | Job::LtcFly { .. } => None,
         Job::Number { label } => Some(text(label)),
         Job::LabelOf { label } => Some(text(label)),
     }
@@ -57,6 +60,14 @@ fn jobs_are_read(rt: HostRuntime) -> Result<(), Fail> {
     assert_eq!(rt; read_words(alloc, &words), Ok(Job::LtcRead));
     let words = typed(alloc, "ltc-worn")?;
     assert_eq!(rt; read_words(alloc, &words), Ok(Job::LtcWorn));
+    for (line, limit) in [("ltc-fly 0", 0), ("ltc-fly 2", 2), ("ltc-fly 255", 255)] {
+        let words = typed(alloc, line)?;
+        assert_eq!(rt;
+            read_words(alloc, &words),
+            Ok(Job::LtcFly { limit }),
+            "at {line}"
+        );
+    }
     for (line, wanted) in [
         ("label 30 2591999", *b"23:59:59:29"),
         ("label 25 0", *b"00:00:00:00"),

@@ -2,7 +2,7 @@
 ghost use Rattle.std.specs.Prelude.{◌≡◌};
 ghost use Rattle.std.specs.Char.{is_ascii_digit};
 ghost use Rattle.std.specs.List.{list_all};
-ghost use Rattle.tc_words.specs.Values.{count_in, is_number, number_in, numbered, spelled};
+ghost use Rattle.tc_words.specs.Values.{count_in, is_number, limit_in, number_in, numbered, spelled};
 
 use tc_address::{Count, Label, day_labels, label_at, read_text};
 
@@ -40,6 +40,18 @@ fn are_digits(bytes: &[u8]) -> bool
     ensures { result ≡ list_all is_ascii_digit bytes.now }
 {
     bytes.iter().all(|byte| byte.is_ascii_digit())
+}
+
+/// A number of frames from 0 to 255.
+pub fn limit_in(word: &str) -> Option<u8>
+    ensures { result ≡ limit_in word.now }
+{
+    let number = number_in(word)?;
+    if number <= 255 {
+        Some(number as u8)
+    } else {
+        None
+    }
 }
 
 /// The label of the count that is spelled so.

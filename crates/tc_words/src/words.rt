@@ -2,12 +2,12 @@
 //! `job`.
 ghost use Rattle.std.specs.Prelude.{◌≡◌, ◌⊎◌, map, position, string_bytes, alloc_error};
 ghost use Rattle.command_words.specs.CommandLine.{begins_with_dash};
-ghost use Rattle.tc_words.specs.Job.{answer_to, without_dashes, job_of, no_values, number, label_of};
+ghost use Rattle.tc_words.specs.Job.{answer_to, without_dashes, job_of, no_values, ltc_fly, number, label_of};
 
 use crate::commands;
 use crate::fault::WordsFault;
 use crate::job::Job;
-use crate::values::{count_in, numbered, spelled};
+use crate::values::{count_in, limit_in, numbered, spelled};
 use command_words::CommandLine;
 use std::alloc::Global;
 
@@ -56,6 +56,7 @@ fn job_of(command: &str, values: &[&str]) -> Result<Job, WordsFault>
     match command {
         commands::LTC_READ => no_values(values, Job::LtcRead),
         commands::LTC_WORN => no_values(values, Job::LtcWorn),
+        commands::LTC_FLY => ltc_fly(values),
         commands::NUMBER => number(values),
         commands::LABEL => label_of(values),
         _ => Err(WordsFault::Command),
@@ -70,6 +71,17 @@ fn no_values(values: &[&str], job: Job) -> Result<Job, WordsFault>
         [] => Ok(job),
         _ => Err(WordsFault::CountOfWords),
     }
+}
+
+// `ltc-fly LIMIT`
+fn ltc_fly(values: &[&str]) -> Result<Job, WordsFault>
+    ensures { result ≡ ltc_fly (map (λ v. v.now) values.now) }
+{
+    let [limit] = values else {
+        return Err(WordsFault::CountOfWords);
+    };
+    let limit = limit_in(limit).ok_or(WordsFault::Value(1))?;
+    Ok(Job::LtcFly { limit })
 }
 
 // `number COUNT LABEL`
