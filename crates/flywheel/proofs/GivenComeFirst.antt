@@ -31,8 +31,7 @@ after_word limit word n tick within held =
     let steps = filter-begins (λ k. is_due word k tick) 1 n limit within (λ k l u. held k l (omega arith)) in
     let end = cond (is_gone limit word tick) (Gone (tick_after word (limit + 1)) ∷ []) [] in
     let invented : map (invented_after word) (due_steps limit word tick) ≡ first_invented word n ++ map (invented_after word) steps.0 =
-        ap (map (invented_after word)) steps.1 ∙ map-append (invented_after word) (range_with_len 1 n) steps.0 in
-    (
+    ap (map (invented_after word)) steps.1 ∙ map-append (invented_after word) (range_with_len 1 n) steps.0 in (
       map (invented_after word) steps.0 ++ end,
       ap (λ (l : List Frame). l ++ end) invented ∙ append_assoc (first_invented word n) (map (invented_after word) steps.0) end,
     )
@@ -42,11 +41,10 @@ begins_after : (limit : ℕ) (word : HeardWord) (n : ℕ) (words : List HeardWor
 begins_after limit word n words tick given has =
     let after = after_word limit word n tick has.within has.due in
     let last : frames limit words tick ≡ frames limit words word.tick ++ frames_between limit word tick =
-        rw has.told (frames-last limit has.earlier word tick has.least) in
-    (
+    rw has.told (frames-last limit has.earlier word tick has.least) in (
       after.0,
       last ∙ ap (λ (l : List Frame). frames limit words word.tick ++ l) after.1
-      ∙ sym (append_assoc (frames limit words word.tick) (first_invented word n) after.0) ∙ ap (λ (l : List Frame). l ++ after.0) (sym has.given_are),
+          ∙ sym (append_assoc (frames limit words word.tick) (first_invented word n) after.0) ∙ ap (λ (l : List Frame). l ++ after.0) (sym has.given_are),
     )
 
 begins : (limit : ℕ) (reference : Option HeardWord) (n : ℕ) (words : List HeardWord) (tick : ℕ) (given : List Frame)

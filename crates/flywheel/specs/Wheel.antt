@@ -1,6 +1,8 @@
 -- What a flywheel is seen as, and what it keeps.
 use Rattle.std.specs.Prelude.{◌≡◌, ℕ, ◌+◌, ◌-◌, ◌/◌, ◌^◌, ◌<◌, ◌≤◌, Bool, false, Option, Some, None, IfSome}
 use Rattle.flywheel.specs.declared.heard.HeardWord.{HeardWord}
+use Rattle.flywheel.specs.declared.frame.Frame.{Frame}
+use Rattle.flywheel.specs.declared.frame.Frame.TheVariants.{Heard, Invented, Gone}
 use Rattle.flywheel.specs.Frames.{tick_after, is_due, is_next}
 
 -- its limit, the last word heard, unless the flywheel is still, and how many frames were invented since
@@ -51,6 +53,12 @@ pub record IsInRange (word : HeardWord) : Type 0 where
   pub tick : word.tick < 2 ^ 60
   pub least : 1 ≤ word.length
   pub most : word.length < 2 ^ 32
+
+-- the tick of a frame that is given is not past the tick at which it is due, and its step is one of the limit
+abbrev pub IsPast : Frame → ℕ → Type 0
+IsPast (Heard label direction joined t) tick = ⊥
+IsPast (Invented label direction step t) tick = (t ≤ tick) × (step ≤ 255)
+IsPast (Gone t) tick = t ≤ tick
 
 -- the first tick at which the k-th frame after a word is due; no promise speaks of it
 abbrev pub due_tick : HeardWord → ℕ → ℕ

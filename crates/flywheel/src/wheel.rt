@@ -4,7 +4,7 @@ ghost use Rattle.flywheel.specs.declared.heard.HeardWord.{HeardWord};
 ghost use Rattle.flywheel.specs.declared.frame.Frame.{Frame};
 ghost use Rattle.flywheel.specs.declared.frame.Frame.TheVariants.{Gone};
 ghost use Rattle.flywheel.specs.Frames.{frames, heard_as, invented_after, is_due, tick_after};
-ghost use Rattle.flywheel.specs.Wheel.{frames_left, goes_on_with, has_frame_due, running, still, IsInRange};
+ghost use Rattle.flywheel.specs.Wheel.{frames_left, goes_on_with, has_frame_due, running, still, IsInRange, IsPast};
 ghost use Rattle.flywheel.specs.StandsFor.{HasGivenAll, StandsFor, StandsAfterTick};
 
 use crate::frame::Frame;
@@ -93,6 +93,9 @@ impl Flywheel {
             is_due word step tick ≡ true → self.old.limit < step
             → (result ≡ Some (Gone (tick_after word step))) × (self.new ≡ still self.old.limit)) }
 
+        // Its tick is not past this one.
+        ensures past { IfSome result (λ frame. IsPast frame tick) }
+
         // So a loop until none ends, and its calls may be made.
         ensures fewer { IfSome result (λ _. frames_left self.new < frames_left self.old) }
         ensures limit { self.new.limit ≡ self.old.limit }
@@ -142,6 +145,7 @@ impl Flywheel {
 
         ensures frame { result ≡ heard_as (goes_on_with self.old word.now) word.now }
         ensures reference { self.new ≡ running self.old.limit word.now 0 }
+        ensures left { frames_left self.new ≤ 256 }
 
         // What it means for the frames of the words so far.
         ensures stands { (words : List HeardWord) (earlier : ℕ) (given : List Frame)

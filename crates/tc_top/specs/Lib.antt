@@ -5,7 +5,9 @@ pub mod Commands
 pub mod KeptAlong
 pub mod KeptLine
 pub mod KeptReport
+pub mod KeptFlight
 pub mod Labels
+pub mod LtcFly
 pub mod LtcRead
 pub mod Meaning
 pub mod Notes

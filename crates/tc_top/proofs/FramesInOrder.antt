@@ -1,0 +1,123 @@
+-- The frames that an interval brings are counted and given in order: those that are due, and then those of its words.
+use Rattle.std.proofs.Common.{◌≡◌, ℕ, ◌+◌, ◌≤◌, List, [], ◌∷◌, ◌++◌, count_by, Bool, sym, ◌∙◌, ap, subst, arith, append-nil, append_assoc, cond, refl}
+use Rattle.std.specs.declared.option.Option.{Option}
+use Rattle.std.proofs.lemmas.List.Sums.{sum_by-append, sum_by-cons}
+use Rattle.std.proofs.lemmas.Grind.{flat_map-append}
+use Rattle.std.specs.Prelude.{IfSome, Some, None}
+use Rattle.direction_reader.specs.declared.event.Event.{Event}
+use Rattle.direction_reader.specs.declared.event.Event.TheVariants as events
+use Rattle.direction_reader.specs.Brings.{IsLatest}
+use Rattle.direction_reader.specs.Events.{listed}
+use Rattle.flywheel.specs.declared.frame.Frame.{Frame}
+use Rattle.flywheel.specs.declared.frame.Frame.TheVariants.{Heard, Invented, Gone}
+use Rattle.flywheel.specs.declared.heard.HeardWord.{HeardWord}
+use Rattle.flywheel.specs.Frames.{frames}
+use Rattle.flywheel.specs.StandsFor as flies
+use Rattle.flywheel.specs.Wheel.{Wheel, IsPast}
+use Rattle.tc_files.specs.FrameTexts.{frame_line}
+use Rattle.tc_top.specs.declared.engines.ltc_fly.Flight.{Flight}
+use Rattle.tc_top.specs.KeptFlight.{counted, Comes, Counts, GivesAll, GivesFirst}
+use Rattle.tc_top.specs.LtcFly.{frame_lines, heard_in, is_end, is_heard, is_invented, words_heard}
+
+-- ---- counts
+
+one_of : (kind : Frame → Bool) (frame : Frame) → count_by kind (frame ∷ []) ≡ cond (kind frame) 1 0
+one_of kind frame = omega (arith, sum_by-cons (λ (f : Frame). cond (kind f) 1 0) frame [])
+
+-- a frame that is counted
+pub one_counted : (before mid after : Flight) (frame : Frame) → mid.heard ≡ before.heard → mid.invented ≡ before.invented → mid.gone ≡ before.gone
+    → after ≡ counted frame mid → Counts before after (frame ∷ [])
+one_counted before mid after (Heard l d j t) h i g e =
+    rw e (record { heard = omega (arith, h, one_of is_heard (Heard l d j t)); invented = omega (arith, i, one_of is_invented (Heard l d j t)); gone = omega (arith, g, one_of is_end (Heard l d j t)) })
+one_counted before mid after (Invented l d s t) h i g e =
+    rw e (record { heard = omega (arith, h, one_of is_heard (Invented l d s t)); invented = omega (arith, i, one_of is_invented (Invented l d s t)); gone = omega (arith, g, one_of is_end (Invented l d s t)) })
+one_counted before mid after (Gone t) h i g e =
+    rw e (record { heard = omega (arith, h, one_of is_heard (Gone t)); invented = omega (arith, i, one_of is_invented (Gone t)); gone = omega (arith, g, one_of is_end (Gone t)) })
+
+pub none_counted : (f : Flight) → Counts f f []
+none_counted f = record { heard = omega arith; invented = omega arith; gone = omega arith }
+
+count_of_more : (kind : Frame → Bool) (fs more : List Frame) → count_by kind (fs ++ more) ≡ count_by kind fs + count_by kind more
+count_of_more kind fs more = sum_by-append (λ (f : Frame). cond (kind f) 1 0) fs more
+
+-- some frames and then more
+pub both_counted : (a b c : Flight) (fs more : List Frame) → Counts a b fs → Counts b c more → Counts a c (fs ++ more)
+both_counted a b c fs more first second = record {
+  heard = omega (arith, first.heard, second.heard, count_of_more is_heard fs more);
+  invented = omega (arith, first.invented, second.invented, count_of_more is_invented fs more);
+  gone = omega (arith, first.gone, second.gone, count_of_more is_end fs more);
+}
+
+-- ---- lines
+
+pub both_lines : (fs more : List Frame) → frame_lines (fs ++ more) ≡ frame_lines fs ++ frame_lines more
+both_lines fs more = flat_map-append frame_line fs more
+
+-- ---- what was given
+
+-- nothing is given of no word
+pub gives_none : (wheel : Wheel) (tick : ℕ) → GivesAll wheel wheel tick [] []
+gives_none wheel tick = λ words given all.
+    subst (λ (ws : List HeardWord). flies.HasGivenAll wheel ws tick (given ++ [])) (sym (append-nil words))
+        (subst (λ (fs : List Frame). flies.HasGivenAll wheel words tick fs) (sym (append-nil given)) all)
+
+-- some words, and then more
+pub gives_both : (a b c : Wheel) (tick : ℕ) (ws more_words : List HeardWord) (fs more : List Frame) → GivesAll a b tick ws fs → GivesAll b c tick more_words more
+    → GivesAll a c tick (ws ++ more_words) (fs ++ more)
+gives_both a b c tick ws more_words fs more first second = λ words given all.
+    let both = second (words ++ ws) (given ++ fs) (first words given all) in
+    subst (λ (l : List HeardWord). flies.HasGivenAll c l tick (given ++ (fs ++ more))) (append_assoc words ws more_words)
+        (subst (λ (l : List Frame). flies.HasGivenAll c ((words ++ ws) ++ more_words) tick l) (append_assoc given fs more) both)
+
+-- all that was given comes first
+pub all_come_first : (a b : Wheel) (tick : ℕ) (ws : List HeardWord) (fs : List Frame) → b.limit ≡ a.limit → GivesAll a b tick ws fs → GivesFirst a tick ws fs
+all_come_first a b tick ws fs same gives = λ words given all.
+    let g = gives words given all in
+    ([], ap (λ (n : ℕ). frames n (words ++ ws) tick) (sym same) ∙ g.1 ∙ sym (append-nil (given ++ fs)))
+
+-- ---- words that come later
+
+abbrev pub AWordAddsFrames : Type 0
+AWordAddsFrames = (limit : ℕ) (words : List HeardWord) (word : HeardWord) → Comes limit (words ++ word ∷ []) word.tick (frames limit words word.tick)
+
+-- what comes first still does with the word of another event of the tick
+pub comes_later : AWordAddsFrames → (limit : ℕ) (words : List HeardWord) (tick : ℕ) (front : List Frame) (n : ℕ) (event : Option Event)
+    → IfSome event (IsLatest n tick) → Comes limit words tick front → Comes limit (words ++ words_heard (listed event)) tick front
+comes_later law limit words tick front n None latest comes = rw (append-nil words) comes
+comes_later law limit words tick front n (Some (events.Refused d f t)) latest comes = rw (append-nil words) comes
+comes_later law limit words tick front n (Some (events.Lost i t)) latest comes = rw (append-nil words) comes
+comes_later law limit words tick front n (Some (events.Word d w t l)) latest comes =
+    let word : HeardWord = record { label = w.fields.label; direction = d; tick = t; length = l } in
+    let added = law limit words word in
+    let now : frames limit (words ++ word ∷ []) tick ≡ frames limit words tick ++ added.0 =
+        subst (λ (s : ℕ). frames limit (words ++ word ∷ []) s ≡ frames limit words s ++ added.0) latest.0 added.1 in
+    (
+      comes.0 ++ added.0,
+      now ∙ ap (λ (fs : List Frame). fs ++ added.0) comes.1 ∙ append_assoc front comes.0 added.0,
+    )
+
+pub words_of_both : (first second : Option Event) → words_heard (listed first ++ listed second) ≡ words_heard (listed first) ++ words_heard (listed second)
+words_of_both first second = flat_map-append heard_in (listed first) (listed second)
+
+-- the first event's frames come first, whatever the second brings
+pub first_comes_first : AWordAddsFrames → (a b : Wheel) (tick n : ℕ) (first second : Option Event) (fs : List Frame) → b.limit ≡ a.limit
+    → IfSome second (IsLatest n tick) → GivesAll a b tick (words_heard (listed first)) fs
+    → GivesFirst a tick (words_heard (listed first ++ listed second)) fs
+first_comes_first law a b tick n first second fs same latest gives = λ words given all.
+    let comes = all_come_first a b tick (words_heard (listed first)) fs same gives words given all in
+    let later = comes_later law a.limit (words ++ words_heard (listed first)) tick (given ++ fs) n second latest comes in
+    subst (λ (l : List HeardWord). Comes a.limit (words ++ l) tick (given ++ fs)) (sym (words_of_both first second))
+        (subst (λ (l : List HeardWord). Comes a.limit l tick (given ++ fs)) (append_assoc words (words_heard (listed first)) (words_heard (listed second))) later)
+
+-- ---- frames that are due
+
+-- a frame that is given where one is due is none that was heard
+pub not_heard : (frame : Frame) (tick : ℕ) (f : Flight) → IsPast frame tick
+    → ((counted frame f).heard ≡ f.heard) × ((counted frame f).invented + (counted frame f).gone ≡ f.invented + f.gone + 1)
+not_heard (Heard l d j t) tick f past = absurd past
+not_heard (Invented l d s t) tick f past = (refl, omega arith)
+not_heard (Gone t) tick f past = (refl, omega arith)
+
+-- the line of a frame that was printed after others
+pub lines_and_one : (fs : List Frame) (frame : Frame) → frame_lines (fs ++ frame ∷ []) ≡ frame_lines fs ++ frame_line frame
+lines_and_one fs frame = both_lines fs (frame ∷ []) ∙ ap (λ (l : List ℕ). frame_lines fs ++ l) (append-nil (frame_line frame))

@@ -1,0 +1,15 @@
+use Rattle.std.proofs.Common.{refl, arith, append-nil}
+use Rattle.tc_files.specs.FrameTexts.{frame_line}
+use Rattle.tc_top.proofs.FramesInOrder.{one_counted}
+use Rattle.tc_top.proofs.engines.ltc_fly.Flight.hear_word.Goals as goal
+
+-- the word is heard, counted and printed
+pub returns-clause-gives : goal.returns-clause-gives
+returns-clause-gives g c =
+    let frame = c.heard-frame.result in (
+      frame,
+      one_counted c.args.self.now _ c.push.new.self frame refl refl refl c.push.ensures.counted,
+      (λ words given all. rw c.push.ensures.wheel (c.heard-frame.ensures.stands words c.args.word.now.tick given all.0 (omega arith))),
+      rw (append-nil (frame_line frame)) c.push.ensures.all,
+      rw (append-nil (frame_line frame)) c.push.ensures.front,
+    )
