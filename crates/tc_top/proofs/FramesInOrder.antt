@@ -16,7 +16,7 @@ use Rattle.flywheel.specs.StandsFor as flies
 use Rattle.flywheel.specs.Wheel.{Wheel, IsPast}
 use Rattle.tc_files.specs.FrameTexts.{frame_line}
 use Rattle.tc_top.specs.declared.engines.ltc_fly.Flight.{Flight}
-use Rattle.tc_top.specs.KeptFlight.{counted, Comes, Counts, GivesAll, GivesFirst}
+use Rattle.tc_top.specs.KeptFlight.{counted, Comes, Counts, GivesAll, GivesDue, GivesDueAll, GivesDueAllFirst, GivesFirst}
 use Rattle.tc_top.specs.LtcFly.{frame_lines, heard_in, is_end, is_heard, is_invented, words_heard}
 
 -- ---- counts
@@ -59,7 +59,7 @@ both_lines fs more = flat_map-append frame_line fs more
 pub gives_none : (wheel : Wheel) (tick : ℕ) → GivesAll wheel wheel tick [] []
 gives_none wheel tick = λ words given all.
     subst (λ (ws : List HeardWord). flies.HasGivenAll wheel ws tick (given ++ [])) (sym (append-nil words))
-        (subst (λ (fs : List Frame). flies.HasGivenAll wheel words tick fs) (sym (append-nil given)) all)
+    (subst (λ (fs : List Frame). flies.HasGivenAll wheel words tick fs) (sym (append-nil given)) all)
 
 -- some words, and then more
 pub gives_both : (a b c : Wheel) (tick : ℕ) (ws more_words : List HeardWord) (fs more : List Frame) → GivesAll a b tick ws fs → GivesAll b c tick more_words more
@@ -67,7 +67,7 @@ pub gives_both : (a b c : Wheel) (tick : ℕ) (ws more_words : List HeardWord) (
 gives_both a b c tick ws more_words fs more first second = λ words given all.
     let both = second (words ++ ws) (given ++ fs) (first words given all) in
     subst (λ (l : List HeardWord). flies.HasGivenAll c l tick (given ++ (fs ++ more))) (append_assoc words ws more_words)
-        (subst (λ (l : List Frame). flies.HasGivenAll c ((words ++ ws) ++ more_words) tick l) (append_assoc given fs more) both)
+    (subst (λ (l : List Frame). flies.HasGivenAll c ((words ++ ws) ++ more_words) tick l) (append_assoc given fs more) both)
 
 -- all that was given comes first
 pub all_come_first : (a b : Wheel) (tick : ℕ) (ws : List HeardWord) (fs : List Frame) → b.limit ≡ a.limit → GivesAll a b tick ws fs → GivesFirst a tick ws fs
@@ -90,8 +90,7 @@ comes_later law limit words tick front n (Some (events.Word d w t l)) latest com
     let word : HeardWord = record { label = w.fields.label; direction = d; tick = t; length = l } in
     let added = law limit words word in
     let now : frames limit (words ++ word ∷ []) tick ≡ frames limit words tick ++ added.0 =
-        subst (λ (s : ℕ). frames limit (words ++ word ∷ []) s ≡ frames limit words s ++ added.0) latest.0 added.1 in
-    (
+    subst (λ (s : ℕ). frames limit (words ++ word ∷ []) s ≡ frames limit words s ++ added.0) latest.0 added.1 in (
       comes.0 ++ added.0,
       now ∙ ap (λ (fs : List Frame). fs ++ added.0) comes.1 ∙ append_assoc front comes.0 added.0,
     )
@@ -107,7 +106,7 @@ first_comes_first law a b tick n first second fs same latest gives = λ words gi
     let comes = all_come_first a b tick (words_heard (listed first)) fs same gives words given all in
     let later = comes_later law a.limit (words ++ words_heard (listed first)) tick (given ++ fs) n second latest comes in
     subst (λ (l : List HeardWord). Comes a.limit (words ++ l) tick (given ++ fs)) (sym (words_of_both first second))
-        (subst (λ (l : List HeardWord). Comes a.limit l tick (given ++ fs)) (append_assoc words (words_heard (listed first)) (words_heard (listed second))) later)
+    (subst (λ (l : List HeardWord). Comes a.limit l tick (given ++ fs)) (append_assoc words (words_heard (listed first)) (words_heard (listed second))) later)
 
 -- ---- frames that are due
 
@@ -121,3 +120,25 @@ not_heard (Gone t) tick f past = (refl, omega arith)
 -- the line of a frame that was printed after others
 pub lines_and_one : (fs : List Frame) (frame : Frame) → frame_lines (fs ++ frame ∷ []) ≡ frame_lines fs ++ frame_line frame
 lines_and_one fs frame = both_lines fs (frame ∷ []) ∙ ap (λ (l : List ℕ). frame_lines fs ++ l) (append-nil (frame_line frame))
+
+-- what comes first still does with the words of all events of the tick
+pub both_later : AWordAddsFrames → (limit : ℕ) (words : List HeardWord) (tick : ℕ) (front : List Frame) (n : ℕ) (first second : Option Event)
+    → IfSome first (IsLatest n tick) → IfSome second (IsLatest n tick) → Comes limit words tick front
+    → Comes limit (words ++ words_heard (listed first ++ listed second)) tick front
+both_later law limit words tick front n first second one two comes =
+    let later = comes_later law limit (words ++ words_heard (listed first)) tick front n second two (comes_later law limit words tick front n first one comes) in
+    subst (λ (l : List HeardWord). Comes limit (words ++ l) tick front) (sym (words_of_both first second))
+    (subst (λ (l : List HeardWord). Comes limit l tick front) (append_assoc words (words_heard (listed first)) (words_heard (listed second))) later)
+
+-- frames that were due, and then those of words
+pub due_and_words : (a b c : Wheel) (tick : ℕ) (ws : List HeardWord) (due fs : List Frame) → GivesDue a b tick due → GivesAll b c tick ws fs
+    → GivesDueAll a c tick ws (due ++ fs)
+due_and_words a b c tick ws due fs first second = λ words earlier given stands before.
+    subst (λ (l : List Frame). flies.HasGivenAll c (words ++ ws) tick l) (append_assoc given due fs)
+    (second words (given ++ due) (first words earlier given stands before))
+
+pub due_and_first : (a b : Wheel) (tick : ℕ) (ws : List HeardWord) (due fs : List Frame) → b.limit ≡ a.limit → GivesDue a b tick due
+    → GivesFirst b tick ws fs → GivesDueAllFirst a tick ws (due ++ fs)
+due_and_first a b tick ws due fs same first second = λ words earlier given stands before.
+    let comes = second words (given ++ due) (first words earlier given stands before) in
+    (comes.0, ap (λ (n : ℕ). frames n (words ++ ws) tick) (sym same) ∙ comes.1 ∙ ap (λ (l : List Frame). l ++ comes.0) (append_assoc given due fs))

@@ -2,6 +2,7 @@ pub mod AlongTheInput
 pub mod AnItemMore
 pub mod CountedEvents
 pub mod Digits
+pub mod FlightGrows
 pub mod FramesInOrder
 pub mod LinesGrow
 pub mod OneOutput

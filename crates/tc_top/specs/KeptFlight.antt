@@ -69,6 +69,16 @@ abbrev pub GivesDueFirst : Wheel → ℕ → List Frame → Type 0
 GivesDueFirst before tick more = (words : List HeardWord) (earlier : ℕ) (given : List Frame) → flies.StandsFor before words earlier given
     → earlier ≤ tick → Comes before.limit words tick (given ++ more)
 
+-- with these frames more, all that were due and those of these words were given up to a later tick
+abbrev pub GivesDueAll : Wheel → Wheel → ℕ → List HeardWord → List Frame → Type 0
+GivesDueAll before after tick more_words more = (words : List HeardWord) (earlier : ℕ) (given : List Frame) → flies.StandsFor before words earlier given
+    → earlier ≤ tick → flies.HasGivenAll after (words ++ more_words) tick (given ++ more)
+
+-- they come first
+abbrev pub GivesDueAllFirst : Wheel → ℕ → List HeardWord → List Frame → Type 0
+GivesDueAllFirst before tick more_words more = (words : List HeardWord) (earlier : ℕ) (given : List Frame) → flies.StandsFor before words earlier given
+    → earlier ≤ tick → Comes before.limit (words ++ more_words) tick (given ++ more)
+
 -- it was given these intervals behind this header, and printed the frames of their words
 pub record Stands (f : Flight) (limit : ℕ) (header : IntervalHeader) (intervals written : List ℕ) : Type 0 where
   pub system : f.reader.system ≡ header.system

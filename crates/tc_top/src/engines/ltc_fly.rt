@@ -23,6 +23,8 @@ ghost use Rattle.tc_top.specs.KeptFlight.{
   FitsFrames,
   GivesAll,
   GivesDue,
+  GivesDueAll,
+  GivesDueAllFirst,
   GivesDueFirst,
   GivesFirst,
   HeardBy,
@@ -122,12 +124,14 @@ impl Flight {
         ensures cause { HasOutCause (K.faults out.old) (K.faults out.new) result }
     {
         match event {
-            Some(Event::Word {
-                direction,
-                word,
-                tick,
-                length,
-            }) => {
+            Some(
+                Event::Word {
+                    direction,
+                    word,
+                    tick,
+                    length,
+                },
+            ) => {
                 let word = HeardWord {
                     label: word.fields.label(),
                     direction,
@@ -166,7 +170,60 @@ impl Flight {
         self.push(&frame, out)
     }
 
-    /// Hears the words of what an interval brought, and prints their frames.
+    /// Hears the words of the events of an interval, and prints their frames.
+    fn hear_both<K: Sink>(&mut self, events: Events, tick: u64, out: &mut K) -> Result<(), Stop>
+        requires below { tick < 2 ^ 60 }
+        requires brings { Brings self.old.reader.intervals tick events }
+        requires heard_by { HeardBy tick self.old.wheel }
+        requires none_due { has_frame_due self.old.wheel tick ≡ false }
+        requires fits { FitsFrames self.old }
+        requires few { self.old.heard ≤ 2 * MAX_INTERVALS }
+        ensures reader { self.new.reader ≡ self.old.reader }
+        ensures heard { OnOk result (self.new.heard ≤ self.old.heard + 2) }
+        ensures limit { self.new.wheel.limit ≡ self.old.wheel.limit }
+        ensures fits { OnOk result (FitsFrames self.new) }
+        ensures heard_by { OnOk result (HeardBy tick self.new.wheel) }
+        ensures gives { OnOk result ((more : List Frame) × Counts self.old self.new more
+            × Appends (K.written out.old) (K.written out.new) (frame_lines more)
+            × GivesAll self.old.wheel self.new.wheel tick (words_heard (event_list events)) more) }
+        ensures front { OnErr result ((more : List Frame) × AppendsFront (K.written out.old) (K.written out.new) (frame_lines more)
+            × GivesFirst self.old.wheel tick (words_heard (event_list events)) more) }
+        ensures why { IfErr result (λ stop. stop ≡ Stop.WriteFault) }
+        ensures cause { HasOutCause (K.faults out.old) (K.faults out.new) result }
+    {
+        frames_come_in_order();
+        self.hear(events.first, tick, out)?;
+        self.hear(events.second, tick, out)
+    }
+
+    /// Prints the frames that are due at the tick, mostly none.
+    #[inline(always)]
+    fn give_due<K: Sink>(&mut self, tick: u64, out: &mut K) -> Result<(), Stop>
+        requires below { tick < 2 ^ 60 }
+        requires heard_by { HeardBy tick self.old.wheel }
+        requires fits { FitsFrames self.old }
+        requires few { self.old.heard ≤ 2 * MAX_INTERVALS }
+        ensures reader { self.new.reader ≡ self.old.reader }
+        ensures heard { self.new.heard ≡ self.old.heard }
+        ensures limit { self.new.wheel.limit ≡ self.old.wheel.limit }
+        ensures fits { OnOk result (FitsFrames self.new) }
+        ensures heard_by { OnOk result (HeardBy tick self.new.wheel) }
+        ensures none_due { OnOk result (has_frame_due self.new.wheel tick ≡ false) }
+        ensures gives { OnOk result ((more : List Frame) × Counts self.old self.new more
+            × Appends (K.written out.old) (K.written out.new) (frame_lines more) × GivesDue self.old.wheel self.new.wheel tick more) }
+        ensures front { OnErr result ((more : List Frame) × AppendsFront (K.written out.old) (K.written out.new) (frame_lines more)
+            × GivesDueFirst self.old.wheel tick more) }
+        ensures why { IfErr result (λ stop. stop ≡ Stop.WriteFault) }
+        ensures cause { HasOutCause (K.faults out.old) (K.faults out.new) result }
+    {
+        if self.wheel.due(tick) {
+            self.pass(tick, out)
+        } else {
+            Ok(())
+        }
+    }
+
+    /// Prints the frames that are due, and then those of the words of what an interval brought.
     #[cold]
     #[inline(never)]
     fn hear_all<K: Sink>(&mut self, brought: Brought, out: &mut K) -> Result<(), Stop>
@@ -174,7 +231,6 @@ impl Flight {
         requires may { MayTell self.old.reader brought }
         requires below { self.old.reader.tick < 2 ^ 60 }
         requires heard_by { HeardBy self.old.reader.tick self.old.wheel }
-        requires none_due { has_frame_due self.old.wheel self.old.reader.tick ≡ false }
         requires fits { FitsFrames self.old }
         requires few { self.old.heard ≤ 2 * MAX_INTERVALS }
         ensures reader { self.new.reader ≡ self.old.reader }
@@ -184,18 +240,18 @@ impl Flight {
         ensures heard_by { OnOk result (HeardBy self.old.reader.tick self.new.wheel) }
         ensures gives { OnOk result ((own : Events) × (more : List Frame) × Tells self.old.reader brought own × Counts self.old self.new more
             × Appends (K.written out.old) (K.written out.new) (frame_lines more)
-            × GivesAll self.old.wheel self.new.wheel self.old.reader.tick (words_heard (event_list own)) more) }
+            × GivesDueAll self.old.wheel self.new.wheel self.old.reader.tick (words_heard (event_list own)) more) }
         ensures front { OnErr result ((own : Events) × (more : List Frame) × Tells self.old.reader brought own
             × AppendsFront (K.written out.old) (K.written out.new) (frame_lines more)
-            × GivesFirst self.old.wheel self.old.reader.tick (words_heard (event_list own)) more) }
+            × GivesDueAllFirst self.old.wheel self.old.reader.tick (words_heard (event_list own)) more) }
         ensures why { IfErr result (λ stop. stop ≡ Stop.WriteFault) }
         ensures cause { HasOutCause (K.faults out.old) (K.faults out.new) result }
     {
         frames_come_in_order();
         let tick = self.reader.tick();
         let events = self.reader.events(brought);
-        self.hear(events.first, tick, out)?;
-        self.hear(events.second, tick, out)
+        self.give_due(tick, out)?;
+        self.hear_both(events, tick, out)
     }
 
     /// The last line.
@@ -243,13 +299,11 @@ impl Behind for Flight {
     fn interval<K: Sink>(&mut self, x: u32, out: &mut K) -> Result<(), Stop> {
         a_reader_gives_the_events_of_its_list();
         frames_come_in_order();
-        let brought = self.reader.step(x);
-        let tick = self.reader.tick();
-        if self.wheel.due(tick) {
-            self.pass(tick, out)?;
-        }
-        match brought {
-            Brought::Nothing => Ok(()),
+        match self.reader.step(x) {
+            Brought::Nothing => {
+                let tick = self.reader.tick();
+                self.give_due(tick, out)
+            }
             brought => self.hear_all(brought, out),
         }
     }

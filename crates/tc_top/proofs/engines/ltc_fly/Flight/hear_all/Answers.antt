@@ -1,66 +1,59 @@
-use Rattle.std.proofs.Common.{[], ◌++◌, ◌∙◌, ℕ, List, subst, sym, append-nil}
+use Rattle.std.proofs.Common.{◌++◌, [], ℕ, subst, sym, append-nil}
 use Rattle.std.proofs.KnownBytes.{Appends-trans}
-use Rattle.flywheel.specs.declared.heard.HeardWord.{HeardWord}
-use Rattle.direction_reader.specs.Events.{event_list, listed}
-use Rattle.tc_top.specs.KeptFlight.{GivesAll, GivesFirst}
+use Rattle.direction_reader.specs.Events.{event_list}
+use Rattle.tc_top.specs.KeptFlight.{GivesDueAll, GivesDueAllFirst}
 use Rattle.tc_top.specs.LtcFly.{frame_lines, words_heard}
 use Rattle.tc_top.proofs.AlongTheInput.{on_ok, on_err, at_err}
-use Rattle.tc_top.proofs.FramesInOrder.{both_counted, both_lines, first_comes_first, gives_both, all_come_first, words_of_both}
+use Rattle.tc_top.proofs.FramesInOrder.{both_counted, both_later, both_lines, due_and_first, due_and_words}
 use Rattle.tc_top.proofs.PushedLines.{front_of_piece}
 use Rattle.tc_top.proofs.engines.ltc_fly.Flight.hear_all.Goals as goal
 
--- the frame of the first event was not taken
-pub returns-in_err-hear-clause-front : goal.returns-in_err-hear-clause-front
-returns-in_err-hear-clause-front g c =
+-- a frame that was due was not taken
+pub returns-in_err-give_due-clause-front : goal.returns-in_err-give_due-clause-front
+returns-in_err-give_due-clause-front g c =
     let own = c.events-events.result in
-    let e = c.in_err-hear.ensures.gives in
+    let f = c.args.self.now in
+    let e = c.in_err-give_due.ensures.front in
+    let brings = rw (← c.tick-tick.ensures.value) at c.events-events.ensures.brings in
     at_err c.from_residual.result (
       own,
       e.0,
       c.events-events.ensures.told c.requires.may,
-      e.4,
-      subst (λ (t : ℕ). GivesFirst c.args.self.now.wheel t (words_heard (event_list own)) e.0) c.tick-tick.ensures.value
-          (first_comes_first c.frames_come_in_order.ensures.word c.args.self.now.wheel c.hear.new.self.wheel c.tick-tick.result
-              c.args.self.now.reader.intervals own.first own.second e.0 c.hear.ensures.limit
-              (rw c.tick-tick.ensures.value c.events-events.ensures.brings.second) e.2),
+      e.1,
+      subst (λ (t : ℕ). GivesDueAllFirst f.wheel t (words_heard (event_list own)) e.0) c.tick-tick.ensures.value
+          (λ words earlier given stands before.
+          both_later c.frames_come_in_order.ensures.word f.wheel.limit words c.tick-tick.result (given ++ e.0) f.reader.intervals own.first own.second
+          brings.first brings.second (e.2 words earlier given stands before)),
     )
 
--- the frames of both
+-- the frames that were due, and those of the words
 pub returns-clause-gives : goal.returns-clause-gives
 returns-clause-gives g c =
     let own = c.events-events.result in
-    let first = c.in_ok-hear.ensures.gives in
-    let second = c.hear-2.ensures.gives in
-    let both = gives_both c.args.self.now.wheel c.hear.new.self.wheel c.hear-2.new.self.wheel c.tick-tick.result (words_heard (listed own.first))
-        (words_heard (listed own.second)) first.0 second.0 first.2 second.2 in
-    on_ok c.hear-2.result second.3 (λ pushed. (
+    let f = c.args.self.now in
+    let due = c.in_ok-give_due.ensures.gives in
+    on_ok c.hear_both.result c.hear_both.ensures.gives (λ h. (
       own,
-      first.0 ++ second.0,
+      due.0 ++ h.0,
       c.events-events.ensures.told c.requires.may,
-      both_counted c.args.self.now c.hear.new.self c.hear-2.new.self first.0 second.0 first.1 second.1,
-      rw (both_lines first.0 second.0) (Appends-trans _ _ _ (frame_lines first.0) (frame_lines second.0) first.3 pushed),
-      subst (λ (t : ℕ). GivesAll c.args.self.now.wheel c.hear-2.new.self.wheel t (words_heard (event_list own)) (first.0 ++ second.0)) c.tick-tick.ensures.value
-          (subst (λ (ws : List HeardWord). GivesAll c.args.self.now.wheel c.hear-2.new.self.wheel c.tick-tick.result ws (first.0 ++ second.0))
-              (sym (words_of_both own.first own.second)) both),
+      both_counted f c.give_due.new.self c.hear_both.new.self due.0 h.0 due.1 h.1,
+      rw (both_lines due.0 h.0) (Appends-trans _ _ _ (frame_lines due.0) (frame_lines h.0) due.2 h.2),
+      subst (λ (t : ℕ). GivesDueAll f.wheel c.hear_both.new.self.wheel t (words_heard (event_list own)) (due.0 ++ h.0)) c.tick-tick.ensures.value
+          (due_and_words f.wheel c.give_due.new.self.wheel c.hear_both.new.self.wheel c.tick-tick.result (words_heard (event_list own)) due.0 h.0 due.3 h.3),
     ))
 
--- the frame of the second event was not taken
+-- the frame of a word was not taken
 pub returns-clause-front : goal.returns-clause-front
 returns-clause-front g c =
     let own = c.events-events.result in
-    let first = c.in_ok-hear.ensures.gives in
-    let second = c.hear-2.ensures.gives in
-    let both = gives_both c.args.self.now.wheel c.hear.new.self.wheel c.hear-2.new.self.wheel c.tick-tick.result (words_heard (listed own.first))
-        (words_heard (listed own.second)) first.0 second.0 first.2 second.2 in
-    on_err c.hear-2.result second.4 (λ front. (
+    let f = c.args.self.now in
+    let due = c.in_ok-give_due.ensures.gives in
+    on_err c.hear_both.result c.hear_both.ensures.front (λ h. (
       own,
-      first.0 ++ second.0,
+      due.0 ++ h.0,
       c.events-events.ensures.told c.requires.may,
-      front_of_piece _ _ _ (frame_lines (first.0 ++ second.0)) (frame_lines first.0) (frame_lines second.0) (frame_lines second.0) []
-          (both_lines first.0 second.0) (sym (append-nil (frame_lines second.0))) first.3 front,
-      subst (λ (t : ℕ). GivesFirst c.args.self.now.wheel t (words_heard (event_list own)) (first.0 ++ second.0)) c.tick-tick.ensures.value
-          (subst (λ (ws : List HeardWord). GivesFirst c.args.self.now.wheel c.tick-tick.result ws (first.0 ++ second.0))
-              (sym (words_of_both own.first own.second))
-              (all_come_first c.args.self.now.wheel c.hear-2.new.self.wheel c.tick-tick.result _ (first.0 ++ second.0)
-                  (c.hear-2.ensures.limit ∙ c.hear.ensures.limit) both)),
+      front_of_piece _ _ _ (frame_lines (due.0 ++ h.0)) (frame_lines due.0) (frame_lines h.0) (frame_lines h.0) []
+          (both_lines due.0 h.0) (sym (append-nil (frame_lines h.0))) due.2 h.1,
+      subst (λ (t : ℕ). GivesDueAllFirst f.wheel t (words_heard (event_list own)) (due.0 ++ h.0)) c.tick-tick.ensures.value
+          (due_and_first f.wheel c.give_due.new.self.wheel c.tick-tick.result (words_heard (event_list own)) due.0 h.0 c.give_due.ensures.limit due.3 h.2),
     ))

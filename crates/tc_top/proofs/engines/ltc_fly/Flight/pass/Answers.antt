@@ -20,11 +20,16 @@ due-init g c = record {
   fits = c.requires.fits;
   heard_by = c.requires.heard_by;
   same = refl;
-  given = ([], none_counted c.args.self.now, Appends-nil _, (λ words earlier given stands before. (
-    earlier,
-    before,
-    subst (λ (fs : List Frame). flies.StandsFor c.args.self.now.wheel words earlier fs) (sym (append-nil given)) stands,
-  )));
+  given = (
+    [],
+    none_counted c.args.self.now,
+    Appends-nil _,
+    (λ words earlier given stands before. (
+      earlier,
+      before,
+      subst (λ (fs : List Frame). flies.StandsFor c.args.self.now.wheel words earlier fs) (sym (append-nil given)) stands,
+    )),
+  );
 }
 
 -- one frame more
@@ -53,12 +58,12 @@ due-preserved g c =
         both_counted c.args.self.now c.due.self c.push.new.self m.0 (frame ∷ []) m.1 (one_counted c.due.self _ c.push.new.self frame refl refl refl e.counted),
         rw (lines_and_one m.0 frame) (Appends-trans _ _ _ (frame_lines m.0) (frame_line frame) m.2 e.all),
         (λ words earlier given stands before.
-        let so_far = m.3 words earlier given stands before in (
-          c.args.tick,
-          omega arith,
-          rw e.wheel (subst (λ (fs : List Frame). flies.StandsFor c.passed.new.self words c.args.tick fs) (append_assoc given m.0 (frame ∷ []))
-              (c.in-Some.ensures.stands words so_far.0 (given ++ m.0) so_far.2 so_far.1)),
-        )),
+            let so_far = m.3 words earlier given stands before in (
+              c.args.tick,
+              omega arith,
+              rw e.wheel (subst (λ (fs : List Frame). flies.StandsFor c.passed.new.self words c.args.tick fs) (append_assoc given m.0 (frame ∷ []))
+                  (c.in-Some.ensures.stands words so_far.0 (given ++ m.0) so_far.2 so_far.1)),
+            )),
       );
     }
 
@@ -73,9 +78,9 @@ returns-in_err-push-clause-front g c =
       front_of_piece _ _ _ (frame_lines (m.0 ++ frame ∷ [])) (frame_lines m.0) (frame_line frame) (frame_line frame) []
           (lines_and_one m.0 frame) (sym (append-nil (frame_line frame))) m.2 c.in_err-push.ensures.front,
       (λ words earlier given stands before.
-      let so_far = m.3 words earlier given stands before in
-      let now = subst (λ (fs : List Frame). flies.StandsFor c.passed.new.self words c.args.tick fs) (append_assoc given m.0 (frame ∷ []))
+          let so_far = m.3 words earlier given stands before in
+          let now = subst (λ (fs : List Frame). flies.StandsFor c.passed.new.self words c.args.tick fs) (append_assoc given m.0 (frame ∷ []))
           (c.in-Some.ensures.stands words so_far.0 (given ++ m.0) so_far.2 so_far.1) in
-      let comes = c.frames_come_in_order.ensures.given c.passed.new.self words c.args.tick (given ++ (m.0 ++ frame ∷ [])) now in
-      (comes.0, ap (λ (n : ℕ). frames n words c.args.tick) (sym (c.passed.ensures.limit ∙ i.limit)) ∙ comes.1)),
+          let comes = c.frames_come_in_order.ensures.given c.passed.new.self words c.args.tick (given ++ (m.0 ++ frame ∷ [])) now in
+          (comes.0, ap (λ (n : ℕ). frames n words c.args.tick) (sym (c.passed.ensures.limit ∙ i.limit)) ∙ comes.1)),
     )

@@ -20,7 +20,7 @@ invariant-due g l = record {
   given : (more : List Frame) × Counts l.fn.self l.self more
       × Appends (g.K.Sink.written l.fn.out) (g.K.Sink.written l.out) (frame_lines more)
       × ((words : List HeardWord) (earlier : ℕ) (given : List Frame) → flies.StandsFor l.fn.self.wheel words earlier given → earlier ≤ l.fn.tick
-          → (latest : ℕ) × (latest ≤ l.fn.tick) × flies.StandsFor l.self.wheel words latest (given ++ more));
+      → (latest : ℕ) × (latest ≤ l.fn.tick) × flies.StandsFor l.self.wheel words latest (given ++ more));
 }
 
 abbrev pub decreases-due : goal.decreases-due
