@@ -1,6 +1,7 @@
 //! Runs of the program whose status, output and note are known from outside.
 mod damage;
 mod faults;
+mod frames;
 mod reading;
 mod recording;
 mod trial;

@@ -39,7 +39,6 @@ fn words_that_name_no_job_are_refused(rt: HostRuntime) -> Result<(), Fail> {
 fn commands_to_come_are_unknown(rt: HostRuntime) -> Result<(), Fail> {
     for words in [
         "ltc-make 25 forward 00:00:00:00 3 24 48000",
-        "ltc-fly 2",
         "ltc-mtc 0",
         "ltc-load 1 1000",
         "vitc-read",
