@@ -2,6 +2,7 @@ pub use Rattle.biphase.specs.Chain
 pub use Rattle.biphase.specs.Pair
 pub use Rattle.biphase.specs.Profile
 pub mod Answer
+pub mod GoOn
 pub mod Kept
 pub mod Lock
 pub mod StandsFor
