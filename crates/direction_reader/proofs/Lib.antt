@@ -1,6 +1,7 @@
 pub mod BitsShift
 pub mod CellsEnd
 pub mod CellsGrow
+pub mod EventsExist
 pub mod EventsJoin
 pub mod OneList
 pub mod OneListOfEvents

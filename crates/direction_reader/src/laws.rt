@@ -1,5 +1,5 @@
 //! What follows from the definitions alone, and the numbers that code and definitions share.
-ghost use Rattle.std.specs.Prelude.{◌≡◌, ℕ, ◌*◌, List};
+ghost use Rattle.std.specs.Prelude.{◌≡◌, ℕ, ◌*◌, ◌^◌, ◌<◌, List};
 ghost use Rattle.biphase.specs.declared.profile.Profile.{Profile};
 ghost use Rattle.direction_reader.specs.declared.boundaries.TheConstants.{BOUNDARIES};
 ghost use Rattle.direction_reader.specs.declared.event.Event.{Event};
@@ -15,7 +15,7 @@ ghost use Rattle.direction_reader.specs.Tracker.{profile_of};
 ghost use Rattle.tc_address.specs.declared.system.System.{System};
 
 use cell_tracker::laws::a_list_has_one_list_of_stretches;
-use ltc_word::laws::spelling_is_exact;
+use ltc_word::laws::{bits_in_sync_spell_a_word_or_have_a_fault, reversed_twice_is_the_same, spelling_is_exact};
 
 /// A reader takes a thousand million intervals, a window has 80 bits and 81 boundaries, and its
 /// greatest length in ticks is that of 160 intervals of 24 bits.
@@ -33,6 +33,25 @@ pub fn a_window_has_one_list_of_events()
         → AreEventsOf system bits end length others → events ≡ others }
 {
     spelling_is_exact();
+}
+
+/// Each window of 80 bits has events.
+pub fn each_window_has_events()
+    ensures { (system : System) (bits end length : ℕ) → bits < 2 ^ 80
+        → (events : Events) × AreEventsOf system bits end length events }
+{
+    bits_in_sync_spell_a_word_or_have_a_fault();
+    reversed_twice_is_the_same();
+}
+
+/// Each list of intervals has events.
+pub fn each_list_has_events()
+    ensures { (system : System) (profile : Profile) (intervals : List ℕ)
+        → (events : List Event) × AreEvents system profile intervals events }
+{
+    bits_in_sync_spell_a_word_or_have_a_fault();
+    reversed_twice_is_the_same();
+    a_list_has_one_list_of_stretches();
 }
 
 /// A list of intervals has the events that it has, and no others.
