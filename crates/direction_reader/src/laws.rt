@@ -1,5 +1,5 @@
 //! What follows from the definitions alone, and the numbers that code and definitions share.
-ghost use Rattle.std.specs.Prelude.{◌≡◌, ℕ, ◌*◌, ◌^◌, ◌<◌, List};
+ghost use Rattle.std.specs.Prelude.{◌≡◌, ℕ, ◌*◌, ◌^◌, ◌<◌, List, ◌++◌};
 ghost use Rattle.biphase.specs.declared.profile.Profile.{Profile};
 ghost use Rattle.direction_reader.specs.declared.boundaries.TheConstants.{BOUNDARIES};
 ghost use Rattle.direction_reader.specs.declared.event.Event.{Event};
@@ -14,7 +14,7 @@ ghost use Rattle.direction_reader.specs.StandsFor.{StandsFor};
 ghost use Rattle.direction_reader.specs.Tracker.{profile_of};
 ghost use Rattle.tc_address.specs.declared.system.System.{System};
 
-use cell_tracker::laws::a_list_has_one_list_of_stretches;
+use cell_tracker::laws::{a_list_has_one_list_of_stretches, stretches_go_on};
 use ltc_word::laws::{bits_in_sync_spell_a_word_or_have_a_fault, reversed_twice_is_the_same, spelling_is_exact};
 
 /// A reader takes a thousand million intervals, a window has 80 bits and 81 boundaries, and its
@@ -62,6 +62,17 @@ pub fn a_list_has_one_list_of_events()
 {
     spelling_is_exact();
     a_list_has_one_list_of_stretches();
+}
+
+/// Where more intervals follow, the events that were there come first, and others follow.
+pub fn events_of_a_front_come_first()
+    ensures { (system : System) (profile : Profile) (front more : List ℕ)
+        (events all : List Event) → AreEvents system profile front events
+        → AreEvents system profile (front ++ more) all
+        → (rest : List Event) × (all ≡ events ++ rest) }
+{
+    spelling_is_exact();
+    stretches_go_on();
 }
 
 /// What a reader stands for are the events of its intervals.

@@ -9,7 +9,8 @@
 //!
 //! What this crate promises:
 //! - The events of a list of intervals are the candidates of all windows of its stretches, and its
-//!   breaks, in order (`specs/ListEvents.antt`, `AreEvents`). A list has one list of them (`laws`).
+//!   breaks, in order (`specs/ListEvents.antt`, `AreEvents`). Each list has one list of them, and
+//!   the events of its front come first (`laws`).
 //! - `DirectionReader` stands for the intervals that it was fed and for their events
 //!   (`specs/StandsFor.antt`). `feed`, and `step` with `events` after it, give exactly those that are
 //!   new, under either tolerance (clause `stands`). Nearly every interval brings nothing, and then
