@@ -204,3 +204,8 @@ pub stretches_of-are : (profile : Profile) (intervals : List ℕ)
     → AreStretches profile intervals (stretches_of profile intervals)
 unfolding stretches_of
 stretches_of-are profile intervals = tracked_are profile intervals _ (runs_from_nothing profile intervals)
+
+-- what is computed are the stretches
+pub computed_are : (profile : Profile) (intervals : List ℕ) (stretches : List Stretch) → stretches_of profile intervals ≡ stretches
+    → AreStretches profile intervals stretches
+computed_are profile intervals stretches same = subst (AreStretches profile intervals) same (stretches_of-are profile intervals)

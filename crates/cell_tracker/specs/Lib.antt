@@ -5,6 +5,7 @@ pub mod Answer
 pub mod GoOn
 pub mod Kept
 pub mod Lock
+pub mod Recording
 pub mod StandsFor
 pub mod State
 pub mod Stretch
