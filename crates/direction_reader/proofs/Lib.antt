@@ -3,6 +3,7 @@ pub mod CellsEnd
 pub mod CellsGrow
 pub mod EventsExist
 pub mod EventsJoin
+pub mod Examples
 pub mod FrontsFirst
 pub mod OneList
 pub mod OneListOfEvents
