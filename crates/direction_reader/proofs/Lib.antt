@@ -10,6 +10,7 @@ pub mod OneListOfEvents
 pub mod ReaderSteps
 pub mod TheEvents
 pub mod TrackerSteps
+pub mod WindowHolds
 pub mod WindowsGrow
 pub mod WordsEnd
 pub mod WrittenOver

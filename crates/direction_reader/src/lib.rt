@@ -15,6 +15,7 @@
 //!   (`specs/StandsFor.antt`). `feed`, and `step` with `events` after it, give exactly those that are
 //!   new, under either tolerance (clause `stands`). Nearly every interval brings nothing, and then
 //!   `step` is enough.
+//! - A window holds the latest of the bits that it was given (`specs/HoldsBits.antt`).
 //! - `window_events` gives the candidates of one window, the forward one first
 //!   (`specs/Candidate.antt`).
 //! - The numbers of an event are in the ranges of `specs/Brings.antt`.
