@@ -152,7 +152,7 @@ half_steps profile intervals last half earlier stretch x true o tracks =
 half_steps profile intervals last half earlier stretch x false o tracks =
     breaks_behind _ intervals earlier stretch x tracks (o.no_it_is_not refl)
 
-steps : (profile : Profile) (intervals : List ℕ) (state : Tracked) (x : ℕ) → Tracks profile intervals state
+pub steps : (profile : Profile) (intervals : List ℕ) (state : Tracked) (x : ℕ) → Tracks profile intervals state
     → Tracks profile (intervals ++ x ∷ []) (step profile (length intervals) state x)
 steps profile intervals (hunting None stretches) x tracks = hunt_first _ intervals stretches x tracks refl
 steps profile intervals (hunting (Some z) stretches) x tracks =
@@ -185,19 +185,27 @@ runs profile intervals state (x ∷ rest) tracks =
 unfoldable pub stretches_of : Profile → List ℕ → List Stretch
 stretches_of profile intervals = stretches_in (run profile 0 (hunting None []) intervals)
 
-tracked_are : (profile : Profile) (intervals : List ℕ) (state : Tracked) → Tracks profile intervals state
+pub tracked_are : (profile : Profile) (intervals : List ℕ) (state : Tracked) → Tracks profile intervals state
     → AreStretches profile intervals (stretches_in state)
 tracked_are profile intervals (hunting before stretches) tracks = tracks.stretches_are
 tracked_are profile intervals (at_cell last earlier stretch) tracks = tracks.stretches_are
 tracked_are profile intervals (mid_cell last half earlier stretch) tracks = tracks.stretches_are
 
+-- what is tracked of a list from nothing on
+pub runs_from_nothing : (profile : Profile) (intervals : List ℕ) → Tracks profile intervals (run profile 0 (hunting None []) intervals)
+runs_from_nothing profile intervals = runs profile [] (hunting None []) intervals (record {
+  stretches_are = λ k low at. omega (arith, at.0);
+  all_broken = All-nil IsBroken;
+  before = refl;
+})
+
 -- they are
 pub stretches_of-are : (profile : Profile) (intervals : List ℕ)
     → AreStretches profile intervals (stretches_of profile intervals)
 unfolding stretches_of
-stretches_of-are profile intervals =
-    tracked_are profile intervals _ (runs profile [] (hunting None []) intervals (record {
-      stretches_are = λ k low at. omega (arith, at.0);
-      all_broken = All-nil IsBroken;
-      before = refl;
-    }))
+stretches_of-are profile intervals = tracked_are profile intervals _ (runs_from_nothing profile intervals)
+
+-- what is computed are the stretches
+pub computed_are : (profile : Profile) (intervals : List ℕ) (stretches : List Stretch) → stretches_of profile intervals ≡ stretches
+    → AreStretches profile intervals stretches
+computed_are profile intervals stretches same = subst (AreStretches profile intervals) same (stretches_of-are profile intervals)

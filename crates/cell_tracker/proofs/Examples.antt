@@ -1,47 +1,42 @@
 -- Stretches computed, of recordings that show one thing each. All under the normal tolerance.
-use Rattle.std.proofs.Common.{◌≡◌, ℕ, zero, suc, ◌/◌, ◌%◌, ◌==◌, Bool, true, false, List, [], ◌∷◌, ◌++◌, map, length, replicate, set, Some, None, refl, subst}
+use Rattle.std.proofs.Common.{◌≡◌, ℕ, zero, suc, ◌/◌, ◌%◌, ◌==◌, Bool, true, false, List, [], ◌∷◌, ◌++◌, map, length, replicate, set, Some, None, refl}
 use Rattle.biphase.specs.declared.profile.Profile.TheVariants.{Normal}
 use Rattle.biphase.specs.declared.cell.Cell.{Cell}
 use Rattle.biphase.specs.declared.cell.Cell.TheVariants.{Zero, One}
 use Rattle.biphase.specs.Chain.{flat}
 use Rattle.cell_tracker.specs.Kept.{cells_from}
 use Rattle.cell_tracker.specs.Stretch.{Stretch, AreStretches, begun, with_break, with_cell}
-use Rattle.cell_tracker.proofs.Computed.{run, stretches_of, stretches_of-are}
-
--- what is computed are the stretches
-are : (intervals : List ℕ) (stretches : List Stretch) → stretches_of Normal intervals ≡ stretches
-    → AreStretches Normal intervals stretches
-are intervals stretches same = subst (AreStretches Normal intervals) same (stretches_of-are Normal intervals)
+use Rattle.cell_tracker.proofs.Computed.{run, stretches_of, computed_are}
 
 -- equal intervals have none
 equal_intervals : AreStretches Normal (replicate 400 24) []
 unfolding stretches_of run
-equal_intervals = are (replicate 400 24) [] refl
+equal_intervals = computed_are Normal (replicate 400 24) [] refl
 
 -- the lock is at the greater interval, here the second
 rising_pair : AreStretches Normal (12 ∷ 24 ∷ []) (begun 1 24 ∷ [])
 unfolding stretches_of run
-rising_pair = are (12 ∷ 24 ∷ []) (begun 1 24 ∷ []) refl
+rising_pair = computed_are Normal (12 ∷ 24 ∷ []) (begun 1 24 ∷ []) refl
 
 -- and here the first; the list ends in a half, which waits
 ends_in_a_half : AreStretches Normal (24 ∷ 12 ∷ []) (begun 0 24 ∷ [])
 unfolding stretches_of run
-ends_in_a_half = are (24 ∷ 12 ∷ []) (begun 0 24 ∷ []) refl
+ends_in_a_half = computed_are Normal (24 ∷ 12 ∷ []) (begun 0 24 ∷ []) refl
 
 -- a zero that breaks at once: the pair is unequal, and the lesser is too long for a half
 breaks_at_once : AreStretches Normal (200 ∷ 130 ∷ []) (with_break 1 (begun 0 200) ∷ [])
 unfolding stretches_of run
-breaks_at_once = are (200 ∷ 130 ∷ []) (with_break 1 (begun 0 200) ∷ []) refl
+breaks_at_once = computed_are Normal (200 ∷ 130 ∷ []) (with_break 1 (begun 0 200) ∷ []) refl
 
 -- a break at an interval that is neither a zero nor a half
 breaks_at_an_interval : AreStretches Normal (12 ∷ 24 ∷ 25 ∷ 30 ∷ []) (with_break 3 (with_cell (Zero 25) (begun 1 24)) ∷ [])
 unfolding stretches_of run
-breaks_at_an_interval = are (12 ∷ 24 ∷ 25 ∷ 30 ∷ []) (with_break 3 (with_cell (Zero 25) (begun 1 24)) ∷ []) refl
+breaks_at_an_interval = computed_are Normal (12 ∷ 24 ∷ 25 ∷ 30 ∷ []) (with_break 3 (with_cell (Zero 25) (begun 1 24)) ∷ []) refl
 
 -- a break behind a waiting half, whose pair with the interval after it is not looked at again
 breaks_behind_a_half : AreStretches Normal (24 ∷ 12 ∷ 24 ∷ []) (with_break 2 (begun 0 24) ∷ [])
 unfolding stretches_of run
-breaks_behind_a_half = are (24 ∷ 12 ∷ 24 ∷ []) (with_break 2 (begun 0 24) ∷ []) refl
+breaks_behind_a_half = computed_are Normal (24 ∷ 12 ∷ 24 ∷ []) (with_break 2 (begun 0 24) ∷ []) refl
 
 -- the bits of a number, the least significant first
 bits_of : ℕ → ℕ → List Bool
@@ -65,7 +60,7 @@ recorded = flat (map cell_of four_words)
 -- a recording of four words is one stretch
 four_words_are_one : AreStretches Normal recorded (record { lock = 0; cells = map cell_of four_words; broken_at = None } ∷ [])
 unfolding stretches_of run recorded four_words bits_of cell_of
-four_words_are_one = are recorded (record { lock = 0; cells = map cell_of four_words; broken_at = None } ∷ []) refl
+four_words_are_one = computed_are Normal recorded (record { lock = 0; cells = map cell_of four_words; broken_at = None } ∷ []) refl
 
 -- with one interval of 24 ticks made three times as long it breaks there, and goes on behind
 one_long_interval : (length recorded ≡ 385) ×

@@ -7,3 +7,4 @@ pub mod LocalStretch
 pub mod LockStays
 pub mod OneStretch
 pub mod StretchGrows
+pub mod StretchesGoOn

@@ -2,8 +2,10 @@ pub use Rattle.biphase.specs.Chain
 pub use Rattle.biphase.specs.Pair
 pub use Rattle.biphase.specs.Profile
 pub mod Answer
+pub mod GoOn
 pub mod Kept
 pub mod Lock
+pub mod Recording
 pub mod StandsFor
 pub mod State
 pub mod Stretch

@@ -1,8 +1,12 @@
 //! What follows from the definition of stretches alone.
-ghost use Rattle.std.specs.Prelude.{◌≡◌, ℕ, List};
+ghost use Rattle.std.specs.Prelude.{◌≡◌, ℕ, List, [], ◌∷◌, ◌++◌, Some, None};
 ghost use Rattle.biphase.specs.declared.profile.Profile.{Profile};
+ghost use Rattle.biphase.specs.declared.cell.Cell.TheVariants.{One};
+ghost use Rattle.biphase.specs.declared.profile.Profile.TheVariants.{Normal};
+ghost use Rattle.cell_tracker.specs.GoOn.{GoOn};
 ghost use Rattle.cell_tracker.specs.Lock.{IsLock};
-ghost use Rattle.cell_tracker.specs.Stretch.{Stretch, AreStretches};
+ghost use Rattle.cell_tracker.specs.Recording.{recording, stretch_of};
+ghost use Rattle.cell_tracker.specs.Stretch.{Stretch, AreStretches, begun, with_break, with_cell};
 
 /// Each list of intervals has its stretches, and only those.
 pub fn a_list_has_one_list_of_stretches()
@@ -13,9 +17,28 @@ pub fn a_list_has_one_list_of_stretches()
         → stretches ≡ others }
 {}
 
+/// Where more intervals follow, the stretches go on: a broken one stays as it is.
+pub fn stretches_go_on()
+    ensures { (profile : Profile) (front more : List ℕ) (stretches later : List Stretch)
+        → AreStretches profile front stretches → AreStretches profile (front ++ more) later
+        → GoOn stretches later }
+{}
+
 /// From each place a list has one lock at most.
 pub fn a_place_has_one_lock()
     ensures { (profile : Profile) (intervals : List ℕ) (start lock other : ℕ)
         → IsLock profile intervals start lock → IsLock profile intervals start other
         → lock ≡ other }
+{}
+
+/// Recordings of 24 ticks a cell: a zero and a one before the word of 00:00:00:00 at 25 frames,
+/// alone, with a break behind it and with a half; a zero before this word from its end, and before
+/// 80 bits that begin and end in the sync word; a stretch that breaks, and one that begins there.
+pub fn small_recordings_have_these_stretches()
+    ensures word { AreStretches Normal (recording 82 0x2fff02000000000000002) (stretch_of 82 0x2fff02000000000000002 None ∷ []) }
+    ensures broken { AreStretches Normal (recording 82 0x2fff02000000000000002 ++ 5 ∷ []) (stretch_of 82 0x2fff02000000000000002 (Some 97) ∷ []) }
+    ensures half { AreStretches Normal (recording 82 0x2fff02000000000000002 ++ 12 ∷ []) (stretch_of 82 0x2fff02000000000000002 None ∷ []) }
+    ensures from_its_end { AreStretches Normal (recording 81 0x207ffa) (stretch_of 81 0x207ffa None ∷ []) }
+    ensures both { AreStretches Normal (recording 81 0x17ff80000000000007ffa) (stretch_of 81 0x17ff80000000000007ffa None ∷ []) }
+    ensures two { AreStretches Normal (24 ∷ 12 ∷ 24 ∷ 12 ∷ 12 ∷ []) (with_break 2 (begun 0 24) ∷ with_cell (One 12 12) (begun 2 24) ∷ []) }
 {}

@@ -13,7 +13,8 @@
 //!   a stretch gains, where one begins and where it breaks is fixed by the intervals
 //!   (`specs/StandsFor.antt`, clause `stands`).
 //! - Stretches are the longest chains from their locks, one after another (`specs/Stretch.antt`,
-//!   `AreStretches`), and a list has one list of them (`laws`).
+//!   `AreStretches`), and a list has one list of them. Where more intervals follow, they go on, and a
+//!   broken one stays as it is (`specs/GoOn.antt`, `laws`).
 //!
 //! Read `hunting`, `at_cell` and `mid_cell`, in this order, and `specs/Lock.antt`, `Stretch.antt` and
 //! `StandsFor.antt` beside them. `specs/Kept.antt` says what a recording within the tolerance is.

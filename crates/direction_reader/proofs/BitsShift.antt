@@ -5,7 +5,7 @@ use Rattle.direction_reader.specs.ListEvents.{number_of}
 use Rattle.direction_reader.specs.Window.{bit_value, slid_by}
 
 -- a bit is 0 or 1
-bit_value-least : (bit : Bool) → bit_value bit < 2
+pub bit_value-least : (bit : Bool) → bit_value bit < 2
 bit_value-least true = omega arith
 bit_value-least false = omega arith
 

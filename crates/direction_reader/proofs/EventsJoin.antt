@@ -40,7 +40,7 @@ break_stays : (l more : List ℕ) (place : Option ℕ) → IfSome place (λ p. p
 break_stays l more None within = refl
 break_stays l more (Some p) within = let front = take-append-le (p + 1) l more (omega arith) in rw front refl
 
-stretch_stays : (system : System) (l more : List ℕ) (s : Stretch) (es : List Event) → IsInside (length l) s → AreEventsOfStretch system l s es
+pub stretch_stays : (system : System) (l more : List ℕ) (s : Stretch) (es : List Event) → IsInside (length l) s → AreEventsOfStretch system l s es
     → AreEventsOfStretch system (l ++ more) s es
 stretch_stays system l more s es inside (own, are, join) = (
   own,

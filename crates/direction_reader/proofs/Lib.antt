@@ -1,12 +1,16 @@
 pub mod BitsShift
 pub mod CellsEnd
 pub mod CellsGrow
+pub mod EventsExist
 pub mod EventsJoin
+pub mod Examples
+pub mod FrontsFirst
 pub mod OneList
 pub mod OneListOfEvents
 pub mod ReaderSteps
 pub mod TheEvents
 pub mod TrackerSteps
+pub mod WindowHolds
 pub mod WindowsGrow
 pub mod WordsEnd
 pub mod WrittenOver

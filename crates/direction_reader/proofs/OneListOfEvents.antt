@@ -24,7 +24,7 @@ of_windows exact system (w ∷ more) es fs (own, rest, is, others, join) (own', 
     let joined : List Event → List Event → List Event = λ a b. a ++ b in
     join ∙ ap₂ joined (ap event_list same) same_rest ∙ sym join'
 
-of_stretch : IsExact → (system : System) (l : List ℕ) (s : Stretch) (es fs : List Event) → AreEventsOfStretch system l s es
+pub of_stretch : IsExact → (system : System) (l : List ℕ) (s : Stretch) (es fs : List Event) → AreEventsOfStretch system l s es
     → AreEventsOfStretch system l s fs → es ≡ fs
 of_stretch exact system l s es fs (own, are, join) (own', are', join') =
     join ∙ ap (λ own. own ++ break_events l s.broken_at) (of_windows exact system (windows (begin_of l s) s.cells) own own' are are') ∙ sym join'

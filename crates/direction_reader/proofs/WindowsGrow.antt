@@ -32,7 +32,7 @@ window_stays tick cells more k within =
     rw (same, front) refl
 
 -- the windows that were there
-windows_stay : (tick : ℕ) (cells more : List Cell) →
+pub windows_stay : (tick : ℕ) (cells more : List Cell) →
     map (window_at tick (cells ++ more)) (range_with_len 0 (length cells - 79)) ≡ windows tick cells
 windows_stay tick cells more =
     map_range (window_at tick (cells ++ more)) (window_at tick cells) 0 (length cells - 79) (λ k p. window_stays tick cells more k (omega arith))

@@ -1,8 +1,11 @@
 //! What follows from the definitions alone, and the numbers that code and definitions share.
-ghost use Rattle.std.specs.Prelude.{◌≡◌, ℕ, ◌*◌, List};
+ghost use Rattle.std.specs.Prelude.{◌≡◌, ℕ, ◌*◌, ◌^◌, ◌<◌, List, [], ◌∷◌, ◌++◌, false, true};
 ghost use Rattle.biphase.specs.declared.profile.Profile.{Profile};
+ghost use Rattle.biphase.specs.declared.profile.Profile.TheVariants.{Normal};
+ghost use Rattle.cell_tracker.specs.Recording.{recording};
 ghost use Rattle.direction_reader.specs.declared.boundaries.TheConstants.{BOUNDARIES};
 ghost use Rattle.direction_reader.specs.declared.event.Event.{Event};
+ghost use Rattle.direction_reader.specs.declared.event.Event.TheVariants.{Word, Refused, Lost};
 ghost use Rattle.direction_reader.specs.declared.event.Events.{Events};
 ghost use Rattle.direction_reader.specs.declared.reader.TheConstants.{MAX_INTERVALS};
 ghost use Rattle.direction_reader.specs.declared.window.TheConstants.{WINDOW_BITS};
@@ -12,10 +15,20 @@ ghost use Rattle.direction_reader.specs.ListEvents.{AreEvents};
 ghost use Rattle.direction_reader.specs.Reader.{Reading};
 ghost use Rattle.direction_reader.specs.StandsFor.{StandsFor};
 ghost use Rattle.direction_reader.specs.Tracker.{profile_of};
+ghost use Rattle.ltc_word.specs.Spelling.{word_with, flags};
+ghost use Rattle.tc_address.specs.declared.count.Count.TheVariants.{C25};
+ghost use Rattle.tc_address.specs.declared.direction.Direction.TheVariants.{Forward, Backward};
 ghost use Rattle.tc_address.specs.declared.system.System.{System};
+ghost use Rattle.tc_address.specs.declared.system.System.TheVariants.{F25};
+ghost use Rattle.tc_bits.specs.declared.fault.FieldFault.TheVariants.{FrameUnits};
 
-use cell_tracker::laws::a_list_has_one_list_of_stretches;
-use ltc_word::laws::spelling_is_exact;
+use cell_tracker::laws::{
+    a_list_has_one_list_of_stretches, small_recordings_have_these_stretches, stretches_go_on,
+};
+use ltc_word::laws::{
+    bits_in_sync_spell_a_word_or_have_a_fault, reversed_twice_is_the_same, spelling_is_exact,
+    words_of_round_labels,
+};
 
 /// A reader takes a thousand million intervals, a window has 80 bits and 81 boundaries, and its
 /// greatest length in ticks is that of 160 intervals of 24 bits.
@@ -35,6 +48,25 @@ pub fn a_window_has_one_list_of_events()
     spelling_is_exact();
 }
 
+/// Each window of 80 bits has events.
+pub fn each_window_has_events()
+    ensures { (system : System) (bits end length : ℕ) → bits < 2 ^ 80
+        → (events : Events) × AreEventsOf system bits end length events }
+{
+    bits_in_sync_spell_a_word_or_have_a_fault();
+    reversed_twice_is_the_same();
+}
+
+/// Each list of intervals has events.
+pub fn each_list_has_events()
+    ensures { (system : System) (profile : Profile) (intervals : List ℕ)
+        → (events : List Event) × AreEvents system profile intervals events }
+{
+    bits_in_sync_spell_a_word_or_have_a_fault();
+    reversed_twice_is_the_same();
+    a_list_has_one_list_of_stretches();
+}
+
 /// A list of intervals has the events that it has, and no others.
 pub fn a_list_has_one_list_of_events()
     ensures { (system : System) (profile : Profile) (intervals : List ℕ)
@@ -45,9 +77,40 @@ pub fn a_list_has_one_list_of_events()
     a_list_has_one_list_of_stretches();
 }
 
+/// Where more intervals follow, the events that were there come first, and others follow.
+pub fn events_of_a_front_come_first()
+    ensures { (system : System) (profile : Profile) (front more : List ℕ)
+        (events all : List Event) → AreEvents system profile front events
+        → AreEvents system profile (front ++ more) all
+        → (rest : List Event) × (all ≡ events ++ rest) }
+{
+    spelling_is_exact();
+    stretches_go_on();
+}
+
 /// What a reader stands for are the events of its intervals.
 pub fn a_reader_gives_the_events_of_its_list()
     ensures { (reader : Reading) (intervals : List ℕ) (events : List Event)
         → StandsFor reader intervals events
         → AreEvents reader.system (profile_of reader.tracker) intervals events }
 {}
+
+/// Recordings of 24 ticks a cell: the word of 00:00:00:00 at 25 frames behind a zero and a one,
+/// alone, with a break behind it and with a half; this word from its end, behind a zero; 80 bits
+/// that begin and end in the sync word; a stretch that breaks, and one that begins there.
+pub fn small_recordings_have_these_events()
+    ensures forward { AreEvents F25 Normal (recording 82 0x2fff02000000000000002)
+        (Word Forward (word_with C25 0 0 0 0 (flags false false false false false) 0 true) 1968 1920 ∷ []) }
+    ensures broken { AreEvents F25 Normal (recording 82 0x2fff02000000000000002 ++ 5 ∷ [])
+        (Word Forward (word_with C25 0 0 0 0 (flags false false false false false) 0 true) 1968 1920 ∷ Lost 97 1973 ∷ []) }
+    ensures half { AreEvents F25 Normal (recording 82 0x2fff02000000000000002 ++ 12 ∷ [])
+        (Word Forward (word_with C25 0 0 0 0 (flags false false false false false) 0 true) 1968 1920 ∷ []) }
+    ensures backward { AreEvents F25 Normal (recording 81 0x207ffa)
+        (Word Backward (word_with C25 0 0 0 0 (flags false false false false false) 0 true) 1944 1920 ∷ []) }
+    ensures both { AreEvents F25 Normal (recording 81 0x17ff80000000000007ffa)
+        (Refused Forward FrameUnits 1944 ∷ Refused Backward FrameUnits 1944 ∷ []) }
+    ensures two { AreEvents F25 Normal (24 ∷ 12 ∷ 24 ∷ 12 ∷ 12 ∷ []) (Lost 2 60 ∷ []) }
+{
+    small_recordings_have_these_stretches();
+    words_of_round_labels();
+}

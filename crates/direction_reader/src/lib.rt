@@ -9,11 +9,13 @@
 //!
 //! What this crate promises:
 //! - The events of a list of intervals are the candidates of all windows of its stretches, and its
-//!   breaks, in order (`specs/ListEvents.antt`, `AreEvents`). A list has one list of them (`laws`).
+//!   breaks, in order (`specs/ListEvents.antt`, `AreEvents`). Each list has one list of them, and
+//!   the events of its front come first (`laws`).
 //! - `DirectionReader` stands for the intervals that it was fed and for their events
 //!   (`specs/StandsFor.antt`). `feed`, and `step` with `events` after it, give exactly those that are
 //!   new, under either tolerance (clause `stands`). Nearly every interval brings nothing, and then
 //!   `step` is enough.
+//! - A window holds the latest of the bits that it was given (`specs/HoldsBits.antt`).
 //! - `window_events` gives the candidates of one window, the forward one first
 //!   (`specs/Candidate.antt`).
 //! - The numbers of an event are in the ranges of `specs/Brings.antt`.

@@ -1,6 +1,7 @@
 //! A window: 80 bits of a stretch that stand together. Next: `brought`.
-ghost use Rattle.std.specs.Prelude.{◌≡◌, ◌<◌, ◌^◌, ◌↔◌, IsTrue};
+ghost use Rattle.std.specs.Prelude.{◌≡◌, ◌<◌, ◌^◌, ◌↔◌, List, [], ◌∷◌, ◌++◌, Bool, IsTrue};
 ghost use Rattle.direction_reader.specs.Candidate.{IsCandidate};
+ghost use Rattle.direction_reader.specs.HoldsBits.{HoldsAll, HoldsLatest, Holds};
 ghost use Rattle.direction_reader.specs.Window.{with_bit, slid_by};
 
 use ltc_word::{begins_in_reversed_sync, ends_in_sync};
@@ -60,14 +61,16 @@ pub enum FromFilling {
 impl Filling {
     /// No bit.
     pub fn new() -> Filling
-        ensures { result ≡ record { bits = 0; count = 0 } }
+        ensures value { result ≡ record { bits = 0; count = 0 } }
+        ensures holds { HoldsAll result [] }
     {
         Filling { bits: 0, count: 0 }
     }
 
     /// Adds a bit at the end.
     pub fn bit(self, bit: bool) -> FromFilling
-        ensures { result ≡ with_bit self bit }
+        ensures value { result ≡ with_bit self bit }
+        ensures holds { (bits : List Bool) → HoldsAll self bits → Holds result (bits ++ bit ∷ []) }
     {
         let bits = slid(self.bits, bit);
         let count = self.count + 1;
@@ -82,7 +85,8 @@ impl Filling {
 impl Full {
     /// Adds a bit at the end, and drops the oldest.
     pub fn bit(self, bit: bool) -> Full
-        ensures { result ≡ slid_by self bit }
+        ensures value { result ≡ slid_by self bit }
+        ensures holds { (bits : List Bool) → HoldsLatest self bits → HoldsLatest result (bits ++ bit ∷ []) }
     {
         Full {
             bits: slid(self.bits, bit),

@@ -5,4 +5,5 @@ pub mod NoBitDiffers
 pub mod OneBitMore
 pub mod OneSpelling
 pub mod RowOfAWord
+pub mod SpellsOrFaulty
 pub mod SyncOnlyAtTheEnd

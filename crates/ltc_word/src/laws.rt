@@ -1,15 +1,17 @@
 //! What follows from the definitions alone, and words from outside that pin the table.
 
-ghost use Rattle.std.specs.Prelude.{◌≡◌, ℕ, ◌<◌, ◌≤◌, ◌+◌, ◌-◌, ◌*◌, ◌^◌, None, true, false};
+ghost use Rattle.std.specs.Prelude.{◌≡◌, ℕ, ◌<◌, ◌≤◌, ◌+◌, ◌-◌, ◌*◌, ◌^◌, ◌⊎◌, Some, None, true, false};
 ghost use Rattle.std.specs.Int.{bit_at};
 ghost use Rattle.tc_address.specs.declared.system.System.{System};
 ghost use Rattle.tc_address.specs.declared.system.System.TheVariants.{F24, F25, F30};
 ghost use Rattle.tc_address.specs.declared.count.Count.TheVariants.{C24, C25, C30, Drop30};
+ghost use Rattle.tc_bits.specs.declared.fault.FieldFault.{FieldFault};
 ghost use Rattle.ltc_word.specs.declared.word.LtcWord.{LtcWord};
+ghost use Rattle.ltc_word.specs.declared.word.WordFault.TheVariants.{Field};
 ghost use Rattle.ltc_word.specs.Places.{are_shared_out, places_of};
 ghost use Rattle.ltc_word.specs.Spelling.{Spells, word_with, flags};
 ghost use Rattle.ltc_word.specs.Fault.{first_fault};
-ghost use Rattle.ltc_word.specs.Reversal.{reversed_bits, HasTwelveOnes};
+ghost use Rattle.ltc_word.specs.Reversal.{EndsInSync, reversed_bits, HasTwelveOnes};
 
 use tc_bits::laws::a_row_is_its_sum;
 
@@ -30,6 +32,13 @@ pub fn spelling_is_exact()
     a_row_is_its_sum();
 }
 
+/// Bits that end in the sync word spell a word, or their fields have a first fault.
+pub fn bits_in_sync_spell_a_word_or_have_a_fault()
+    ensures { (system : System) (bits : ℕ) → bits < 2 ^ 80 → EndsInSync bits
+        → ((word : LtcWord) × Spells system word bits)
+        ⊎ ((fault : FieldFault) × (first_fault system bits ≡ Some (Field fault))) }
+{}
+
 /// Twelve ones in a row stand in a word only in its sync word, at the bits 66 to 77. In two words
 /// that follow each other they stand only in the two sync words.
 pub fn twelve_ones_are_the_sync_word()
@@ -38,8 +47,9 @@ pub fn twelve_ones_are_the_sync_word()
         → i < 80 → HasTwelveOnes (x + y * 2 ^ 80) i → i ≡ 66 }
 {}
 
-/// To take 80 bits in the other order of time twice gives them back.
+/// To take 80 bits in the other order of time gives 80 bits, and twice gives them back.
 pub fn reversed_twice_is_the_same()
+    ensures width { (bits : ℕ) → reversed_bits bits < 2 ^ 80 }
     ensures bits { (bits i : ℕ) → i < 80 → bit_at (reversed_bits bits) i ≡ bit_at bits (79 - i) }
     ensures twice { (bits : ℕ) → bits < 2 ^ 80 → reversed_bits (reversed_bits bits) ≡ bits }
 {}

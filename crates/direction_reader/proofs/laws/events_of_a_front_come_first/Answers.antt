@@ -1,0 +1,7 @@
+use Rattle.direction_reader.proofs.FrontsFirst.{front_first}
+use Rattle.direction_reader.proofs.laws.events_of_a_front_come_first.Goals as goal
+
+pub returns : goal.returns
+returns c = front_first
+    (record { one_word = c.spelling_is_exact.ensures.one_word; no_fault = c.spelling_is_exact.ensures.no_fault })
+    c.stretches_go_on.ensures
