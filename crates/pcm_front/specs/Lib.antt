@@ -1,0 +1,7 @@
+pub mod Crossing
+pub mod Distance
+pub mod Level
+pub mod Runs
+pub mod Side
+pub mod StandsFor
+pub mod State
