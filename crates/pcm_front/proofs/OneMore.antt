@@ -13,7 +13,8 @@ use Rattle.pcm_front.specs.Crossing.{is_crossing, tick_to, moment, moments}
 use Rattle.pcm_front.specs.Distance.{gaps, gaps_after}
 use Rattle.pcm_front.specs.State.{between}
 
-threshold_at-front : (threshold : Threshold) (xs ys : List ℤ) (i : ℕ) → i < length xs → threshold_at threshold (xs ++ ys) i ≡ threshold_at threshold xs i
+threshold_at-front : (threshold : Threshold) (xs ys : List ℤ) (i : ℕ) → i < length xs →
+    threshold_at threshold (xs ++ ys) i ≡ threshold_at threshold xs i
 threshold_at-front (Fixed t) xs ys i h = refl
 threshold_at-front (Follow t) xs ys i h = ap (λ front. max t (half_height (level_of front))) (take-append-le (i + 1) xs ys (omega arith))
 
@@ -23,12 +24,14 @@ sample_at-front xs ys i h = get_or_append_left xs ys (pos 0) i h
 side_at-front : (threshold : Threshold) (xs ys : List ℤ) (i : ℕ) → i < length xs → side_at threshold (xs ++ ys) i ≡ side_at threshold xs i
 side_at-front threshold xs ys i h = rw (threshold_at-front threshold xs ys i h, sample_at-front xs ys i h) refl
 
-pub side_after-front : (threshold : Threshold) (xs ys : List ℤ) (n : ℕ) → n ≤ length xs → side_after threshold (xs ++ ys) n ≡ side_after threshold xs n
+pub side_after-front : (threshold : Threshold) (xs ys : List ℤ) (n : ℕ) → n ≤ length xs →
+    side_after threshold (xs ++ ys) n ≡ side_after threshold xs n
 side_after-front threshold xs ys zero h = refl
 side_after-front threshold xs ys (suc n) h =
     ap₂ option_or (side_at-front threshold xs ys n (omega arith)) (side_after-front threshold xs ys n (omega arith))
 
-is_crossing-front : (threshold : Threshold) (xs ys : List ℤ) (i : ℕ) → i < length xs → is_crossing threshold (xs ++ ys) i ≡ is_crossing threshold xs i
+is_crossing-front : (threshold : Threshold) (xs ys : List ℤ) (i : ℕ) → i < length xs →
+    is_crossing threshold (xs ++ ys) i ≡ is_crossing threshold xs i
 is_crossing-front threshold xs ys i h =
     ap₂ differs (side_after-front threshold xs ys i (omega arith)) (side_at-front threshold xs ys i h)
 
@@ -37,7 +40,8 @@ pub same_tick : (f : ℕ) (side other : Option Side) (t u : ℕ) (a b x y : ℤ)
     tick_to side f t a b ≡ tick_to other f u x y
 same_tick f side other t u a b x y p q r s = rw (p, q, r, s) refl
 
-moment-front : (f : ℕ) (threshold : Threshold) (xs ys : List ℤ) (i : ℕ) → i < length xs → moment f threshold (xs ++ ys) i ≡ moment f threshold xs i
+moment-front : (f : ℕ) (threshold : Threshold) (xs ys : List ℤ) (i : ℕ) → i < length xs →
+    moment f threshold (xs ++ ys) i ≡ moment f threshold xs i
 moment-front f threshold xs ys i h = ap (λ tick. f * (i - 1) + tick)
     (same_tick f _ _ _ _ _ _ _ _ (side_at-front threshold xs ys i h) (threshold_at-front threshold xs ys i h)
     (sample_at-front xs ys (i - 1) (omega arith)) (sample_at-front xs ys i h))

@@ -140,8 +140,8 @@ first_ends f t c fits side s rule fit = record {
   moments_are = refl;
 }
 
-distances_of_runs : (f t c : ℕ) (fits : Side → ℤ → Type 0) (side : Side) (first : List ℤ) (runs : List (List ℤ)) (last : List ℤ) → Rule f t c fits →
-    Alternate fits side (first ∷ (runs ++ last ∷ [])) →
+distances_of_runs : (f t c : ℕ) (fits : Side → ℤ → Type 0) (side : Side) (first : List ℤ) (runs : List (List ℤ)) (last : List ℤ) →
+    Rule f t c fits → Alternate fits side (first ∷ (runs ++ last ∷ [])) →
     distances f (Fixed t) (joined (first ∷ (runs ++ last ∷ []))) ≡ map (λ k. f * k) (map length runs)
 distances_of_runs f t c fits side [] runs last rule turns = absurd (omega (arith, turns.0))
 distances_of_runs f t c fits side (s ∷ run) runs last rule turns =

@@ -56,16 +56,15 @@ crossing-is state xs s stands =
     let n : ℕ = length xs in
     let threshold = state.threshold in
     let f = state.fineness in
+    let t : ℕ = threshold_by threshold (level_in state s) in
     let now = side-now threshold state.level xs s stands.level in
     let before : state.side ≡ side_after threshold (xs ++ s ∷ []) n =
     stands.side ∙ sym (side_after-front threshold xs (s ∷ []) n (omega arith)) in
-    let found : differs state.side (side_of (threshold_by threshold (level_in state s)) s) ≡ is_crossing threshold (xs ++ s ∷ []) n =
-    ap₂ differs before now in
-    let tick : (1 ≤ n) → tick_to (side_of (threshold_by threshold (level_in state s)) s) f (threshold_by threshold (level_in state s)) state.before s
-    ≡ tick_at f threshold (xs ++ s ∷ []) n =
+    let found : differs state.side (side_of t s) ≡ is_crossing threshold (xs ++ s ∷ []) n = ap₂ differs before now in
+    let tick : (1 ≤ n) → tick_to (side_of t s) f t state.before s ≡ tick_at f threshold (xs ++ s ∷ []) n =
     λ some. same_tick f _ _ _ _ _ _ _ _ now (threshold-now threshold state.level xs s stands.level)
     (stands.before ∙ sym (get_or_append_left xs (s ∷ []) (pos 0) (n - 1) (omega arith))) (sym (get_or_push xs s (pos 0) n refl)) in
-    ap (λ b. cond b (Some (state.tick + tick_to (side_of (threshold_by threshold (level_in state s)) s) f (threshold_by threshold (level_in state s)) state.before s)) None) found
+    ap (λ b. cond b (Some (state.tick + tick_to (side_of t s) f t state.before s)) None) found
     ∙ cond_some (is_crossing threshold (xs ++ s ∷ []) n) _ _ (λ is.
     let some = before-crossing threshold xs s is in
     ap₂ ◌+◌ stands.tick (tick some) ∙ late f n (tick_at f threshold (xs ++ s ∷ []) n) some)

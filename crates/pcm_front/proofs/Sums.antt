@@ -16,6 +16,11 @@ record Leads (f : ℕ) (threshold : Threshold) (xs : List ℤ) (i fine whole : �
 abbrev sum_from : ℕ → Threshold → List ℤ → ℕ → List ℕ → ℕ → ℕ
 sum_from f threshold xs i is n = sum (take n (gaps_after (moment f threshold xs i) (map (moment f threshold xs) is)))
 
+sum_from-more : (f : ℕ) (threshold : Threshold) (xs : List ℤ) (i j : ℕ) (js : List ℕ) (n : ℕ) →
+    sum_from f threshold xs i (j ∷ js) (suc n) ≡ (moment f threshold xs j - moment f threshold xs i) + sum_from f threshold xs j js n
+sum_from-more f threshold xs i j js n =
+    let g : ℕ → ℕ = moment f threshold xs in sum_by-cons (λ d. d) (g j - g i) (take n (gaps_after (g j) (map g js)))
+
 leads : (f : ℕ) (threshold : Threshold) (xs : List ℤ) (i : ℕ) (is : List ℕ) (n : ℕ) → 1 ≤ f → is_crossing threshold xs i ≡ true →
     AreRising (is_crossing threshold xs) (i + 1) is → Leads f threshold xs i (sum_from f threshold xs i is n) (sum_from 1 threshold xs i is n)
 leads f threshold xs i is zero some at rising = record { to = i; is = at; ticks = omega arith; places = omega arith }
@@ -26,10 +31,8 @@ leads f threshold xs i (j ∷ js) (suc n) some at rising =
     let later_place = moment-later 1 threshold xs i j (omega arith) at rising.1 rising.0 in
     let place = moment-whole threshold xs i at in
     let place_too = moment-whole threshold xs j rising.1 in
-    let sum_is : sum_from f threshold xs i (j ∷ js) (suc n) ≡ (moment f threshold xs j - moment f threshold xs i) + sum_from f threshold xs j js n =
-    sum_by-cons (λ d. d) (moment f threshold xs j - moment f threshold xs i) (take n (gaps_after (moment f threshold xs j) (map (moment f threshold xs) js))) in
-    let sum_is_too : sum_from 1 threshold xs i (j ∷ js) (suc n) ≡ (moment 1 threshold xs j - moment 1 threshold xs i) + sum_from 1 threshold xs j js n =
-    sum_by-cons (λ d. d) (moment 1 threshold xs j - moment 1 threshold xs i) (take n (gaps_after (moment 1 threshold xs j) (map (moment 1 threshold xs) js))) in
+    let sum_is = sum_from-more f threshold xs i j js n in
+    let sum_is_too = sum_from-more 1 threshold xs i j js n in
     record {
       to = more.to;
       is = more.is;

@@ -33,7 +33,8 @@ tick_to (Some side) fineness threshold a b = tick_in_step fineness threshold (up
 -- the tick of a crossing in the step to its sample
 abbrev pub tick_at : ℕ → Threshold → List ℤ → ℕ → ℕ
 tick_at fineness threshold samples place =
-    tick_to (side_at threshold samples place) fineness (threshold_at threshold samples place) (sample_at samples (place - 1)) (sample_at samples place)
+    tick_to (side_at threshold samples place) fineness (threshold_at threshold samples place)
+    (sample_at samples (place - 1)) (sample_at samples place)
 
 -- the moment of a crossing: so many ticks after the sample before it
 abbrev pub moment : ℕ → Threshold → List ℤ → ℕ → ℕ
