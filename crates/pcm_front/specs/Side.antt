@@ -1,5 +1,5 @@
 -- The sides of the threshold: on which one a sample lies, and on which the sound is after it.
-use Rattle.std.specs.Prelude.{ℕ, zero, suc, Bool, true, false, cond, ℤ, pos, neg_ℤ, int_le, List, get_or, Option, Some, None}
+use Rattle.std.specs.Prelude.{ℕ, zero, suc, Bool, true, false, not, ◌&&◌, cond, is_some, ℤ, pos, neg_ℤ, int_le, List, get_or, Option, Some, None}
 use Rattle.std.specs.Option.{option_or}
 use Rattle.pcm_front.specs.declared.side.Side.{Side}
 use Rattle.pcm_front.specs.declared.side.Side.TheVariants.{High, Low}
@@ -33,6 +33,10 @@ abbrev pub differs : Option Side → Option Side → Bool
 differs (Some High) (Some Low) = true
 differs (Some Low) (Some High) = true
 differs before now = false
+
+-- the sound was on a side, and no sample leads to the other one
+abbrev pub stays : Option Side → Option Side → Bool
+stays before now = is_some before && not (differs before now)
 
 -- a sample seen so that the side lies above
 abbrev pub upward : Side → ℤ → ℤ

@@ -1,6 +1,6 @@
 //! The sides of the threshold. Next: `crossing`.
 ghost use Rattle.std.specs.Prelude.{◌≡◌, ◌≤◌, unsigned_abs};
-ghost use Rattle.pcm_front.specs.Side.{side_of, differs, upward};
+ghost use Rattle.pcm_front.specs.Side.{side_of, stays, differs, upward};
 
 /// A side of the threshold.
 #[derive(Clone, Copy, Debug, PartialEq, Eq)]
@@ -21,6 +21,20 @@ pub(crate) fn side_of(threshold: u32, sample: i16) -> Option<Side>
         Some(Side::Low)
     } else {
         None
+    }
+}
+
+/// Whether the sound stays on its side. Nearly every sample does, so one comparison tells it.
+pub(crate) fn stays(side: Option<Side>, threshold: u32, sample: i16) -> bool
+    requires least { 1 ≤ threshold }
+    requires most { threshold ≤ 32_767 }
+    ensures { result ≡ stays side (side_of threshold sample) }
+{
+    let (threshold, sample) = (threshold as i32, i32::from(sample));
+    match side {
+        Some(Side::High) => -threshold < sample,
+        Some(Side::Low) => sample < threshold,
+        None => false,
     }
 }
 

@@ -8,7 +8,7 @@ ghost use Rattle.pcm_front.specs.StandsFor.{StandsFor};
 
 use crate::crossing::tick_to;
 use crate::level::Level;
-use crate::side::{Side, differs, side_of};
+use crate::side::{Side, differs, side_of, stays};
 use crate::threshold::Threshold;
 use std::marker::Model;
 
@@ -93,6 +93,7 @@ impl Slicer {
     }
 
     /// Takes the next sample, and says all that changes.
+    #[tactic(auto, using(crate::proofs::Sides::stays_there, crate::proofs::Sides::stays_apart))]
     fn step(&mut self, sample: i16) -> Option<u64>
         requires { self.old.tick + self.old.fineness ≤ 2 ^ 62 }
         ensures state { self.new ≡ state_after self.old sample }
@@ -100,7 +101,14 @@ impl Slicer {
         ensures range { IfSome result (λ distance. (1 ≤ distance) × (distance ≤ 2 ^ 62)) }
     {
         let level = self.threshold.next_level(self.level, sample);
-        let side = side_of(self.threshold.at(level), sample);
+        let threshold = self.threshold.at(level);
+        if stays(self.side, threshold, sample) {
+            self.tick += u64::from(self.fineness);
+            self.before = sample;
+            self.level = level;
+            return None;
+        }
+        let side = side_of(threshold, sample);
         let crossing = self.crossing(level, sample);
         let distance = between(self.latest, crossing);
         self.tick += u64::from(self.fineness);
