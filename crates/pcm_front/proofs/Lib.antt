@@ -8,3 +8,4 @@ pub mod Sums
 pub mod RunByRun
 pub mod Bounds
 pub mod InPieces
+pub mod SlicedAgain

@@ -9,6 +9,7 @@ ghost use Rattle.pcm_front.specs.Level.{HasSixteenBits, level_of};
 ghost use Rattle.pcm_front.specs.Crossing.{apart, crossings, is_crossing, moments, tick_at, tick_in_step};
 ghost use Rattle.pcm_front.specs.Distance.{distances, gaps, intervals, pieces_of, IsInterval};
 ghost use Rattle.pcm_front.specs.Runs.{Alternate, IsOfSize, LiesOn, joined};
+ghost use Rattle.pcm_front.specs.Sound.{sound};
 
 /// The greatest length of an interval, in ticks: 24 bits.
 pub fn the_greatest_interval_is_this()
@@ -77,6 +78,16 @@ pub fn runs_of_one_size_are_sliced_into_their_lengths()
         → Alternate (IsOfSize size) side (first ∷ (runs ++ last ∷ []))
         → distances fineness (Fixed threshold) (joined (first ∷ (runs ++ last ∷ [])))
         ≡ map (λ run. fineness * length run) runs }
+{}
+
+/// Sound that is made of intervals is sliced, by a threshold of at most its size, into them again.
+pub fn a_sound_is_sliced_into_its_intervals()
+    ensures distances { (fineness threshold size : ℕ) (intervals : List ℕ)
+        → 1 ≤ threshold → threshold ≤ size → AllByRecursion IsInterval intervals
+        → distances fineness (Fixed threshold) (sound size intervals) ≡ map (λ interval. fineness * interval) intervals }
+    ensures intervals { (threshold size : ℕ) (lengths : List ℕ)
+        → 1 ≤ threshold → threshold ≤ size → AllByRecursion IsInterval lengths
+        → intervals 1 (Fixed threshold) (sound size lengths) ≡ lengths }
 {}
 
 /// The level of samples of 16 bits: its peak is at most 32,768, and its sum below 2 to the 26th.

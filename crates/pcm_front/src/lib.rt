@@ -14,8 +14,9 @@
 //!   `stands`).
 //! - `pieces` writes a distance as intervals of at most `MAX_INTERVAL` (`specs/Distance.antt`,
 //!   `pieces_of`).
-//! - Moments rise, a finer distance differs from the one in whole samples by less than a sample, and
-//!   runs of samples are sliced into their lengths (`laws`).
+//! - Moments rise, from crossing to crossing the ticks differ from those of whole samples by less than
+//!   a sample, and runs of samples are sliced into their lengths (`laws`).
+//! - Sound that is made of intervals is sliced into them again (`specs/Sound.antt`, `sound`; `laws`).
 //!
 //! Read `threshold`, `level`, `side`, `crossing`, `slicer` and `interval`, in this order, and
 //! `specs/Level.antt`, `Side.antt`, `Crossing.antt` and `Distance.antt` beside them. Nothing here

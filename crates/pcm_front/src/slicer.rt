@@ -120,7 +120,7 @@ impl Slicer {
     }
 
     /// Takes the next sample, and gives the distance of a crossing there from the crossing before it, in
-    /// ticks. None comes at every other sample.
+    /// ticks. None comes at every other sample. All samples together may have up to 2 to the 62nd ticks.
     pub fn sample(&mut self, sample: i16) -> Option<u64>
         requires { self.old.tick + self.old.fineness ≤ 2 ^ 62 }
 
