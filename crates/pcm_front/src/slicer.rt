@@ -108,13 +108,14 @@ impl Slicer {
             self.level = level;
             return None;
         }
+        // A sample on no side comes here only while the sound was on none.
         let side = side_of(threshold, sample);
         let crossing = self.crossing(level, sample);
         let distance = between(self.latest, crossing);
         self.tick += u64::from(self.fineness);
         self.before = sample;
         self.level = level;
-        self.side = side.or(self.side);
+        self.side = side;
         self.latest = crossing.or(self.latest);
         distance
     }
