@@ -1,0 +1,11 @@
+pub mod Sides
+mod Examples
+pub mod OneMore
+pub mod Rounding
+pub mod StandsStill
+pub mod Rising
+pub mod Sums
+pub mod RunByRun
+pub mod Bounds
+pub mod InPieces
+pub mod SlicedAgain

@@ -1,0 +1,22 @@
+use Rattle.std.proofs.Common.{◌≡◌, ◌≤◌, pos, int_le, false, subst, sym, ◌∙◌, arith}
+use Rattle.std.proofs.lemmas.Int.{ints}
+use Rattle.pcm_front.specs.Crossing.{apart}
+use Rattle.pcm_front.proofs.Rounding.{tick_is, tick_in_step-within}
+use Rattle.pcm_front.proofs.crossing.tick_in_step.Goals as goal
+
+pub returns-clause-value : goal.returns-clause-value
+returns-clause-value c =
+    let below : int_le (pos c.args.threshold) c.args.a ≡ false = grind (arith, ints) in
+    let rise : c.unsigned_abs-rise.result ≡ apart (pos c.args.threshold) c.args.a = grind (arith, ints) in
+    let step : c.unsigned_abs-step.result ≡ apart c.args.b c.args.a = grind (arith, ints) in
+    c.div_ceil.ensures ∙ tick_is c.args.fineness c.args.threshold c.args.a c.args.b _ _ below rise step
+
+pub returns-clause-least : goal.returns-clause-least
+returns-clause-least c =
+    subst (λ tick. 1 ≤ tick) (sym (returns-clause-value c))
+    (tick_in_step-within c.args.fineness c.args.threshold c.args.a c.args.b c.requires.least c.requires.above).0
+
+pub returns-clause-most : goal.returns-clause-most
+returns-clause-most c =
+    subst (λ tick. tick ≤ c.args.fineness) (sym (returns-clause-value c))
+    (tick_in_step-within c.args.fineness c.args.threshold c.args.a c.args.b c.requires.least c.requires.above).1

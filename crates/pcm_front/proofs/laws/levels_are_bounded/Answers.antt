@@ -1,0 +1,8 @@
+use Rattle.pcm_front.proofs.Bounds.{level_of-within}
+use Rattle.pcm_front.proofs.laws.levels_are_bounded.Goals as goal
+
+pub returns-clause-peak : goal.returns-clause-peak
+returns-clause-peak c = λ samples bits. (level_of-within samples bits).peak
+
+pub returns-clause-sum : goal.returns-clause-sum
+returns-clause-sum c = λ samples bits. (level_of-within samples bits).sum

@@ -1,0 +1,105 @@
+//! What follows from the definitions of crossings and distances alone.
+ghost use Rattle.std.specs.Prelude.{◌≡◌, ℕ, ◌+◌, ◌-◌, ◌*◌, ◌<◌, ◌≤◌, ◌^◌, false, true, ℤ, pos, ◌≤ℤ◌, int_le, unsigned_abs, List, [], ◌∷◌, ◌++◌, length, map, take, drop};
+ghost use Rattle.std.specs.List.{All, AllByRecursion, sum};
+ghost use Rattle.pcm_front.specs.declared.interval.TheConstants.{MAX_INTERVAL};
+ghost use Rattle.pcm_front.specs.declared.side.Side.{Side};
+ghost use Rattle.pcm_front.specs.declared.threshold.Threshold.{Threshold};
+ghost use Rattle.pcm_front.specs.declared.threshold.Threshold.TheVariants.{Fixed};
+ghost use Rattle.pcm_front.specs.Level.{HasSixteenBits, level_of};
+ghost use Rattle.pcm_front.specs.Crossing.{apart, crossings, is_crossing, moments, tick_at, tick_in_step};
+ghost use Rattle.pcm_front.specs.Distance.{distances, gaps, intervals, pieces_of, IsInterval};
+ghost use Rattle.pcm_front.specs.Runs.{Alternate, IsOfSize, LiesOn, joined};
+ghost use Rattle.pcm_front.specs.Sound.{sound};
+
+/// The greatest length of an interval, in ticks: 24 bits.
+pub fn the_greatest_interval_is_this()
+    ensures { MAX_INTERVAL ≡ 2 ^ 24 - 1 }
+{}
+
+/// Where a sample below the threshold is followed by one that is not, the tick of the crossing is the
+/// least that lies at the threshold or above, on a straight line from the one to the other.
+pub fn a_tick_is_rounded_up()
+    ensures { (fineness threshold : ℕ) (a b : ℤ)
+        → int_le (pos threshold) a ≡ false → pos threshold ≤ℤ b
+        → (fineness * apart (pos threshold) a ≤ tick_in_step fineness threshold a b * apart b a)
+        × (tick_in_step fineness threshold a b * apart b a < fineness * apart (pos threshold) a + apart b a) }
+{}
+
+/// A crossing is never the first sample, and lies in the ticks of the step to its sample: from 1 to
+/// the fineness.
+pub fn a_crossing_lies_in_its_step()
+    ensures place { (threshold : Threshold) (samples : List ℤ) (place : ℕ)
+        → is_crossing threshold samples place ≡ true → 1 ≤ place }
+    ensures tick { (fineness : ℕ) (threshold : Threshold) (samples : List ℤ) (place : ℕ)
+        → 1 ≤ fineness → is_crossing threshold samples place ≡ true
+        → (1 ≤ tick_at fineness threshold samples place) × (tick_at fineness threshold samples place ≤ fineness) }
+{}
+
+/// Moments rise: no distance is 0.
+pub fn moments_rise()
+    ensures { (fineness : ℕ) (threshold : Threshold) (samples : List ℤ) → 1 ≤ fineness
+        → All (λ distance. 1 ≤ distance) (distances fineness threshold samples) }
+{}
+
+/// With one tick a sample, moments are the places of the crossings.
+pub fn whole_samples_are_places()
+    ensures moments { (threshold : Threshold) (samples : List ℤ)
+        → moments 1 threshold samples ≡ crossings threshold samples }
+    ensures distances { (threshold : Threshold) (samples : List ℤ)
+        → distances 1 threshold samples ≡ gaps (crossings threshold samples) }
+{}
+
+/// From any crossing to any later one, the ticks differ from those of whole samples by less than a
+/// sample.
+pub fn a_finer_distance_is_near()
+    ensures { (fineness : ℕ) (threshold : Threshold) (samples : List ℤ) (first count : ℕ) → 1 ≤ fineness
+        → let fine = sum (take count (drop first (distances fineness threshold samples))) in
+        let whole = sum (take count (drop first (distances 1 threshold samples))) in
+        (fine ≤ fineness * whole + (fineness - 1)) × (fineness * whole ≤ fine + (fineness - 1)) }
+{}
+
+/// Runs of samples on alternating sides are sliced, in whole samples, into their lengths, but for the
+/// first run and the last, which have no crossing before or after them.
+pub fn runs_are_sliced_into_their_lengths()
+    ensures distances { (threshold : ℕ) (side : Side) (first : List ℤ) (runs : List (List ℤ)) (last : List ℤ)
+        → Alternate (LiesOn threshold) side (first ∷ (runs ++ last ∷ []))
+        → distances 1 (Fixed threshold) (joined (first ∷ (runs ++ last ∷ []))) ≡ map length runs }
+    ensures intervals { (threshold : ℕ) (side : Side) (first : List ℤ) (runs : List (List ℤ)) (last : List ℤ)
+        → Alternate (LiesOn threshold) side (first ∷ (runs ++ last ∷ []))
+        → AllByRecursion IsInterval (map length runs)
+        → intervals 1 (Fixed threshold) (joined (first ∷ (runs ++ last ∷ []))) ≡ map length runs }
+{}
+
+/// Runs of samples of one size, at least the threshold, are sliced at every fineness into their
+/// lengths in ticks.
+pub fn runs_of_one_size_are_sliced_into_their_lengths()
+    ensures { (fineness threshold size : ℕ) (side : Side) (first : List ℤ) (runs : List (List ℤ)) (last : List ℤ)
+        → 1 ≤ threshold → threshold ≤ size
+        → Alternate (IsOfSize size) side (first ∷ (runs ++ last ∷ []))
+        → distances fineness (Fixed threshold) (joined (first ∷ (runs ++ last ∷ [])))
+        ≡ map (λ run. fineness * length run) runs }
+{}
+
+/// Sound that is made of intervals is sliced, by a threshold of at most its size, into them again.
+pub fn a_sound_is_sliced_into_its_intervals()
+    ensures distances { (fineness threshold size : ℕ) (intervals : List ℕ)
+        → 1 ≤ threshold → threshold ≤ size → AllByRecursion IsInterval intervals
+        → distances fineness (Fixed threshold) (sound size intervals) ≡ map (λ interval. fineness * interval) intervals }
+    ensures intervals { (threshold size : ℕ) (lengths : List ℕ)
+        → 1 ≤ threshold → threshold ≤ size → AllByRecursion IsInterval lengths
+        → intervals 1 (Fixed threshold) (sound size lengths) ≡ lengths }
+{}
+
+/// The level of samples of 16 bits: its peak is at most 32,768, and its sum below 2 to the 26th.
+pub fn levels_are_bounded()
+    ensures peak { (samples : List ℤ) → AllByRecursion HasSixteenBits samples
+        → (level_of samples).peak ≤ 32_768 }
+    ensures sum { (samples : List ℤ) → AllByRecursion HasSixteenBits samples
+        → (level_of samples).sum < 2 ^ 26 }
+{}
+
+/// The intervals of a distance add up to it, and each is from 1 to the greatest.
+pub fn intervals_add_up_to_their_distance()
+    ensures sum { (distance : ℕ) → 1 ≤ distance → sum (pieces_of distance) ≡ distance }
+    ensures range { (distance : ℕ) → 1 ≤ distance → AllByRecursion IsInterval (pieces_of distance) }
+{}

@@ -1,0 +1,39 @@
+//! Slicing sound: the intervals between the crossings of a threshold.
+//!
+//! A recording of linear time code as sound is a list of samples of 16 bits. Where it goes over from
+//! the high side of a threshold to the low one, or back, it has a crossing; the distances of
+//! neighbouring crossings are the intervals of the recording. With a fineness of one they are counted
+//! in whole samples. A finer slicer places each crossing on the straight line from sample to sample,
+//! in so many ticks a sample, which keeps the shape of cells that have few samples. A threshold is
+//! fixed, or follows the level of the sound. The finer form and the threshold that follows are this
+//! project's own.
+//!
+//! What this crate promises:
+//! - `Slicer::sample` gives exactly the distances of the crossings of the samples so far
+//!   (`specs/Distance.antt`, `distances`), without keeping the samples (`specs/StandsFor.antt`, clause
+//!   `stands`).
+//! - `pieces` writes a distance as intervals of at most `MAX_INTERVAL` (`specs/Distance.antt`,
+//!   `pieces_of`).
+//! - Moments rise, from crossing to crossing the ticks differ from those of whole samples by less than
+//!   a sample, and runs of samples are sliced into their lengths (`laws`).
+//! - Sound that is made of intervals is sliced into them again (`specs/Sound.antt`, `sound`; `laws`).
+//!
+//! Read `threshold`, `level`, `side`, `crossing`, `slicer` and `interval`, in this order, and
+//! `specs/Level.antt`, `Side.antt`, `Crossing.antt` and `Distance.antt` beside them. Nothing here
+//! allocates or fails.
+#![tactic(auto)]
+
+mod crossing;
+mod interval;
+pub mod laws;
+mod level;
+mod side;
+mod slicer;
+mod threshold;
+
+pub use interval::{MAX_INTERVAL, pieces};
+pub use slicer::Slicer;
+pub use threshold::Threshold;
+
+#[cfg(test)]
+mod tests;
