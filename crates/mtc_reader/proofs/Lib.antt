@@ -1,7 +1,8 @@
+pub mod AlongTheBytes
 pub mod Digits
 pub mod Examples
-pub mod Labels
 pub mod LatestEight
-pub mod NineAreEnough
-pub mod OneByteMore
 pub mod PlacesOnly
+pub mod Labels
+pub mod OneByteMore
+pub mod ReadBack

@@ -1,5 +1,6 @@
 -- But for its place an event is told by the bytes that are no system real-time bytes.
-use Rattle.std.proofs.Common.{◌≡◌, ℕ, Bool, true, false, List, [], ◌∷◌, ◌++◌, map, length, cond, if◌then◌else◌, Option, Some, None, refl, sym, ◌∙◌, ap, ap₂, arith, append-nil}
+use Rattle.std.proofs.Common.{◌≡◌, ℕ, Bool, true, false, List, [], ◌∷◌, ◌++◌, map, length, cond, if◌then◌else◌, Option, Some, None}
+use Rattle.std.proofs.Common.{refl, sym, ◌∙◌, ap, ap₂, arith, append-nil}
 use Rattle.std.specs.Prelude.{reverse}
 use Rattle.std.specs.Option.{option_map}
 use Rattle.std.specs.Str.{bytes_eq}
@@ -105,7 +106,8 @@ none_left (byte ∷ more) all =
     let real_time : is_sounding byte ≡ false = let first = all.0 in grind (arith, nat_tests) in
     rw real_time (none_left more all.1)
 
-pub same_left : (before inserted after : List ℕ) → AreRealTime inserted → without_real_time (before ++ (inserted ++ after)) ≡ without_real_time (before ++ after)
+pub same_left : (before inserted after : List ℕ) → AreRealTime inserted →
+    without_real_time (before ++ (inserted ++ after)) ≡ without_real_time (before ++ after)
 same_left before inserted after all =
     let front = filter-append is_sounding before (inserted ++ after) in
     let back : without_real_time (inserted ++ after) ≡ without_real_time after =

@@ -1,6 +1,7 @@
 -- The labels that the messages of MIDI Time Code carry. Eight quarter frames in a row carry an address: no other quarter frame and no full
 -- message stands between them, and their pieces rise from 0 to 7 or fall from 7 to 0. They may share quarter frames with other eight.
-use Rattle.std.specs.Prelude.{ℕ, ◌+◌, ◌-◌, ◌*◌, ◌/◌, ◌%◌, ◌==◌, if◌then◌else◌, nat_le, cond, List, [], ◌∷◌, ◌++◌, length, map, drop, slice_index, reverse, Option, Some, None}
+use Rattle.std.specs.Prelude.{ℕ, ◌+◌, ◌-◌, ◌*◌, ◌/◌, ◌%◌, ◌==◌, if◌then◌else◌, nat_le, cond, Option, Some, None, Result, Ok, Err}
+use Rattle.std.specs.Prelude.{List, [], ◌∷◌, ◌++◌, length, map, drop, slice_index, reverse}
 use Rattle.std.specs.List.{cons_option}
 use Rattle.std.specs.Str.{bytes_eq}
 use Rattle.tc_address.specs.declared.count.Count.{Count}
@@ -29,6 +30,10 @@ fault_of a =
     else if nat_le 60 a.seconds then faults.Seconds
     else if nat_le (rate_of (system_with a.count)) a.frames then faults.Frames
     else faults.Dropped
+
+-- the address as a label, or its first fault
+abbrev pub label_or_fault : Address → Result Address LabelFault
+label_or_fault a = cond (is_label a) (Ok a) (Err (fault_of a))
 
 -- what the address of a full message gives, complete at a byte place
 abbrev pub full_event : Address → ℕ → MtcEvent

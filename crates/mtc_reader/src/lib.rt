@@ -10,8 +10,8 @@
 //! - What `MtcReader::byte` answers of one byte after another are exactly the events of the list of
 //!   bytes (`specs/Events.antt`, `events_in`), without keeping the bytes (`specs/StandsFor.antt`,
 //!   clause `gives`).
-//! - Real-time bytes, wherever they stand, change the places of events and nothing else of them
-//!   (`laws`).
+//! - Real-time bytes, wherever they stand, change the places of events and nothing else of them;
+//!   events stay whatever bytes come later; the messages of a label are read as that label (`laws`).
 //! - `mtc_text` and `mtc_end_text` give the lines of a report byte for byte (`specs/Texts.antt`).
 //!
 //! Read `reader`, `current`, `message`, `row`, `address`, `event` and `texts`, in this order, and
