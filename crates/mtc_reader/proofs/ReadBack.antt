@@ -1,5 +1,5 @@
 -- What carries a label is read as that label.
-use Rattle.std.proofs.Common.{◌≡◌, ◌≢◌, ◌<◌, ◌≤◌, ◌++◌, length, Some, append-nil, ℕ, ◌+◌, ◌*◌, ◌/◌, ◌%◌, List, [], ◌∷◌, true, refl, ◌∙◌, ap, arith}
+use Rattle.std.proofs.Common.{◌≡◌, ◌≢◌, ◌<◌, ◌≤◌, ◌++◌, length, map, Some, append-nil, ℕ, ◌+◌, ◌*◌, ◌/◌, ◌%◌, List, [], ◌∷◌, true, refl, ◌∙◌, ap, arith}
 use Rattle.std.proofs.lemmas.Bool.{cond-true}
 use Rattle.std.proofs.lemmas.Bool.Decides.{nat_tests}
 use Rattle.tc_address.specs.declared.count.Count.{Count}
@@ -11,7 +11,8 @@ use Rattle.mtc_reader.specs.declared.event.MtcEvent.TheVariants.{Full, Quarter, 
 use Rattle.mtc_reader.specs.declared.message.Message.{Message}
 use Rattle.mtc_reader.specs.declared.message.Message.TheVariants.{QuarterFrame}
 use Rattle.mtc_reader.specs.declared.message.MessageKind.TheVariants as kinds
-use Rattle.mtc_reader.specs.Events.{events_in, event_of, full_event, full_address, latest_eight, row_in, window_event, quarter_event, quarter_address, count_with, piece_of, fault_of}
+use Rattle.mtc_reader.specs.Events.{events_in, event_of, full_event, full_address, latest_eight, row_in}
+use Rattle.mtc_reader.specs.Events.{window_event, quarter_event, quarter_address, count_with, piece_of, fault_of}
 use Rattle.mtc_reader.specs.Laws.{code_of, full_message, quarters, rising, falling}
 use Rattle.mtc_reader.specs.Messages.{Current, current_in, is_data, is_sounding}
 use Rattle.mtc_reader.specs.StandsFor.{events_of}
@@ -74,19 +75,23 @@ record IsRow (a b c d e f g h : ℕ) : Type 0 where
 abbrev IsNumber : ℕ → Type 0
 IsNumber n = (is_data n ≡ true) × (is_sounding n ≡ true)
 
+-- quarter frames that came, the latest first
+abbrev came : List ℕ → List Message
+came numbers = map (λ number. QuarterFrame number) numbers
+
 eight_read : (a b c d e f g h : ℕ) → IsNumber a → IsNumber b → IsNumber c → IsNumber d → IsNumber e → IsNumber f → IsNumber g → IsNumber h →
     events_in (quarters (a ∷ b ∷ c ∷ d ∷ e ∷ f ∷ g ∷ h ∷ []))
     ≡ events_of (window_event (a ∷ b ∷ c ∷ d ∷ e ∷ f ∷ g ∷ h ∷ []) 15)
 eight_read a b c d e f g h na nb nc nd ne nf ng nh =
     all_along (quarters (a ∷ b ∷ c ∷ d ∷ e ∷ f ∷ g ∷ h ∷ []))
     ∙ early 0 (current_in []) [] a (quarters (b ∷ c ∷ d ∷ e ∷ f ∷ g ∷ h ∷ [])) na.0 na.1 (λ n. absurd (omega (arith, n)))
-    ∙ early 2 (after a) (QuarterFrame a ∷ []) b (quarters (c ∷ d ∷ e ∷ f ∷ g ∷ h ∷ [])) nb.0 nb.1 (λ n. absurd (omega (arith, n)))
-    ∙ early 4 (after b) (QuarterFrame b ∷ QuarterFrame a ∷ []) c (quarters (d ∷ e ∷ f ∷ g ∷ h ∷ [])) nc.0 nc.1 (λ n. absurd (omega (arith, n)))
-    ∙ early 6 (after c) (QuarterFrame c ∷ QuarterFrame b ∷ QuarterFrame a ∷ []) d (quarters (e ∷ f ∷ g ∷ h ∷ [])) nd.0 nd.1 (λ n. absurd (omega (arith, n)))
-    ∙ early 8 (after d) (QuarterFrame d ∷ QuarterFrame c ∷ QuarterFrame b ∷ QuarterFrame a ∷ []) e (quarters (f ∷ g ∷ h ∷ [])) ne.0 ne.1 (λ n. absurd (omega (arith, n)))
-    ∙ early 10 (after e) (QuarterFrame e ∷ QuarterFrame d ∷ QuarterFrame c ∷ QuarterFrame b ∷ QuarterFrame a ∷ []) f (quarters (g ∷ h ∷ [])) nf.0 nf.1 (λ n. absurd (omega (arith, n)))
-    ∙ early 12 (after f) (QuarterFrame f ∷ QuarterFrame e ∷ QuarterFrame d ∷ QuarterFrame c ∷ QuarterFrame b ∷ QuarterFrame a ∷ []) g (quarters (h ∷ [])) ng.0 ng.1 (λ n. absurd (omega (arith, n)))
-    ∙ quarter_step 14 (after g) (QuarterFrame g ∷ QuarterFrame f ∷ QuarterFrame e ∷ QuarterFrame d ∷ QuarterFrame c ∷ QuarterFrame b ∷ QuarterFrame a ∷ []) h [] nh.0 nh.1
+    ∙ early 2 (after a) (came (a ∷ [])) b (quarters (c ∷ d ∷ e ∷ f ∷ g ∷ h ∷ [])) nb.0 nb.1 (λ n. absurd (omega (arith, n)))
+    ∙ early 4 (after b) (came (b ∷ a ∷ [])) c (quarters (d ∷ e ∷ f ∷ g ∷ h ∷ [])) nc.0 nc.1 (λ n. absurd (omega (arith, n)))
+    ∙ early 6 (after c) (came (c ∷ b ∷ a ∷ [])) d (quarters (e ∷ f ∷ g ∷ h ∷ [])) nd.0 nd.1 (λ n. absurd (omega (arith, n)))
+    ∙ early 8 (after d) (came (d ∷ c ∷ b ∷ a ∷ [])) e (quarters (f ∷ g ∷ h ∷ [])) ne.0 ne.1 (λ n. absurd (omega (arith, n)))
+    ∙ early 10 (after e) (came (e ∷ d ∷ c ∷ b ∷ a ∷ [])) f (quarters (g ∷ h ∷ [])) nf.0 nf.1 (λ n. absurd (omega (arith, n)))
+    ∙ early 12 (after f) (came (f ∷ e ∷ d ∷ c ∷ b ∷ a ∷ [])) g (quarters (h ∷ [])) ng.0 ng.1 (λ n. absurd (omega (arith, n)))
+    ∙ quarter_step 14 (after g) (came (g ∷ f ∷ e ∷ d ∷ c ∷ b ∷ a ∷ [])) h [] nh.0 nh.1
     ∙ append-nil (events_of (window_event (a ∷ b ∷ c ∷ d ∷ e ∷ f ∷ g ∷ h ∷ []) 15))
 
 rising_window : (a b c d e f g h : ℕ) → IsRow a b c d e f g h →
