@@ -1,0 +1,48 @@
+-- What the laws speak of: events but for their places, and system real-time bytes.
+use Rattle.std.specs.Prelude.{ℕ, ◌+◌, ◌*◌, ◌/◌, ◌%◌, ◌≤◌, List, [], ◌∷◌, reverse}
+use Rattle.tc_address.specs.declared.count.Count.{Count}
+use Rattle.tc_address.specs.declared.count.Count.TheVariants.{C24, C25, C30, Drop30}
+use Rattle.tc_address.specs.Label.{Address}
+use Rattle.mtc_reader.specs.declared.event.MtcEvent.{MtcEvent}
+use Rattle.mtc_reader.specs.declared.event.MtcEvent.TheVariants.{Full, Quarter, RefusedFull, RefusedQuarter}
+
+-- an event but for its place
+abbrev pub at_no_place : MtcEvent → MtcEvent
+at_no_place (Full label place) = Full label 0
+at_no_place (Quarter direction label place) = Quarter direction label 0
+at_no_place (RefusedFull fault place) = RefusedFull fault 0
+at_no_place (RefusedQuarter direction fault place) = RefusedQuarter direction fault 0
+
+-- all bytes are system real-time bytes
+abbrev pub AreRealTime : List ℕ → Type 0
+AreRealTime [] = Unit {0}
+AreRealTime (byte ∷ more) = (0xf8 ≤ byte) × AreRealTime more
+
+-- the two bits that say a count
+abbrev pub code_of : Count → ℕ
+code_of C24 = 0
+code_of C25 = 1
+code_of Drop30 = 2
+code_of C30 = 3
+
+-- the full message of an address, to a device
+abbrev pub full_message : ℕ → Address → List ℕ
+full_message device a = 0xf0 ∷ 0x7f ∷ device ∷ 0x01 ∷ 0x01 ∷ (32 * code_of a.count + a.hours) ∷ a.minutes ∷ a.seconds ∷ a.frames ∷ 0xf7 ∷ []
+
+-- quarter frames with these data bytes
+abbrev pub quarters : List ℕ → List ℕ
+quarters [] = []
+quarters (number ∷ more) = 0xf1 ∷ number ∷ quarters more
+
+-- the data bytes of the quarter frames of an address, in the order of their pieces
+abbrev pub numbers_of : Address → List ℕ
+numbers_of a =
+    (a.frames % 16) ∷ (0x10 + a.frames / 16) ∷ (0x20 + a.seconds % 16) ∷ (0x30 + a.seconds / 16)
+    ∷ (0x40 + a.minutes % 16) ∷ (0x50 + a.minutes / 16) ∷ (0x60 + a.hours % 16) ∷ (0x70 + (a.hours / 16 + 2 * code_of a.count)) ∷ []
+
+-- the quarter frames of an address with rising pieces, and those with falling ones
+abbrev pub rising : Address → List ℕ
+rising a = quarters (numbers_of a)
+
+abbrev pub falling : Address → List ℕ
+falling a = quarters (reverse (numbers_of a))

@@ -1,0 +1,6 @@
+pub use Rattle.tc_address.specs.Label
+pub mod Messages
+pub mod Events
+pub mod StandsFor
+pub mod Texts
+pub mod Laws

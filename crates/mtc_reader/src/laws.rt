@@ -1,0 +1,38 @@
+//! What follows from the definitions alone.
+ghost use Rattle.std.specs.Prelude.{◌≡◌, ◌<◌, ◌++◌, ℕ, List, [], ◌∷◌, map, false};
+ghost use Rattle.tc_address.specs.declared.direction.Direction.TheVariants.{Forward, Backward};
+ghost use Rattle.tc_address.specs.declared.label.LabelFault.{LabelFault};
+ghost use Rattle.tc_address.specs.Label.{Address, IsFirstFault, IsLabel, is_label};
+ghost use Rattle.mtc_reader.specs.declared.event.MtcEvent.{MtcEvent};
+ghost use Rattle.mtc_reader.specs.declared.event.MtcEvent.TheVariants.{Full, Quarter};
+ghost use Rattle.mtc_reader.specs.Events.{events_in, fault_of};
+ghost use Rattle.mtc_reader.specs.Laws.{at_no_place, full_message, rising, falling, AreRealTime};
+ghost use Rattle.mtc_reader.specs.Messages.{without_real_time};
+
+/// System real-time bytes, wherever they are put in, change the places of events and nothing else of
+/// them. So two lists of bytes that differ in such bytes alone have the same events but for the places.
+pub fn real_time_bytes_change_places_only()
+    ensures inserted { (before inserted after : List ℕ) → AreRealTime inserted
+        → map at_no_place (events_in (before ++ (inserted ++ after))) ≡ map at_no_place (events_in (before ++ after)) }
+    ensures same { (a b : List ℕ) → without_real_time a ≡ without_real_time b
+        → map at_no_place (events_in a) ≡ map at_no_place (events_in b) }
+{}
+
+/// The events of bytes stay what they are, whatever bytes come after them.
+pub fn earlier_events_stay()
+    ensures { (before more : List ℕ) → (later : List MtcEvent) × (events_in (before ++ more) ≡ events_in before ++ later) }
+{}
+
+/// A full message of a label, to any device, is read as that label, and so are its eight quarter frames
+/// with rising and with falling pieces. The place is that of the last byte.
+pub fn a_label_is_read_back()
+    ensures full { (device : ℕ) (label : Address) → device < 0x80 → IsLabel label
+        → events_in (full_message device label) ≡ Full label 9 ∷ [] }
+    ensures forward { (label : Address) → IsLabel label → events_in (rising label) ≡ Quarter Forward label 15 ∷ [] }
+    ensures backward { (label : Address) → IsLabel label → events_in (falling label) ≡ Quarter Backward label 15 ∷ [] }
+{}
+
+/// An address with a first fault is no label, and that fault is told of it.
+pub fn the_first_fault_is_told()
+    ensures { (fault : LabelFault) (a : Address) → IsFirstFault fault a → (is_label a ≡ false) × (fault_of a ≡ fault) }
+{}

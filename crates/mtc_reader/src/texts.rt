@@ -1,0 +1,125 @@
+//! The lines of a report.
+ghost use Rattle.std.specs.Prelude.{◌≡◌, ◌+◌, ◌≤◌, ◌++◌, length, decimal};
+ghost use Rattle.arrayvec.specs.ArrayVec.{array_vec_len};
+ghost use Rattle.mtc_reader.specs.Texts.{direction_name, fault_name, at_byte, event_line, end_line};
+
+use crate::event::MtcEvent;
+use arrayvec::ArrayVec;
+use itoa::Buffer;
+use tc_address::{Direction, LabelFault, text};
+
+/// One line of a report, with its newline.
+pub type Text = ArrayVec<u8, 128>;
+
+/// Appends bytes.
+fn push_bytes(line: &mut Text, bytes: &[u8])
+    requires { array_vec_len line.old + length bytes.now ≤ 128 }
+    ensures items { line.new.items ≡ line.old.items ++ bytes.now }
+    ensures len { array_vec_len line.new ≡ array_vec_len line.old + length bytes.now }
+{
+    let _fits = line.try_extend_from_slice(bytes);
+}
+
+/// Appends a number in decimal digits, without leading zeros: 20 of them at most.
+#[tactic(auto, using(crate::proofs::Digits::digits_of_count))]
+fn push_number(line: &mut Text, number: u64)
+    requires { array_vec_len line.old + 20 ≤ 128 }
+    ensures items { line.new.items ≡ line.old.items ++ decimal number }
+    ensures len { array_vec_len line.new ≤ array_vec_len line.old + 20 }
+{
+    let mut digits = Buffer::new();
+    push_bytes(line, digits.format(number).as_bytes());
+}
+
+/// The name of a direction in a line.
+fn direction_name(direction: Direction) -> &'static str
+    ensures { result.now ≡ direction_name direction }
+{
+    match direction {
+        Direction::Forward => "forward",
+        Direction::Backward => "backward",
+    }
+}
+
+/// The name of a fault in a line.
+fn fault_name(fault: LabelFault) -> &'static str
+    ensures { result.now ≡ fault_name fault }
+{
+    match fault {
+        LabelFault::Hours => "hours",
+        LabelFault::Minutes => "minutes",
+        LabelFault::Seconds => "seconds",
+        LabelFault::Frames => "frames",
+        LabelFault::Dropped => "dropped",
+    }
+}
+
+/// Ends a line with the place of a byte.
+fn push_place(line: &mut Text, place: u64)
+    requires { array_vec_len line.old + 27 ≤ 128 }
+    ensures { line.new.items ≡ line.old.items ++ at_byte place }
+{
+    push_bytes(line, b" byte ");
+    push_number(line, place);
+    push_bytes(line, b"\n");
+}
+
+/// The line of an event.
+pub fn mtc_text(event: &MtcEvent) -> Text
+    ensures { result.items ≡ event_line event.now }
+{
+    let mut line = Text::new();
+    match *event {
+        MtcEvent::Full { label, place } => {
+            push_bytes(&mut line, b"full ");
+            push_bytes(&mut line, &text(&label));
+            push_place(&mut line, place);
+        }
+        MtcEvent::Quarter {
+            direction,
+            label,
+            place,
+        } => {
+            push_bytes(&mut line, b"quarter ");
+            push_bytes(&mut line, direction_name(direction).as_bytes());
+            push_bytes(&mut line, b" ");
+            push_bytes(&mut line, &text(&label));
+            push_place(&mut line, place);
+        }
+        MtcEvent::RefusedFull { fault, place } => {
+            push_bytes(&mut line, b"refused full ");
+            push_bytes(&mut line, fault_name(fault).as_bytes());
+            push_place(&mut line, place);
+        }
+        MtcEvent::RefusedQuarter {
+            direction,
+            fault,
+            place,
+        } => {
+            push_bytes(&mut line, b"refused ");
+            push_bytes(&mut line, direction_name(direction).as_bytes());
+            push_bytes(&mut line, b" ");
+            push_bytes(&mut line, fault_name(fault).as_bytes());
+            push_place(&mut line, place);
+        }
+    }
+    line
+}
+
+/// The last line of a report: how many bytes were read, and how many labels of full messages, labels of
+/// quarter frames and refused addresses were found.
+pub fn mtc_end_text(bytes: u64, full: u64, quarter: u64, refused: u64) -> Text
+    ensures { result.items ≡ end_line bytes full quarter refused }
+{
+    let mut line = Text::new();
+    push_bytes(&mut line, b"end bytes ");
+    push_number(&mut line, bytes);
+    push_bytes(&mut line, b" full ");
+    push_number(&mut line, full);
+    push_bytes(&mut line, b" quarter ");
+    push_number(&mut line, quarter);
+    push_bytes(&mut line, b" refused ");
+    push_number(&mut line, refused);
+    push_bytes(&mut line, b"\n");
+    line
+}
