@@ -1,7 +1,7 @@
 //! Words of the command line that name no job, and those that read no input.
 use super::trial::Trial;
-use crate::Status;
 use std::test::Fail;
+use tc_top::Status;
 
 /// A source that fails at the first pull shows that nothing is read.
 fn unread(words: &str) -> Trial<'_> {

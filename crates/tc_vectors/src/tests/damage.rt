@@ -2,9 +2,9 @@
 use super::reading::THREE_LINES;
 use super::recording::{Pace, THREE_WORDS, file, recorded, spelled};
 use super::trial::Trial;
-use crate::Status;
 use std::test::Fail;
 use tc_address::{Count, Direction, System};
+use tc_top::Status;
 
 #[test]
 fn a_dropout_costs_the_word_in_which_it_is(rt: HostRuntime) -> Result<(), Fail> {

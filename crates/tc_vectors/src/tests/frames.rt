@@ -1,10 +1,10 @@
 //! Recordings with a dropout, and the frames that are heard and invented over it.
 use super::recording::{Pace, file, recorded, spelled};
 use super::trial::Trial;
-use crate::Status;
 use std::alloc::Global;
 use std::test::Fail;
 use tc_address::{Count, Direction, System};
+use tc_top::Status;
 
 /// Four frames at 25 frames, with an interval of the second one three times as long as it was.
 fn with_a_dropout(alloc: Global) -> Result<Vec<u8>, Fail> {

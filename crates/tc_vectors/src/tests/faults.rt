@@ -2,8 +2,8 @@
 use super::reading::THREE_LINES;
 use super::recording::three_frames;
 use super::trial::Trial;
-use crate::Status;
 use std::test::Fail;
+use tc_top::Status;
 
 #[test]
 fn the_first_fault_of_a_file_and_its_place(rt: HostRuntime) -> Result<(), Fail> {

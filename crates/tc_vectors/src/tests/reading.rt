@@ -1,10 +1,10 @@
 //! Recordings and the lines that are read from them.
 use super::recording::{Pace, file, recorded, spelled, three_frames};
 use super::trial::Trial;
-use crate::{Status, stream};
 use std::test::Fail;
 use tc_address::{Count, Direction, System};
 use tc_io::{MemorySink, SteadySource};
+use tc_top::{Status, stream};
 use tc_words::Job;
 
 /// The report of three frames at 25 frames.

@@ -1,9 +1,9 @@
 //! One run of the program, and what has to come of it.
-use crate::{Status, run};
 use std::alloc::{AllocError, AllocGlobal, Global};
 use std::process::Abort;
 use std::test::Fail;
 use tc_io::{MemorySink, MemorySource};
+use tc_top::{Status, run};
 
 /// A run: its words, its input, and where its source and its sinks fail.
 #[derive(Clone, Copy)]
