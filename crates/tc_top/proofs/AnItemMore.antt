@@ -18,7 +18,7 @@ use Rattle.tc_files.specs.Recording.{Recording, Decoding, IsBetween, with_byte, 
 use Rattle.tc_files.specs.Verdict.{Verdict, good, refused, past_limit}
 use Rattle.tc_top.specs.declared.stop.Stop.{Stop}
 use Rattle.tc_top.specs.declared.stop.Stop.TheVariants.{Refused, ReadFault, WriteFault, Limit}
-use Rattle.tc_top.specs.Along.{Printing, IsPartBehind, IsPartOf, along_intervals}
+use Rattle.tc_top.specs.Along.{Printing, IsPartOf, along_intervals}
 use Rattle.tc_top.specs.KeptAlong.{HasHeader, IntervalStops, Printed, Stands, longer, printed_well, stop_at}
 use Rattle.tc_top.specs.Stops.{IsStop, Stops}
 use Rattle.tc_top.proofs.AlongTheInput.{cut_at}

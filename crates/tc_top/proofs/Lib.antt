@@ -5,6 +5,9 @@ pub mod Digits
 pub mod FlightGrows
 pub mod FramesInOrder
 pub mod LinesGrow
+pub mod LinesOfFrames
+pub mod MidiGrows
+pub mod MidiLimit
 pub mod OneOutput
 pub mod OneStatus
 pub mod PushedLines

@@ -1,5 +1,5 @@
 -- What a command along an interval file keeps. No promise speaks of it.
-use Rattle.std.specs.Prelude.{◌≡◌, ℕ, ◌+◌, ◌<◌, ◌≤◌, List, [], ◌∷◌, ◌++◌, length, Option, Some, None, nat_lt, if◌then◌else◌}
+use Rattle.std.specs.Prelude.{◌≡◌, ℕ, ◌<◌, ◌≤◌, List, [], ◌∷◌, ◌++◌, length, Option, Some, None, nat_lt, if◌then◌else◌}
 use Rattle.std.proofs.Common.{subst, sym}
 use Rattle.std.specs.Io.KnownBytes.{Appends}
 use Rattle.tc_io.specs.Sink.{AppendsFront}
@@ -12,8 +12,7 @@ use Rattle.tc_files.specs.Recording.{Recording, decoding_of, recording_of, inter
 use Rattle.tc_files.specs.Verdict.{good}
 use Rattle.tc_top.specs.declared.stop.Stop.{Stop}
 use Rattle.tc_top.specs.declared.stop.Stop.TheVariants.{Refused, ReadFault, WriteFault, Limit}
-use Rattle.tc_top.specs.Along.{Printing, IsPartBehind, IsPartOf, along_intervals}
-use Rattle.tc_top.specs.Meaning.{Meaning}
+use Rattle.tc_top.specs.Along.{Printing, IsPartBehind, IsPartOf}
 
 -- the header is whole with its last byte
 abbrev pub HasHeader : {B : Type 0} → Option B → ℕ → Type 0

@@ -6,10 +6,14 @@ pub mod KeptAlong
 pub mod KeptLine
 pub mod KeptReport
 pub mod KeptFlight
+pub mod KeptMtc
 pub mod Labels
 pub mod LtcFly
+pub mod LtcMtc
 pub mod LtcRead
 pub mod Meaning
+pub mod MtcRead
 pub mod Notes
+pub mod OfFrames
 pub mod Status
 pub mod Stops

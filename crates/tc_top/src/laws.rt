@@ -3,6 +3,7 @@ ghost use Rattle.std.specs.Prelude.{◌≡◌, List, ℕ};
 ghost use Rattle.tc_words.specs.declared.job.Job.{Job};
 ghost use Rattle.tc_top.specs.Commands.{meaning_of};
 ghost use Rattle.tc_top.specs.Meaning.{Meaning};
+ghost use Rattle.tc_top.specs.declared.engines.mtc_read.TheConstants.{MAX_BYTES};
 
 use direction_reader::laws::a_list_has_one_list_of_events;
 
@@ -16,3 +17,8 @@ pub fn an_input_has_one_output()
 {
     a_list_has_one_list_of_events();
 }
+
+/// `mtc-read` reads a thousand million bytes, and no more.
+pub fn mtc_read_has_this_limit()
+    ensures { MAX_BYTES ≡ 1000000000 }
+{}

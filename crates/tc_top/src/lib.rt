@@ -21,6 +21,8 @@
 mod along;
 mod engine;
 mod engines;
+mod flight;
+mod frame_sink;
 mod intake;
 pub mod laws;
 mod making;

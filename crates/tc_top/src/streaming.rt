@@ -10,8 +10,11 @@ ghost use Rattle.tc_top.specs.Stops.{StopsAlong};
 
 use crate::along::Along;
 use crate::engines::labels::OneLine;
-use crate::engines::ltc_fly::Flight;
+use crate::engines::ltc_fly::FrameLines;
+use crate::engines::ltc_mtc::FrameMessages;
 use crate::engines::ltc_read::Report;
+use crate::engines::mtc_read::MtcReport;
+use crate::flight::FlightTo;
 use crate::intake::work;
 use crate::making::make;
 use crate::notes::{push_note, stop_note};
@@ -76,7 +79,15 @@ fn work_on<S: Source, K: Sink>(job: &Job, source: &mut S, out: &mut K) -> Result
     match job {
         Job::LtcRead => work(&mut Along::<Report>::new(Profile::Normal), source, out),
         Job::LtcWorn => work(&mut Along::<Report>::new(Profile::Worn), source, out),
-        Job::LtcFly { limit } => work(&mut Along::<Flight>::new(*limit), source, out),
+        Job::LtcFly { limit } => work(&mut Along::<FlightTo<FrameLines>>::new(*limit), source, out),
+        Job::LtcMtc { limit } => {
+            work(
+                &mut Along::<FlightTo<FrameMessages>>::new(*limit),
+                source,
+                out,
+            )
+        }
+        Job::MtcRead => work(&mut MtcReport::new(), source, out),
         Job::Number { label } => make(&mut OneLine::number(label), source, out),
         Job::LabelOf { label } => make(&mut OneLine::label(label), source, out),
     }

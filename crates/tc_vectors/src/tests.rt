@@ -2,6 +2,7 @@
 mod damage;
 mod faults;
 mod frames;
+mod midi;
 mod reading;
 mod recording;
 mod trial;

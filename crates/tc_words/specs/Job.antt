@@ -30,6 +30,11 @@ abbrev pub ltc_fly : List Word → Answer
 ltc_fly (limit ∷ []) = with_value 1 (limit_in limit) (λ n. Ok (jobs.LtcFly n))
 ltc_fly _ = Err CountOfWords
 
+-- `ltc-mtc LIMIT`
+abbrev pub ltc_mtc : List Word → Answer
+ltc_mtc (limit ∷ []) = with_value 1 (limit_in limit) (λ n. Ok (jobs.LtcMtc n))
+ltc_mtc _ = Err CountOfWords
+
 -- `number COUNT LABEL`
 abbrev pub number : List Word → Answer
 number (count ∷ label ∷ []) =
@@ -50,6 +55,8 @@ job_of command values =
     if bytes_eq command commands.LTC_READ.now then no_values jobs.LtcRead values
     else if bytes_eq command commands.LTC_WORN.now then no_values jobs.LtcWorn values
     else if bytes_eq command commands.LTC_FLY.now then ltc_fly values
+    else if bytes_eq command commands.LTC_MTC.now then ltc_mtc values
+    else if bytes_eq command commands.MTC_READ.now then no_values jobs.MtcRead values
     else if bytes_eq command commands.NUMBER.now then number values
     else if bytes_eq command commands.LABEL.now then label_of values
     else Err Command

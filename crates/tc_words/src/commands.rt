@@ -10,6 +10,12 @@ pub const LTC_WORN: &str = "ltc-worn";
 /// The word of `Job::LtcFly`.
 pub const LTC_FLY: &str = "ltc-fly";
 
+/// The word of `Job::LtcMtc`.
+pub const LTC_MTC: &str = "ltc-mtc";
+
+/// The word of `Job::MtcRead`.
+pub const MTC_READ: &str = "mtc-read";
+
 /// The word of `Job::Number`.
 pub const NUMBER: &str = "number";
 

@@ -11,6 +11,11 @@ pub enum Job {
     /// `ltc-fly LIMIT`: reads an interval file, and writes a line for each frame of its words, with at
     /// most so many invented frames in a row.
     LtcFly { limit: u8 },
+    /// `ltc-mtc LIMIT`: reads an interval file, and writes MIDI Time Code of the same frames.
+    LtcMtc { limit: u8 },
+    /// `mtc-read`: reads MIDI bytes, and writes a line for each label of MIDI Time Code in them, and for
+    /// each address that is no label.
+    MtcRead,
     /// `number COUNT LABEL`: writes how many labels of the count stand before the label in the day.
     Number { label: Label },
     /// `label COUNT NUMBER`: writes the label of that number of the day.

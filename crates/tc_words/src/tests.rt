@@ -25,6 +25,10 @@ fn the_first_fault_is_told(rt: HostRuntime) -> Result<(), Fail> {
         ("ltc-fly", WordsFault::CountOfWords),
         ("ltc-fly 256", WordsFault::Value(1)),
         ("ltc-fly two", WordsFault::Value(1)),
+        ("ltc-mtc", WordsFault::CountOfWords),
+        ("ltc-mtc 2 2", WordsFault::CountOfWords),
+        ("ltc-mtc 256", WordsFault::Value(1)),
+        ("mtc-read x", WordsFault::CountOfWords),
         ("number 30d", WordsFault::CountOfWords),
         ("number 29 00:01:00;02", WordsFault::Value(1)),
         ("number 30d 00:01:00;00", WordsFault::Value(2)),
@@ -48,6 +52,7 @@ fn the_first_fault_is_told(rt: HostRuntime) -> Result<(), Fail> {
 fn label_text(job: &Job) -> Option<[u8; 11]> {
     match job {
         Job::LtcRead | Job::LtcWorn | Job::LtcFly { .. } => None,
+        Job::LtcMtc { .. } | Job::MtcRead => None,
         Job::Number { label } => Some(text(label)),
         Job::LabelOf { label } => Some(text(label)),
     }
@@ -60,13 +65,16 @@ fn jobs_are_read(rt: HostRuntime) -> Result<(), Fail> {
     assert_eq!(rt; read_words(alloc, &words), Ok(Job::LtcRead));
     let words = typed(alloc, "ltc-worn")?;
     assert_eq!(rt; read_words(alloc, &words), Ok(Job::LtcWorn));
-    for (line, limit) in [("ltc-fly 0", 0), ("ltc-fly 2", 2), ("ltc-fly 255", 255)] {
+    let words = typed(alloc, "mtc-read")?;
+    assert_eq!(rt; read_words(alloc, &words), Ok(Job::MtcRead));
+    for (line, job) in [
+        ("ltc-fly 0", Job::LtcFly { limit: 0 }),
+        ("ltc-fly 255", Job::LtcFly { limit: 255 }),
+        ("ltc-mtc 0", Job::LtcMtc { limit: 0 }),
+        ("ltc-mtc 255", Job::LtcMtc { limit: 255 }),
+    ] {
         let words = typed(alloc, line)?;
-        assert_eq!(rt;
-            read_words(alloc, &words),
-            Ok(Job::LtcFly { limit }),
-            "at {line}"
-        );
+        assert_eq!(rt; read_words(alloc, &words), Ok(job), "at {line}");
     }
     for (line, wanted) in [
         ("label 30 2591999", *b"23:59:59:29"),

@@ -2,7 +2,7 @@
 //! `job`.
 ghost use Rattle.std.specs.Prelude.{◌≡◌, ◌⊎◌, map, position, string_bytes, alloc_error};
 ghost use Rattle.command_words.specs.CommandLine.{begins_with_dash};
-ghost use Rattle.tc_words.specs.Job.{answer_to, without_dashes, job_of, no_values, ltc_fly, number, label_of};
+ghost use Rattle.tc_words.specs.Job.{answer_to, without_dashes, job_of, no_values, ltc_fly, ltc_mtc, number, label_of};
 
 use crate::commands;
 use crate::fault::WordsFault;
@@ -57,6 +57,8 @@ fn job_of(command: &str, values: &[&str]) -> Result<Job, WordsFault>
         commands::LTC_READ => no_values(values, Job::LtcRead),
         commands::LTC_WORN => no_values(values, Job::LtcWorn),
         commands::LTC_FLY => ltc_fly(values),
+        commands::LTC_MTC => ltc_mtc(values),
+        commands::MTC_READ => no_values(values, Job::MtcRead),
         commands::NUMBER => number(values),
         commands::LABEL => label_of(values),
         _ => Err(WordsFault::Command),
@@ -82,6 +84,17 @@ fn ltc_fly(values: &[&str]) -> Result<Job, WordsFault>
     };
     let limit = limit_in(limit).ok_or(WordsFault::Value(1))?;
     Ok(Job::LtcFly { limit })
+}
+
+// `ltc-mtc LIMIT`
+fn ltc_mtc(values: &[&str]) -> Result<Job, WordsFault>
+    ensures { result ≡ ltc_mtc (map (λ v. v.now) values.now) }
+{
+    let [limit] = values else {
+        return Err(WordsFault::CountOfWords);
+    };
+    let limit = limit_in(limit).ok_or(WordsFault::Value(1))?;
+    Ok(Job::LtcMtc { limit })
 }
 
 // `number COUNT LABEL`

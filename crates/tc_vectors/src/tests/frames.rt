@@ -7,7 +7,7 @@ use tc_address::{Count, Direction, System};
 use tc_top::Status;
 
 /// Four frames at 25 frames, with an interval of the second one three times as long as it was.
-fn with_a_dropout(alloc: Global) -> Result<Vec<u8>, Fail> {
+pub fn with_a_dropout(alloc: Global) -> Result<Vec<u8>, Fail> {
     let words = [
         spelled(Count::C25, [1, 0, 0, 0])?,
         spelled(Count::C25, [1, 0, 0, 1])?,

@@ -42,15 +42,31 @@ impl<'a> Trial<'a> {
         output: &str,
         note: &str,
     ) -> Result<(), Fail> {
+        self.gives(rt, status, output.as_bytes(), note)
+    }
+
+    /// The same, where the output is no text.
+    pub fn gives(
+        &self,
+        rt: &(impl Abort + AllocGlobal),
+        status: Status,
+        output: &[u8],
+        note: &str,
+    ) -> Result<(), Fail> {
         let alloc = rt.alloc();
         let words = split(alloc, self.words)?;
         let mut source = MemorySource::new(alloc, self.input, self.pieces, self.failing_pulls)?;
         let mut out = MemorySink::new(alloc, self.room, self.failing_pushes)?;
         let mut notes = MemorySink::new(alloc, self.notes_room, &[])?;
         let ended = run(alloc, &words, &mut source, &mut out, &mut notes);
-        let written = str::from_utf8(out.written())?;
         let noted = str::from_utf8(notes.written())?;
-        assert_eq!(rt; written, output, "the output of {}", self.words);
+        match str::from_utf8(output) {
+            Ok(text) => {
+                let written = str::from_utf8(out.written())?;
+                assert_eq!(rt; written, text, "the output of {}", self.words);
+            }
+            Err(_) => assert_eq!(rt; out.written(), output, "the output of {}", self.words),
+        }
         assert_eq!(rt; noted, note, "the note of {}", self.words);
         assert_eq!(rt; ended, status, "the status of {}", self.words);
         Ok(())

@@ -21,6 +21,9 @@ fn words_that_name_no_job_are_refused(rt: HostRuntime) -> Result<(), Fail> {
         ("ltc-read x", "tc: usage: count of words\n"),
         ("number 30d", "tc: usage: count of words\n"),
         ("label 25 0 0", "tc: usage: count of words\n"),
+        ("ltc-mtc", "tc: usage: count of words\n"),
+        ("mtc-read 0", "tc: usage: count of words\n"),
+        ("ltc-mtc 256", "tc: usage: value of word 1\n"),
         ("number 29 00:00:00:00", "tc: usage: value of word 1\n"),
         ("number 30d 00:01:00;00", "tc: usage: value of word 2\n"),
         ("label 30d 2589408", "tc: usage: value of word 2\n"),
@@ -39,14 +42,12 @@ fn words_that_name_no_job_are_refused(rt: HostRuntime) -> Result<(), Fail> {
 fn commands_to_come_are_unknown(rt: HostRuntime) -> Result<(), Fail> {
     for words in [
         "ltc-make 25 forward 00:00:00:00 3 24 48000",
-        "ltc-mtc 0",
         "ltc-load 1 1000",
         "vitc-read",
         "vitc-make 30 00:00:00:00 1 460",
         "chase 25 00:00:00:00",
         "ltc-convert 2",
         "pcm-ltc 25 48000 1000",
-        "mtc-read",
         "ltc-jam 2 24 48000",
         "ltc-chase 25 01:00:00:00 2 1 0",
     ] {

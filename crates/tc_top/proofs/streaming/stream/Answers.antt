@@ -1,6 +1,4 @@
-use Rattle.std.proofs.Common.{[], refl, ◌≡◌, subst}
-use Rattle.std.specs.declared.option.Option.{Option}
-use Rattle.std.specs.Io.KnownBytes.{Consumes}
+use Rattle.std.proofs.Common.{[], refl}
 use Rattle.std.proofs.KnownBytes.{Appends-nil}
 use Rattle.tc_top.specs.Answer.{Exchange}
 use Rattle.tc_top.specs.Commands.{meaning_of}

@@ -1,9 +1,9 @@
-use Rattle.std.proofs.Common.{◌≡◌, ◌++◌, ◌∷◌, [], arith}
+use Rattle.std.proofs.Common.{◌++◌, ◌∷◌, [], arith}
 use Rattle.std.proofs.KnownBytes.{Appends-nil}
 use Rattle.tc_files.specs.Recording.{recording_of}
 use Rattle.tc_files.specs.IntervalFile.{after}
 use Rattle.tc_top.proofs.AlongTheInput.{through, on_ok, both_ok, if_err}
-use Rattle.tc_top.proofs.AnItemMore.{nothing_more, a_header, an_interval, a_fault, a_header_fault, interval_stops, by_byte}
+use Rattle.tc_top.proofs.AnItemMore.{nothing_more, an_interval, a_fault, a_header_fault, interval_stops, by_byte}
 use Rattle.tc_top.proofs.along.Along.byte.Goals as goal
 
 -- the byte completes nothing

@@ -5,7 +5,7 @@ use Rattle.tc_files.specs.declared.interval_file.header.IntervalHeader.{Interval
 use Rattle.tc_files.specs.IntervalFile.{end}
 use Rattle.tc_files.specs.Progress.{Progress}
 use Rattle.tc_files.specs.Recording.{fault_at_end, recording_of}
-use Rattle.tc_top.specs.Along.{IsPartOf, IsWholeBehind}
+use Rattle.tc_top.specs.Along.{IsWholeBehind}
 use Rattle.tc_top.specs.KeptAlong.{Printed, printed_well}
 use Rattle.tc_top.proofs.AlongTheInput.{if_err}
 use Rattle.tc_top.proofs.along.AlongEngine.finish.Goals as goal
