@@ -1,8 +1,10 @@
 pub mod BeginsAtTheLock
+pub mod CellsOfAPiece
 pub mod Chains
 pub mod Computed
 mod Examples
 pub mod GainsOrBreaks
+pub mod KeptStretch
 pub mod LocalStretch
 pub mod LockStays
 pub mod OneStretch
