@@ -8,6 +8,7 @@ pub mod FrontsFirst
 pub mod OneList
 pub mod OneListOfEvents
 pub mod ReaderSteps
+pub mod TellsTheTape
 pub mod TheEvents
 pub mod TrackerSteps
 pub mod WindowHolds
