@@ -8,5 +8,6 @@ pub mod LinesGrow
 pub mod OneOutput
 pub mod OneStatus
 pub mod PushedLines
+pub mod ReportsTheTape
 pub mod VerdictStays
 pub mod WordsAnswer

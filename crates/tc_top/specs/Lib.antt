@@ -13,3 +13,4 @@ pub mod Meaning
 pub mod Notes
 pub mod Status
 pub mod Stops
+pub mod Tape

@@ -11,9 +11,9 @@
 //!   `OutCause`), and an input of the command gives Done where none rose (clause `complete`).
 //! - The note is the one line of the status (`specs/Notes.antt`). A failing sink of notes changes no
 //!   status.
-//! - What `ltc-read` prints is lines of events behind the header of the file, each counted in the
-//!   last line (`specs/LtcRead.antt`). That they are the events of the recording's stretches is not
-//!   proved yet.
+//! - What `ltc-read` and `ltc-worn` print are the lines of the events of the file's intervals, each
+//!   counted in the last line (`specs/LtcRead.antt`). Where the file holds a tape within the tolerance,
+//!   these are the tape's own words (`specs/Tape.antt`, clause `truth`).
 //!
 //! Read `top_call`, `streaming`, `engine`, `intake`, `output`, `notes`, and then the engines. `tc`
 //! stands on this crate.
