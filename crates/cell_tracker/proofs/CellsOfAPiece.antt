@@ -1,6 +1,6 @@
 -- The cells of a chain that lie wholly in a list from one of their boundaries on: they are a chain, and what the list has behind them is no
 -- more than the first half of a one.
-use Rattle.std.proofs.Common.{◌≡◌, ℕ, ◌+◌, ◌<◌, ◌≤◌, List, [], ◌∷◌, ◌++◌, length, None, refl, ap, subst, sym, ◌∙◌, arith, length-append}
+use Rattle.std.proofs.Common.{◌≡◌, ℕ, ◌+◌, ◌<◌, ◌≤◌, List, [], ◌∷◌, ◌++◌, length, None, cond, nat_le, refl, ap, subst, sym, ◌∙◌, arith, length-append}
 use Rattle.std.proofs.lemmas.Bool.{le-leb, lt-leb}
 use Rattle.biphase.specs.declared.profile.Profile.{Profile}
 use Rattle.biphase.specs.declared.cell.Cell.{Cell}
@@ -48,6 +48,41 @@ from_low low high at (cell ∷ one) two ends =
     let long = length-append (intervals_of cell) (flat one) in
     begins_before low high at cell (one ++ two) (omega arith)
     ∙ from_low low high (at + length (intervals_of cell)) one two (omega arith)
+
+-- cells that end by then are all of them
+pub all_between : (low high at : ℕ) (one two : List Cell) → low ≤ at → at + length (flat one) ≤ high
+    → cells_between low high at (one ++ two) ≡ one ++ cells_between low high (at + length (flat one)) two
+all_between low high at [] two begins ends = ap (λ n. cells_between low high n two) (omega arith)
+all_between low high at (cell ∷ one) two begins ends =
+    let long = length-append (intervals_of cell) (flat one) in
+    let end = at + length (intervals_of cell) in
+    let same : end + length (flat one) ≡ at + length (flat (cell ∷ one)) = omega (arith, long) in
+    lies_between low high at cell (one ++ two) begins (omega (arith, long, ends))
+    ∙ ap (λ (cells : List Cell). cell ∷ cells) (all_between low high end one two (omega arith) (omega (arith, long, ends)))
+    ∙ ap (λ n. cell ∷ (one ++ cells_between low high n two)) same
+
+-- where the places begin before the cells, it does not matter where
+pub from_any_low : (low other high at : ℕ) (cells : List Cell) → low ≤ at → other ≤ at
+    → cells_between low high at cells ≡ cells_between other high at cells
+from_any_low low other high at [] begins too = refl
+from_any_low low other high at (cell ∷ cells) begins too =
+    let end = at + length (intervals_of cell) in
+    rw (le-leb low at begins, le-leb other at too) (ap (λ (more : List Cell). cond (nat_le end high) (cell ∷ more) more)
+    (from_any_low low other high end cells (omega arith) (omega arith)))
+
+-- of two fronts of a list of cells the one with fewer intervals is a front of the other
+pub front_of_front : (one rest two other : List Cell) → one ++ rest ≡ two ++ other → length (flat one) ≤ length (flat two)
+    → (mid : List Cell) × (two ≡ one ++ mid)
+front_of_front [] rest two other same fewer = (two, refl)
+front_of_front (cell ∷ one) rest [] other same fewer =
+    absurd (omega (arith, has_intervals cell, length-append (intervals_of cell) (flat one), fewer))
+front_of_front (cell ∷ one) rest (next ∷ two) other same fewer =
+    let head : next ≡ cell = cc in
+    let tail : one ++ rest ≡ two ++ other = cc in
+    let long : length (intervals_of next) ≡ length (intervals_of cell) = ap (λ c. length (intervals_of c)) head in
+    let more = front_of_front one rest two other tail
+    (omega (arith, length-append (intervals_of cell) (flat one), length-append (intervals_of next) (flat two), long, fewer)) in
+    (more.0, ap (λ c. c ∷ two) head ∙ ap (λ (cs : List Cell). cell ∷ cs) more.1)
 
 -- what a list may have behind cells of which the last has length c: nothing, or the first half of a one
 abbrev pub IsCutOff : Profile → ℕ → List ℕ → Type 0

@@ -1,7 +1,8 @@
 -- A list that is a piece of a chain has one stretch, where it has a lock: the cells of the chain that lie wholly in the list from the lock on.
-use Rattle.std.proofs.Common.{◌≡◌, ℕ, ◌+◌, ◌<◌, ◌≤◌, List, [], ◌∷◌, ◌++◌, length, drop, get_or, inl, inr, refl, ap, subst, sym, ◌∙◌, arith}
+use Rattle.std.proofs.Common.{◌≡◌, ℕ, ◌+◌, ◌<◌, ◌≤◌, List, [], ◌∷◌, ◌++◌, length, drop, get_or, None, inl, inr, refl, ap, subst, sym, ◌∙◌, arith}
 use Rattle.std.proofs.Common.{length-drop}
 use Rattle.std.proofs.lemmas.Bool.{cases_order}
+use Rattle.std.proofs.Math.Seq.{drop-append-add}
 use Rattle.std.proofs.lemmas.List.{drop_at, drop_more, drop-drop, drop-append-le}
 use Rattle.std.proofs.lemmas.Grind.{flat_map-append}
 use Rattle.biphase.specs.declared.profile.Profile.{Profile}
@@ -25,7 +26,7 @@ piece_from profile intervals cells cut k is within =
     sym (drop-drop k cut (flat cells)) ∙ ap (drop k) is.part.1 ∙ drop-append-le k intervals is.part.0 within
 
 -- a list at two of its places
-two_at : (intervals : List ℕ) (k : ℕ) → k + 1 < length intervals
+pub two_at : (intervals : List ℕ) (k : ℕ) → k + 1 < length intervals
     → drop k intervals ≡ get_or intervals k 0 ∷ get_or intervals (k + 1) 0 ∷ drop (k + 1 + 1) intervals
 two_at intervals k within =
     drop_more intervals k 0 (omega arith) ∙ ap (λ (xs : List ℕ). get_or intervals k 0 ∷ xs) (drop_more intervals (k + 1) 0 within)
@@ -90,11 +91,17 @@ behind_there profile intervals cells cut place x is zero within =
     ∙ ap (drop (cut + place)) (flat_map-append intervals_of zero.before (Zero x ∷ zero.after))
     ∙ drop_at (flat zero.before) (x ∷ flat zero.after) (cut + place) zero.place
 
--- at a zero of the chain stands the stretch of these cells
-pub stretch_at_zero : (profile : Profile) (intervals : List ℕ) (cells : List Cell) (cut place x : ℕ) → IsPiece profile intervals cells cut
-    → IsZeroAt cells (cut + place) x → place < length intervals → IsStretch profile intervals (stretch_of_piece cells cut intervals place)
-stretch_at_zero profile intervals cells cut place x is zero within =
-    let s = stretch_of_piece cells cut intervals place in
+-- the stretch of these cells, of a piece that begins at the place n of a list
+abbrev pub stretch_of_piece_at : ℕ → List Cell → ℕ → List ℕ → ℕ → Stretch
+stretch_of_piece_at n cells cut intervals place =
+    record { lock = n + place; cells = cells_from cells cut intervals place; broken_at = None }
+
+-- it stands at each zero of the chain, whatever stands before the piece
+pub stretch_at_zero : (profile : Profile) (before intervals : List ℕ) (cells : List Cell) (cut place x : ℕ)
+    → IsPiece profile intervals cells cut → IsZeroAt cells (cut + place) x → place < length intervals
+    → IsStretch profile (before ++ intervals) (stretch_of_piece_at (length before) cells cut intervals place)
+stretch_at_zero profile before intervals cells cut place x is zero within =
+    let s = stretch_of_piece_at (length before) cells cut intervals place in
     let there = behind_there profile intervals cells cut place x is zero within in
     let first : get_or intervals place 0 ≡ x = cc in
     let behind : drop (place + 1) intervals ++ is.part.0 ≡ flat zero.after = cc in
@@ -103,11 +110,12 @@ stretch_at_zero profile intervals cells cut place x is zero within =
     let more = cells_between (cut + place) (cut + length intervals) (cut + place + 1) zero.after in
     let lie = they_lie profile x (cut + place) (cut + length intervals) (cut + place + 1) zero.after front is.part.0 (omega arith)
     (omega (arith, length-drop (place + 1) intervals)) chain.1 (sym behind) in
-    stretch_from profile intervals s x more lie.left (record {
+    stretch_from profile (before ++ intervals) s x more lie.left (record {
       cells = cells_at_zero cells zero.before zero.after cut place x intervals zero.are zero.place within;
       ticks = chain.0;
       chain = lie.chain;
-      there = drop_more intervals place 0 within ∙ ap (λ v. v ∷ front) first ∙ ap (λ (xs : List ℕ). x ∷ xs) lie.are;
+      there = drop-append-add before intervals place ∙ drop_more intervals place 0 within ∙ ap (λ v. v ∷ front) first
+          ∙ ap (λ (xs : List ℕ). x ∷ xs) lie.are;
       none = none_fits_cut profile (last_length x more) lie.left lie.cut;
       broken = no_break_cut profile (last_length x more) (end_of s) lie.left lie.cut;
     })
@@ -117,7 +125,9 @@ pub stretch_at_lock : (profile : Profile) (intervals : List ℕ) (cells : List C
     → IsLock profile intervals start lock → IsStretch profile intervals (stretch_of_piece cells cut intervals lock)
 stretch_at_lock profile intervals cells cut start lock is at =
     let zero_of = lock_is_zero profile intervals cells cut start lock is at in
-    stretch_at_zero profile intervals cells cut lock zero_of.1.0 is zero_of.1.1 zero_of.0
+    let found = stretch_at_zero profile [] intervals cells cut lock zero_of.1.0 is zero_of.1.1 zero_of.0 in
+    subst (λ n. IsStretch profile intervals (record { lock = n; cells = cells_from cells cut intervals lock; broken_at = None }))
+    (omega arith) found
 
 -- and this is its only stretch
 pub kept_is_one_stretch : (profile : Profile) (intervals : List ℕ) (cells : List Cell) (cut lock : ℕ) → IsPiece profile intervals cells cut

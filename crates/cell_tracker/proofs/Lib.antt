@@ -3,6 +3,7 @@ pub mod CellsOfAPiece
 pub mod Chains
 pub mod Computed
 mod Examples
+pub mod FoundAgain
 pub mod GainsOrBreaks
 pub mod KeptStretch
 pub mod LocalStretch
