@@ -4,6 +4,7 @@ pub mod CellsGrow
 pub mod EventsExist
 pub mod EventsJoin
 pub mod Examples
+pub mod FindsTheTape
 pub mod FrontsFirst
 pub mod OneList
 pub mod OneListOfEvents
@@ -12,6 +13,7 @@ pub mod TellsTheTape
 pub mod TheEvents
 pub mod TrackerSteps
 pub mod WindowHolds
+pub mod WindowsFromCells
 pub mod WindowsGrow
 pub mod WordsEnd
 pub mod WrittenOver

@@ -8,7 +8,7 @@ ghost use Rattle.direction_reader.specs.Events.{event_list};
 ghost use Rattle.direction_reader.specs.LatestCells.{no_cells};
 ghost use Rattle.direction_reader.specs.Reader.{Takes};
 ghost use Rattle.direction_reader.specs.StandsFor.{StandsFor, Tells, MayTell};
-ghost use Rattle.direction_reader.specs.Tape.{TellsTheTape};
+ghost use Rattle.direction_reader.specs.Tape.{TellsTheTape, FindsTheTape};
 ghost use Rattle.direction_reader.specs.Tracker.{profile_of};
 
 use crate::brought::Brought;
@@ -100,10 +100,13 @@ impl DirectionReader {
         ensures stands { (intervals : List ℕ) (events : List Event)
             → StandsFor self.old intervals events
             → StandsFor self.new (intervals ++ x ∷ []) (events ++ event_list result) }
-        // And for a tape within the tolerance.
+        // And what they say of a tape within the tolerance, and of one behind damage.
         ensures truth { (intervals : List ℕ) (events : List Event)
             → StandsFor self.old intervals events
             → TellsTheTape self.new.system (profile_of self.new.tracker) (intervals ++ x ∷ []) (events ++ event_list result) }
+        ensures damage { (intervals : List ℕ) (events : List Event)
+            → StandsFor self.old intervals events
+            → FindsTheTape self.new.system (profile_of self.new.tracker) (intervals ++ x ∷ []) (events ++ event_list result) }
     {
         a_reader_tells_the_tape();
         match self.step(x) {
