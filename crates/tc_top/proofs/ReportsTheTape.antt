@@ -3,7 +3,7 @@ use Rattle.std.proofs.Common.{◌≡◌, ℕ, List, Option, Some, None, refl, su
 use Rattle.biphase.specs.declared.profile.Profile.{Profile}
 use Rattle.direction_reader.specs.declared.event.Event.{Event}
 use Rattle.direction_reader.specs.ListEvents.{AreEvents}
-use Rattle.direction_reader.specs.Tape.{TellsTheTape}
+use Rattle.direction_reader.specs.Tape.{TellsTheTape, FindsTheTape}
 use Rattle.tc_address.specs.declared.system.System.{System}
 use Rattle.tc_files.specs.declared.interval_file.header.IntervalHeader.{IntervalHeader}
 use Rattle.tc_files.specs.Recording.{recording_of}
@@ -15,10 +15,12 @@ use Rattle.tc_top.specs.LtcRead.{report, IsReadWhole}
 use Rattle.tc_top.specs.Meaning.{Meaning}
 use Rattle.tc_top.specs.Tape.{IsReport, ReportsTheTape}
 
--- the events of a list tell the tape
-abbrev pub TellTheTape : Type 0
-TellTheTape = (system : System) (profile : Profile) (intervals : List ℕ) (events : List Event)
-    → AreEvents system profile intervals events → TellsTheTape system profile intervals events
+-- the events of a list tell the tape, and find it again behind damage
+pub record TellTheTape : Type 0 where
+  pub truth : (system : System) (profile : Profile) (intervals : List ℕ) (events : List Event)
+      → AreEvents system profile intervals events → TellsTheTape system profile intervals events
+  pub damage : (system : System) (profile : Profile) (intervals : List ℕ) (events : List Event)
+      → AreEvents system profile intervals events → FindsTheTape system profile intervals events
 
 whole_report : TellTheTape → (profile : Profile) (bytes written : List ℕ) (header : Option IntervalHeader)
     → (recording_of bytes).header ≡ header → IsWholeBehind (report profile) header (recording_of bytes).intervals written
@@ -29,7 +31,8 @@ whole_report tell profile bytes written (Some header) begins is = record {
   begins = begins;
   events = is.events;
   are = is.are;
-  truth = tell header.system profile (recording_of bytes).intervals is.events is.are_events;
+  truth = tell.truth header.system profile (recording_of bytes).intervals is.events is.are_events;
+  damage = tell.damage header.system profile (recording_of bytes).intervals is.events is.are_events;
 }
 
 pub reports_the_tape : TellTheTape → (job : Job) (profile : Profile) (bytes written : List ℕ) → IsReport job profile

@@ -20,7 +20,7 @@ use crate::notes::{push_note, stop_note};
 use crate::status::Status;
 use crate::stop::Stop;
 use biphase::Profile;
-use direction_reader::laws::events_tell_the_tape;
+use direction_reader::laws::{events_find_the_tape_again, events_tell_the_tape};
 use tc_io::{Sink, Source};
 use tc_words::Job;
 
@@ -38,7 +38,7 @@ pub fn stream<S: Source, K: Sink, N: Sink>(
         × IsAnswer (meaning_of job.now) result e }
     ensures no_note { result ≡ Status.Done → notes.new ≡ notes.old }
 
-    // A report of a tape within the tolerance tells the tape.
+    // A report tells the tape where it is within the tolerance, and finds it again behind damage.
     ensures truth { result ≡ Status.Done → (profile : Profile) → IsReport job.now profile → (e : Exchange)
         × IsPulled (S.left source.old) (S.left source.new) e × IsWritten (K.written out.old) (K.written out.new) e
         × ReportsTheTape profile e.pulled e.written }
@@ -57,6 +57,7 @@ pub fn stream<S: Source, K: Sink, N: Sink>(
         → result ≡ status_on (meaning_of job.now) input }
 {
     events_tell_the_tape();
+    events_find_the_tape_again();
     match work_on(job, source, out) {
         Ok(()) => Status::Done,
         Err(stop) => {

@@ -34,7 +34,7 @@ pub fn run<S: Source, K: Sink, N: Sink>(
         × IsRunAnswer (map string_bytes words.now) result e }
     ensures no_note { result ≡ Status.Done → notes.new ≡ notes.old }
 
-    // A report of a tape within the tolerance tells the tape.
+    // A report tells the tape where it is within the tolerance, and finds it again behind damage.
     ensures truth { result ≡ Status.Done → (job : Job) (profile : Profile) → answer_to (map string_bytes words.now) ≡ Ok job
         → IsReport job profile → (e : Exchange) × IsPulled (S.left source.old) (S.left source.new) e
         × IsWritten (K.written out.old) (K.written out.new) e × ReportsTheTape profile e.pulled e.written }
