@@ -1,5 +1,5 @@
 //! What follows from the tolerance alone, and the numbers that code and definitions share.
-ghost use Rattle.std.specs.Prelude.{◌≡◌, ℕ, ◌+◌, ◌-◌, ◌*◌, ◌^◌, ◌<◌, ◌≤◌, ◌↔◌, ◌⊎◌, List, min, max};
+ghost use Rattle.std.specs.Prelude.{◌≡◌, ℕ, ◌+◌, ◌-◌, ◌*◌, ◌^◌, ◌<◌, ◌≤◌, ◌↔◌, ◌⊎◌, List, ◌∷◌, drop, min, max};
 ghost use Rattle.std.specs.Int.{abs_diff};
 ghost use Rattle.biphase.specs.declared.cell.Cell.{Cell};
 ghost use Rattle.biphase.specs.declared.cell.TheConstants.{MAX_INTERVAL};
@@ -7,7 +7,8 @@ ghost use Rattle.biphase.specs.declared.pair.PairKind.{PairKind};
 ghost use Rattle.biphase.specs.declared.profile.Profile.{Profile};
 ghost use Rattle.biphase.specs.declared.profile.Profile.TheVariants.{Normal, Worn};
 ghost use Rattle.biphase.specs.Pair.{AreEqual, AreUnequal, IsKind};
-ghost use Rattle.biphase.specs.Chain.{flat, Begins, AreHalves, IsChainAfter, IsNextZero, IsFirstHalf, IsNextOne};
+ghost use Rattle.biphase.specs.Chain.{flat, Begins, AreHalves, IsChain, IsChainAfter, IsNextZero, IsFirstHalf, IsNextOne};
+ghost use Rattle.biphase.specs.Zeros.{GreaterIsZero};
 
 /// The greatest length of an interval, in ticks: 24 bits.
 pub fn the_greatest_interval_is_this()
@@ -97,4 +98,11 @@ pub fn chains_at_one_place_agree()
         → IsChainAfter profile c one → IsChainAfter profile c two
         → Begins (flat one) intervals → Begins (flat two) intervals
         → Begins one two ⊎ Begins two one }
+{}
+
+/// In the intervals of a chain the greater interval of an unequal pair is one of its zeros.
+pub fn the_greater_of_an_unequal_pair_is_a_zero()
+    ensures { (profile : Profile) (cells : List Cell) (k a b : ℕ) (rest : List ℕ)
+        → IsChain profile cells → drop k (flat cells) ≡ a ∷ b ∷ rest → AreUnequal profile a b
+        → GreaterIsZero cells k a b }
 {}

@@ -11,5 +11,6 @@ pub mod LatestCells
 pub mod ListEvents
 pub mod Reader
 pub mod StandsFor
+pub mod Tape
 pub mod Tracker
 pub mod Window

@@ -11,5 +11,6 @@ pub mod MidiLimit
 pub mod OneOutput
 pub mod OneStatus
 pub mod PushedLines
+pub mod ReportsTheTape
 pub mod VerdictStays
 pub mod WordsAnswer

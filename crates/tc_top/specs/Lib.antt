@@ -17,3 +17,4 @@ pub mod Notes
 pub mod OfFrames
 pub mod Status
 pub mod Stops
+pub mod Tape

@@ -13,6 +13,9 @@
 //!   `status`).
 //! - The note is the one line of the status (`specs/Notes.antt`). A failing sink of notes changes no
 //!   status.
+//! - What `ltc-read` and `ltc-worn` print are the lines of the events of the file's intervals, each
+//!   counted in the last line (`specs/LtcRead.antt`). Where the file holds a tape within the tolerance,
+//!   these are the tape's own words (`specs/Tape.antt`, clause `truth`).
 //!
 //! Read `top_call`, `streaming`, `engine`, `intake`, `along`, `making`, `pushing`, `notes`, and then the
 //! engines. `tc` and the conformance runs of `tc_vectors` stand on this crate.

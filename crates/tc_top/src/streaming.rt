@@ -7,6 +7,8 @@ ghost use Rattle.tc_top.specs.Causes.{SourceCause, OutCause, HasSourceCause, Has
 ghost use Rattle.tc_top.specs.Commands.{meaning_of};
 ghost use Rattle.tc_top.specs.Meaning.{Meaning, IsInput, IsEnd};
 ghost use Rattle.tc_top.specs.Stops.{StopsAlong};
+ghost use Rattle.tc_top.specs.Tape.{IsReport, ReportsTheTape};
+ghost use Rattle.biphase.specs.declared.profile.Profile.{Profile};
 
 use crate::along::Along;
 use crate::engines::labels::OneLine;
@@ -21,6 +23,7 @@ use crate::notes::{push_note, stop_note};
 use crate::status::Status;
 use crate::stop::Stop;
 use biphase::Profile;
+use direction_reader::laws::{events_find_the_tape_again, events_tell_the_tape};
 use tc_io::{Sink, Source};
 use tc_words::Job;
 
@@ -38,6 +41,11 @@ pub fn stream<S: Source, K: Sink, N: Sink>(
         × IsAnswer (meaning_of job.now) result e }
     ensures no_note { result ≡ Status.Done → notes.new ≡ notes.old }
 
+    // A report tells the tape where it is within the tolerance, and finds it again behind damage.
+    ensures truth { result ≡ Status.Done → (profile : Profile) → IsReport job.now profile → (e : Exchange)
+        × IsPulled (S.left source.old) (S.left source.new) e × IsWritten (K.written out.old) (K.written out.new) e
+        × ReportsTheTape profile e.pulled e.written }
+
     // A read fault and a write fault come only where a count of faults rose.
     ensures source { SourceCause result (S.faults source.old) (S.faults source.new) }
     ensures out { OutCause result (K.faults out.old) (K.faults out.new) }
@@ -51,6 +59,8 @@ pub fn stream<S: Source, K: Sink, N: Sink>(
         → ¬ Rose (S.faults source.old) (S.faults source.new) → ¬ Rose (K.faults out.old) (K.faults out.new)
         → result ≡ status_on (meaning_of job.now) input }
 {
+    events_tell_the_tape();
+    events_find_the_tape_again();
     match work_on(job, source, out) {
         Ok(()) => Status::Done,
         Err(stop) => {
