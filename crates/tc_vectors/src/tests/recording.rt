@@ -4,7 +4,7 @@ use std::alloc::{AllocError, Global};
 use std::test::Fail;
 use tc_address::{Count, Direction, Label, System};
 use tc_bits::{Fields, Flags, UserBits};
-use tc_files::{IntervalHeader, interval_header};
+use tc_files::{FileVersion, IntervalHeader, interval_header};
 
 /// The words of three frames from 01:00:00:00 on, at 25 frames.
 pub const THREE_WORDS: [u128; 3] = [
@@ -110,6 +110,7 @@ pub fn spelled(count: Count, label: [u32; 4]) -> Result<u128, Fail> {
 pub fn file(alloc: Global, system: System, intervals: &[u32]) -> Result<Vec<u8>, AllocError> {
     let mut bytes = Vec::new(alloc);
     bytes.extend_from_slice(&interval_header(&IntervalHeader {
+        version: FileVersion::One,
         system,
         tick_rate: 48000,
     }))?;
