@@ -3,3 +3,4 @@ pub mod Laws
 pub mod OneChain
 pub mod Pair
 pub mod Profile
+pub mod Shape

@@ -1,5 +1,5 @@
 //! What follows from the tolerance alone, and the numbers that code and definitions share.
-ghost use Rattle.std.specs.Prelude.{◌≡◌, ℕ, ◌+◌, ◌-◌, ◌*◌, ◌^◌, ◌<◌, ◌≤◌, ◌↔◌, ◌⊎◌, List, min, max};
+ghost use Rattle.std.specs.Prelude.{◌≡◌, ℕ, ◌+◌, ◌-◌, ◌*◌, ◌^◌, ◌<◌, ◌≤◌, ◌↔◌, ◌⊎◌, All, Bool, List, min, max};
 ghost use Rattle.std.specs.Int.{abs_diff};
 ghost use Rattle.biphase.specs.declared.cell.Cell.{Cell};
 ghost use Rattle.biphase.specs.declared.cell.TheConstants.{MAX_INTERVAL};
@@ -7,7 +7,9 @@ ghost use Rattle.biphase.specs.declared.pair.PairKind.{PairKind};
 ghost use Rattle.biphase.specs.declared.profile.Profile.{Profile};
 ghost use Rattle.biphase.specs.declared.profile.Profile.TheVariants.{Normal, Worn};
 ghost use Rattle.biphase.specs.Pair.{AreEqual, AreUnequal, IsKind};
-ghost use Rattle.biphase.specs.Chain.{flat, Begins, AreHalves, IsChainAfter, IsNextZero, IsFirstHalf, IsNextOne};
+ghost use Rattle.biphase.specs.declared.shaper.TheConstants.{MIN_SHAPED, MAX_SHAPED};
+ghost use Rattle.biphase.specs.Chain.{bits, flat, Begins, AreHalves, IsChain, IsChainAfter, IsNextZero, IsFirstHalf, IsNextOne};
+ghost use Rattle.biphase.specs.Shape.{Shape, IsShape, shaped};
 
 /// The greatest length of an interval, in ticks: 24 bits.
 pub fn the_greatest_interval_is_this()
@@ -97,4 +99,18 @@ pub fn chains_at_one_place_agree()
         → IsChainAfter profile c one → IsChainAfter profile c two
         → Begins (flat one) intervals → Begins (flat two) intervals
         → Begins one two ⊎ Begins two one }
+{}
+
+/// Cells that are made last from 16 ticks to 2^23 - 1.
+pub fn made_cells_last_so_long()
+    ensures least { MIN_SHAPED ≡ 16 }
+    ensures greatest { MAX_SHAPED ≡ 2 ^ 23 - 1 }
+{}
+
+/// The cells of a shape are a chain of the normal tolerance, with the bits that they were made for.
+pub fn shaped_cells_are_a_chain()
+    ensures chain { (shape : Shape) (list : List Bool) → IsShape shape → IsChain Normal (shaped shape list) }
+    ensures bits { (shape : Shape) (list : List Bool) → bits (shaped shape list) ≡ list }
+    ensures intervals { (shape : Shape) (list : List Bool) → IsShape shape
+        → All (λ x. (1 ≤ x) × (x ≤ MAX_INTERVAL)) (flat (shaped shape list)) }
 {}
