@@ -5,6 +5,7 @@ pub mod Digits
 pub mod FlightGrows
 pub mod FramesInOrder
 pub mod LinesGrow
+pub mod MadeInPieces
 pub mod OneOutput
 pub mod OneStatus
 pub mod PushedLines

@@ -9,7 +9,7 @@ use Rattle.direction_reader.specs.ListEvents.{AreEvents}
 use Rattle.tc_files.specs.declared.interval_file.header.IntervalHeader.{IntervalHeader}
 use Rattle.tc_files.specs.Recording.{recording_of}
 use Rattle.tc_words.specs.declared.job.Job.{Job}
-use Rattle.tc_words.specs.declared.job.Job.TheVariants.{LtcRead, LtcWorn, LtcFly, Number, LabelOf}
+use Rattle.tc_words.specs.declared.job.Job.TheVariants.{LtcRead, LtcWorn, LtcFly, LtcMake, Number, LabelOf}
 use Rattle.tc_top.specs.Along.{IsPartBehind, IsWholeBehind}
 use Rattle.tc_top.specs.Commands.{meaning_of}
 use Rattle.tc_top.specs.LtcFly.{flight, frames_of, frame_lines, last_fly_line}
@@ -52,6 +52,7 @@ pub one_output : OneListOfEvents → (job : Job) (input a b : List ℕ) → Mean
 one_output law LtcRead input a b x y = one_whole law _ (recording_of input).header (recording_of input).intervals a b x y
 one_output law LtcWorn input a b x y = one_whole law _ (recording_of input).header (recording_of input).intervals a b x y
 one_output law (LtcFly limit) input a b x y = one_flight law limit (recording_of input).header (recording_of input).intervals a b x y
+one_output law (LtcMake stripe) input a b x y = x.1 ∙ sym y.1
 one_output law (Number label) input a b x y = x.1 ∙ sym y.1
 one_output law (LabelOf label) input a b x y = x.1 ∙ sym y.1
 
@@ -60,5 +61,6 @@ pub one_part_of : OneListOfEvents → (job : Job) (pulled a b : List ℕ) → Me
 one_part_of law LtcRead pulled a b x y = one_part law _ (recording_of pulled).header (recording_of pulled).intervals a b x y
 one_part_of law LtcWorn pulled a b x y = one_part law _ (recording_of pulled).header (recording_of pulled).intervals a b x y
 one_part_of law (LtcFly limit) pulled a b x y = one_flight_part law limit (recording_of pulled).header (recording_of pulled).intervals a b x y
+one_part_of law (LtcMake stripe) pulled a b x y = x ∙ sym y
 one_part_of law (Number label) pulled a b x y = x ∙ sym y
 one_part_of law (LabelOf label) pulled a b x y = x ∙ sym y

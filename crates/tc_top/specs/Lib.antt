@@ -4,11 +4,13 @@ pub mod Causes
 pub mod Commands
 pub mod KeptAlong
 pub mod KeptLine
+pub mod KeptTape
 pub mod KeptReport
 pub mod KeptFlight
 pub mod Labels
 pub mod LtcFly
 pub mod LtcRead
+pub mod Made
 pub mod Meaning
 pub mod Notes
 pub mod Status

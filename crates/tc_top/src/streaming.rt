@@ -11,6 +11,7 @@ ghost use Rattle.tc_top.specs.Stops.{StopsAlong};
 use crate::along::Along;
 use crate::engines::labels::OneLine;
 use crate::engines::ltc_fly::Flight;
+use crate::engines::ltc_make::Tape;
 use crate::engines::ltc_read::Report;
 use crate::intake::work;
 use crate::making::make;
@@ -77,6 +78,7 @@ fn work_on<S: Source, K: Sink>(job: &Job, source: &mut S, out: &mut K) -> Result
         Job::LtcRead => work(&mut Along::<Report>::new(Profile::Normal), source, out),
         Job::LtcWorn => work(&mut Along::<Report>::new(Profile::Worn), source, out),
         Job::LtcFly { limit } => work(&mut Along::<Flight>::new(*limit), source, out),
+        Job::LtcMake { stripe } => make(&mut Tape::new(stripe), source, out),
         Job::Number { label } => make(&mut OneLine::number(label), source, out),
         Job::LabelOf { label } => make(&mut OneLine::label(label), source, out),
     }

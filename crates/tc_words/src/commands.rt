@@ -10,6 +10,9 @@ pub const LTC_WORN: &str = "ltc-worn";
 /// The word of `Job::LtcFly`.
 pub const LTC_FLY: &str = "ltc-fly";
 
+/// The word of `Job::LtcMake`.
+pub const LTC_MAKE: &str = "ltc-make";
+
 /// The word of `Job::Number`.
 pub const NUMBER: &str = "number";
 

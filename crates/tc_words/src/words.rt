@@ -2,11 +2,12 @@
 //! `job`.
 ghost use Rattle.std.specs.Prelude.{◌≡◌, ◌⊎◌, map, position, string_bytes, alloc_error};
 ghost use Rattle.command_words.specs.CommandLine.{begins_with_dash};
-ghost use Rattle.tc_words.specs.Job.{answer_to, without_dashes, job_of, no_values, ltc_fly, number, label_of};
+ghost use Rattle.tc_words.specs.Job.{answer_to, without_dashes, job_of, no_values, ltc_fly, ltc_make, number, label_of};
 
 use crate::commands;
 use crate::fault::WordsFault;
 use crate::job::Job;
+use crate::tape::{at_one_length, moving};
 use crate::values::{count_in, limit_in, numbered, spelled};
 use command_words::CommandLine;
 use std::alloc::Global;
@@ -57,6 +58,7 @@ fn job_of(command: &str, values: &[&str]) -> Result<Job, WordsFault>
         commands::LTC_READ => no_values(values, Job::LtcRead),
         commands::LTC_WORN => no_values(values, Job::LtcWorn),
         commands::LTC_FLY => ltc_fly(values),
+        commands::LTC_MAKE => ltc_make(values),
         commands::NUMBER => number(values),
         commands::LABEL => label_of(values),
         _ => Err(WordsFault::Command),
@@ -82,6 +84,30 @@ fn ltc_fly(values: &[&str]) -> Result<Job, WordsFault>
     };
     let limit = limit_in(limit).ok_or(WordsFault::Value(1))?;
     Ok(Job::LtcFly { limit })
+}
+
+// `ltc-make COUNT DIRECTION LABEL FRAMES CELL TICK-RATE [TO-CELL STEP]`
+fn ltc_make(values: &[&str]) -> Result<Job, WordsFault>
+    ensures { result ≡ ltc_make (map (λ v. v.now) values.now) }
+{
+    match values {
+        [count, direction, label, frames, cell, tick_rate] => {
+            at_one_length(count, direction, label, frames, cell, tick_rate)
+        }
+        [
+            count,
+            direction,
+            label,
+            frames,
+            cell,
+            tick_rate,
+            to_cell,
+            step,
+        ] => moving(
+            count, direction, label, frames, cell, tick_rate, to_cell, step,
+        ),
+        _ => Err(WordsFault::CountOfWords),
+    }
 }
 
 // `number COUNT LABEL`
