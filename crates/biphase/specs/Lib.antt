@@ -4,3 +4,4 @@ pub mod OneChain
 pub mod Pair
 pub mod Profile
 pub mod Zeros
+pub mod Shape

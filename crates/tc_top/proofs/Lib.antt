@@ -8,6 +8,7 @@ pub mod LinesGrow
 pub mod LinesOfFrames
 pub mod MidiGrows
 pub mod MidiLimit
+pub mod MadeInPieces
 pub mod OneOutput
 pub mod OneStatus
 pub mod PushedLines
