@@ -5,6 +5,7 @@ ghost use Rattle.tc_io.specs.Source.{Rose};
 ghost use Rattle.tc_top.specs.Answer.{Exchange, IsAnswer, IsPulled, IsWritten, IsNoted, status_on};
 ghost use Rattle.tc_top.specs.Causes.{SourceCause, OutCause, HasSourceCause, HasOutCause};
 ghost use Rattle.tc_top.specs.Commands.{meaning_of};
+ghost use Rattle.tc_top.specs.LtcFly.{IsMarked};
 ghost use Rattle.tc_top.specs.Meaning.{Meaning, IsInput, IsEnd};
 ghost use Rattle.tc_top.specs.Stops.{StopsAlong};
 
@@ -21,6 +22,7 @@ use crate::notes::{push_note, stop_note};
 use crate::status::Status;
 use crate::stop::Stop;
 use biphase::Profile;
+use flywheel::laws::invention_is_bounded_and_marked;
 use tc_io::{Sink, Source};
 use tc_words::Job;
 
@@ -50,7 +52,12 @@ pub fn stream<S: Source, K: Sink, N: Sink>(
     ensures status { (input : List ℕ) → S.left source.old ≡ Some input
         → ¬ Rose (S.faults source.old) (S.faults source.new) → ¬ Rose (K.faults out.old) (K.faults out.new)
         → result ≡ status_on (meaning_of job.now) input }
+
+    // The lines of `ltc-fly` mark each frame that is invented, and these are within the limit.
+    ensures marked { (limit : ℕ) → job.now ≡ Job.LtcFly limit
+        → (written : List ℕ) × Appends (K.written out.old) (K.written out.new) written × IsMarked limit written }
 {
+    invention_is_bounded_and_marked();
     match work_on(job, source, out) {
         Ok(()) => Status::Done,
         Err(stop) => {
