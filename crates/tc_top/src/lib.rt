@@ -6,7 +6,7 @@
 //!
 //! What this crate promises, for all words, sources and sinks:
 //! - What was pulled and what was pushed are those of the status (`specs/Answer.antt`,
-//!   `IsRunAnswer`; what each job writes and which inputs it takes: `specs/Output.antt`).
+//!   `IsRunAnswer`; what each job writes and which inputs it takes: `specs/Commands.antt`).
 //! - A read fault and a write fault come only where a count of faults rose (`SourceCause`,
 //!   `OutCause`), and an input of the command gives Done where none rose (clause `complete`).
 //! - The note is the one line of the status (`specs/Notes.antt`). A failing sink of notes changes no
