@@ -6,6 +6,7 @@ pub mod FlightGrows
 pub mod FramesInOrder
 pub mod LinesGrow
 pub mod LinesOfFrames
+pub mod MarkedLines
 pub mod MidiGrows
 pub mod MidiLimit
 pub mod MadeInPieces

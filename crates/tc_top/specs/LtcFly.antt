@@ -1,9 +1,11 @@
 -- `ltc-fly`: a line of each frame of a recording.
-use Rattle.std.specs.Prelude.{ℕ, Bool, true, false, List, length, count_by, sum}
+use Rattle.std.specs.Prelude.{ℕ, Bool, true, false, List, ◌++◌, length, count_by, sum, None}
 use Rattle.std.specs.List.{flat_map}
 use Rattle.flywheel.specs.declared.frame.Frame.{Frame}
 use Rattle.flywheel.specs.declared.frame.Frame.TheVariants.{Heard, Invented, Gone}
+use Rattle.flywheel.specs.Marked.{AreMarked}
 use Rattle.tc_files.specs.FrameTexts.{frame_line, fly_end_line}
+use Rattle.tc_io.specs.Sink.{IsFront}
 use Rattle.tc_top.specs.Along.{Printing}
 use Rattle.tc_top.specs.OfFrames.{FrameText, along_frames}
 
@@ -38,3 +40,11 @@ lines_of_frames = record { text = λ header fs. frame_lines fs; last = last_fly_
 -- what is written with a limit of invented frames
 abbrev pub flight : ℕ → Printing
 flight limit = along_frames limit lines_of_frames
+
+-- what was written are lines of frames, and the line that counts them, or a front of these: between two frames that were heard, and after the
+-- last, at most so many frames are invented, and each has its step in its line
+pub record IsMarked (limit : ℕ) (written : List ℕ) : Type 0 where
+  pub frames : List Frame
+  pub marked : AreMarked limit None frames
+  pub intervals : List ℕ
+  pub front : IsFront written (frame_lines frames ++ last_fly_line intervals frames)

@@ -5,6 +5,7 @@ ghost use Rattle.tc_io.specs.Source.{Rose};
 ghost use Rattle.tc_top.specs.Answer.{Exchange, IsAnswer, IsPulled, IsWritten, IsNoted, status_on};
 ghost use Rattle.tc_top.specs.Causes.{SourceCause, OutCause, HasSourceCause, HasOutCause};
 ghost use Rattle.tc_top.specs.Commands.{meaning_of};
+ghost use Rattle.tc_top.specs.LtcFly.{IsMarked};
 ghost use Rattle.tc_top.specs.Meaning.{Meaning, IsInput, IsEnd};
 ghost use Rattle.tc_top.specs.Stops.{StopsAlong};
 ghost use Rattle.tc_top.specs.Tape.{IsReport, ReportsTheTape};
@@ -25,6 +26,7 @@ use crate::status::Status;
 use crate::stop::Stop;
 use biphase::Profile;
 use direction_reader::laws::{events_find_the_tape_again, events_tell_the_tape};
+use flywheel::laws::invention_is_bounded_and_marked;
 use tc_io::{Sink, Source};
 use tc_words::Job;
 
@@ -59,9 +61,14 @@ pub fn stream<S: Source, K: Sink, N: Sink>(
     ensures status { (input : List ℕ) → S.left source.old ≡ Some input
         → ¬ Rose (S.faults source.old) (S.faults source.new) → ¬ Rose (K.faults out.old) (K.faults out.new)
         → result ≡ status_on (meaning_of job.now) input }
+
+    // The lines of `ltc-fly` mark each frame that is invented, and these are within the limit.
+    ensures marked { (limit : ℕ) → job.now ≡ Job.LtcFly limit
+        → (written : List ℕ) × Appends (K.written out.old) (K.written out.new) written × IsMarked limit written }
 {
     events_tell_the_tape();
     events_find_the_tape_again();
+    invention_is_bounded_and_marked();
     match work_on(job, source, out) {
         Ok(()) => Status::Done,
         Err(stop) => {

@@ -1,6 +1,7 @@
 //! The top call: words and bytes in, bytes and a status out. Next: `streaming`.
 ghost use Rattle.std.specs.Prelude.{◌≡◌, ◌⊎◌, ℕ, List, map, string_bytes, Some, false, Ok, Err};
 ghost use Rattle.biphase.specs.declared.profile.Profile.{Profile};
+ghost use Rattle.std.specs.Io.KnownBytes.{Appends};
 ghost use Rattle.tc_io.specs.Source.{Rose};
 ghost use Rattle.tc_words.specs.declared.fault.WordsFault.{WordsFault};
 ghost use Rattle.tc_words.specs.declared.job.Job.{Job};
@@ -8,6 +9,7 @@ ghost use Rattle.tc_words.specs.Job.{answer_to};
 ghost use Rattle.tc_top.specs.Answer.{Exchange, IsRunAnswer, IsPulled, IsWritten, IsNoted, status_on};
 ghost use Rattle.tc_top.specs.Causes.{SourceCause, OutCause};
 ghost use Rattle.tc_top.specs.Commands.{meaning_of};
+ghost use Rattle.tc_top.specs.LtcFly.{IsMarked};
 ghost use Rattle.tc_top.specs.Meaning.{Meaning};
 ghost use Rattle.tc_top.specs.Tape.{IsReport, ReportsTheTape};
 
@@ -58,6 +60,10 @@ pub fn run<S: Source, K: Sink, N: Sink>(
         → S.left source.old ≡ Some input
         → ¬ Rose (S.faults source.old) (S.faults source.new) → ¬ Rose (K.faults out.old) (K.faults out.new)
         → (result ≡ status_on (meaning_of job) input) ⊎ (result ≡ Status.Memory) }
+
+    // The lines of `ltc-fly` mark each frame that is invented, and these are within the limit.
+    ensures marked { (limit : ℕ) → answer_to (map string_bytes words.now) ≡ Ok (Job.LtcFly limit)
+        → (written : List ℕ) × Appends (K.written out.old) (K.written out.new) written × IsMarked limit written }
 {
     match read_words(alloc, words) {
         Ok(job) => stream(&job, source, out, notes),

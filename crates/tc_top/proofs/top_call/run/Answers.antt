@@ -1,7 +1,9 @@
 use Rattle.std.proofs.Common.{[], refl, map, string_bytes}
 use Rattle.std.proofs.KnownBytes.{Appends-nil, Consumes-nil}
 use Rattle.tc_top.specs.Answer.{Exchange}
-use Rattle.tc_top.proofs.WordsAnswer.{job_answers, named, fault_answers}
+use Rattle.tc_words.specs.declared.job.Job.TheVariants as jobs
+use Rattle.tc_top.proofs.MarkedLines.{nothing_marked}
+use Rattle.tc_top.proofs.WordsAnswer.{job_answers, named, fault_answers, same_job}
 use Rattle.tc_top.proofs.top_call.run.Goals as goal
 
 -- the answer of the job that the words name
@@ -22,3 +24,13 @@ returns-in-Err-clause-answer g c =
       record { front = c.push_note.ensures.front; all = c.push_note.ensures.all },
       rw c.of_words.ensures (fault_answers words c.in-Err.fault _ c.usage_note.result.items c.in-Err.ensures c.usage_note.ensures),
     )
+
+-- the lines of frames are marked
+pub returns-in-Ok-clause-marked : goal.returns-in-Ok-clause-marked
+returns-in-Ok-clause-marked g c = λ limit is.
+    let words = map string_bytes c.args.words.now in
+    c.stream.ensures.marked limit (same_job words c.in-Ok.job (jobs.LtcFly limit) (named words c.in-Ok.job c.in-Ok.ensures) is)
+
+-- nothing was written
+pub returns-in-Err-clause-marked : goal.returns-in-Err-clause-marked
+returns-in-Err-clause-marked g c = λ limit is. ([], Appends-nil _, nothing_marked limit)
