@@ -11,7 +11,6 @@
 //! - A read fault and a write fault come only where a count of faults rose (`specs/Causes.antt`), and
 //!   the words and the whole input leave one status where none rose, want of memory aside (clause
 //!   `status`).
-//!   `IsRunAnswer`; what each job writes and which inputs it takes: `specs/Commands.antt`).
 //! - The note is the one line of the status (`specs/Notes.antt`). A failing sink of notes changes no
 //!   status.
 //! - What `ltc-read` and `ltc-worn` print are the lines of the events of the file's intervals, each
