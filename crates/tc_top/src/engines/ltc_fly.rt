@@ -271,6 +271,7 @@ impl Flight {
 }
 
 impl Behind for Flight {
+    ghost use Rattle.std.specs.Prelude.{⊤};
     ghost use Rattle.tc_top.specs.LtcFly.{flight};
     ghost use Rattle.tc_top.specs.KeptFlight.{FitsFlight, Stands, stands_well};
 
@@ -282,7 +283,9 @@ impl Behind for Flight {
 
     ghost stands = { λ f limit header intervals written. Stands f limit header intervals written };
 
-    ghost stands_well = { λ f limit header intervals written stands. stands_well f limit header intervals written stands };
+    ghost is_settled = { λ _. ⊤ };
+
+    ghost stands_well = { λ f limit header intervals written settled stands. stands_well f limit header intervals written stands };
 
     fn begin<K: Sink>(limit: u8, header: IntervalHeader, _out: &mut K) -> Result<Flight, Stop> {
         a_reader_gives_the_events_of_its_list();
@@ -306,6 +309,10 @@ impl Behind for Flight {
             }
             brought => self.hear_all(brought, out),
         }
+    }
+
+    fn flush<K: Sink>(&mut self, _out: &mut K) -> Result<(), Stop> {
+        Ok(())
     }
 
     fn finish<K: Sink>(&self, out: &mut K) -> Result<(), Stop> {
