@@ -9,7 +9,7 @@ use Rattle.tc_files.specs.declared.fault.FileFault.{FileFault}
 use Rattle.tc_files.specs.Recording.{Recording, recording_of, decoding_of}
 use Rattle.tc_files.specs.Verdict.{Verdict, good, refused, past_limit}
 use Rattle.tc_words.specs.declared.job.Job.{Job}
-use Rattle.tc_words.specs.declared.job.Job.TheVariants.{LtcRead, LtcWorn, LtcFly, Number, LabelOf}
+use Rattle.tc_words.specs.declared.job.Job.TheVariants.{LtcRead, LtcWorn, LtcFly, LtcConvert, Number, LabelOf}
 use Rattle.tc_top.specs.declared.status.Status.{Status}
 use Rattle.tc_top.specs.declared.status.Status.TheVariants as status
 use Rattle.tc_top.specs.declared.stop.Stop.{Stop}
@@ -67,6 +67,7 @@ pub settles : (job : Job) → Settles (meaning_of job)
 settles LtcRead = along_settles _
 settles LtcWorn = along_settles _
 settles (LtcFly limit) = along_settles _
+settles (LtcConvert version) = along_settles _
 settles (Number label) = writes_settles _
 settles (LabelOf label) = writes_settles _
 

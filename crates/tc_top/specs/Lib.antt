@@ -3,10 +3,12 @@ pub mod Answer
 pub mod Causes
 pub mod Commands
 pub mod KeptAlong
+pub mod KeptConversion
 pub mod KeptLine
 pub mod KeptReport
 pub mod KeptFlight
 pub mod Labels
+pub mod LtcConvert
 pub mod LtcFly
 pub mod LtcRead
 pub mod Meaning

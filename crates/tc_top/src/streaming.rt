@@ -10,6 +10,7 @@ ghost use Rattle.tc_top.specs.Stops.{StopsAlong};
 
 use crate::along::Along;
 use crate::engines::labels::OneLine;
+use crate::engines::ltc_convert::Conversion;
 use crate::engines::ltc_fly::Flight;
 use crate::engines::ltc_read::Report;
 use crate::intake::work;
@@ -77,6 +78,9 @@ fn work_on<S: Source, K: Sink>(job: &Job, source: &mut S, out: &mut K) -> Result
         Job::LtcRead => work(&mut Along::<Report>::new(Profile::Normal), source, out),
         Job::LtcWorn => work(&mut Along::<Report>::new(Profile::Worn), source, out),
         Job::LtcFly { limit } => work(&mut Along::<Flight>::new(*limit), source, out),
+        Job::LtcConvert { version } => {
+            work(&mut Along::<Conversion>::new(*version), source, out)
+        }
         Job::Number { label } => make(&mut OneLine::number(label), source, out),
         Job::LabelOf { label } => make(&mut OneLine::label(label), source, out),
     }

@@ -6,7 +6,7 @@ use Rattle.tc_words.specs.declared.job.Job.TheVariants as jobs
 use Rattle.tc_words.specs.declared.commands.TheConstants as commands
 use Rattle.tc_words.specs.declared.fault.WordsFault.{WordsFault}
 use Rattle.tc_words.specs.declared.fault.WordsFault.TheVariants.{Dash, Command, CountOfWords, Value}
-use Rattle.tc_words.specs.Values.{Word, count_in, limit_in, numbered, spelled}
+use Rattle.tc_words.specs.Values.{Word, count_in, limit_in, numbered, spelled, version_in}
 use Rattle.command_words.specs.CommandLine.{begins_with_dash}
 
 -- the job, or the first fault
@@ -30,6 +30,11 @@ abbrev pub ltc_fly : List Word → Answer
 ltc_fly (limit ∷ []) = with_value 1 (limit_in limit) (λ n. Ok (jobs.LtcFly n))
 ltc_fly _ = Err CountOfWords
 
+-- `ltc-convert VERSION`
+abbrev pub ltc_convert : List Word → Answer
+ltc_convert (version ∷ []) = with_value 1 (version_in version) (λ v. Ok (jobs.LtcConvert v))
+ltc_convert _ = Err CountOfWords
+
 -- `number COUNT LABEL`
 abbrev pub number : List Word → Answer
 number (count ∷ label ∷ []) =
@@ -50,6 +55,7 @@ job_of command values =
     if bytes_eq command commands.LTC_READ.now then no_values jobs.LtcRead values
     else if bytes_eq command commands.LTC_WORN.now then no_values jobs.LtcWorn values
     else if bytes_eq command commands.LTC_FLY.now then ltc_fly values
+    else if bytes_eq command commands.LTC_CONVERT.now then ltc_convert values
     else if bytes_eq command commands.NUMBER.now then number values
     else if bytes_eq command commands.LABEL.now then label_of values
     else Err Command

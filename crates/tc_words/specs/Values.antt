@@ -8,6 +8,8 @@ use Rattle.tc_address.specs.declared.count.Count.{Count}
 use Rattle.tc_address.specs.declared.count.Count.TheVariants.{C24, C25, C30, Drop30}
 use Rattle.tc_address.specs.Label.{Address, labels}
 use Rattle.tc_address.specs.Spelling.{label_in}
+use Rattle.tc_files.specs.declared.interval_file.header.FileVersion.{FileVersion}
+use Rattle.tc_files.specs.declared.interval_file.header.FileVersion.TheVariants.{One, Two}
 
 -- the bytes of a word
 abbrev pub Word : Type 0
@@ -33,6 +35,13 @@ number_in word = if is_number word && nat_lt (digits_value 10 word) (2 ^ 64) the
 -- a number up to 255
 abbrev pub limit_in : Word → Option ℕ
 limit_in word = option_and_then (λ n. if nat_le n 255 then Some n else None) (number_in word)
+
+-- a version of the interval file: `1` or `2`
+abbrev pub version_in : Word → Option FileVersion
+version_in word =
+    if bytes_eq word (codes "1") then Some One
+    else if bytes_eq word (codes "2") then Some Two
+    else None
 
 -- the label of the count that is spelled so
 abbrev pub spelled : Count → Word → Option Address

@@ -10,6 +10,9 @@ pub const LTC_WORN: &str = "ltc-worn";
 /// The word of `Job::LtcFly`.
 pub const LTC_FLY: &str = "ltc-fly";
 
+/// The word of `Job::LtcConvert`.
+pub const LTC_CONVERT: &str = "ltc-convert";
+
 /// The word of `Job::Number`.
 pub const NUMBER: &str = "number";
 

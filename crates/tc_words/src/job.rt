@@ -1,5 +1,6 @@
 //! What the words name. Next: `tc_top`, which does it.
 use tc_address::Label;
+use tc_files::FileVersion;
 
 /// What the program is to do.
 #[derive(Clone, Copy, Debug, PartialEq, Eq)]
@@ -11,6 +12,8 @@ pub enum Job {
     /// `ltc-fly LIMIT`: reads an interval file, and writes a line for each frame of its words, with at
     /// most so many invented frames in a row.
     LtcFly { limit: u8 },
+    /// `ltc-convert VERSION`: reads an interval file, and writes it in this version.
+    LtcConvert { version: FileVersion },
     /// `number COUNT LABEL`: writes how many labels of the count stand before the label in the day.
     Number { label: Label },
     /// `label COUNT NUMBER`: writes the label of that number of the day.

@@ -2,9 +2,10 @@
 ghost use Rattle.std.specs.Prelude.{◌≡◌};
 ghost use Rattle.std.specs.Char.{is_ascii_digit};
 ghost use Rattle.std.specs.List.{list_all};
-ghost use Rattle.tc_words.specs.Values.{count_in, is_number, limit_in, number_in, numbered, spelled};
+ghost use Rattle.tc_words.specs.Values.{count_in, is_number, limit_in, number_in, numbered, spelled, version_in};
 
 use tc_address::{Count, Label, day_labels, label_at, read_text};
+use tc_files::FileVersion;
 
 /// A count: `24`, `25`, `30` or `30d`.
 pub fn count_in(word: &str) -> Option<Count>
@@ -51,6 +52,17 @@ pub fn limit_in(word: &str) -> Option<u8>
         Some(number as u8)
     } else {
         None
+    }
+}
+
+/// A version of the interval file: `1` or `2`.
+pub fn version_in(word: &str) -> Option<FileVersion>
+    ensures { result ≡ version_in word.now }
+{
+    match word {
+        "1" => Some(FileVersion::One),
+        "2" => Some(FileVersion::Two),
+        _ => None,
     }
 }
 

@@ -2,12 +2,12 @@
 //! `job`.
 ghost use Rattle.std.specs.Prelude.{◌≡◌, ◌⊎◌, map, position, string_bytes, alloc_error};
 ghost use Rattle.command_words.specs.CommandLine.{begins_with_dash};
-ghost use Rattle.tc_words.specs.Job.{answer_to, without_dashes, job_of, no_values, ltc_fly, number, label_of};
+ghost use Rattle.tc_words.specs.Job.{answer_to, without_dashes, job_of, no_values, ltc_convert, ltc_fly, number, label_of};
 
 use crate::commands;
 use crate::fault::WordsFault;
 use crate::job::Job;
-use crate::values::{count_in, limit_in, numbered, spelled};
+use crate::values::{count_in, limit_in, numbered, spelled, version_in};
 use command_words::CommandLine;
 use std::alloc::Global;
 
@@ -57,6 +57,7 @@ fn job_of(command: &str, values: &[&str]) -> Result<Job, WordsFault>
         commands::LTC_READ => no_values(values, Job::LtcRead),
         commands::LTC_WORN => no_values(values, Job::LtcWorn),
         commands::LTC_FLY => ltc_fly(values),
+        commands::LTC_CONVERT => ltc_convert(values),
         commands::NUMBER => number(values),
         commands::LABEL => label_of(values),
         _ => Err(WordsFault::Command),
@@ -82,6 +83,17 @@ fn ltc_fly(values: &[&str]) -> Result<Job, WordsFault>
     };
     let limit = limit_in(limit).ok_or(WordsFault::Value(1))?;
     Ok(Job::LtcFly { limit })
+}
+
+// `ltc-convert VERSION`
+fn ltc_convert(values: &[&str]) -> Result<Job, WordsFault>
+    ensures { result ≡ ltc_convert (map (λ v. v.now) values.now) }
+{
+    let [version] = values else {
+        return Err(WordsFault::CountOfWords);
+    };
+    let version = version_in(version).ok_or(WordsFault::Value(1))?;
+    Ok(Job::LtcConvert { version })
 }
 
 // `number COUNT LABEL`
