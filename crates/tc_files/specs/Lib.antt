@@ -1,5 +1,6 @@
 pub mod Fault
 pub mod FrameTexts
+pub mod Grammar
 pub mod IntervalFile
 pub mod IntervalHeader
 pub mod Line

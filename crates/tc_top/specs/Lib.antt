@@ -3,12 +3,14 @@ pub mod Answer
 pub mod Causes
 pub mod Commands
 pub mod KeptAlong
+pub mod KeptConversion
 pub mod KeptLine
 pub mod KeptTape
 pub mod KeptReport
 pub mod KeptFlight
 pub mod KeptMtc
 pub mod Labels
+pub mod LtcConvert
 pub mod LtcFly
 pub mod LtcMtc
 pub mod LtcRead

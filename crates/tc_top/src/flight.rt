@@ -332,6 +332,7 @@ pub(crate) struct FlightTo<T: FrameSink> {
 }
 
 impl<T: FrameSink> Behind for FlightTo<T> {
+    ghost use Rattle.std.specs.Prelude.{⊤};
     ghost use Rattle.tc_top.specs.KeptFlight.{FitsFlight, Stands, stands_well};
     ghost use Rattle.tc_top.specs.OfFrames.{along_frames};
 
@@ -343,7 +344,9 @@ impl<T: FrameSink> Behind for FlightTo<T> {
 
     ghost stands = { λ s choice header intervals written. Stands T.limit T.made T.given s.flight s.sink choice header intervals written };
 
-    ghost stands_well = { λ s choice header intervals written stands.
+    ghost is_settled = { λ _. ⊤ };
+
+    ghost stands_well = { λ s choice header intervals written settled stands.
         stands_well T.limit T.made T.given s.flight s.sink choice header intervals written stands };
 
     fn begin<K: Sink>(
@@ -368,6 +371,10 @@ impl<T: FrameSink> Behind for FlightTo<T> {
             }
             brought => self.flight.hear_all(brought, &mut self.sink, out),
         }
+    }
+
+    fn flush<K: Sink>(&mut self, _out: &mut K) -> Result<(), Stop> {
+        Ok(())
     }
 
     fn finish<K: Sink>(&self, out: &mut K) -> Result<(), Stop> {

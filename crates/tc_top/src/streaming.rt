@@ -13,6 +13,7 @@ ghost use Rattle.biphase.specs.declared.profile.Profile.{Profile};
 
 use crate::along::Along;
 use crate::engines::labels::OneLine;
+use crate::engines::ltc_convert::Conversion;
 use crate::engines::ltc_fly::FrameLines;
 use crate::engines::ltc_make::Tape;
 use crate::engines::ltc_mtc::FrameMessages;
@@ -107,6 +108,9 @@ fn work_on<S: Source, K: Sink>(job: &Job, source: &mut S, out: &mut K) -> Result
         }
         Job::MtcRead => work(&mut MtcReport::new(), source, out),
         Job::LtcMake { stripe } => make(&mut Tape::new(stripe), source, out),
+        Job::LtcConvert { version } => {
+            work(&mut Along::<Conversion>::new(*version), source, out)
+        }
         Job::Number { label } => make(&mut OneLine::number(label), source, out),
         Job::LabelOf { label } => make(&mut OneLine::label(label), source, out),
     }

@@ -7,7 +7,7 @@ use Rattle.tc_words.specs.declared.commands.TheConstants as commands
 use Rattle.tc_words.specs.declared.fault.WordsFault.{WordsFault}
 use Rattle.tc_words.specs.declared.fault.WordsFault.TheVariants.{Dash, Command, CountOfWords, Value}
 use Rattle.tc_words.specs.Tape.{at_one_length, moving}
-use Rattle.tc_words.specs.Values.{Word, count_in, limit_in, numbered, spelled}
+use Rattle.tc_words.specs.Values.{Word, count_in, limit_in, numbered, spelled, version_in}
 use Rattle.command_words.specs.CommandLine.{begins_with_dash}
 
 -- the job, or the first fault
@@ -43,6 +43,11 @@ ltc_make (count ∷ direction ∷ label ∷ frames ∷ cell ∷ tick_rate ∷ to
     moving count direction label frames cell tick_rate to_cell step
 ltc_make _ = Err CountOfWords
 
+-- `ltc-convert VERSION`
+abbrev pub ltc_convert : List Word → Answer
+ltc_convert (version ∷ []) = with_value 1 (version_in version) (λ v. Ok (jobs.LtcConvert v))
+ltc_convert _ = Err CountOfWords
+
 -- `number COUNT LABEL`
 abbrev pub number : List Word → Answer
 number (count ∷ label ∷ []) =
@@ -66,6 +71,7 @@ job_of command values =
     else if bytes_eq command commands.LTC_MTC.now then ltc_mtc values
     else if bytes_eq command commands.MTC_READ.now then no_values jobs.MtcRead values
     else if bytes_eq command commands.LTC_MAKE.now then ltc_make values
+    else if bytes_eq command commands.LTC_CONVERT.now then ltc_convert values
     else if bytes_eq command commands.NUMBER.now then number values
     else if bytes_eq command commands.LABEL.now then label_of values
     else Err Command

@@ -1,6 +1,7 @@
 //! What the words name. Next: `tc_top`, which does it.
 use crate::stripe::Stripe;
 use tc_address::Label;
+use tc_files::FileVersion;
 
 /// What the program is to do.
 #[derive(Clone, Copy, Debug, PartialEq, Eq)]
@@ -20,6 +21,8 @@ pub enum Job {
     /// `ltc-make COUNT DIRECTION LABEL FRAMES CELL TICK-RATE [TO-CELL STEP]`: makes an interval file of
     /// these frames.
     LtcMake { stripe: Stripe },
+    /// `ltc-convert VERSION`: reads an interval file, and writes it in this version.
+    LtcConvert { version: FileVersion },
     /// `number COUNT LABEL`: writes how many labels of the count stand before the label in the day.
     Number { label: Label },
     /// `label COUNT NUMBER`: writes the label of that number of the day.

@@ -3,6 +3,7 @@ use super::*;
 use std::alloc::{AllocError, Global};
 use std::test::Fail;
 use tc_address::text;
+use tc_files::FileVersion;
 
 fn typed(alloc: Global, line: &str) -> Result<Vec<String>, AllocError> {
     let mut words = Vec::new(alloc);
@@ -65,6 +66,9 @@ fn the_first_fault_is_told(rt: HostRuntime) -> Result<(), Fail> {
             "ltc-make 25 backward 00:00:00:00 1000000 8388607 100000001",
             WordsFault::Value(6),
         ),
+        ("ltc-convert", WordsFault::CountOfWords),
+        ("ltc-convert 3", WordsFault::Value(1)),
+        ("ltc-convert 01", WordsFault::Value(1)),
         ("number 30d", WordsFault::CountOfWords),
         ("number 29 00:01:00;02", WordsFault::Value(1)),
         ("number 30d 00:01:00;00", WordsFault::Value(2)),
@@ -87,7 +91,7 @@ fn the_first_fault_is_told(rt: HostRuntime) -> Result<(), Fail> {
 /// The text of the label that the job is about.
 fn label_text(job: &Job) -> Option<[u8; 11]> {
     match job {
-        Job::LtcRead | Job::LtcWorn | Job::LtcFly { .. } => None,
+        Job::LtcRead | Job::LtcWorn | Job::LtcFly { .. } | Job::LtcConvert { .. } => None,
         Job::LtcMtc { .. } | Job::MtcRead => None,
         Job::LtcMake { stripe } => Some(text(&stripe.label())),
         Job::Number { label } => Some(text(label)),
@@ -112,6 +116,17 @@ fn jobs_are_read(rt: HostRuntime) -> Result<(), Fail> {
     ] {
         let words = typed(alloc, line)?;
         assert_eq!(rt; read_words(alloc, &words), Ok(job), "at {line}");
+    }
+    for (line, version) in [
+        ("ltc-convert 1", FileVersion::One),
+        ("ltc-convert 2", FileVersion::Two),
+    ] {
+        let words = typed(alloc, line)?;
+        assert_eq!(rt;
+            read_words(alloc, &words),
+            Ok(Job::LtcConvert { version }),
+            "at {line}"
+        );
     }
     for (line, wanted) in [
         ("label 30 2591999", *b"23:59:59:29"),

@@ -2,13 +2,13 @@
 //! `job`.
 ghost use Rattle.std.specs.Prelude.{◌≡◌, ◌⊎◌, map, position, string_bytes, alloc_error};
 ghost use Rattle.command_words.specs.CommandLine.{begins_with_dash};
-ghost use Rattle.tc_words.specs.Job.{answer_to, without_dashes, job_of, no_values, ltc_fly, ltc_mtc, number, label_of, ltc_make};
+ghost use Rattle.tc_words.specs.Job.{answer_to, without_dashes, job_of, no_values, ltc_fly, ltc_mtc, number, label_of, ltc_make, ltc_convert};
 
 use crate::commands;
 use crate::fault::WordsFault;
 use crate::job::Job;
 use crate::tape::{at_one_length, moving};
-use crate::values::{count_in, limit_in, numbered, spelled};
+use crate::values::{count_in, limit_in, numbered, spelled, version_in};
 use command_words::CommandLine;
 use std::alloc::Global;
 
@@ -61,6 +61,7 @@ fn job_of(command: &str, values: &[&str]) -> Result<Job, WordsFault>
         commands::LTC_MTC => ltc_mtc(values),
         commands::MTC_READ => no_values(values, Job::MtcRead),
         commands::LTC_MAKE => ltc_make(values),
+        commands::LTC_CONVERT => ltc_convert(values),
         commands::NUMBER => number(values),
         commands::LABEL => label_of(values),
         _ => Err(WordsFault::Command),
@@ -121,6 +122,17 @@ fn ltc_make(values: &[&str]) -> Result<Job, WordsFault>
         ),
         _ => Err(WordsFault::CountOfWords),
     }
+}
+
+// `ltc-convert VERSION`
+fn ltc_convert(values: &[&str]) -> Result<Job, WordsFault>
+    ensures { result ≡ ltc_convert (map (λ v. v.now) values.now) }
+{
+    let [version] = values else {
+        return Err(WordsFault::CountOfWords);
+    };
+    let version = version_in(version).ok_or(WordsFault::Value(1))?;
+    Ok(Job::LtcConvert { version })
 }
 
 // `number COUNT LABEL`

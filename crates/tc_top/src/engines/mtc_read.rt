@@ -61,7 +61,7 @@ impl MtcReport {
 }
 
 impl Engine for MtcReport {
-    ghost use Rattle.std.specs.Prelude.{◌-◌};
+    ghost use Rattle.std.specs.Prelude.{◌-◌, ⊤};
     ghost use Rattle.tc_top.specs.KeptMtc.{FitsReport, Stands, stands_well};
     ghost use Rattle.tc_top.specs.MtcRead.{along_midi};
     ghost use Rattle.tc_top.specs.declared.engines.mtc_read.TheConstants.{MAX_BYTES};
@@ -78,7 +78,9 @@ impl Engine for MtcReport {
 
     ghost budget = { λ s. MAX_BYTES - s.reader.bytes };
 
-    ghost stands_well = { λ s bytes written stands. stands_well s bytes written stands };
+    ghost is_settled = { λ _. ⊤ };
+
+    ghost stands_well = { λ s bytes written settled stands. stands_well s bytes written stands };
 
     fn take<K: Sink>(&mut self, bytes: &[u8], out: &mut K) -> Result<usize, Stop> {
         if self.reader.bytes() == MAX_BYTES {
@@ -88,6 +90,10 @@ impl Engine for MtcReport {
             self.print(&event, out)?;
         }
         Ok(1)
+    }
+
+    fn flush<K: Sink>(&mut self, _out: &mut K) -> Result<(), Stop> {
+        Ok(())
     }
 
     fn finish<K: Sink>(&self, out: &mut K) -> Result<(), Stop> {

@@ -14,7 +14,7 @@ fn the_first_fault_of_a_file_and_its_place(rt: HostRuntime) -> Result<(), Fail> 
             b"RIFF\x24\x08\x00\x00WAVEfmt ",
             "tc: refused: magic at byte 0\n",
         ),
-        (b"LTCI\x02", "tc: refused: version at byte 4\n"),
+        (b"LTCI\x03", "tc: refused: version at byte 4\n"),
         (b"LTCI\x01\x1a", "tc: refused: system at byte 5\n"),
         (b"LTCI\x01\x19\x00\x01", "tc: refused: reserved at byte 7\n"),
         (

@@ -31,6 +31,7 @@ fn words_that_name_no_job_are_refused(rt: HostRuntime) -> Result<(), Fail> {
         ("ltc-red -x", "tc: usage: dash in word 1\n"),
         ("ltc-red x", "tc: usage: command\n"),
         ("number 29", "tc: usage: count of words\n"),
+        ("ltc-convert 3", "tc: usage: value of word 1\n"),
         ("label 29 x", "tc: usage: value of word 1\n"),
     ] {
         unread(words).ends(&rt, Status::Usage, "", note)?;
@@ -46,7 +47,6 @@ fn commands_to_come_are_unknown(rt: HostRuntime) -> Result<(), Fail> {
         "vitc-read",
         "vitc-make 30 00:00:00:00 1 460",
         "chase 25 00:00:00:00",
-        "ltc-convert 2",
         "pcm-ltc 25 48000 1000",
         "ltc-jam 2 24 48000",
         "ltc-chase 25 01:00:00:00 2 1 0",

@@ -2,9 +2,7 @@ use Rattle.std.proofs.Common.{refl, ◌≡◌, ◌+◌, ◌-◌, ◌*◌, ◌++�
 use Rattle.std.proofs.KnownBytes.{Appends-nil}
 use Rattle.tc_files.specs.Progress.{Progress}
 use Rattle.tc_files.specs.Recording.{FitsBytes, recording_of, decoding_of}
-use Rattle.tc_top.specs.Along.{along_intervals}
-use Rattle.tc_top.specs.KeptAlong.{Stands}
-use Rattle.tc_top.specs.Stops.{Stops}
+use Rattle.tc_top.specs.KeptAlong.{Halts, IsHalt, Stands}
 use Rattle.tc_top.proofs.AlongTheInput.{Works, stops_on, works_on, cut_more, through, within_rest}
 use Rattle.tc_top.proofs.AnItemMore.{an_interval, a_fault, interval_stops, by_number, by_bad_number, passed_over, has_header, cut_some}
 use Rattle.tc_top.proofs.along.Along.run.Goals as goal
@@ -22,19 +20,19 @@ returns-in_err-interval-in-Interval-clause-stops g c =
     let between = passed_over s.decoder at c.requires.between in
     let makes = c.in-Interval.ensures.makes in
     through c.from_residual.result c.from_residual.ensures.1 (λ stop same front written stands.
-    subst (λ (b : List ℕ). Stops (along_intervals (g.B.Behind.printing s.choice)) stop (g.K.Sink.written c.args.out.now) (g.K.Sink.written c.interval.new.out) (front ++ b) written)
+    subst (λ (b : List ℕ). Halts (g.B.Behind.printing s.choice) g.B.Behind.stands c.interval.new.self.behind s.choice stop (g.K.Sink.written c.args.out.now) (g.K.Sink.written c.interval.new.out) (front ++ b) written)
     (cut_some at width bytes i.within)
-    (rw same (stops_on (along_intervals (g.B.Behind.printing s.choice)) c.in_err-interval-in-Interval.field-0.0
+    (rw same (stops_on (IsHalt (g.B.Behind.printing s.choice) g.B.Behind.stands c.interval.new.self.behind s.choice c.in_err-interval-in-Interval.field-0.0)
     (λ f w. Stands g.B.Behind.stands s.decoder s.behind s.intervals s.choice f w)
     (λ f w. Stands g.B.Behind.stands virtual c.run.self.behind c.run.self.intervals s.choice f w)
     (g.K.Sink.written c.args.out.now) (g.K.Sink.written c.run.out) (g.K.Sink.written c.interval.new.out)
     (take at bytes) (take width left ++ drop width left) i.works
-    (λ f w then. interval_stops g.B.Behind.printing g.B.Behind.stands g.B.Behind.stands_well virtual _ c.run.self.behind
-    c.run.self.intervals s.choice c.in-Interval.ticks _ _ f (take width left) (drop width left) w c.in_err-interval-in-Interval.field-0.0
+    (λ f w then. interval_stops g.B.Behind.printing g.B.Behind.stands virtual _ c.run.self.behind
+    c.interval.new.self.behind c.run.self.intervals s.choice c.in-Interval.ticks _ _ f (take width left) (drop width left) w c.in_err-interval-in-Interval.field-0.0
     (has_header c.run.self.behind virtual.taken i.behind between.header) between.header then
     (by_number virtual f (take width left) width c.in-Interval.ticks then.progress
     (makes.5 (decoding_of f) (rw (← then.progress) between) (rw (← then.progress) c.requires.version) (rw (← then.progress, c.taken-first.ensures) refl)))
-    (rw i.choice at c.in_err-interval-in-Interval.ensures.stops))
+    (rw i.choice at c.in_err-interval-in-Interval.ensures.stops.0) c.in_err-interval-in-Interval.ensures.stops.1)
     front written stands)))
 
 -- the intervals before were worked on, and the next one is out of range
@@ -49,9 +47,9 @@ returns-in-Fault-clause-stops g c = λ front written stands.
     let width = makes.0 in
     let virtual : Progress = record s.decoder { taken = s.decoder.taken + at } in
     let between = passed_over s.decoder at c.requires.between in
-    subst (λ (b : List ℕ). Stops (along_intervals (g.B.Behind.printing s.choice)) c.stop_at.result (g.K.Sink.written c.args.out.now) (g.K.Sink.written c.run.out) (front ++ b) written)
+    subst (λ (b : List ℕ). Halts (g.B.Behind.printing s.choice) g.B.Behind.stands c.run.self.behind s.choice c.stop_at.result (g.K.Sink.written c.args.out.now) (g.K.Sink.written c.run.out) (front ++ b) written)
     (cut_some at width bytes i.within)
-    (stops_on (along_intervals (g.B.Behind.printing s.choice)) c.stop_at.result
+    (stops_on (IsHalt (g.B.Behind.printing s.choice) g.B.Behind.stands c.run.self.behind s.choice c.stop_at.result)
     (λ f w. Stands g.B.Behind.stands s.decoder s.behind s.intervals s.choice f w)
     (λ f w. Stands g.B.Behind.stands virtual c.run.self.behind c.run.self.intervals s.choice f w)
     (g.K.Sink.written c.args.out.now) (g.K.Sink.written c.run.out) (g.K.Sink.written c.run.out)
@@ -59,7 +57,7 @@ returns-in-Fault-clause-stops g c = λ front written stands.
     (λ f w then. (
       [],
       Appends-nil _,
-      rw c.stop_at.ensures (a_fault g.B.Behind.printing g.B.Behind.stands g.B.Behind.stands_well virtual _ c.run.self.behind
+      rw c.stop_at.ensures (a_fault (g.B.Behind.printing s.choice) g.B.Behind.stands virtual _ c.run.self.behind
           c.run.self.intervals s.choice c.in-Fault.fault f (take width left) (drop width left) w then
           (by_bad_number virtual f (take width left) width c.in-Fault.fault then.progress
           (makes.2 (decoding_of f) (rw (← then.progress) between) (rw (← then.progress) c.requires.version) (rw (← then.progress, c.taken-first.ensures) refl)))),
