@@ -9,6 +9,7 @@ pub mod Invariants
 pub mod LatestBits
 pub mod LatestCells
 pub mod ListEvents
+pub mod Mirror
 pub mod Reader
 pub mod StandsFor
 pub mod Tape
