@@ -20,7 +20,9 @@ use crate::notes::{push_note, stop_note};
 use crate::status::Status;
 use crate::stop::Stop;
 use biphase::Profile;
-use direction_reader::laws::{events_find_the_tape_again, events_tell_the_tape};
+use direction_reader::laws::{
+    events_find_the_tape_again, events_mirror_the_tape, events_tell_the_tape,
+};
 use tc_io::{Sink, Source};
 use tc_words::Job;
 
@@ -58,6 +60,7 @@ pub fn stream<S: Source, K: Sink, N: Sink>(
 {
     events_tell_the_tape();
     events_find_the_tape_again();
+    events_mirror_the_tape();
     match work_on(job, source, out) {
         Ok(()) => Status::Done,
         Err(stop) => {
