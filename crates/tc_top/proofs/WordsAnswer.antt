@@ -33,6 +33,10 @@ pub named : (all : List (List ℕ)) (job : Job) → JobOf all job → answer_to 
 named all job (inl same) = sym same
 named all job (inr other) = absurd cc
 
+-- words name one job
+pub one_job : (one two : Job) (answer : Result Job WordsFault) → answer ≡ Ok one → answer ≡ Ok two → one ≡ two
+one_job one two answer is is_too = cc
+
 -- a fault is the first of the words, or want of memory
 abbrev FaultOf : List (List ℕ) → WordsFault → Type 0
 FaultOf all fault = let answer : Result Job WordsFault = Err fault in (answer ≡ answer_to all) ⊎ (answer ≡ Err (words.Memory alloc_error))

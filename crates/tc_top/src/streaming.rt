@@ -42,8 +42,8 @@ pub fn stream<S: Source, K: Sink, N: Sink>(
 
     // A report tells the tape where it is within the tolerance, and finds it again behind damage.
     ensures truth { result ≡ Status.Done → (profile : Profile) → IsReport job.now profile → (e : Exchange)
-        × IsPulled (S.left source.old) (S.left source.new) e × IsWritten (K.written out.old) (K.written out.new) e
-        × ReportsTheTape profile e.pulled e.written }
+        × IsPulled (S.left source.old) (S.left source.new) e × IsEnd (meaning_of job.now) e.left
+        × IsWritten (K.written out.old) (K.written out.new) e × ReportsTheTape profile e.pulled e.written }
 
     // A read fault and a write fault come only where a count of faults rose.
     ensures source { SourceCause result (S.faults source.old) (S.faults source.new) }

@@ -52,6 +52,7 @@ returns-in-Ok-clause-truth g c = λ _ profile is.
     let went : Exchange = record { pulled = e.0; left = g.S.Source.left c.work_on.new.source; written = e.1; note = [] } in (
       went,
       record { bytes = e.2; left = refl },
+      e.4,
       e.3,
       reports_the_tape (record {
         truth = c.events_tell_the_tape.ensures;

@@ -1,7 +1,10 @@
-use Rattle.std.proofs.Common.{[], refl, map, string_bytes}
+use Rattle.std.proofs.Common.{[], refl, map, string_bytes, ◌≡◌, subst, sym}
 use Rattle.std.proofs.KnownBytes.{Appends-nil, Consumes-nil}
-use Rattle.tc_top.specs.Answer.{Exchange}
-use Rattle.tc_top.proofs.WordsAnswer.{job_answers, named, fault_answers}
+use Rattle.tc_top.specs.Answer.{Exchange, IsPulled, IsWritten}
+use Rattle.tc_top.specs.Commands.{meaning_of}
+use Rattle.tc_top.specs.Meaning.{IsEnd}
+use Rattle.tc_top.specs.Tape.{IsReport, ReportsTheTape}
+use Rattle.tc_top.proofs.WordsAnswer.{job_answers, named, fault_answers, one_job}
 use Rattle.tc_top.proofs.top_call.run.Goals as goal
 
 -- the answer of the job that the words name
@@ -22,3 +25,13 @@ returns-in-Err-clause-answer g c =
       record { front = c.push_note.ensures.front; all = c.push_note.ensures.all },
       rw c.of_words.ensures (fault_answers words c.in-Err.fault _ c.usage_note.result.items c.in-Err.ensures c.usage_note.ensures),
     )
+
+-- a report tells the tape: the job is the one that the words name
+pub returns-in-Ok-clause-truth : goal.returns-in-Ok-clause-truth
+returns-in-Ok-clause-truth g c = λ done job profile says is.
+    let own = named (map string_bytes c.args.words.now) c.in-Ok.job c.in-Ok.ensures in
+    let same : job ≡ c.in-Ok.job = one_job job c.in-Ok.job _ says own in
+    let told = c.stream.ensures.truth done profile (subst (λ j. IsReport j profile) same is) in
+    subst (λ j. (e : Exchange) × IsPulled (g.S.Source.left c.args.source.now) (g.S.Source.left c.stream.new.source) e
+    × IsEnd (meaning_of j) e.left × IsWritten (g.K.Sink.written c.args.out.now) (g.K.Sink.written c.stream.new.out) e
+    × ReportsTheTape profile e.pulled e.written) (sym same) told
