@@ -1,5 +1,6 @@
 pub mod Chain
 pub mod Laws
+pub mod Mirror
 pub mod OneChain
 pub mod Pair
 pub mod Profile

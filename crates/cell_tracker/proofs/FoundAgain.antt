@@ -154,7 +154,7 @@ joins profile before kept tape cut q s piece within is shares =
     }
 
 -- the recording's cells from one of its zeros on are those up to a later zero, and those from there on
-later_zero : (tape : List Cell) (cut q r x y : ℕ) (kept : List ℕ) → IsZeroAt tape (cut + q) x → IsZeroAt tape (cut + r) y → q ≤ r
+pub later_zero : (tape : List Cell) (cut q r x y : ℕ) (kept : List ℕ) → IsZeroAt tape (cut + q) x → IsZeroAt tape (cut + r) y → q ≤ r
     → r < length kept → (mid : List Cell) × (cells_from tape cut kept q ≡ mid ++ cells_from tape cut kept r) × (q + length (flat mid) ≡ r)
 later_zero tape cut q r x y kept one two order within =
     let high = cut + length kept in
@@ -346,7 +346,7 @@ no_wait profile before kept tape cut k x more s piece at next is begins ends wai
     ]
 
 -- a lock is one of the two places of its pair
-lock_near : (profile : Profile) (l : List ℕ) (start lock : ℕ) (is : IsLock profile l start lock) → (is.pair ≤ lock) × (lock ≤ is.pair + 1)
+pub lock_near : (profile : Profile) (l : List ℕ) (start lock : ℕ) (is : IsLock profile l start lock) → (is.pair ≤ lock) × (lock ≤ is.pair + 1)
 lock_near profile l start lock is =
     elim (cases_order (get_or l is.pair 0) (get_or l (is.pair + 1) 0)) [
       | inl same ↦ absurd (unequal_differ profile _ _ is.unequal.1 same)

@@ -8,6 +8,7 @@ pub mod GainsOrBreaks
 pub mod KeptStretch
 pub mod LocalStretch
 pub mod LockStays
+pub mod MirroredCells
 pub mod OneStretch
 pub mod StretchGrows
 pub mod StretchesGoOn

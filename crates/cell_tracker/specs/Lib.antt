@@ -6,6 +6,7 @@ pub mod FoundAgain
 pub mod GoOn
 pub mod Kept
 pub mod Lock
+pub mod Mirrored
 pub mod Recording
 pub mod StandsFor
 pub mod State

@@ -1,5 +1,5 @@
 //! What follows from the definition of stretches alone.
-ghost use Rattle.std.specs.Prelude.{◌≡◌, ℕ, ◌+◌, List, [], ◌∷◌, ◌++◌, length, Some, None};
+ghost use Rattle.std.specs.Prelude.{◌≡◌, ℕ, ◌+◌, List, [], ◌∷◌, ◌++◌, length, reverse, Some, None};
 ghost use Rattle.biphase.specs.declared.cell.Cell.{Cell};
 ghost use Rattle.biphase.specs.declared.profile.Profile.{Profile};
 ghost use Rattle.biphase.specs.declared.cell.Cell.TheVariants.{One};
@@ -8,6 +8,7 @@ ghost use Rattle.cell_tracker.specs.FoundAgain.{IsSecondLock, AreFrom};
 ghost use Rattle.cell_tracker.specs.GoOn.{GoOn};
 ghost use Rattle.cell_tracker.specs.Kept.{IsPiece, cells_from, stretch_of_piece};
 ghost use Rattle.cell_tracker.specs.Lock.{HasNoLock, IsLock};
+ghost use Rattle.cell_tracker.specs.Mirrored.{BeginMirrored};
 ghost use Rattle.cell_tracker.specs.Recording.{recording, stretch_of};
 ghost use Rattle.cell_tracker.specs.Stretch.{Stretch, AreStretches, begun, with_break, with_cell};
 
@@ -58,6 +59,17 @@ pub fn a_recording_is_found_again_behind_anything()
         (stretches : List Stretch) → IsPiece profile kept cells cut → IsSecondLock profile kept second
         → AreStretches profile (before ++ kept) stretches
         → AreFrom (length before + second) (cells_from cells cut kept second) stretches }
+{}
+
+/// Mirror: where a recording and the same intervals in the other order of time are both within the
+/// tolerance, their cells are the same between the greater intervals of the first and of the last
+/// unequal pair, each in its order. The lock of the mirror is the number of intervals behind them.
+pub fn a_mirrored_recording_has_the_mirrored_cells()
+    ensures { (profile : Profile) (intervals : List ℕ) (cells others : List Cell) (cut place first last : ℕ)
+        → IsPiece profile intervals cells cut → IsPiece profile (reverse intervals) others place
+        → IsLock profile intervals 0 first → IsLock profile (reverse intervals) 0 last
+        → BeginMirrored (cells_from cells cut intervals first) (cells_from others place (reverse intervals) last)
+        first last (length intervals) }
 {}
 
 /// Recordings of 24 ticks a cell: a zero and a one before the word of 00:00:00:00 at 25 frames,

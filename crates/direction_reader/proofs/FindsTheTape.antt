@@ -193,7 +193,7 @@ chain_lasts profile (One a b ∷ cells) chain =
     let ticks : 1 ≤ a = chain.0.0 in (omega arith, last_after profile (a + b) cells chain.1)
 
 -- the sum of a list up to the end of some intervals of it
-sum_at : (l xs rest : List ℕ) (lock : ℕ) → drop lock l ≡ xs ++ rest → sum (take (lock + length xs) l) ≡ sum (take lock l) + sum xs
+pub sum_at : (l xs rest : List ℕ) (lock : ℕ) → drop lock l ≡ xs ++ rest → sum (take (lock + length xs) l) ≡ sum (take lock l) + sum xs
 sum_at l xs rest lock same =
     let dropped : drop (lock + length xs) l ≡ rest =
     sym (drop-drop (length xs) lock l) ∙ ap (drop (length xs)) same ∙ drop_at xs rest (length xs) refl in

@@ -6,6 +6,8 @@ pub mod EventsJoin
 pub mod Examples
 pub mod FindsTheTape
 pub mod FrontsFirst
+pub mod MirroredEvents
+pub mod MirroredWindows
 pub mod OneList
 pub mod OneListOfEvents
 pub mod ReaderSteps

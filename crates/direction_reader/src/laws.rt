@@ -1,5 +1,5 @@
 //! What follows from the definitions alone, and the numbers that code and definitions share.
-ghost use Rattle.std.specs.Prelude.{◌≡◌, ℕ, ◌*◌, ◌^◌, ◌<◌, List, [], ◌∷◌, ◌++◌, false, true};
+ghost use Rattle.std.specs.Prelude.{◌≡◌, ℕ, ◌*◌, ◌^◌, ◌<◌, List, [], ◌∷◌, ◌++◌, reverse, false, true};
 ghost use Rattle.biphase.specs.declared.profile.Profile.{Profile};
 ghost use Rattle.biphase.specs.declared.profile.Profile.TheVariants.{Normal};
 ghost use Rattle.cell_tracker.specs.Recording.{recording};
@@ -12,6 +12,7 @@ ghost use Rattle.direction_reader.specs.declared.window.TheConstants.{WINDOW_BIT
 ghost use Rattle.direction_reader.specs.Brings.{greatest_cell};
 ghost use Rattle.direction_reader.specs.Candidate.{AreEventsOf};
 ghost use Rattle.direction_reader.specs.ListEvents.{AreEvents};
+ghost use Rattle.direction_reader.specs.Mirror.{MirrorsTheTape};
 ghost use Rattle.direction_reader.specs.Reader.{Reading};
 ghost use Rattle.direction_reader.specs.StandsFor.{StandsFor};
 ghost use Rattle.direction_reader.specs.Tape.{TellsTheTape, FindsTheTape};
@@ -24,9 +25,9 @@ ghost use Rattle.tc_address.specs.declared.system.System.TheVariants.{F25};
 ghost use Rattle.tc_bits.specs.declared.fault.FieldFault.TheVariants.{FrameUnits};
 
 use cell_tracker::laws::{
-    a_list_has_one_list_of_stretches, a_recording_is_found_again_behind_anything,
-    a_recording_within_the_tolerance_is_one_stretch, small_recordings_have_these_stretches,
-    stretches_go_on,
+    a_list_has_one_list_of_stretches, a_mirrored_recording_has_the_mirrored_cells,
+    a_recording_is_found_again_behind_anything, a_recording_within_the_tolerance_is_one_stretch,
+    small_recordings_have_these_stretches, stretches_go_on,
 };
 use ltc_word::laws::{
     bits_in_sync_spell_a_word_or_have_a_fault, reversed_twice_is_the_same, spelling_is_exact,
@@ -119,7 +120,23 @@ pub fn events_find_the_tape_again()
     a_recording_is_found_again_behind_anything();
 }
 
-/// What a reader stands for tells the tape, and finds it again behind damage.
+/// Mirror: the events of a recording and of its intervals in the other order of time, both within
+/// the tolerance, are the same words between the greater intervals of the first and of the last
+/// unequal pair, each met from its other end.
+pub fn events_mirror_the_tape()
+    ensures { (system : System) (profile : Profile) (intervals : List ℕ)
+        (events mirrored : List Event) → AreEvents system profile intervals events
+        → AreEvents system profile (reverse intervals) mirrored
+        → MirrorsTheTape system profile intervals events mirrored }
+{
+    spelling_is_exact();
+    reversed_twice_is_the_same();
+    a_list_has_one_list_of_stretches();
+    a_recording_within_the_tolerance_is_one_stretch();
+    a_mirrored_recording_has_the_mirrored_cells();
+}
+
+/// What a reader stands for tells the tape, finds it again behind damage, and mirrors it.
 pub fn a_reader_tells_the_tape()
     ensures truth { (reader : Reading) (intervals : List ℕ) (events : List Event)
         → StandsFor reader intervals events
@@ -127,10 +144,15 @@ pub fn a_reader_tells_the_tape()
     ensures damage { (reader : Reading) (intervals : List ℕ) (events : List Event)
         → StandsFor reader intervals events
         → FindsTheTape reader.system (profile_of reader.tracker) intervals events }
+    ensures mirror { (reader : Reading) (intervals : List ℕ) (events mirrored : List Event)
+        → StandsFor reader intervals events
+        → AreEvents reader.system (profile_of reader.tracker) (reverse intervals) mirrored
+        → MirrorsTheTape reader.system (profile_of reader.tracker) intervals events mirrored }
 {
     a_reader_gives_the_events_of_its_list();
     events_tell_the_tape();
     events_find_the_tape_again();
+    events_mirror_the_tape();
 }
 
 /// Recordings of 24 ticks a cell: the word of 00:00:00:00 at 25 frames behind a zero and a one,

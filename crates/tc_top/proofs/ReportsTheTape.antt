@@ -1,8 +1,9 @@
 -- A report holds the lines of the events of its recording, and these tell the tape.
-use Rattle.std.proofs.Common.{◌≡◌, ℕ, List, Option, Some, None, refl, subst, sym}
+use Rattle.std.proofs.Common.{◌≡◌, ℕ, List, reverse, Option, Some, None, refl, subst, sym}
 use Rattle.biphase.specs.declared.profile.Profile.{Profile}
 use Rattle.direction_reader.specs.declared.event.Event.{Event}
 use Rattle.direction_reader.specs.ListEvents.{AreEvents}
+use Rattle.direction_reader.specs.Mirror.{MirrorsTheTape}
 use Rattle.direction_reader.specs.Tape.{TellsTheTape, FindsTheTape}
 use Rattle.tc_address.specs.declared.system.System.{System}
 use Rattle.tc_files.specs.declared.interval_file.header.IntervalHeader.{IntervalHeader}
@@ -15,12 +16,15 @@ use Rattle.tc_top.specs.LtcRead.{report, IsReadWhole}
 use Rattle.tc_top.specs.Meaning.{Meaning}
 use Rattle.tc_top.specs.Tape.{IsReport, ReportsTheTape}
 
--- the events of a list tell the tape, and find it again behind damage
+-- the events of a list tell the tape, find it again behind damage, and mirror it
 pub record TellTheTape : Type 0 where
   pub truth : (system : System) (profile : Profile) (intervals : List ℕ) (events : List Event)
       → AreEvents system profile intervals events → TellsTheTape system profile intervals events
   pub damage : (system : System) (profile : Profile) (intervals : List ℕ) (events : List Event)
       → AreEvents system profile intervals events → FindsTheTape system profile intervals events
+  pub mirror : (system : System) (profile : Profile) (intervals : List ℕ) (events mirrored : List Event)
+      → AreEvents system profile intervals events → AreEvents system profile (reverse intervals) mirrored
+      → MirrorsTheTape system profile intervals events mirrored
 
 whole_report : TellTheTape → (profile : Profile) (bytes written : List ℕ) (header : Option IntervalHeader)
     → (recording_of bytes).header ≡ header → IsWholeBehind (report profile) header (recording_of bytes).intervals written
@@ -32,6 +36,8 @@ whole_report tell profile bytes written (Some header) begins is = record {
   events = is.events;
   are = is.are;
   truth = tell.truth header.system profile (recording_of bytes).intervals is.events is.are_events;
+  mirror = λ mirrored others.
+      tell.mirror header.system profile (recording_of bytes).intervals is.events mirrored is.are_events others;
   damage = tell.damage header.system profile (recording_of bytes).intervals is.events is.are_events;
 }
 

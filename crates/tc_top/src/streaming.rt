@@ -26,7 +26,9 @@ use crate::notes::{push_note, stop_note};
 use crate::status::Status;
 use crate::stop::Stop;
 use biphase::Profile;
-use direction_reader::laws::{events_find_the_tape_again, events_tell_the_tape};
+use direction_reader::laws::{
+    events_find_the_tape_again, events_mirror_the_tape, events_tell_the_tape,
+};
 use flywheel::laws::invention_is_bounded_and_marked;
 use tc_io::{Sink, Source};
 use tc_words::Job;
@@ -47,8 +49,8 @@ pub fn stream<S: Source, K: Sink, N: Sink>(
 
     // A report tells the tape where it is within the tolerance, and finds it again behind damage.
     ensures truth { result ≡ Status.Done → (profile : Profile) → IsReport job.now profile → (e : Exchange)
-        × IsPulled (S.left source.old) (S.left source.new) e × IsWritten (K.written out.old) (K.written out.new) e
-        × ReportsTheTape profile e.pulled e.written }
+        × IsPulled (S.left source.old) (S.left source.new) e × IsEnd (meaning_of job.now) e.left
+        × IsWritten (K.written out.old) (K.written out.new) e × ReportsTheTape profile e.pulled e.written }
 
     // A read fault and a write fault come only where a count of faults rose.
     ensures source { SourceCause result (S.faults source.old) (S.faults source.new) }
@@ -70,6 +72,7 @@ pub fn stream<S: Source, K: Sink, N: Sink>(
     events_tell_the_tape();
     events_find_the_tape_again();
     invention_is_bounded_and_marked();
+    events_mirror_the_tape();
     match work_on(job, source, out) {
         Ok(()) => Status::Done,
         Err(stop) => {

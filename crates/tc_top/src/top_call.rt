@@ -10,7 +10,7 @@ ghost use Rattle.tc_top.specs.Answer.{Exchange, IsRunAnswer, IsPulled, IsWritten
 ghost use Rattle.tc_top.specs.Causes.{SourceCause, OutCause};
 ghost use Rattle.tc_top.specs.Commands.{meaning_of};
 ghost use Rattle.tc_top.specs.LtcFly.{IsMarked};
-ghost use Rattle.tc_top.specs.Meaning.{Meaning};
+ghost use Rattle.tc_top.specs.Meaning.{Meaning, IsEnd};
 ghost use Rattle.tc_top.specs.Tape.{IsReport, ReportsTheTape};
 
 use crate::notes::{push_note, usage_note};
@@ -39,6 +39,7 @@ pub fn run<S: Source, K: Sink, N: Sink>(
     // A report tells the tape where it is within the tolerance, and finds it again behind damage.
     ensures truth { result ≡ Status.Done → (job : Job) (profile : Profile) → answer_to (map string_bytes words.now) ≡ Ok job
         → IsReport job profile → (e : Exchange) × IsPulled (S.left source.old) (S.left source.new) e
+        × IsEnd (meaning_of job) e.left
         × IsWritten (K.written out.old) (K.written out.new) e × ReportsTheTape profile e.pulled e.written }
 
     // Words that name no job, and want of memory, begin nothing.

@@ -29,6 +29,46 @@ fn a_dropout_costs_the_word_in_which_it_is(rt: HostRuntime) -> Result<(), Fail> 
     Trial::new("ltc-read", &input).ends(&rt, Status::Done, report, "")
 }
 
+/// In the second of four words a zero of 28 ticks after a cell of 24, an eighth of it and a tick more;
+/// and a one of 24 ticks whose halves differ by 2, a sixteenth of it and half a tick more.
+#[test]
+fn a_cell_just_outside_the_tolerance_costs_its_word(rt: HostRuntime) -> Result<(), Fail> {
+    let alloc = rt.alloc();
+    let words = [
+        spelled(Count::C25, [1, 0, 0, 0])?,
+        spelled(Count::C25, [1, 0, 0, 1])?,
+        spelled(Count::C25, [1, 0, 0, 2])?,
+        spelled(Count::C25, [1, 0, 0, 3])?,
+    ];
+    let steady = recorded(alloc, Direction::Forward, Pace::Steady, &words)?;
+    for (places, report) in [
+        (
+            [(108, 28), (108, 28)],
+            "word forward 01:00:00:00 user 00000000 flags 00000 balance 1 tick 1968 length 1920 speed 1000\n\
+            lost interval 108 tick 2236\n\
+            word forward 01:00:00:02 user 00000000 flags 00000 balance 1 tick 5812 length 1920 speed 1000\n\
+            word forward 01:00:00:03 user 00000000 flags 00000 balance 1 tick 7732 length 1920 speed 1000\n\
+            end intervals 385 words 3 refused 0 lost 1 ticks 7732\n",
+        ),
+        (
+            [(97, 11), (98, 13)],
+            "word forward 01:00:00:00 user 00000000 flags 00000 balance 1 tick 1968 length 1920 speed 1000\n\
+            lost interval 98 tick 1992\n\
+            word forward 01:00:00:02 user 00000000 flags 00000 balance 1 tick 5808 length 1920 speed 1000\n\
+            word forward 01:00:00:03 user 00000000 flags 00000 balance 1 tick 7728 length 1920 speed 1000\n\
+            end intervals 385 words 3 refused 0 lost 1 ticks 7728\n",
+        ),
+    ] {
+        let mut intervals = steady.clone()?;
+        for (place, length) in places {
+            intervals[place] = length;
+        }
+        let input = file(alloc, System::F25, &intervals)?;
+        Trial::new("ltc-read", &input).ends(&rt, Status::Done, report, "")?;
+    }
+    Ok(())
+}
+
 #[test]
 fn an_interval_before_the_first_cell(rt: HostRuntime) -> Result<(), Fail> {
     let alloc = rt.alloc();

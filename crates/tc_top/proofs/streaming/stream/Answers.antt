@@ -52,8 +52,13 @@ returns-in-Ok-clause-truth g c = λ _ profile is.
     let went : Exchange = record { pulled = e.0; left = g.S.Source.left c.work_on.new.source; written = e.1; note = [] } in (
       went,
       record { bytes = e.2; left = refl },
+      e.4,
       e.3,
-      reports_the_tape (record { truth = c.events_tell_the_tape.ensures; damage = c.events_find_the_tape_again.ensures })
+      reports_the_tape (record {
+        truth = c.events_tell_the_tape.ensures;
+        damage = c.events_find_the_tape_again.ensures;
+        mirror = c.events_mirror_the_tape.ensures;
+      })
           c.args.job.now profile e.0 e.1 is e.6,
     )
 
