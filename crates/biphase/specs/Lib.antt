@@ -3,3 +3,5 @@ pub mod Laws
 pub mod OneChain
 pub mod Pair
 pub mod Profile
+pub mod Zeros
+pub mod Shape

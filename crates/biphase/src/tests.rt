@@ -1,5 +1,8 @@
 //! Values from outside.
-use crate::{MAX_INTERVAL, PairKind, Profile, is_one, is_zero, kind, may_begin_one};
+use crate::{
+    Cell, MAX_INTERVAL, PairKind, Profile, ShapeFault, Shaper, is_one, is_zero, kind, may_begin_one,
+};
+use std::test::Fail;
 
 #[test]
 fn pairs_at_the_edges_of_their_kinds(rt: HostRuntime) {
@@ -74,4 +77,60 @@ fn a_worn_recording_may_differ_more(rt: HostRuntime) {
         assert_eq!(rt; is_zero(profile, 24, 28), zero);
         assert_eq!(rt; is_one(profile, 24, 13, 11), zero, "halves of 13 and 11");
     }
+}
+
+#[test]
+fn shapes_at_the_edges_of_their_range(rt: HostRuntime) {
+    for (from, to, step, fault) in [
+        (15, 16, 0, Some(ShapeFault::Cell)),
+        (16, 8_388_608, 0, Some(ShapeFault::Cell)),
+        (16, 8_388_607, 2, None),
+        (800, 400, 51, Some(ShapeFault::Ramp)),
+        (800, 400, 50, None),
+        (400, 800, 51, Some(ShapeFault::Ramp)),
+    ] {
+        assert_eq!(rt;
+            Shaper::new(from, to, step).err(),
+            fault,
+            "from {from} to {to} by {step}"
+        );
+    }
+}
+
+#[test]
+fn cells_that_reach_their_last_length(rt: HostRuntime) -> Result<(), Fail> {
+    for (from, to, step, cells) in [
+        (
+            24,
+            24,
+            0,
+            [Cell::Zero(24), Cell::One(12, 12), Cell::Zero(24)],
+        ),
+        (
+            25,
+            25,
+            3,
+            [Cell::Zero(25), Cell::One(12, 13), Cell::Zero(25)],
+        ),
+        (
+            805,
+            800,
+            3,
+            [Cell::Zero(805), Cell::One(401, 401), Cell::Zero(800)],
+        ),
+        (
+            800,
+            805,
+            3,
+            [Cell::Zero(800), Cell::One(401, 402), Cell::Zero(805)],
+        ),
+    ] {
+        let Ok(mut shaper) = Shaper::new(from, to, step) else {
+            return Err("no shape".into());
+        };
+        for (cell, bit) in cells.into_iter().zip([false, true, false]) {
+            assert_eq!(rt; shaper.next_cell(bit), cell, "from {from} to {to}");
+        }
+    }
+    Ok(())
 }

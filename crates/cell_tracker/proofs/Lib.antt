@@ -1,8 +1,11 @@
 pub mod BeginsAtTheLock
+pub mod CellsOfAPiece
 pub mod Chains
 pub mod Computed
 mod Examples
+pub mod FoundAgain
 pub mod GainsOrBreaks
+pub mod KeptStretch
 pub mod LocalStretch
 pub mod LockStays
 pub mod OneStretch

@@ -4,13 +4,16 @@ pub mod CellsGrow
 pub mod EventsExist
 pub mod EventsJoin
 pub mod Examples
+pub mod FindsTheTape
 pub mod FrontsFirst
 pub mod OneList
 pub mod OneListOfEvents
 pub mod ReaderSteps
+pub mod TellsTheTape
 pub mod TheEvents
 pub mod TrackerSteps
 pub mod WindowHolds
+pub mod WindowsFromCells
 pub mod WindowsGrow
 pub mod WordsEnd
 pub mod WrittenOver

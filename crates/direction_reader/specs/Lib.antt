@@ -9,7 +9,9 @@ pub mod Invariants
 pub mod LatestBits
 pub mod LatestCells
 pub mod ListEvents
+pub mod Played
 pub mod Reader
 pub mod StandsFor
+pub mod Tape
 pub mod Tracker
 pub mod Window

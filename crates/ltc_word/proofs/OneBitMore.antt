@@ -1,9 +1,10 @@
 -- One bit more turns the balance, so the polarity correction gives either balance.
-use Rattle.std.proofs.Common.{◌≡◌, ℕ, ◌+◌, ◌*◌, ◌/◌, ◌%◌, ◌^◌, ◌<◌, Bool, true, false, refl, ap, ap₂, ◌∙◌, lit<, arith}
-use Rattle.std.specs.Prelude.{◌↔◌, IsTrue}
+use Rattle.std.proofs.Common.{◌≡◌, ℕ, ◌+◌, ◌*◌, ◌/◌, ◌%◌, ◌^◌, ◌<◌, Bool, true, false, cond, refl, ap, ap₂, ◌∙◌, lit<, arith}
+use Rattle.std.specs.Prelude.{◌↔◌, ◌==◌, IsTrue}
 use Rattle.std.specs.Int.RustNames.{count_ones}
 use mathlib.Core.Bool.{beq}
 use Rattle.std.proofs.lemmas.Nat.{mod_below, pow_pos, ones_cat, ones-le, shr_split}
+use Rattle.std.proofs.lemmas.Bool.{eqb-true, eq-eqb}
 use Rattle.tc_address.specs.declared.system.System.{System}
 use Rattle.tc_address.specs.declared.system.System.TheVariants.{F24, F25, F30}
 use Rattle.tc_address.specs.Count.{system_with}
@@ -14,10 +15,11 @@ use Rattle.tc_bits.specs.Fields.{IsFields}
 use Rattle.tc_bits.specs.Row.{SumHolds}
 use Rattle.ltc_word.specs.declared.places.TheConstants as places
 use Rattle.ltc_word.specs.declared.word.LtcWord.{LtcWord}
-use Rattle.ltc_word.specs.Balance.{IsBalanced}
+use Rattle.ltc_word.specs.Balance.{zeros, IsBalanced}
 use Rattle.ltc_word.specs.Places.{polarity_place}
+use Rattle.ltc_word.specs.Spelled.{address_sum, flag_sum, user_sum, uncorrected, spelling_of}
 use Rattle.ltc_word.specs.Spelling.{Spells}
-use Rattle.ltc_word.proofs.RowOfAWord.{address_sum, flag_sum, user_sum, SpellsRows, spells_rows}
+use Rattle.ltc_word.proofs.RowOfAWord.{SpellsRows, spells_rows}
 
 ones_of_even : (n : ℕ) → count_ones (n * 2 + 1) ≡ count_ones (n * 2) + 1
 unfolding count_ones
@@ -79,11 +81,6 @@ whole word bits polarity valid rows balance = record {
   balance = balance;
 }
 
--- the sum of the weights with nothing at the polarity correction
-abbrev pub uncorrected : LtcWord → ℕ
-uncorrected word = address_sum word.fields.label + flag_sum
-    (system_with word.fields.label.count) word.fields.flags + user_sum word.fields.user + places.SYNC_PATTERN * 2 ^ places.SYNC.first
-
 -- what was made of the parts of a word is made of the word
 pub made_of : (word : LtcWord) (label : Address) (system : System) (flags : Flags) (groups a f u s : ℕ)
     → label ≡ word.fields.label → system ≡ system_with word.fields.label.count → flags ≡ word.fields.flags → groups ≡ word.fields.user
@@ -127,3 +124,24 @@ spells_corrected law word system place plain more answer valid eight sum system_
     let turns = balance_turns plain first after.width clear in
     rw is (whole word (plain + 2 ^ first) 1 valid after
     (other_truth answer word.balanced (IsBalanced plain) (IsBalanced (plain + 2 ^ first)) other told turns.0 turns.1))
+
+-- ---- the spelling
+
+even_tells : (n : ℕ) → IsTrue (n == 0) ↔ (n ≡ 0)
+even_tells n = (λ t. eqb-true n 0 t, λ e. eq-eqb n 0 e)
+
+spelled_by : SumHolds → (word : LtcWord) → IsFields word.fields → word.fields.user < 2 ^ 32
+    → (same : Bool) → beq (zeros (uncorrected word) % 2 == 0) word.balanced ≡ same
+    → Spells (system_with word.fields.label.count) word
+    (cond same (uncorrected word) (uncorrected word + 2 ^ (polarity_place (system_with word.fields.label.count)).first))
+spelled_by law word valid eight true told = spells_as_is law word (uncorrected word) _ valid eight refl (even_tells _) told
+spelled_by law word valid eight false told =
+    let place = polarity_place (system_with word.fields.label.count) in
+    let one : 2 ^ place.first ≡ 1 * 2 ^ place.first = omega arith in
+    spells_corrected law word _ place (uncorrected word) (2 ^ place.first) _ valid eight refl refl refl one (even_tells _) told
+
+-- each word has its spelling
+pub spelled : SumHolds → (word : LtcWord) → IsFields word.fields → word.fields.user < 2 ^ 32
+    → Spells (system_with word.fields.label.count) word (spelling_of word)
+unfolding spelling_of
+spelled law word valid eight = spelled_by law word valid eight _ refl

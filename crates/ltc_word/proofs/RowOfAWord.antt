@@ -1,5 +1,5 @@
 -- A word is a row of numbers side by side, so its spelling is their sum by weights.
-use Rattle.std.proofs.Common.{◌≡◌, ℕ, ◌+◌, ◌-◌, ◌*◌, ◌/◌, ◌%◌, ◌^◌, ◌<◌, ◌≤◌, Bool, true, false, cond, refl, lit<, arith, List, [], ◌∷◌}
+use Rattle.std.proofs.Common.{◌≡◌, ℕ, ◌+◌, ◌-◌, ◌*◌, ◌/◌, ◌%◌, ◌^◌, ◌<◌, ◌≤◌, Bool, true, false, refl, lit<, arith, List, [], ◌∷◌}
 use Rattle.std.specs.Prelude.{◌==◌}
 use Rattle.std.proofs.lemmas.Nat.{mod_below}
 use Rattle.std.proofs.lemmas.Bool.{eqb-true, eqb-false}
@@ -13,10 +13,8 @@ use Rattle.tc_bits.specs.Row.{Entry, entry, FillsFrom, Holds, sum_of, SumHolds, 
 use Rattle.tc_bits.specs.UserBits.{group}
 use Rattle.ltc_word.specs.declared.places.TheConstants as places
 use Rattle.ltc_word.specs.Places.{polarity_place, group_flag_zero_place, group_flag_two_place}
+use Rattle.ltc_word.specs.Spelled.{digit, address_sum, flag_sum, user_sum}
 use Rattle.ltc_word.specs.Spelling.{SpellsAddress, SpellsFlags, SpellsUserBits}
-
-abbrev pub digit : Bool → ℕ
-digit flag = cond flag 1 0
 
 -- the bits whose meaning the system decides
 abbrev bit_27 : System → Flags → ℕ → ℕ
@@ -49,29 +47,6 @@ row_with a f user p q r =
 
 abbrev pub row_of : System → Address → Flags → ℕ → ℕ → List Entry
 row_of system a f user polarity = row_with a f user (bit_27 system f polarity) (bit_43 system f) (bit_59 system f polarity)
-
--- the weights of the address
-abbrev pub address_sum : Address → ℕ
-address_sum a =
-    a.frames % 10 * 2 ^ places.FRAME_UNITS.first + a.frames / 10 * 2 ^ places.FRAME_TENS.first
-    + a.seconds % 10 * 2 ^ places.SECOND_UNITS.first + a.seconds / 10 * 2 ^ places.SECOND_TENS.first
-    + a.minutes % 10 * 2 ^ places.MINUTE_UNITS.first + a.minutes / 10 * 2 ^ places.MINUTE_TENS.first
-    + a.hours % 10 * 2 ^ places.HOUR_UNITS.first + a.hours / 10 * 2 ^ places.HOUR_TENS.first
-
--- the weights of the flags
-abbrev pub flag_sum : System → Flags → ℕ
-flag_sum system f =
-    digit f.bit10 * 2 ^ places.DROP_FRAME.first + digit f.colour * 2 ^ places.COLOUR_FRAME.first
-    + digit f.bgf0 * 2 ^ (group_flag_zero_place system).first
-    + digit f.bgf1 * 2 ^ places.GROUP_FLAG_ONE.first + digit f.bgf2 * 2 ^ (group_flag_two_place system).first
-
--- the weights of the user groups
-abbrev pub user_sum : ℕ → ℕ
-user_sum user =
-    group 1 user * 2 ^ places.USER_GROUP_ONE.first + group 2 user * 2 ^ places.USER_GROUP_TWO.first
-    + group 3 user * 2 ^ places.USER_GROUP_THREE.first + group 4 user * 2 ^ places.USER_GROUP_FOUR.first
-    + group 5 user * 2 ^ places.USER_GROUP_FIVE.first + group 6 user * 2 ^ places.USER_GROUP_SIX.first
-    + group 7 user * 2 ^ places.USER_GROUP_SEVEN.first + group 8 user * 2 ^ places.USER_GROUP_EIGHT.first
 
 -- all of them and the sync word
 abbrev pub base_sum : System → Address → Flags → ℕ → ℕ

@@ -8,7 +8,10 @@ ghost use Rattle.tc_address.specs.declared.count.Count.TheVariants.{C24, C25, C3
 ghost use Rattle.tc_bits.specs.declared.fault.FieldFault.{FieldFault};
 ghost use Rattle.ltc_word.specs.declared.word.LtcWord.{LtcWord};
 ghost use Rattle.ltc_word.specs.declared.word.WordFault.TheVariants.{Field};
+ghost use Rattle.tc_address.specs.Count.{system_with};
+ghost use Rattle.tc_bits.specs.Fields.{IsFields};
 ghost use Rattle.ltc_word.specs.Places.{are_shared_out, places_of};
+ghost use Rattle.ltc_word.specs.Spelled.{spelling_of};
 ghost use Rattle.ltc_word.specs.Spelling.{Spells, word_with, flags};
 ghost use Rattle.ltc_word.specs.Fault.{first_fault};
 ghost use Rattle.ltc_word.specs.Reversal.{EndsInSync, reversed_bits, HasTwelveOnes};
@@ -28,6 +31,14 @@ pub fn spelling_is_exact()
     ensures one_word { (system : System) (a b : LtcWord) (bits : ℕ) → Spells system a bits → Spells system b bits → a ≡ b }
     ensures one_spelling { (system : System) (word : LtcWord) (a b : ℕ) → Spells system word a → Spells system word b → a ≡ b }
     ensures no_fault { (system : System) (word : LtcWord) (bits : ℕ) → Spells system word bits → first_fault system bits ≡ None }
+{
+    a_row_is_its_sum();
+}
+
+/// Each word has a spelling: its numbers by the weights of their places, with the polarity correction.
+pub fn each_word_has_its_spelling()
+    ensures { (word : LtcWord) → IsFields word.fields → word.fields.user < 2 ^ 32
+        → Spells (system_with word.fields.label.count) word (spelling_of word) }
 {
     a_row_is_its_sum();
 }

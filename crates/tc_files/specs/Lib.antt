@@ -3,6 +3,8 @@ pub mod FrameTexts
 pub mod IntervalFile
 pub mod IntervalHeader
 pub mod Line
+pub mod Next
+pub mod Piece
 pub mod Progress
 pub mod Recording
 pub mod Texts

@@ -2,15 +2,19 @@
 //! give them.
 ghost use Rattle.std.specs.Prelude.{◌≡◌, [], ◌∷◌, codes};
 ghost use Rattle.tc_files.specs.declared.interval_file.header.TheConstants as header;
+ghost use Rattle.tc_files.specs.declared.interval_file.piece.TheConstants as piece;
 ghost use Rattle.tc_files.specs.declared.names.TheConstants as names;
 
-/// The magic is `LTCI`, the version 1; a header has 12 bytes, and the tick rate follows its first 8.
+/// The magic is `LTCI`, the versions are 1 and 2; a header has 12 bytes, and the tick rate follows its
+/// first 8. In version 2 two bytes hold what is below 65,536.
 pub fn a_header_is_this()
     ensures magic { header.MAGIC ≡ 0x4c ∷ 0x54 ∷ 0x43 ∷ 0x49 ∷ [] }
-    ensures version { header.VERSION ≡ 1 }
+    ensures one { header.VERSION_ONE ≡ 1 }
+    ensures two { header.VERSION_TWO ≡ 2 }
     ensures first { header.HEAD_LENGTH ≡ 8 }
     ensures length { header.HEADER_LENGTH ≡ 12 }
     ensures tick_rate { header.MAX_TICK_RATE ≡ 100000000 }
+    ensures least_long { piece.LEAST_LONG ≡ 65536 }
 {}
 
 /// The faults of an interval file have these names in notes.

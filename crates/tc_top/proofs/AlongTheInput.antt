@@ -122,6 +122,7 @@ pub first_and_rest : (xs : List ℕ) → 0 < length xs → get_or xs 0 0 ∷ dro
 first_and_rest [] some = absurd (omega (arith, some))
 first_and_rest (x ∷ xs) some = refl
 
--- a front of a list, and the rest
-pub front_and_rest : (front xs : List ℕ) → front ≡ take (length front) xs → front ++ drop (length front) xs ≡ xs
-front_and_rest front xs same = ap (λ (l : List ℕ). l ++ drop (length front) xs) same ∙ take-append-drop (length front) xs
+-- and its front of one
+pub first_only : (xs : List ℕ) → 0 < length xs → get_or xs 0 0 ∷ [] ≡ take 1 xs
+first_only [] some = absurd (omega (arith, some))
+first_only (x ∷ xs) some = refl

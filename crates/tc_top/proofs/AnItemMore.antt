@@ -233,38 +233,35 @@ interval_stops printing stands well decoder next (Some b) count choice x old new
 interval_stops printing stands well decoder next behind count choice x old new front bytes rest written ReadFault has late s is why = absurd why
 interval_stops printing stands well decoder next behind count choice x old new front bytes rest written (Refused f) has late s is why = absurd why
 
--- four bytes
-pub by_number : (decoder : Progress) (front bytes : List ℕ) (x : ℕ) → decoder ≡ (decoding_of front).progress
-    → fold with_byte (decoding_of front) bytes ≡ with_number (decoding_of front) (Ok x)
-    → Completes front bytes (Interval x) (record decoder { taken = decoder.taken + 4 })
-by_number decoder front bytes x same is =
-    subst (λ (p : Progress). decoding_of (front ++ bytes) ≡ record { progress = record p { taken = p.taken + 4 }; recording = with_taken (recording_of front) (Interval x) })
+-- the bytes of an interval, so many
+pub by_number : (decoder : Progress) (front bytes : List ℕ) (width x : ℕ) → decoder ≡ (decoding_of front).progress
+    → fold with_byte (decoding_of front) bytes ≡ with_number (decoding_of front) width (Ok x)
+    → Completes front bytes (Interval x) (record decoder { taken = decoder.taken + width })
+by_number decoder front bytes width x same is =
+    subst (λ (p : Progress). decoding_of (front ++ bytes) ≡ record { progress = record p { taken = p.taken + width }; recording = with_taken (recording_of front) (Interval x) })
     (sym same) (more_bytes front bytes ∙ is)
 
-pub by_bad_number : (decoder : Progress) (front bytes : List ℕ) (f : FileFault) → decoder ≡ (decoding_of front).progress
-    → fold with_byte (decoding_of front) bytes ≡ with_number (decoding_of front) (Err f)
-    → Completes front bytes (Fault f) (record decoder { taken = decoder.taken + 4; fault = Some f })
-by_bad_number decoder front bytes f same is =
-    subst (λ (p : Progress). decoding_of (front ++ bytes) ≡ record { progress = record p { taken = p.taken + 4; fault = Some f }; recording = with_taken (recording_of front) (Fault f) })
+pub by_bad_number : (decoder : Progress) (front bytes : List ℕ) (width : ℕ) (f : FileFault) → decoder ≡ (decoding_of front).progress
+    → fold with_byte (decoding_of front) bytes ≡ with_number (decoding_of front) width (Err f)
+    → Completes front bytes (Fault f) (record decoder { taken = decoder.taken + width; fault = Some f })
+by_bad_number decoder front bytes width f same is =
+    subst (λ (p : Progress). decoding_of (front ++ bytes) ≡ record { progress = record p { taken = p.taken + width; fault = Some f }; recording = with_taken (recording_of front) (Fault f) })
     (sym same) (more_bytes front bytes ∙ is)
 
--- with some numbers passed over, a decoder is between two intervals as before
-pub passed_over : (d : Progress) (count : ℕ) → IsBetween d → count % 4 ≡ 0 → IsBetween (record d { taken = d.taken + count })
-passed_over d count between whole = record {
+-- with some intervals passed over, a decoder is between two intervals as before
+pub passed_over : (d : Progress) (count : ℕ) → IsBetween d → IsBetween (record d { taken = d.taken + count })
+passed_over d count between = record {
   no_fault = between.no_fault;
   header = (let late = between.header in omega arith);
   no_part = between.no_part;
-  whole = (let even = between.whole in omega arith);
 }
 
 pub has_header : {B : Type 0} (behind : Option B) (taken : ℕ) → IsSome behind → 12 ≤ taken → HasHeader behind taken
 has_header None taken some late = absurd (false≢true some)
 has_header (Some b) taken some late = late
 
--- numbers are those before a place, the four bytes there, and the rest
-pub cut_number : (k : ℕ) (numbers rest : List ℕ) → k ≤ length numbers
-    → take k numbers ++ (take 4 (take (length numbers - k) (drop k numbers)) ++ (drop 4 (take (length numbers - k) (drop k numbers)) ++ rest)) ≡ numbers ++ rest
-cut_number k numbers rest within =
-    let left = take (length numbers - k) (drop k numbers) in
-    ap (λ (l : List ℕ). take k numbers ++ l) (sym (append_assoc (take 4 left) (drop 4 left) rest) ∙ ap (λ (l : List ℕ). l ++ rest) (take-append-drop 4 left))
-    ∙ sym (append_assoc (take k numbers) left rest) ∙ ap (λ (l : List ℕ). l ++ rest) (cut_at k numbers within)
+-- bytes are those before a place, some that stand there, and the rest
+pub cut_some : (k n : ℕ) (bytes : List ℕ) → k ≤ length bytes
+    → take k bytes ++ (take n (take (length bytes - k) (drop k bytes)) ++ drop n (take (length bytes - k) (drop k bytes))) ≡ bytes
+cut_some k n bytes within =
+    ap (λ (l : List ℕ). take k bytes ++ l) (take-append-drop n (take (length bytes - k) (drop k bytes))) ∙ cut_at k bytes within

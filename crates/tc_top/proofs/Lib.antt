@@ -9,8 +9,10 @@ pub mod LinesOfFrames
 pub mod MarkedLines
 pub mod MidiGrows
 pub mod MidiLimit
+pub mod MadeInPieces
 pub mod OneOutput
 pub mod OneStatus
 pub mod PushedLines
+pub mod ReportsTheTape
 pub mod VerdictStays
 pub mod WordsAnswer

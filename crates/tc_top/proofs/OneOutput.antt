@@ -9,7 +9,7 @@ use Rattle.direction_reader.specs.ListEvents.{AreEvents}
 use Rattle.tc_files.specs.declared.interval_file.header.IntervalHeader.{IntervalHeader}
 use Rattle.tc_files.specs.Recording.{recording_of}
 use Rattle.tc_words.specs.declared.job.Job.{Job}
-use Rattle.tc_words.specs.declared.job.Job.TheVariants.{LtcRead, LtcWorn, LtcFly, LtcMtc, MtcRead, Number, LabelOf}
+use Rattle.tc_words.specs.declared.job.Job.TheVariants.{LtcRead, LtcWorn, LtcFly, LtcMtc, MtcRead, Number, LabelOf, LtcMake}
 use Rattle.tc_top.specs.Along.{IsPartBehind, IsWholeBehind}
 use Rattle.tc_top.specs.Commands.{meaning_of}
 use Rattle.tc_top.specs.LtcFly.{lines_of_frames}
@@ -57,6 +57,7 @@ one_output law (LtcFly limit) input a b x y = one_flight law limit lines_of_fram
 one_output law (LtcMtc limit) input a b x y =
     one_flight law limit messages_of_frames (recording_of input).header (recording_of input).intervals a b x y
 one_output law MtcRead input a b x y = x ∙ sym y
+one_output law (LtcMake stripe) input a b x y = x.1 ∙ sym y.1
 one_output law (Number label) input a b x y = x.1 ∙ sym y.1
 one_output law (LabelOf label) input a b x y = x.1 ∙ sym y.1
 
@@ -68,5 +69,6 @@ one_part_of law (LtcFly limit) pulled a b x y = one_flight_part law limit lines_
 one_part_of law (LtcMtc limit) pulled a b x y =
     one_flight_part law limit messages_of_frames (recording_of pulled).header (recording_of pulled).intervals a b x y
 one_part_of law MtcRead pulled a b x y = x ∙ sym y
+one_part_of law (LtcMake stripe) pulled a b x y = x ∙ sym y
 one_part_of law (Number label) pulled a b x y = x ∙ sym y
 one_part_of law (LabelOf label) pulled a b x y = x ∙ sym y

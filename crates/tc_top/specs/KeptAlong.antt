@@ -8,7 +8,7 @@ use Rattle.tc_files.specs.declared.fault.FileFault.{FileFault}
 use Rattle.tc_files.specs.declared.interval_file.header.IntervalHeader.{IntervalHeader}
 use Rattle.tc_files.specs.declared.interval_file.header.TheConstants.{HEADER_LENGTH}
 use Rattle.tc_files.specs.Progress.{Progress}
-use Rattle.tc_files.specs.Recording.{Recording, decoding_of, recording_of, intervals_in}
+use Rattle.tc_files.specs.Recording.{Recording, decoding_of, recording_of, FitsBytes}
 use Rattle.tc_files.specs.Verdict.{good}
 use Rattle.tc_top.specs.declared.stop.Stop.{Stop}
 use Rattle.tc_top.specs.declared.stop.Stop.TheVariants.{Refused, ReadFault, WriteFault, Limit}
@@ -28,7 +28,8 @@ FitsBehind fits (Some behind) count = (count ≤ MAX_INTERVALS) × fits behind c
 pub record IsGoing {B : Type 0} (fits : B → ℕ → Type 0) (decoder : Progress) (behind : Option B) (count : ℕ) : Type 0 where
   pub good : decoder.fault ≡ None
   pub header : HasHeader behind decoder.taken
-  pub counts : count ≡ intervals_in decoder.taken
+  pub counts : FitsBytes decoder count
+  pub part : length decoder.part < 6
   pub keeps : FitsBehind fits behind count
 
 -- what was written stands for the header and the intervals

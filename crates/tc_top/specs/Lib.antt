@@ -4,6 +4,7 @@ pub mod Causes
 pub mod Commands
 pub mod KeptAlong
 pub mod KeptLine
+pub mod KeptTape
 pub mod KeptReport
 pub mod KeptFlight
 pub mod KeptMtc
@@ -11,9 +12,11 @@ pub mod Labels
 pub mod LtcFly
 pub mod LtcMtc
 pub mod LtcRead
+pub mod Made
 pub mod Meaning
 pub mod MtcRead
 pub mod Notes
 pub mod OfFrames
 pub mod Status
 pub mod Stops
+pub mod Tape

@@ -17,7 +17,9 @@ use crate::engine::Engine;
 use crate::stop::Stop;
 use biphase::MAX_INTERVAL;
 use direction_reader::MAX_INTERVALS;
-use tc_files::{FileFault, IntervalDecoder, IntervalHeader, Taken, interval_at};
+use tc_files::{
+    FileFault, FileVersion, IntervalDecoder, IntervalHeader, Next, Taken, next_interval,
+};
 use tc_io::Sink;
 
 /// The work of one command behind the header of an interval file.
@@ -136,36 +138,72 @@ impl<B: Behind> Along<B> {
         }
     }
 
-    /// Works on whole numbers, four bytes each.
-    fn numbers<K: Sink>(&mut self, numbers: &[u8], out: &mut K) -> Result<(), Stop>
-        requires between { IsBetween self.old.decoder }
-        requires whole { length numbers.now % 4 ≡ 0 }
+    /// Works on the whole intervals at the front of bytes, and answers how many bytes they have: none
+    /// where the header or an interval is half taken.
+    fn whole_intervals<K: Sink>(&mut self, bytes: &[u8], out: &mut K) -> Result<usize, Stop>
         requires going { IsGoing B.fits self.old.decoder self.old.behind self.old.intervals }
         ensures going { OnOk result (IsGoing B.fits self.new.decoder self.new.behind self.new.intervals) }
-        ensures taken { OnOk result (self.new.decoder.taken ≡ self.old.decoder.taken + length numbers.now) }
+        ensures taken { IfOk result (λ count. (count ≤ length bytes.now) × (self.new.decoder.taken ≡ self.old.decoder.taken + count)) }
         ensures choice { self.new.choice ≡ self.old.choice }
-        ensures works { OnOk result ((front written : List ℕ)
+        ensures works { IfOk result (λ count. (front written : List ℕ)
             → Stands B.stands self.old.decoder self.old.behind self.old.intervals self.old.choice front written
             → (more : List ℕ) × Appends (K.written out.old) (K.written out.new) more
-            × Stands B.stands self.new.decoder self.new.behind self.new.intervals self.new.choice (front ++ numbers.now) (written ++ more)) }
-        ensures stops { IfErr result (λ stop. (front written rest : List ℕ)
+            × Stands B.stands self.new.decoder self.new.behind self.new.intervals self.new.choice (front ++ take count bytes.now) (written ++ more)) }
+        ensures stops { IfErr result (λ stop. (front written : List ℕ)
             → Stands B.stands self.old.decoder self.old.behind self.old.intervals self.old.choice front written
-            → Stops (along_intervals (B.printing self.old.choice)) stop (K.written out.old) (K.written out.new)
-            (front ++ (numbers.now ++ rest)) written) }
+            → Stops (along_intervals (B.printing self.old.choice)) stop (K.written out.old) (K.written out.new) (front ++ bytes.now) written) }
+        ensures cause { HasOutCause (K.faults out.old) (K.faults out.new) result }
+        ensures no_pull { result ≡ Err Stop.ReadFault → ⊥ }
+    {
+        if !self.decoder.is_between() {
+            return Ok(0);
+        }
+        // Each version has a loop of its own.
+        match self.decoder.version() {
+            FileVersion::One => self.run(FileVersion::One, bytes, out),
+            FileVersion::Two => self.run(FileVersion::Two, bytes, out),
+        }
+    }
+
+    /// Works on the whole intervals at the front of bytes that begin between two intervals.
+    #[inline(always)]
+    fn run<K: Sink>(
+        &mut self,
+        version: FileVersion,
+        bytes: &[u8],
+        out: &mut K,
+    ) -> Result<usize, Stop>
+        requires between { IsBetween self.old.decoder }
+        requires version { self.old.decoder.version ≡ version }
+        requires going { IsGoing B.fits self.old.decoder self.old.behind self.old.intervals }
+        ensures going { OnOk result (IsGoing B.fits self.new.decoder self.new.behind self.new.intervals) }
+        ensures taken { IfOk result (λ count. (count ≤ length bytes.now) × (self.new.decoder.taken ≡ self.old.decoder.taken + count)) }
+        ensures choice { self.new.choice ≡ self.old.choice }
+        ensures works { IfOk result (λ count. (front written : List ℕ)
+            → Stands B.stands self.old.decoder self.old.behind self.old.intervals self.old.choice front written
+            → (more : List ℕ) × Appends (K.written out.old) (K.written out.new) more
+            × Stands B.stands self.new.decoder self.new.behind self.new.intervals self.new.choice (front ++ take count bytes.now) (written ++ more)) }
+        ensures stops { IfErr result (λ stop. (front written : List ℕ)
+            → Stands B.stands self.old.decoder self.old.behind self.old.intervals self.old.choice front written
+            → Stops (along_intervals (B.printing self.old.choice)) stop (K.written out.old) (K.written out.new) (front ++ bytes.now) written) }
         ensures cause { HasOutCause (K.faults out.old) (K.faults out.new) result }
         ensures no_pull { result ≡ Err Stop.ReadFault → ⊥ }
     {
         let first = self.decoder.taken();
         let mut at = 0;
-        'numbers: while at < numbers.len() {
-            match interval_at(first + at as u64, &numbers[at..]) {
-                Ok(x) => self.interval(x, out)?,
-                Err(fault) => return Err(self.stop_at(fault)),
+        'run: loop {
+            match next_interval(version, first + at as u64, &bytes[at..]) {
+                Next::Interval { ticks, width } => {
+                    self.interval(ticks, out)?;
+                    at += width;
+                }
+                Next::Fault(fault) => return Err(self.stop_at(fault)),
+                Next::Short => {
+                    self.decoder.pass_over(at);
+                    return Ok(at);
+                }
             }
-            at += 4;
         }
-        self.decoder.pass_over(numbers.len());
-        Ok(())
     }
 
     /// Works on an interval, of `x` ticks.
@@ -233,13 +271,12 @@ impl<B: Behind> Engine for Along<B> {
         (stands.good, printed_well B.printing B.stands B.stands_well s.behind s.choice _ written stands.printed) };
 
     fn take<K: Sink>(&mut self, bytes: &[u8], out: &mut K) -> Result<usize, Stop> {
-        let numbers = self.decoder.whole_numbers(bytes);
-        if numbers.is_empty() {
-            self.byte(bytes[0], out)?;
-            Ok(1)
-        } else {
-            self.numbers(numbers, out)?;
-            Ok(numbers.len())
+        match self.whole_intervals(bytes, out)? {
+            0 => {
+                self.byte(bytes[0], out)?;
+                Ok(1)
+            }
+            count => Ok(count),
         }
     }
 

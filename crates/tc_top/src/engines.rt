@@ -2,6 +2,7 @@
 //! reads nothing a `Maker` (`making`). Next: `ltc_read`.
 pub(crate) mod labels;
 pub(crate) mod ltc_fly;
+pub(crate) mod ltc_make;
 pub(crate) mod ltc_mtc;
 pub(crate) mod ltc_read;
 pub(crate) mod mtc_read;

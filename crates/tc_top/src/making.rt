@@ -13,7 +13,10 @@ use arrayvec::ArrayVec;
 use tc_io::{Sink, Source};
 
 /// The room in which output is gathered before it is pushed.
-pub(crate) type Piece = ArrayVec<u8, 4096>;
+pub(crate) type Piece = ArrayVec<u8, PIECE>;
+
+/// How many bytes it takes.
+pub(crate) const PIECE: usize = 4096;
 
 /// A command that reads nothing, and has some of its output still to give.
 pub(crate) trait Maker {

@@ -1,5 +1,6 @@
 //! The top call: words and bytes in, bytes and a status out. Next: `streaming`.
 ghost use Rattle.std.specs.Prelude.{◌≡◌, ◌⊎◌, ℕ, List, map, string_bytes, Some, false, Ok, Err};
+ghost use Rattle.biphase.specs.declared.profile.Profile.{Profile};
 ghost use Rattle.std.specs.Io.KnownBytes.{Appends};
 ghost use Rattle.tc_io.specs.Source.{Rose};
 ghost use Rattle.tc_words.specs.declared.fault.WordsFault.{WordsFault};
@@ -10,6 +11,7 @@ ghost use Rattle.tc_top.specs.Causes.{SourceCause, OutCause};
 ghost use Rattle.tc_top.specs.Commands.{meaning_of};
 ghost use Rattle.tc_top.specs.LtcFly.{IsMarked};
 ghost use Rattle.tc_top.specs.Meaning.{Meaning};
+ghost use Rattle.tc_top.specs.Tape.{IsReport, ReportsTheTape};
 
 use crate::notes::{push_note, usage_note};
 use crate::status::Status;
@@ -33,6 +35,11 @@ pub fn run<S: Source, K: Sink, N: Sink>(
         × IsNoted (N.written notes.old) (N.written notes.new) (N.faults notes.old) (N.faults notes.new) e
         × IsRunAnswer (map string_bytes words.now) result e }
     ensures no_note { result ≡ Status.Done → notes.new ≡ notes.old }
+
+    // A report tells the tape where it is within the tolerance, and finds it again behind damage.
+    ensures truth { result ≡ Status.Done → (job : Job) (profile : Profile) → answer_to (map string_bytes words.now) ≡ Ok job
+        → IsReport job profile → (e : Exchange) × IsPulled (S.left source.old) (S.left source.new) e
+        × IsWritten (K.written out.old) (K.written out.new) e × ReportsTheTape profile e.pulled e.written }
 
     // Words that name no job, and want of memory, begin nothing.
     ensures usage { (fault : WordsFault) → answer_to (map string_bytes words.now) ≡ Err fault

@@ -1,2 +1,4 @@
 pub mod Job
+pub mod Stripe
+pub mod Tape
 pub mod Values

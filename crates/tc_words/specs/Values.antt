@@ -6,6 +6,8 @@ use Rattle.std.specs.Str.{bytes_eq}
 use Rattle.std.specs.Str.Parse.{digits_value}
 use Rattle.tc_address.specs.declared.count.Count.{Count}
 use Rattle.tc_address.specs.declared.count.Count.TheVariants.{C24, C25, C30, Drop30}
+use Rattle.tc_address.specs.declared.direction.Direction.{Direction}
+use Rattle.tc_address.specs.declared.direction.Direction.TheVariants.{Forward, Backward}
 use Rattle.tc_address.specs.Label.{Address, labels}
 use Rattle.tc_address.specs.Spelling.{label_in}
 
@@ -33,6 +35,17 @@ number_in word = if is_number word && nat_lt (digits_value 10 word) (2 ^ 64) the
 -- a number up to 255
 abbrev pub limit_in : Word → Option ℕ
 limit_in word = option_and_then (λ n. if nat_le n 255 then Some n else None) (number_in word)
+
+-- `forward` or `backward`
+abbrev pub direction_in : Word → Option Direction
+direction_in word =
+    if bytes_eq word (codes "forward") then Some Forward
+    else if bytes_eq word (codes "backward") then Some Backward
+    else None
+
+-- a number of this range
+abbrev pub between : ℕ → ℕ → Word → Option ℕ
+between least greatest word = option_and_then (λ n. if nat_le least n && nat_le n greatest then Some n else None) (number_in word)
 
 -- the label of the count that is spelled so
 abbrev pub spelled : Count → Word → Option Address

@@ -16,6 +16,9 @@ pub const LTC_MTC: &str = "ltc-mtc";
 /// The word of `Job::MtcRead`.
 pub const MTC_READ: &str = "mtc-read";
 
+/// The word of `Job::LtcMake`.
+pub const LTC_MAKE: &str = "ltc-make";
+
 /// The word of `Job::Number`.
 pub const NUMBER: &str = "number";
 

@@ -1,4 +1,5 @@
 //! What the words name. Next: `tc_top`, which does it.
+use crate::stripe::Stripe;
 use tc_address::Label;
 
 /// What the program is to do.
@@ -16,6 +17,9 @@ pub enum Job {
     /// `mtc-read`: reads MIDI bytes, and writes a line for each label of MIDI Time Code in them, and for
     /// each address that is no label.
     MtcRead,
+    /// `ltc-make COUNT DIRECTION LABEL FRAMES CELL TICK-RATE [TO-CELL STEP]`: makes an interval file of
+    /// these frames.
+    LtcMake { stripe: Stripe },
     /// `number COUNT LABEL`: writes how many labels of the count stand before the label in the day.
     Number { label: Label },
     /// `label COUNT NUMBER`: writes the label of that number of the day.

@@ -7,7 +7,7 @@
 //! the order of `WordsFault`, and want of memory is an answer of its own (`specs/Job.antt`,
 //! `answer_to`).
 //!
-//! Read `commands`, `fault`, `job`, `values` and `words`, with `specs/Job.antt` and `specs/Values.antt`
+//! Read `commands`, `fault`, `job`, `stripe`, `tape`, `values` and `words`, with `specs/Job.antt` and `specs/Values.antt`
 //! beside them: `words` and `Job.antt` have the same rows. `tc_top` stands on this crate.
 //!
 //! A later command joins in these places:
@@ -22,11 +22,14 @@ pub mod commands;
 mod fault;
 mod job;
 pub mod laws;
+mod stripe;
+mod tape;
 mod values;
 mod words;
 
 pub use fault::WordsFault;
 pub use job::Job;
+pub use stripe::{MAX_FRAMES, MAX_TICK_RATE, Stripe};
 pub use words::read_words;
 
 #[cfg(test)]

@@ -29,6 +29,42 @@ fn the_first_fault_is_told(rt: HostRuntime) -> Result<(), Fail> {
         ("ltc-mtc 2 2", WordsFault::CountOfWords),
         ("ltc-mtc 256", WordsFault::Value(1)),
         ("mtc-read x", WordsFault::CountOfWords),
+        (
+            "ltc-make 25 forward 00:00:00:00 4 800 48000 400",
+            WordsFault::CountOfWords,
+        ),
+        (
+            "ltc-make 25 forward 00:00:00:00 4 800 48000 400 51",
+            WordsFault::Value(8),
+        ),
+        (
+            "ltc-make 25 forward 00:00:00:00 4 800 48000 15 51",
+            WordsFault::Value(7),
+        ),
+        (
+            "ltc-make 29 upward 00:00:00:00 0 15 0",
+            WordsFault::Value(1),
+        ),
+        (
+            "ltc-make 25 upward 00:00:00:00 0 15 0",
+            WordsFault::Value(2),
+        ),
+        (
+            "ltc-make 30d forward 00:01:00;00 0 15 0",
+            WordsFault::Value(3),
+        ),
+        (
+            "ltc-make 25 backward 00:00:00:00 1000001 15 0",
+            WordsFault::Value(4),
+        ),
+        (
+            "ltc-make 25 backward 00:00:00:00 1000000 8388608 0",
+            WordsFault::Value(5),
+        ),
+        (
+            "ltc-make 25 backward 00:00:00:00 1000000 8388607 100000001",
+            WordsFault::Value(6),
+        ),
         ("number 30d", WordsFault::CountOfWords),
         ("number 29 00:01:00;02", WordsFault::Value(1)),
         ("number 30d 00:01:00;00", WordsFault::Value(2)),
@@ -53,6 +89,7 @@ fn label_text(job: &Job) -> Option<[u8; 11]> {
     match job {
         Job::LtcRead | Job::LtcWorn | Job::LtcFly { .. } => None,
         Job::LtcMtc { .. } | Job::MtcRead => None,
+        Job::LtcMake { stripe } => Some(text(&stripe.label())),
         Job::Number { label } => Some(text(label)),
         Job::LabelOf { label } => Some(text(label)),
     }
@@ -81,6 +118,10 @@ fn jobs_are_read(rt: HostRuntime) -> Result<(), Fail> {
         ("label 25 0", *b"00:00:00:00"),
         ("label 30d 00000000000000001800", *b"00:01:00;02"),
         ("number 24 12:34:56:23", *b"12:34:56:23"),
+        (
+            "ltc-make 30d backward 00:01:00;02 1000000 800 100000000 400 50",
+            *b"00:01:00;02",
+        ),
     ] {
         let words = typed(alloc, line)?;
         let Ok(job) = read_words(alloc, &words) else {

@@ -1,10 +1,10 @@
 //! The values of the words, one by one. Next: `tc_address`, which reads labels and numbers.
-ghost use Rattle.std.specs.Prelude.{◌≡◌};
+ghost use Rattle.std.specs.Prelude.{◌≡◌, ◌≤◌, IfSome};
 ghost use Rattle.std.specs.Char.{is_ascii_digit};
 ghost use Rattle.std.specs.List.{list_all};
-ghost use Rattle.tc_words.specs.Values.{count_in, is_number, limit_in, number_in, numbered, spelled};
+ghost use Rattle.tc_words.specs.Values.{between, count_in, direction_in, is_number, limit_in, number_in, numbered, spelled};
 
-use tc_address::{Count, Label, day_labels, label_at, read_text};
+use tc_address::{Count, Direction, Label, day_labels, label_at, read_text};
 
 /// A count: `24`, `25`, `30` or `30d`.
 pub fn count_in(word: &str) -> Option<Count>
@@ -49,6 +49,30 @@ pub fn limit_in(word: &str) -> Option<u8>
     let number = number_in(word)?;
     if number <= 255 {
         Some(number as u8)
+    } else {
+        None
+    }
+}
+
+/// A way of the tape: `forward` or `backward`.
+pub fn direction_in(word: &str) -> Option<Direction>
+    ensures { result ≡ direction_in word.now }
+{
+    match word {
+        "forward" => Some(Direction::Forward),
+        "backward" => Some(Direction::Backward),
+        _ => None,
+    }
+}
+
+/// A number of this range, in which no number passes a `u32`.
+pub fn between(least: u32, greatest: u32, word: &str) -> Option<u32>
+    ensures value { result ≡ between least greatest word.now }
+    ensures range { IfSome result (λ n. (least ≤ n) × (n ≤ greatest)) }
+{
+    let number = number_in(word)?;
+    if u64::from(least) <= number && number <= u64::from(greatest) {
+        Some(number as u32)
     } else {
         None
     }

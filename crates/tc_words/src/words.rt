@@ -2,11 +2,12 @@
 //! `job`.
 ghost use Rattle.std.specs.Prelude.{◌≡◌, ◌⊎◌, map, position, string_bytes, alloc_error};
 ghost use Rattle.command_words.specs.CommandLine.{begins_with_dash};
-ghost use Rattle.tc_words.specs.Job.{answer_to, without_dashes, job_of, no_values, ltc_fly, ltc_mtc, number, label_of};
+ghost use Rattle.tc_words.specs.Job.{answer_to, without_dashes, job_of, no_values, ltc_fly, ltc_mtc, number, label_of, ltc_make};
 
 use crate::commands;
 use crate::fault::WordsFault;
 use crate::job::Job;
+use crate::tape::{at_one_length, moving};
 use crate::values::{count_in, limit_in, numbered, spelled};
 use command_words::CommandLine;
 use std::alloc::Global;
@@ -59,6 +60,7 @@ fn job_of(command: &str, values: &[&str]) -> Result<Job, WordsFault>
         commands::LTC_FLY => ltc_fly(values),
         commands::LTC_MTC => ltc_mtc(values),
         commands::MTC_READ => no_values(values, Job::MtcRead),
+        commands::LTC_MAKE => ltc_make(values),
         commands::NUMBER => number(values),
         commands::LABEL => label_of(values),
         _ => Err(WordsFault::Command),
@@ -95,6 +97,30 @@ fn ltc_mtc(values: &[&str]) -> Result<Job, WordsFault>
     };
     let limit = limit_in(limit).ok_or(WordsFault::Value(1))?;
     Ok(Job::LtcMtc { limit })
+}
+
+// `ltc-make COUNT DIRECTION LABEL FRAMES CELL TICK-RATE [TO-CELL STEP]`
+fn ltc_make(values: &[&str]) -> Result<Job, WordsFault>
+    ensures { result ≡ ltc_make (map (λ v. v.now) values.now) }
+{
+    match values {
+        [count, direction, label, frames, cell, tick_rate] => {
+            at_one_length(count, direction, label, frames, cell, tick_rate)
+        }
+        [
+            count,
+            direction,
+            label,
+            frames,
+            cell,
+            tick_rate,
+            to_cell,
+            step,
+        ] => moving(
+            count, direction, label, frames, cell, tick_rate, to_cell, step,
+        ),
+        _ => Err(WordsFault::CountOfWords),
+    }
 }
 
 // `number COUNT LABEL`

@@ -5,6 +5,7 @@ use Rattle.tc_top.specs.Commands.{meaning_of}
 use Rattle.tc_top.specs.declared.status.Status.TheVariants as status
 use Rattle.tc_top.proofs.MarkedLines.{job_marked}
 use Rattle.tc_top.proofs.OneStatus.{answer_of, done_is_final, settles, stop_is_final}
+use Rattle.tc_top.proofs.ReportsTheTape.{reports_the_tape}
 use Rattle.tc_top.proofs.streaming.stream.Goals as goal
 
 -- the job is done
@@ -43,6 +44,18 @@ returns-in-Err-clause-status g c = λ input told no_read no_write.
     let e = c.in-Err.ensures.stops in
     rw c.of_stop.ensures (stop_is_final (meaning_of c.args.job.now) (settles c.args.job.now) c.in-Err.stop _ input e.0 e.1 _ _ _ _
     (rw told at e.2) e.4 c.in-Err.ensures.source c.in-Err.ensures.out no_read no_write)
+
+-- what was written tells the tape
+pub returns-in-Ok-clause-truth : goal.returns-in-Ok-clause-truth
+returns-in-Ok-clause-truth g c = λ _ profile is.
+    let e = c.in-Ok.ensures.ends in
+    let went : Exchange = record { pulled = e.0; left = g.S.Source.left c.work_on.new.source; written = e.1; note = [] } in (
+      went,
+      record { bytes = e.2; left = refl },
+      e.3,
+      reports_the_tape (record { truth = c.events_tell_the_tape.ensures; damage = c.events_find_the_tape_again.ensures })
+          c.args.job.now profile e.0 e.1 is e.6,
+    )
 
 -- the lines of frames are marked, at the end and at a stop
 pub returns-in-Ok-clause-marked : goal.returns-in-Ok-clause-marked

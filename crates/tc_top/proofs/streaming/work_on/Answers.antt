@@ -3,3 +3,7 @@ use Rattle.tc_top.proofs.streaming.work_on.Goals as goal
 -- a front of the label was written
 pub returns-in-LabelOf-clause-stops : goal.returns-in-LabelOf-clause-stops
 returns-in-LabelOf-clause-stops g c = rw (c.in-LabelOf.is, ← c.label.ensures) c.make-in-LabelOf.ensures.stops
+
+-- a front of the recording was written
+pub returns-in-LtcMake-clause-stops : goal.returns-in-LtcMake-clause-stops
+returns-in-LtcMake-clause-stops g c = rw (c.in-LtcMake.is, ← c.new-in-LtcMake.ensures) c.make.ensures.stops

@@ -1,0 +1,58 @@
+-- The recording that `ltc-make` makes, all of it at once: words from a label on, and cells of a shape.
+use Rattle.std.specs.Prelude.{ℕ, Bool, true, false, List, ◌∷◌, ◌++◌, map}
+use Rattle.std.specs.List.{flat_map, range_with_len}
+use Rattle.byteorder.specs.Endian.{big_bytes}
+use Rattle.biphase.specs.declared.cell.Cell.{Cell}
+use Rattle.biphase.specs.Chain.{flat}
+use Rattle.biphase.specs.Shape.{shaped}
+use Rattle.tc_address.specs.declared.count.Count.{Count}
+use Rattle.tc_address.specs.declared.count.Count.TheVariants.{C24, C25, C30, Drop30}
+use Rattle.tc_address.specs.declared.direction.Direction.{Direction}
+use Rattle.tc_address.specs.Count.{system_with}
+use Rattle.tc_address.specs.Label.{Address}
+use Rattle.tc_address.specs.Numbering.{step}
+use Rattle.tc_bits.specs.Fields.{contents}
+use Rattle.ltc_word.specs.declared.word.LtcWord.{LtcWord}
+use Rattle.ltc_word.specs.Spelling.{flags}
+use Rattle.direction_reader.specs.Played.{Played, bits_of_words}
+use Rattle.flywheel.specs.Frames.{steps_in}
+use Rattle.tc_files.specs.declared.interval_file.header.FileVersion.TheVariants.{One}
+use Rattle.tc_files.specs.declared.interval_file.header.IntervalHeader.{IntervalHeader}
+use Rattle.tc_files.specs.IntervalHeader.{header_bytes}
+use Rattle.tc_words.specs.Stripe.{Striping}
+
+-- the count drops labels
+abbrev pub drops : Count → Bool
+drops C24 = false
+drops C25 = false
+drops C30 = false
+drops Drop30 = true
+
+-- the word of a label: no flag is set but that of drop-frame, the user bits are 0, and it is balanced
+abbrev pub word_of : Address → LtcWord
+word_of label = record { fields = contents label (flags (drops label.count) false false false false) 0; balanced = true }
+
+-- so many frames from a label on in a direction, each with its word
+unfoldable pub frames_from : Direction → Address → ℕ → List Played
+frames_from direction label frames =
+    map (λ k. record { direction = direction; word = word_of (step label (steps_in direction k)) }) (range_with_len 0 frames)
+
+-- the frames of a recording
+abbrev pub made_frames : Striping → List Played
+made_frames s = frames_from s.direction s.label s.frames
+
+-- its cells: those of the bits 0 and 1, by which a reader locks, and then those of the frames
+abbrev pub made_cells : Striping → List Cell
+made_cells s = shaped s.shape (false ∷ true ∷ bits_of_words (made_frames s))
+
+-- intervals as they stand in a file, each in four bytes
+abbrev pub interval_bytes : List ℕ → List ℕ
+interval_bytes intervals = flat_map (big_bytes 4) intervals
+
+-- the header of the file, of version 1
+abbrev pub made_header : Striping → IntervalHeader
+made_header s = record { version = One; system = system_with s.label.count; tick_rate = s.tick_rate }
+
+-- the file
+abbrev pub made : Striping → List ℕ
+made s = header_bytes (made_header s) ++ interval_bytes (flat (made_cells s))

@@ -1,0 +1,25 @@
+-- What is told of a recording that is to be made.
+use Rattle.std.specs.Prelude.{ℕ, ◌≤◌}
+use Rattle.biphase.specs.Shape.{Shape}
+use Rattle.tc_address.specs.declared.direction.Direction.{Direction}
+use Rattle.tc_address.specs.Label.{Address}
+use Rattle.tc_words.specs.declared.stripe.TheConstants.{MAX_FRAMES, MAX_TICK_RATE}
+
+-- so many frames from a label on in a direction, with cells of a shape, in ticks of a clock of so many ticks a second
+pub record Striping : Type 0 where
+  pub direction : Direction
+  pub label : Address
+  pub frames : ℕ
+  pub shape : Shape
+  pub tick_rate : ℕ
+
+abbrev pub stripe_of : Direction → Address → ℕ → Shape → ℕ → Striping
+stripe_of direction label frames shape tick_rate =
+    record { direction = direction; label = label; frames = frames; shape = shape; tick_rate = tick_rate }
+
+-- some frames and some ticks, and not too many
+pub record IsStripe (frames tick_rate : ℕ) : Type 0 where
+  pub some_frames : 1 ≤ frames
+  pub not_too_many : frames ≤ MAX_FRAMES
+  pub some_ticks : 1 ≤ tick_rate
+  pub not_too_fast : tick_rate ≤ MAX_TICK_RATE

@@ -1,0 +1,96 @@
+//! What `ltc-make` is told: which labels to write to a tape, and how long its cells last. Next:
+//! `tc_top/src/engines/ltc_make.rt`, which makes it.
+ghost use Rattle.std.specs.Prelude.{◌≡◌, IfSome};
+ghost use Rattle.tc_words.specs.Stripe.{IsStripe, Striping, stripe_of};
+
+use biphase::Shaper;
+use std::marker::Model;
+use tc_address::{Direction, Label};
+
+/// The greatest number of frames that one run makes.
+pub const MAX_FRAMES: u32 = 1_000_000;
+
+/// The greatest tick rate of a recording that is made, in ticks a second.
+pub const MAX_TICK_RATE: u32 = 100_000_000;
+
+/// A stripe of linear time code: its labels, and its cells.
+#[derive(Clone, Copy, Debug, PartialEq, Eq)]
+pub struct Stripe {
+    direction: Direction,
+    label: Label,
+    frames: u32,
+    shaper: Shaper,
+    tick_rate: u32,
+}
+
+impl Model for Stripe {
+    ghost use Rattle.tc_words.specs.Stripe.{IsStripe, Striping};
+
+    ghost Value = { Striping };
+
+    ghost view = { λ s. record { direction = s.direction; label = s.label; frames = s.frames; shape = s.shaper; tick_rate = s.tick_rate } };
+
+    ghost invariant = { λ s. IsStripe s.frames s.tick_rate };
+
+    ghost inverse = { λ s. record { direction = s.direction; label = s.label; frames = s.frames; shaper = s.shape; tick_rate = s.tick_rate } };
+}
+
+impl Stripe {
+    /// So many frames, from this label on in this direction, with the cells of the shaper, whose
+    /// lengths are in ticks of a clock of so many ticks a second.
+    pub(crate) fn new(
+        direction: Direction,
+        label: Label,
+        frames: u32,
+        shaper: Shaper,
+        tick_rate: u32,
+    ) -> Stripe
+        requires { IsStripe frames tick_rate }
+        ensures { result ≡ stripe_of direction label frames shaper tick_rate }
+    {
+        Stripe {
+            direction,
+            label,
+            frames,
+            shaper,
+            tick_rate,
+        }
+    }
+
+    /// The way in which the tape is to run when it is read.
+    pub fn direction(&self) -> Direction
+        ensures { result ≡ self.now.direction }
+    {
+        self.direction
+    }
+
+    /// The label of the first frame.
+    pub fn label(&self) -> Label
+        ensures { result ≡ self.now.label }
+    {
+        self.label
+    }
+
+    /// How many frames, from 1 to `MAX_FRAMES`.
+    pub fn frames(&self) -> u32
+        ensures value { result ≡ self.now.frames }
+        ensures valid { IsStripe self.now.frames self.now.tick_rate }
+    {
+        self.frames
+    }
+
+    /// What makes the cells.
+    pub fn shaper(&self) -> Shaper
+        ensures { result ≡ self.now.shape }
+    {
+        self.shaper
+    }
+
+    /// Ticks of the recorder's clock in a second, from 1 to `MAX_TICK_RATE`.
+    pub fn tick_rate(&self) -> u32
+        ensures value { result ≡ self.now.tick_rate }
+        ensures valid { IsStripe self.now.frames self.now.tick_rate }
+    {
+        self.tick_rate
+    }
+}
