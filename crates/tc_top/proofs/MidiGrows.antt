@@ -1,8 +1,8 @@
 -- The lines of MIDI bytes grow by the line of the event that a byte gives, and the last line counts all of them.
-use Rattle.std.proofs.Common.{◌≡◌, ℕ, ◌+◌, ◌<◌, List, [], ◌∷◌, ◌++◌, length, take, get_or, count_by, Bool, cond, refl, sym, ◌∙◌, ap, arith, append_assoc, append-nil}
+use Rattle.std.proofs.Common.{◌≡◌, ℕ, ◌+◌, ◌≤◌, List, [], ◌∷◌, ◌++◌, length, take, drop, count_by, Bool, cond, sym, ◌∙◌, ap, arith, append_assoc, append-nil}
 use Rattle.std.specs.declared.option.Option.{Option}
 use Rattle.std.proofs.lemmas.Grind.{flat_map-append}
-use Rattle.std.proofs.lemmas.List.{length-append}
+use Rattle.std.proofs.lemmas.List.{take-append-drop}
 use Rattle.std.proofs.lemmas.List.Sums.{sum_by-append, sum_by-cons}
 use Rattle.mtc_reader.specs.declared.event.MtcEvent.{MtcEvent}
 use Rattle.mtc_reader.specs.declared.event.MtcEvent.TheVariants.{Full, Quarter, RefusedFull, RefusedQuarter}
@@ -53,49 +53,42 @@ both kind a b first more all is before after =
 
 -- ---- lines
 
--- the lines of the bytes with one more
-lines_now : (front written : List ℕ) (byte : ℕ) (events : List MtcEvent) → written ≡ event_lines (events_in front)
-    → events_in (front ++ byte ∷ []) ≡ events_in front ++ events → written ++ event_lines events ≡ event_lines (events_in (front ++ byte ∷ []))
-lines_now front written byte events is grows =
+-- the lines of the bytes with more
+lines_now : (front written bytes : List ℕ) (events : List MtcEvent) → written ≡ event_lines (events_in front)
+    → events_in (front ++ bytes) ≡ events_in front ++ events → written ++ event_lines events ≡ event_lines (events_in (front ++ bytes))
+lines_now front written bytes events is grows =
     ap (λ (l : List ℕ). l ++ event_lines events) is ∙ sym (ap event_lines grows ∙ flat_map-append event_line (events_in front) events)
 
--- one byte more
-pub grown : (r next : MtcReport) (front written : List ℕ) (byte : ℕ) (events : List MtcEvent) → Stands r front written → length front < MAX_BYTES
-    → reads.StandsFor next.reader (front ++ byte ∷ []) → events_in (front ++ byte ∷ []) ≡ events_in front ++ events → Counts r next events
-    → Stands next (front ++ byte ∷ []) (written ++ event_lines events)
-grown r next front written byte events s less reader grows counts = record {
-  within = omega (arith, less, length-append front (byte ∷ []));
+-- more bytes
+pub grown : (r next : MtcReport) (front written bytes : List ℕ) (events : List MtcEvent) → Stands r front written → next.reader.bytes ≤ MAX_BYTES
+    → reads.StandsFor next.reader (front ++ bytes) → events_in (front ++ bytes) ≡ events_in front ++ events → Counts r next events
+    → Stands next (front ++ bytes) (written ++ event_lines events)
+grown r next front written bytes events s within reader grows counts = record {
+  within = omega (arith, within, reader.count);
   reader = reader;
-  are = lines_now front written byte events s.are grows;
-  full = both is_full r.full next.full (events_in front) events (events_in (front ++ byte ∷ [])) grows s.full counts.full;
-  quarter = both is_quarter r.quarter next.quarter (events_in front) events (events_in (front ++ byte ∷ [])) grows s.quarter counts.quarter;
-  refused = both is_refused r.refused next.refused (events_in front) events (events_in (front ++ byte ∷ [])) grows s.refused counts.refused;
+  are = lines_now front written bytes events s.are grows;
+  full = both is_full r.full next.full (events_in front) events (events_in (front ++ bytes)) grows s.full counts.full;
+  quarter = both is_quarter r.quarter next.quarter (events_in front) events (events_in (front ++ bytes)) grows s.quarter counts.quarter;
+  refused = both is_refused r.refused next.refused (events_in front) events (events_in (front ++ bytes)) grows s.refused counts.refused;
 }
 
--- a list that is not empty begins with its first item
-pub first_one : (xs : List ℕ) → 0 < length xs → take 1 xs ≡ get_or xs 0 0 ∷ []
-first_one [] some = absurd (omega (arith, some))
-first_one (x ∷ xs) some = refl
-
 -- a front of the line of an event was written
-pub grown_part : (r : MtcReport) (front written bytes : List ℕ) (byte : ℕ) (rest : List ℕ) (event : MtcEvent) (old new : Option (List ℕ)) → Stands r front written
-    → length front < MAX_BYTES → byte ∷ rest ≡ bytes → events_in (front ++ byte ∷ []) ≡ events_in front ++ event ∷ []
+pub grown_part : (r : MtcReport) (front written bytes : List ℕ) (count : ℕ) (event : MtcEvent) (old new : Option (List ℕ)) → Stands r front written
+    → length (front ++ take count bytes) ≤ MAX_BYTES → events_in (front ++ take count bytes) ≡ events_in front ++ event ∷ []
     → AppendsFront old new (event_line event) → Stops along_midi stops.WriteFault old new (front ++ bytes) written
-grown_part r front written bytes byte rest event old new s less is grows f = (
-  f.0,
-  f.2,
-  (
-    front ++ byte ∷ [],
-    event_lines (events_in (front ++ byte ∷ [])),
-    (rest, ap (λ (l : List ℕ). front ++ l) (sym is) ∙ sym (append_assoc front (byte ∷ []) rest)),
-    sym (lines_of_all MAX_BYTES (front ++ byte ∷ []) (omega (arith, less, length-append front (byte ∷ [])))),
-    (
-      f.1.0,
-      sym (lines_now front written byte (event ∷ []) s.are grows)
-          ∙ ap (λ (l : List ℕ). written ++ l) (append-nil (event_line event) ∙ f.1.1) ∙ sym (append_assoc written f.0 f.1.0),
-    ),
-  ),
-)
+grown_part r front written bytes count event old new s within grows f =
+    let taken = take count bytes in (
+      f.0,
+      f.2,
+      (
+        front ++ taken,
+        event_lines (events_in (front ++ taken)),
+        (drop count bytes, ap (λ (l : List ℕ). front ++ l) (sym (take-append-drop count bytes)) ∙ sym (append_assoc front taken (drop count bytes))),
+        sym (lines_of_all MAX_BYTES (front ++ taken) within),
+        (f.1.0, sym (lines_now front written taken (event ∷ []) s.are grows)
+            ∙ ap (λ (l : List ℕ). written ++ l) (append-nil (event_line event) ∙ f.1.1) ∙ sym (append_assoc written f.0 f.1.0)),
+      ),
+    )
 
 -- ---- the last line
 

@@ -1,8 +1,11 @@
 //! The engine of `mtc-read`: a line of each event of MIDI bytes. Next: `mtc_reader/src/reader.rt`, and
 //! then `mtc_reader/src/texts.rt`.
-ghost use Rattle.std.specs.Prelude.{◌≡◌, ◌≤◌, ◌<◌, ◌+◌, ℕ, List, [], OnOk, OnErr, IfErr};
+ghost use Rattle.std.specs.Prelude.{◌≡◌, ◌≤◌, ◌<◌, ◌+◌, ◌++◌, ℕ, List, [], length, take, OnOk, OnErr, IfErr};
 ghost use Rattle.std.specs.Io.KnownBytes.{Appends};
 ghost use Rattle.mtc_reader.specs.declared.event.MtcEvent.{MtcEvent};
+ghost use Rattle.mtc_reader.specs.Events.{events_in};
+ghost use Rattle.mtc_reader.specs.StandsFor as reads;
+ghost use Rattle.mtc_reader.specs.StandsFor.{events_of};
 ghost use Rattle.mtc_reader.specs.Texts.{event_line};
 ghost use Rattle.tc_io.specs.Sink.{AppendsFront};
 ghost use Rattle.tc_top.specs.Causes.{HasOutCause};
@@ -16,6 +19,9 @@ use tc_io::Sink;
 
 /// So many bytes are read, at most.
 pub const MAX_BYTES: u64 = 1_000_000_000;
+
+/// The status byte of a quarter frame.
+const QUARTER_FRAME: u8 = 0xf1;
 
 /// A reader of MIDI bytes, and how many of its events of each kind were printed.
 #[derive(Drop)]
@@ -37,6 +43,30 @@ impl MtcReport {
             full: 0,
             quarter: 0,
             refused: 0,
+        }
+    }
+
+    /// Takes the first byte, or both bytes of a quarter frame, and answers how many these are and the event
+    /// that is complete with them.
+    #[inline(always)]
+    fn read(&mut self, bytes: &[u8]) -> (usize, Option<MtcEvent>)
+        requires some { 0 < length bytes.now }
+        requires within { self.old.reader.bytes < MAX_BYTES }
+        ensures least { 1 ≤ result.0 }
+        ensures most { result.0 ≤ length bytes.now }
+        ensures count { self.new.reader.bytes ≡ self.old.reader.bytes + result.0 }
+        ensures within { self.new.reader.bytes ≤ MAX_BYTES }
+        ensures kept { self.new ≡ record self.old { reader = self.new.reader } }
+        ensures stands { (front : List ℕ) → reads.StandsFor self.old.reader front
+            → reads.StandsFor self.new.reader (front ++ take result.0 bytes.now) }
+        ensures gives { (front : List ℕ) → reads.StandsFor self.old.reader front
+            → events_in (front ++ take result.0 bytes.now) ≡ events_in front ++ events_of result.1 }
+    {
+        match bytes {
+            [QUARTER_FRAME, number, ..] if self.reader.bytes() + 1 < MAX_BYTES => {
+                (2, self.reader.quarter_frame(*number))
+            }
+            _ => (1, self.reader.byte(bytes[0])),
         }
     }
 
@@ -86,10 +116,11 @@ impl Engine for MtcReport {
         if self.reader.bytes() == MAX_BYTES {
             return Err(Stop::Limit);
         }
-        if let Some(event) = self.reader.byte(bytes[0]) {
+        let (count, event) = self.read(bytes);
+        if let Some(event) = event {
             self.print(&event, out)?;
         }
-        Ok(1)
+        Ok(count)
     }
 
     fn flush<K: Sink>(&mut self, _out: &mut K) -> Result<(), Stop> {

@@ -1,13 +1,12 @@
-use Rattle.std.proofs.Common.{◌≡◌, ◌++◌, ◌∷◌, ◌∙◌, [], List, ℕ, drop, get_or, length, subst, sym, arith, refl, append-nil}
+use Rattle.std.proofs.Common.{◌≡◌, ◌++◌, ◌∷◌, ◌∙◌, [], take, length, sym, ap, arith, append-nil}
 use Rattle.std.proofs.KnownBytes.{Appends-nil}
 use Rattle.std.proofs.lemmas.List.{length-append}
 use Rattle.mtc_reader.specs.Texts.{event_line}
-use Rattle.tc_top.specs.declared.engines.mtc_read.TheConstants.{MAX_BYTES}
 use Rattle.tc_top.specs.declared.engines.mtc_read.MtcReport.{MtcReport}
-use Rattle.tc_top.specs.KeptMtc.{Stands}
+use Rattle.tc_top.specs.declared.engines.mtc_read.TheConstants.{MAX_BYTES}
 use Rattle.tc_top.specs.MtcRead.{event_lines}
-use Rattle.tc_top.proofs.AlongTheInput.{first_and_rest, through}
-use Rattle.tc_top.proofs.MidiGrows.{first_one, grown, grown_part, none_counted, one_counted}
+use Rattle.tc_top.proofs.AlongTheInput.{through}
+use Rattle.tc_top.proofs.MidiGrows.{grown, grown_part, none_counted, one_counted}
 use Rattle.tc_top.proofs.MidiLimit.{is_past, lines_at_limit}
 use Rattle.tc_top.proofs.engines.mtc_read.MtcReportEngine.take.Goals as goal
 
@@ -28,11 +27,13 @@ returns-then-bytes-eq-MAX_BYTES-clause-stops g c = λ front written stands.
 pub returns-in_err-print-clause-stops : goal.returns-in_err-print-clause-stops
 returns-in_err-print-clause-stops g c =
     let bytes = c.args.bytes.now in
+    let e = c.read-count.ensures in
     let why = c.in_err-print.ensures.why in
     through c.from_residual.result c.from_residual.ensures.1 (λ stop same front written stands.
-    rw (same, why) (grown_part c.args.self.now front written bytes (get_or bytes 0 0) (drop 1 bytes) c.in-Some.event _ _ stands
-    (omega (arith, c.if-bytes-eq-MAX_BYTES.false, c.bytes.ensures, stands.reader.count, c.requires.going.within))
-    (first_and_rest bytes c.requires.some) (c.in-Some.ensures.gives front stands.reader) c.in_err-print.ensures.front))
+      let taken = e.stands front stands.reader in
+      let gives = rw c.in-Some.is at (e.gives front stands.reader) in
+      rw (same, why) (grown_part c.args.self.now front written bytes c.read-count.result.0 c.in-Some.event _ _ stands
+      (omega (arith, taken.count, e.within)) gives c.in_err-print.ensures.front))
 
 -- the line of an event was written
 pub returns-in_ok-print-clause-works : goal.returns-in_ok-print-clause-works
@@ -41,26 +42,28 @@ returns-in_ok-print-clause-works g c = λ front written stands.
     let r = c.args.self.now in
     let next = c.print.new.self in
     let event = c.in-Some.event in
-    let e = c.in_ok-print.ensures in
-    let now = grown r next front written (get_or bytes 0 0) (event ∷ []) stands
-    (omega (arith, c.if-bytes-eq-MAX_BYTES.false, c.bytes.ensures, stands.reader.count, c.requires.going.within))
-    (rw e.reader (c.in-Some.ensures.stands front stands.reader)) (c.in-Some.ensures.gives front stands.reader)
-    (one_counted r _ next event refl refl refl e.counted) in (
+    let e = c.read-count.ensures in
+    let p = c.in_ok-print.ensures in
+    let gives = rw c.in-Some.is at (e.gives front stands.reader) in
+    let counts = one_counted r c.read-count.new.self next event (ap (λ (m : MtcReport). m.full) e.kept) (ap (λ (m : MtcReport). m.quarter) e.kept)
+    (ap (λ (m : MtcReport). m.refused) e.kept) p.counted in (
       event_lines (event ∷ []),
-      rw (append-nil (event_line event)) e.all,
-      subst (λ (l : List ℕ). Stands next (front ++ l) (written ++ event_lines (event ∷ []))) (sym (first_one bytes c.requires.some)) now,
+      rw (append-nil (event_line event)) p.all,
+      grown r next front written (take c.read-count.result.0 bytes) (event ∷ []) stands (rw p.reader e.within)
+          (rw p.reader (e.stands front stands.reader)) gives counts,
     )
 
--- the byte gives none
+-- there is none
 pub returns-in_default-clause-works : goal.returns-in_default-clause-works
 returns-in_default-clause-works g c = λ front written stands.
     let bytes = c.args.bytes.now in
     let r = c.args.self.now in
-    let next : MtcReport = record r { reader = c.byte.new.self } in
-    let now = grown r next front written (get_or bytes 0 0) [] stands
-    (omega (arith, c.if-bytes-eq-MAX_BYTES.false, c.bytes.ensures, stands.reader.count, c.requires.going.within))
-    (c.in_default.ensures.stands front stands.reader) (c.in_default.ensures.gives front stands.reader) (none_counted r next refl refl refl) in (
+    let next = c.read-count.new.self in
+    let e = c.read-count.ensures in
+    let gives = rw c.in_default.is at (e.gives front stands.reader) in
+    let counts = none_counted r next (ap (λ (m : MtcReport). m.full) e.kept) (ap (λ (m : MtcReport). m.quarter) e.kept)
+    (ap (λ (m : MtcReport). m.refused) e.kept) in (
       [],
       Appends-nil _,
-      subst (λ (l : List ℕ). Stands next (front ++ l) (written ++ [])) (sym (first_one bytes c.requires.some)) now,
+      grown r next front written (take c.read-count.result.0 bytes) [] stands e.within (e.stands front stands.reader) gives counts,
     )
