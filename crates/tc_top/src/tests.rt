@@ -2,6 +2,7 @@
 mod damage;
 mod faults;
 mod frames;
+mod made;
 mod reading;
 mod recording;
 mod trial;

@@ -21,6 +21,14 @@ fn words_that_name_no_job_are_refused(rt: HostRuntime) -> Result<(), Fail> {
         ("ltc-read x", "tc: usage: count of words\n"),
         ("number 30d", "tc: usage: count of words\n"),
         ("label 25 0 0", "tc: usage: count of words\n"),
+        (
+            "ltc-make 25 forward 00:00:00:00 4 800 48000 400",
+            "tc: usage: count of words\n",
+        ),
+        (
+            "ltc-make 25 forward 00:00:00:00 4 800 48000 400 51",
+            "tc: usage: value of word 8\n",
+        ),
         ("number 29 00:00:00:00", "tc: usage: value of word 1\n"),
         ("number 30d 00:01:00;00", "tc: usage: value of word 2\n"),
         ("label 30d 2589408", "tc: usage: value of word 2\n"),
@@ -38,7 +46,6 @@ fn words_that_name_no_job_are_refused(rt: HostRuntime) -> Result<(), Fail> {
 #[test]
 fn commands_to_come_are_unknown(rt: HostRuntime) -> Result<(), Fail> {
     for words in [
-        "ltc-make 25 forward 00:00:00:00 3 24 48000",
         "ltc-mtc 0",
         "ltc-load 1 1000",
         "vitc-read",
