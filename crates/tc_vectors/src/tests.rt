@@ -3,6 +3,7 @@ mod convert;
 mod damage;
 mod faults;
 mod frames;
+mod made;
 mod midi;
 mod reading;
 mod recording;

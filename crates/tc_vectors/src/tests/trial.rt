@@ -94,6 +94,22 @@ impl<'a> Trial<'a> {
     }
 }
 
+impl Trial<'_> {
+    /// Runs it, compares its status, and gives its output.
+    pub fn writes(&self, rt: &(impl Abort + AllocGlobal), status: Status) -> Result<Vec<u8>, Fail> {
+        let alloc = rt.alloc();
+        let words = split(alloc, self.words)?;
+        let mut source = MemorySource::new(alloc, self.input, self.pieces, self.failing_pulls)?;
+        let mut out = MemorySink::new(alloc, self.room, self.failing_pushes)?;
+        let mut notes = MemorySink::new(alloc, self.notes_room, &[])?;
+        let ended = run(alloc, &words, &mut source, &mut out, &mut notes);
+        assert_eq!(rt; ended, status, "the status of {}", self.words);
+        let mut written = Vec::new(alloc);
+        written.extend_from_slice(out.written())?;
+        Ok(written)
+    }
+}
+
 /// The words of a command line.
 fn split(alloc: Global, line: &str) -> Result<Vec<String>, AllocError> {
     let mut words = Vec::new(alloc);

@@ -24,6 +24,14 @@ fn words_that_name_no_job_are_refused(rt: HostRuntime) -> Result<(), Fail> {
         ("ltc-mtc", "tc: usage: count of words\n"),
         ("mtc-read 0", "tc: usage: count of words\n"),
         ("ltc-mtc 256", "tc: usage: value of word 1\n"),
+        (
+            "ltc-make 25 forward 00:00:00:00 4 800 48000 400",
+            "tc: usage: count of words\n",
+        ),
+        (
+            "ltc-make 25 forward 00:00:00:00 4 800 48000 400 51",
+            "tc: usage: value of word 8\n",
+        ),
         ("number 29 00:00:00:00", "tc: usage: value of word 1\n"),
         ("number 30d 00:01:00;00", "tc: usage: value of word 2\n"),
         ("label 30d 2589408", "tc: usage: value of word 2\n"),
