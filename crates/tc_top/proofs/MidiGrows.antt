@@ -85,8 +85,11 @@ grown_part r front written bytes count event old new s within grows f =
         event_lines (events_in (front ++ taken)),
         (drop count bytes, ap (λ (l : List ℕ). front ++ l) (sym (take-append-drop count bytes)) ∙ sym (append_assoc front taken (drop count bytes))),
         sym (lines_of_all MAX_BYTES (front ++ taken) within),
-        (f.1.0, sym (lines_now front written taken (event ∷ []) s.are grows)
-            ∙ ap (λ (l : List ℕ). written ++ l) (append-nil (event_line event) ∙ f.1.1) ∙ sym (append_assoc written f.0 f.1.0)),
+        (
+          f.1.0,
+          sym (lines_now front written taken (event ∷ []) s.are grows)
+              ∙ ap (λ (l : List ℕ). written ++ l) (append-nil (event_line event) ∙ f.1.1) ∙ sym (append_assoc written f.0 f.1.0),
+        ),
       ),
     )
 

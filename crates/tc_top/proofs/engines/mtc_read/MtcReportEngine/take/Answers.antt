@@ -30,10 +30,10 @@ returns-in_err-print-clause-stops g c =
     let e = c.read-count.ensures in
     let why = c.in_err-print.ensures.why in
     through c.from_residual.result c.from_residual.ensures.1 (λ stop same front written stands.
-      let taken = e.stands front stands.reader in
-      let gives = rw c.in-Some.is at (e.gives front stands.reader) in
-      rw (same, why) (grown_part c.args.self.now front written bytes c.read-count.result.0 c.in-Some.event _ _ stands
-      (omega (arith, taken.count, e.within)) gives c.in_err-print.ensures.front))
+    let taken = e.stands front stands.reader in
+    let gives = rw c.in-Some.is at (e.gives front stands.reader) in
+    rw (same, why) (grown_part c.args.self.now front written bytes c.read-count.result.0 c.in-Some.event _ _ stands
+    (omega (arith, taken.count, e.within)) gives c.in_err-print.ensures.front))
 
 -- the line of an event was written
 pub returns-in_ok-print-clause-works : goal.returns-in_ok-print-clause-works
