@@ -13,6 +13,7 @@ ghost use Rattle.tc_files.specs.declared.interval_file.header.IntervalHeader.{In
 ghost use Rattle.tc_files.specs.IntervalHeader.{IsTickRate};
 ghost use Rattle.tc_files.specs.Texts.{event_line, read_end_line, FitsLine};
 ghost use Rattle.tc_io.specs.Sink.{AppendsFront};
+ghost use Rattle.tc_io.specs.Source.{Rose};
 ghost use Rattle.tc_top.specs.Along.{Printing};
 ghost use Rattle.tc_top.specs.Causes.{HasOutCause};
 ghost use Rattle.tc_top.specs.LtcRead.{lines};
@@ -25,7 +26,7 @@ use biphase::{MAX_INTERVAL, Profile};
 use direction_reader::laws::a_reader_gives_the_events_of_its_list;
 use direction_reader::{Brought, DirectionReader, Event, Events, MAX_INTERVALS};
 use tc_files::{IntervalHeader, Text, event_text, read_end_text};
-use tc_io::Sink;
+use tc_io::{Failed, Sink};
 
 /// The report of a recording: its header, its reader, and how many events of each kind were printed.
 #[derive(Drop)]
@@ -57,14 +58,18 @@ impl Report {
     {
         match self.reader.step(x) {
             Brought::Nothing => Ok(()),
-            brought => self.print(brought, out),
+            brought => match self.print(brought, out) {
+                Ok(()) => Ok(()),
+                Err(Failed) => Err(Stop::WriteFault),
+            },
         }
     }
 
-    /// Prints what the latest interval brought. Nearly every interval brings nothing.
+    /// Prints what the latest interval brought. Nearly every interval brings nothing, and a small answer
+    /// costs those nothing.
     #[cold]
     #[inline(never)]
-    fn print<K: Sink>(&mut self, brought: Brought, out: &mut K) -> Result<(), Stop>
+    fn print<K: Sink>(&mut self, brought: Brought, out: &mut K) -> Result<(), Failed>
         requires taken { 1 ≤ self.old.reader.intervals }
         requires within { self.old.reader.intervals ≤ MAX_INTERVALS }
         requires sum { self.old.reader.tick ≤ self.old.reader.intervals * MAX_INTERVAL }
@@ -78,11 +83,14 @@ impl Report {
             × Prints self.old self.new (event_list own) (K.written out.old) (K.written out.new)) }
         ensures front { OnErr result ((own : Events) × Tells self.old.reader brought own
             × AppendsFront (K.written out.old) (K.written out.new) (lines self.old.header (event_list own))) }
-        ensures why { IfErr result (λ stop. stop ≡ Stop.WriteFault) }
-        ensures cause { HasOutCause (K.faults out.old) (K.faults out.new) result }
+        ensures same { OnOk result (K.faults out.new ≡ K.faults out.old) }
+        ensures rose { OnErr result (Rose (K.faults out.old) (K.faults out.new)) }
     {
         let events = self.reader.events(brought);
-        self.push(events, out)
+        match self.push(events, out) {
+            Ok(()) => Ok(()),
+            Err(_) => Err(Failed),
+        }
     }
 
     /// Counts the events of an interval, and pushes their lines.

@@ -1,7 +1,6 @@
 use Rattle.std.proofs.Common.{refl, arith}
 use Rattle.std.proofs.KnownBytes.{Appends-nil}
 use Rattle.direction_reader.specs.Events.{no_events}
-use Rattle.tc_top.proofs.AlongTheInput.{on_ok, on_err}
 use Rattle.tc_top.proofs.engines.ltc_read.Report.feed.Goals as goal
 
 -- the interval brought nothing
@@ -13,17 +12,19 @@ returns-in-Nothing-clause-prints g c = (
 )
 
 -- the events that it brought were printed
-pub returns-in_default-clause-prints : goal.returns-in_default-clause-prints
-returns-in_default-clause-prints g c = on_ok c.print.result c.print.ensures.prints (λ h. (
-  h.0,
-  record { stands = λ intervals events stands. rw c.print.ensures.reader (c.step.ensures.stands intervals events h.0 stands h.1) },
-  record { pushed = h.2.pushed; words = h.2.words; refused = h.2.refused; lost = h.2.lost },
-))
+pub returns-in-Ok-clause-prints : goal.returns-in-Ok-clause-prints
+returns-in-Ok-clause-prints g c =
+    let h = c.in-Ok.ensures.prints in (
+      h.0,
+      record { stands = λ intervals events stands. rw c.print.ensures.reader (c.step.ensures.stands intervals events h.0 stands h.1) },
+      record { pushed = h.2.pushed; words = h.2.words; refused = h.2.refused; lost = h.2.lost },
+    )
 
 -- a front of their lines was
-pub returns-in_default-clause-front : goal.returns-in_default-clause-front
-returns-in_default-clause-front g c = on_err c.print.result c.print.ensures.front (λ h. (
-  h.0,
-  record { stands = λ intervals events stands. rw c.print.ensures.reader (c.step.ensures.stands intervals events h.0 stands h.1) },
-  h.2,
-))
+pub returns-in-Err-clause-front : goal.returns-in-Err-clause-front
+returns-in-Err-clause-front g c =
+    let h = c.in-Err.ensures.front in (
+      h.0,
+      record { stands = λ intervals events stands. rw c.print.ensures.reader (c.step.ensures.stands intervals events h.0 stands h.1) },
+      h.2,
+    )
