@@ -126,3 +126,14 @@ padded_event (a ∷ b ∷ c ∷ d ∷ e ∷ f ∷ g ∷ []) place =
     let row = a ∷ b ∷ c ∷ d ∷ e ∷ f ∷ g ∷ [] in no_first (latest_eight (padded row)) place refl ∙ sym (no_window (latest_eight row) place (λ e. absurd cc))
 padded_event (a ∷ b ∷ c ∷ d ∷ e ∷ f ∷ g ∷ h ∷ more) place =
     ap (λ l. window_event l place) (latest_eight-padded (a ∷ b ∷ c ∷ d ∷ e ∷ f ∷ g ∷ h ∷ more) (omega arith))
+
+-- the oldest quarter frame has another piece than the first of a window
+pub another_first : (xs : List ℕ) (place : ℕ) → piece_of (slice_index xs 0) ≢ 0 → piece_of (slice_index xs 0) ≢ 7 → window_event xs place ≡ None
+another_first xs place not_zero not_seven =
+    neither xs place (λ is. not_zero (forward_at xs is).0) (λ is. not_seven (backward_at xs is).0)
+
+-- one more in place of the oldest of eight
+pub latest_eight-next : (row : List ℕ) (a b c d e f g h quarter : ℕ) → latest_eight row ≡ a ∷ b ∷ c ∷ d ∷ e ∷ f ∷ g ∷ h ∷ []
+    → latest_eight (row ++ quarter ∷ []) ≡ b ∷ c ∷ d ∷ e ∷ f ∷ g ∷ h ∷ quarter ∷ []
+latest_eight-next row a b c d e f g h quarter is =
+    sym (latest_eight-full row quarter (ap length is)) ∙ ap (λ (l : List ℕ). remove l 0 ++ quarter ∷ []) is

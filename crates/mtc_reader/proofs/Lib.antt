@@ -6,3 +6,4 @@ pub mod PlacesOnly
 pub mod Labels
 pub mod OneByteMore
 pub mod ReadBack
+pub mod Runs

@@ -20,10 +20,10 @@ use Rattle.mtc_reader.proofs.AlongTheBytes.{all_along, events_along}
 use Rattle.mtc_reader.proofs.Labels.{label_is}
 use Rattle.mtc_reader.proofs.LatestEight.{no_window}
 
-below : (n : ℕ) → n < 0x80 → is_data n ≡ true
+pub below : (n : ℕ) → n < 0x80 → is_data n ≡ true
 below n h = grind (arith, nat_tests)
 
-sounds : (n : ℕ) → n < 0x80 → is_sounding n ≡ true
+pub sounds : (n : ℕ) → n < 0x80 → is_sounding n ≡ true
 sounds n h = grind (arith, nat_tests)
 
 full_read : (device hr mn sc fr : ℕ) → device < 0x80 → hr < 0x80 → mn < 0x80 → sc < 0x80 → fr < 0x80 →
@@ -33,10 +33,10 @@ full_read device hr mn sc fr d h m s f =
     ∙ rw (below device d, below hr h, below mn m, below sc s, below fr f, sounds device d, sounds hr h, sounds mn m, sounds sc s, sounds fr f) refl
 
 -- a quarter frame of a piece: its data byte
-record IsQuarter (piece quarter : ℕ) : Type 0 where
-  is_data_byte : is_data quarter ≡ true
-  is_no_real_time : is_sounding quarter ≡ true
-  is_piece : piece_of quarter ≡ piece
+pub record IsQuarter (piece quarter : ℕ) : Type 0 where
+  pub is_data_byte : is_data quarter ≡ true
+  pub is_no_real_time : is_sounding quarter ≡ true
+  pub is_piece : piece_of quarter ≡ piece
 
 quarter_is : (piece quarter bits : ℕ) → piece < 8 → bits < 16 → quarter ≡ 16 * piece + bits → IsQuarter piece quarter
 quarter_is piece quarter bits p b is =
@@ -45,16 +45,16 @@ quarter_is piece quarter bits p b is =
     record { is_data_byte = below quarter small; is_no_real_time = sounds quarter small; is_piece = over }
 
 -- what stands after a quarter frame
-abbrev after : ℕ → Current
+abbrev pub after : ℕ → Current
 after quarter = record { kind = kinds.Quarter; numbers = quarter ∷ [] }
 
-quarter_step : (place : ℕ) (current : Current) (messages : List Message) (quarter : ℕ) (more : List ℕ) → is_data quarter ≡ true → is_sounding quarter ≡ true →
+pub quarter_step : (place : ℕ) (current : Current) (messages : List Message) (quarter : ℕ) (more : List ℕ) → is_data quarter ≡ true → is_sounding quarter ≡ true →
     events_along place current messages (0xf1 ∷ quarter ∷ more)
     ≡ events_of (event_of (QuarterFrame quarter) messages (place + 1)) ++ events_along (place + 1 + 1) (after quarter) (QuarterFrame quarter ∷ messages) more
 quarter_step place current messages quarter more is_number is_no_real_time = rw (is_number, is_no_real_time) refl
 
 -- fewer than eight give nothing yet
-early : (place : ℕ) (current : Current) (messages : List Message) (quarter : ℕ) (more : List ℕ) → is_data quarter ≡ true → is_sounding quarter ≡ true →
+pub early : (place : ℕ) (current : Current) (messages : List Message) (quarter : ℕ) (more : List ℕ) → is_data quarter ≡ true → is_sounding quarter ≡ true →
     length (latest_eight (row_in messages ++ quarter ∷ [])) ≢ 8 →
     events_along place current messages (0xf1 ∷ quarter ∷ more) ≡ events_along (place + 1 + 1) (after quarter) (QuarterFrame quarter ∷ messages) more
 early place current messages quarter more is_number is_no_real_time fewer =
@@ -62,21 +62,21 @@ early place current messages quarter more is_number is_no_real_time fewer =
     ∙ ap (λ event. events_of event ++ events_along (place + 1 + 1) (after quarter) (QuarterFrame quarter ∷ messages) more)
     (no_window (latest_eight (row_in messages ++ quarter ∷ [])) (place + 1) fewer)
 
-record IsRow (a b c d e f g h : ℕ) : Type 0 where
-  first : IsQuarter 0 a
-  second : IsQuarter 1 b
-  third : IsQuarter 2 c
-  fourth : IsQuarter 3 d
-  fifth : IsQuarter 4 e
-  sixth : IsQuarter 5 f
-  seventh : IsQuarter 6 g
-  eighth : IsQuarter 7 h
+pub record IsRow (a b c d e f g h : ℕ) : Type 0 where
+  pub first : IsQuarter 0 a
+  pub second : IsQuarter 1 b
+  pub third : IsQuarter 2 c
+  pub fourth : IsQuarter 3 d
+  pub fifth : IsQuarter 4 e
+  pub sixth : IsQuarter 5 f
+  pub seventh : IsQuarter 6 g
+  pub eighth : IsQuarter 7 h
 
 abbrev IsNumber : ℕ → Type 0
 IsNumber n = (is_data n ≡ true) × (is_sounding n ≡ true)
 
 -- quarter frames that came, the latest first
-abbrev came : List ℕ → List Message
+abbrev pub came : List ℕ → List Message
 came numbers = map (λ number. QuarterFrame number) numbers
 
 eight_read : (a b c d e f g h : ℕ) → IsNumber a → IsNumber b → IsNumber c → IsNumber d → IsNumber e → IsNumber f → IsNumber g → IsNumber h →
@@ -94,9 +94,9 @@ eight_read a b c d e f g h na nb nc nd ne nf ng nh =
     ∙ quarter_step 14 (after g) (came (g ∷ f ∷ e ∷ d ∷ c ∷ b ∷ a ∷ [])) h [] nh.0 nh.1
     ∙ append-nil (events_of (window_event (a ∷ b ∷ c ∷ d ∷ e ∷ f ∷ g ∷ h ∷ []) 15))
 
-rising_window : (a b c d e f g h : ℕ) → IsRow a b c d e f g h →
-    window_event (a ∷ b ∷ c ∷ d ∷ e ∷ f ∷ g ∷ h ∷ []) 15 ≡ Some (quarter_event Forward (quarter_address (a ∷ b ∷ c ∷ d ∷ e ∷ f ∷ g ∷ h ∷ [])) 15)
-rising_window a b c d e f g h row =
+pub rising_window : (place a b c d e f g h : ℕ) → IsRow a b c d e f g h →
+    window_event (a ∷ b ∷ c ∷ d ∷ e ∷ f ∷ g ∷ h ∷ []) place ≡ Some (quarter_event Forward (quarter_address (a ∷ b ∷ c ∷ d ∷ e ∷ f ∷ g ∷ h ∷ [])) place)
+rising_window place a b c d e f g h row =
     rw (
       row.first.is_piece,
       row.second.is_piece,
@@ -108,9 +108,9 @@ rising_window a b c d e f g h row =
       row.eighth.is_piece,
     ) refl
 
-falling_window : (a b c d e f g h : ℕ) → IsRow a b c d e f g h →
-    window_event (h ∷ g ∷ f ∷ e ∷ d ∷ c ∷ b ∷ a ∷ []) 15 ≡ Some (quarter_event Backward (quarter_address (a ∷ b ∷ c ∷ d ∷ e ∷ f ∷ g ∷ h ∷ [])) 15)
-falling_window a b c d e f g h row =
+pub falling_window : (place a b c d e f g h : ℕ) → IsRow a b c d e f g h →
+    window_event (h ∷ g ∷ f ∷ e ∷ d ∷ c ∷ b ∷ a ∷ []) place ≡ Some (quarter_event Backward (quarter_address (a ∷ b ∷ c ∷ d ∷ e ∷ f ∷ g ∷ h ∷ [])) place)
+falling_window place a b c d e f g h row =
     rw (
       row.first.is_piece,
       row.second.is_piece,
@@ -122,7 +122,7 @@ falling_window a b c d e f g h row =
       row.eighth.is_piece,
     ) refl
 
-code_below : (count : Count) → code_of count < 4
+pub code_below : (count : Count) → code_of count < 4
 code_below C24 = omega arith
 code_below C25 = omega arith
 code_below Drop30 = omega arith
@@ -140,10 +140,10 @@ rate_below C25 = omega arith
 rate_below Drop30 = omega arith
 rate_below C30 = omega arith
 
-frames_below : (a : Address) → IsLabel a → a.frames < 30
+pub frames_below : (a : Address) → IsLabel a → a.frames < 30
 frames_below a l = omega (arith, rate_below a.count, l.frames)
 
-full_back : (a : Address) → IsLabel a → full_address (32 * code_of a.count + a.hours) a.minutes a.seconds a.frames ≡ a
+pub full_back : (a : Address) → IsLabel a → full_address (32 * code_of a.count + a.hours) a.minutes a.seconds a.frames ≡ a
 full_back a l =
     let over : (32 * code_of a.count + a.hours) / 32 ≡ code_of a.count = omega (arith, l.hours) in
     let under : (32 * code_of a.count + a.hours) % 32 ≡ a.hours = omega (arith, l.hours) in
@@ -168,7 +168,7 @@ quarter_back a b c d e f g h label l ia ib ic id ie if_ ig ih =
     let code : h % 16 / 2 % 4 ≡ code_of label.count = omega (arith, l.hours, code_below label.count, ih) in
     rw (frames, seconds, minutes, hours, code, count_back label.count) refl
 
-row_is : (a : Address) → IsLabel a → IsRow (a.frames % 16) (0x10 + a.frames / 16) (0x20 + a.seconds % 16) (0x30 + a.seconds / 16) (0x40 + a.minutes % 16)
+pub row_is : (a : Address) → IsLabel a → IsRow (a.frames % 16) (0x10 + a.frames / 16) (0x20 + a.seconds % 16) (0x30 + a.seconds / 16) (0x40 + a.minutes % 16)
     (0x50 + a.minutes / 16) (0x60 + a.hours % 16) (0x70 + (a.hours / 16 + 2 * code_of a.count))
 row_is a l = record {
   first = quarter_is 0 (a.frames % 16) (a.frames % 16) (omega arith) (omega arith) (omega arith);
@@ -185,7 +185,7 @@ row_is a l = record {
 number_of : (piece quarter : ℕ) → IsQuarter piece quarter → IsNumber quarter
 number_of piece quarter is = (is.is_data_byte, is.is_no_real_time)
 
-address_back : (a : Address) → IsLabel a → quarter_address (a.frames % 16 ∷ (0x10 + a.frames / 16) ∷ (0x20 + a.seconds % 16) ∷ (0x30 + a.seconds / 16)
+pub address_back : (a : Address) → IsLabel a → quarter_address (a.frames % 16 ∷ (0x10 + a.frames / 16) ∷ (0x20 + a.seconds % 16) ∷ (0x30 + a.seconds / 16)
     ∷ (0x40 + a.minutes % 16) ∷ (0x50 + a.minutes / 16) ∷ (0x60 + a.hours % 16) ∷ (0x70 + (a.hours / 16 + 2 * code_of a.count)) ∷ []) ≡ a
 address_back a l = quarter_back _ _ _ _ _ _ _ _ a l refl refl refl refl refl refl refl refl
 
@@ -194,7 +194,7 @@ rising_back a l =
     let row = row_is a l in
     eight_read _ _ _ _ _ _ _ _ (number_of 0 _ row.first) (number_of 1 _ row.second) (number_of 2 _ row.third) (number_of 3 _ row.fourth)
     (number_of 4 _ row.fifth) (number_of 5 _ row.sixth) (number_of 6 _ row.seventh) (number_of 7 _ row.eighth)
-    ∙ ap events_of (rising_window _ _ _ _ _ _ _ _ row) ∙ ap (λ b. quarter_event Forward b 15 ∷ []) (address_back a l)
+    ∙ ap events_of (rising_window 15 _ _ _ _ _ _ _ _ row) ∙ ap (λ b. quarter_event Forward b 15 ∷ []) (address_back a l)
     ∙ ap (λ event. event ∷ []) (cond-true (is_label a) (Quarter Forward a 15) (RefusedQuarter Forward (fault_of a) 15) (label_is a l))
 
 pub falling_back : (a : Address) → IsLabel a → events_in (falling a) ≡ Quarter Backward a 15 ∷ []
@@ -202,5 +202,5 @@ falling_back a l =
     let row = row_is a l in
     eight_read _ _ _ _ _ _ _ _ (number_of 7 _ row.eighth) (number_of 6 _ row.seventh) (number_of 5 _ row.sixth) (number_of 4 _ row.fifth)
     (number_of 3 _ row.fourth) (number_of 2 _ row.third) (number_of 1 _ row.second) (number_of 0 _ row.first)
-    ∙ ap events_of (falling_window _ _ _ _ _ _ _ _ row) ∙ ap (λ b. quarter_event Backward b 15 ∷ []) (address_back a l)
+    ∙ ap events_of (falling_window 15 _ _ _ _ _ _ _ _ row) ∙ ap (λ b. quarter_event Backward b 15 ∷ []) (address_back a l)
     ∙ ap (λ event. event ∷ []) (cond-true (is_label a) (Quarter Backward a 15) (RefusedQuarter Backward (fault_of a) 15) (label_is a l))

@@ -1,8 +1,10 @@
 -- What the laws speak of: events but for their places, and system real-time bytes.
-use Rattle.std.specs.Prelude.{ℕ, ◌+◌, ◌*◌, ◌/◌, ◌%◌, ◌≤◌, List, [], ◌∷◌, reverse}
+use Rattle.std.specs.Prelude.{ℕ, ◌+◌, ◌*◌, ◌/◌, ◌%◌, ◌≤◌, List, [], ◌∷◌, map, reverse, take}
+use Rattle.std.specs.List.{flat_map}
+use Rattle.tc_address.specs.declared.direction.Direction.{Direction}
 use Rattle.tc_address.specs.declared.count.Count.{Count}
 use Rattle.tc_address.specs.declared.count.Count.TheVariants.{C24, C25, C30, Drop30}
-use Rattle.tc_address.specs.Label.{Address}
+use Rattle.tc_address.specs.Label.{Address, IsLabel}
 use Rattle.mtc_reader.specs.declared.event.MtcEvent.{MtcEvent}
 use Rattle.mtc_reader.specs.declared.event.MtcEvent.TheVariants.{Full, Quarter, RefusedFull, RefusedQuarter}
 
@@ -46,3 +48,26 @@ rising a = quarters (numbers_of a)
 
 abbrev pub falling : Address → List ℕ
 falling a = quarters (reverse (numbers_of a))
+
+-- all of them are labels
+abbrev pub AreLabels : List Address → Type 0
+AreLabels [] = Unit {0}
+AreLabels (a ∷ more) = IsLabel a × AreLabels more
+
+-- the first four quarter frames of an address either way
+abbrev pub rising_half : Address → List ℕ
+rising_half a = quarters (take 4 (numbers_of a))
+
+abbrev pub falling_half : Address → List ℕ
+falling_half a = quarters (take 4 (reverse (numbers_of a)))
+
+-- the quarter frames of addresses, one after another
+abbrev pub all_rising : List Address → List ℕ
+all_rising labels = flat_map rising labels
+
+abbrev pub all_falling : List Address → List ℕ
+all_falling labels = flat_map falling labels
+
+-- the quarter events of labels, but for their places
+abbrev pub quarter_events : Direction → List Address → List MtcEvent
+quarter_events direction labels = map (λ label. Quarter direction label 0) labels

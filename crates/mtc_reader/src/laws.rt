@@ -6,7 +6,19 @@ ghost use Rattle.tc_address.specs.Label.{Address, IsFirstFault, IsLabel, is_labe
 ghost use Rattle.mtc_reader.specs.declared.event.MtcEvent.{MtcEvent};
 ghost use Rattle.mtc_reader.specs.declared.event.MtcEvent.TheVariants.{Full, Quarter};
 ghost use Rattle.mtc_reader.specs.Events.{events_in, fault_of};
-ghost use Rattle.mtc_reader.specs.Laws.{at_no_place, full_message, rising, falling, AreRealTime};
+ghost use Rattle.mtc_reader.specs.Laws.{
+  all_falling,
+  all_rising,
+  at_no_place,
+  falling,
+  falling_half,
+  full_message,
+  quarter_events,
+  rising,
+  rising_half,
+  AreLabels,
+  AreRealTime,
+};
 ghost use Rattle.mtc_reader.specs.Messages.{without_real_time};
 
 /// System real-time bytes, wherever they are put in, change the places of events and nothing else of
@@ -30,6 +42,25 @@ pub fn a_label_is_read_back()
         → events_in (full_message device label) ≡ Full label 9 ∷ [] }
     ensures forward { (label : Address) → IsLabel label → events_in (rising label) ≡ Quarter Forward label 15 ∷ [] }
     ensures backward { (label : Address) → IsLabel label → events_in (falling label) ≡ Quarter Backward label 15 ∷ [] }
+{}
+
+/// After whatever bytes, a full message and then pairs of frames, eight quarter frames each, are read as
+/// the label of the full message and one label a pair; half a pair behind them gives nothing.
+pub fn a_run_is_read_back()
+    ensures forward { (before : List ℕ) (device : ℕ) (first : Address) (labels : List Address) → device < 0x80 → IsLabel first → AreLabels labels
+        → map at_no_place (events_in (before ++ (full_message device first ++ all_rising labels)))
+        ≡ map at_no_place (events_in before) ++ Full first 0 ∷ quarter_events Forward labels }
+    ensures forward_half { (before : List ℕ) (device : ℕ) (first : Address) (labels : List Address) (half : Address)
+        → device < 0x80 → IsLabel first → AreLabels labels → IsLabel half
+        → map at_no_place (events_in (before ++ (full_message device first ++ (all_rising labels ++ rising_half half))))
+        ≡ map at_no_place (events_in before) ++ Full first 0 ∷ quarter_events Forward labels }
+    ensures backward { (before : List ℕ) (device : ℕ) (first : Address) (labels : List Address) → device < 0x80 → IsLabel first → AreLabels labels
+        → map at_no_place (events_in (before ++ (full_message device first ++ all_falling labels)))
+        ≡ map at_no_place (events_in before) ++ Full first 0 ∷ quarter_events Backward labels }
+    ensures backward_half { (before : List ℕ) (device : ℕ) (first : Address) (labels : List Address) (half : Address)
+        → device < 0x80 → IsLabel first → AreLabels labels → IsLabel half
+        → map at_no_place (events_in (before ++ (full_message device first ++ (all_falling labels ++ falling_half half))))
+        ≡ map at_no_place (events_in before) ++ Full first 0 ∷ quarter_events Backward labels }
 {}
 
 /// An address with a first fault is no label, and that fault is told of it.

@@ -1,9 +1,13 @@
 //! What follows from the definitions alone.
-ghost use Rattle.std.specs.Prelude.{◌≡◌, ◌≤◌, List, ℕ, length};
+ghost use Rattle.std.specs.Prelude.{◌≡◌, ◌≤◌, List, ℕ, length, [], ◌∷◌};
 ghost use Rattle.direction_reader.specs.declared.reader.TheConstants.{MAX_INTERVALS};
 ghost use Rattle.tc_files.specs.declared.interval_file.header.FileVersion.{FileVersion};
 ghost use Rattle.tc_files.specs.declared.interval_file.header.IntervalHeader.{IntervalHeader};
 ghost use Rattle.tc_files.specs.Grammar.{IsFile};
+ghost use Rattle.mtc_reader.specs.Laws.{falling, full_message, rising};
+ghost use Rattle.quarter_frame.specs.Message.{full_of};
+ghost use Rattle.quarter_frame.specs.Runs.{quarters};
+ghost use Rattle.tc_address.specs.Label.{Address};
 ghost use Rattle.tc_words.specs.declared.job.Job.{Job};
 ghost use Rattle.tc_top.specs.Commands.{meaning_of};
 ghost use Rattle.tc_top.specs.LtcConvert.{in_version};
@@ -41,3 +45,11 @@ pub fn converting_keeps_the_recording()
 {
     a_file_is_read_as_it_was_written();
 }
+
+/// The messages that `ltc-mtc` sends are those that `mtc-read` reads: a full message of a label, and the
+/// eight quarter frames of a pair, forward and backward.
+pub fn what_is_sent_is_what_is_read()
+    ensures full { (a : Address) → full_of a ≡ full_message 0x7f a }
+    ensures forward { (a : Address) → quarters a (0 ∷ 1 ∷ 2 ∷ 3 ∷ 4 ∷ 5 ∷ 6 ∷ 7 ∷ []) ≡ rising a }
+    ensures backward { (a : Address) → quarters a (7 ∷ 6 ∷ 5 ∷ 4 ∷ 3 ∷ 2 ∷ 1 ∷ 0 ∷ []) ≡ falling a }
+{}
