@@ -6,6 +6,7 @@ pub mod FlightGrows
 pub mod FramesInOrder
 pub mod LinesGrow
 pub mod MadeInPieces
+pub mod MadeIsRead
 pub mod OneOutput
 pub mod OneStatus
 pub mod PushedLines

@@ -5,6 +5,7 @@ ghost use Rattle.tc_io.specs.Source.{Rose};
 ghost use Rattle.tc_top.specs.Answer.{Exchange, IsAnswer, IsPulled, IsWritten, IsNoted, status_on};
 ghost use Rattle.tc_top.specs.Causes.{SourceCause, OutCause, HasSourceCause, HasOutCause};
 ghost use Rattle.tc_top.specs.Commands.{meaning_of};
+ghost use Rattle.tc_top.specs.Made.{MakesWhatIsRead};
 ghost use Rattle.tc_top.specs.Meaning.{Meaning, IsInput, IsEnd};
 ghost use Rattle.tc_top.specs.Stops.{StopsAlong};
 
@@ -48,6 +49,9 @@ pub fn stream<S: Source, K: Sink, N: Sink>(
     ensures status { (input : List ℕ) → S.left source.old ≡ Some input
         → ¬ Rose (S.faults source.old) (S.faults source.new) → ¬ Rose (K.faults out.old) (K.faults out.new)
         → result ≡ status_on (meaning_of job.now) input }
+
+    // A recording that the job makes is read back, frame by frame.
+    ensures read { MakesWhatIsRead job.now }
 {
     match work_on(job, source, out) {
         Ok(()) => Status::Done,
@@ -73,6 +77,7 @@ fn work_on<S: Source, K: Sink>(job: &Job, source: &mut S, out: &mut K) -> Result
     ensures out { HasOutCause (K.faults out.old) (K.faults out.new) result }
     ensures idle { Meaning.reads (meaning_of job.now) ≡ false → source.new ≡ source.old }
     ensures writes { Meaning.reads (meaning_of job.now) ≡ false → IfErr result (λ stop. stop ≡ Stop.WriteFault) }
+    ensures read { MakesWhatIsRead job.now }
 {
     match job {
         Job::LtcRead => work(&mut Along::<Report>::new(Profile::Normal), source, out),

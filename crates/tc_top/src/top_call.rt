@@ -7,6 +7,7 @@ ghost use Rattle.tc_words.specs.Job.{answer_to};
 ghost use Rattle.tc_top.specs.Answer.{Exchange, IsRunAnswer, IsPulled, IsWritten, IsNoted, status_on};
 ghost use Rattle.tc_top.specs.Causes.{SourceCause, OutCause};
 ghost use Rattle.tc_top.specs.Commands.{meaning_of};
+ghost use Rattle.tc_top.specs.Made.{MakesWhatIsRead};
 ghost use Rattle.tc_top.specs.Meaning.{Meaning};
 
 use crate::notes::{push_note, usage_note};
@@ -51,6 +52,9 @@ pub fn run<S: Source, K: Sink, N: Sink>(
         → S.left source.old ≡ Some input
         → ¬ Rose (S.faults source.old) (S.faults source.new) → ¬ Rose (K.faults out.old) (K.faults out.new)
         → (result ≡ status_on (meaning_of job) input) ⊎ (result ≡ Status.Memory) }
+
+    // A recording that was made is read back, frame by frame.
+    ensures read { (job : Job) → answer_to (map string_bytes words.now) ≡ Ok job → result ≡ Status.Done → MakesWhatIsRead job }
 {
     match read_words(alloc, words) {
         Ok(job) => stream(&job, source, out, notes),
