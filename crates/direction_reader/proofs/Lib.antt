@@ -1,6 +1,7 @@
 pub mod BitsShift
 pub mod CellsEnd
 pub mod CellsGrow
+pub mod ChainIsAStretch
 pub mod EventsExist
 pub mod EventsJoin
 pub mod Examples
@@ -12,10 +13,12 @@ pub mod OneList
 pub mod OneListOfEvents
 pub mod ReaderSteps
 pub mod TellsTheTape
+pub mod SyncInTime
 pub mod TheEvents
 pub mod TrackerSteps
 pub mod WindowHolds
 pub mod WindowsFromCells
 pub mod WindowsGrow
 pub mod WordsEnd
+pub mod WordsAreRead
 pub mod WrittenOver

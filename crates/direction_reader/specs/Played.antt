@@ -5,8 +5,10 @@ use Rattle.biphase.specs.declared.cell.Cell.{Cell}
 use Rattle.ltc_word.specs.declared.word.LtcWord.{LtcWord}
 use Rattle.ltc_word.specs.Reversal.{reversed_bits}
 use Rattle.ltc_word.specs.Spelled.{spelling_of}
+use Rattle.ltc_word.specs.Spelling.{Spells}
 use Rattle.tc_address.specs.declared.direction.Direction.{Direction}
 use Rattle.tc_address.specs.declared.direction.Direction.TheVariants.{Forward, Backward}
+use Rattle.tc_address.specs.declared.system.System.{System}
 use Rattle.direction_reader.specs.declared.event.Event.{Event}
 use Rattle.direction_reader.specs.declared.event.Event.TheVariants.{Word}
 use Rattle.direction_reader.specs.ListEvents.{duration}
@@ -40,3 +42,8 @@ events_of_words tick cells [] = []
 events_of_words tick cells (p ∷ more) =
     let length = duration (take 80 cells) in
     Word p.direction p.word (tick + length) length ∷ events_of_words (tick + length) (drop 80 cells) more
+
+-- each word is one of the system, spelled
+abbrev pub AreSpelled : System → List Played → Type 0
+AreSpelled system [] = Unit {0}
+AreSpelled system (p ∷ more) = Spells system p.word (spelling_of p.word) × AreSpelled system more

@@ -1,5 +1,7 @@
 //! What follows from the definitions alone, and the numbers that code and definitions share.
-ghost use Rattle.std.specs.Prelude.{◌≡◌, ℕ, ◌*◌, ◌^◌, ◌<◌, List, [], ◌∷◌, ◌++◌, reverse, false, true};
+ghost use Rattle.std.specs.Prelude.{◌≡◌, ℕ, ◌*◌, ◌^◌, ◌<◌, List, [], ◌∷◌, ◌++◌, reverse, false, true, drop, take};
+ghost use Rattle.biphase.specs.declared.cell.Cell.{Cell};
+ghost use Rattle.biphase.specs.Chain.{bits, flat, IsChain};
 ghost use Rattle.biphase.specs.declared.profile.Profile.{Profile};
 ghost use Rattle.biphase.specs.declared.profile.Profile.TheVariants.{Normal};
 ghost use Rattle.cell_tracker.specs.Recording.{recording};
@@ -11,8 +13,9 @@ ghost use Rattle.direction_reader.specs.declared.reader.TheConstants.{MAX_INTERV
 ghost use Rattle.direction_reader.specs.declared.window.TheConstants.{WINDOW_BITS};
 ghost use Rattle.direction_reader.specs.Brings.{greatest_cell};
 ghost use Rattle.direction_reader.specs.Candidate.{AreEventsOf};
-ghost use Rattle.direction_reader.specs.ListEvents.{AreEvents};
 ghost use Rattle.direction_reader.specs.Mirror.{MirrorsTheTape};
+ghost use Rattle.direction_reader.specs.ListEvents.{duration, AreEvents};
+ghost use Rattle.direction_reader.specs.Played.{Played, AreSpelled, bits_of_words, events_of_words};
 ghost use Rattle.direction_reader.specs.Reader.{Reading};
 ghost use Rattle.direction_reader.specs.StandsFor.{StandsFor};
 ghost use Rattle.direction_reader.specs.Tape.{TellsTheTape, FindsTheTape};
@@ -24,6 +27,7 @@ ghost use Rattle.tc_address.specs.declared.system.System.{System};
 ghost use Rattle.tc_address.specs.declared.system.System.TheVariants.{F25};
 ghost use Rattle.tc_bits.specs.declared.fault.FieldFault.TheVariants.{FrameUnits};
 
+use biphase::laws::kinds_tell_zeros_from_halves;
 use cell_tracker::laws::{
     a_list_has_one_list_of_stretches, a_mirrored_recording_has_the_mirrored_cells,
     a_recording_is_found_again_behind_anything, a_recording_within_the_tolerance_is_one_stretch,
@@ -31,7 +35,7 @@ use cell_tracker::laws::{
 };
 use ltc_word::laws::{
     bits_in_sync_spell_a_word_or_have_a_fault, reversed_twice_is_the_same, spelling_is_exact,
-    words_of_round_labels,
+    twelve_ones_are_the_sync_word, words_of_round_labels,
 };
 
 /// A reader takes a thousand million intervals, a window has 80 bits and 81 boundaries, and its
@@ -173,4 +177,17 @@ pub fn small_recordings_have_these_events()
 {
     small_recordings_have_these_stretches();
     words_of_round_labels();
+}
+
+/// Where a chain begins with the bits 0 and 1, and then has the bits of words that are played one after
+/// another, in any directions, each of the words is read, and nothing else: no word is refused, and no
+/// code is lost.
+pub fn played_words_are_read()
+    ensures { (system : System) (profile : Profile) (cells : List Cell) (words : List Played)
+        → IsChain profile cells → bits cells ≡ false ∷ true ∷ bits_of_words words → AreSpelled system words
+        → AreEvents system profile (flat cells) (events_of_words (duration (take 2 cells)) (drop 2 cells) words) }
+{
+    kinds_tell_zeros_from_halves();
+    reversed_twice_is_the_same();
+    twelve_ones_are_the_sync_word();
 }

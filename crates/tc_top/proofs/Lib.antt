@@ -11,6 +11,7 @@ pub mod MarkedLines
 pub mod MidiGrows
 pub mod MidiLimit
 pub mod MadeInPieces
+pub mod MadeIsRead
 pub mod OneOutput
 pub mod OneStatus
 pub mod PushedLines

@@ -1,8 +1,9 @@
 -- The recording that `ltc-make` makes, all of it at once: words from a label on, and cells of a shape.
-use Rattle.std.specs.Prelude.{ℕ, Bool, true, false, List, ◌∷◌, ◌++◌, map}
+use Rattle.std.specs.Prelude.{ℕ, Bool, true, false, List, ◌∷◌, ◌++◌, map, take, drop}
 use Rattle.std.specs.List.{flat_map, range_with_len}
 use Rattle.byteorder.specs.Endian.{big_bytes}
 use Rattle.biphase.specs.declared.cell.Cell.{Cell}
+use Rattle.biphase.specs.declared.profile.Profile.TheVariants.{Normal}
 use Rattle.biphase.specs.Chain.{flat}
 use Rattle.biphase.specs.Shape.{shaped}
 use Rattle.tc_address.specs.declared.count.Count.{Count}
@@ -14,11 +15,15 @@ use Rattle.tc_address.specs.Numbering.{step}
 use Rattle.tc_bits.specs.Fields.{contents}
 use Rattle.ltc_word.specs.declared.word.LtcWord.{LtcWord}
 use Rattle.ltc_word.specs.Spelling.{flags}
-use Rattle.direction_reader.specs.Played.{Played, bits_of_words}
+use Rattle.direction_reader.specs.declared.event.Event.{Event}
+use Rattle.direction_reader.specs.ListEvents.{duration, AreEvents}
+use Rattle.direction_reader.specs.Played.{Played, bits_of_words, events_of_words}
 use Rattle.flywheel.specs.Frames.{steps_in}
 use Rattle.tc_files.specs.declared.interval_file.header.FileVersion.TheVariants.{One}
 use Rattle.tc_files.specs.declared.interval_file.header.IntervalHeader.{IntervalHeader}
 use Rattle.tc_files.specs.IntervalHeader.{header_bytes}
+use Rattle.tc_words.specs.declared.job.Job.{Job}
+use Rattle.tc_words.specs.declared.job.Job.TheVariants.{LtcMake}
 use Rattle.tc_words.specs.Stripe.{Striping}
 
 -- the count drops labels
@@ -56,3 +61,18 @@ made_header s = record { version = One; system = system_with s.label.count; tick
 -- the file
 abbrev pub made : Striping → List ℕ
 made s = header_bytes (made_header s) ++ interval_bytes (flat (made_cells s))
+
+-- ---- what is read from it
+
+-- an event a frame: its word, with the tick that is the sum of the cells to its end, and the length of its 80 cells
+abbrev pub made_events : Striping → List Event
+made_events s = events_of_words (duration (take 2 (made_cells s))) (drop 2 (made_cells s)) (made_frames s)
+
+-- these are the events of its intervals: each frame is read, none is refused, and no code is lost
+abbrev pub IsReadBack : Striping → Type 0
+IsReadBack s = AreEvents (system_with s.label.count) Normal (flat (made_cells s)) (made_events s)
+
+-- what `ltc-make` makes is read back
+abbrev pub MakesWhatIsRead : Job → Type 0
+MakesWhatIsRead (LtcMake stripe) = IsReadBack stripe
+MakesWhatIsRead _ = Unit {0}

@@ -6,6 +6,7 @@ ghost use Rattle.tc_top.specs.Answer.{Exchange, IsAnswer, IsPulled, IsWritten, I
 ghost use Rattle.tc_top.specs.Causes.{SourceCause, OutCause, HasSourceCause, HasOutCause};
 ghost use Rattle.tc_top.specs.Commands.{meaning_of};
 ghost use Rattle.tc_top.specs.LtcFly.{IsMarked};
+ghost use Rattle.tc_top.specs.Made.{MakesWhatIsRead};
 ghost use Rattle.tc_top.specs.Meaning.{Meaning, IsInput, IsEnd};
 ghost use Rattle.tc_top.specs.Stops.{StopsAlong};
 ghost use Rattle.tc_top.specs.Tape.{IsReport, ReportsTheTape};
@@ -68,6 +69,9 @@ pub fn stream<S: Source, K: Sink, N: Sink>(
     // The lines of `ltc-fly` mark each frame that is invented, and these are within the limit.
     ensures marked { (limit : ℕ) → job.now ≡ Job.LtcFly limit
         → (written : List ℕ) × Appends (K.written out.old) (K.written out.new) written × IsMarked limit written }
+
+    // A recording that the job makes is read back, frame by frame.
+    ensures read { MakesWhatIsRead job.now }
 {
     events_tell_the_tape();
     events_find_the_tape_again();
@@ -97,6 +101,7 @@ fn work_on<S: Source, K: Sink>(job: &Job, source: &mut S, out: &mut K) -> Result
     ensures out { HasOutCause (K.faults out.old) (K.faults out.new) result }
     ensures idle { Meaning.reads (meaning_of job.now) ≡ false → source.new ≡ source.old }
     ensures writes { Meaning.reads (meaning_of job.now) ≡ false → IfErr result (λ stop. stop ≡ Stop.WriteFault) }
+    ensures read { MakesWhatIsRead job.now }
 {
     match job {
         Job::LtcRead => work(&mut Along::<Report>::new(Profile::Normal), source, out),

@@ -12,6 +12,7 @@ ghost use Rattle.tc_top.specs.Commands.{meaning_of};
 ghost use Rattle.tc_top.specs.LtcFly.{IsMarked};
 ghost use Rattle.tc_top.specs.Meaning.{Meaning, IsEnd};
 ghost use Rattle.tc_top.specs.Tape.{IsReport, ReportsTheTape};
+ghost use Rattle.tc_top.specs.Made.{MakesWhatIsRead};
 
 use crate::notes::{push_note, usage_note};
 use crate::status::Status;
@@ -65,6 +66,9 @@ pub fn run<S: Source, K: Sink, N: Sink>(
     // The lines of `ltc-fly` mark each frame that is invented, and these are within the limit.
     ensures marked { (limit : ℕ) → answer_to (map string_bytes words.now) ≡ Ok (Job.LtcFly limit)
         → (written : List ℕ) × Appends (K.written out.old) (K.written out.new) written × IsMarked limit written }
+
+    // A recording that was made is read back, frame by frame.
+    ensures read { (job : Job) → answer_to (map string_bytes words.now) ≡ Ok job → result ≡ Status.Done → MakesWhatIsRead job }
 {
     match read_words(alloc, words) {
         Ok(job) => stream(&job, source, out, notes),

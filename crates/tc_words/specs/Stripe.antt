@@ -1,8 +1,8 @@
 -- What is told of a recording that is to be made.
 use Rattle.std.specs.Prelude.{ℕ, ◌≤◌}
-use Rattle.biphase.specs.Shape.{Shape}
+use Rattle.biphase.specs.Shape.{Shape, IsShape}
 use Rattle.tc_address.specs.declared.direction.Direction.{Direction}
-use Rattle.tc_address.specs.Label.{Address}
+use Rattle.tc_address.specs.Label.{Address, IsLabel}
 use Rattle.tc_words.specs.declared.stripe.TheConstants.{MAX_FRAMES, MAX_TICK_RATE}
 
 -- so many frames from a label on in a direction, with cells of a shape, in ticks of a clock of so many ticks a second
@@ -17,9 +17,11 @@ abbrev pub stripe_of : Direction → Address → ℕ → Shape → ℕ → Strip
 stripe_of direction label frames shape tick_rate =
     record { direction = direction; label = label; frames = frames; shape = shape; tick_rate = tick_rate }
 
--- some frames and some ticks, and not too many
-pub record IsStripe (frames tick_rate : ℕ) : Type 0 where
-  pub some_frames : 1 ≤ frames
-  pub not_too_many : frames ≤ MAX_FRAMES
-  pub some_ticks : 1 ≤ tick_rate
-  pub not_too_fast : tick_rate ≤ MAX_TICK_RATE
+-- a label of its count, cells within the tolerance, some frames and some ticks, and not too many
+pub record IsStripe (s : Striping) : Type 0 where
+  pub label : IsLabel s.label
+  pub shape : IsShape s.shape
+  pub some_frames : 1 ≤ s.frames
+  pub not_too_many : s.frames ≤ MAX_FRAMES
+  pub some_ticks : 1 ≤ s.tick_rate
+  pub not_too_fast : s.tick_rate ≤ MAX_TICK_RATE

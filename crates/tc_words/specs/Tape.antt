@@ -9,7 +9,8 @@ use Rattle.tc_words.specs.declared.job.Job.{Job}
 use Rattle.tc_words.specs.declared.job.Job.TheVariants.{LtcMake}
 use Rattle.tc_words.specs.declared.stripe.TheConstants.{MAX_FRAMES, MAX_TICK_RATE}
 use Rattle.tc_words.specs.declared.tape.Tape.{Tape}
-use Rattle.tc_words.specs.Stripe.{stripe_of, IsStripe}
+use Rattle.tc_address.specs.Label.{IsLabel}
+use Rattle.tc_words.specs.Stripe.{stripe_of}
 use Rattle.tc_words.specs.Values.{Word, between, count_in, direction_in, spelled}
 
 -- what follows from a value, and the fault of its word where it has none
@@ -25,10 +26,14 @@ tape_in count direction label frames cell tick_rate =
     value_or 6 (between 1 MAX_TICK_RATE tick_rate) (λ r.
     Ok (record { direction = d; label = l; frames = f; cell = n; tick_rate = r })))))))
 
--- in their ranges
+-- a label of its count, and numbers in their ranges
 pub record IsTape (tape : Tape) : Type 0 where
-  pub stripe : IsStripe tape.frames tape.tick_rate
+  pub label : IsLabel tape.label
+  pub some_frames : 1 ≤ tape.frames
+  pub not_too_many : tape.frames ≤ MAX_FRAMES
   pub cell : IsShaped tape.cell
+  pub some_ticks : 1 ≤ tape.tick_rate
+  pub not_too_fast : tape.tick_rate ≤ MAX_TICK_RATE
 
 -- the job of making it with cells of a shape
 abbrev pub made_job : Tape → Shape → Job

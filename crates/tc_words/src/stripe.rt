@@ -24,13 +24,13 @@ pub struct Stripe {
 }
 
 impl Model for Stripe {
-    ghost use Rattle.tc_words.specs.Stripe.{IsStripe, Striping};
+    ghost use Rattle.tc_words.specs.Stripe.{IsStripe, Striping, stripe_of};
 
     ghost Value = { Striping };
 
     ghost view = { λ s. record { direction = s.direction; label = s.label; frames = s.frames; shape = s.shaper; tick_rate = s.tick_rate } };
 
-    ghost invariant = { λ s. IsStripe s.frames s.tick_rate };
+    ghost invariant = { λ s. IsStripe (stripe_of s.direction s.label s.frames s.shaper s.tick_rate) };
 
     ghost inverse = { λ s. record { direction = s.direction; label = s.label; frames = s.frames; shaper = s.shape; tick_rate = s.tick_rate } };
 }
@@ -45,7 +45,7 @@ impl Stripe {
         shaper: Shaper,
         tick_rate: u32,
     ) -> Stripe
-        requires { IsStripe frames tick_rate }
+        requires { IsStripe (stripe_of direction label frames shaper tick_rate) }
         ensures { result ≡ stripe_of direction label frames shaper tick_rate }
     {
         Stripe {
@@ -66,7 +66,8 @@ impl Stripe {
 
     /// The label of the first frame.
     pub fn label(&self) -> Label
-        ensures { result ≡ self.now.label }
+        ensures value { result ≡ self.now.label }
+        ensures valid { IsStripe self.now }
     {
         self.label
     }
@@ -74,14 +75,15 @@ impl Stripe {
     /// How many frames, from 1 to `MAX_FRAMES`.
     pub fn frames(&self) -> u32
         ensures value { result ≡ self.now.frames }
-        ensures valid { IsStripe self.now.frames self.now.tick_rate }
+        ensures valid { IsStripe self.now }
     {
         self.frames
     }
 
     /// What makes the cells.
     pub fn shaper(&self) -> Shaper
-        ensures { result ≡ self.now.shape }
+        ensures value { result ≡ self.now.shape }
+        ensures valid { IsStripe self.now }
     {
         self.shaper
     }
@@ -89,7 +91,7 @@ impl Stripe {
     /// Ticks of the recorder's clock in a second, from 1 to `MAX_TICK_RATE`.
     pub fn tick_rate(&self) -> u32
         ensures value { result ≡ self.now.tick_rate }
-        ensures valid { IsStripe self.now.frames self.now.tick_rate }
+        ensures valid { IsStripe self.now }
     {
         self.tick_rate
     }

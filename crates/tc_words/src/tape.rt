@@ -1,6 +1,6 @@
 //! The values of `ltc-make`, word by word. Next: `stripe`, which holds them.
-ghost use Rattle.std.specs.Prelude.{◌≡◌, IfOk};
-ghost use Rattle.biphase.specs.Shape.{shape_with, IsShaped};
+ghost use Rattle.std.specs.Prelude.{◌≡◌, IfOk, IfSome};
+ghost use Rattle.biphase.specs.Shape.{shape_with, IsShape, IsShaped};
 ghost use Rattle.tc_words.specs.Tape.{at_one_length, made_job, moving, shaped_to, tape_in, IsTape};
 
 use crate::fault::WordsFault;
@@ -87,7 +87,8 @@ fn tape_in(
 impl Tape {
     /// The job of making it with these cells.
     fn job(self, shaper: Shaper) -> Job
-        requires { IsTape self }
+        requires tape { IsTape self }
+        requires shape { IsShape shaper }
         ensures { result ≡ made_job self shaper }
     {
         Job::LtcMake {
@@ -105,7 +106,8 @@ impl Tape {
 /// The cells of one length.
 fn steady(cell: u32) -> Shaper
     requires { IsShaped cell }
-    ensures { result ≡ shape_with cell cell 0 }
+    ensures value { result ≡ shape_with cell cell 0 }
+    ensures valid { IsShape result }
 {
     match Shaper::new(cell, cell, 0) {
         Ok(shaper) => shaper,
@@ -117,7 +119,8 @@ fn steady(cell: u32) -> Shaper
 fn shaper_to(from: u32, to: u32, step: &str) -> Option<Shaper>
     requires from { IsShaped from }
     requires to { IsShaped to }
-    ensures { result ≡ shaped_to from to step.now }
+    ensures value { result ≡ shaped_to from to step.now }
+    ensures valid { IfSome result IsShape }
 {
     let step = between(0, from.min(to) / 8, step)?;
     match Shaper::new(from, to, step) {

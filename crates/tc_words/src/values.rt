@@ -3,6 +3,7 @@ ghost use Rattle.std.specs.Prelude.{◌≡◌, ◌≤◌, IfSome};
 ghost use Rattle.std.specs.Char.{is_ascii_digit};
 ghost use Rattle.std.specs.List.{list_all};
 ghost use Rattle.tc_words.specs.Values.{between, count_in, direction_in, is_number, limit_in, number_in, numbered, spelled, version_in};
+ghost use Rattle.tc_address.specs.Label.{IsLabel};
 
 use tc_address::{Count, Direction, Label, day_labels, label_at, read_text};
 use tc_files::FileVersion;
@@ -92,7 +93,8 @@ pub fn version_in(word: &str) -> Option<FileVersion>
 
 /// The label of the count that is spelled so.
 pub fn spelled(count: Count, word: &str) -> Option<Label>
-    ensures { result ≡ spelled count word.now }
+    ensures value { result ≡ spelled count word.now }
+    ensures valid { IfSome result IsLabel }
 {
     read_text(word.as_bytes(), count).ok()
 }

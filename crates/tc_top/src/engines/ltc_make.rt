@@ -8,14 +8,16 @@ ghost use Rattle.flywheel.specs.Frames.{steps_in};
 ghost use Rattle.ltc_word.specs.Spelled.{spelling_of};
 ghost use Rattle.tc_bits.specs.Fields.{IsFields};
 ghost use Rattle.tc_top.specs.KeptTape.{cell_bytes, rest_of};
-ghost use Rattle.tc_top.specs.Made.{drops, interval_bytes, made, word_of};
+ghost use Rattle.tc_top.specs.Made.{drops, interval_bytes, made, word_of, IsReadBack};
 
 use crate::making::{Maker, PIECE, Piece};
+use biphase::laws::shaped_cells_are_a_chain;
 use biphase::{Cell, Shaper};
 use byteorder::{BigEndian, ByteOrder};
+use direction_reader::laws::played_words_are_read;
 use ltc_word::laws::{each_word_has_its_spelling, spelling_is_exact};
 use ltc_word::{LtcWord, encode, reversed};
-use tc_address::laws::steps_add_up;
+use tc_address::laws::{number_and_label_are_inverse, steps_add_up};
 use tc_address::{Count, Direction, Label, advance, system_of};
 use tc_bits::{Fields, Flags, UserBits};
 use tc_files::{FileVersion, IntervalHeader, interval_header};
@@ -37,8 +39,13 @@ pub(crate) struct Tape {
 impl Tape {
     /// The whole recording of a stripe.
     pub(crate) fn new(stripe: &Stripe) -> Tape
-        ensures { rest_of result.header result.shaper result.direction result.label result.frames ≡ made stripe.now }
+        ensures rest { rest_of result.header result.shaper result.direction result.label result.frames ≡ made stripe.now }
+        ensures read { IsReadBack stripe.now }
     {
+        each_word_has_its_spelling();
+        number_and_label_are_inverse();
+        played_words_are_read();
+        shaped_cells_are_a_chain();
         let label = stripe.label();
         let header = IntervalHeader {
             version: FileVersion::One,

@@ -6,4 +6,4 @@ returns-in-LabelOf-clause-stops g c = rw (c.in-LabelOf.is, ← c.label.ensures) 
 
 -- a front of the recording was written
 pub returns-in-LtcMake-clause-stops : goal.returns-in-LtcMake-clause-stops
-returns-in-LtcMake-clause-stops g c = rw (c.in-LtcMake.is, ← c.new-in-LtcMake.ensures) c.make.ensures.stops
+returns-in-LtcMake-clause-stops g c = rw (c.in-LtcMake.is, ← c.new-in-LtcMake.ensures.rest) c.make.ensures.stops
