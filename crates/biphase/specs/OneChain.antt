@@ -8,7 +8,7 @@ use Rattle.biphase.specs.Chain.{flat, Begins, IsChainAfter}
 use Rattle.biphase.specs.Laws.{zero_is_no_half, first_half}
 
 -- a cell in front of both lists
-front_with : (cell : Cell) (one two : List Cell) → Begins one two ⊎ Begins two one
+pub front_with : (cell : Cell) (one two : List Cell) → Begins one two ⊎ Begins two one
     → Begins (cell ∷ one) (cell ∷ two) ⊎ Begins (cell ∷ two) (cell ∷ one)
 front_with cell one two (inl (rest, same)) = inl (rest, ap (λ cells. cell ∷ cells) same)
 front_with cell one two (inr (rest, same)) = inr (rest, ap (λ cells. cell ∷ cells) same)

@@ -1,5 +1,5 @@
 //! What follows from the tolerance alone, and the numbers that code and definitions share.
-ghost use Rattle.std.specs.Prelude.{◌≡◌, ℕ, ◌+◌, ◌-◌, ◌*◌, ◌^◌, ◌<◌, ◌≤◌, ◌↔◌, ◌⊎◌, All, Bool, List, min, max};
+ghost use Rattle.std.specs.Prelude.{◌≡◌, ℕ, ◌+◌, ◌-◌, ◌*◌, ◌^◌, ◌<◌, ◌≤◌, ◌↔◌, ◌⊎◌, List, ◌∷◌, drop, min, max, All, Bool};
 ghost use Rattle.std.specs.Int.{abs_diff};
 ghost use Rattle.biphase.specs.declared.cell.Cell.{Cell};
 ghost use Rattle.biphase.specs.declared.cell.TheConstants.{MAX_INTERVAL};
@@ -7,8 +7,9 @@ ghost use Rattle.biphase.specs.declared.pair.PairKind.{PairKind};
 ghost use Rattle.biphase.specs.declared.profile.Profile.{Profile};
 ghost use Rattle.biphase.specs.declared.profile.Profile.TheVariants.{Normal, Worn};
 ghost use Rattle.biphase.specs.Pair.{AreEqual, AreUnequal, IsKind};
+ghost use Rattle.biphase.specs.Chain.{flat, Begins, AreHalves, IsChain, IsChainAfter, IsNextZero, IsFirstHalf, IsNextOne, bits};
+ghost use Rattle.biphase.specs.Zeros.{GreaterIsZero};
 ghost use Rattle.biphase.specs.declared.shaper.TheConstants.{MIN_SHAPED, MAX_SHAPED};
-ghost use Rattle.biphase.specs.Chain.{bits, flat, Begins, AreHalves, IsChain, IsChainAfter, IsNextZero, IsFirstHalf, IsNextOne};
 ghost use Rattle.biphase.specs.Shape.{Shape, IsShape, shaped};
 
 /// The greatest length of an interval, in ticks: 24 bits.
@@ -99,6 +100,13 @@ pub fn chains_at_one_place_agree()
         → IsChainAfter profile c one → IsChainAfter profile c two
         → Begins (flat one) intervals → Begins (flat two) intervals
         → Begins one two ⊎ Begins two one }
+{}
+
+/// In the intervals of a chain the greater interval of an unequal pair is one of its zeros.
+pub fn the_greater_of_an_unequal_pair_is_a_zero()
+    ensures { (profile : Profile) (cells : List Cell) (k a b : ℕ) (rest : List ℕ)
+        → IsChain profile cells → drop k (flat cells) ≡ a ∷ b ∷ rest → AreUnequal profile a b
+        → GreaterIsZero cells k a b }
 {}
 
 /// Cells that are made last from 16 ticks to 2^23 - 1.

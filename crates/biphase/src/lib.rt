@@ -9,16 +9,16 @@
 //!   (`specs/Pair.antt`, `IsKind`).
 //! - `is_zero`, `may_begin_one` and `is_one` are the tests of the tolerance, exact for all lengths
 //!   (`specs/Chain.antt`, `IsNextZero`, `IsFirstHalf`, `IsNextOne`).
-//! - In a list of cells within the tolerance, a chain, these tests never mistake one for the other
-//!   (`laws`).
+//! - In a list of cells within the tolerance, a chain, these tests never mistake one for the other,
+//!   and the greater interval of an unequal pair is a zero (`laws`).
 //! - `Shaper` makes the cells of a shape, whose lengths move step by step from one length to another
 //!   (`specs/Shape.antt`, `shaped`), and they are a chain of the normal tolerance
 //!   (`laws::shaped_cells_are_a_chain`).
 //! All of it holds for each profile.
 //!
 //! Read `cell`, `pair`, `tolerance`, `profile` and `shaper`, in this order, and `specs/Chain.antt` beside them.
-//! What the proofs of the crates above want of a tolerance stands, proved, in `specs/Laws.antt` and
-//! `specs/OneChain.antt`. `cell_tracker` stands on this crate. Nothing here allocates or refuses.
+//! What the proofs of the crates above want of a tolerance stands, proved, in `specs/Laws.antt`,
+//! `specs/OneChain.antt` and `specs/Zeros.antt`. `cell_tracker` stands on this crate. Nothing here allocates or refuses.
 #![tactic(auto)]
 
 mod cell;

@@ -1,10 +1,14 @@
 pub mod BeginsAtTheLock
+pub mod CellsOfAPiece
 pub mod Chains
 pub mod Computed
 mod Examples
+pub mod FoundAgain
 pub mod GainsOrBreaks
+pub mod KeptStretch
 pub mod LocalStretch
 pub mod LockStays
+pub mod MirroredCells
 pub mod OneStretch
 pub mod StretchGrows
 pub mod StretchesGoOn

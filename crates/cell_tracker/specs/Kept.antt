@@ -1,8 +1,9 @@
 -- Recordings that keep a profile's tolerance: pieces of chains, cut anywhere, also inside a cell.
-use Rattle.std.specs.Prelude.{ℕ, ◌+◌, cond, ◌&&◌, nat_le, List, [], ◌∷◌, length, drop}
+use Rattle.std.specs.Prelude.{ℕ, ◌+◌, cond, ◌&&◌, nat_le, List, [], ◌∷◌, length, drop, None}
 use Rattle.biphase.specs.declared.profile.Profile.{Profile}
 use Rattle.biphase.specs.declared.cell.Cell.{Cell}
 use Rattle.biphase.specs.Chain.{intervals_of, flat, Begins, IsChain}
+use Rattle.cell_tracker.specs.Stretch.{Stretch}
 
 -- the list is what stands in the intervals of the chain from the place `cut` on, for as long as it goes
 pub record IsPiece (profile : Profile) (intervals : List ℕ) (cells : List Cell) (cut : ℕ) : Type 0 where
@@ -24,3 +25,7 @@ cells_between low high at (cell ∷ cells) =
 -- the cells of a chain that lie wholly in a piece of it, which begins at the place `cut`, and begin at the piece's place `from` or later
 abbrev pub cells_from : List Cell → ℕ → List ℕ → ℕ → List Cell
 cells_from cells cut intervals from = cells_between (cut + from) (cut + length intervals) 0 cells
+
+-- the stretch at the lock of a piece: all cells that lie wholly in it from there on, and no break
+abbrev pub stretch_of_piece : List Cell → ℕ → List ℕ → ℕ → Stretch
+stretch_of_piece cells cut intervals lock = record { lock = lock; cells = cells_from cells cut intervals lock; broken_at = None }

@@ -2,9 +2,11 @@ pub use Rattle.biphase.specs.Chain
 pub use Rattle.biphase.specs.Pair
 pub use Rattle.biphase.specs.Profile
 pub mod Answer
+pub mod FoundAgain
 pub mod GoOn
 pub mod Kept
 pub mod Lock
+pub mod Mirrored
 pub mod Recording
 pub mod StandsFor
 pub mod State

@@ -1,10 +1,14 @@
 //! What follows from the definition of stretches alone.
-ghost use Rattle.std.specs.Prelude.{◌≡◌, ℕ, List, [], ◌∷◌, ◌++◌, Some, None};
+ghost use Rattle.std.specs.Prelude.{◌≡◌, ℕ, ◌+◌, List, [], ◌∷◌, ◌++◌, length, reverse, Some, None};
+ghost use Rattle.biphase.specs.declared.cell.Cell.{Cell};
 ghost use Rattle.biphase.specs.declared.profile.Profile.{Profile};
 ghost use Rattle.biphase.specs.declared.cell.Cell.TheVariants.{One};
 ghost use Rattle.biphase.specs.declared.profile.Profile.TheVariants.{Normal};
+ghost use Rattle.cell_tracker.specs.FoundAgain.{IsSecondLock, AreFrom};
 ghost use Rattle.cell_tracker.specs.GoOn.{GoOn};
-ghost use Rattle.cell_tracker.specs.Lock.{IsLock};
+ghost use Rattle.cell_tracker.specs.Kept.{IsPiece, cells_from, stretch_of_piece};
+ghost use Rattle.cell_tracker.specs.Lock.{HasNoLock, IsLock};
+ghost use Rattle.cell_tracker.specs.Mirrored.{BeginMirrored};
 ghost use Rattle.cell_tracker.specs.Recording.{recording, stretch_of};
 ghost use Rattle.cell_tracker.specs.Stretch.{Stretch, AreStretches, begun, with_break, with_cell};
 
@@ -29,6 +33,43 @@ pub fn a_place_has_one_lock()
     ensures { (profile : Profile) (intervals : List ℕ) (start lock other : ℕ)
         → IsLock profile intervals start lock → IsLock profile intervals start other
         → lock ≡ other }
+{}
+
+/// Truth of the reading. A recording within the tolerance has no stretch where no two neighbours of it
+/// are unequal. Else it has one, at its lock, without a break, and its cells are those of the
+/// recording's own that lie wholly in it from the lock on: of whatever chain it is a piece, they are
+/// the same.
+pub fn a_recording_within_the_tolerance_is_one_stretch()
+    ensures none { (profile : Profile) (intervals : List ℕ) → HasNoLock profile intervals 0
+        → AreStretches profile intervals [] }
+    ensures one { (profile : Profile) (intervals : List ℕ) (cells : List Cell) (cut lock : ℕ)
+        → IsPiece profile intervals cells cut → IsLock profile intervals 0 lock
+        → AreStretches profile intervals (stretch_of_piece cells cut intervals lock ∷ []) }
+    ensures agree { (profile : Profile) (intervals : List ℕ) (one two : List Cell) (cut other lock : ℕ)
+        → IsPiece profile intervals one cut → IsPiece profile intervals two other
+        → IsLock profile intervals 0 lock
+        → cells_from one cut intervals lock ≡ cells_from two other intervals lock }
+{}
+
+/// Resynchronisation: whatever stands before a recording within the tolerance, from the greater
+/// interval of its second unequal pair on the cells of the stretches are the recording's own, and
+/// nothing breaks behind it.
+pub fn a_recording_is_found_again_behind_anything()
+    ensures { (profile : Profile) (before kept : List ℕ) (cells : List Cell) (cut second : ℕ)
+        (stretches : List Stretch) → IsPiece profile kept cells cut → IsSecondLock profile kept second
+        → AreStretches profile (before ++ kept) stretches
+        → AreFrom (length before + second) (cells_from cells cut kept second) stretches }
+{}
+
+/// Mirror: where a recording and the same intervals in the other order of time are both within the
+/// tolerance, their cells are the same between the greater intervals of the first and of the last
+/// unequal pair, each in its order. The lock of the mirror is the number of intervals behind them.
+pub fn a_mirrored_recording_has_the_mirrored_cells()
+    ensures { (profile : Profile) (intervals : List ℕ) (cells others : List Cell) (cut place first last : ℕ)
+        → IsPiece profile intervals cells cut → IsPiece profile (reverse intervals) others place
+        → IsLock profile intervals 0 first → IsLock profile (reverse intervals) 0 last
+        → BeginMirrored (cells_from cells cut intervals first) (cells_from others place (reverse intervals) last)
+        first last (length intervals) }
 {}
 
 /// Recordings of 24 ticks a cell: a zero and a one before the word of 00:00:00:00 at 25 frames,

@@ -15,9 +15,12 @@
 //! - Stretches are the longest chains from their locks, one after another (`specs/Stretch.antt`,
 //!   `AreStretches`), and a list has one list of them. Where more intervals follow, they go on, and a
 //!   broken one stays as it is (`specs/GoOn.antt`, `laws`).
+//! - A recording within the tolerance is one stretch, and its cells are the recording's own
+//!   (`specs/Kept.antt`); it is found again behind anything (`specs/FoundAgain.antt`); and in the other
+//!   order of time its cells are the same (`specs/Mirrored.antt`, all in `laws`).
 //!
 //! Read `hunting`, `at_cell` and `mid_cell`, in this order, and `specs/Lock.antt`, `Stretch.antt` and
-//! `StandsFor.antt` beside them. `specs/Kept.antt` says what a recording within the tolerance is.
+//! `StandsFor.antt` beside them, then `specs/Kept.antt`.
 //! `direction_reader` stands on this crate; next on the way of an interval: its `latest_cells`. Nothing
 //! here allocates or refuses.
 #![tactic(auto)]

@@ -112,7 +112,7 @@ number_below (suc n) (b ∷ bs) within =
     omega arith
 
 -- the bits of a window
-window_below : (tick : ℕ) (cells : List Cell) (k : ℕ) → (window_at tick cells k).bits < 2 ^ 80
+pub window_below : (tick : ℕ) (cells : List Cell) (k : ℕ) → (window_at tick cells k).bits < 2 ^ 80
 window_below tick cells k =
     let few : length (take 80 (drop k cells)) ≤ 80 = omega (arith, length-take 80 (drop k cells)) in
     number_below 80 (bits (take 80 (drop k cells))) (omega (arith, length-map (take 80 (drop k cells)) bit_of))

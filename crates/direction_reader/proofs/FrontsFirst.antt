@@ -30,7 +30,7 @@ StretchesGoOn = (profile : Profile) (front more : List ℕ) (stretches later : L
 
 -- ---- the windows of a front of cells
 
-windows_first : (tick : ℕ) (cells more : List Cell) → Begins (windows tick cells) (windows tick (cells ++ more))
+pub windows_first : (tick : ℕ) (cells more : List Cell) → Begins (windows tick cells) (windows tick (cells ++ more))
 windows_first tick cells more =
     let all = windows tick (cells ++ more) in
     let n = length cells - 79 in
@@ -44,7 +44,7 @@ joined : (own own' rest rest' all : List Event) → own' ≡ own → Begins rest
 joined own own' rest rest' all same (more, is) join =
     (more, join ∙ ap (λ e. e ++ rest') same ∙ ap (λ e. own ++ e) is ∙ sym (append_assoc own rest more))
 
-events_of_windows : IsExact → (system : System) (ws vs : List CellWindow) (es fs : List Event) → AreEventsOfWindows system ws es
+pub events_of_windows : IsExact → (system : System) (ws vs : List CellWindow) (es fs : List Event) → AreEventsOfWindows system ws es
     → AreEventsOfWindows system (ws ++ vs) fs → Begins es fs
 events_of_windows exact system [] vs es fs are too = (fs, ap (λ e. e ++ fs) (sym are))
 events_of_windows exact system (w ∷ ws) vs es fs (own, rest, is, others, join) (own', rest', is', others', join') =

@@ -10,7 +10,9 @@ pub mod LatestBits
 pub mod LatestCells
 pub mod ListEvents
 pub mod Played
+pub mod Mirror
 pub mod Reader
 pub mod StandsFor
+pub mod Tape
 pub mod Tracker
 pub mod Window

@@ -1,5 +1,5 @@
 //! What follows from the definitions alone, and the numbers that code and definitions share.
-ghost use Rattle.std.specs.Prelude.{◌≡◌, ℕ, ◌*◌, ◌^◌, ◌<◌, List, [], ◌∷◌, ◌++◌, drop, false, take, true};
+ghost use Rattle.std.specs.Prelude.{◌≡◌, ℕ, ◌*◌, ◌^◌, ◌<◌, List, [], ◌∷◌, ◌++◌, drop, false, reverse, take, true};
 ghost use Rattle.biphase.specs.declared.cell.Cell.{Cell};
 ghost use Rattle.biphase.specs.Chain.{bits, flat, IsChain};
 ghost use Rattle.biphase.specs.declared.profile.Profile.{Profile};
@@ -15,8 +15,10 @@ ghost use Rattle.direction_reader.specs.Brings.{greatest_cell};
 ghost use Rattle.direction_reader.specs.Candidate.{AreEventsOf};
 ghost use Rattle.direction_reader.specs.ListEvents.{duration, AreEvents};
 ghost use Rattle.direction_reader.specs.Played.{Played, AreSpelled, bits_of_words, events_of_words};
+ghost use Rattle.direction_reader.specs.Mirror.{MirrorsTheTape};
 ghost use Rattle.direction_reader.specs.Reader.{Reading};
 ghost use Rattle.direction_reader.specs.StandsFor.{StandsFor};
+ghost use Rattle.direction_reader.specs.Tape.{TellsTheTape, FindsTheTape};
 ghost use Rattle.direction_reader.specs.Tracker.{profile_of};
 ghost use Rattle.ltc_word.specs.Spelling.{word_with, flags};
 ghost use Rattle.tc_address.specs.declared.count.Count.TheVariants.{C25};
@@ -27,7 +29,9 @@ ghost use Rattle.tc_bits.specs.declared.fault.FieldFault.TheVariants.{FrameUnits
 
 use biphase::laws::kinds_tell_zeros_from_halves;
 use cell_tracker::laws::{
-    a_list_has_one_list_of_stretches, small_recordings_have_these_stretches, stretches_go_on,
+    a_list_has_one_list_of_stretches, a_mirrored_recording_has_the_mirrored_cells,
+    a_recording_is_found_again_behind_anything, a_recording_within_the_tolerance_is_one_stretch,
+    small_recordings_have_these_stretches, stretches_go_on,
 };
 use ltc_word::laws::{
     bits_in_sync_spell_a_word_or_have_a_fault, reversed_twice_is_the_same, spelling_is_exact,
@@ -98,6 +102,62 @@ pub fn a_reader_gives_the_events_of_its_list()
         → StandsFor reader intervals events
         → AreEvents reader.system (profile_of reader.tracker) intervals events }
 {}
+
+/// Truth of the reading: the events of a recording within the tolerance are those of the tape's own
+/// windows from the first unequal pair on, and none of them is a break.
+pub fn events_tell_the_tape()
+    ensures { (system : System) (profile : Profile) (intervals : List ℕ) (events : List Event)
+        → AreEvents system profile intervals events
+        → TellsTheTape system profile intervals events }
+{
+    a_list_has_one_list_of_stretches();
+    a_recording_within_the_tolerance_is_one_stretch();
+}
+
+/// Resynchronisation: whatever stands before a recording within the tolerance, from the greater
+/// interval of its second unequal pair on the events are those of the tape's own windows.
+pub fn events_find_the_tape_again()
+    ensures { (system : System) (profile : Profile) (intervals : List ℕ) (events : List Event)
+        → AreEvents system profile intervals events
+        → FindsTheTape system profile intervals events }
+{
+    a_recording_is_found_again_behind_anything();
+}
+
+/// Mirror: the events of a recording and of its intervals in the other order of time, both within
+/// the tolerance, are the same words between the greater intervals of the first and of the last
+/// unequal pair, each met from its other end.
+pub fn events_mirror_the_tape()
+    ensures { (system : System) (profile : Profile) (intervals : List ℕ)
+        (events mirrored : List Event) → AreEvents system profile intervals events
+        → AreEvents system profile (reverse intervals) mirrored
+        → MirrorsTheTape system profile intervals events mirrored }
+{
+    spelling_is_exact();
+    reversed_twice_is_the_same();
+    a_list_has_one_list_of_stretches();
+    a_recording_within_the_tolerance_is_one_stretch();
+    a_mirrored_recording_has_the_mirrored_cells();
+}
+
+/// What a reader stands for tells the tape, finds it again behind damage, and mirrors it.
+pub fn a_reader_tells_the_tape()
+    ensures truth { (reader : Reading) (intervals : List ℕ) (events : List Event)
+        → StandsFor reader intervals events
+        → TellsTheTape reader.system (profile_of reader.tracker) intervals events }
+    ensures damage { (reader : Reading) (intervals : List ℕ) (events : List Event)
+        → StandsFor reader intervals events
+        → FindsTheTape reader.system (profile_of reader.tracker) intervals events }
+    ensures mirror { (reader : Reading) (intervals : List ℕ) (events mirrored : List Event)
+        → StandsFor reader intervals events
+        → AreEvents reader.system (profile_of reader.tracker) (reverse intervals) mirrored
+        → MirrorsTheTape reader.system (profile_of reader.tracker) intervals events mirrored }
+{
+    a_reader_gives_the_events_of_its_list();
+    events_tell_the_tape();
+    events_find_the_tape_again();
+    events_mirror_the_tape();
+}
 
 /// Recordings of 24 ticks a cell: the word of 00:00:00:00 at 25 frames behind a zero and a one,
 /// alone, with a break behind it and with a half; this word from its end, behind a zero; 80 bits

@@ -15,6 +15,9 @@
 //!   (`specs/StandsFor.antt`). `feed`, and `step` with `events` after it, give exactly those that are
 //!   new, under either tolerance (clause `stands`). Nearly every interval brings nothing, and then
 //!   `step` is enough.
+//! - The events tell a tape within the tolerance, find it again behind damage (`specs/Tape.antt`), and
+//!   mirror it in the other order of time (`specs/Mirror.antt`): clauses `truth`, `damage` and `mirror`
+//!   of `feed`.
 //! - A window holds the latest of the bits that it was given (`specs/HoldsBits.antt`).
 //! - `window_events` gives the candidates of one window, the forward one first
 //!   (`specs/Candidate.antt`).

@@ -1,17 +1,22 @@
 //! From intervals to events, one interval at a time. Next: `tracker`.
-ghost use Rattle.std.specs.Prelude.{◌≡◌, ℕ, ◌<◌, ◌≤◌, ◌+◌, ◌*◌, List, [], ◌∷◌, ◌++◌};
+ghost use Rattle.std.specs.Prelude.{◌≡◌, ℕ, ◌<◌, ◌≤◌, ◌+◌, ◌*◌, List, [], ◌∷◌, ◌++◌, reverse};
 ghost use Rattle.biphase.specs.declared.cell.TheConstants.{MAX_INTERVAL};
 ghost use Rattle.direction_reader.specs.Brings.{Brings};
 ghost use Rattle.direction_reader.specs.declared.event.Event.{Event};
 ghost use Rattle.direction_reader.specs.declared.event.Events.{Events};
 ghost use Rattle.direction_reader.specs.Events.{event_list};
 ghost use Rattle.direction_reader.specs.LatestCells.{no_cells};
+ghost use Rattle.direction_reader.specs.ListEvents.{AreEvents};
+ghost use Rattle.direction_reader.specs.Mirror.{MirrorsTheTape};
 ghost use Rattle.direction_reader.specs.Reader.{Takes};
 ghost use Rattle.direction_reader.specs.StandsFor.{StandsFor, Tells, MayTell};
+ghost use Rattle.direction_reader.specs.Tape.{TellsTheTape, FindsTheTape};
+ghost use Rattle.direction_reader.specs.Tracker.{profile_of};
 
 use crate::brought::Brought;
 use crate::event::{Event, Events};
 use crate::latest_cells::LatestCells;
+use crate::laws::a_reader_tells_the_tape;
 use crate::tracker::{Step, Tracker};
 use biphase::{MAX_INTERVAL, Profile};
 use cell_tracker::Hunting;
@@ -97,7 +102,20 @@ impl DirectionReader {
         ensures stands { (intervals : List ℕ) (events : List Event)
             → StandsFor self.old intervals events
             → StandsFor self.new (intervals ++ x ∷ []) (events ++ event_list result) }
+        // And what they say of a tape within the tolerance, of one behind damage, and of one whose
+        // intervals in the other order of time have these events.
+        ensures truth { (intervals : List ℕ) (events : List Event)
+            → StandsFor self.old intervals events
+            → TellsTheTape self.new.system (profile_of self.new.tracker) (intervals ++ x ∷ []) (events ++ event_list result) }
+        ensures damage { (intervals : List ℕ) (events : List Event)
+            → StandsFor self.old intervals events
+            → FindsTheTape self.new.system (profile_of self.new.tracker) (intervals ++ x ∷ []) (events ++ event_list result) }
+        ensures mirror { (intervals : List ℕ) (events mirrored : List Event)
+            → StandsFor self.old intervals events
+            → AreEvents self.new.system (profile_of self.new.tracker) (reverse (intervals ++ x ∷ [])) mirrored
+            → MirrorsTheTape self.new.system (profile_of self.new.tracker) (intervals ++ x ∷ []) (events ++ event_list result) mirrored }
     {
+        a_reader_tells_the_tape();
         match self.step(x) {
             Brought::Nothing => Events::none(),
             brought => self.events(brought),

@@ -1,5 +1,5 @@
 -- The events of one byte more are those of the bytes before it, and what the byte gives.
-use Rattle.std.proofs.Common.{◌≡◌, ℕ, List, [], ◌∷◌, ◌++◌, Option, Some, None, sym, ◌∙◌, ap, append-nil}
+use Rattle.std.proofs.Common.{◌≡◌, ℕ, List, [], ◌∷◌, ◌++◌, Option, Some, None, refl, sym, ◌∙◌, ap, append-nil}
 use Rattle.std.specs.Prelude.{reverse}
 use Rattle.std.specs.List.{cons_option}
 use Rattle.std.proofs.lemmas.List.{reverse-append}
@@ -19,3 +19,7 @@ pub events_more : (bytes : List ℕ) (byte : ℕ) (result : Option MtcEvent) →
 events_more bytes byte result is =
     ap (λ xs. reverse (latest_events xs)) (reverse_more bytes byte) ∙ reverse-cons_option (event_at byte (reverse bytes)) (latest_events (reverse bytes))
     ∙ ap (λ event. events_in bytes ++ events_of event) (sym is)
+
+-- the status byte of a quarter frame completes nothing
+pub status_gives_none : (bytes : List ℕ) → events_in (bytes ++ 0xf1 ∷ []) ≡ events_in bytes
+status_gives_none bytes = events_more bytes 0xf1 None refl ∙ append-nil (events_in bytes)

@@ -5,6 +5,7 @@ use Rattle.mtc_reader.specs.declared.event.MtcEvent.{MtcEvent}
 use Rattle.mtc_reader.specs.declared.message.Message.{Message}
 use Rattle.mtc_reader.specs.declared.reader.MtcReader.{MtcReader}
 use Rattle.mtc_reader.specs.declared.row.Row.{Row}
+use Rattle.mtc_reader.specs.declared.row.TheConstants.{NO_QUARTER}
 use Rattle.mtc_reader.specs.Messages.{current_in, messages_in, without_real_time}
 use Rattle.mtc_reader.specs.Events.{row_in, latest_eight}
 
@@ -17,9 +18,14 @@ pub record Keeps (message : CurrentMessage) (bytes : List ℕ) : Type 0 where
   pub kind_is : message.kind ≡ (current_in bytes).kind
   pub numbers_are : message.numbers.items ≡ first_nine (current_in bytes).numbers
 
+-- eight numbers that are no quarter frames, and then quarter frames
+abbrev pub padded : List ℕ → List ℕ
+padded row =
+    NO_QUARTER ∷ NO_QUARTER ∷ NO_QUARTER ∷ NO_QUARTER ∷ NO_QUARTER ∷ NO_QUARTER ∷ NO_QUARTER ∷ NO_QUARTER ∷ row
+
 -- the row is that of these messages, the latest first
 abbrev pub KeepsRow : Row → List Message → Type 0
-KeepsRow row messages = row.latest.items ≡ latest_eight (row_in messages)
+KeepsRow row messages = row.latest ≡ latest_eight (padded (row_in messages))
 
 -- the reader was given these bytes
 pub record StandsFor (reader : MtcReader) (bytes : List ℕ) : Type 0 where

@@ -32,6 +32,7 @@ impl CurrentMessage {
     }
 
     /// Takes a byte that is no real-time byte, and answers the message that it completes.
+    #[inline(always)]
     pub fn take(&mut self, byte: u8) -> Option<Message>
         ensures keeps { (before : List ℕ) → Keeps self.old before → Keeps self.new (byte ∷ before) }
         ensures completes { (before : List ℕ) → Keeps self.old before → result ≡ completed_by byte (current_in before) }

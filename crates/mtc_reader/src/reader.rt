@@ -10,6 +10,9 @@ use crate::row::Row;
 /// Bytes from this one on are system real-time bytes.
 const REAL_TIME: u8 = 0xf8;
 
+/// The status byte of a quarter frame.
+const QUARTER_FRAME: u8 = 0xf1;
+
 /// Reads the labels of MIDI Time Code, one byte at a time.
 #[derive(Drop)]
 pub struct MtcReader {
@@ -40,6 +43,7 @@ impl MtcReader {
     }
 
     /// Takes the next byte, and answers the event that is complete with it.
+    #[inline(always)]
     pub fn byte(&mut self, byte: u8) -> Option<MtcEvent>
         requires { self.old.bytes < 2 ^ 62 }
         ensures count { self.new.bytes ≡ self.old.bytes + 1 }
@@ -56,5 +60,19 @@ impl MtcReader {
             Some(message) => self.row.take(message, place),
             None => None,
         }
+    }
+
+    /// Takes the status byte of a quarter frame and the data byte behind it: the same as both one by one, and
+    /// quicker.
+    #[inline(always)]
+    pub fn quarter_frame(&mut self, number: u8) -> Option<MtcEvent>
+        requires { self.old.bytes + 1 < 2 ^ 62 }
+        ensures count { self.new.bytes ≡ self.old.bytes + 2 }
+        ensures stands { (bytes : List ℕ) → StandsFor self.old bytes → StandsFor self.new (bytes ++ 0xf1 ∷ number ∷ []) }
+        ensures gives { (bytes : List ℕ) → StandsFor self.old bytes
+            → events_in (bytes ++ 0xf1 ∷ number ∷ []) ≡ events_in bytes ++ events_of result }
+    {
+        let _none = self.byte(QUARTER_FRAME);
+        self.byte(number)
     }
 }

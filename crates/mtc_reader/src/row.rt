@@ -1,5 +1,5 @@
 //! The row of quarter frames that goes on. Next: `address`, with eight of them.
-ghost use Rattle.std.specs.Prelude.{◌≡◌, ◌++◌, ℕ, List, [], ◌∷◌, bytes_eq, map, reverse};
+ghost use Rattle.std.specs.Prelude.{◌≡◌, ◌≤◌, ◌++◌, ℕ, List, [], ◌∷◌, bytes_eq, length, map, reverse};
 ghost use Rattle.mtc_reader.specs.declared.message.Message.{Message};
 ghost use Rattle.mtc_reader.specs.Events.{event_of, latest_eight, piece_of, pieces, window_event};
 ghost use Rattle.mtc_reader.specs.StandsFor.{KeepsRow};
@@ -7,16 +7,18 @@ ghost use Rattle.mtc_reader.specs.StandsFor.{KeepsRow};
 use crate::address::{full, quarter};
 use crate::event::MtcEvent;
 use crate::message::Message;
-use arrayvec::ArrayVec;
 use tc_address::Direction;
 
 /// The pieces of a forward row, in order.
 const PIECES: [u8; 8] = [0, 1, 2, 3, 4, 5, 6, 7];
 
-/// The latest quarter frames since the last full message, eight at most, the oldest first.
+/// What stands for a quarter frame that did not come yet: a number with no piece.
+pub const NO_QUARTER: u8 = 0xff;
+
+/// The latest eight quarter frames since the last full message, the oldest first.
 #[derive(Drop)]
 pub struct Row {
-    latest: ArrayVec<u8, 8>,
+    latest: [u8; 8],
 }
 
 impl Row {
@@ -25,11 +27,12 @@ impl Row {
         ensures { KeepsRow result [] }
     {
         Row {
-            latest: ArrayVec::new(),
+            latest: [NO_QUARTER; 8],
         }
     }
 
     /// Takes the next message, which is complete at a byte place, and answers what it gives.
+    #[inline(always)]
     pub fn take(&mut self, message: Message, place: u64) -> Option<MtcEvent>
         ensures keeps { (before : List Message) → KeepsRow self.old before → KeepsRow self.new (message ∷ before) }
         ensures gives { (before : List Message) → KeepsRow self.old before → result ≡ event_of message before place }
@@ -45,35 +48,36 @@ impl Row {
                 seconds,
                 frames,
             } => {
-                self.latest.clear();
+                self.latest = [NO_QUARTER; 8];
                 Some(full(hours, minutes, seconds, frames, place))
             }
         }
     }
 
     /// Adds a quarter frame.
+    #[inline(always)]
     fn add(&mut self, quarter: u8)
-        ensures { (row : List ℕ) → self.old.latest.items ≡ latest_eight row
-            → self.new.latest.items ≡ latest_eight (row ++ quarter ∷ []) }
+        ensures { (row : List ℕ) → 8 ≤ length row → self.old.latest ≡ latest_eight row
+            → self.new.latest ≡ latest_eight (row ++ quarter ∷ []) }
     {
-        if self.latest.is_full() {
-            self.latest.remove(0);
-        }
-        self.latest.push(quarter);
+        let [_, b, c, d, e, f, g, h] = self.latest;
+        self.latest = [b, c, d, e, f, g, h, quarter];
     }
 
-    /// What the latest eight quarter frames carry.
+    /// What the latest eight quarter frames carry. A row ends with piece 7 forward and with piece 0 backward.
+    #[inline(always)]
     fn event(&self, place: u64) -> Option<MtcEvent>
-        ensures { result ≡ window_event self.now.latest.items place }
+        ensures { result ≡ window_event self.now.latest place }
     {
-        let [a, b, c, d, e, f, g, h] = self.latest.as_slice() else {
-            return None;
-        };
-        carried_by(&[*a, *b, *c, *d, *e, *f, *g, *h], place)
+        match self.latest[7] / 16 {
+            0 | 7 => carried_by(&self.latest, place),
+            _ => None,
+        }
     }
 }
 
 /// What eight quarter frames carry, in the order in which they came.
+#[inline(never)]
 fn carried_by(window: &[u8; 8], place: u64) -> Option<MtcEvent>
     ensures { result ≡ window_event window.now place }
 {

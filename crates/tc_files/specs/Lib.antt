@@ -1,8 +1,11 @@
 pub mod Fault
 pub mod FrameTexts
+pub mod Grammar
 pub mod IntervalFile
 pub mod IntervalHeader
 pub mod Line
+pub mod Next
+pub mod Piece
 pub mod Progress
 pub mod Recording
 pub mod Texts

@@ -1,17 +1,21 @@
 -- How far a decoder of an interval file has come.
-use Rattle.std.specs.Prelude.{◌≡◌, ℕ, ◌%◌, List, length, Option, nat_lt, if◌then◌else◌}
+use Rattle.std.specs.Prelude.{◌≡◌, ◌<◌, ◌≤◌, ℕ, ◌-◌, List, length, Option}
 use Rattle.tc_address.specs.declared.system.System.{System}
 use Rattle.tc_files.specs.declared.fault.FileFault.{FileFault}
-use Rattle.tc_files.specs.declared.interval_file.header.TheConstants.{HEAD_LENGTH}
+use Rattle.tc_files.specs.declared.interval_file.header.FileVersion.{FileVersion}
+use Rattle.tc_files.specs.declared.interval_file.header.TheConstants.{HEAD_LENGTH, HEADER_LENGTH}
+use Rattle.tc_files.specs.Piece.{piece_width}
 
--- how far the bytes have come: their number, the system where it was read, the bytes of a number
--- that is not whole, and the first fault
+-- how far the bytes have come: their number, the version and the system where they were read, the
+-- bytes of a number that is not whole, and the first fault
 pub record Progress : Type 0 where
   pub taken : ℕ
+  pub version : FileVersion
   pub system : Option System
   pub part : List ℕ
   pub fault : Option FileFault
 
--- the numbers begin at every fourth place, the tick rate at byte 8
-abbrev pub IsProgress : ℕ → List ℕ → Type 0
-IsProgress taken part = length part ≡ (if nat_lt taken HEAD_LENGTH then 0 else taken % 4)
+-- the tick rate begins at byte 8, and behind it no piece that is kept is whole
+pub record IsProgress (taken : ℕ) (version : FileVersion) (part : List ℕ) : Type 0 where
+  pub head : taken < HEADER_LENGTH → length part ≡ taken - HEAD_LENGTH
+  pub body : HEADER_LENGTH ≤ taken → length part < piece_width version part

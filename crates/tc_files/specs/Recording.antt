@@ -1,5 +1,5 @@
 -- What the bytes of an interval file say of its recording, as far as they go.
-use Rattle.std.specs.Prelude.{◌≡◌, ℕ, ◌+◌, ◌-◌, ◌*◌, ◌/◌, ◌%◌, ◌<◌, ◌≤◌, List, [], ◌∷◌, ◌++◌, length, Option, Some, None, Result, Ok, Err, nat_lt, fold, if◌then◌else◌}
+use Rattle.std.specs.Prelude.{◌≡◌, ℕ, ◌+◌, ◌*◌, ◌≤◌, List, [], ◌∷◌, ◌++◌, length, Option, Some, None, Result, Ok, Err, nat_lt, fold, if◌then◌else◌}
 use Rattle.direction_reader.specs.declared.reader.TheConstants.{MAX_INTERVALS}
 use Rattle.tc_files.specs.declared.fault.FileFault.{FileFault}
 use Rattle.tc_files.specs.declared.interval_file.decoder.Taken.{Taken}
@@ -71,30 +71,36 @@ end_fault_of bytes = fault_at_end (end (decoding_of bytes).progress)
 
 -- ---- by the number of the bytes
 
--- how many whole intervals so many bytes hold
-abbrev pub intervals_in : ℕ → ℕ
-intervals_in taken = (taken - HEADER_LENGTH) / 4
-
--- more bytes than a file within the limit may have, with a part of one more interval
+-- more bytes than a file within the limit may have, with a part of one more interval: an interval has six bytes at most
 abbrev pub too_many_bytes : ℕ
-too_many_bytes = HEADER_LENGTH + 4 * MAX_INTERVALS + 4
+too_many_bytes = HEADER_LENGTH + 6 * MAX_INTERVALS + 6
 
--- ---- whole numbers
+-- so many intervals account for the bytes that were taken
+abbrev pub FitsBytes : Progress → ℕ → Type 0
+FitsBytes p count = p.taken ≤ HEADER_LENGTH + 6 * count + length p.part
+
+-- how many intervals an item is, one out of range among them
+abbrev pub interval_count : Taken → ℕ
+interval_count Nothing = 0
+interval_count (Header header) = 0
+interval_count (Interval x) = 1
+interval_count (Fault first) = 1
+
+-- ---- whole intervals
 
 -- the bytes so far end between two intervals
 pub record IsBetween (p : Progress) : Type 0 where
   pub no_fault : p.fault ≡ None
   pub header : HEADER_LENGTH ≤ p.taken
   pub no_part : p.part ≡ []
-  pub whole : p.taken % 4 ≡ 0
 
--- with the four bytes of an interval more
-abbrev pub with_number : Decoding → Result ℕ FileFault → Decoding
-with_number d (Ok x) = record {
-  progress = record d.progress { taken = d.progress.taken + 4 };
+-- with the bytes of an interval more, so many
+abbrev pub with_number : Decoding → ℕ → Result ℕ FileFault → Decoding
+with_number d width (Ok x) = record {
+  progress = record d.progress { taken = d.progress.taken + width };
   recording = with_taken d.recording (Interval x);
 }
-with_number d (Err fault) = record {
-  progress = record d.progress { taken = d.progress.taken + 4; fault = Some fault };
+with_number d width (Err fault) = record {
+  progress = record d.progress { taken = d.progress.taken + width; fault = Some fault };
   recording = with_taken d.recording (Fault fault);
 }

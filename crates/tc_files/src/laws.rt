@@ -1,16 +1,25 @@
 //! The numbers, names and bytes that code and definitions share, as the tables of an interval file
-//! give them.
-ghost use Rattle.std.specs.Prelude.{◌≡◌, [], ◌∷◌, codes};
+//! give them; and what follows of whole files.
+ghost use Rattle.std.specs.Prelude.{◌≡◌, ◌≤◌, ℕ, List, [], ◌∷◌, length, Some, None, codes};
+ghost use Rattle.direction_reader.specs.declared.reader.TheConstants.{MAX_INTERVALS};
+ghost use Rattle.tc_files.specs.declared.interval_file.header.IntervalHeader.{IntervalHeader};
+ghost use Rattle.tc_files.specs.Grammar.{IsFile};
+ghost use Rattle.tc_files.specs.Recording.{end_fault_of, recording_of};
+ghost use Rattle.tc_files.specs.Verdict.{good};
 ghost use Rattle.tc_files.specs.declared.interval_file.header.TheConstants as header;
+ghost use Rattle.tc_files.specs.declared.interval_file.piece.TheConstants as piece;
 ghost use Rattle.tc_files.specs.declared.names.TheConstants as names;
 
-/// The magic is `LTCI`, the version 1; a header has 12 bytes, and the tick rate follows its first 8.
+/// The magic is `LTCI`, the versions are 1 and 2; a header has 12 bytes, and the tick rate follows its
+/// first 8. In version 2 two bytes hold what is below 65,536.
 pub fn a_header_is_this()
     ensures magic { header.MAGIC ≡ 0x4c ∷ 0x54 ∷ 0x43 ∷ 0x49 ∷ [] }
-    ensures version { header.VERSION ≡ 1 }
+    ensures one { header.VERSION_ONE ≡ 1 }
+    ensures two { header.VERSION_TWO ≡ 2 }
     ensures first { header.HEAD_LENGTH ≡ 8 }
     ensures length { header.HEADER_LENGTH ≡ 12 }
     ensures tick_rate { header.MAX_TICK_RATE ≡ 100000000 }
+    ensures least_long { piece.LEAST_LONG ≡ 65536 }
 {}
 
 /// The faults of an interval file have these names in notes.
@@ -22,4 +31,16 @@ pub fn each_fault_has_its_name()
     ensures tick_rate { names.TICK_RATE_NAME.now ≡ codes "tick-rate" }
     ensures interval { names.INTERVAL_NAME.now ≡ codes "interval" }
     ensures truncated { names.TRUNCATED_NAME.now ≡ codes "truncated" }
+{}
+
+/// The file of a recording is read as its header and its intervals, and the input may end there. So
+/// two files of one version with the same system, tick rate and intervals are the same bytes.
+pub fn a_file_is_read_as_it_was_written()
+    ensures read { (bytes : List ℕ) (header : IntervalHeader) (intervals : List ℕ) → IsFile bytes header intervals
+        → length intervals ≤ MAX_INTERVALS
+        → (recording_of bytes ≡ record { header = Some header; intervals = intervals; verdict = good }) × (end_fault_of bytes ≡ None) }
+    ensures one_text { (a b : List ℕ) (header : IntervalHeader) (intervals : List ℕ) → IsFile a header intervals
+        → IsFile b header intervals → a ≡ b }
+    ensures one_recording { (bytes : List ℕ) (a b : IntervalHeader) (xs ys : List ℕ) → IsFile bytes a xs → IsFile bytes b ys
+        → length xs ≤ MAX_INTERVALS → length ys ≤ MAX_INTERVALS → (a ≡ b) × (xs ≡ ys) }
 {}

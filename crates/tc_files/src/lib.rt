@@ -25,10 +25,12 @@ pub mod names;
 mod texts;
 
 pub use fault::FileFault;
-pub use interval_file::decoder::{IntervalDecoder, Taken, interval_at};
+pub use interval_file::decoder::{IntervalDecoder, Taken};
 pub use interval_file::header::{
-    HEAD_LENGTH, HEADER_LENGTH, IntervalHeader, MAGIC, MAX_TICK_RATE, VERSION, interval_header,
+    FileVersion, HEAD_LENGTH, HEADER_LENGTH, IntervalHeader, MAGIC, MAX_TICK_RATE, VERSION_ONE,
+    VERSION_TWO, interval_header,
 };
+pub use interval_file::piece::{LEAST_LONG, Next, interval_bytes, next_interval};
 pub use texts::event::event_text;
 pub use texts::frame::frame_text;
 pub use texts::line::{Text, push_bytes, push_number};

@@ -12,6 +12,7 @@ const TWO_INTERVALS: [u8; 20] = [
 #[test]
 fn lines_as_they_are_printed(rt: HostRuntime) {
     let header = IntervalHeader {
+        version: FileVersion::One,
         system: System::F25,
         tick_rate: 48_000,
     };

@@ -1,14 +1,14 @@
 -- What was pushed for some bytes and then for those after them was pushed for all of them, in order.
 use Rattle.std.proofs.Common.{◌≡◌, ℕ, ◌+◌, ◌-◌, ◌<◌, ◌≤◌, List, [], ◌∷◌, ◌++◌, length, take, drop, get_or, arith, subst, append_assoc, append-nil, refl, inl, inr, sym, ◌∙◌, ap}
-use Rattle.std.specs.Prelude.{OnOk, OnErr, IfErr, Ok, Err}
+use Rattle.std.specs.Prelude.{OnOk, OnErr, IfErr, Ok, Err, Some, None}
 use Rattle.std.specs.Result.{IsErrAnd}
 use Rattle.std.specs.declared.result.Result.{Result}
 use Rattle.std.specs.declared.option.Option.{Option}
-use Rattle.std.specs.Io.KnownBytes.{Appends, Consumes, IsAtEnd}
+use Rattle.std.specs.Io.KnownBytes.{Appends, Consumes, IsAtEnd, Keeps}
 use Rattle.std.proofs.lemmas.Grind.{common_steps}
 use Rattle.std.proofs.lemmas.List.{take-append-drop, drop-take}
 use Rattle.std.proofs.KnownBytes.{Appends-trans, Appends-nil, Consumes-trans}
-use Rattle.tc_top.specs.Meaning.{Meaning, IsEnd}
+use Rattle.tc_top.specs.Meaning.{Meaning}
 use Rattle.tc_top.specs.declared.stop.Stop.{Stop}
 use Rattle.tc_top.specs.declared.stop.Stop.TheVariants.{Refused, ReadFault, WriteFault, Limit}
 use Rattle.tc_top.specs.Stops.{IsStop, Stops, IsEndStop, StopsAlong}
@@ -18,17 +18,21 @@ abbrev pub Works : (List ℕ → List ℕ → Type 0) → (List ℕ → List ℕ
 Works before after old new bytes =
     (front output : List ℕ) → before front output → (more : List ℕ) × Appends old new more × after (front ++ bytes) (output ++ more)
 
+-- a stop, as it is said of the bytes and what was written for them, where some of it was written before
+abbrev pub After : (List ℕ → List ℕ → Type 0) → Option (List ℕ) → Option (List ℕ) → List ℕ → List ℕ → Type 0
+After is old new pulled written = (more : List ℕ) × Appends old new more × is pulled (written ++ more)
+
 -- a stop after some bytes
-pub stops_on : (m : Meaning) (stop : Stop) (start mid : List ℕ → List ℕ → Type 0) (old between new : Option (List ℕ)) (bytes more : List ℕ)
+pub stops_on : (is : List ℕ → List ℕ → Type 0) (start mid : List ℕ → List ℕ → Type 0) (old between new : Option (List ℕ)) (bytes more : List ℕ)
     → Works start mid old between bytes
-    → ((front output : List ℕ) → mid front output → Stops m stop between new (front ++ more) output)
-    → (front output : List ℕ) → start front output → Stops m stop old new (front ++ (bytes ++ more)) output
-stops_on m stop start mid old between new bytes more first second = λ front output stands.
+    → ((front output : List ℕ) → mid front output → After is between new (front ++ more) output)
+    → (front output : List ℕ) → start front output → After is old new (front ++ (bytes ++ more)) output
+stops_on is start mid old between new bytes more first second = λ front output stands.
     let f = first front output stands in
     let s = second (front ++ bytes) (output ++ f.0) f.2 in
     let joined : (front ++ bytes) ++ more ≡ front ++ (bytes ++ more) = append_assoc front bytes more in
     let pushed : (output ++ f.0) ++ s.0 ≡ output ++ (f.0 ++ s.0) = append_assoc output f.0 s.0 in
-    (f.0 ++ s.0, Appends-trans old between new f.0 s.0 f.1 s.1, subst (λ (w : List ℕ). IsStop m stop (front ++ (bytes ++ more)) w) pushed (subst (λ (b : List ℕ). IsStop m stop b ((output ++ f.0) ++ s.0)) joined s.2))
+    (f.0 ++ s.0, Appends-trans old between new f.0 s.0 f.1 s.1, subst (λ (w : List ℕ). is (front ++ (bytes ++ more)) w) pushed (subst (λ (b : List ℕ). is b ((output ++ f.0) ++ s.0)) joined s.2))
 
 -- what was worked on first, and then
 pub works_on : (start mid after : List ℕ → List ℕ → Type 0) (old between new : Option (List ℕ)) (bytes more : List ℕ)
@@ -102,6 +106,13 @@ ended_at a b c bytes read count first none room pulled =
     let same : bytes ++ take count read ≡ bytes = rw nothing (append-nil bytes) in
     (subst (Consumes a c) same all, pulled.1 none room)
 
+-- a pull that failed took nothing
+pub still_consumed : (a b c : Option (List ℕ)) (bytes : List ℕ) → Consumes a b bytes → Keeps b c → Consumes a c bytes
+still_consumed None b c bytes consumed kept = tt
+still_consumed (Some xs) None c bytes consumed kept = absurd consumed
+still_consumed (Some xs) (Some ys) None bytes consumed kept = absurd kept
+still_consumed (Some xs) (Some ys) (Some zs) bytes consumed kept = consumed ∙ ap (λ (l : List ℕ). bytes ++ l) (sym kept)
+
 -- a stop at some of the bytes, and at their end
 pub along : (m : Meaning) (stop : Stop) (left : Option (List ℕ)) (bytes output : List ℕ) → IsStop m stop bytes output
     → StopsAlong m stop left bytes output
@@ -122,6 +133,7 @@ pub first_and_rest : (xs : List ℕ) → 0 < length xs → get_or xs 0 0 ∷ dro
 first_and_rest [] some = absurd (omega (arith, some))
 first_and_rest (x ∷ xs) some = refl
 
--- a front of a list, and the rest
-pub front_and_rest : (front xs : List ℕ) → front ≡ take (length front) xs → front ++ drop (length front) xs ≡ xs
-front_and_rest front xs same = ap (λ (l : List ℕ). l ++ drop (length front) xs) same ∙ take-append-drop (length front) xs
+-- and its front of one
+pub first_only : (xs : List ℕ) → 0 < length xs → get_or xs 0 0 ∷ [] ≡ take 1 xs
+first_only [] some = absurd (omega (arith, some))
+first_only (x ∷ xs) some = refl

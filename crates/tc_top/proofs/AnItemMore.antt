@@ -5,6 +5,7 @@ use Rattle.std.specs.Prelude.{nat_lt, if◌then◌else◌, IsSome}
 use Rattle.std.proofs.lemmas.List.{take-append-drop}
 use Rattle.std.specs.declared.option.Option.{Option}
 use Rattle.std.specs.Io.KnownBytes.{Appends}
+use Rattle.std.proofs.KnownBytes.{Appends-nil, Appends-trans}
 use Rattle.std.proofs.lemmas.Bool.{lt-ltb, le-ltb, false≢true}
 use Rattle.tc_io.specs.Sink.{AppendsFront, IsFront}
 use Rattle.direction_reader.specs.declared.reader.TheConstants.{MAX_INTERVALS}
@@ -18,8 +19,8 @@ use Rattle.tc_files.specs.Recording.{Recording, Decoding, IsBetween, with_byte, 
 use Rattle.tc_files.specs.Verdict.{Verdict, good, refused, past_limit}
 use Rattle.tc_top.specs.declared.stop.Stop.{Stop}
 use Rattle.tc_top.specs.declared.stop.Stop.TheVariants.{Refused, ReadFault, WriteFault, Limit}
-use Rattle.tc_top.specs.Along.{Printing, IsPartBehind, IsPartOf, along_intervals}
-use Rattle.tc_top.specs.KeptAlong.{HasHeader, IntervalStops, Printed, Stands, longer, printed_well, stop_at}
+use Rattle.tc_top.specs.Along.{Printing, IsPartOf, along_intervals}
+use Rattle.tc_top.specs.KeptAlong.{HasHeader, IntervalStops, Printed, Stands, longer, printed_well, stop_at, Halts, IsHalt}
 use Rattle.tc_top.specs.Stops.{IsStop, Stops}
 use Rattle.tc_top.proofs.AlongTheInput.{cut_at}
 use Rattle.tc_top.proofs.VerdictStays.{good_step, more_bytes, past_stays, refused_stays}
@@ -28,13 +29,9 @@ use Rattle.tc_top.proofs.VerdictStays.{good_step, more_bytes, past_stays, refuse
 abbrev pub Completes : List ℕ → List ℕ → Taken → Progress → Type 0
 Completes front bytes item next = decoding_of (front ++ bytes) ≡ record { progress = next; recording = with_taken (recording_of front) item }
 
--- what stands for the relation of a command, and its laws
+-- the relation of a command
 abbrev pub Relation : Type 0 → Type 0 → Type 1
 Relation B C = B → C → IntervalHeader → List ℕ → List ℕ → Type 0
-
-abbrev pub StandsWell : {B C : Type 0} → (C → Printing) → Relation B C → Type 0
-StandsWell {B} {C} printing stands = (behind : B) (choice : C) (header : IntervalHeader) (intervals written : List ℕ)
-    → stands behind choice header intervals written → Printing.part (printing choice) header intervals written
 
 -- the recording with the item
 completed : (front bytes : List ℕ) (item : Taken) (next : Progress) → Completes front bytes item next → (recording_of front).verdict ≡ good
@@ -125,46 +122,51 @@ ends_past front bytes rest r e =
     ap (λ (d : Decoding). d.recording) (and_rest front bytes rest)
     ∙ past_stays (decoding_of (front ++ bytes)) rest (ap (λ (s : Recording). s.verdict) e) ∙ e
 
--- the part where nothing was written any more
-part_now : {B C : Type 0} (printing : C → Printing) (stands : Relation B C) → StandsWell printing stands
-    → (behind : Option B) (choice : C) (r s : Recording) (v : Verdict) (written : List ℕ) → Printed stands behind choice r written
-    → s ≡ verdict_now r v → IsPartOf (printing choice) s (written ++ [])
-part_now printing stands well behind choice r s v written printed e =
-    subst (λ (w : List ℕ). IsPartOf (printing choice) s w) (sym (append-nil written))
-    (subst (λ (t : Recording). IsPartOf (printing choice) t written) (sym e) (printed_well printing stands well behind choice r written printed))
+-- the verdict says nothing of the header and the intervals
+at_verdict : {B C : Type 0} (stands : Relation B C) (behind : Option B) (choice : C) (r : Recording) (v : Verdict) (written : List ℕ)
+    → Printed stands behind choice r written → Printed stands behind choice (verdict_now r v) written
+at_verdict stands None choice r v written printed = printed
+at_verdict stands (Some b) choice r v written printed = printed
+
+-- nothing was written any more
+printed_now : {B C : Type 0} (stands : Relation B C) (behind : Option B) (choice : C) (r s : Recording) (v : Verdict) (written : List ℕ)
+    → Printed stands behind choice r written → s ≡ verdict_now r v → Printed stands behind choice s (written ++ [])
+printed_now stands behind choice r s v written printed e =
+    subst (λ (w : List ℕ). Printed stands behind choice s w) (sym (append-nil written))
+    (subst (λ (t : Recording). Printed stands behind choice t written) (sym e) (at_verdict stands behind choice r v written printed))
 
 -- past the limit
-pub a_limit : {B C : Type 0} (printing : C → Printing) (stands : Relation B C) → StandsWell printing stands
+pub a_limit : {B C : Type 0} (p : Printing) (stands : Relation B C)
     → (decoder next : Progress) (behind : Option B) (count : ℕ) (choice : C) (x : ℕ) (front bytes rest written : List ℕ)
     → Stands stands decoder behind count choice front written → Completes front bytes (Interval x) next → count ≡ MAX_INTERVALS
-    → IsStop (along_intervals (printing choice)) Limit (front ++ (bytes ++ rest)) (written ++ [])
-a_limit printing stands well decoder next behind count choice x front bytes rest written s is full =
+    → IsHalt p stands behind choice Limit (front ++ (bytes ++ rest)) (written ++ [])
+a_limit p stands decoder next behind count choice x front bytes rest written s is full =
     let r = recording_of front in
     let past : with_item r (Interval x) ≡ verdict_now r past_limit =
     rw (le-ltb (length r.intervals) MAX_INTERVALS (let counts = s.counts in omega arith)) refl in
     let now = ends_past front bytes rest r (completed front bytes (Interval x) next is s.good ∙ past) in
-    (ap (λ (t : Recording). t.verdict) now, part_now printing stands well behind choice r _ past_limit written s.printed now)
+    (ap (λ (t : Recording). t.verdict) now, printed_now stands behind choice r _ past_limit written s.printed now)
 
 -- a fault
-at_fault : {B C : Type 0} (printing : C → Printing) (stands : Relation B C) → StandsWell printing stands
+at_fault : {B C : Type 0} (p : Printing) (stands : Relation B C)
     → (behind : Option B) (choice : C) (f : FileFault) (front bytes rest written : List ℕ) (below : Bool)
     → Printed stands behind choice (recording_of front) written
     → recording_of (front ++ bytes) ≡ verdict_now (recording_of front) (if below then refused f else past_limit)
-    → IsStop (along_intervals (printing choice)) (if below then Refused f else Limit) (front ++ (bytes ++ rest)) (written ++ [])
-at_fault printing stands well behind choice f front bytes rest written true printed e =
+    → IsHalt p stands behind choice (if below then Refused f else Limit) (front ++ (bytes ++ rest)) (written ++ [])
+at_fault p stands behind choice f front bytes rest written true printed e =
     let now = ends_refused front bytes rest f (recording_of front) e in
-    (ap (λ (t : Recording). t.verdict) now, part_now printing stands well behind choice (recording_of front) _ (refused f) written printed now)
-at_fault printing stands well behind choice f front bytes rest written false printed e =
+    (ap (λ (t : Recording). t.verdict) now, printed_now stands behind choice (recording_of front) _ (refused f) written printed now)
+at_fault p stands behind choice f front bytes rest written false printed e =
     let now = ends_past front bytes rest (recording_of front) e in
-    (ap (λ (t : Recording). t.verdict) now, part_now printing stands well behind choice (recording_of front) _ past_limit written printed now)
+    (ap (λ (t : Recording). t.verdict) now, printed_now stands behind choice (recording_of front) _ past_limit written printed now)
 
-pub a_fault : {B C : Type 0} (printing : C → Printing) (stands : Relation B C) → StandsWell printing stands
+pub a_fault : {B C : Type 0} (p : Printing) (stands : Relation B C)
     → (decoder next : Progress) (behind : Option B) (count : ℕ) (choice : C) (f : FileFault) (front bytes rest written : List ℕ)
     → Stands stands decoder behind count choice front written → Completes front bytes (Fault f) next
-    → IsStop (along_intervals (printing choice)) (stop_at count f) (front ++ (bytes ++ rest)) (written ++ [])
-a_fault printing stands well decoder next behind count choice f front bytes rest written s is =
-    subst (λ (n : ℕ). IsStop (along_intervals (printing choice)) (stop_at n f) (front ++ (bytes ++ rest)) (written ++ [])) (sym s.counts)
-    (at_fault printing stands well behind choice f front bytes rest written (nat_lt (length (recording_of front).intervals) MAX_INTERVALS) s.printed
+    → IsHalt p stands behind choice (stop_at count f) (front ++ (bytes ++ rest)) (written ++ [])
+a_fault p stands decoder next behind count choice f front bytes rest written s is =
+    subst (λ (n : ℕ). IsHalt p stands behind choice (stop_at n f) (front ++ (bytes ++ rest)) (written ++ [])) (sym s.counts)
+    (at_fault p stands behind choice f front bytes rest written (nat_lt (length (recording_of front).intervals) MAX_INTERVALS) s.printed
     (completed front bytes (Fault f) next is s.good))
 
 -- a push that failed: a front of what was due with the item was written
@@ -218,53 +220,126 @@ by_byte decoder front byte item same says =
     (sym same) (more_bytes front (byte ∷ [])))
 
 -- why an interval stops the command
-pub interval_stops : {B C : Type 0} (printing : C → Printing) (stands : Relation B C) → StandsWell printing stands
-    → (decoder next : Progress) (behind : Option B) (count : ℕ) (choice : C) (x : ℕ) (old new : Option (List ℕ)) (front bytes rest written : List ℕ)
+pub interval_stops : {B C : Type 0} (printing : C → Printing) (stands : Relation B C)
+    → (decoder next : Progress) (behind after : Option B) (count : ℕ) (choice : C) (x : ℕ) (old new : Option (List ℕ)) (front bytes rest written : List ℕ)
     (stop : Stop) → HasHeader behind decoder.taken → 12 ≤ decoder.taken
     → Stands stands decoder behind count choice front written → Completes front bytes (Interval x) next
-    → IntervalStops (printing choice) stands behind count choice old new x stop
-    → Stops (along_intervals (printing choice)) stop old new (front ++ (bytes ++ rest)) written
-interval_stops printing stands well decoder next behind count choice x old new front bytes rest written Limit has late s is why =
-    ([], why.1, a_limit printing stands well decoder next behind count choice x front bytes rest written s is why.0)
-interval_stops printing stands well decoder next None count choice x old new front bytes rest written WriteFault has late s is why =
+    → IntervalStops (printing choice) stands behind count choice old new x stop → (stop ≡ Limit → after ≡ behind)
+    → Halts (printing choice) stands after choice stop old new (front ++ (bytes ++ rest)) written
+interval_stops printing stands decoder next behind now count choice x old new front bytes rest written Limit has late s is why stays = (
+  [],
+  why.1,
+  subst (λ (b : Option _). IsHalt (printing choice) stands b choice Limit (front ++ (bytes ++ rest)) (written ++ [])) (sym (stays refl))
+      (a_limit (printing choice) stands decoder next behind count choice x front bytes rest written s is why.0),
+)
+interval_stops printing stands decoder next None now count choice x old new front bytes rest written WriteFault has late s is why stays =
     absurd (omega (arith, has, late))
-interval_stops printing stands well decoder next (Some b) count choice x old new front bytes rest written WriteFault has late s is why =
+interval_stops printing stands decoder next (Some b) now count choice x old new front bytes rest written WriteFault has late s is why stays =
     a_write_fault printing stands decoder next b count choice x old new front bytes rest written s is why
-interval_stops printing stands well decoder next behind count choice x old new front bytes rest written ReadFault has late s is why = absurd why
-interval_stops printing stands well decoder next behind count choice x old new front bytes rest written (Refused f) has late s is why = absurd why
+interval_stops printing stands decoder next behind now count choice x old new front bytes rest written ReadFault has late s is why stays = absurd why
+interval_stops printing stands decoder next behind now count choice x old new front bytes rest written (Refused f) has late s is why stays = absurd why
 
--- four bytes
-pub by_number : (decoder : Progress) (front bytes : List ℕ) (x : ℕ) → decoder ≡ (decoding_of front).progress
-    → fold with_byte (decoding_of front) bytes ≡ with_number (decoding_of front) (Ok x)
-    → Completes front bytes (Interval x) (record decoder { taken = decoder.taken + 4 })
-by_number decoder front bytes x same is =
-    subst (λ (p : Progress). decoding_of (front ++ bytes) ≡ record { progress = record p { taken = p.taken + 4 }; recording = with_taken (recording_of front) (Interval x) })
+-- ---- what is gathered is pushed
+
+-- what a push of it does
+abbrev pub Pushes : {B C : Type 0} → Relation B C → C → Option B → Option B → Option (List ℕ) → Option (List ℕ) → Type 0
+Pushes stands choice before after old new = (r : Recording) (written : List ℕ) → Printed stands before choice r written
+    → (more : List ℕ) × Appends old new more × Printed stands after choice r (written ++ more)
+
+abbrev pub PushesFront : {B C : Type 0} → Printing → Relation B C → C → Option B → Option (List ℕ) → Option (List ℕ) → Type 0
+PushesFront p stands choice before old new = (r : Recording) (written : List ℕ) → Printed stands before choice r written
+    → (part : List ℕ) × IsPartOf p r (written ++ part) × AppendsFront old new part
+
+-- the part stands where the command stopped
+both_pushed : {B C : Type 0} (p : Printing) (stands : Relation B C) (before after : Option B) (choice : C) (old mid new : Option (List ℕ))
+    (pulled written more : List ℕ) → Appends old mid more → Printed stands before choice (recording_of pulled) (written ++ more)
+    → Pushes stands choice before after mid new
+    → ((w : List ℕ) → Printed stands after choice (recording_of pulled) w → IsPartOf p (recording_of pulled) w)
+    → (all : List ℕ) × Appends old new all × IsPartOf p (recording_of pulled) (written ++ all)
+both_pushed p stands before now choice old mid new pulled written more first printed pushes well =
+    let second = pushes (recording_of pulled) (written ++ more) printed in (
+      more ++ second.0,
+      Appends-trans old mid new more second.0 first second.1,
+      subst (λ (w : List ℕ). IsPartOf p (recording_of pulled) w) (append_assoc written more second.0) (well _ second.2),
+    )
+
+pub settled_stop : {B C : Type 0} (p : Printing) (stands : Relation B C) (before after : Option B) (choice : C) (stop : Stop)
+    (old mid new : Option (List ℕ)) (pulled written : List ℕ) → (stop ≡ WriteFault → ⊥)
+    → Halts p stands before choice stop old mid pulled written → Pushes stands choice before after mid new
+    → ((w : List ℕ) → Printed stands after choice (recording_of pulled) w → IsPartOf p (recording_of pulled) w)
+    → Stops (along_intervals p) stop old new pulled written
+settled_stop p stands before now choice (Refused f) old mid new pulled written other h pushes well =
+    let all = both_pushed p stands before now choice old mid new pulled written h.0 h.1 h.2.1 pushes well in
+    (all.0, all.1, (h.2.0, all.2))
+settled_stop p stands before now choice Limit old mid new pulled written other h pushes well =
+    let all = both_pushed p stands before now choice old mid new pulled written h.0 h.1 h.2.1 pushes well in
+    (all.0, all.1, (h.2.0, all.2))
+settled_stop p stands before now choice WriteFault old mid new pulled written other h pushes well = absurd (other refl)
+settled_stop p stands before now choice ReadFault old mid new pulled written other h pushes well = absurd h.2
+
+-- where the push fails, a front of the part stands
+front_pushed : {B C : Type 0} (p : Printing) (stands : Relation B C) (before : Option B) (choice : C) (old mid new : Option (List ℕ))
+    (pulled written more : List ℕ) → Appends old mid more → Printed stands before choice (recording_of pulled) (written ++ more)
+    → PushesFront p stands choice before mid new → Stops (along_intervals p) WriteFault old new pulled written
+front_pushed p stands before choice old mid new pulled written more first printed pushes =
+    let second = pushes (recording_of pulled) (written ++ more) printed in
+    let f = second.2 in
+    let e : (written ++ more) ++ second.0 ≡ (written ++ (more ++ f.0)) ++ f.1.0 =
+    ap (λ (l : List ℕ). (written ++ more) ++ l) f.1.1 ∙ sym (append_assoc (written ++ more) f.0 f.1.0)
+    ∙ ap (λ (l : List ℕ). l ++ f.1.0) (append_assoc written more f.0) in (
+      more ++ f.0,
+      Appends-trans old mid new more f.0 first f.2,
+      (pulled, (written ++ more) ++ second.0, ([], sym (append-nil pulled)), second.1, (f.1.0, e)),
+    )
+
+pub unsettled_stop : {B C : Type 0} (p : Printing) (stands : Relation B C) (before : Option B) (choice : C) (stop : Stop)
+    (old mid new : Option (List ℕ)) (pulled written : List ℕ) → (stop ≡ WriteFault → ⊥)
+    → Halts p stands before choice stop old mid pulled written → PushesFront p stands choice before mid new
+    → Stops (along_intervals p) WriteFault old new pulled written
+unsettled_stop p stands before choice (Refused f) old mid new pulled written other h pushes =
+    front_pushed p stands before choice old mid new pulled written h.0 h.1 h.2.1 pushes
+unsettled_stop p stands before choice Limit old mid new pulled written other h pushes =
+    front_pushed p stands before choice old mid new pulled written h.0 h.1 h.2.1 pushes
+unsettled_stop p stands before choice WriteFault old mid new pulled written other h pushes = absurd (other refl)
+unsettled_stop p stands before choice ReadFault old mid new pulled written other h pushes = absurd h.2
+
+-- and between two pulls
+pub push_stops : {B C : Type 0} (p : Printing) (stands : Relation B C) (behind : Option B) (choice : C) (old new : Option (List ℕ)) (pulled written : List ℕ)
+    → Printed stands behind choice (recording_of pulled) written → PushesFront p stands choice behind old new
+    → Stops (along_intervals p) WriteFault old new pulled written
+push_stops p stands behind choice old new pulled written printed pushes =
+    front_pushed p stands behind choice old old new pulled written [] (Appends-nil old)
+    (subst (λ (w : List ℕ). Printed stands behind choice (recording_of pulled) w) (sym (append-nil written)) printed) pushes
+
+-- the bytes of an interval, so many
+pub by_number : (decoder : Progress) (front bytes : List ℕ) (width x : ℕ) → decoder ≡ (decoding_of front).progress
+    → fold with_byte (decoding_of front) bytes ≡ with_number (decoding_of front) width (Ok x)
+    → Completes front bytes (Interval x) (record decoder { taken = decoder.taken + width })
+by_number decoder front bytes width x same is =
+    subst (λ (p : Progress). decoding_of (front ++ bytes) ≡ record { progress = record p { taken = p.taken + width }; recording = with_taken (recording_of front) (Interval x) })
     (sym same) (more_bytes front bytes ∙ is)
 
-pub by_bad_number : (decoder : Progress) (front bytes : List ℕ) (f : FileFault) → decoder ≡ (decoding_of front).progress
-    → fold with_byte (decoding_of front) bytes ≡ with_number (decoding_of front) (Err f)
-    → Completes front bytes (Fault f) (record decoder { taken = decoder.taken + 4; fault = Some f })
-by_bad_number decoder front bytes f same is =
-    subst (λ (p : Progress). decoding_of (front ++ bytes) ≡ record { progress = record p { taken = p.taken + 4; fault = Some f }; recording = with_taken (recording_of front) (Fault f) })
+pub by_bad_number : (decoder : Progress) (front bytes : List ℕ) (width : ℕ) (f : FileFault) → decoder ≡ (decoding_of front).progress
+    → fold with_byte (decoding_of front) bytes ≡ with_number (decoding_of front) width (Err f)
+    → Completes front bytes (Fault f) (record decoder { taken = decoder.taken + width; fault = Some f })
+by_bad_number decoder front bytes width f same is =
+    subst (λ (p : Progress). decoding_of (front ++ bytes) ≡ record { progress = record p { taken = p.taken + width; fault = Some f }; recording = with_taken (recording_of front) (Fault f) })
     (sym same) (more_bytes front bytes ∙ is)
 
--- with some numbers passed over, a decoder is between two intervals as before
-pub passed_over : (d : Progress) (count : ℕ) → IsBetween d → count % 4 ≡ 0 → IsBetween (record d { taken = d.taken + count })
-passed_over d count between whole = record {
+-- with some intervals passed over, a decoder is between two intervals as before
+pub passed_over : (d : Progress) (count : ℕ) → IsBetween d → IsBetween (record d { taken = d.taken + count })
+passed_over d count between = record {
   no_fault = between.no_fault;
   header = (let late = between.header in omega arith);
   no_part = between.no_part;
-  whole = (let even = between.whole in omega arith);
 }
 
 pub has_header : {B : Type 0} (behind : Option B) (taken : ℕ) → IsSome behind → 12 ≤ taken → HasHeader behind taken
 has_header None taken some late = absurd (false≢true some)
 has_header (Some b) taken some late = late
 
--- numbers are those before a place, the four bytes there, and the rest
-pub cut_number : (k : ℕ) (numbers rest : List ℕ) → k ≤ length numbers
-    → take k numbers ++ (take 4 (take (length numbers - k) (drop k numbers)) ++ (drop 4 (take (length numbers - k) (drop k numbers)) ++ rest)) ≡ numbers ++ rest
-cut_number k numbers rest within =
-    let left = take (length numbers - k) (drop k numbers) in
-    ap (λ (l : List ℕ). take k numbers ++ l) (sym (append_assoc (take 4 left) (drop 4 left) rest) ∙ ap (λ (l : List ℕ). l ++ rest) (take-append-drop 4 left))
-    ∙ sym (append_assoc (take k numbers) left rest) ∙ ap (λ (l : List ℕ). l ++ rest) (cut_at k numbers within)
+-- bytes are those before a place, some that stand there, and the rest
+pub cut_some : (k n : ℕ) (bytes : List ℕ) → k ≤ length bytes
+    → take k bytes ++ (take n (take (length bytes - k) (drop k bytes)) ++ drop n (take (length bytes - k) (drop k bytes))) ≡ bytes
+cut_some k n bytes within =
+    ap (λ (l : List ℕ). take k bytes ++ l) (take-append-drop n (take (length bytes - k) (drop k bytes))) ∙ cut_at k bytes within

@@ -1,5 +1,5 @@
 -- The frames that an interval brings are counted and given in order: those that are due, and then those of its words.
-use Rattle.std.proofs.Common.{◌≡◌, ℕ, ◌+◌, ◌≤◌, List, [], ◌∷◌, ◌++◌, count_by, Bool, sym, ◌∙◌, ap, subst, arith, append-nil, append_assoc, cond, refl}
+use Rattle.std.proofs.Common.{◌≡◌, ℕ, ◌+◌, List, [], ◌∷◌, ◌++◌, count_by, Bool, sym, ◌∙◌, ap, subst, arith, append-nil, append_assoc, cond, refl}
 use Rattle.std.specs.declared.option.Option.{Option}
 use Rattle.std.proofs.lemmas.List.Sums.{sum_by-append, sum_by-cons}
 use Rattle.std.proofs.lemmas.Grind.{flat_map-append}
@@ -14,10 +14,13 @@ use Rattle.flywheel.specs.declared.heard.HeardWord.{HeardWord}
 use Rattle.flywheel.specs.Frames.{frames}
 use Rattle.flywheel.specs.StandsFor as flies
 use Rattle.flywheel.specs.Wheel.{Wheel, IsPast}
-use Rattle.tc_files.specs.FrameTexts.{frame_line}
-use Rattle.tc_top.specs.declared.engines.ltc_fly.Flight.{Flight}
-use Rattle.tc_top.specs.KeptFlight.{counted, Comes, Counts, GivesAll, GivesDue, GivesDueAll, GivesDueAllFirst, GivesFirst}
-use Rattle.tc_top.specs.LtcFly.{frame_lines, heard_in, is_end, is_heard, is_invented, words_heard}
+use Rattle.std.proofs.KnownBytes.{Appends-nil, Appends-trans}
+use Rattle.tc_files.specs.declared.interval_file.header.IntervalHeader.{IntervalHeader}
+use Rattle.tc_top.specs.declared.flight.Flight.{Flight}
+use Rattle.tc_top.specs.KeptFlight.{counted, Comes, Counts, GivesAll, GivesDue, GivesDueAll, GivesDueAllFirst, GivesFirst, Sends, SendsFront}
+use Rattle.tc_top.specs.LtcFly.{is_end, is_heard, is_invented}
+use Rattle.tc_top.specs.OfFrames.{FrameText, heard_in, words_heard}
+use Rattle.tc_top.proofs.PushedLines.{front_of_piece}
 
 -- ---- counts
 
@@ -48,10 +51,48 @@ both_counted a b c fs more first second = record {
   gone = omega (arith, first.gone, second.gone, count_of_more is_end fs more);
 }
 
--- ---- lines
+-- ---- what is sent
 
-pub both_lines : (fs more : List Frame) → frame_lines (fs ++ more) ≡ frame_lines fs ++ frame_lines more
-both_lines fs more = flat_map-append frame_line fs more
+-- what a sink of frames writes, and which frames it was given
+abbrev pub Given : (S C : Type 0) → Type 1
+Given S C = S → C → IntervalHeader → List Frame → Type 0
+
+-- nothing is sent of no frame
+pub sends_none : {S C : Type 0} (made : C → FrameText) (given : Given S C) (sink : S) (out : Option (List ℕ)) → Sends made given sink sink out out []
+sends_none made given sink out = λ choice header frames was. (
+  subst (λ (fs : List Frame). given sink choice header fs) (sym (append-nil frames)) was,
+  ([], ap ((made choice).text header) (append-nil frames) ∙ sym (append-nil ((made choice).text header frames)), Appends-nil out),
+)
+
+-- some frames, and then more
+pub sends_both : {S C : Type 0} (made : C → FrameText) (given : Given S C) (a b c : S) (one two three : Option (List ℕ)) (fs more : List Frame)
+    → Sends made given a b one two fs → Sends made given b c two three more → Sends made given a c one three (fs ++ more)
+sends_both made given a b c one two three fs more first second = λ choice header frames was.
+    let f = first choice header frames was in
+    let s = second choice header (frames ++ fs) f.0 in
+    let same = append_assoc frames fs more in
+    let text = (made choice).text header in (
+      subst (λ (l : List Frame). given c choice header l) same s.0,
+      (
+        f.1.0 ++ s.1.0,
+        ap text (sym same) ∙ s.1.1 ∙ ap (λ (l : List ℕ). l ++ s.1.0) f.1.1 ∙ append_assoc (text frames) f.1.0 s.1.0,
+        Appends-trans one two three f.1.0 s.1.0 f.1.2 s.1.2,
+      ),
+    )
+
+-- some frames, and then a front of more
+pub sends_then_front : {S C : Type 0} (made : C → FrameText) (given : Given S C) (a b : S) (one two three : Option (List ℕ)) (fs more : List Frame)
+    → Sends made given a b one two fs → SendsFront made given b two three more → SendsFront made given a one three (fs ++ more)
+sends_then_front made given a b one two three fs more first second = λ choice header frames rest was.
+    let f = first choice header frames was in
+    let s = second choice header (frames ++ fs) rest f.0 in
+    let text = (made choice).text header in
+    let same : frames ++ ((fs ++ more) ++ rest) ≡ (frames ++ fs) ++ (more ++ rest) =
+    ap (λ (l : List Frame). frames ++ l) (append_assoc fs more rest) ∙ sym (append_assoc frames fs (more ++ rest)) in (
+      f.1.0 ++ s.0,
+      ap text same ∙ s.1 ∙ ap (λ (l : List ℕ). l ++ s.0) f.1.1 ∙ append_assoc (text frames) f.1.0 s.0,
+      front_of_piece one two three (f.1.0 ++ s.0) f.1.0 s.0 s.0 [] refl (sym (append-nil s.0)) f.1.2 s.2,
+    )
 
 -- ---- what was given
 
@@ -116,10 +157,6 @@ pub not_heard : (frame : Frame) (tick : ℕ) (f : Flight) → IsPast frame tick
 not_heard (Heard l d j t) tick f past = absurd past
 not_heard (Invented l d s t) tick f past = (refl, omega arith)
 not_heard (Gone t) tick f past = (refl, omega arith)
-
--- the line of a frame that was printed after others
-pub lines_and_one : (fs : List Frame) (frame : Frame) → frame_lines (fs ++ frame ∷ []) ≡ frame_lines fs ++ frame_line frame
-lines_and_one fs frame = both_lines fs (frame ∷ []) ∙ ap (λ (l : List ℕ). frame_lines fs ++ l) (append-nil (frame_line frame))
 
 -- what comes first still does with the words of all events of the tick
 pub both_later : AWordAddsFrames → (limit : ℕ) (words : List HeardWord) (tick : ℕ) (front : List Frame) (n : ℕ) (first second : Option Event)

@@ -1,28 +1,29 @@
 -- A job and its input leave one status where no call fails: what the bytes pulled show, the whole input shows too.
-use Rattle.std.proofs.Common.{◌≡◌, ◌⊎◌, ℕ, List, ◌++◌, Bool, true, false, Some, None, refl, sym, ◌∙◌, ap, subst, inl, inr, append-nil}
+use Rattle.std.proofs.Common.{◌≡◌, ℕ, List, ◌++◌, Bool, true, false, Some, None, refl, sym, ◌∙◌, ap, inl, inr, append-nil}
 use Rattle.std.specs.Prelude.{IsTrue}
 use Rattle.std.specs.declared.option.Option.{Option}
 use Rattle.std.proofs.lemmas.Bool.{false≢true}
 use Rattle.std.specs.Io.KnownBytes.{Consumes, IsAtEnd}
 use Rattle.tc_io.specs.Source.{Rose}
 use Rattle.tc_files.specs.declared.fault.FileFault.{FileFault}
-use Rattle.tc_files.specs.Recording.{Recording, recording_of, decoding_of}
+use Rattle.tc_files.specs.Recording.{Recording, decoding_of}
 use Rattle.tc_files.specs.Verdict.{Verdict, good, refused, past_limit}
 use Rattle.tc_words.specs.declared.job.Job.{Job}
-use Rattle.tc_words.specs.declared.job.Job.TheVariants.{LtcRead, LtcWorn, LtcFly, LtcMake, Number, LabelOf}
-use Rattle.tc_top.specs.declared.status.Status.{Status}
+use Rattle.tc_words.specs.declared.job.Job.TheVariants.{LtcRead, LtcWorn, LtcFly, LtcMtc, MtcRead, Number, LabelOf, LtcMake, LtcConvert}
 use Rattle.tc_top.specs.declared.status.Status.TheVariants as status
 use Rattle.tc_top.specs.declared.stop.Stop.{Stop}
 use Rattle.tc_top.specs.declared.stop.Stop.TheVariants as stops
 use Rattle.tc_top.specs.Along.{Printing, along_intervals}
-use Rattle.tc_top.specs.Answer.{Exchange, IsAnswer, StoppedBy, status_by, status_on, status_at_end}
+use Rattle.tc_top.specs.Answer.{Exchange, IsAnswer, status_by, status_on, status_at_end}
 use Rattle.tc_top.specs.Causes.{SourceCause, OutCause}
 use Rattle.tc_top.specs.Commands.{meaning_of}
-use Rattle.tc_top.specs.Labels.{number_line}
 use Rattle.tc_top.specs.Meaning.{Meaning, IsEnd, IsInput, writes}
+use Rattle.tc_top.specs.MtcRead.{along_midi}
 use Rattle.tc_top.specs.Notes.{stop_note}
 use Rattle.tc_top.specs.Status.{status_of}
 use Rattle.tc_top.specs.Stops.{StopsAlong}
+use Rattle.tc_top.specs.declared.engines.mtc_read.TheConstants.{MAX_BYTES}
+use Rattle.tc_top.proofs.MidiLimit.{never_refused, past_within}
 use Rattle.tc_top.proofs.VerdictStays.{more_bytes, past_stays, refused_stays}
 
 -- ---- a job that stopped answers so
@@ -54,6 +55,15 @@ along_settles p = record {
   idle = λ e all. absurd (false≢true (sym e));
 }
 
+-- MIDI bytes
+midi_settles : Settles along_midi
+midi_settles = record {
+  fault = λ front rest f e. absurd (never_refused MAX_BYTES front f e);
+  limit = λ front rest e. past_within MAX_BYTES front rest e;
+  ends = λ bytes f e. absurd cc;
+  idle = λ e all. absurd (false≢true (sym e));
+}
+
 -- nothing
 writes_settles : (text : List ℕ) → Settles (writes text)
 writes_settles text = record {
@@ -67,7 +77,10 @@ pub settles : (job : Job) → Settles (meaning_of job)
 settles LtcRead = along_settles _
 settles LtcWorn = along_settles _
 settles (LtcFly limit) = along_settles _
+settles (LtcMtc limit) = along_settles _
+settles MtcRead = midi_settles
 settles (LtcMake stripe) = writes_settles _
+settles (LtcConvert version) = along_settles _
 settles (Number label) = writes_settles _
 settles (LabelOf label) = writes_settles _
 

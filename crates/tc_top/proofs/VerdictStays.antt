@@ -1,15 +1,10 @@
 -- A verdict that is not good stays, whatever bytes follow, and so does all that the bytes say of the recording.
-use Rattle.std.proofs.Common.{◌≡◌, ℕ, ◌+◌, ◌<◌, List, [], ◌∷◌, ◌++◌, length, Bool, true, false, Some, None, refl, sym, ◌∙◌, ap, subst, append_assoc, append-nil, fold}
-use Rattle.std.specs.Prelude.{nat_lt, if◌then◌else◌}
-use Rattle.std.specs.declared.option.Option.{Option}
+use Rattle.std.proofs.Common.{◌≡◌, ℕ, List, [], ◌∷◌, ◌++◌, refl, ◌∙◌, ap, fold}
 use Rattle.std.proofs.lemmas.List.Sums.{fold-append}
-use Rattle.direction_reader.specs.declared.reader.TheConstants.{MAX_INTERVALS}
 use Rattle.tc_files.specs.declared.fault.FileFault.{FileFault}
 use Rattle.tc_files.specs.declared.interval_file.decoder.Taken.{Taken}
-use Rattle.tc_files.specs.declared.interval_file.decoder.Taken.TheVariants.{Nothing, Header, Interval, Fault}
-use Rattle.tc_files.specs.declared.interval_file.header.IntervalHeader.{IntervalHeader}
 use Rattle.tc_files.specs.IntervalFile.{answer}
-use Rattle.tc_files.specs.Recording.{Recording, Decoding, no_decoding, with_byte, with_item, with_taken, decoding_of, recording_of}
+use Rattle.tc_files.specs.Recording.{Recording, Decoding, no_decoding, with_byte, with_item, with_taken, decoding_of}
 use Rattle.tc_files.specs.Verdict.{Verdict, good, refused, past_limit}
 
 pub more_bytes : (front more : List ℕ) → decoding_of (front ++ more) ≡ fold with_byte (decoding_of front) more

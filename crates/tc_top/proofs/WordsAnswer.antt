@@ -1,5 +1,5 @@
 -- The words name a job and its answer is the run's, or their first fault is.
-use Rattle.std.proofs.Common.{◌≡◌, ◌⊎◌, ℕ, List, [], Ok, Err, refl, sym, inl, inr}
+use Rattle.std.proofs.Common.{◌≡◌, ◌⊎◌, ℕ, List, [], Ok, Err, refl, sym, ◌∙◌, ap, inl, inr}
 use Rattle.std.specs.Prelude.{alloc_error}
 use Rattle.std.specs.declared.option.Option.{Option}
 use Rattle.std.specs.declared.result.Result.{Result}
@@ -32,6 +32,14 @@ JobOf all job = let answer : Result Job WordsFault = Ok job in (answer ≡ answe
 pub named : (all : List (List ℕ)) (job : Job) → JobOf all job → answer_to all ≡ Ok job
 named all job (inl same) = sym same
 named all job (inr other) = absurd cc
+
+-- words name one job
+abbrev of_answer : Job → Result Job WordsFault → Job
+of_answer other (Ok job) = job
+of_answer other (Err fault) = other
+
+pub same_job : (all : List (List ℕ)) (a b : Job) → answer_to all ≡ Ok a → answer_to all ≡ Ok b → a ≡ b
+same_job all a b first second = ap (of_answer a) (sym first ∙ second)
 
 -- a fault is the first of the words, or want of memory
 abbrev FaultOf : List (List ℕ) → WordsFault → Type 0

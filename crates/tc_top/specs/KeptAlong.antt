@@ -1,5 +1,5 @@
 -- What a command along an interval file keeps. No promise speaks of it.
-use Rattle.std.specs.Prelude.{◌≡◌, ℕ, ◌+◌, ◌<◌, ◌≤◌, List, [], ◌∷◌, ◌++◌, length, Option, Some, None, nat_lt, if◌then◌else◌}
+use Rattle.std.specs.Prelude.{◌≡◌, ℕ, ◌<◌, ◌≤◌, List, [], ◌∷◌, ◌++◌, length, Option, Some, None, nat_lt, if◌then◌else◌, ⊤, ◌+◌}
 use Rattle.std.proofs.Common.{subst, sym}
 use Rattle.std.specs.Io.KnownBytes.{Appends}
 use Rattle.tc_io.specs.Sink.{AppendsFront}
@@ -8,12 +8,12 @@ use Rattle.tc_files.specs.declared.fault.FileFault.{FileFault}
 use Rattle.tc_files.specs.declared.interval_file.header.IntervalHeader.{IntervalHeader}
 use Rattle.tc_files.specs.declared.interval_file.header.TheConstants.{HEADER_LENGTH}
 use Rattle.tc_files.specs.Progress.{Progress}
-use Rattle.tc_files.specs.Recording.{Recording, decoding_of, recording_of, intervals_in}
-use Rattle.tc_files.specs.Verdict.{good}
+use Rattle.tc_files.specs.Recording.{Recording, decoding_of, recording_of, FitsBytes}
+use Rattle.tc_files.specs.Verdict.{good, refused, past_limit}
 use Rattle.tc_top.specs.declared.stop.Stop.{Stop}
 use Rattle.tc_top.specs.declared.stop.Stop.TheVariants.{Refused, ReadFault, WriteFault, Limit}
 use Rattle.tc_top.specs.Along.{Printing, IsPartBehind, IsPartOf, along_intervals}
-use Rattle.tc_top.specs.Meaning.{Meaning}
+use Rattle.tc_top.specs.Stops.{IsStop}
 
 -- the header is whole with its last byte
 abbrev pub HasHeader : {B : Type 0} → Option B → ℕ → Type 0
@@ -29,7 +29,8 @@ FitsBehind fits (Some behind) count = (count ≤ MAX_INTERVALS) × fits behind c
 pub record IsGoing {B : Type 0} (fits : B → ℕ → Type 0) (decoder : Progress) (behind : Option B) (count : ℕ) : Type 0 where
   pub good : decoder.fault ≡ None
   pub header : HasHeader behind decoder.taken
-  pub counts : count ≡ intervals_in decoder.taken
+  pub counts : FitsBytes decoder count
+  pub part : length decoder.part < 6
   pub keeps : FitsBehind fits behind count
 
 -- what was written stands for the header and the intervals
@@ -59,18 +60,39 @@ IntervalStops p stands behind count choice old new x WriteFault = (count < MAX_I
 IntervalStops p stands behind count choice old new x ReadFault = ⊥
 IntervalStops p stands behind count choice old new x (Refused fault) = ⊥
 
+-- nothing is gathered behind the header
+abbrev pub IsSettled : {B : Type 0} → (B → Type 0) → Option B → Type 0
+IsSettled settled None = ⊤
+IsSettled settled (Some behind) = settled behind
+
+-- why a command stops at some of the bytes pulled, where what is gathered behind the header is still to be pushed
+abbrev pub IsHalt : {B C : Type 0} → Printing → (B → C → IntervalHeader → List ℕ → List ℕ → Type 0) → Option B → C
+    → Stop → List ℕ → List ℕ → Type 0
+IsHalt p stands behind choice (Refused fault) pulled written =
+    ((recording_of pulled).verdict ≡ refused fault) × Printed stands behind choice (recording_of pulled) written
+IsHalt p stands behind choice Limit pulled written =
+    ((recording_of pulled).verdict ≡ past_limit) × Printed stands behind choice (recording_of pulled) written
+IsHalt p stands behind choice WriteFault pulled written = IsStop (along_intervals p) WriteFault pulled written
+IsHalt p stands behind choice ReadFault pulled written = ⊥
+
+-- the same, where some of it was written before
+abbrev pub Halts : {B C : Type 0} → Printing → (B → C → IntervalHeader → List ℕ → List ℕ → Type 0) → Option B → C → Stop
+    → Option (List ℕ) → Option (List ℕ) → List ℕ → List ℕ → Type 0
+Halts p stands behind choice stop old new pulled written =
+    (more : List ℕ) × Appends old new more × IsHalt p stands behind choice stop pulled (written ++ more)
+
 -- why a fault of the file stops the job: an interval past the limit is not looked at
 abbrev pub stop_at : ℕ → FileFault → Stop
 stop_at count fault = if nat_lt count MAX_INTERVALS then Refused fault else Limit
 
--- what was written is a part of the output
-pub printed_well : {B C : Type 0} (printing : C → Printing) (stands : B → C → IntervalHeader → List ℕ → List ℕ → Type 0)
-    → ((behind : B) (choice : C) (header : IntervalHeader) (intervals written : List ℕ) → stands behind choice header intervals written
+-- what was written is a part of the output, where nothing is gathered
+pub printed_well : {B C : Type 0} (printing : C → Printing) (stands : B → C → IntervalHeader → List ℕ → List ℕ → Type 0) (settled : B → Type 0)
+    → ((behind : B) (choice : C) (header : IntervalHeader) (intervals written : List ℕ) → settled behind → stands behind choice header intervals written
     → Printing.part (printing choice) header intervals written)
-    → (behind : Option B) (choice : C) (r : Recording) (written : List ℕ) → Printed stands behind choice r written
+    → (behind : Option B) (choice : C) (r : Recording) (written : List ℕ) → IsSettled settled behind → Printed stands behind choice r written
     → IsPartOf (printing choice) r written
-printed_well printing stands well None choice r written printed =
+printed_well printing stands settled well None choice r written all printed =
     subst (λ (h : Option IntervalHeader). IsPartBehind (printing choice) h r.intervals written) (sym printed.0) printed.2
-printed_well printing stands well (Some behind) choice r written printed =
+printed_well printing stands settled well (Some behind) choice r written all printed =
     subst (λ (h : Option IntervalHeader). IsPartBehind (printing choice) h r.intervals written) (sym printed.1)
-    (well behind choice printed.0 r.intervals written printed.2)
+    (well behind choice printed.0 r.intervals written all printed.2)

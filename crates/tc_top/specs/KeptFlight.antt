@@ -1,5 +1,6 @@
--- What the engine of `ltc-fly` keeps. No promise speaks of it.
-use Rattle.std.specs.Prelude.{◌≡◌, ℕ, ◌+◌, ◌*◌, ◌≤◌, List, [], ◌∷◌, ◌++◌, count_by, IfSome, sum, Option}
+-- What a command along the frames of a recording keeps. No promise speaks of it.
+use Rattle.std.specs.Prelude.{◌≡◌, ℕ, ◌+◌, ◌*◌, ◌≤◌, List, [], ◌++◌, count_by, length, IfSome, sum, Option}
+use Rattle.std.specs.Io.KnownBytes.{Appends}
 use Rattle.std.proofs.Common.{sym, ◌∙◌, ap}
 use Rattle.biphase.specs.declared.profile.Profile.TheVariants.{Normal}
 use Rattle.direction_reader.specs.declared.event.Event.{Event}
@@ -14,8 +15,10 @@ use Rattle.flywheel.specs.Frames.{frames}
 use Rattle.flywheel.specs.StandsFor as flies
 use Rattle.flywheel.specs.Wheel.{Wheel, frames_left}
 use Rattle.tc_files.specs.declared.interval_file.header.IntervalHeader.{IntervalHeader}
-use Rattle.tc_top.specs.declared.engines.ltc_fly.Flight.{Flight}
-use Rattle.tc_top.specs.LtcFly.{frame_lines, is_end, is_heard, is_invented, words_heard, IsFlyPart}
+use Rattle.tc_top.specs.declared.flight.Flight.{Flight}
+use Rattle.tc_io.specs.Sink.{AppendsFront}
+use Rattle.tc_top.specs.LtcFly.{is_end, is_heard, is_invented}
+use Rattle.tc_top.specs.OfFrames.{FrameText, IsFlightPart, words_heard}
 
 -- one frame more of its kind
 abbrev pub counted : Frame → Flight → Flight
@@ -79,26 +82,65 @@ abbrev pub GivesDueAllFirst : Wheel → ℕ → List HeardWord → List Frame �
 GivesDueAllFirst before tick more_words more = (words : List HeardWord) (earlier : ℕ) (given : List Frame) → flies.StandsFor before words earlier given
     → earlier ≤ tick → Comes before.limit (words ++ more_words) tick (given ++ more)
 
--- it was given these intervals behind this header, and printed the frames of their words
-pub record Stands (f : Flight) (limit : ℕ) (header : IntervalHeader) (intervals written : List ℕ) : Type 0 where
+-- before the first interval
+pub record BeginsFlight (f : Flight) (limit : ℕ) (header : IntervalHeader) : Type 0 where
   pub system : f.reader.system ≡ header.system
   pub keeps : profile_of f.reader.tracker ≡ Normal
+  pub reader : reads.StandsFor f.reader [] []
   pub limit_is : f.wheel.limit ≡ limit
+  pub wheel : flies.HasGivenAll f.wheel [] 0 []
+  pub fits : FitsFlight f 0
+  pub heard : f.heard ≡ 0
+  pub invented : f.invented ≡ 0
+  pub gone : f.gone ≡ 0
+
+-- ---- what becomes of frames, in a sink of frames. `made` says what it writes, and `given` which frames it was given
+
+-- with these frames more, all of their bytes were written
+abbrev pub Sends : {S C : Type 0} → (C → FrameText) → (S → C → IntervalHeader → List Frame → Type 0) → S → S → Option (List ℕ) → Option (List ℕ)
+    → List Frame → Type 0
+Sends {S} {C} made given before after old new more = (choice : C) (header : IntervalHeader) (frames : List Frame) → given before choice header frames
+    → given after choice header (frames ++ more)
+    × ((bytes : List ℕ) × ((made choice).text header (frames ++ more) ≡ (made choice).text header frames ++ bytes) × Appends old new bytes)
+
+-- a front of their bytes was written, whatever frames come after them
+abbrev pub SendsFront : {S C : Type 0} → (C → FrameText) → (S → C → IntervalHeader → List Frame → Type 0) → S → Option (List ℕ) → Option (List ℕ)
+    → List Frame → Type 0
+SendsFront {S} {C} made given before old new more = (choice : C) (header : IntervalHeader) (frames rest : List Frame) → given before choice header frames
+    → (bytes : List ℕ) × ((made choice).text header (frames ++ (more ++ rest)) ≡ (made choice).text header frames ++ bytes) × AppendsFront old new bytes
+
+-- the intervals and frames were counted
+pub record CountsAll (f : Flight) (intervals : List ℕ) (given : List Frame) : Type 0 where
+  pub intervals_are : f.reader.intervals ≡ length intervals
+  pub ticks : f.reader.tick ≡ sum intervals
+  pub heard : f.heard ≡ count_by is_heard given
+  pub invented : f.invented ≡ count_by is_invented given
+  pub gone : f.gone ≡ count_by is_end given
+
+-- it was given these intervals behind this header, and sent the frames of their words
+pub record Stands {S C : Type 0} (limit : C → ℕ) (made : C → FrameText) (has_given : S → C → IntervalHeader → List Frame → Type 0)
+    (f : Flight) (sink : S) (choice : C) (header : IntervalHeader) (intervals written : List ℕ) : Type 0 where
+  pub system : f.reader.system ≡ header.system
+  pub keeps : profile_of f.reader.tracker ≡ Normal
+  pub limit_is : f.wheel.limit ≡ limit choice
   pub events : List Event
   pub reader : reads.StandsFor f.reader intervals events
   pub are_events : AreEvents header.system Normal intervals events
   pub given : List Frame
   pub wheel : flies.HasGivenAll f.wheel (words_heard events) (sum intervals) given
-  pub are : written ≡ frame_lines given
+  pub sent : has_given sink choice header given
+  pub are : written ≡ (made choice).text header given
   pub heard : f.heard ≡ count_by is_heard given
   pub invented : f.invented ≡ count_by is_invented given
   pub gone : f.gone ≡ count_by is_end given
 
--- what was printed is a part of the frames
-pub stands_well : (f : Flight) (limit : ℕ) (header : IntervalHeader) (intervals written : List ℕ)
-    → Stands f limit header intervals written → IsFlyPart limit header intervals written
-stands_well f limit header intervals written stands = record {
+-- what was written is a part of what the frames make
+pub stands_well : {S C : Type 0} (limit : C → ℕ) (made : C → FrameText) (has_given : S → C → IntervalHeader → List Frame → Type 0)
+    (f : Flight) (sink : S) (choice : C) (header : IntervalHeader) (intervals written : List ℕ)
+    → Stands limit made has_given f sink choice header intervals written → IsFlightPart (limit choice) (made choice) header intervals written
+stands_well limit made has_given f sink choice header intervals written stands = record {
   events = stands.events;
   are_events = stands.are_events;
-  are = stands.are ∙ ap frame_lines (sym (ap (λ (n : ℕ). frames n (words_heard stands.events) (sum intervals)) (sym stands.limit_is) ∙ stands.wheel.1));
+  are = stands.are ∙ ap ((made choice).text header)
+      (sym (ap (λ (n : ℕ). frames n (words_heard stands.events) (sum intervals)) (sym stands.limit_is) ∙ stands.wheel.1));
 }

@@ -9,7 +9,7 @@ use Rattle.biphase.specs.Shape.{shaped}
 use Rattle.tc_address.specs.declared.count.Count.{Count}
 use Rattle.tc_address.specs.declared.count.Count.TheVariants.{C24, C25, C30, Drop30}
 use Rattle.tc_address.specs.declared.direction.Direction.{Direction}
-use Rattle.tc_address.specs.Count.{rate_of, system_with}
+use Rattle.tc_address.specs.Count.{system_with}
 use Rattle.tc_address.specs.Label.{Address}
 use Rattle.tc_address.specs.Numbering.{step}
 use Rattle.tc_bits.specs.Fields.{contents}
@@ -19,9 +19,12 @@ use Rattle.direction_reader.specs.declared.event.Event.{Event}
 use Rattle.direction_reader.specs.ListEvents.{duration, AreEvents}
 use Rattle.direction_reader.specs.Played.{Played, bits_of_words, events_of_words}
 use Rattle.flywheel.specs.Frames.{steps_in}
-use Rattle.tc_files.specs.declared.interval_file.header.TheConstants.{MAGIC, VERSION}
+use Rattle.tc_files.specs.declared.interval_file.header.FileVersion.TheVariants.{One}
+use Rattle.tc_files.specs.declared.interval_file.header.IntervalHeader.{IntervalHeader}
+use Rattle.tc_files.specs.Grammar.{IsFile}
+use Rattle.tc_files.specs.IntervalHeader.{header_bytes}
 use Rattle.tc_words.specs.declared.job.Job.{Job}
-use Rattle.tc_words.specs.declared.job.Job.TheVariants.{LtcRead, LtcWorn, LtcFly, LtcMake, Number, LabelOf}
+use Rattle.tc_words.specs.declared.job.Job.TheVariants.{LtcMake}
 use Rattle.tc_words.specs.Stripe.{Striping}
 
 -- the count drops labels
@@ -52,13 +55,13 @@ made_cells s = shaped s.shape (false ∷ true ∷ bits_of_words (made_frames s))
 abbrev pub interval_bytes : List ℕ → List ℕ
 interval_bytes intervals = flat_map (big_bytes 4) intervals
 
--- the header of the file
-abbrev pub header_bytes : Count → ℕ → List ℕ
-header_bytes count tick_rate = MAGIC ++ VERSION ∷ rate_of (system_with count) ∷ 0 ∷ 0 ∷ big_bytes 4 tick_rate
+-- the header of the file, of version 1
+abbrev pub made_header : Striping → IntervalHeader
+made_header s = record { version = One; system = system_with s.label.count; tick_rate = s.tick_rate }
 
 -- the file
 abbrev pub made : Striping → List ℕ
-made s = header_bytes s.label.count s.tick_rate ++ interval_bytes (flat (made_cells s))
+made s = header_bytes (made_header s) ++ interval_bytes (flat (made_cells s))
 
 -- ---- what is read from it
 
@@ -66,15 +69,12 @@ made s = header_bytes s.label.count s.tick_rate ++ interval_bytes (flat (made_ce
 abbrev pub made_events : Striping → List Event
 made_events s = events_of_words (duration (take 2 (made_cells s))) (drop 2 (made_cells s)) (made_frames s)
 
--- these are the events of its intervals: each frame is read, none is refused, and no code is lost
-abbrev pub IsReadBack : Striping → Type 0
-IsReadBack s = AreEvents (system_with s.label.count) Normal (flat (made_cells s)) (made_events s)
+-- it is the file of its header and its intervals, and these are their events: each frame is read, none is refused, and no code is lost
+pub record IsReadBack (s : Striping) : Type 0 where
+  pub file : IsFile (made s) (made_header s) (flat (made_cells s))
+  pub events : AreEvents (system_with s.label.count) Normal (flat (made_cells s)) (made_events s)
 
 -- what a job makes is read back
 abbrev pub MakesWhatIsRead : Job → Type 0
-MakesWhatIsRead LtcRead = Unit {0}
-MakesWhatIsRead LtcWorn = Unit {0}
-MakesWhatIsRead (LtcFly limit) = Unit {0}
 MakesWhatIsRead (LtcMake stripe) = IsReadBack stripe
-MakesWhatIsRead (Number label) = Unit {0}
-MakesWhatIsRead (LabelOf label) = Unit {0}
+MakesWhatIsRead _ = Unit {0}

@@ -1,5 +1,5 @@
 -- What a command takes and what it writes.
-use Rattle.std.specs.Prelude.{◌≡◌, ℕ, Bool, true, false, IsTrue, List, [], Option, None}
+use Rattle.std.specs.Prelude.{◌≡◌, ℕ, Bool, false, IsTrue, List, [], Option, None}
 use Rattle.std.specs.Io.KnownBytes.{IsAtEnd}
 use Rattle.tc_files.specs.declared.fault.FileFault.{FileFault}
 use Rattle.tc_files.specs.Verdict.{Verdict, good}

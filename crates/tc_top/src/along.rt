@@ -1,6 +1,7 @@
 //! The way along an interval file, the same for each command that reads one. Next:
 //! `tc_files/src/interval_file/decoder.rt`, and behind it the engines.
 ghost use Rattle.std.specs.Prelude.{◌≡◌, ℕ, ◌+◌, ◌-◌, ◌%◌, ◌<◌, ◌≤◌, List, [], ◌∷◌, ◌++◌, length, take, drop, OnOk, IfOk, IfErr, IsSome, Err};
+ghost use Rattle.std.specs.declared.option.Option.{Option};
 ghost use Rattle.std.specs.Io.KnownBytes.{Appends};
 ghost use Rattle.biphase.specs.declared.cell.TheConstants.{MAX_INTERVAL};
 ghost use Rattle.direction_reader.specs.declared.reader.TheConstants.{MAX_INTERVALS};
@@ -8,16 +9,30 @@ ghost use Rattle.tc_files.specs.declared.interval_file.header.IntervalHeader.{In
 ghost use Rattle.tc_files.specs.IntervalHeader.{IsTickRate};
 ghost use Rattle.tc_files.specs.Recording.{IsBetween, Recording};
 ghost use Rattle.tc_io.specs.Sink.{AppendsFront};
-ghost use Rattle.tc_top.specs.Along.{Printing, along_intervals};
-ghost use Rattle.tc_top.specs.Causes.{HasOutCause};
+ghost use Rattle.tc_top.specs.Along.{IsPartOf, Printing, along_intervals};
+ghost use Rattle.tc_top.specs.Causes.{HasOutCause, OutCause};
+ghost use Rattle.tc_top.specs.Status.{status_of};
 ghost use Rattle.tc_top.specs.Stops.{Stops};
-ghost use Rattle.tc_top.specs.KeptAlong.{FitsBehind, IntervalStops, IsGoing, Printed, Stands, longer, stop_at};
+ghost use Rattle.tc_top.specs.KeptAlong.{
+  FitsBehind,
+  Halts,
+  HasHeader,
+  IntervalStops,
+  IsGoing,
+  IsSettled,
+  Printed,
+  Stands,
+  longer,
+  stop_at,
+};
 
 use crate::engine::Engine;
 use crate::stop::Stop;
 use biphase::MAX_INTERVAL;
 use direction_reader::MAX_INTERVALS;
-use tc_files::{FileFault, IntervalDecoder, IntervalHeader, Taken, interval_at};
+use tc_files::{
+    FileFault, FileVersion, IntervalDecoder, IntervalHeader, Next, Taken, next_interval,
+};
 use tc_io::Sink;
 
 /// The work of one command behind the header of an interval file.
@@ -34,9 +49,12 @@ pub(crate) trait Behind: Drop {
     /// It was begun with this choice and this header, was given these intervals, and wrote this.
     ghost stands: { Self → Self.Choice → IntervalHeader → List ℕ → List ℕ → Type 0 };
 
-    /// What it wrote is the part of the intervals.
+    /// Nothing is gathered to be pushed.
+    ghost is_settled: { Self → Type 0 };
+
+    /// What it wrote is the part of the intervals, where nothing is gathered.
     ghost stands_well: { (behind : Self) (choice : Self.Choice) (header : IntervalHeader) (intervals written : List ℕ)
-        → stands behind choice header intervals written
+        → is_settled behind → stands behind choice header intervals written
         → Printing.part (printing choice) header intervals written };
 
     /// Takes the header, and writes what stands first.
@@ -70,9 +88,25 @@ pub(crate) trait Behind: Drop {
             × AppendsFront (K.written out.old) (K.written out.new) part)) }
         ensures cause { HasOutCause (K.faults out.old) (K.faults out.new) result };
 
+    /// Pushes what is gathered of output that is no text.
+    fn flush<K: Sink>(&mut self, out: &mut K) -> Result<(), Stop>
+        ensures fits { OnOk result ((count : ℕ) → fits self.old count → fits self.new count) }
+        ensures settled { OnOk result (is_settled self.new) }
+        ensures works { OnOk result ((choice : Self.Choice) (header : IntervalHeader) (intervals written : List ℕ)
+            → stands self.old choice header intervals written
+            → (more : List ℕ) × Appends (K.written out.old) (K.written out.new) more
+            × stands self.new choice header intervals (written ++ more)) }
+        ensures front { IfErr result (λ stop. (stop ≡ Stop.WriteFault)
+            × ((choice : Self.Choice) (header : IntervalHeader) (intervals written : List ℕ)
+            → stands self.old choice header intervals written
+            → (part : List ℕ) × Printing.part (printing choice) header intervals (written ++ part)
+            × AppendsFront (K.written out.old) (K.written out.new) part)) }
+        ensures cause { HasOutCause (K.faults out.old) (K.faults out.new) result };
+
     /// Takes the end of the recording, and writes what stands last.
     fn finish<K: Sink>(&self, out: &mut K) -> Result<(), Stop>
         requires fits { (count : ℕ) × (count ≤ MAX_INTERVALS) × fits self.now count }
+        requires settled { is_settled self.now }
         ensures ends { OnOk result ((choice : Self.Choice) (header : IntervalHeader) (intervals written : List ℕ)
             → stands self.now choice header intervals written
             → (more : List ℕ) × Appends (K.written out.old) (K.written out.new) more
@@ -109,6 +143,76 @@ impl<B: Behind> Along<B> {
         }
     }
 
+    /// Works on the whole intervals that stand first, or else on one byte, and answers on how many bytes.
+    fn advance<K: Sink>(&mut self, bytes: &[u8], out: &mut K) -> Result<usize, Stop>
+        requires going { IsGoing B.fits self.old.decoder self.old.behind self.old.intervals }
+        requires some { 0 < length bytes.now }
+        ensures going { OnOk result (IsGoing B.fits self.new.decoder self.new.behind self.new.intervals) }
+        ensures taken { IfOk result (λ count. (1 ≤ count) × (count ≤ length bytes.now)
+            × (self.new.decoder.taken ≡ self.old.decoder.taken + count)) }
+        ensures choice { self.new.choice ≡ self.old.choice }
+        ensures works { IfOk result (λ count. (front written : List ℕ)
+            → Stands B.stands self.old.decoder self.old.behind self.old.intervals self.old.choice front written
+            → (more : List ℕ) × Appends (K.written out.old) (K.written out.new) more
+            × Stands B.stands self.new.decoder self.new.behind self.new.intervals self.new.choice (front ++ take count bytes.now) (written ++ more)) }
+        ensures stops { IfErr result (λ stop. (front written : List ℕ)
+            → Stands B.stands self.old.decoder self.old.behind self.old.intervals self.old.choice front written
+            → Halts (B.printing self.old.choice) B.stands self.new.behind self.old.choice stop
+            (K.written out.old) (K.written out.new) (front ++ bytes.now) written) }
+        ensures cause { HasOutCause (K.faults out.old) (K.faults out.new) result }
+        ensures no_pull { result ≡ Err Stop.ReadFault → ⊥ }
+    {
+        match self.whole_intervals(bytes, out)? {
+            0 => {
+                self.byte(bytes[0], out)?;
+                Ok(1)
+            }
+            count => Ok(count),
+        }
+    }
+
+    /// Pushes what is gathered behind the header.
+    fn push_gathered<K: Sink>(&mut self, out: &mut K) -> Result<(), Stop>
+        ensures decoder { self.new.decoder ≡ self.old.decoder }
+        ensures choice { self.new.choice ≡ self.old.choice }
+        ensures count { self.new.intervals ≡ self.old.intervals }
+        ensures fits { OnOk result ((count : ℕ) → FitsBehind B.fits self.old.behind count → FitsBehind B.fits self.new.behind count) }
+        ensures header { OnOk result ((taken : ℕ) → HasHeader self.old.behind taken → HasHeader self.new.behind taken) }
+        ensures settled { OnOk result (IsSettled B.is_settled self.new.behind) }
+        ensures works { OnOk result ((choice : B.Choice) (r : Recording) (written : List ℕ) → Printed B.stands self.old.behind choice r written
+            → (more : List ℕ) × Appends (K.written out.old) (K.written out.new) more
+            × Printed B.stands self.new.behind choice r (written ++ more)) }
+        ensures front { IfErr result (λ stop. (stop ≡ Stop.WriteFault)
+            × ((choice : B.Choice) (r : Recording) (written : List ℕ) → Printed B.stands self.old.behind choice r written
+            → (part : List ℕ) × IsPartOf (B.printing choice) r (written ++ part)
+            × AppendsFront (K.written out.old) (K.written out.new) part)) }
+        ensures cause { HasOutCause (K.faults out.old) (K.faults out.new) result }
+    {
+        match &mut self.behind {
+            Some(behind) => behind.flush(out),
+            None => Ok(()),
+        }
+    }
+
+    /// Why the command stops, once what is gathered was pushed: the part of the bytes pulled stands.
+    fn stopped<K: Sink>(&mut self, stop: Stop, out: &mut K) -> Stop
+        ensures choice { self.new.choice ≡ self.old.choice }
+        ensures stops { (before : Option (List ℕ)) (pulled written : List ℕ)
+            → Halts (B.printing self.old.choice) B.stands self.old.behind self.old.choice stop before (K.written out.old) pulled written
+            → Stops (along_intervals (B.printing self.old.choice)) result before (K.written out.new) pulled written }
+        ensures cause { (before : ℕ) → OutCause (status_of stop) before (K.faults out.old)
+            → OutCause (status_of result) before (K.faults out.new) }
+        ensures no_pull { result ≡ Stop.ReadFault → stop ≡ Stop.ReadFault }
+    {
+        match stop {
+            Stop::WriteFault => stop,
+            _ => match self.push_gathered(out) {
+                Ok(()) => stop,
+                Err(fault) => fault,
+            },
+        }
+    }
+
     /// Works on one byte.
     fn byte<K: Sink>(&mut self, byte: u8, out: &mut K) -> Result<(), Stop>
         requires { IsGoing B.fits self.old.decoder self.old.behind self.old.intervals }
@@ -121,7 +225,8 @@ impl<B: Behind> Along<B> {
             × Stands B.stands self.new.decoder self.new.behind self.new.intervals self.new.choice (front ++ byte ∷ []) (written ++ more)) }
         ensures stops { IfErr result (λ stop. (front written rest : List ℕ)
             → Stands B.stands self.old.decoder self.old.behind self.old.intervals self.old.choice front written
-            → Stops (along_intervals (B.printing self.old.choice)) stop (K.written out.old) (K.written out.new) (front ++ byte ∷ rest) written) }
+            → Halts (B.printing self.old.choice) B.stands self.new.behind self.old.choice stop
+            (K.written out.old) (K.written out.new) (front ++ byte ∷ rest) written) }
         ensures cause { HasOutCause (K.faults out.old) (K.faults out.new) result }
         ensures no_pull { result ≡ Err Stop.ReadFault → ⊥ }
     {
@@ -136,36 +241,74 @@ impl<B: Behind> Along<B> {
         }
     }
 
-    /// Works on whole numbers, four bytes each.
-    fn numbers<K: Sink>(&mut self, numbers: &[u8], out: &mut K) -> Result<(), Stop>
-        requires between { IsBetween self.old.decoder }
-        requires whole { length numbers.now % 4 ≡ 0 }
+    /// Works on the whole intervals at the front of bytes, and answers how many bytes they have: none
+    /// where the header or an interval is half taken.
+    fn whole_intervals<K: Sink>(&mut self, bytes: &[u8], out: &mut K) -> Result<usize, Stop>
         requires going { IsGoing B.fits self.old.decoder self.old.behind self.old.intervals }
         ensures going { OnOk result (IsGoing B.fits self.new.decoder self.new.behind self.new.intervals) }
-        ensures taken { OnOk result (self.new.decoder.taken ≡ self.old.decoder.taken + length numbers.now) }
+        ensures taken { IfOk result (λ count. (count ≤ length bytes.now) × (self.new.decoder.taken ≡ self.old.decoder.taken + count)) }
         ensures choice { self.new.choice ≡ self.old.choice }
-        ensures works { OnOk result ((front written : List ℕ)
+        ensures works { IfOk result (λ count. (front written : List ℕ)
             → Stands B.stands self.old.decoder self.old.behind self.old.intervals self.old.choice front written
             → (more : List ℕ) × Appends (K.written out.old) (K.written out.new) more
-            × Stands B.stands self.new.decoder self.new.behind self.new.intervals self.new.choice (front ++ numbers.now) (written ++ more)) }
-        ensures stops { IfErr result (λ stop. (front written rest : List ℕ)
+            × Stands B.stands self.new.decoder self.new.behind self.new.intervals self.new.choice (front ++ take count bytes.now) (written ++ more)) }
+        ensures stops { IfErr result (λ stop. (front written : List ℕ)
             → Stands B.stands self.old.decoder self.old.behind self.old.intervals self.old.choice front written
-            → Stops (along_intervals (B.printing self.old.choice)) stop (K.written out.old) (K.written out.new)
-            (front ++ (numbers.now ++ rest)) written) }
+            → Halts (B.printing self.old.choice) B.stands self.new.behind self.old.choice stop
+            (K.written out.old) (K.written out.new) (front ++ bytes.now) written) }
+        ensures cause { HasOutCause (K.faults out.old) (K.faults out.new) result }
+        ensures no_pull { result ≡ Err Stop.ReadFault → ⊥ }
+    {
+        if !self.decoder.is_between() {
+            return Ok(0);
+        }
+        // Each version has a loop of its own.
+        match self.decoder.version() {
+            FileVersion::One => self.run(FileVersion::One, bytes, out),
+            FileVersion::Two => self.run(FileVersion::Two, bytes, out),
+        }
+    }
+
+    /// Works on the whole intervals at the front of bytes that begin between two intervals.
+    #[inline(always)]
+    fn run<K: Sink>(
+        &mut self,
+        version: FileVersion,
+        bytes: &[u8],
+        out: &mut K,
+    ) -> Result<usize, Stop>
+        requires between { IsBetween self.old.decoder }
+        requires version { self.old.decoder.version ≡ version }
+        requires going { IsGoing B.fits self.old.decoder self.old.behind self.old.intervals }
+        ensures going { OnOk result (IsGoing B.fits self.new.decoder self.new.behind self.new.intervals) }
+        ensures taken { IfOk result (λ count. (count ≤ length bytes.now) × (self.new.decoder.taken ≡ self.old.decoder.taken + count)) }
+        ensures choice { self.new.choice ≡ self.old.choice }
+        ensures works { IfOk result (λ count. (front written : List ℕ)
+            → Stands B.stands self.old.decoder self.old.behind self.old.intervals self.old.choice front written
+            → (more : List ℕ) × Appends (K.written out.old) (K.written out.new) more
+            × Stands B.stands self.new.decoder self.new.behind self.new.intervals self.new.choice (front ++ take count bytes.now) (written ++ more)) }
+        ensures stops { IfErr result (λ stop. (front written : List ℕ)
+            → Stands B.stands self.old.decoder self.old.behind self.old.intervals self.old.choice front written
+            → Halts (B.printing self.old.choice) B.stands self.new.behind self.old.choice stop
+            (K.written out.old) (K.written out.new) (front ++ bytes.now) written) }
         ensures cause { HasOutCause (K.faults out.old) (K.faults out.new) result }
         ensures no_pull { result ≡ Err Stop.ReadFault → ⊥ }
     {
         let first = self.decoder.taken();
         let mut at = 0;
-        'numbers: while at < numbers.len() {
-            match interval_at(first + at as u64, &numbers[at..]) {
-                Ok(x) => self.interval(x, out)?,
-                Err(fault) => return Err(self.stop_at(fault)),
+        'run: loop {
+            match next_interval(version, first + at as u64, &bytes[at..]) {
+                Next::Interval { ticks, width } => {
+                    self.interval(ticks, out)?;
+                    at += width;
+                }
+                Next::Fault(fault) => return Err(self.stop_at(fault)),
+                Next::Short => {
+                    self.decoder.pass_over(at);
+                    return Ok(at);
+                }
             }
-            at += 4;
         }
-        self.decoder.pass_over(numbers.len());
-        Ok(())
     }
 
     /// Works on an interval, of `x` ticks.
@@ -184,8 +327,9 @@ impl<B: Behind> Along<B> {
             → Printed B.stands self.old.behind self.old.choice r written
             → (more : List ℕ) × Appends (K.written out.old) (K.written out.new) more
             × Printed B.stands self.new.behind self.new.choice (longer r x) (written ++ more)) }
-        ensures stops { IfErr result (IntervalStops (B.printing self.old.choice) B.stands self.old.behind self.old.intervals
-            self.old.choice (K.written out.old) (K.written out.new) x) }
+        ensures stops { IfErr result (λ stop. IntervalStops (B.printing self.old.choice) B.stands self.old.behind self.old.intervals
+            self.old.choice (K.written out.old) (K.written out.new) x stop
+            × (stop ≡ Stop.Limit → self.new.behind ≡ self.old.behind)) }
         ensures cause { HasOutCause (K.faults out.old) (K.faults out.new) result }
         ensures no_pull { result ≡ Err Stop.ReadFault → ⊥ }
     {
@@ -215,7 +359,7 @@ impl<B: Behind> Along<B> {
 impl<B: Behind> Engine for Along<B> {
     ghost use Rattle.tc_files.specs.Recording.{too_many_bytes};
     ghost use Rattle.tc_top.specs.Along.{along_intervals};
-    ghost use Rattle.tc_top.specs.KeptAlong.{IsGoing, Stands, printed_well};
+    ghost use Rattle.tc_top.specs.KeptAlong.{IsGoing, IsSettled, Stands, printed_well};
 
     type Choice = B::Choice;
 
@@ -227,20 +371,22 @@ impl<B: Behind> Engine for Along<B> {
 
     ghost stands = { λ s bytes written. Stands B.stands s.decoder s.behind s.intervals s.choice bytes written };
 
+    ghost is_settled = { λ s. IsSettled B.is_settled s.behind };
+
     ghost budget = { λ s. too_many_bytes - s.decoder.taken };
 
-    ghost stands_well = { λ s bytes written stands.
-        (stands.good, printed_well B.printing B.stands B.stands_well s.behind s.choice _ written stands.printed) };
+    ghost stands_well = { λ s bytes written settled stands.
+        (stands.good, printed_well B.printing B.stands B.is_settled B.stands_well s.behind s.choice _ written settled stands.printed) };
 
     fn take<K: Sink>(&mut self, bytes: &[u8], out: &mut K) -> Result<usize, Stop> {
-        let numbers = self.decoder.whole_numbers(bytes);
-        if numbers.is_empty() {
-            self.byte(bytes[0], out)?;
-            Ok(1)
-        } else {
-            self.numbers(numbers, out)?;
-            Ok(numbers.len())
+        match self.advance(bytes, out) {
+            Ok(count) => Ok(count),
+            Err(stop) => Err(self.stopped(stop, out)),
         }
+    }
+
+    fn flush<K: Sink>(&mut self, out: &mut K) -> Result<(), Stop> {
+        self.push_gathered(out)
     }
 
     fn finish<K: Sink>(&self, out: &mut K) -> Result<(), Stop> {

@@ -12,7 +12,8 @@ use tc_io::{Sink, Source};
 /// The room for the bytes of one pull.
 const PULLED: usize = 4096;
 
-/// Pulls the input to its end. Each byte that was pulled is worked on before the next pull.
+/// Pulls the input to its end. Each byte that was pulled is worked on before the next pull, and what
+/// it gave is pushed.
 pub(crate) fn work<E: Engine, S: Source, K: Sink>(
     engine: &mut E,
     source: &mut S,
@@ -35,6 +36,7 @@ pub(crate) fn work<E: Engine, S: Source, K: Sink>(
 {
     let mut buf = [0; PULLED];
     'pulls: loop {
+        engine.flush(out)?;
         let Ok(count) = source.pull(&mut buf) else {
             return Err(Stop::ReadFault);
         };

@@ -6,22 +6,26 @@
 //!
 //! What this crate promises, for all words, sources and sinks:
 //! - What was pulled and what was pushed are those of the status (`specs/Answer.antt`,
-//!   `IsRunAnswer`; what each job writes and which inputs it takes: `specs/Output.antt`).
-//! - A read fault and a write fault come only where a count of faults rose (`SourceCause`,
-//!   `OutCause`), and an input of the command gives Done where none rose (clause `complete`).
+//!   `IsRunAnswer`). What each job takes and writes is its meaning (`specs/Commands.antt`, a line a job,
+//!   over `specs/Meaning.antt`).
+//! - A read fault and a write fault come only where a count of faults rose (`specs/Causes.antt`), and
+//!   the words and the whole input leave one status where none rose, want of memory aside (clause
+//!   `status`).
 //! - The note is the one line of the status (`specs/Notes.antt`). A failing sink of notes changes no
 //!   status.
-//! - What `ltc-read` prints is lines of events behind the header of the file, each counted in the
-//!   last line (`specs/LtcRead.antt`). That they are the events of the recording's stretches is not
-//!   proved yet.
+//! - What `ltc-read` and `ltc-worn` print are the lines of the events of the file's intervals, each
+//!   counted in the last line (`specs/LtcRead.antt`). Where the file holds a tape within the tolerance,
+//!   these are the tape's own words (`specs/Tape.antt`, clause `truth`).
 //!
-//! Read `top_call`, `streaming`, `engine`, `intake`, `output`, `notes`, and then the engines. `tc`
-//! stands on this crate.
+//! Read `top_call`, `streaming`, `engine`, `intake`, `along`, `making`, `pushing`, `notes`, and then the
+//! engines. `tc` and the conformance runs of `tc_vectors` stand on this crate.
 #![tactic(auto)]
 
 mod along;
 mod engine;
 mod engines;
+mod flight;
+mod frame_sink;
 mod intake;
 pub mod laws;
 mod making;
@@ -35,6 +39,3 @@ mod top_call;
 pub use status::Status;
 pub use streaming::stream;
 pub use top_call::run;
-
-#[cfg(test)]
-mod tests;

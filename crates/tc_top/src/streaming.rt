@@ -5,21 +5,32 @@ ghost use Rattle.tc_io.specs.Source.{Rose};
 ghost use Rattle.tc_top.specs.Answer.{Exchange, IsAnswer, IsPulled, IsWritten, IsNoted, status_on};
 ghost use Rattle.tc_top.specs.Causes.{SourceCause, OutCause, HasSourceCause, HasOutCause};
 ghost use Rattle.tc_top.specs.Commands.{meaning_of};
+ghost use Rattle.tc_top.specs.LtcFly.{IsMarked};
 ghost use Rattle.tc_top.specs.Made.{MakesWhatIsRead};
 ghost use Rattle.tc_top.specs.Meaning.{Meaning, IsInput, IsEnd};
 ghost use Rattle.tc_top.specs.Stops.{StopsAlong};
+ghost use Rattle.tc_top.specs.Tape.{IsReport, ReportsTheTape};
+ghost use Rattle.biphase.specs.declared.profile.Profile.{Profile};
 
 use crate::along::Along;
 use crate::engines::labels::OneLine;
-use crate::engines::ltc_fly::Flight;
+use crate::engines::ltc_convert::Conversion;
+use crate::engines::ltc_fly::FrameLines;
 use crate::engines::ltc_make::Tape;
+use crate::engines::ltc_mtc::FrameMessages;
 use crate::engines::ltc_read::Report;
+use crate::engines::mtc_read::MtcReport;
+use crate::flight::FlightTo;
 use crate::intake::work;
 use crate::making::make;
 use crate::notes::{push_note, stop_note};
 use crate::status::Status;
 use crate::stop::Stop;
 use biphase::Profile;
+use direction_reader::laws::{
+    events_find_the_tape_again, events_mirror_the_tape, events_tell_the_tape,
+};
+use flywheel::laws::invention_is_bounded_and_marked;
 use tc_io::{Sink, Source};
 use tc_words::Job;
 
@@ -37,6 +48,11 @@ pub fn stream<S: Source, K: Sink, N: Sink>(
         × IsAnswer (meaning_of job.now) result e }
     ensures no_note { result ≡ Status.Done → notes.new ≡ notes.old }
 
+    // A report tells the tape where it is within the tolerance, and finds it again behind damage.
+    ensures truth { result ≡ Status.Done → (profile : Profile) → IsReport job.now profile → (e : Exchange)
+        × IsPulled (S.left source.old) (S.left source.new) e × IsEnd (meaning_of job.now) e.left
+        × IsWritten (K.written out.old) (K.written out.new) e × ReportsTheTape profile e.pulled e.written }
+
     // A read fault and a write fault come only where a count of faults rose.
     ensures source { SourceCause result (S.faults source.old) (S.faults source.new) }
     ensures out { OutCause result (K.faults out.old) (K.faults out.new) }
@@ -52,7 +68,15 @@ pub fn stream<S: Source, K: Sink, N: Sink>(
 
     // A recording that the job makes is read back, frame by frame.
     ensures read { MakesWhatIsRead job.now }
+
+    // The lines of `ltc-fly` mark each frame that is invented, and these are within the limit.
+    ensures marked { (limit : ℕ) → job.now ≡ Job.LtcFly limit
+        → (written : List ℕ) × Appends (K.written out.old) (K.written out.new) written × IsMarked limit written }
 {
+    events_tell_the_tape();
+    events_find_the_tape_again();
+    invention_is_bounded_and_marked();
+    events_mirror_the_tape();
     match work_on(job, source, out) {
         Ok(()) => Status::Done,
         Err(stop) => {
@@ -82,8 +106,19 @@ fn work_on<S: Source, K: Sink>(job: &Job, source: &mut S, out: &mut K) -> Result
     match job {
         Job::LtcRead => work(&mut Along::<Report>::new(Profile::Normal), source, out),
         Job::LtcWorn => work(&mut Along::<Report>::new(Profile::Worn), source, out),
-        Job::LtcFly { limit } => work(&mut Along::<Flight>::new(*limit), source, out),
+        Job::LtcFly { limit } => work(&mut Along::<FlightTo<FrameLines>>::new(*limit), source, out),
+        Job::LtcMtc { limit } => {
+            work(
+                &mut Along::<FlightTo<FrameMessages>>::new(*limit),
+                source,
+                out,
+            )
+        }
+        Job::MtcRead => work(&mut MtcReport::new(), source, out),
         Job::LtcMake { stripe } => make(&mut Tape::new(stripe), source, out),
+        Job::LtcConvert { version } => {
+            work(&mut Along::<Conversion>::new(*version), source, out)
+        }
         Job::Number { label } => make(&mut OneLine::number(label), source, out),
         Job::LabelOf { label } => make(&mut OneLine::label(label), source, out),
     }

@@ -1,5 +1,7 @@
 //! The top call: words and bytes in, bytes and a status out. Next: `streaming`.
 ghost use Rattle.std.specs.Prelude.{◌≡◌, ◌⊎◌, ℕ, List, map, string_bytes, Some, false, Ok, Err};
+ghost use Rattle.biphase.specs.declared.profile.Profile.{Profile};
+ghost use Rattle.std.specs.Io.KnownBytes.{Appends};
 ghost use Rattle.tc_io.specs.Source.{Rose};
 ghost use Rattle.tc_words.specs.declared.fault.WordsFault.{WordsFault};
 ghost use Rattle.tc_words.specs.declared.job.Job.{Job};
@@ -7,8 +9,10 @@ ghost use Rattle.tc_words.specs.Job.{answer_to};
 ghost use Rattle.tc_top.specs.Answer.{Exchange, IsRunAnswer, IsPulled, IsWritten, IsNoted, status_on};
 ghost use Rattle.tc_top.specs.Causes.{SourceCause, OutCause};
 ghost use Rattle.tc_top.specs.Commands.{meaning_of};
+ghost use Rattle.tc_top.specs.LtcFly.{IsMarked};
 ghost use Rattle.tc_top.specs.Made.{MakesWhatIsRead};
-ghost use Rattle.tc_top.specs.Meaning.{Meaning};
+ghost use Rattle.tc_top.specs.Meaning.{Meaning, IsEnd};
+ghost use Rattle.tc_top.specs.Tape.{IsReport, ReportsTheTape};
 
 use crate::notes::{push_note, usage_note};
 use crate::status::Status;
@@ -33,6 +37,12 @@ pub fn run<S: Source, K: Sink, N: Sink>(
         × IsRunAnswer (map string_bytes words.now) result e }
     ensures no_note { result ≡ Status.Done → notes.new ≡ notes.old }
 
+    // A report tells the tape where it is within the tolerance, and finds it again behind damage.
+    ensures truth { result ≡ Status.Done → (job : Job) (profile : Profile) → answer_to (map string_bytes words.now) ≡ Ok job
+        → IsReport job profile → (e : Exchange) × IsPulled (S.left source.old) (S.left source.new) e
+        × IsEnd (meaning_of job) e.left
+        × IsWritten (K.written out.old) (K.written out.new) e × ReportsTheTape profile e.pulled e.written }
+
     // Words that name no job, and want of memory, begin nothing.
     ensures usage { (fault : WordsFault) → answer_to (map string_bytes words.now) ≡ Err fault
         → (result ≡ Status.Usage) ⊎ (result ≡ Status.Memory) }
@@ -55,6 +65,10 @@ pub fn run<S: Source, K: Sink, N: Sink>(
 
     // A recording that was made is read back, frame by frame.
     ensures read { (job : Job) → answer_to (map string_bytes words.now) ≡ Ok job → result ≡ Status.Done → MakesWhatIsRead job }
+
+    // The lines of `ltc-fly` mark each frame that is invented, and these are within the limit.
+    ensures marked { (limit : ℕ) → answer_to (map string_bytes words.now) ≡ Ok (Job.LtcFly limit)
+        → (written : List ℕ) × Appends (K.written out.old) (K.written out.new) written × IsMarked limit written }
 {
     match read_words(alloc, words) {
         Ok(job) => stream(&job, source, out, notes),

@@ -7,7 +7,7 @@ use Rattle.tc_words.specs.declared.commands.TheConstants as commands
 use Rattle.tc_words.specs.declared.fault.WordsFault.{WordsFault}
 use Rattle.tc_words.specs.declared.fault.WordsFault.TheVariants.{Dash, Command, CountOfWords, Value}
 use Rattle.tc_words.specs.Tape.{at_one_length, moving}
-use Rattle.tc_words.specs.Values.{Word, count_in, limit_in, numbered, spelled}
+use Rattle.tc_words.specs.Values.{Word, count_in, limit_in, numbered, spelled, version_in}
 use Rattle.command_words.specs.CommandLine.{begins_with_dash}
 
 -- the job, or the first fault
@@ -31,12 +31,22 @@ abbrev pub ltc_fly : List Word → Answer
 ltc_fly (limit ∷ []) = with_value 1 (limit_in limit) (λ n. Ok (jobs.LtcFly n))
 ltc_fly _ = Err CountOfWords
 
+-- `ltc-mtc LIMIT`
+abbrev pub ltc_mtc : List Word → Answer
+ltc_mtc (limit ∷ []) = with_value 1 (limit_in limit) (λ n. Ok (jobs.LtcMtc n))
+ltc_mtc _ = Err CountOfWords
+
 -- `ltc-make COUNT DIRECTION LABEL FRAMES CELL TICK-RATE [TO-CELL STEP]`: without the last two words the cells are of one length
 abbrev pub ltc_make : List Word → Answer
 ltc_make (count ∷ direction ∷ label ∷ frames ∷ cell ∷ tick_rate ∷ []) = at_one_length count direction label frames cell tick_rate
 ltc_make (count ∷ direction ∷ label ∷ frames ∷ cell ∷ tick_rate ∷ to_cell ∷ step ∷ []) =
     moving count direction label frames cell tick_rate to_cell step
 ltc_make _ = Err CountOfWords
+
+-- `ltc-convert VERSION`
+abbrev pub ltc_convert : List Word → Answer
+ltc_convert (version ∷ []) = with_value 1 (version_in version) (λ v. Ok (jobs.LtcConvert v))
+ltc_convert _ = Err CountOfWords
 
 -- `number COUNT LABEL`
 abbrev pub number : List Word → Answer
@@ -58,7 +68,10 @@ job_of command values =
     if bytes_eq command commands.LTC_READ.now then no_values jobs.LtcRead values
     else if bytes_eq command commands.LTC_WORN.now then no_values jobs.LtcWorn values
     else if bytes_eq command commands.LTC_FLY.now then ltc_fly values
+    else if bytes_eq command commands.LTC_MTC.now then ltc_mtc values
+    else if bytes_eq command commands.MTC_READ.now then no_values jobs.MtcRead values
     else if bytes_eq command commands.LTC_MAKE.now then ltc_make values
+    else if bytes_eq command commands.LTC_CONVERT.now then ltc_convert values
     else if bytes_eq command commands.NUMBER.now then number values
     else if bytes_eq command commands.LABEL.now then label_of values
     else Err Command

@@ -10,6 +10,8 @@ use Rattle.tc_address.specs.declared.direction.Direction.{Direction}
 use Rattle.tc_address.specs.declared.direction.Direction.TheVariants.{Forward, Backward}
 use Rattle.tc_address.specs.Label.{Address, labels}
 use Rattle.tc_address.specs.Spelling.{label_in}
+use Rattle.tc_files.specs.declared.interval_file.header.FileVersion.{FileVersion}
+use Rattle.tc_files.specs.declared.interval_file.header.FileVersion.TheVariants.{One, Two}
 
 -- the bytes of a word
 abbrev pub Word : Type 0
@@ -46,6 +48,13 @@ direction_in word =
 -- a number of this range
 abbrev pub between : ℕ → ℕ → Word → Option ℕ
 between least greatest word = option_and_then (λ n. if nat_le least n && nat_le n greatest then Some n else None) (number_in word)
+
+-- a version of the interval file: `1` or `2`
+abbrev pub version_in : Word → Option FileVersion
+version_in word =
+    if bytes_eq word (codes "1") then Some One
+    else if bytes_eq word (codes "2") then Some Two
+    else None
 
 -- the label of the count that is spelled so
 abbrev pub spelled : Count → Word → Option Address

@@ -10,8 +10,17 @@ pub const LTC_WORN: &str = "ltc-worn";
 /// The word of `Job::LtcFly`.
 pub const LTC_FLY: &str = "ltc-fly";
 
+/// The word of `Job::LtcMtc`.
+pub const LTC_MTC: &str = "ltc-mtc";
+
+/// The word of `Job::MtcRead`.
+pub const MTC_READ: &str = "mtc-read";
+
 /// The word of `Job::LtcMake`.
 pub const LTC_MAKE: &str = "ltc-make";
+
+/// The word of `Job::LtcConvert`.
+pub const LTC_CONVERT: &str = "ltc-convert";
 
 /// The word of `Job::Number`.
 pub const NUMBER: &str = "number";

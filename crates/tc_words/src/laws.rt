@@ -8,7 +8,10 @@ pub fn each_command_has_its_word()
     ensures ltc_read { commands.LTC_READ.now ≡ codes "ltc-read" }
     ensures ltc_worn { commands.LTC_WORN.now ≡ codes "ltc-worn" }
     ensures ltc_fly { commands.LTC_FLY.now ≡ codes "ltc-fly" }
+    ensures ltc_mtc { commands.LTC_MTC.now ≡ codes "ltc-mtc" }
+    ensures mtc_read { commands.MTC_READ.now ≡ codes "mtc-read" }
     ensures ltc_make { commands.LTC_MAKE.now ≡ codes "ltc-make" }
+    ensures ltc_convert { commands.LTC_CONVERT.now ≡ codes "ltc-convert" }
     ensures number { commands.NUMBER.now ≡ codes "number" }
     ensures label { commands.LABEL.now ≡ codes "label" }
 {}

@@ -3,6 +3,7 @@ use super::*;
 use std::alloc::{AllocError, Global};
 use std::test::Fail;
 use tc_address::text;
+use tc_files::FileVersion;
 
 fn typed(alloc: Global, line: &str) -> Result<Vec<String>, AllocError> {
     let mut words = Vec::new(alloc);
@@ -25,6 +26,10 @@ fn the_first_fault_is_told(rt: HostRuntime) -> Result<(), Fail> {
         ("ltc-fly", WordsFault::CountOfWords),
         ("ltc-fly 256", WordsFault::Value(1)),
         ("ltc-fly two", WordsFault::Value(1)),
+        ("ltc-mtc", WordsFault::CountOfWords),
+        ("ltc-mtc 2 2", WordsFault::CountOfWords),
+        ("ltc-mtc 256", WordsFault::Value(1)),
+        ("mtc-read x", WordsFault::CountOfWords),
         (
             "ltc-make 25 forward 00:00:00:00 4 800 48000 400",
             WordsFault::CountOfWords,
@@ -61,6 +66,9 @@ fn the_first_fault_is_told(rt: HostRuntime) -> Result<(), Fail> {
             "ltc-make 25 backward 00:00:00:00 1000000 8388607 100000001",
             WordsFault::Value(6),
         ),
+        ("ltc-convert", WordsFault::CountOfWords),
+        ("ltc-convert 3", WordsFault::Value(1)),
+        ("ltc-convert 01", WordsFault::Value(1)),
         ("number 30d", WordsFault::CountOfWords),
         ("number 29 00:01:00;02", WordsFault::Value(1)),
         ("number 30d 00:01:00;00", WordsFault::Value(2)),
@@ -83,7 +91,8 @@ fn the_first_fault_is_told(rt: HostRuntime) -> Result<(), Fail> {
 /// The text of the label that the job is about.
 fn label_text(job: &Job) -> Option<[u8; 11]> {
     match job {
-        Job::LtcRead | Job::LtcWorn | Job::LtcFly { .. } => None,
+        Job::LtcRead | Job::LtcWorn | Job::LtcFly { .. } | Job::LtcConvert { .. } => None,
+        Job::LtcMtc { .. } | Job::MtcRead => None,
         Job::LtcMake { stripe } => Some(text(&stripe.label())),
         Job::Number { label } => Some(text(label)),
         Job::LabelOf { label } => Some(text(label)),
@@ -97,11 +106,25 @@ fn jobs_are_read(rt: HostRuntime) -> Result<(), Fail> {
     assert_eq!(rt; read_words(alloc, &words), Ok(Job::LtcRead));
     let words = typed(alloc, "ltc-worn")?;
     assert_eq!(rt; read_words(alloc, &words), Ok(Job::LtcWorn));
-    for (line, limit) in [("ltc-fly 0", 0), ("ltc-fly 2", 2), ("ltc-fly 255", 255)] {
+    let words = typed(alloc, "mtc-read")?;
+    assert_eq!(rt; read_words(alloc, &words), Ok(Job::MtcRead));
+    for (line, job) in [
+        ("ltc-fly 0", Job::LtcFly { limit: 0 }),
+        ("ltc-fly 255", Job::LtcFly { limit: 255 }),
+        ("ltc-mtc 0", Job::LtcMtc { limit: 0 }),
+        ("ltc-mtc 255", Job::LtcMtc { limit: 255 }),
+    ] {
+        let words = typed(alloc, line)?;
+        assert_eq!(rt; read_words(alloc, &words), Ok(job), "at {line}");
+    }
+    for (line, version) in [
+        ("ltc-convert 1", FileVersion::One),
+        ("ltc-convert 2", FileVersion::Two),
+    ] {
         let words = typed(alloc, line)?;
         assert_eq!(rt;
             read_words(alloc, &words),
-            Ok(Job::LtcFly { limit }),
+            Ok(Job::LtcConvert { version }),
             "at {line}"
         );
     }

@@ -3,9 +3,10 @@ ghost use Rattle.std.specs.Prelude.{◌≡◌, ◌≤◌, IfSome};
 ghost use Rattle.std.specs.Char.{is_ascii_digit};
 ghost use Rattle.std.specs.List.{list_all};
 ghost use Rattle.tc_address.specs.Label.{IsLabel};
-ghost use Rattle.tc_words.specs.Values.{between, count_in, direction_in, is_number, limit_in, number_in, numbered, spelled};
+ghost use Rattle.tc_words.specs.Values.{between, count_in, direction_in, is_number, limit_in, number_in, numbered, spelled, version_in};
 
 use tc_address::{Count, Direction, Label, day_labels, label_at, read_text};
+use tc_files::FileVersion;
 
 /// A count: `24`, `25`, `30` or `30d`.
 pub fn count_in(word: &str) -> Option<Count>
@@ -76,6 +77,17 @@ pub fn between(least: u32, greatest: u32, word: &str) -> Option<u32>
         Some(number as u32)
     } else {
         None
+    }
+}
+
+/// A version of the interval file: `1` or `2`.
+pub fn version_in(word: &str) -> Option<FileVersion>
+    ensures { result ≡ version_in word.now }
+{
+    match word {
+        "1" => Some(FileVersion::One),
+        "2" => Some(FileVersion::Two),
+        _ => None,
     }
 }
 

@@ -2,13 +2,13 @@
 //! `job`.
 ghost use Rattle.std.specs.Prelude.{◌≡◌, ◌⊎◌, map, position, string_bytes, alloc_error};
 ghost use Rattle.command_words.specs.CommandLine.{begins_with_dash};
-ghost use Rattle.tc_words.specs.Job.{answer_to, without_dashes, job_of, no_values, ltc_fly, ltc_make, number, label_of};
+ghost use Rattle.tc_words.specs.Job.{answer_to, without_dashes, job_of, no_values, ltc_fly, ltc_mtc, number, label_of, ltc_make, ltc_convert};
 
 use crate::commands;
 use crate::fault::WordsFault;
 use crate::job::Job;
 use crate::tape::{at_one_length, moving};
-use crate::values::{count_in, limit_in, numbered, spelled};
+use crate::values::{count_in, limit_in, numbered, spelled, version_in};
 use command_words::CommandLine;
 use std::alloc::Global;
 
@@ -58,7 +58,10 @@ fn job_of(command: &str, values: &[&str]) -> Result<Job, WordsFault>
         commands::LTC_READ => no_values(values, Job::LtcRead),
         commands::LTC_WORN => no_values(values, Job::LtcWorn),
         commands::LTC_FLY => ltc_fly(values),
+        commands::LTC_MTC => ltc_mtc(values),
+        commands::MTC_READ => no_values(values, Job::MtcRead),
         commands::LTC_MAKE => ltc_make(values),
+        commands::LTC_CONVERT => ltc_convert(values),
         commands::NUMBER => number(values),
         commands::LABEL => label_of(values),
         _ => Err(WordsFault::Command),
@@ -86,6 +89,17 @@ fn ltc_fly(values: &[&str]) -> Result<Job, WordsFault>
     Ok(Job::LtcFly { limit })
 }
 
+// `ltc-mtc LIMIT`
+fn ltc_mtc(values: &[&str]) -> Result<Job, WordsFault>
+    ensures { result ≡ ltc_mtc (map (λ v. v.now) values.now) }
+{
+    let [limit] = values else {
+        return Err(WordsFault::CountOfWords);
+    };
+    let limit = limit_in(limit).ok_or(WordsFault::Value(1))?;
+    Ok(Job::LtcMtc { limit })
+}
+
 // `ltc-make COUNT DIRECTION LABEL FRAMES CELL TICK-RATE [TO-CELL STEP]`
 fn ltc_make(values: &[&str]) -> Result<Job, WordsFault>
     ensures { result ≡ ltc_make (map (λ v. v.now) values.now) }
@@ -108,6 +122,17 @@ fn ltc_make(values: &[&str]) -> Result<Job, WordsFault>
         ),
         _ => Err(WordsFault::CountOfWords),
     }
+}
+
+// `ltc-convert VERSION`
+fn ltc_convert(values: &[&str]) -> Result<Job, WordsFault>
+    ensures { result ≡ ltc_convert (map (λ v. v.now) values.now) }
+{
+    let [version] = values else {
+        return Err(WordsFault::CountOfWords);
+    };
+    let version = version_in(version).ok_or(WordsFault::Value(1))?;
+    Ok(Job::LtcConvert { version })
 }
 
 // `number COUNT LABEL`

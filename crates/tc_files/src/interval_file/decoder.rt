@@ -1,28 +1,32 @@
 //! The decoder of an interval file. Next: `direction_reader/src/reader.rt`.
-ghost use Rattle.std.specs.Prelude.{◌≡◌, ◌<◌, ◌≤◌, ◌^◌, ◌++◌, ◌+◌, [], ◌∷◌, length, take, fold, IfNone, IfOk, OnOk, IsTrue, ◌%◌};
-ghost use Rattle.byteorder.specs.Endian.{big_number};
+ghost use Rattle.std.specs.Prelude.{◌≡◌, ◌<◌, ◌≤◌, ◌^◌, ◌*◌, ◌++◌, ◌+◌, [], ◌∷◌, length, IfNone, OnOk, IsTrue, ℕ, ◌-◌, ◌==◌, None, if◌then◌else◌};
 ghost use Rattle.arrayvec.specs.ArrayVec.{array_vec_len};
 ghost use Rattle.tc_files.specs.IntervalFile.{
   no_progress,
   answer,
   after,
   end,
+  fault_in,
   head_answer,
   header_answer,
-  in_range,
-  interval_answer,
+  is_whole,
   kept_part,
+  piece_answer,
+  version_or,
   whole_answer,
   CompletesAt,
 };
-ghost use Rattle.tc_files.specs.Recording.{Decoding, IsBetween, with_byte, with_number};
+ghost use Rattle.tc_files.specs.IntervalHeader.{system_at, version_at};
+ghost use Rattle.tc_files.specs.Progress.{IsProgress};
+ghost use Rattle.tc_files.specs.Recording.{FitsBytes, IsBetween, interval_count};
 
 use crate::fault::FileFault;
 use crate::interval_file::header::{
-    HEAD_LENGTH, HEADER_LENGTH, IntervalHeader, MAGIC, MAX_TICK_RATE, VERSION, system_of_byte,
+    FileVersion, HEAD_LENGTH, HEADER_LENGTH, IntervalHeader, MAGIC, MAX_TICK_RATE, system_of_byte,
+    version_of_byte,
 };
+use crate::interval_file::piece::{interval_in, whole_width};
 use arrayvec::ArrayVec;
-use biphase::MAX_INTERVAL;
 use byteorder::{BigEndian, ByteOrder};
 use std::marker::Model;
 use tc_address::System;
@@ -40,12 +44,25 @@ pub enum Taken {
     Fault(FileFault),
 }
 
-/// Decodes an interval file one byte at a time, and keeps at most four bytes of it.
+impl Taken {
+    /// The fault, where it is one.
+    fn fault(self) -> Option<FileFault>
+        ensures { result ≡ fault_in self }
+    {
+        match self {
+            Taken::Fault(fault) => Some(fault),
+            Taken::Nothing | Taken::Header(_) | Taken::Interval(_) => None,
+        }
+    }
+}
+
+/// Decodes an interval file one byte at a time, and keeps at most five bytes of it.
 #[derive(Drop)]
 pub struct IntervalDecoder {
     taken: u64,
+    version: FileVersion,
     system: Option<System>,
-    part: ArrayVec<u8, 4>,
+    part: ArrayVec<u8, 6>,
     fault: Option<FileFault>,
 }
 
@@ -54,9 +71,9 @@ impl Model for IntervalDecoder {
 
     ghost Value = { Progress };
 
-    ghost view = { λ d. record { taken = d.taken; system = d.system; part = d.part.items; fault = d.fault } };
+    ghost view = { λ d. record { taken = d.taken; version = d.version; system = d.system; part = d.part.items; fault = d.fault } };
 
-    ghost invariant = { λ d. IsProgress d.taken d.part.items };
+    ghost invariant = { λ d. IsProgress d.taken d.version d.part.items };
 }
 
 impl IntervalDecoder {
@@ -66,6 +83,7 @@ impl IntervalDecoder {
     {
         IntervalDecoder {
             taken: 0,
+            version: FileVersion::One,
             system: None,
             part: ArrayVec::new(),
             fault: None,
@@ -80,51 +98,66 @@ impl IntervalDecoder {
         ensures next { self.new ≡ after self.old byte }
 
         // Where the first fault was not met before, a header, an interval or nothing is completed
-        // only at its byte place.
+        // only at its byte place, and the intervals account for the bytes.
         ensures completes { IfNone self.old.fault (CompletesAt result (self.old.taken + 1)) }
+        ensures fits { (count : ℕ) → FitsBytes self.old count → FitsBytes self.new (count + interval_count result) }
+        ensures part { length self.new.part < 6 }
     {
-        if let Some(fault) = self.fault {
-            return Taken::Fault(fault);
+        match self.fault {
+            Some(fault) => Taken::Fault(fault),
+            None if self.taken < HEAD_LENGTH => self.head_byte(byte),
+            None => self.number_byte(byte),
         }
+    }
+
+    /// Takes one of the header's first eight bytes.
+    fn head_byte(&mut self, byte: u8) -> Taken
+        requires good { self.old.fault ≡ None }
+        requires place { self.old.taken < HEAD_LENGTH }
+        ensures answers { result ≡ answer self.old byte }
+        ensures next { self.new ≡ after self.old byte }
+        ensures completes { CompletesAt result (self.old.taken + 1) }
+    {
         let place = self.taken;
-        let taken = if place < HEAD_LENGTH {
-            if place == 5 {
-                self.system = system_of_byte(byte);
-            }
-            head_byte(place, byte)
-        } else {
-            number_byte(place, self.system, &mut self.part, byte)
-        };
+        let taken = head_answer(place, byte);
+        self.version = version_with(self.version, place, byte);
+        self.system = system_with(self.system, place, byte);
         self.taken = place + 1;
-        if let Taken::Fault(fault) = taken {
-            self.fault = Some(fault);
-        }
+        self.fault = taken.fault();
         taken
     }
 
-    /// The whole numbers at the front of a piece: none where the header or a number is half taken, or
-    /// behind a fault.
-    pub fn whole_numbers<'a>(&self, piece: &'a [u8]) -> &'a [u8]
-        ensures front { result.now ≡ take (length result.now) piece.now }
-        ensures within { length result.now ≤ length piece.now }
-        ensures whole { length result.now % 4 ≡ 0 }
-        ensures between { 0 < length result.now → IsBetween self.now }
+    /// Takes a byte of a number.
+    fn number_byte(&mut self, byte: u8) -> Taken
+        requires good { self.old.fault ≡ None }
+        requires place { HEAD_LENGTH ≤ self.old.taken }
+        requires room { self.old.taken < 2 ^ 62 }
+        ensures answers { result ≡ answer self.old byte }
+        ensures next { self.new ≡ after self.old byte }
+        ensures completes { CompletesAt result (self.old.taken + 1) }
+        ensures fits { (count : ℕ) → FitsBytes self.old count → FitsBytes self.new (count + interval_count result) }
     {
-        if self.is_between() {
-            &piece[..piece.len() - piece.len() % 4]
-        } else {
-            &[]
-        }
+        let place = self.taken;
+        let taken = add_to_piece(place, self.version, self.system, &mut self.part, byte);
+        self.taken = place + 1;
+        self.fault = taken.fault();
+        taken
     }
 
-    /// Passes over so many bytes of whole numbers, all of them in range.
+    /// Passes over so many bytes of whole intervals, all of them in range.
     pub fn pass_over(&mut self, count: usize)
         requires between { IsBetween self.old }
-        requires whole { count % 4 ≡ 0 }
         requires room { self.old.taken + count < 2 ^ 62 }
         ensures { self.new ≡ record self.old { taken = self.old.taken + count } }
     {
         self.taken += count as u64;
+    }
+
+    /// The version that the header says.
+    pub fn version(&self) -> FileVersion
+        ensures { result ≡ self.now.version }
+    {
+        self.version
     }
 
     /// How many bytes were taken.
@@ -135,7 +168,7 @@ impl IntervalDecoder {
     }
 
     /// Whether the bytes so far end between two intervals.
-    fn is_between(&self) -> bool
+    pub fn is_between(&self) -> bool
         ensures { IsTrue result → IsBetween self.now }
     {
         self.fault.is_none() && HEADER_LENGTH <= self.taken && self.part.is_empty()
@@ -146,7 +179,7 @@ impl IntervalDecoder {
     pub fn finish(&self) -> Result<(), FileFault>
         ensures answers { result ≡ end self.now }
         // The input may end after the header or after any interval.
-        ensures whole { OnOk result ((HEADER_LENGTH ≤ self.now.taken) × (self.now.taken % 4 ≡ 0)) }
+        ensures whole { OnOk result (HEADER_LENGTH ≤ self.now.taken) }
     {
         match self.fault {
             Some(fault) => Err(fault),
@@ -156,81 +189,113 @@ impl IntervalDecoder {
     }
 }
 
-/// The interval whose four bytes stand first, the most significant one at this byte place.
-pub fn interval_at(place: u64, bytes: &[u8]) -> Result<u32, FileFault>
-    requires { 4 ≤ length bytes.now }
-    ensures range { IfOk result (λ x. (1 ≤ x) × (x ≤ MAX_INTERVAL)) }
-
-    // It is what a decoder that stands there makes of the four bytes, taken one by one.
-    ensures bytes { (d : Decoding) → IsBetween d.progress → d.progress.taken ≡ place
-        → fold with_byte d (take 4 bytes.now) ≡ with_number d result }
-{
-    in_range(place, BigEndian::read_u32(bytes))
-}
-
-/// The number of ticks that begins at a byte place, where it is in range.
-fn in_range(place: u64, ticks: u32) -> Result<u32, FileFault>
-    ensures { result ≡ in_range place ticks }
-{
-    if 1 <= ticks && ticks <= MAX_INTERVAL {
-        Ok(ticks)
-    } else {
-        Err(FileFault::Interval(place))
-    }
-}
-
 /// Tests a byte of the header's first eight.
-fn head_byte(place: u64, byte: u8) -> Taken
+fn head_answer(place: u64, byte: u8) -> Taken
     requires { place < HEAD_LENGTH }
-    ensures { result ≡ head_answer place byte }
+    ensures exact { result ≡ head_answer place byte }
+    ensures completes { CompletesAt result (place + 1) }
 {
     match place {
         0..=3 if byte != MAGIC[place as usize] => Taken::Fault(FileFault::Magic(place)),
-        4 if byte != VERSION => Taken::Fault(FileFault::Version(place)),
+        4 if version_of_byte(byte).is_none() => Taken::Fault(FileFault::Version(place)),
         5 if system_of_byte(byte).is_none() => Taken::Fault(FileFault::System(place)),
         6..=7 if byte != 0 => Taken::Fault(FileFault::Reserved(place)),
         _ => Taken::Nothing,
     }
 }
 
+/// The version that was read, with a byte at this place more.
+fn version_with(version: FileVersion, place: u64, byte: u8) -> FileVersion
+    ensures { result ≡ (if place == 4 then version_or version (version_at byte) else version) }
+{
+    if place == 4 {
+        version_of_byte(byte).unwrap_or(version)
+    } else {
+        version
+    }
+}
+
+/// The system that was read, with a byte at this place more.
+fn system_with(system: Option<System>, place: u64, byte: u8) -> Option<System>
+    ensures { result ≡ (if place == 5 then system_at byte else system) }
+{
+    if place == 5 {
+        system_of_byte(byte)
+    } else {
+        system
+    }
+}
+
 /// Adds a byte to a number, and tests the number at its last byte.
-fn number_byte(place: u64, system: Option<System>, part: &mut ArrayVec<u8, 4>, byte: u8) -> Taken
-    requires part { array_vec_len part.old < 4 }
-    requires place { 3 ≤ place }
-    ensures part { part.new.items ≡ kept_part part.old.items byte }
-    ensures answer { result ≡ whole_answer place system part.old.items byte }
+fn add_to_piece(
+    place: u64,
+    version: FileVersion,
+    system: Option<System>,
+    part: &mut ArrayVec<u8, 6>,
+    byte: u8,
+) -> Taken
+    requires part { IsProgress place version part.old.items }
+    requires place { HEAD_LENGTH ≤ place }
+    requires below { place < 2 ^ 62 }
+    ensures part { part.new.items ≡ kept_part place version (part.old.items ++ byte ∷ []) }
+    ensures keeps { IsProgress (place + 1) version part.new.items }
+    ensures completes { CompletesAt result (place + 1) }
+    ensures fits { (count : ℕ) → place ≤ HEADER_LENGTH + 6 * count + length part.old.items
+        → place + 1 ≤ HEADER_LENGTH + 6 * (count + interval_count result) + length part.new.items }
+    ensures answer { result ≡ whole_answer place version system (part.old.items ++ byte ∷ []) }
 {
     part.push(byte);
-    if !part.is_full() {
+    if !is_whole(place, version, part) {
         return Taken::Nothing;
     }
-    let number = BigEndian::read_u32(part);
+    let taken = piece_taken(place, version, system, part);
     part.clear();
+    taken
+}
+
+/// Whether the piece is whole whose last byte stands at this place.
+fn is_whole(place: u64, version: FileVersion, piece: &[u8]) -> bool
+    ensures { result ≡ is_whole place version piece.now }
+{
     if place < HEADER_LENGTH {
-        whole_header(system, number)
+        4 <= piece.len()
     } else {
-        whole_interval(place - 3, number)
+        whole_width(version, piece).is_some()
+    }
+}
+
+/// What a whole piece says.
+fn piece_taken(place: u64, version: FileVersion, system: Option<System>, piece: &[u8]) -> Taken
+    requires whole { IsTrue (is_whole place version piece.now) }
+    requires place { length piece.now ≤ place + 1 }
+    requires late { HEADER_LENGTH ≤ place + 1 }
+    requires below { place < 2 ^ 62 }
+    ensures answer { result ≡ piece_answer place version system piece.now }
+    ensures completes { CompletesAt result (place + 1) }
+    ensures counts { HEADER_LENGTH ≤ place → interval_count result ≡ 1 }
+{
+    if place < HEADER_LENGTH {
+        return whole_header(version, system, BigEndian::read_u32(piece));
+    }
+    match interval_in(version, place + 1 - piece.len() as u64, piece) {
+        Ok(ticks) => Taken::Interval(ticks),
+        Err(fault) => Taken::Fault(fault),
     }
 }
 
 /// The header, where the tick rate is in range.
-fn whole_header(system: Option<System>, tick_rate: u32) -> Taken
-    ensures { result ≡ header_answer system tick_rate }
+fn whole_header(version: FileVersion, system: Option<System>, tick_rate: u32) -> Taken
+    ensures exact { result ≡ header_answer version system tick_rate }
+    ensures completes { CompletesAt result HEADER_LENGTH }
 {
     match system {
         Some(system) if 1 <= tick_rate && tick_rate <= MAX_TICK_RATE => {
-            Taken::Header(IntervalHeader { system, tick_rate })
+            Taken::Header(IntervalHeader {
+                version,
+                system,
+                tick_rate,
+            })
         }
         _ => Taken::Fault(FileFault::TickRate(HEAD_LENGTH)),
-    }
-}
-
-/// The interval that begins at a byte place, where its length is in range.
-fn whole_interval(place: u64, ticks: u32) -> Taken
-    ensures { result ≡ interval_answer place ticks }
-{
-    match in_range(place, ticks) {
-        Ok(ticks) => Taken::Interval(ticks),
-        Err(fault) => Taken::Fault(fault),
     }
 }

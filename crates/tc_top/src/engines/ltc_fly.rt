@@ -1,314 +1,45 @@
-//! The engine of `ltc-fly`: words become frames, and a flywheel invents those that are missing. Next:
-//! `flywheel/src/wheel.rt`, and then `tc_files/src/texts/frame.rt`.
-ghost use Rattle.std.specs.Prelude.{◌≡◌, ◌≤◌, ◌<◌, ◌+◌, ◌*◌, ◌^◌, List, ◌∷◌, ◌++◌, [], ℕ, false, OnOk, OnErr, IfOk, IfErr, IfSome};
-ghost use Rattle.std.specs.Io.KnownBytes.{Appends};
-ghost use Rattle.biphase.specs.declared.cell.TheConstants.{MAX_INTERVAL};
-ghost use Rattle.direction_reader.specs.declared.reader.TheConstants.{MAX_INTERVALS};
-ghost use Rattle.direction_reader.specs.declared.event.Event.{Event};
-ghost use Rattle.direction_reader.specs.declared.event.Events.{Events};
-ghost use Rattle.direction_reader.specs.Brings.{IsLatest, Brings};
-ghost use Rattle.direction_reader.specs.Events.{event_list, listed};
-ghost use Rattle.direction_reader.specs.StandsFor.{MayTell, Tells};
-ghost use Rattle.flywheel.specs.declared.frame.Frame.{Frame};
-ghost use Rattle.flywheel.specs.declared.heard.HeardWord.{HeardWord};
-ghost use Rattle.flywheel.specs.Wheel.{frames_left, has_frame_due, IsInRange};
-ghost use Rattle.tc_files.specs.FrameTexts.{frame_line, fly_end_line, FitsFrameLine};
-ghost use Rattle.tc_io.specs.Sink.{AppendsFront};
-ghost use Rattle.tc_top.specs.Causes.{HasOutCause};
-ghost use Rattle.tc_top.specs.LtcFly.{frame_lines, words_heard};
-ghost use Rattle.tc_top.specs.KeptFlight.{
-  counted,
-  Counts,
-  FitsFlight,
-  FitsFrames,
-  GivesAll,
-  GivesDue,
-  GivesDueAll,
-  GivesDueAllFirst,
-  GivesDueFirst,
-  GivesFirst,
-  HeardBy,
-};
+//! What `ltc-fly` makes of frames: a line of each. Next: `tc_files/src/texts/frame.rt`.
 
-use crate::along::Behind;
+use crate::flight::Flight;
+use crate::frame_sink::FrameSink;
 use crate::pushing::push_line;
 use crate::stop::Stop;
-use biphase::{MAX_INTERVAL, Profile};
-use direction_reader::laws::a_reader_gives_the_events_of_its_list;
-use direction_reader::{Brought, DirectionReader, Event, Events, MAX_INTERVALS};
-use flywheel::laws::frames_come_in_order;
-use flywheel::{Flywheel, Frame, HeardWord};
-use tc_files::{IntervalHeader, Text, fly_end_text, frame_text};
+use flywheel::Frame;
+use tc_files::{IntervalHeader, frame_text};
 use tc_io::Sink;
 
-/// The frames of a recording: its reader, its flywheel, and how many frames of each kind were printed.
+/// The lines of frames. The choice is how many are invented in a row, at most.
 #[derive(Drop)]
-pub(crate) struct Flight {
-    reader: DirectionReader,
-    wheel: Flywheel,
-    heard: u64,
-    invented: u64,
-    gone: u64,
-}
+pub(crate) struct FrameLines;
 
-impl Flight {
-    /// Counts a frame, and pushes its line.
-    fn push<K: Sink>(&mut self, frame: &Frame, out: &mut K) -> Result<(), Stop>
-        requires line { FitsFrameLine frame.now }
-        requires heard { self.old.heard < 2 ^ 40 }
-        requires others { self.old.invented + self.old.gone < 2 ^ 40 }
-        ensures counted { self.new ≡ counted frame.now self.old }
-        ensures reader { self.new.reader ≡ self.old.reader }
-        ensures wheel { self.new.wheel ≡ self.old.wheel }
-        ensures all { OnOk result (Appends (K.written out.old) (K.written out.new) (frame_line frame.now)) }
-        ensures front { OnErr result (AppendsFront (K.written out.old) (K.written out.new) (frame_line frame.now)) }
-        ensures why { IfErr result (λ stop. stop ≡ Stop.WriteFault) }
-        ensures cause { HasOutCause (K.faults out.old) (K.faults out.new) result }
-    {
-        match frame {
-            Frame::Heard { .. } => self.heard += 1,
-            Frame::Invented { .. } => self.invented += 1,
-            Frame::Gone { .. } => self.gone += 1,
-        }
-        push_line(out, &frame_text(frame))
-    }
-
-    /// Prints the frames that are due at the tick.
-    #[cold]
-    #[inline(never)]
-    fn pass<K: Sink>(&mut self, tick: u64, out: &mut K) -> Result<(), Stop>
-        requires below { tick < 2 ^ 60 }
-        requires heard_by { HeardBy tick self.old.wheel }
-        requires fits { FitsFrames self.old }
-        requires few { self.old.heard ≤ 2 * MAX_INTERVALS }
-        ensures reader { self.new.reader ≡ self.old.reader }
-        ensures heard { self.new.heard ≡ self.old.heard }
-        ensures limit { self.new.wheel.limit ≡ self.old.wheel.limit }
-        ensures fits { OnOk result (FitsFrames self.new) }
-        ensures heard_by { OnOk result (HeardBy tick self.new.wheel) }
-        ensures none_due { OnOk result (has_frame_due self.new.wheel tick ≡ false) }
-        ensures gives { OnOk result ((more : List Frame) × Counts self.old self.new more
-            × Appends (K.written out.old) (K.written out.new) (frame_lines more) × GivesDue self.old.wheel self.new.wheel tick more) }
-        ensures front { OnErr result ((more : List Frame) × AppendsFront (K.written out.old) (K.written out.new) (frame_lines more)
-            × GivesDueFirst self.old.wheel tick more) }
-        ensures why { IfErr result (λ stop. stop ≡ Stop.WriteFault) }
-        ensures cause { HasOutCause (K.faults out.old) (K.faults out.new) result }
-    {
-        frames_come_in_order();
-        'due: loop {
-            let Some(frame) = self.wheel.passed(tick) else {
-                return Ok(());
-            };
-            self.push(&frame, out)?;
-        }
-    }
-
-    /// Hears the word of an event, if it is one, and prints its frame.
-    fn hear<K: Sink>(&mut self, event: Option<Event>, tick: u64, out: &mut K) -> Result<(), Stop>
-        requires below { tick < 2 ^ 60 }
-        requires latest { IfSome event (IsLatest self.old.reader.intervals tick) }
-        requires heard_by { HeardBy tick self.old.wheel }
-        requires none_due { has_frame_due self.old.wheel tick ≡ false }
-        requires fits { FitsFrames self.old }
-        requires few { self.old.heard ≤ 2 * MAX_INTERVALS + 1 }
-        ensures reader { self.new.reader ≡ self.old.reader }
-        ensures heard { self.new.heard ≤ self.old.heard + 1 }
-        ensures limit { self.new.wheel.limit ≡ self.old.wheel.limit }
-        ensures fits { FitsFrames self.new }
-        ensures heard_by { HeardBy tick self.new.wheel }
-        ensures none_due { has_frame_due self.new.wheel tick ≡ false }
-        ensures gives { (more : List Frame) × Counts self.old self.new more × GivesAll self.old.wheel self.new.wheel tick (words_heard (listed event)) more
-            × OnOk result (Appends (K.written out.old) (K.written out.new) (frame_lines more))
-            × OnErr result (AppendsFront (K.written out.old) (K.written out.new) (frame_lines more)) }
-        ensures why { IfErr result (λ stop. stop ≡ Stop.WriteFault) }
-        ensures cause { HasOutCause (K.faults out.old) (K.faults out.new) result }
-    {
-        match event {
-            Some(
-                Event::Word {
-                    direction,
-                    word,
-                    tick,
-                    length,
-                },
-            ) => {
-                let word = HeardWord {
-                    label: word.fields.label(),
-                    direction,
-                    tick,
-                    length,
-                };
-                self.hear_word(&word, out)
-            }
-            Some(Event::Refused { .. }) => Ok(()),
-            Some(Event::Lost { .. }) => Ok(()),
-            None => Ok(()),
-        }
-    }
-
-    /// Hears a word, at whose tick nothing is due any more, and prints its frame.
-    fn hear_word<K: Sink>(&mut self, word: &HeardWord, out: &mut K) -> Result<(), Stop>
-        requires range { IsInRange word.now }
-        requires heard_by { HeardBy word.now.tick self.old.wheel }
-        requires none_due { has_frame_due self.old.wheel word.now.tick ≡ false }
-        requires fits { FitsFrames self.old }
-        requires few { self.old.heard ≤ 2 * MAX_INTERVALS + 1 }
-        ensures reader { self.new.reader ≡ self.old.reader }
-        ensures heard { self.new.heard ≡ self.old.heard + 1 }
-        ensures limit { self.new.wheel.limit ≡ self.old.wheel.limit }
-        ensures fits { FitsFrames self.new }
-        ensures heard_by { HeardBy word.now.tick self.new.wheel }
-        ensures none_due { has_frame_due self.new.wheel word.now.tick ≡ false }
-        ensures gives { (frame : Frame) × Counts self.old self.new (frame ∷ [])
-            × GivesAll self.old.wheel self.new.wheel word.now.tick (word.now ∷ []) (frame ∷ [])
-            × OnOk result (Appends (K.written out.old) (K.written out.new) (frame_lines (frame ∷ [])))
-            × OnErr result (AppendsFront (K.written out.old) (K.written out.new) (frame_lines (frame ∷ []))) }
-        ensures why { IfErr result (λ stop. stop ≡ Stop.WriteFault) }
-        ensures cause { HasOutCause (K.faults out.old) (K.faults out.new) result }
-    {
-        let frame = self.wheel.heard(word);
-        self.push(&frame, out)
-    }
-
-    /// Hears the words of the events of an interval, and prints their frames.
-    fn hear_both<K: Sink>(&mut self, events: Events, tick: u64, out: &mut K) -> Result<(), Stop>
-        requires below { tick < 2 ^ 60 }
-        requires brings { Brings self.old.reader.intervals tick events }
-        requires heard_by { HeardBy tick self.old.wheel }
-        requires none_due { has_frame_due self.old.wheel tick ≡ false }
-        requires fits { FitsFrames self.old }
-        requires few { self.old.heard ≤ 2 * MAX_INTERVALS }
-        ensures reader { self.new.reader ≡ self.old.reader }
-        ensures heard { OnOk result (self.new.heard ≤ self.old.heard + 2) }
-        ensures limit { self.new.wheel.limit ≡ self.old.wheel.limit }
-        ensures fits { OnOk result (FitsFrames self.new) }
-        ensures heard_by { OnOk result (HeardBy tick self.new.wheel) }
-        ensures gives { OnOk result ((more : List Frame) × Counts self.old self.new more
-            × Appends (K.written out.old) (K.written out.new) (frame_lines more)
-            × GivesAll self.old.wheel self.new.wheel tick (words_heard (event_list events)) more) }
-        ensures front { OnErr result ((more : List Frame) × AppendsFront (K.written out.old) (K.written out.new) (frame_lines more)
-            × GivesFirst self.old.wheel tick (words_heard (event_list events)) more) }
-        ensures why { IfErr result (λ stop. stop ≡ Stop.WriteFault) }
-        ensures cause { HasOutCause (K.faults out.old) (K.faults out.new) result }
-    {
-        frames_come_in_order();
-        self.hear(events.first, tick, out)?;
-        self.hear(events.second, tick, out)
-    }
-
-    /// Prints the frames that are due at the tick, mostly none.
-    #[inline(always)]
-    fn give_due<K: Sink>(&mut self, tick: u64, out: &mut K) -> Result<(), Stop>
-        requires below { tick < 2 ^ 60 }
-        requires heard_by { HeardBy tick self.old.wheel }
-        requires fits { FitsFrames self.old }
-        requires few { self.old.heard ≤ 2 * MAX_INTERVALS }
-        ensures reader { self.new.reader ≡ self.old.reader }
-        ensures heard { self.new.heard ≡ self.old.heard }
-        ensures limit { self.new.wheel.limit ≡ self.old.wheel.limit }
-        ensures fits { OnOk result (FitsFrames self.new) }
-        ensures heard_by { OnOk result (HeardBy tick self.new.wheel) }
-        ensures none_due { OnOk result (has_frame_due self.new.wheel tick ≡ false) }
-        ensures gives { OnOk result ((more : List Frame) × Counts self.old self.new more
-            × Appends (K.written out.old) (K.written out.new) (frame_lines more) × GivesDue self.old.wheel self.new.wheel tick more) }
-        ensures front { OnErr result ((more : List Frame) × AppendsFront (K.written out.old) (K.written out.new) (frame_lines more)
-            × GivesDueFirst self.old.wheel tick more) }
-        ensures why { IfErr result (λ stop. stop ≡ Stop.WriteFault) }
-        ensures cause { HasOutCause (K.faults out.old) (K.faults out.new) result }
-    {
-        if self.wheel.due(tick) {
-            self.pass(tick, out)
-        } else {
-            Ok(())
-        }
-    }
-
-    /// Prints the frames that are due, and then those of the words of what an interval brought.
-    #[cold]
-    #[inline(never)]
-    fn hear_all<K: Sink>(&mut self, brought: Brought, out: &mut K) -> Result<(), Stop>
-        requires taken { 1 ≤ self.old.reader.intervals }
-        requires may { MayTell self.old.reader brought }
-        requires below { self.old.reader.tick < 2 ^ 60 }
-        requires heard_by { HeardBy self.old.reader.tick self.old.wheel }
-        requires fits { FitsFrames self.old }
-        requires few { self.old.heard ≤ 2 * MAX_INTERVALS }
-        ensures reader { self.new.reader ≡ self.old.reader }
-        ensures heard { OnOk result (self.new.heard ≤ self.old.heard + 2) }
-        ensures limit { self.new.wheel.limit ≡ self.old.wheel.limit }
-        ensures fits { OnOk result (FitsFrames self.new) }
-        ensures heard_by { OnOk result (HeardBy self.old.reader.tick self.new.wheel) }
-        ensures gives { OnOk result ((own : Events) × (more : List Frame) × Tells self.old.reader brought own × Counts self.old self.new more
-            × Appends (K.written out.old) (K.written out.new) (frame_lines more)
-            × GivesDueAll self.old.wheel self.new.wheel self.old.reader.tick (words_heard (event_list own)) more) }
-        ensures front { OnErr result ((own : Events) × (more : List Frame) × Tells self.old.reader brought own
-            × AppendsFront (K.written out.old) (K.written out.new) (frame_lines more)
-            × GivesDueAllFirst self.old.wheel self.old.reader.tick (words_heard (event_list own)) more) }
-        ensures why { IfErr result (λ stop. stop ≡ Stop.WriteFault) }
-        ensures cause { HasOutCause (K.faults out.old) (K.faults out.new) result }
-    {
-        frames_come_in_order();
-        let tick = self.reader.tick();
-        let events = self.reader.events(brought);
-        self.give_due(tick, out)?;
-        self.hear_both(events, tick, out)
-    }
-
-    /// The last line.
-    fn end_text(&self) -> Text
-        requires { FitsFlight self.now self.now.reader.intervals }
-        ensures { result.items ≡ fly_end_line
-            self.now.reader.intervals self.now.heard self.now.invented self.now.gone self.now.reader.tick }
-    {
-        fly_end_text(
-            self.reader.intervals(),
-            self.heard,
-            self.invented,
-            self.gone,
-            self.reader.tick(),
-        )
-    }
-}
-
-impl Behind for Flight {
-    ghost use Rattle.tc_top.specs.LtcFly.{flight};
-    ghost use Rattle.tc_top.specs.KeptFlight.{FitsFlight, Stands, stands_well};
+impl FrameSink for FrameLines {
+    ghost use Rattle.tc_top.specs.LtcFly.{lines_of_frames};
 
     type Choice = u8;
 
-    ghost printing = { λ limit. flight limit };
+    ghost limit = { λ choice. choice };
 
-    ghost fits = { λ f count. FitsFlight f count };
+    ghost made = { λ choice. lines_of_frames };
 
-    ghost stands = { λ f limit header intervals written. Stands f limit header intervals written };
+    ghost given = { λ s choice header frames. Unit {0} };
 
-    ghost stands_well = { λ f limit header intervals written stands. stands_well f limit header intervals written stands };
-
-    fn begin<K: Sink>(limit: u8, header: IntervalHeader, _out: &mut K) -> Result<Flight, Stop> {
-        a_reader_gives_the_events_of_its_list();
-        Ok(Flight {
-            reader: DirectionReader::new(header.system, Profile::Normal),
-            wheel: Flywheel::new(limit),
-            heard: 0,
-            invented: 0,
-            gone: 0,
-        })
+    fn limit(choice: u8) -> u8 {
+        choice
     }
 
-    #[inline(always)]
-    fn interval<K: Sink>(&mut self, x: u32, out: &mut K) -> Result<(), Stop> {
-        a_reader_gives_the_events_of_its_list();
-        frames_come_in_order();
-        match self.reader.step(x) {
-            Brought::Nothing => {
-                let tick = self.reader.tick();
-                self.give_due(tick, out)
-            }
-            brought => self.hear_all(brought, out),
-        }
+    fn begin<K: Sink>(
+        _choice: u8,
+        _header: &IntervalHeader,
+        _out: &mut K,
+    ) -> Result<FrameLines, Stop> {
+        Ok(FrameLines)
     }
 
-    fn finish<K: Sink>(&self, out: &mut K) -> Result<(), Stop> {
-        push_line(out, &self.end_text())
+    fn frame<K: Sink>(&mut self, frame: &Frame, out: &mut K) -> Result<(), Stop> {
+        push_line(out, &frame_text(frame))
+    }
+
+    fn finish<K: Sink>(&self, flight: &Flight, out: &mut K) -> Result<(), Stop> {
+        push_line(out, &flight.end_text())
     }
 }

@@ -20,7 +20,7 @@ use ltc_word::{LtcWord, encode, reversed};
 use tc_address::laws::{number_and_label_are_inverse, steps_add_up};
 use tc_address::{Count, Direction, Label, advance, system_of};
 use tc_bits::{Fields, Flags, UserBits};
-use tc_files::{IntervalHeader, interval_header};
+use tc_files::{FileVersion, IntervalHeader, interval_header};
 use tc_words::Stripe;
 
 /// The room that the intervals of a frame take at most: 80 ones of two intervals of four bytes.
@@ -48,6 +48,7 @@ impl Tape {
         shaped_cells_are_a_chain();
         let label = stripe.label();
         let header = IntervalHeader {
+            version: FileVersion::One,
             system: system_of(label.count()),
             tick_rate: stripe.tick_rate(),
         };

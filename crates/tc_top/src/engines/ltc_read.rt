@@ -158,6 +158,7 @@ impl Report {
 }
 
 impl Behind for Report {
+    ghost use Rattle.std.specs.Prelude.{⊤};
     ghost use Rattle.tc_top.specs.LtcRead.{report};
     ghost use Rattle.tc_top.specs.KeptReport.{FitsReport, Stands, stands_well};
 
@@ -169,7 +170,9 @@ impl Behind for Report {
 
     ghost stands = { λ r profile header intervals written. Stands r profile header intervals written };
 
-    ghost stands_well = { λ r profile header intervals written stands. stands_well r profile header intervals written stands };
+    ghost is_settled = { λ _. ⊤ };
+
+    ghost stands_well = { λ r profile header intervals written settled stands. stands_well r profile header intervals written stands };
 
     fn begin<K: Sink>(
         profile: Profile,
@@ -190,6 +193,10 @@ impl Behind for Report {
     fn interval<K: Sink>(&mut self, x: u32, out: &mut K) -> Result<(), Stop> {
         a_reader_gives_the_events_of_its_list();
         self.feed(x, out)
+    }
+
+    fn flush<K: Sink>(&mut self, _out: &mut K) -> Result<(), Stop> {
+        Ok(())
     }
 
     fn finish<K: Sink>(&self, out: &mut K) -> Result<(), Stop> {

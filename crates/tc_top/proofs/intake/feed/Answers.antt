@@ -1,4 +1,4 @@
-use Rattle.std.proofs.Common.{◌+◌, ◌≤◌, ◌<◌, take, drop, length, arith, ◌∙◌, subst, ◌-◌}
+use Rattle.std.proofs.Common.{arith, ◌∙◌, subst}
 use Rattle.tc_top.proofs.AlongTheInput.{Works, works_on, cut_more, within_rest}
 use Rattle.tc_top.proofs.intake.feed.Goals as goal
 

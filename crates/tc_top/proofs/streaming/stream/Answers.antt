@@ -1,10 +1,11 @@
-use Rattle.std.proofs.Common.{[], refl, ◌≡◌, subst}
-use Rattle.std.specs.declared.option.Option.{Option}
-use Rattle.std.specs.Io.KnownBytes.{Consumes}
+use Rattle.std.proofs.Common.{[], refl}
 use Rattle.std.proofs.KnownBytes.{Appends-nil}
 use Rattle.tc_top.specs.Answer.{Exchange}
 use Rattle.tc_top.specs.Commands.{meaning_of}
+use Rattle.tc_top.specs.declared.status.Status.TheVariants as status
+use Rattle.tc_top.proofs.MarkedLines.{job_marked}
 use Rattle.tc_top.proofs.OneStatus.{answer_of, done_is_final, settles, stop_is_final}
+use Rattle.tc_top.proofs.ReportsTheTape.{reports_the_tape}
 use Rattle.tc_top.proofs.streaming.stream.Goals as goal
 
 -- the job is done
@@ -43,3 +44,31 @@ returns-in-Err-clause-status g c = λ input told no_read no_write.
     let e = c.in-Err.ensures.stops in
     rw c.of_stop.ensures (stop_is_final (meaning_of c.args.job.now) (settles c.args.job.now) c.in-Err.stop _ input e.0 e.1 _ _ _ _
     (rw told at e.2) e.4 c.in-Err.ensures.source c.in-Err.ensures.out no_read no_write)
+
+-- what was written tells the tape
+pub returns-in-Ok-clause-truth : goal.returns-in-Ok-clause-truth
+returns-in-Ok-clause-truth g c = λ _ profile is.
+    let e = c.in-Ok.ensures.ends in
+    let went : Exchange = record { pulled = e.0; left = g.S.Source.left c.work_on.new.source; written = e.1; note = [] } in (
+      went,
+      record { bytes = e.2; left = refl },
+      e.4,
+      e.3,
+      reports_the_tape (record {
+        truth = c.events_tell_the_tape.ensures;
+        damage = c.events_find_the_tape_again.ensures;
+        mirror = c.events_mirror_the_tape.ensures;
+      })
+          c.args.job.now profile e.0 e.1 is e.6,
+    )
+
+-- the lines of frames are marked, at the end and at a stop
+pub returns-in-Ok-clause-marked : goal.returns-in-Ok-clause-marked
+returns-in-Ok-clause-marked g c = λ limit is.
+    let a = returns-in-Ok-clause-answer g c in
+    (a.0.written, a.2, job_marked c.invention_is_bounded_and_marked.ensures.marked c.args.job.now limit is status.Done a.0 a.4)
+
+pub returns-in-Err-clause-marked : goal.returns-in-Err-clause-marked
+returns-in-Err-clause-marked g c = λ limit is.
+    let a = returns-in-Err-clause-answer g c in
+    (a.0.written, a.2, job_marked c.invention_is_bounded_and_marked.ensures.marked c.args.job.now limit is c.of_stop.result a.0 a.4)

@@ -1,9 +1,9 @@
-use Rattle.std.proofs.Common.{◌≡◌, ◌++◌, ◌∷◌, [], arith}
+use Rattle.std.proofs.Common.{◌++◌, ◌∷◌, [], arith}
 use Rattle.std.proofs.KnownBytes.{Appends-nil}
 use Rattle.tc_files.specs.Recording.{recording_of}
 use Rattle.tc_files.specs.IntervalFile.{after}
 use Rattle.tc_top.proofs.AlongTheInput.{through, on_ok, both_ok, if_err}
-use Rattle.tc_top.proofs.AnItemMore.{nothing_more, a_header, an_interval, a_fault, a_header_fault, interval_stops, by_byte}
+use Rattle.tc_top.proofs.AnItemMore.{nothing_more, an_interval, a_fault, a_header_fault, interval_stops, by_byte}
 use Rattle.tc_top.proofs.along.Along.byte.Goals as goal
 
 -- the byte completes nothing
@@ -49,9 +49,9 @@ returns-in-Interval-clause-stops g c =
     let s = c.args.self.now in
     let late = rw c.requires.good at c.in-Interval.ensures.completes in
     if_err c.interval.result c.interval.ensures.stops (λ stop why front written rest stands.
-    interval_stops g.B.Behind.printing g.B.Behind.stands g.B.Behind.stands_well s.decoder _ s.behind s.intervals s.choice
+    interval_stops g.B.Behind.printing g.B.Behind.stands s.decoder _ s.behind c.interval.new.self.behind s.intervals s.choice
     c.in-Interval.x _ _ front (c.args.byte ∷ []) rest written stop c.requires.header (omega (arith, late.0)) stands
-    (by_byte s.decoder front c.args.byte _ stands.progress c.in-Interval.ensures.answers) why)
+    (by_byte s.decoder front c.args.byte _ stands.progress c.in-Interval.ensures.answers) why.0 why.1)
 
 -- the byte completes a fault
 pub returns-in-Fault-clause-stops : goal.returns-in-Fault-clause-stops
@@ -59,6 +59,6 @@ returns-in-Fault-clause-stops g c = λ front written rest stands.
     let s = c.args.self.now in (
       [],
       Appends-nil _,
-      rw c.stop_at.ensures (a_fault g.B.Behind.printing g.B.Behind.stands g.B.Behind.stands_well s.decoder _ s.behind s.intervals s.choice c.in-Fault.fault
+      rw c.stop_at.ensures (a_fault (g.B.Behind.printing s.choice) g.B.Behind.stands s.decoder _ s.behind s.intervals s.choice c.in-Fault.fault
           front (c.args.byte ∷ []) rest written stands (by_byte s.decoder front c.args.byte _ stands.progress c.in-Fault.ensures.answers)),
     )

@@ -5,7 +5,7 @@ use Rattle.tc_files.specs.declared.interval_file.header.IntervalHeader.{Interval
 use Rattle.tc_files.specs.IntervalFile.{end}
 use Rattle.tc_files.specs.Progress.{Progress}
 use Rattle.tc_files.specs.Recording.{fault_at_end, recording_of}
-use Rattle.tc_top.specs.Along.{IsPartOf, IsWholeBehind}
+use Rattle.tc_top.specs.Along.{IsWholeBehind}
 use Rattle.tc_top.specs.KeptAlong.{Printed, printed_well}
 use Rattle.tc_top.proofs.AlongTheInput.{if_err}
 use Rattle.tc_top.proofs.along.AlongEngine.finish.Goals as goal
@@ -19,7 +19,7 @@ returns-in-Err-clause-stops g c = λ bytes written stands.
       (
         stands.good,
         subst (λ (p : Progress). fault_at_end (end p) ≡ Some c.in-Err.fault) stands.progress (ap fault_at_end (sym c.in-Err.ensures.answers)),
-        rw (append-nil written) (printed_well g.B.Behind.printing g.B.Behind.stands g.B.Behind.stands_well s.behind s.choice (recording_of bytes) written stands.printed),
+        rw (append-nil written) (printed_well g.B.Behind.printing g.B.Behind.stands g.B.Behind.is_settled g.B.Behind.stands_well s.behind s.choice (recording_of bytes) written c.requires.settled stands.printed),
       ),
     )
 

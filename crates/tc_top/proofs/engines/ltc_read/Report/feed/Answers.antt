@@ -1,8 +1,6 @@
-use Rattle.std.proofs.Common.{[], refl, arith, subst, ◌≡◌}
+use Rattle.std.proofs.Common.{refl, arith}
 use Rattle.std.proofs.KnownBytes.{Appends-nil}
 use Rattle.direction_reader.specs.Events.{no_events}
-use Rattle.direction_reader.specs.Reader.{Reading}
-use Rattle.direction_reader.specs.StandsFor.{StandsFor}
 use Rattle.tc_top.proofs.AlongTheInput.{on_ok, on_err}
 use Rattle.tc_top.proofs.engines.ltc_read.Report.feed.Goals as goal
 

@@ -1,4 +1,4 @@
-use Rattle.std.proofs.Common.{◌∙◌, ap, arith}
+use Rattle.std.proofs.Common.{◌∙◌, ap}
 use Rattle.direction_reader.specs.Events.{event_list}
 use Rattle.tc_top.specs.declared.engines.ltc_read.Report.{Report}
 use Rattle.tc_top.proofs.AlongTheInput.{on_ok, on_err, both_ok}

@@ -1,4 +1,3 @@
-use Rattle.std.proofs.Common.{[], ◌∷◌}
 use Rattle.direction_reader.specs.Events.{event_list}
 use Rattle.tc_top.specs.LtcRead.{lines}
 use Rattle.tc_top.proofs.AlongTheInput.{on_ok, if_err, err_both}

@@ -1,0 +1,240 @@
+-- Of a recording within the tolerance and its mirror, the kinds of the pairs tell the cells between the greater intervals of the first and the
+-- last unequal pair. So there the cells of the mirror are those of the recording in the other order of time.
+use Rattle.std.proofs.Common.{◌≡◌, ℕ, ◌+◌, ◌-◌, ◌<◌, ◌≤◌, List, [], ◌∷◌, ◌++◌, length, drop, take, get_or, reverse, map, inl, inr, refl, ap, subst, sym, ◌∙◌}
+use Rattle.std.proofs.Common.{arith, append_assoc, length-append, length-drop}
+use Rattle.std.proofs.lemmas.Bool.{cases_lt, cases_order}
+use Rattle.std.proofs.lemmas.List.{append-nil, drop_at, length-reverse, reverse-append, get_or-reverse, take-append-drop, map-append}
+use Rattle.std.proofs.lemmas.Grind.{flat_map-append}
+use Rattle.biphase.specs.declared.profile.Profile.{Profile}
+use Rattle.biphase.specs.declared.cell.Cell.{Cell}
+use Rattle.biphase.specs.declared.cell.Cell.TheVariants.{Zero}
+use Rattle.biphase.specs.Chain.{intervals_of, flat, IsChain}
+use Rattle.biphase.specs.Laws.{unequal_differ}
+use Rattle.biphase.specs.Mirror.{mirror_of, mirrored, flat_mirrored, unequal_turned, Kinds, chain_kinds, front_kinds, mirrored_kinds, comparable_kinds}
+use Rattle.biphase.specs.Zeros.{IsZeroAt}
+use Rattle.cell_tracker.specs.Kept.{IsPiece, cells_between, cells_from}
+use Rattle.cell_tracker.specs.Lock.{IsLock, IsUnequalAt}
+use Rattle.cell_tracker.specs.Mirrored.{BeginMirrored}
+use Rattle.cell_tracker.proofs.CellsOfAPiece.{has_intervals, all_between}
+use Rattle.cell_tracker.proofs.FoundAgain.{lock_near, later_zero}
+use Rattle.cell_tracker.proofs.KeptStretch.{piece_from, pair_has_zero, lock_is_zero, behind_zero, cells_at_zero, stretch_at_lock}
+
+-- ---- places in the other order
+
+-- an unequal pair of the mirror is one of the recording
+turned_back : (profile : Profile) (l : List ℕ) (k : ℕ) → IsUnequalAt profile (reverse l) k
+    → (j : ℕ) × (j + k + 2 ≡ length l) × IsUnequalAt profile l j
+    × (get_or l j 0 ≡ get_or (reverse l) (k + 1) 0) × (get_or l (j + 1) 0 ≡ get_or (reverse l) k 0)
+turned_back profile l k at =
+    let long = length-reverse l in
+    let within : k + 1 < length l = omega (arith, at.0, long) in
+    let j = length l - 2 - k in
+    let first : length l - 1 - (k + 1) ≡ j = omega arith in
+    let second : length l - 1 - k ≡ j + 1 = omega arith in
+    let one : get_or l j 0 ≡ get_or (reverse l) (k + 1) 0 =
+    ap (λ n. get_or l n 0) (sym first) ∙ sym (get_or-reverse l (k + 1) 0 within) in
+    let two : get_or l (j + 1) 0 ≡ get_or (reverse l) k 0 =
+    ap (λ n. get_or l n 0) (sym second) ∙ sym (get_or-reverse l k 0 (omega arith)) in
+    (j, omega arith, (omega arith, rw (one, two) (unequal_turned profile _ _ at.1)), one, two)
+
+-- the greater interval of the last unequal pair: a zero of the recording, where the mirror has its lock
+last_zero : (profile : Profile) (l : List ℕ) (tape : List Cell) (cut first last : ℕ) → IsPiece profile l tape cut
+    → (lock : IsLock profile l 0 first) → IsLock profile (reverse l) 0 last
+    → (v : ℕ) × (v + last + 1 ≡ length l) × (first ≤ v) × ((x : ℕ) × IsZeroAt tape (cut + v) x)
+last_zero profile l tape cut first last piece lock turned =
+    let k = turned.pair in
+    let back = turned_back profile l k turned.unequal in
+    let j = back.0 in
+    let a = get_or l j 0 in
+    let b = get_or l (j + 1) 0 in
+    let there = pair_has_zero profile l tape cut j piece back.2 in
+    let near = lock_near profile l 0 first lock in
+    let order : lock.pair ≤ j = elim (cases_lt j lock.pair) [
+      | inl before ↦ absurd (lock.none_before j (omega arith) before back.2)
+      | inr from ↦ from
+    ] in
+    elim (cases_order a b) [
+      | inl same ↦ absurd (unequal_differ profile a b back.2.1 same)
+      | inr (inl rises) ↦ (
+          let at : last ≡ k = turned.falling (rw (← back.3, ← back.4) rises) in
+          (j + 1, omega (arith, back.1), omega arith, (b, there.0 rises)))
+      | inr (inr falls) ↦ (
+          let at : last ≡ k + 1 = turned.rising (rw (← back.3, ← back.4) falls) in
+          let before : first ≤ j = elim (cases_lt lock.pair j) [
+            | inl earlier ↦ omega arith
+            | inr same ↦ (
+                let is : lock.pair ≡ j = omega arith in
+                let here : get_or l lock.pair 0 ≡ a = ap (λ n. get_or l n 0) is in
+                let next : get_or l (lock.pair + 1) 0 ≡ b = ap (λ n. get_or l (n + 1) 0) is in
+                let there : first ≡ lock.pair = lock.falling (rw (here, next) falls) in
+                omega arith)
+          ] in
+          (j, omega (arith, back.1), before, (a, there.1 falls)))
+    ]
+
+-- ---- the kinds
+
+kinds_of_chain : (profile : Profile) (cells : List Cell) → IsChain profile cells → Kinds profile cells
+kinds_of_chain profile [] chain = tt
+kinds_of_chain profile (cell ∷ cells) chain = chain_kinds profile cell cells chain.0 chain.1
+
+kinds_of_front : (profile : Profile) (one two : List Cell) → Kinds profile (one ++ two) → Kinds profile one
+kinds_of_front profile [] two kinds = tt
+kinds_of_front profile (cell ∷ one) two kinds = front_kinds profile cell one two kinds
+
+kinds_mirrored : (profile : Profile) (cells : List Cell) → Kinds profile cells → Kinds profile (mirrored cells)
+kinds_mirrored profile [] kinds = tt
+kinds_mirrored profile (cell ∷ cells) kinds = mirrored_kinds profile cell cells kinds
+
+-- a last zero is the first cell in the other order
+mirrored_push : (cells : List Cell) (x : ℕ) → mirrored (cells ++ Zero x ∷ []) ≡ Zero x ∷ mirrored cells
+mirrored_push cells x =
+    ap (λ (cs : List Cell). reverse cs) (map-append mirror_of cells (Zero x ∷ []))
+    ∙ reverse-append (map mirror_of cells) (Zero x ∷ [])
+
+-- cells without an interval are none
+no_cells : (cells : List Cell) → length (flat cells) ≡ 0 → cells ≡ []
+no_cells [] none = refl
+no_cells (cell ∷ cells) none = absurd (omega (arith, has_intervals cell, length-append (intervals_of cell) (flat cells), none))
+
+-- of a list with these intervals, what stands there in the other order
+turned_there : (l one middle tail : List ℕ) (last : ℕ) → l ≡ one ++ (middle ++ tail) → length tail ≡ last
+    → drop last (reverse l) ≡ reverse middle ++ reverse one
+turned_there l one middle tail last are many =
+    let joined : l ≡ (one ++ middle) ++ tail = are ∙ sym (append_assoc one middle tail) in
+    ap (λ (xs : List ℕ). drop last (reverse xs)) joined
+    ∙ ap (drop last) (reverse-append (one ++ middle) tail)
+    ∙ drop_at (reverse tail) (reverse (one ++ middle)) last (length-reverse tail ∙ many)
+    ∙ reverse-append one middle
+
+-- where the mirror has the cells of the middle, from its first zero on
+tells_cells : (profile : Profile) (x : ℕ) (mid after : List Cell) (rest : List ℕ) → Kinds profile (Zero x ∷ mirrored mid)
+    → Kinds profile (Zero x ∷ after) → flat after ≡ flat (mirrored mid) ++ rest → (more : List Cell) × (after ≡ mirrored mid ++ more)
+tells_cells profile x mid after rest kinds others same =
+    elim (comparable_kinds profile (Zero x) (mirrored mid) after rest [] kinds others (sym same ∙ sym (append-nil (flat after)))) [
+      | inl front ↦ front
+      | inr (extra, is) ↦ (
+          let fewer : length (flat (mirrored mid)) ≡ length (flat after) + length (flat extra) =
+          ap (λ (cs : List Cell). length (flat cs)) is ∙ ap length (flat_map-append intervals_of after extra)
+          ∙ length-append (flat after) (flat extra) in
+          let none : extra ≡ [] =
+          no_cells extra (omega (arith, fewer, ap length same, length-append (flat (mirrored mid)) rest)) in
+          ([], sym (append-nil after) ∙ ap (λ (cs : List Cell). after ++ cs) (sym none) ∙ sym is ∙ sym (append-nil (mirrored mid))))
+    ]
+
+-- ---- the cells
+
+-- the cells of the recording from its first lock to its last zero, and what stands before and behind them
+record Middle (profile : Profile) (l : List ℕ) (tape : List Cell) (cut first last : ℕ) : Type 0 where
+  mid : List Cell
+  x : ℕ
+  more : List Cell
+  are : cells_from tape cut l first ≡ mid ++ Zero x ∷ more
+  many : first + length (flat mid) + 1 + last ≡ length l
+  kinds : Kinds profile (mid ++ Zero x ∷ [])
+  tail : List ℕ
+  there : l ≡ take first l ++ (flat (mid ++ Zero x ∷ []) ++ tail)
+  long : length tail ≡ last
+
+push_flat : (mid more : List Cell) (x : ℕ) (rest : List ℕ)
+    → flat (mid ++ Zero x ∷ more) ++ rest ≡ flat (mid ++ Zero x ∷ []) ++ (flat more ++ rest)
+push_flat mid more x rest =
+    let same : mid ++ Zero x ∷ more ≡ (mid ++ Zero x ∷ []) ++ more = sym (append_assoc mid (Zero x ∷ []) more) in
+    ap (λ (cs : List Cell). flat cs ++ rest) same
+    ∙ ap (λ (xs : List ℕ). xs ++ rest) (flat_map-append intervals_of (mid ++ Zero x ∷ []) more)
+    ∙ append_assoc (flat (mid ++ Zero x ∷ [])) (flat more) rest
+
+middle_of : (profile : Profile) (l : List ℕ) (tape : List Cell) (cut first last : ℕ) → IsPiece profile l tape cut
+    → IsLock profile l 0 first → IsLock profile (reverse l) 0 last → Middle profile l tape cut first last
+middle_of profile l tape cut first last piece lock turned =
+    let z = last_zero profile l tape cut first last piece lock turned in
+    let v = z.0 in
+    let at_v = z.3.1 in
+    let f = lock_is_zero profile l tape cut 0 first piece lock in
+    let later = later_zero tape cut first v f.1.0 z.3.0 l f.1.1 at_v z.2 (omega (arith, z.1)) in
+    let mid = later.0 in
+    let x = z.3.0 in
+    let more = cells_between (cut + v) (cut + length l) (cut + v + 1) at_v.after in
+    let are : cells_from tape cut l first ≡ mid ++ Zero x ∷ more =
+    later.1 ∙ ap (λ (cs : List Cell). mid ++ cs)
+    (cells_at_zero tape at_v.before at_v.after cut v x l at_v.are at_v.place (omega (arith, z.1))) in
+    let is = stretch_at_lock profile l tape cut 0 first piece lock in
+    let chain : IsChain profile (mid ++ Zero x ∷ more) = subst (IsChain profile) are is.chain.chain in
+    let same : mid ++ Zero x ∷ more ≡ (mid ++ Zero x ∷ []) ++ more = sym (append_assoc mid (Zero x ∷ []) more) in
+    let rest = is.chain.front.0 in
+    let tail = flat more ++ rest in
+    let begins : drop first l ≡ flat (mid ++ Zero x ∷ []) ++ tail =
+    is.chain.front.1 ∙ ap (λ (cs : List Cell). flat cs ++ rest) are ∙ push_flat mid more x rest in
+    let long : length (flat (mid ++ Zero x ∷ [])) ≡ length (flat mid) + 1 =
+    ap length (flat_map-append intervals_of mid (Zero x ∷ [])) ∙ length-append (flat mid) (x ∷ []) in
+    record {
+      mid = mid;
+      x = x;
+      more = more;
+      are = are;
+      many = omega (arith, z.1, later.2);
+      kinds = kinds_of_front profile (mid ++ Zero x ∷ []) more (subst (Kinds profile) same (kinds_of_chain profile _ chain));
+      tail = tail;
+      there = sym (take-append-drop first l) ∙ ap (λ (xs : List ℕ). take first l ++ xs) begins;
+      long = omega (arith, ap length begins, length-append (flat (mid ++ Zero x ∷ [])) tail, long, length-drop first l, z.1, later.2);
+    }
+
+-- what stands behind a zero of a piece
+behind_zero_there : (profile : Profile) (intervals : List ℕ) (cells : List Cell) (cut place x : ℕ) (is : IsPiece profile intervals cells cut)
+    (z : IsZeroAt cells (cut + place) x) → place ≤ length intervals → drop place intervals ++ is.part.0 ≡ x ∷ flat z.after
+behind_zero_there profile intervals cells cut place x is z within =
+    sym (piece_from profile intervals cells cut place is within)
+    ∙ ap (λ (cs : List Cell). drop (cut + place) (flat cs)) z.are
+    ∙ ap (drop (cut + place)) (flat_map-append intervals_of z.before (Zero x ∷ z.after))
+    ∙ drop_at (flat z.before) (x ∷ flat z.after) (cut + place) z.place
+
+pub begin_mirrored : (profile : Profile) (l : List ℕ) (tape other : List Cell) (cut place first last : ℕ) → IsPiece profile l tape cut
+    → IsPiece profile (reverse l) other place → IsLock profile l 0 first → IsLock profile (reverse l) 0 last
+    → BeginMirrored (cells_from tape cut l first) (cells_from other place (reverse l) last) first last (length l)
+begin_mirrored profile l tape other cut place first last piece turned lock last_lock =
+    let m = middle_of profile l tape cut first last piece lock last_lock in
+    let mid = m.mid in
+    let x = m.x in
+    let middle = mid ++ Zero x ∷ [] in
+    let pushed : mirrored middle ≡ Zero x ∷ mirrored mid = mirrored_push mid x in
+    let g = lock_is_zero profile (reverse l) other place 0 last turned last_lock in
+    let w = g.1.0 in
+    let z = g.1.1 in
+    let chain = behind_zero profile z.before z.after w (subst (IsChain profile) z.are turned.chain) in
+    let rest = reverse (take first l) ++ turned.part.0 in
+    let there : drop last (reverse l) ≡ (x ∷ flat (mirrored mid)) ++ reverse (take first l) =
+    turned_there l (take first l) (flat middle) m.tail last m.there m.long
+    ∙ ap (λ (xs : List ℕ). xs ++ reverse (take first l)) (sym (flat_mirrored middle) ∙ ap flat pushed) in
+    let both : w ∷ flat z.after ≡ x ∷ (flat (mirrored mid) ++ rest) =
+    sym (behind_zero_there profile (reverse l) other place last w turned z (omega (arith, g.0)))
+    ∙ ap (λ (xs : List ℕ). xs ++ turned.part.0) there
+    ∙ append_assoc (x ∷ flat (mirrored mid)) (reverse (take first l)) turned.part.0 in
+    let head : w ≡ x = cc in
+    let after : flat z.after ≡ flat (mirrored mid) ++ rest = cc in
+    let kinds : Kinds profile (Zero x ∷ mirrored mid) = subst (Kinds profile) pushed (kinds_mirrored profile middle m.kinds) in
+    let others : Kinds profile (Zero x ∷ z.after) =
+    subst (λ v. Kinds profile (Zero v ∷ z.after)) head (chain_kinds profile (Zero w) z.after chain.0 chain.1) in
+    let found = tells_cells profile x mid z.after rest kinds others after in
+    let low = place + last in
+    let high = place + length (reverse l) in
+    let long : length (flat (mirrored mid)) ≡ length (flat mid) = ap length (flat_mirrored mid) ∙ length-reverse (flat mid) in
+    let behind = cells_between low high (low + 1 + length (flat (mirrored mid))) found.0 in
+    record {
+      middle = middle;
+      more = m.more;
+      others_more = behind;
+      cells_are = m.are ∙ sym (append_assoc mid (Zero x ∷ []) m.more);
+      others_are =
+          cells_at_zero other z.before z.after place last w (reverse l) z.are z.place g.0
+          ∙ ap (λ v. Zero v ∷ cells_between low high (low + 1) z.after) head
+          ∙ ap (λ (cs : List Cell). Zero x ∷ cells_between low high (low + 1) cs) found.1
+          ∙ ap (λ (cs : List Cell). Zero x ∷ cs) (all_between low high (low + 1) (mirrored mid) found.0 (omega arith)
+          (omega (arith, long, m.many, length-reverse l)))
+          ∙ ap (λ (cs : List Cell). cs ++ behind) (sym pushed);
+      many = omega (
+        arith,
+        ap length (flat_map-append intervals_of mid (Zero x ∷ [])),
+        length-append (flat mid) (x ∷ []),
+        m.many,
+      );
+    }

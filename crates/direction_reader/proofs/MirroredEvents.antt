@@ -1,0 +1,307 @@
+-- A window read forward and the window in the other order read backward are one candidate. So the events of windows and of those in the other
+-- order are the same, each met from its other end.
+use Rattle.std.proofs.Common.{◌≡◌, ◌<◌, ◌≤◌, ℕ, ◌+◌, ◌-◌, ◌^◌, List, [], ◌∷◌, ◌++◌, length, take, drop, map, reverse, sum, Option, Some, None, IsSomeAnd}
+use Rattle.std.proofs.Common.{ap, arith, append_assoc, append-nil, length-append, inl, inr, refl, subst, sym, ◌∙◌}
+use Rattle.std.specs.List.{AllZip}
+use Rattle.std.proofs.Math.Seq.{take-append_seam}
+use Rattle.std.proofs.lemmas.Bool.{cases_lt}
+use Rattle.std.proofs.lemmas.Grind.{flat_map-append, reverse_onto}
+use Rattle.std.proofs.lemmas.List.{length-reverse, reverse-append, take-append-drop, length-take}
+use Rattle.std.proofs.lemmas.List.Sums.{sum_by-append}
+use Rattle.biphase.specs.declared.cell.Cell.{Cell}
+use Rattle.biphase.specs.declared.profile.Profile.{Profile}
+use Rattle.biphase.specs.Chain.{intervals_of, flat}
+use Rattle.biphase.specs.Mirror.{mirrored}
+use Rattle.cell_tracker.specs.Kept.{IsPiece, cells_from}
+use Rattle.cell_tracker.specs.Lock.{IsLock}
+use Rattle.cell_tracker.specs.Mirrored.{BeginMirrored}
+use Rattle.tc_address.specs.declared.system.System.{System}
+use Rattle.tc_address.specs.declared.direction.Direction.{Direction}
+use Rattle.tc_address.specs.declared.direction.Direction.TheVariants.{Forward, Backward}
+use Rattle.ltc_word.specs.Reversal.{EndsInSync, reversed_bits}
+use Rattle.direction_reader.specs.declared.event.Event.{Event}
+use Rattle.direction_reader.specs.declared.event.Event.TheVariants.{Word, Refused, Lost}
+use Rattle.direction_reader.specs.declared.event.Events.{Events}
+use Rattle.direction_reader.specs.Candidate.{IsEventOf, AreEventsOf}
+use Rattle.direction_reader.specs.Events.{listed, event_list}
+use Rattle.direction_reader.specs.ListEvents.{CellWindow, duration, windows, AreEventsOfWindows, AreEvents}
+use Rattle.direction_reader.specs.Mirror.{mirror_window, turned, IsMirrorOf, MirrorsTheTape}
+use Rattle.direction_reader.proofs.EventsExist.{window_below}
+use Rattle.direction_reader.proofs.OneList.{IsExact, in_sync_or_not}
+use Rattle.direction_reader.proofs.OneListOfEvents.{HasOneList}
+use Rattle.direction_reader.proofs.TellsTheTape.{IsOneStretch, tells_the_tape}
+use Rattle.direction_reader.proofs.FrontsFirst.{windows_first}
+use Rattle.direction_reader.proofs.MirroredWindows.{mirrored_windows, sum_reverse}
+use Rattle.direction_reader.proofs.WindowsFromCells.{duration_of, windows_cons, front_within}
+use Rattle.direction_reader.proofs.WindowsGrow.{few}
+
+-- bits in the other order twice are the bits
+abbrev pub TurnsBack : Type 0
+TurnsBack = (bits : ℕ) → bits < 2 ^ 80 → reversed_bits (reversed_bits bits) ≡ bits
+
+-- ---- lists that fit each other
+
+zip_append : (total : ℕ) (one two other more : List Event) → AllZip (IsMirrorOf total) one two → AllZip (IsMirrorOf total) other more
+    → AllZip (IsMirrorOf total) (one ++ other) (two ++ more)
+zip_append total [] [] other more ones others = others
+zip_append total [] (e ∷ two) other more ones others = absurd ones
+zip_append total (e ∷ one) [] other more ones others = absurd ones
+zip_append total (e ∷ one) (f ∷ two) other more ones others = (ones.0, zip_append total one two other more ones.1 others)
+
+-- ---- one window
+
+one_mirrors : IsExact → (system : System) (d : Direction) (bits end there length total : ℕ) (e f : Event) → there + end ≡ total + length
+    → IsEventOf system d bits end length e → IsEventOf system (turned d) bits there length f → IsMirrorOf total e f
+one_mirrors exact system d bits end there length total (Word a w t n) (Word a' w' t' n') place is too =
+    let direction : a' ≡ turned a = too.0 ∙ ap turned (sym is.0) in
+    let word : w' ≡ w = sym (exact.one_word system w w' bits is.1 too.1) in
+    (direction, word, omega (arith, is.2, is.3, too.2), too.3 ∙ sym is.3)
+one_mirrors exact system d bits end there length total (Word a w t n) (Refused a' g t') place is too =
+    let none = exact.no_fault system w bits is.1 in let some = too.1 in absurd cc
+one_mirrors exact system d bits end there length total (Word a w t n) (Lost p t') place is too = absurd too
+one_mirrors exact system d bits end there length total (Refused a g t) (Word a' w t' n) place is too =
+    let none = exact.no_fault system w bits too.1 in let some = is.1 in absurd cc
+one_mirrors exact system d bits end there length total (Refused a g t) (Refused a' g' t') place is too =
+    let direction : a' ≡ turned a = too.0 ∙ ap turned (sym is.0) in
+    let fault : g' ≡ g = let one = is.1 in let other = too.1 in cc in
+    (direction, fault, (length, omega (arith, is.2, too.2)))
+one_mirrors exact system d bits end there length total (Refused a g t) (Lost p t') place is too = absurd too
+one_mirrors exact system d bits end there length total (Lost p t) f place is too = absurd is
+
+some_mirrors : IsExact → (system : System) (d : Direction) (bits end there length total : ℕ) (e f : Option Event)
+    → there + end ≡ total + length → IsSomeAnd e (IsEventOf system d bits end length)
+    → IsSomeAnd f (IsEventOf system (turned d) bits there length) → AllZip (IsMirrorOf total) (listed e) (listed f)
+some_mirrors exact system d bits end there length total None f place is too = absurd is
+some_mirrors exact system d bits end there length total (Some e) None place is too = absurd too
+some_mirrors exact system d bits end there length total (Some e) (Some f) place is too =
+    (one_mirrors exact system d bits end there length total e f place is too, tt)
+
+-- the events of a window as a list, from the last one to the first one
+list_reverse : (first second : Option Event) → reverse (listed first ++ listed second) ≡ listed second ++ listed first
+list_reverse None None = refl
+list_reverse None (Some f) = refl
+list_reverse (Some e) None = refl
+list_reverse (Some e) (Some f) = refl
+
+none_listed : (o : Option Event) → o ≡ None → listed o ≡ []
+none_listed o none = rw none refl
+
+-- two and two events that mirror each other
+two_mirror : (total : ℕ) (own other : Events) → AllZip (IsMirrorOf total) (listed own.first) (listed other.second)
+    → AllZip (IsMirrorOf total) (listed own.second) (listed other.first)
+    → AllZip (IsMirrorOf total) (event_list own) (reverse (event_list other))
+two_mirror total own other first second =
+    subst (λ (es : List Event). AllZip (IsMirrorOf total) (event_list own) es) (sym (list_reverse other.first other.second))
+    (zip_append total (listed own.first) (listed other.second) (listed own.second) (listed other.first) first second)
+
+-- and one alone
+one_mirror : (total : ℕ) (own other : Events) → AllZip (IsMirrorOf total) (listed own.first) (listed other.first) → own.second ≡ None
+    → other.second ≡ None → AllZip (IsMirrorOf total) (event_list own) (reverse (event_list other))
+one_mirror total own other first none none_too =
+    let mine : event_list own ≡ listed own.first =
+    ap (λ (es : List Event). listed own.first ++ es) (none_listed own.second none) ∙ append-nil (listed own.first) in
+    let theirs : reverse (event_list other) ≡ listed other.first =
+    list_reverse other.first other.second ∙ ap (λ (es : List Event). es ++ listed other.first) (none_listed other.second none_too) in
+    subst (λ (es : List Event). AllZip (IsMirrorOf total) es (reverse (event_list other))) (sym mine)
+    (subst (λ (es : List Event). AllZip (IsMirrorOf total) (listed own.first) es) (sym theirs) first)
+
+none_mirror : (total : ℕ) (own other : Events) → (own.first ≡ None) × (own.second ≡ None) → (other.first ≡ None) × (other.second ≡ None)
+    → AllZip (IsMirrorOf total) (event_list own) (reverse (event_list other))
+none_mirror total own other none none_too =
+    let mine : event_list own ≡ [] = rw (none.0, none.1) refl in
+    let theirs : reverse (event_list other) ≡ [] = rw (none_too.0, none_too.1) refl in
+    subst (λ (es : List Event). AllZip (IsMirrorOf total) es (reverse (event_list other))) (sym mine)
+    (subst (λ (es : List Event). AllZip (IsMirrorOf total) [] es) (sym theirs) tt)
+
+window_mirrors : IsExact → TurnsBack → (system : System) (bits end there length total : ℕ) (own other : Events) → bits < 2 ^ 80
+    → there + end ≡ total + length → AreEventsOf system bits end length own → AreEventsOf system (reversed_bits bits) there length other
+    → AllZip (IsMirrorOf total) (event_list own) (reverse (event_list other))
+window_mirrors exact back system bits end there length total own other below place are too =
+    let turn = reversed_bits bits in
+    let twice : reversed_bits turn ≡ bits = back bits below in
+    let sync = λ (is : EndsInSync bits). subst EndsInSync (sym twice) is in
+    let no_sync = λ (is_not : ¬ EndsInSync bits) (is : EndsInSync (reversed_bits turn)). is_not (subst EndsInSync twice is) in
+    let as_backward = λ (o : Option Event) (is : IsSomeAnd o (IsEventOf system Backward (reversed_bits turn) there length)).
+    subst (λ b. IsSomeAnd o (IsEventOf system Backward b there length)) twice is in
+    elim (in_sync_or_not bits) [
+      | inl forward ↦ elim (in_sync_or_not turn) [
+        | inl backward ↦ two_mirror total own other
+            (some_mirrors exact system Forward bits end there length total own.first other.second place (are.forward forward)
+            (as_backward other.second (too.both backward (sync forward))))
+            (some_mirrors exact system Backward turn end there length total own.second other.first place (are.both forward backward)
+            (too.forward backward))
+        | inr not_back ↦ (
+            let theirs = too.backward (sync forward) not_back in
+            one_mirror total own other
+            (some_mirrors exact system Forward bits end there length total own.first other.first place (are.forward forward)
+            (as_backward other.first theirs.0)) (are.one forward not_back) theirs.1)
+      ]
+      | inr not_forward ↦ elim (in_sync_or_not turn) [
+        | inl backward ↦ (
+            let mine = are.backward backward not_forward in
+            one_mirror total own other
+            (some_mirrors exact system Backward turn end there length total own.first other.first place mine.0 (too.forward backward))
+            mine.1 (too.one backward (no_sync not_forward)))
+        | inr not_back ↦ none_mirror total own other (are.none not_forward not_back) (too.none not_back (no_sync not_forward))
+      ]
+    ]
+
+-- ---- all windows
+
+-- windows of 80 bits that end within a sum
+abbrev Fit : ℕ → List CellWindow → Type 0
+Fit total [] = Unit {0}
+Fit total (w ∷ ws) = (w.end ≤ total) × (w.bits < 2 ^ 80) × Fit total ws
+
+windows_fit : (total tick : ℕ) (cells : List Cell) → tick + duration cells ≤ total → Fit total (windows tick cells)
+windows_fit total tick [] within = tt
+windows_fit total tick (cell ∷ cells) within =
+    elim (cases_lt (length (cell ∷ cells)) 80) [
+      | inl fewer ↦ subst (Fit total) (sym (few tick (cell ∷ cells) fewer)) tt
+      | inr many ↦ subst (Fit total) (sym (windows_cons tick cell cells (omega arith))) (
+        omega (arith, front_within 80 (cell ∷ cells)),
+        window_below tick (cell ∷ cells) 0,
+        windows_fit total (tick + duration (cell ∷ [])) cells (omega (arith, duration_of cell cells)),
+      )
+    ]
+
+-- the events of windows and one more
+record LastSplit (system : System) (ws : List CellWindow) (w : CellWindow) (events : List Event) : Type 0 where
+  front : List Event
+  own : Events
+  front_are : AreEventsOfWindows system ws front
+  own_are : AreEventsOf system w.bits w.end w.length own
+  are : events ≡ front ++ event_list own
+
+last_split : (system : System) (ws : List CellWindow) (w : CellWindow) (es : List Event) → AreEventsOfWindows system (ws ++ w ∷ []) es
+    → LastSplit system ws w es
+last_split system [] w es (own, rest, is, none, join) = record {
+  front = [];
+  own = own;
+  front_are = refl;
+  own_are = is;
+  are = join ∙ ap (λ (e : List Event). event_list own ++ e) none ∙ append-nil (event_list own);
+}
+last_split system (v ∷ ws) w es (own, rest, is, others, join) =
+    let more = last_split system ws w rest others in
+    record {
+      front = event_list own ++ more.front;
+      own = more.own;
+      front_are = (own, more.front, is, more.front_are, refl);
+      own_are = more.own_are;
+      are = join ∙ ap (λ (e : List Event). event_list own ++ e) more.are
+          ∙ sym (append_assoc (event_list own) more.front (event_list more.own));
+    }
+
+all_mirror : IsExact → TurnsBack → (system : System) (total : ℕ) (ws : List CellWindow) (es fs : List Event) → Fit total ws
+    → AreEventsOfWindows system ws es → AreEventsOfWindows system (reverse (map (mirror_window total) ws)) fs
+    → AllZip (IsMirrorOf total) es (reverse fs)
+all_mirror exact back system total [] es fs fit are too =
+    let mine : es ≡ [] = are in
+    let theirs : reverse fs ≡ [] = ap (λ (e : List Event). reverse e) too in
+    subst (λ (e : List Event). AllZip (IsMirrorOf total) e (reverse fs)) (sym mine)
+    (subst (λ (e : List Event). AllZip (IsMirrorOf total) [] e) (sym theirs) tt)
+all_mirror exact back system total (w ∷ ws) es fs fit (own, rest, is, others, join) too =
+    let turn = map (mirror_window total) ws in
+    let pushed : AreEventsOfWindows system (reverse turn ++ mirror_window total w ∷ []) fs =
+    subst (λ (vs : List CellWindow). AreEventsOfWindows system vs fs) (reverse_onto turn (mirror_window total w) []) too in
+    let last = last_split system (reverse turn) (mirror_window total w) fs pushed in
+    let place : total - w.end + w.length + w.end ≡ total + w.length = omega (arith, fit.0) in
+    let first = window_mirrors exact back system w.bits w.end (total - w.end + w.length) w.length total own last.own fit.1 place is last.own_are in
+    let more = all_mirror exact back system total ws rest last.front fit.2 others last.front_are in
+    let turned_all : reverse fs ≡ reverse (event_list last.own) ++ reverse last.front =
+    ap (λ (e : List Event). reverse e) last.are ∙ reverse-append last.front (event_list last.own) in
+    subst (λ (e : List Event). AllZip (IsMirrorOf total) e (reverse fs)) (sym join)
+    (subst (λ (e : List Event). AllZip (IsMirrorOf total) (event_list own ++ rest) e) (sym turned_all)
+    (zip_append total (event_list own) (reverse (event_list last.own)) rest (reverse last.front) first more))
+
+-- ---- the tape
+
+-- the cells of a mirrored recording
+abbrev pub AreTheSame : Type 0
+AreTheSame = (profile : Profile) (intervals : List ℕ) (cells others : List Cell) (cut place first last : ℕ) → IsPiece profile intervals cells cut
+    → IsPiece profile (reverse intervals) others place → IsLock profile intervals 0 first → IsLock profile (reverse intervals) 0 last
+    → BeginMirrored (cells_from cells cut intervals first) (cells_from others place (reverse intervals) last) first last (length intervals)
+
+-- the events of the first of some windows
+first_events : (system : System) (ws vs : List CellWindow) (es : List Event) → AreEventsOfWindows system (ws ++ vs) es
+    → (mine : List Event) × (more : List Event) × (es ≡ mine ++ more) × AreEventsOfWindows system ws mine
+first_events system [] vs es are = ([], es, refl, refl)
+first_events system (w ∷ ws) vs es (own, rest, is, others, join) =
+    let more = first_events system ws vs rest others in (
+      event_list own ++ more.0,
+      more.1,
+      join ∙ ap (λ (e : List Event). event_list own ++ e) more.2 ∙ sym (append_assoc (event_list own) more.0 more.1),
+      (own, more.0, is, more.3, refl),
+    )
+
+events_of_front : (system : System) (tick : ℕ) (cells middle more : List Cell) (es : List Event) → cells ≡ middle ++ more
+    → AreEventsOfWindows system (windows tick cells) es
+    → (mine : List Event) × (others : List Event) × (es ≡ mine ++ others) × AreEventsOfWindows system (windows tick middle) mine
+events_of_front system tick cells middle more es same are =
+    let first = windows_first tick middle more in
+    let split : windows tick cells ≡ windows tick middle ++ first.0 = ap (windows tick) same ∙ first.1 in
+    first_events system (windows tick middle) first.0 es (subst (λ (ws : List CellWindow). AreEventsOfWindows system ws es) split are)
+
+-- the sums before, in and behind the middle
+sums : (l middle tail : List ℕ) (first last : ℕ) → drop first l ≡ middle ++ tail → first + length middle + last ≡ length l → first ≤ length l
+    → sum (take first l) + sum middle + sum (take last (reverse l)) ≡ sum l
+sums l middle tail first last there many within =
+    let front = take first l in
+    let whole : l ≡ (front ++ middle) ++ tail =
+    sym (take-append-drop first l) ∙ ap (λ (xs : List ℕ). front ++ xs) there ∙ sym (append_assoc front middle tail) in
+    let long : length (reverse tail) ≡ last =
+    omega (arith, length-reverse tail, ap length whole, length-append (front ++ middle) tail, length-append front middle, length-take first l) in
+    let behind : take last (reverse l) ≡ reverse tail =
+    ap (λ (xs : List ℕ). take last (reverse xs)) whole ∙ ap (take last) (reverse-append (front ++ middle) tail)
+    ∙ ap (λ n. take n (reverse tail ++ reverse (front ++ middle))) (sym long) ∙ take-append_seam (reverse tail) (reverse (front ++ middle)) in
+    omega (
+      arith,
+      ap sum whole,
+      ap sum behind,
+      sum_reverse tail,
+      sum_by-append (λ n. n) (front ++ middle) tail,
+      sum_by-append (λ n. n) front middle,
+    )
+
+pub mirrors_the_tape : IsExact → TurnsBack → AreTheSame → IsOneStretch → HasOneList → (system : System) (profile : Profile) (l : List ℕ)
+    (es fs : List Event) → AreEvents system profile l es → AreEvents system profile (reverse l) fs → MirrorsTheTape system profile l es fs
+mirrors_the_tape exact back law stretch one system profile l es fs are too = λ tape other cut place first last piece turned_piece lock last_lock.
+    let m = law profile l tape other cut place first last piece turned_piece lock last_lock in
+    let middle = m.middle in
+    let tick = sum (take first l) in
+    let other_tick = sum (take last (reverse l)) in
+    let told = (tells_the_tape one stretch system profile l es are).words tape cut first piece lock in
+    let told_too = (tells_the_tape one stretch system profile (reverse l) fs too).words other place last turned_piece last_lock in
+    let mine = events_of_front system tick (cells_from tape cut l first) middle m.more es m.cells_are told in
+    let theirs = events_of_front system other_tick (cells_from other place (reverse l) last) (mirrored middle) m.others_more fs m.others_are
+    told_too in
+    let front = (stretch profile l tape cut first piece lock).1.chain.front in
+    let there : drop first l ≡ flat middle ++ (flat m.more ++ front.0) =
+    front.1 ∙ ap (λ (cs : List Cell). flat cs ++ front.0) m.cells_are
+    ∙ ap (λ (xs : List ℕ). xs ++ front.0) (flat_map-append intervals_of middle m.more)
+    ∙ append_assoc (flat middle) (flat m.more) front.0 in
+    let total : tick + duration middle + other_tick ≡ sum l =
+    sums l (flat middle) (flat m.more ++ front.0) first last there m.many (omega (arith, m.many)) in
+    let same : windows other_tick (mirrored middle) ≡ reverse (map (mirror_window (sum l)) (windows tick middle)) =
+    mirrored_windows (sum l) tick other_tick middle total in
+    let theirs_are : AreEventsOfWindows system (reverse (map (mirror_window (sum l)) (windows tick middle))) theirs.0 =
+    subst (λ (ws : List CellWindow). AreEventsOfWindows system ws theirs.0) same theirs.3 in
+    record {
+      between = middle;
+      behind = m.more;
+      others_behind = m.others_more;
+      cells_are = m.cells_are;
+      others_are = m.others_are;
+      many = m.many;
+      mine = mine.0;
+      more = mine.1;
+      events_are = mine.2;
+      mine_are = mine.3;
+      theirs = theirs.0;
+      others_more = theirs.1;
+      mirrored_are = theirs.2;
+      theirs_are = theirs_are;
+      same = all_mirror exact back system (sum l) (windows tick middle) mine.0 theirs.0
+          (windows_fit (sum l) tick middle (omega (arith, total))) mine.3 theirs_are;
+    }

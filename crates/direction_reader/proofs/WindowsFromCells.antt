@@ -1,0 +1,77 @@
+-- The windows of cells, from the first cell on: the window of the first 80, and those of the cells behind the first.
+use Rattle.std.proofs.Common.{◌≡◌, ◌<◌, ◌≤◌, ℕ, ◌+◌, ◌-◌, zero, suc, List, [], ◌∷◌, ◌++◌, length, take, drop, map, ap, ap₂, ◌∙◌, arith, refl}
+use Rattle.std.specs.List.{range_with_len}
+use Rattle.biphase.specs.declared.cell.Cell.{Cell}
+use Rattle.direction_reader.specs.ListEvents.{CellWindow, duration, window_at, windows}
+use Rattle.direction_reader.proofs.WindowsGrow.{duration-append}
+
+-- a cell and others
+pub duration_of : (cell : Cell) (cells : List Cell) → duration (cell ∷ cells) ≡ duration (cell ∷ []) + duration cells
+duration_of cell cells = duration-append (cell ∷ []) cells
+
+-- functions that agree on a range one further
+map_shift : (f g : ℕ → CellWindow) (a n : ℕ) → ((k : ℕ) → f (k + 1) ≡ g k) → map f (range_with_len (a + 1) n) ≡ map g (range_with_len a n)
+map_shift f g a zero same = refl
+map_shift f g a (suc n) same =
+    let join : CellWindow → List CellWindow → List CellWindow = λ w ws. w ∷ ws in
+    ap₂ join (same a) (map_shift f g (a + 1) n same)
+
+-- a window behind the first cell
+window_behind : (tick : ℕ) (cell : Cell) (cells : List Cell) (k : ℕ)
+    → window_at tick (cell ∷ cells) (k + 1) ≡ window_at (tick + duration (cell ∷ [])) cells k
+window_behind tick cell cells k =
+    let one : k + 1 ≡ suc k = omega arith in
+    let eighty : k + 1 + 80 ≡ suc (k + 80) = omega arith in
+    let there : drop (k + 1) (cell ∷ cells) ≡ drop k cells = ap (λ n. drop n (cell ∷ cells)) one in
+    let front : take (k + 1 + 80) (cell ∷ cells) ≡ cell ∷ take (k + 80) cells = ap (λ n. take n (cell ∷ cells)) eighty in
+    let end : tick + duration (cell ∷ take (k + 80) cells) ≡ tick + duration (cell ∷ []) + duration (take (k + 80) cells) =
+    omega (arith, duration_of cell (take (k + 80) cells)) in
+    rw (there, front, end) refl
+
+pub windows_cons : (tick : ℕ) (cell : Cell) (cells : List Cell) → 79 ≤ length cells
+    → windows tick (cell ∷ cells) ≡ window_at tick (cell ∷ cells) 0 ∷ windows (tick + duration (cell ∷ [])) cells
+windows_cons tick cell cells many =
+    let count : length (cell ∷ cells) - 79 ≡ suc (length cells - 79) = omega arith in
+    ap (λ n. map (window_at tick (cell ∷ cells)) (range_with_len 0 n)) count
+    ∙ ap (λ (ws : List CellWindow). window_at tick (cell ∷ cells) 0 ∷ ws)
+    (map_shift (window_at tick (cell ∷ cells)) (window_at (tick + duration (cell ∷ [])) cells) 0 (length cells - 79)
+    (window_behind tick cell cells))
+
+-- ---- how long fronts of cells last
+
+-- each cell lasts a tick or more
+abbrev pub AllLast : List Cell → Type 0
+AllLast [] = Unit {0}
+AllLast (cell ∷ cells) = (1 ≤ duration (cell ∷ [])) × AllLast cells
+
+pub last_behind : (one two : List Cell) → AllLast (one ++ two) → AllLast two
+last_behind [] two last = last
+last_behind (cell ∷ one) two last = last_behind one two last.1
+
+-- a longer front lasts longer
+pub front_less : (cells : List Cell) (a b : ℕ) → AllLast cells → a < b → b ≤ length cells → duration (take a cells) < duration (take b cells)
+front_less [] a b last less within = absurd (omega arith)
+front_less (cell ∷ cells) a zero last less within = absurd (omega arith)
+front_less (cell ∷ cells) zero (suc b) last less within = omega (arith, duration_of cell (take b cells), last.0)
+front_less (cell ∷ cells) (suc a) (suc b) last less within =
+    omega (
+      arith,
+      duration_of cell (take a cells),
+      duration_of cell (take b cells),
+      front_less cells a b last.1 (omega arith) (omega arith),
+    )
+
+-- a front of two lists of cells
+pub front_most : (n : ℕ) (one two : List Cell) → duration (take n (one ++ two)) ≤ duration one + duration (take (n - length one) two)
+front_most n [] two =
+    let same : n - 0 ≡ n = omega arith in rw same (omega arith)
+front_most zero (cell ∷ one) two = omega arith
+front_most (suc n) (cell ∷ one) two =
+    let fewer : suc n - length (cell ∷ one) ≡ n - length one = omega arith in
+    rw fewer (omega (arith, duration_of cell (take n (one ++ two)), duration_of cell one, front_most n one two))
+
+-- a front is no longer than the cells
+pub front_within : (n : ℕ) (cells : List Cell) → duration (take n cells) ≤ duration cells
+front_within zero cells = omega arith
+front_within (suc n) [] = omega arith
+front_within (suc n) (cell ∷ cells) = omega (arith, duration_of cell (take n cells), duration_of cell cells, front_within n cells)

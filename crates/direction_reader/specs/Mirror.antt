@@ -1,0 +1,68 @@
+-- The same tape from its other end: what a recording and its intervals in the other order of time have in common.
+use Rattle.std.specs.Prelude.{◌≡◌, ℕ, ◌+◌, ◌-◌, List, ◌++◌, length, map, reverse, take, sum}
+use Rattle.std.specs.List.{AllZip}
+use Rattle.biphase.specs.declared.cell.Cell.{Cell}
+use Rattle.biphase.specs.declared.profile.Profile.{Profile}
+use Rattle.biphase.specs.Chain.{flat}
+use Rattle.biphase.specs.Mirror.{mirrored}
+use Rattle.cell_tracker.specs.Kept.{IsPiece, cells_from}
+use Rattle.cell_tracker.specs.Lock.{IsLock}
+use Rattle.ltc_word.specs.Reversal.{reversed_bits}
+use Rattle.tc_address.specs.declared.direction.Direction.{Direction}
+use Rattle.tc_address.specs.declared.direction.Direction.TheVariants.{Forward, Backward}
+use Rattle.tc_address.specs.declared.system.System.{System}
+use Rattle.direction_reader.specs.declared.event.Event.{Event}
+use Rattle.direction_reader.specs.declared.event.Event.TheVariants.{Word, Refused}
+use Rattle.direction_reader.specs.ListEvents.{CellWindow, windows, AreEventsOfWindows}
+
+-- a window in the other order of time, in intervals of this sum: its bits in the other order, and the tick at its other end
+abbrev pub mirror_window : ℕ → CellWindow → CellWindow
+mirror_window total window = record {
+  bits = reversed_bits window.bits;
+  end = total - window.end + window.length;
+  length = window.length;
+}
+
+-- the opposite direction
+abbrev pub turned : Direction → Direction
+turned Forward = Backward
+turned Backward = Forward
+
+-- the one event is the other, met from the other end: the same word or fault in the opposite direction, at the tick of its other end. That tick
+-- and the event's own make up the sum of the intervals and the window's length
+abbrev pub IsMirrorOf : ℕ → Event → Event → Type 0
+IsMirrorOf total (Word direction word tick length) (Word other same there n) =
+    (other ≡ turned direction) × (same ≡ word) × (there + tick ≡ total + length) × (n ≡ length)
+IsMirrorOf total (Refused direction fault tick) (Refused other same there) =
+    (other ≡ turned direction) × (same ≡ fault) × ((length : ℕ) × (there + tick ≡ total + length))
+IsMirrorOf total event other = ⊥
+
+-- between the `first` intervals before and the `last` intervals behind them, the windows of the cells are those of the other cells in the other
+-- order of time, all of them. So the events of both begin with those of these windows, and from the last one to the first one they are the same
+-- words, good or refused, each met from its other end
+pub record TellMirrored (system : System) (intervals : List ℕ) (first last : ℕ) (cells others : List Cell) (events mirrored_events : List Event) : Type 0 where
+  pub between : List Cell
+  pub behind : List Cell
+  pub others_behind : List Cell
+  pub cells_are : cells ≡ between ++ behind
+  pub others_are : others ≡ mirrored between ++ others_behind
+  pub many : first + length (flat between) + last ≡ length intervals
+  pub mine : List Event
+  pub more : List Event
+  pub events_are : events ≡ mine ++ more
+  pub mine_are : AreEventsOfWindows system (windows (sum (take first intervals)) between) mine
+  pub theirs : List Event
+  pub others_more : List Event
+  pub mirrored_are : mirrored_events ≡ theirs ++ others_more
+  pub theirs_are : AreEventsOfWindows system
+      (reverse (map (mirror_window (sum intervals)) (windows (sum (take first intervals)) between))) theirs
+  pub same : AllZip (IsMirrorOf (sum intervals)) mine (reverse theirs)
+
+-- the events of a recording and of its mirror, both within the tolerance, are so between the greater intervals of the first and of the last
+-- unequal pair
+abbrev pub MirrorsTheTape : System → Profile → List ℕ → List Event → List Event → Type 0
+MirrorsTheTape system profile intervals events mirrored_events = (tape other : List Cell) (cut place first last : ℕ)
+    → IsPiece profile intervals tape cut → IsPiece profile (reverse intervals) other place
+    → IsLock profile intervals 0 first → IsLock profile (reverse intervals) 0 last
+    → TellMirrored system intervals first last (cells_from tape cut intervals first)
+    (cells_from other place (reverse intervals) last) events mirrored_events

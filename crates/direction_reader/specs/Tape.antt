@@ -1,0 +1,55 @@
+-- The truth of a reading: what the events of a recording within the tolerance say of the tape.
+use Rattle.std.specs.Prelude.{◌≡◌, ℕ, ◌+◌, ◌<◌, ◌≤◌, List, [], ◌++◌, length, take, sum, count_by, All}
+use Rattle.biphase.specs.declared.cell.Cell.{Cell}
+use Rattle.biphase.specs.declared.profile.Profile.{Profile}
+use Rattle.cell_tracker.specs.FoundAgain.{IsSecondLock}
+use Rattle.cell_tracker.specs.Kept.{IsPiece, IsKept, cells_from}
+use Rattle.cell_tracker.specs.Lock.{IsLock, HasNoLock}
+use Rattle.tc_address.specs.declared.system.System.{System}
+use Rattle.direction_reader.specs.declared.event.Event.{Event}
+use Rattle.direction_reader.specs.declared.event.Event.TheVariants.{Word, Refused, Lost}
+use Rattle.direction_reader.specs.Events.{is_lost}
+use Rattle.direction_reader.specs.ListEvents.{CellWindow, duration, windows, AreEventsOfWindows}
+
+-- the tape's windows from a place on: each 80 neighbouring cells of the tape that lie wholly in the recording and begin there or later. The
+-- recording is a piece of the tape's cells, cut out at the place `cut`
+abbrev pub windows_of_tape : List Cell → ℕ → List ℕ → ℕ → List CellWindow
+windows_of_tape tape cut intervals from = windows (sum (take from intervals)) (cells_from tape cut intervals from)
+
+-- the events tell the tape. Where no two neighbours are unequal there are none. Else, whatever cells within the tolerance the recording is a
+-- piece of, the events are those of all whole words of these cells, good or refused, from the first unequal pair on. And no event of a
+-- recording within the tolerance is a break
+pub record TellsTheTape (system : System) (profile : Profile) (intervals : List ℕ) (events : List Event) : Type 0 where
+  pub nothing : HasNoLock profile intervals 0 → events ≡ []
+  pub words : (tape : List Cell) (cut lock : ℕ) → IsPiece profile intervals tape cut → IsLock profile intervals 0 lock
+      → AreEventsOfWindows system (windows_of_tape tape cut intervals lock) events
+  pub no_break : IsKept profile intervals → count_by is_lost events ≡ 0
+
+-- a word, good or refused, ends before the tick `end`
+abbrev pub EndsBefore : ℕ → Event → Type 0
+EndsBefore end (Word direction word tick length) = tick < end
+EndsBefore end (Refused direction fault tick) = tick < end
+EndsBefore end (Lost interval tick) = Unit {0}
+
+-- a break stands at the place `from` at the latest
+abbrev pub BreaksBy : ℕ → Event → Type 0
+BreaksBy from (Word direction word tick length) = Unit {0}
+BreaksBy from (Refused direction fault tick) = Unit {0}
+BreaksBy from (Lost interval tick) = interval ≤ from
+
+-- from the place `from` on the events are those of the windows of these cells and nothing else: before them come words that end before the first
+-- of these windows, and breaks at this place at the latest
+pub record TellFrom (system : System) (intervals : List ℕ) (from : ℕ) (cells : List Cell) (events : List Event) : Type 0 where
+  pub past : List Event
+  pub later : List Event
+  pub are : events ≡ past ++ later
+  pub words : AreEventsOfWindows system (windows (sum (take from intervals)) cells) later
+  pub no_other_word : 80 ≤ length cells → All (EndsBefore (sum (take from intervals) + duration (take 80 cells))) past
+  pub no_other_break : All (BreaksBy from) past
+
+-- the events find the tape again, whatever stands before it: where the recording ends in a piece of the tape, they are from the greater interval
+-- of the piece's second unequal pair on those of the tape's windows, and nothing else
+abbrev pub FindsTheTape : System → Profile → List ℕ → List Event → Type 0
+FindsTheTape system profile intervals events = (before kept : List ℕ) (tape : List Cell) (cut second : ℕ) → intervals ≡ before ++ kept
+    → IsPiece profile kept tape cut → IsSecondLock profile kept second
+    → TellFrom system intervals (length before + second) (cells_from tape cut kept second) events

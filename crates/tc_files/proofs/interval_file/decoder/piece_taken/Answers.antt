@@ -1,0 +1,11 @@
+use Rattle.std.proofs.Common.{◌≡◌, ◌+◌, ℕ, arith, subst}
+use Rattle.tc_files.specs.IntervalFile.{CompletesAt}
+use Rattle.tc_files.proofs.interval_file.decoder.piece_taken.Goals as goal
+
+-- the tick rate ends with the header
+pub returns-then-place-lt-HEADER_LENGTH-clause-completes : goal.returns-then-place-lt-HEADER_LENGTH-clause-completes
+returns-then-place-lt-HEADER_LENGTH-clause-completes c =
+    let low = c.if-place-lt-HEADER_LENGTH.true in
+    let late = c.requires.late in
+    let last : 12 ≡ c.args.place + 1 = omega arith in
+    subst (λ (n : ℕ). CompletesAt c.whole_header.result n) last c.whole_header.ensures.completes

@@ -1,0 +1,25 @@
+use Rattle.std.proofs.Common.{◌≡◌, ◌+◌, ◌-◌, ◌≤◌, take, length}
+use Rattle.std.specs.Prelude.{IsSome}
+use Rattle.tc_files.specs.Recording.{FitsBytes}
+use Rattle.tc_top.specs.KeptAlong.{FitsBehind, Stands}
+use Rattle.tc_top.proofs.AlongTheInput.{Works}
+use Rattle.tc_top.proofs.along.Along.run.Given as goal
+
+-- the decoder stands as it was; with the intervals so far passed over it would stand for them
+abbrev pub invariant-run : goal.invariant-run
+invariant-run g l = record {
+  within : l.at ≤ length l.bytes;
+  decoder : l.self.decoder ≡ l.fn.self.decoder;
+  choice : l.self.choice ≡ l.fn.self.choice;
+  behind : IsSome l.self.behind;
+  keeps : FitsBehind g.B.Behind.fits l.self.behind l.self.intervals;
+  counts : FitsBytes (record l.fn.self.decoder { taken = l.fn.self.decoder.taken + l.at }) l.self.intervals;
+  works : Works (λ front written. Stands g.B.Behind.stands l.fn.self.decoder l.fn.self.behind l.fn.self.intervals l.fn.self.choice front written)
+      (λ front written. Stands g.B.Behind.stands (record l.fn.self.decoder { taken = l.fn.self.decoder.taken + l.at }) l.self.behind l.self.intervals
+      l.fn.self.choice front written)
+      (g.K.Sink.written l.fn.out) (g.K.Sink.written l.out) (take l.at l.bytes);
+  same : g.K.Sink.faults l.out ≡ g.K.Sink.faults l.fn.out;
+}
+
+abbrev pub decreases-run : goal.decreases-run
+decreases-run g l = length l.bytes - l.at

@@ -1,0 +1,19 @@
+-- `ltc-convert`: a recording in another version of the interval file, or in the same.
+use Rattle.std.specs.Prelude.{◌≡◌, ℕ, List, ◌++◌}
+use Rattle.std.specs.List.{flat_map}
+use Rattle.tc_files.specs.declared.interval_file.header.FileVersion.{FileVersion}
+use Rattle.tc_files.specs.declared.interval_file.header.IntervalHeader.{IntervalHeader}
+use Rattle.tc_files.specs.Grammar.{file_of}
+use Rattle.tc_top.specs.Along.{Printing}
+
+-- the header in this version: the system and the tick rate stay
+abbrev pub in_version : FileVersion → IntervalHeader → IntervalHeader
+in_version version header = record header { version = version }
+
+-- the file of this version with the same system, tick rate and intervals
+abbrev pub IsConverted : FileVersion → IntervalHeader → List ℕ → List ℕ → Type 0
+IsConverted version header intervals written = written ≡ file_of (in_version version header) intervals
+
+-- before the end it is the file of the intervals so far
+abbrev pub conversion : FileVersion → Printing
+conversion version = record { part = IsConverted version; whole = IsConverted version }
