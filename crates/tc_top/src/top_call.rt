@@ -10,6 +10,7 @@ ghost use Rattle.tc_top.specs.Answer.{Exchange, IsRunAnswer, IsPulled, IsWritten
 ghost use Rattle.tc_top.specs.Causes.{SourceCause, OutCause};
 ghost use Rattle.tc_top.specs.Commands.{meaning_of};
 ghost use Rattle.tc_top.specs.LtcFly.{IsMarked};
+ghost use Rattle.tc_top.specs.Made.{MakesWhatIsRead};
 ghost use Rattle.tc_top.specs.Meaning.{Meaning, IsEnd};
 ghost use Rattle.tc_top.specs.Tape.{IsReport, ReportsTheTape};
 ghost use Rattle.tc_top.specs.Made.{MakesWhatIsRead};
