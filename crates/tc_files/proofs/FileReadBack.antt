@@ -1,6 +1,5 @@
 -- The bytes of a file are read as its header and its intervals: the header first, and then one interval after another.
-use Rattle.std.proofs.Common.{◌≡◌, ℕ, ◌+◌, ◌<◌, ◌≤◌, ◌^◌, List, [], ◌∷◌, ◌++◌, length, fold, Some, None, Ok, refl, sym, ◌∙◌, ap, subst, arith, append_assoc, append-nil, length-append}
-use Rattle.std.specs.Prelude.{nat_le, nat_lt, ◌&&◌, if◌then◌else◌}
+use Rattle.std.proofs.Common.{◌≡◌, ℕ, ◌+◌, ◌<◌, ◌≤◌, List, [], ◌∷◌, ◌++◌, length, fold, Some, None, refl, sym, ◌∙◌, ap, subst, arith, append_assoc, append-nil, length-append}
 use Rattle.std.specs.declared.option.Option.{Option}
 use Rattle.std.proofs.lemmas.Bool.{le-leb, lt-ltb}
 use Rattle.std.proofs.lemmas.List.Sums.{fold-append}
@@ -10,7 +9,6 @@ use Rattle.biphase.specs.declared.cell.TheConstants.{MAX_INTERVAL}
 use Rattle.direction_reader.specs.declared.reader.TheConstants.{MAX_INTERVALS}
 use Rattle.tc_address.specs.declared.system.System.{System}
 use Rattle.tc_address.specs.declared.system.System.TheVariants.{F24, F25, F30}
-use Rattle.tc_files.specs.declared.fault.FileFault.{FileFault}
 use Rattle.tc_files.specs.declared.interval_file.decoder.Taken.{Taken}
 use Rattle.tc_files.specs.declared.interval_file.decoder.Taken.TheVariants.{Interval}
 use Rattle.tc_files.specs.declared.interval_file.header.FileVersion.{FileVersion}
@@ -22,8 +20,8 @@ use Rattle.tc_files.specs.IntervalFile.{end, fault_in, header_answer}
 use Rattle.tc_files.specs.IntervalHeader.{IsTickRate, header_bytes}
 use Rattle.tc_files.specs.Piece.{spelling}
 use Rattle.tc_files.specs.Progress.{Progress}
-use Rattle.tc_files.specs.Recording.{Decoding, IsBetween, Recording, decoding_of, end_fault_of, fault_at_end, no_decoding, no_recording, recording_of, with_byte, with_item, with_number, with_taken}
-use Rattle.tc_files.specs.Verdict.{Verdict, good, refused, past_limit}
+use Rattle.tc_files.specs.Recording.{Decoding, IsBetween, Recording, decoding_of, end_fault_of, fault_at_end, no_decoding, no_recording, recording_of, with_byte, with_taken}
+use Rattle.tc_files.specs.Verdict.{good}
 use Rattle.tc_files.proofs.ReadBack.{spelling_back}
 
 -- ---- the header

@@ -1,17 +1,17 @@
 -- The bytes of an interval behind a whole one are the next one: all but the last complete nothing, and the last completes the interval.
-use Rattle.std.proofs.Common.{◌≡◌, ℕ, ◌+◌, ◌-◌, ◌*◌, ◌<◌, ◌≤◌, List, [], ◌∷◌, ◌++◌, length, take, fold, Some, None, Ok, Err, refl, sym, ◌∙◌, ap, subst, arith, Bool, true, false}
-use Rattle.std.specs.Prelude.{nat_le, nat_lt, ◌&&◌, ◌==◌, if◌then◌else◌}
+use Rattle.std.proofs.Common.{◌≡◌, ℕ, ◌+◌, ◌-◌, ◌≤◌, List, [], ◌∷◌, ◌++◌, length, take, fold, None, Ok, Err, refl, sym, ◌∙◌, ap, subst, arith, Bool, true, false}
+use Rattle.std.specs.Prelude.{nat_le, ◌==◌, if◌then◌else◌}
 use Rattle.std.specs.declared.option.Option.{Option}
 use Rattle.std.specs.declared.result.Result.{Result}
-use Rattle.std.proofs.lemmas.Bool.{ne_eqb, lt-ltb, le-ltb}
+use Rattle.std.proofs.lemmas.Bool.{ne_eqb, le-ltb}
 use Rattle.byteorder.specs.Endian.{big_number}
 use Rattle.tc_address.specs.declared.system.System.{System}
 use Rattle.tc_files.specs.declared.fault.FileFault.{FileFault}
 use Rattle.tc_files.specs.declared.interval_file.decoder.Taken.{Taken}
-use Rattle.tc_files.specs.declared.interval_file.decoder.Taken.TheVariants.{Nothing, Interval, Fault}
+use Rattle.tc_files.specs.declared.interval_file.decoder.Taken.TheVariants.{Nothing}
 use Rattle.tc_files.specs.declared.interval_file.header.FileVersion.{FileVersion}
 use Rattle.tc_files.specs.declared.interval_file.header.FileVersion.TheVariants.{One, Two}
-use Rattle.tc_files.specs.IntervalFile.{after, answer, interval_answer, fault_in, kept_part, whole_answer}
+use Rattle.tc_files.specs.IntervalFile.{after, answer, interval_answer, fault_in}
 use Rattle.tc_files.specs.Piece.{interval_in, piece_width}
 use Rattle.tc_files.specs.Progress.{Progress}
 use Rattle.tc_files.specs.Recording.{Recording, Decoding, IsBetween, with_byte, with_number, with_taken}

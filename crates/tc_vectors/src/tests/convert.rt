@@ -1,10 +1,10 @@
 //! Interval files in both versions, and from one into the other.
 use super::reading::THREE_LINES;
-use super::recording::{Pace, THREE_WORDS, file, recorded, three_frames};
+use super::recording::{Pace, THREE_WORDS, recorded, three_frames};
 use super::trial::Trial;
 use std::alloc::{AllocError, Global};
 use std::test::Fail;
-use tc_address::{Direction, System};
+use tc_address::Direction;
 use tc_top::Status;
 
 /// A header of version 1 at 25 frames and 48000 ticks a second, and three intervals at the edges.
@@ -17,10 +17,11 @@ const EDGES_IN_TWO: &[u8] = b"LTCI\x02\x19\x00\x00\x00\x00\xbb\x80\
 
 /// Three frames in version 2: each interval is below 65,536.
 fn three_frames_in_two(alloc: Global) -> Result<Vec<u8>, AllocError> {
-    let mut bytes = file(alloc, System::F25, &[])?;
-    bytes[4] = 2;
+    let mut bytes = Vec::new(alloc);
+    bytes.extend_from_slice(b"LTCI\x02\x19\x00\x00\x00\x00\xbb\x80")?;
     for interval in recorded(alloc, Direction::Forward, Pace::Steady, &THREE_WORDS)? {
-        bytes.extend_from_slice(&(interval as u16).to_be_bytes())?;
+        let [_, _, high, low] = interval.to_be_bytes();
+        bytes.extend_from_slice(&[high, low])?;
     }
     Ok(bytes)
 }
@@ -60,11 +61,13 @@ fn the_edges_of_the_spelling(rt: HostRuntime) -> Result<(), Fail> {
 
 #[test]
 fn a_version_that_is_unknown(rt: HostRuntime) -> Result<(), Fail> {
-    for version in [0, 3, 255] {
-        let mut input = three_frames(rt.alloc())?;
-        input[4] = version;
+    for input in [
+        b"LTCI\x00\x19\x00\x00\x00\x00\xbb\x80",
+        b"LTCI\x03\x19\x00\x00\x00\x00\xbb\x80",
+        b"LTCI\xff\x19\x00\x00\x00\x00\xbb\x80",
+    ] {
         for words in ["ltc-read", "ltc-convert 2"] {
-            Trial::new(words, &input).ends(
+            Trial::new(words, input.as_slice()).ends(
                 &rt,
                 Status::Refused,
                 "",
