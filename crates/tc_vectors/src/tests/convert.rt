@@ -42,7 +42,7 @@ fn there_and_back(rt: HostRuntime) -> Result<(), Fail> {
                 pieces: &pieces,
                 ..Trial::new(words, input)
             };
-            trial.writes(&rt, Status::Done, output, "")?;
+            trial.gives(&rt, Status::Done, output, "")?;
         }
         let trial = Trial {
             pieces: &pieces,
@@ -55,8 +55,8 @@ fn there_and_back(rt: HostRuntime) -> Result<(), Fail> {
 
 #[test]
 fn the_edges_of_the_spelling(rt: HostRuntime) -> Result<(), Fail> {
-    Trial::new("ltc-convert 2", EDGES).writes(&rt, Status::Done, EDGES_IN_TWO, "")?;
-    Trial::new("ltc-convert 1", EDGES_IN_TWO).writes(&rt, Status::Done, EDGES, "")
+    Trial::new("ltc-convert 2", EDGES).gives(&rt, Status::Done, EDGES_IN_TWO, "")?;
+    Trial::new("ltc-convert 1", EDGES_IN_TWO).gives(&rt, Status::Done, EDGES, "")
 }
 
 #[test]
@@ -126,7 +126,7 @@ fn a_file_of_version_two_that_is_cut(rt: HostRuntime) -> Result<(), Fail> {
         } else {
             Status::Refused
         };
-        Trial::new("ltc-convert 1", cut).writes(&rt, status, output, note)?;
+        Trial::new("ltc-convert 1", cut).gives(&rt, status, output, note)?;
     }
     Ok(())
 }
@@ -143,7 +143,7 @@ fn what_stands_where_a_call_fails(rt: HostRuntime) -> Result<(), Fail> {
         let output = EDGES_IN_TWO
             .get(..stands)
             .ok_or("a file that is too short")?;
-        trial.writes(&rt, Status::ReadFault, output, "tc: read fault\n")?;
+        trial.gives(&rt, Status::ReadFault, output, "tc: read fault\n")?;
     }
     for (push, stands) in [(1, 0), (2, 12), (3, 14), (4, 20)] {
         let trial = Trial {
@@ -154,7 +154,7 @@ fn what_stands_where_a_call_fails(rt: HostRuntime) -> Result<(), Fail> {
         let output = EDGES_IN_TWO
             .get(..stands)
             .ok_or("a file that is too short")?;
-        trial.writes(&rt, Status::WriteFault, output, "tc: write fault\n")?;
+        trial.gives(&rt, Status::WriteFault, output, "tc: write fault\n")?;
     }
     for room in [0, 1, 13, 25] {
         let trial = Trial {
@@ -162,7 +162,7 @@ fn what_stands_where_a_call_fails(rt: HostRuntime) -> Result<(), Fail> {
             ..Trial::new("ltc-convert 2", EDGES)
         };
         let output = EDGES_IN_TWO.get(..room).ok_or("a file that is too short")?;
-        trial.writes(&rt, Status::WriteFault, output, "tc: write fault\n")?;
+        trial.gives(&rt, Status::WriteFault, output, "tc: write fault\n")?;
     }
     Ok(())
 }
