@@ -14,7 +14,7 @@ use Rattle.tc_files.specs.Piece.{interval_in, least_in, number_in, piece_width}
 use Rattle.tc_files.proofs.WholeNumbers.{whole_number}
 
 -- an interval has two bytes at least, and six at most
-widths : (version : FileVersion) (bytes : List ℕ) → (2 ≤ piece_width version bytes) × (piece_width version bytes ≤ 6)
+pub widths : (version : FileVersion) (bytes : List ℕ) → (2 ≤ piece_width version bytes) × (piece_width version bytes ≤ 6)
 widths One bytes = (omega arith, omega arith)
 widths Two bytes = by_zero (big_number 2 bytes == 0)
   where
@@ -23,7 +23,7 @@ widths Two bytes = by_zero (big_number 2 bytes == 0)
     by_zero false = (omega arith, omega arith)
 
 -- and one tick at least
-least : (version : FileVersion) (bytes : List ℕ) → 1 ≤ least_in version bytes
+pub least : (version : FileVersion) (bytes : List ℕ) → 1 ≤ least_in version bytes
 least One bytes = omega arith
 least Two bytes = by_zero (big_number 2 bytes == 0)
   where

@@ -18,7 +18,7 @@ use Rattle.tc_files.specs.Recording.{Recording, Decoding, IsBetween, with_byte, 
 use Rattle.tc_files.specs.Verdict.{Verdict, good, refused, past_limit}
 
 -- so many bytes without a fault, with this part of an interval
-abbrev at : ℕ → FileVersion → Option System → List ℕ → Recording → Decoding
+abbrev pub at : ℕ → FileVersion → Option System → List ℕ → Recording → Decoding
 at taken version system part r =
     record { progress = record { taken = taken; version = version; system = system; part = part; fault = None }; recording = r }
 
@@ -32,7 +32,7 @@ nothing_more r = whatever r.verdict
     whatever past_limit = refl
 
 -- these bytes are all of their interval, or not
-abbrev IsAll : FileVersion → List ℕ → Bool → Type 0
+abbrev pub IsAll : FileVersion → List ℕ → Bool → Type 0
 IsAll version piece all = nat_le (piece_width version piece) (length piece) ≡ all
 
 -- a byte that leaves the interval open
@@ -45,7 +45,7 @@ is_kept : (t : ℕ) (version : FileVersion) (system : Option System) (part : Lis
 is_kept t version system part x r late more =
     rw (ne_eqb t 4 (λ e. omega arith), ne_eqb t 5 (λ e. omega arith), le-ltb t 8 (omega arith), le-ltb t 12 late, more) refl
 
-adds : (t : ℕ) (version : FileVersion) (system : Option System) (part : List ℕ) (x : ℕ) (r : Recording) → 12 ≤ t
+pub adds : (t : ℕ) (version : FileVersion) (system : Option System) (part : List ℕ) (x : ℕ) (r : Recording) → 12 ≤ t
     → IsAll version (part ++ x ∷ []) false → with_byte (at t version system part r) x ≡ at (t + 1) version system (part ++ x ∷ []) r
 adds t version system part x r late more =
     let next = at (t + 1) version system (part ++ x ∷ []) r in
@@ -185,7 +185,7 @@ next t Two system r (a ∷ []) late long = absurd (too_short (big_number 2 (a �
 next t Two system r (a ∷ b ∷ more) late long = by_zero (big_number 2 (a ∷ b ∷ []) == 0) t system r a b more late refl long
 
 -- the decoder is what it has between two intervals
-is_between : (d : Decoding) → IsBetween d.progress → d ≡ at d.progress.taken d.progress.version d.progress.system [] d.recording
+pub is_between : (d : Decoding) → IsBetween d.progress → d ≡ at d.progress.taken d.progress.version d.progress.system [] d.recording
 is_between d between =
     let p = d.progress in
     ap (λ (f : Option FileFault). record { progress = record { taken = p.taken; version = p.version; system = p.system; part = p.part; fault = f }; recording = d.recording })
