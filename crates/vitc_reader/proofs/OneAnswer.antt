@@ -63,10 +63,12 @@ faulty : (n : ℕ) (runs : List ℕ) (f : RunFault) → 1 ≤ n → IsRunFault n
 unfolding place_of
 faulty n runs (Run i) some fault = (fault.0, λ k cells are is few. fault.1 k is)
 faulty n runs (TooLong i) some fault =
-    let good = fault.0 in
-    (good, λ k cells are is few.
-        over (total cells) (total good.cells) k fault.1 0 (ap total (one_list n good.before cells good.cells some are good.read))
-        (one_number n good.run k fault.1 some is fault.2) fault.3 few)
+    let good = fault.0 in (
+      good,
+      λ k cells are is few.
+          over (total cells) (total good.cells) k fault.1 0 (ap total (one_list n good.before cells good.cells some are good.read))
+          (one_number n good.run k fault.1 some is fault.2) fault.3 few,
+    )
 
 fits : (all front here back : ℕ) → all ≡ front + (here + back) → all ≤ 90 → front + here ≤ 90
 fits all front here back e few = omega (arith, e, few)

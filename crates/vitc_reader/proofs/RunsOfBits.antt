@@ -77,7 +77,7 @@ by_bits : (fuel m : ℕ) (level : Bool) (bits : ℕ) (none : Bool) → (bits == 
 by_bits fuel m level bits true is width enough few parity low later = no_bits level bits m (eqb-true bits 0 is) low
 by_bits fuel m level bits false is width enough few parity low later =
     let not_none = eqb-false bits 0 is in
-    let some : 1 ≤ bits = elim (cases_lt bits 1) [ | inl lt ↦ absurd (not_none (omega (arith, lt))) | inr le ↦ le ] in
+    let some : 1 ≤ bits = elim (cases_lt bits 1) [ inl lt ↦ absurd (not_none (omega (arith, lt))) | inr le ↦ le ] in
     let k = run_length level bits in
     let wide = pow-le-pow_right {n = 2} (omega arith) {i = m} {j = 90} few in
     let r = run_at level bits (omega (arith, width, wide)) some (parity some) in
