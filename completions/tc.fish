@@ -5,7 +5,6 @@ complete -c tc -n '__fish_is_first_arg' -a ltc-worn -d 'the same with the tolera
 complete -c tc -n '__fish_is_first_arg' -a ltc-fly -d 'the frames, missing ones invented and marked'
 complete -c tc -n '__fish_is_first_arg' -a ltc-mtc -d 'these frames as MIDI Time Code'
 complete -c tc -n '__fish_is_first_arg' -a ltc-make -d 'a recording of a run of labels'
-complete -c tc -n '__fish_is_first_arg' -a ltc-load -d 'a generated recording, read'
 complete -c tc -n '__fish_is_first_arg' -a ltc-convert -d 'a recording in the other version of the file'
 complete -c tc -n '__fish_is_first_arg' -a mtc-read -d 'the labels in MIDI bytes'
 complete -c tc -n '__fish_is_first_arg' -a number -d 'the number of a label'
