@@ -15,6 +15,10 @@ pub mod MadeIsRead
 pub mod OneOutput
 pub mod OneStatus
 pub mod PushedLines
+pub mod PutMore
 pub mod ReportsTheTape
+pub mod SlicedAgain
+pub mod SlicedOn
+pub mod SoundGrows
 pub mod VerdictStays
 pub mod WordsAnswer

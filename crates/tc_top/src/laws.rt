@@ -13,6 +13,7 @@ ghost use Rattle.tc_top.specs.Commands.{meaning_of};
 ghost use Rattle.tc_top.specs.LtcConvert.{in_version};
 ghost use Rattle.tc_top.specs.Meaning.{Meaning};
 ghost use Rattle.tc_top.specs.declared.engines.mtc_read.TheConstants.{MAX_BYTES};
+ghost use Rattle.tc_top.specs.declared.engines.pcm_ltc.TheConstants.{MAX_SAMPLES};
 
 use direction_reader::laws::a_list_has_one_list_of_events;
 use tc_files::laws::a_file_is_read_as_it_was_written;
@@ -31,6 +32,11 @@ pub fn an_input_has_one_output()
 /// `mtc-read` reads a thousand million bytes, and no more.
 pub fn mtc_read_has_this_limit()
     ensures { MAX_BYTES ≡ 1000000000 }
+{}
+
+/// `pcm-ltc` takes a thousand million samples, and no more.
+pub fn pcm_ltc_has_this_limit()
+    ensures { MAX_SAMPLES ≡ 1000000000 }
 {}
 
 /// `ltc-convert` writes the file of the asked version with the system, the tick rate and the intervals
