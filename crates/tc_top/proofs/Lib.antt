@@ -16,6 +16,10 @@ pub mod MidiLimit
 pub mod OneOutput
 pub mod OneStatus
 pub mod PushedLines
+pub mod PutMore
 pub mod ReportsTheTape
+pub mod SlicedAgain
+pub mod SlicedOn
+pub mod SoundGrows
 pub mod VerdictStays
 pub mod WordsAnswer

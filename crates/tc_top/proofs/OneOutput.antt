@@ -9,13 +9,14 @@ use Rattle.direction_reader.specs.ListEvents.{AreEvents}
 use Rattle.tc_files.specs.declared.interval_file.header.IntervalHeader.{IntervalHeader}
 use Rattle.tc_files.specs.Recording.{recording_of}
 use Rattle.tc_words.specs.declared.job.Job.{Job}
-use Rattle.tc_words.specs.declared.job.Job.TheVariants.{LtcRead, LtcWorn, LtcFly, LtcMtc, MtcRead, Number, LabelOf, LtcMake, LtcConvert}
+use Rattle.tc_words.specs.declared.job.Job.TheVariants.{LtcRead, LtcWorn, LtcFly, LtcMtc, MtcRead, Number, LabelOf, LtcMake, LtcConvert, PcmLtc, LtcPcm}
 use Rattle.tc_top.specs.Along.{IsPartBehind, IsWholeBehind}
 use Rattle.tc_top.specs.Commands.{meaning_of}
 use Rattle.tc_top.specs.LtcFly.{lines_of_frames}
 use Rattle.tc_top.specs.LtcMtc.{messages_of_frames}
 use Rattle.tc_files.specs.declared.interval_file.header.FileVersion.{FileVersion}
 use Rattle.tc_top.specs.LtcConvert.{conversion}
+use Rattle.tc_top.specs.LtcPcm.{made_sound}
 use Rattle.tc_top.specs.LtcRead.{report, lines, last_line}
 use Rattle.tc_top.specs.Meaning.{Meaning}
 use Rattle.tc_top.specs.OfFrames.{FrameText, along_frames, frames_of}
@@ -62,6 +63,17 @@ one_conversion_part : (version : FileVersion) (header : Option IntervalHeader) (
 one_conversion_part version None intervals a b x y = x ∙ sym y
 one_conversion_part version (Some header) intervals a b x y = x ∙ sym y
 
+-- and a sound is made in one way
+one_sound : (size : ℕ) (header : Option IntervalHeader) (intervals a b : List ℕ)
+    → IsWholeBehind (made_sound size) header intervals a → IsWholeBehind (made_sound size) header intervals b → a ≡ b
+one_sound size None intervals a b x y = absurd x
+one_sound size (Some header) intervals a b x y = x ∙ sym y
+
+one_sound_part : (size : ℕ) (header : Option IntervalHeader) (intervals a b : List ℕ)
+    → IsPartBehind (made_sound size) header intervals a → IsPartBehind (made_sound size) header intervals b → a ≡ b
+one_sound_part size None intervals a b x y = x ∙ sym y
+one_sound_part size (Some header) intervals a b x y = x ∙ sym y
+
 pub one_output : OneListOfEvents → (job : Job) (input a b : List ℕ) → Meaning.output (meaning_of job) input a
     → Meaning.output (meaning_of job) input b → a ≡ b
 one_output law LtcRead input a b x y = one_whole law _ (recording_of input).header (recording_of input).intervals a b x y
@@ -72,6 +84,8 @@ one_output law (LtcMtc limit) input a b x y =
 one_output law MtcRead input a b x y = x ∙ sym y
 one_output law (LtcMake stripe) input a b x y = x.1 ∙ sym y.1
 one_output law (LtcConvert version) input a b x y = one_conversion version (recording_of input).header (recording_of input).intervals a b x y
+one_output law (PcmLtc slicing) input a b x y = x ∙ sym y
+one_output law (LtcPcm size) input a b x y = one_sound size (recording_of input).header (recording_of input).intervals a b x y
 one_output law (Number label) input a b x y = x.1 ∙ sym y.1
 one_output law (LabelOf label) input a b x y = x.1 ∙ sym y.1
 
@@ -85,5 +99,7 @@ one_part_of law (LtcMtc limit) pulled a b x y =
 one_part_of law MtcRead pulled a b x y = x ∙ sym y
 one_part_of law (LtcMake stripe) pulled a b x y = x ∙ sym y
 one_part_of law (LtcConvert version) pulled a b x y = one_conversion_part version (recording_of pulled).header (recording_of pulled).intervals a b x y
+one_part_of law (PcmLtc slicing) pulled a b x y = x ∙ sym y
+one_part_of law (LtcPcm size) pulled a b x y = one_sound_part size (recording_of pulled).header (recording_of pulled).intervals a b x y
 one_part_of law (Number label) pulled a b x y = x ∙ sym y
 one_part_of law (LabelOf label) pulled a b x y = x ∙ sym y

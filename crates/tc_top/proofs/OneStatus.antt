@@ -9,7 +9,7 @@ use Rattle.tc_files.specs.declared.fault.FileFault.{FileFault}
 use Rattle.tc_files.specs.Recording.{Recording, decoding_of}
 use Rattle.tc_files.specs.Verdict.{Verdict, good, refused, past_limit}
 use Rattle.tc_words.specs.declared.job.Job.{Job}
-use Rattle.tc_words.specs.declared.job.Job.TheVariants.{LtcRead, LtcWorn, LtcFly, LtcMtc, MtcRead, Number, LabelOf, LtcMake, LtcConvert}
+use Rattle.tc_words.specs.declared.job.Job.TheVariants.{LtcRead, LtcWorn, LtcFly, LtcMtc, MtcRead, Number, LabelOf, LtcMake, LtcConvert, PcmLtc, LtcPcm}
 use Rattle.tc_top.specs.declared.status.Status.TheVariants as status
 use Rattle.tc_top.specs.declared.stop.Stop.{Stop}
 use Rattle.tc_top.specs.declared.stop.Stop.TheVariants as stops
@@ -23,7 +23,11 @@ use Rattle.tc_top.specs.Notes.{stop_note}
 use Rattle.tc_top.specs.Status.{status_of}
 use Rattle.tc_top.specs.Stops.{StopsAlong}
 use Rattle.tc_top.specs.declared.engines.mtc_read.TheConstants.{MAX_BYTES}
+use Rattle.tc_words.specs.Slicing.{Slices}
+use Rattle.tc_top.specs.PcmLtc.{along_samples}
+use Rattle.tc_top.specs.declared.engines.pcm_ltc.TheConstants.{MAX_SAMPLES}
 use Rattle.tc_top.proofs.MidiLimit.{never_refused, past_within}
+use Rattle.tc_top.proofs.SlicedOn.{never_refused as no_fault_yet, past_within as past_samples}
 use Rattle.tc_top.proofs.VerdictStays.{more_bytes, past_stays, refused_stays}
 
 -- ---- a job that stopped answers so
@@ -64,6 +68,15 @@ midi_settles = record {
   idle = λ e all. absurd (false≢true (sym e));
 }
 
+-- samples
+samples_settle : (s : Slices) → Settles (along_samples s)
+samples_settle s = record {
+  fault = λ front rest f e. absurd (no_fault_yet MAX_SAMPLES front f e);
+  limit = λ front rest e. past_samples MAX_SAMPLES front rest e;
+  ends = λ bytes f e. refl;
+  idle = λ e all. absurd (false≢true (sym e));
+}
+
 -- nothing
 writes_settles : (text : List ℕ) → Settles (writes text)
 writes_settles text = record {
@@ -81,6 +94,8 @@ settles (LtcMtc limit) = along_settles _
 settles MtcRead = midi_settles
 settles (LtcMake stripe) = writes_settles _
 settles (LtcConvert version) = along_settles _
+settles (PcmLtc slicing) = samples_settle slicing
+settles (LtcPcm size) = along_settles _
 settles (Number label) = writes_settles _
 settles (LabelOf label) = writes_settles _
 

@@ -5,5 +5,7 @@ pub(crate) mod ltc_convert;
 pub(crate) mod ltc_fly;
 pub(crate) mod ltc_make;
 pub(crate) mod ltc_mtc;
+pub(crate) mod ltc_pcm;
 pub(crate) mod ltc_read;
 pub(crate) mod mtc_read;
+pub(crate) mod pcm_ltc;

@@ -18,6 +18,7 @@ ghost use Rattle.tc_top.specs.LtcRead.{last_line, lines};
 ghost use Rattle.tc_top.specs.Made.{made, made_cells, made_events, made_header};
 ghost use Rattle.tc_top.specs.Meaning.{Meaning, IsInput};
 ghost use Rattle.tc_top.specs.declared.engines.mtc_read.TheConstants.{MAX_BYTES};
+ghost use Rattle.tc_top.specs.declared.engines.pcm_ltc.TheConstants.{MAX_SAMPLES};
 
 use biphase::laws::shaped_cells_are_a_chain;
 use direction_reader::laws::{a_list_has_one_list_of_events, played_words_are_read};
@@ -39,6 +40,11 @@ pub fn an_input_has_one_output()
 /// `mtc-read` reads a thousand million bytes, and no more.
 pub fn mtc_read_has_this_limit()
     ensures { MAX_BYTES ≡ 1000000000 }
+{}
+
+/// `pcm-ltc` takes a thousand million samples, and no more.
+pub fn pcm_ltc_has_this_limit()
+    ensures { MAX_SAMPLES ≡ 1000000000 }
 {}
 
 /// Each input that `ltc-convert` takes whole is a file, and it writes the file of the asked version with

@@ -26,6 +26,7 @@ mod engine;
 mod engines;
 mod flight;
 mod frame_sink;
+mod gathered;
 mod intake;
 pub mod laws;
 mod making;

@@ -12,6 +12,7 @@ ghost use Rattle.tc_top.specs.Commands.{meaning_of};
 ghost use Rattle.tc_top.specs.LtcFly.{IsMarked};
 ghost use Rattle.tc_top.specs.Made.{MakesWhatIsRead};
 ghost use Rattle.tc_top.specs.Meaning.{Meaning, IsEnd};
+ghost use Rattle.tc_top.specs.SoundAgain.{SoundsTheIntervals};
 ghost use Rattle.tc_top.specs.Tape.{IsReport, ReportsTheTape};
 ghost use Rattle.tc_top.specs.Made.{MakesWhatIsRead};
 
@@ -70,6 +71,9 @@ pub fn run<S: Source, K: Sink, N: Sink>(
 
     // A recording that was made is read back, frame by frame.
     ensures read { (job : Job) → answer_to (map string_bytes words.now) ≡ Ok job → result ≡ Status.Done → MakesWhatIsRead job }
+
+    // Sound that was made is sliced into the same intervals.
+    ensures sound { (job : Job) → answer_to (map string_bytes words.now) ≡ Ok job → result ≡ Status.Done → SoundsTheIntervals job }
 {
     match read_words(alloc, words) {
         Ok(job) => stream(&job, source, out, notes),

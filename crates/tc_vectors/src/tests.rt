@@ -7,5 +7,6 @@ mod made;
 mod midi;
 mod reading;
 mod recording;
+mod sound;
 mod trial;
 mod words;

@@ -6,6 +6,7 @@ use Rattle.tc_words.specs.declared.job.Job.TheVariants as jobs
 use Rattle.tc_words.specs.declared.commands.TheConstants as commands
 use Rattle.tc_words.specs.declared.fault.WordsFault.{WordsFault}
 use Rattle.tc_words.specs.declared.fault.WordsFault.TheVariants.{Dash, Command, CountOfWords, Value}
+use Rattle.tc_words.specs.Sound.{amplitude_in, following, in_samples, in_ticks}
 use Rattle.tc_words.specs.Tape.{at_one_length, moving}
 use Rattle.tc_words.specs.Values.{Word, count_in, limit_in, numbered, spelled, version_in}
 use Rattle.command_words.specs.CommandLine.{begins_with_dash}
@@ -48,6 +49,18 @@ abbrev pub ltc_convert : List Word → Answer
 ltc_convert (version ∷ []) = with_value 1 (version_in version) (λ v. Ok (jobs.LtcConvert v))
 ltc_convert _ = Err CountOfWords
 
+-- `pcm-ltc SYSTEM RATE THRESHOLD [FINENESS [follow]]`: without the last words the ticks are samples, and the threshold stays where it is
+abbrev pub pcm_ltc : List Word → Answer
+pcm_ltc (system ∷ rate ∷ threshold ∷ []) = in_samples system rate threshold
+pcm_ltc (system ∷ rate ∷ threshold ∷ fineness ∷ []) = in_ticks system rate threshold fineness
+pcm_ltc (system ∷ rate ∷ threshold ∷ fineness ∷ follow ∷ []) = following system rate threshold fineness follow
+pcm_ltc _ = Err CountOfWords
+
+-- `ltc-pcm LEVEL`
+abbrev pub ltc_pcm : List Word → Answer
+ltc_pcm (level ∷ []) = with_value 1 (amplitude_in level) (λ n. Ok (jobs.LtcPcm n))
+ltc_pcm _ = Err CountOfWords
+
 -- `number COUNT LABEL`
 abbrev pub number : List Word → Answer
 number (count ∷ label ∷ []) =
@@ -72,6 +85,8 @@ job_of command values =
     else if bytes_eq command commands.MTC_READ.now then no_values jobs.MtcRead values
     else if bytes_eq command commands.LTC_MAKE.now then ltc_make values
     else if bytes_eq command commands.LTC_CONVERT.now then ltc_convert values
+    else if bytes_eq command commands.PCM_LTC.now then pcm_ltc values
+    else if bytes_eq command commands.LTC_PCM.now then ltc_pcm values
     else if bytes_eq command commands.NUMBER.now then number values
     else if bytes_eq command commands.LABEL.now then label_of values
     else Err Command

@@ -1,4 +1,6 @@
 pub mod Job
+pub mod Slicing
+pub mod Sound
 pub mod Stripe
 pub mod Tape
 pub mod Values

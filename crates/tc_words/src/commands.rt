@@ -22,6 +22,12 @@ pub const LTC_MAKE: &str = "ltc-make";
 /// The word of `Job::LtcConvert`.
 pub const LTC_CONVERT: &str = "ltc-convert";
 
+/// The word of `Job::PcmLtc`.
+pub const PCM_LTC: &str = "pcm-ltc";
+
+/// The word of `Job::LtcPcm`.
+pub const LTC_PCM: &str = "ltc-pcm";
+
 /// The word of `Job::Number`.
 pub const NUMBER: &str = "number";
 

@@ -1,4 +1,6 @@
 //! What the words name. Next: `tc_top`, which does it.
+use crate::amplitude::Amplitude;
+use crate::slicing::Slicing;
 use crate::stripe::Stripe;
 use tc_address::Label;
 use tc_files::FileVersion;
@@ -23,6 +25,11 @@ pub enum Job {
     LtcMake { stripe: Stripe },
     /// `ltc-convert VERSION`: reads an interval file, and writes it in this version.
     LtcConvert { version: FileVersion },
+    /// `pcm-ltc SYSTEM RATE THRESHOLD [FINENESS [follow]]`: reads samples of sound, and writes an interval
+    /// file of the distances of their crossings.
+    PcmLtc { slicing: Slicing },
+    /// `ltc-pcm LEVEL`: reads an interval file, and writes it as samples of sound.
+    LtcPcm { amplitude: Amplitude },
     /// `number COUNT LABEL`: writes how many labels of the count stand before the label in the day.
     Number { label: Label },
     /// `label COUNT NUMBER`: writes the label of that number of the day.

@@ -1,6 +1,7 @@
 //! The words of the commands, letter by letter: what holds the constants of `commands`.
-ghost use Rattle.std.specs.Prelude.{◌≡◌, codes};
+ghost use Rattle.std.specs.Prelude.{◌≡◌, ◌-◌, ◌^◌, codes};
 ghost use Rattle.tc_words.specs.declared.commands.TheConstants as commands;
+ghost use Rattle.tc_words.specs.declared.slicing.TheConstants.{MAX_FINENESS, MAX_SIZE};
 ghost use Rattle.tc_words.specs.declared.stripe.TheConstants.{MAX_FRAMES, MAX_TICK_RATE};
 
 /// Each command has its word.
@@ -12,12 +13,17 @@ pub fn each_command_has_its_word()
     ensures mtc_read { commands.MTC_READ.now ≡ codes "mtc-read" }
     ensures ltc_make { commands.LTC_MAKE.now ≡ codes "ltc-make" }
     ensures ltc_convert { commands.LTC_CONVERT.now ≡ codes "ltc-convert" }
+    ensures pcm_ltc { commands.PCM_LTC.now ≡ codes "pcm-ltc" }
+    ensures ltc_pcm { commands.LTC_PCM.now ≡ codes "ltc-pcm" }
     ensures number { commands.NUMBER.now ≡ codes "number" }
     ensures label { commands.LABEL.now ≡ codes "label" }
 {}
 
-/// A run makes a million frames at most, in ticks of a clock of a hundred million a second at most.
+/// A run makes a million frames at most, in ticks of a clock of a hundred million a second at most. A
+/// sample has 64 ticks at most, and a size of 15 bits.
 pub fn the_limits_are_these()
     ensures frames { MAX_FRAMES ≡ 1000000 }
     ensures tick_rate { MAX_TICK_RATE ≡ 100000000 }
+    ensures fineness { MAX_FINENESS ≡ 64 }
+    ensures size { MAX_SIZE ≡ 2 ^ 15 - 1 }
 {}

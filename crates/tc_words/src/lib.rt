@@ -7,7 +7,7 @@
 //! the order of `WordsFault`, and want of memory is an answer of its own (`specs/Job.antt`,
 //! `answer_to`).
 //!
-//! Read `commands`, `fault`, `job`, `stripe`, `tape`, `values` and `words`, with `specs/Job.antt` and `specs/Values.antt`
+//! Read `commands`, `fault`, `job`, `stripe`, `tape`, `slicing`, `amplitude`, `sound`, `values` and `words`, with `specs/Job.antt` and `specs/Values.antt`
 //! beside them: `words` and `Job.antt` have the same rows. `tc_top` stands on this crate.
 //!
 //! A later command joins in these places:
@@ -18,17 +18,22 @@
 //! - its lines in the tables of `tests`.
 #![tactic(auto)]
 
+mod amplitude;
 pub mod commands;
 mod fault;
 mod job;
 pub mod laws;
+mod slicing;
+mod sound;
 mod stripe;
 mod tape;
 mod values;
 mod words;
 
+pub use amplitude::Amplitude;
 pub use fault::WordsFault;
 pub use job::Job;
+pub use slicing::{MAX_FINENESS, MAX_SIZE, Slicing};
 pub use stripe::{MAX_FRAMES, MAX_TICK_RATE, Stripe};
 pub use words::read_words;
 

@@ -1,5 +1,6 @@
 //! Words as they are typed, and what they say.
 use super::*;
+use pcm_front::Threshold;
 use std::alloc::{AllocError, Global};
 use std::test::Fail;
 use tc_address::text;
@@ -69,6 +70,23 @@ fn the_first_fault_is_told(rt: HostRuntime) -> Result<(), Fail> {
         ("ltc-convert", WordsFault::CountOfWords),
         ("ltc-convert 3", WordsFault::Value(1)),
         ("ltc-convert 01", WordsFault::Value(1)),
+        ("pcm-ltc 25 48000", WordsFault::CountOfWords),
+        ("pcm-ltc 30d 0 0 0 follows", WordsFault::Value(1)),
+        ("pcm-ltc 25 100000001 0 0 follows", WordsFault::Value(2)),
+        ("pcm-ltc 25 48000 32768 0 follows", WordsFault::Value(3)),
+        ("pcm-ltc 25 48000 0", WordsFault::Value(3)),
+        ("pcm-ltc 25 48000 1000 65 follows", WordsFault::Value(4)),
+        ("pcm-ltc 25 48000 1000 0", WordsFault::Value(4)),
+        ("pcm-ltc 25 1562501 1000 64", WordsFault::Value(4)),
+        ("pcm-ltc 25 100000000 1000 2", WordsFault::Value(4)),
+        ("pcm-ltc 25 48000 1000 16 Follow", WordsFault::Value(5)),
+        (
+            "pcm-ltc 25 48000 1000 16 follow 1",
+            WordsFault::CountOfWords,
+        ),
+        ("ltc-pcm", WordsFault::CountOfWords),
+        ("ltc-pcm 0", WordsFault::Value(1)),
+        ("ltc-pcm 32768", WordsFault::Value(1)),
         ("number 30d", WordsFault::CountOfWords),
         ("number 29 00:01:00;02", WordsFault::Value(1)),
         ("number 30d 00:01:00;00", WordsFault::Value(2)),
@@ -93,6 +111,7 @@ fn label_text(job: &Job) -> Option<[u8; 11]> {
     match job {
         Job::LtcRead | Job::LtcWorn | Job::LtcFly { .. } | Job::LtcConvert { .. } => None,
         Job::LtcMtc { .. } | Job::MtcRead => None,
+        Job::PcmLtc { .. } | Job::LtcPcm { .. } => None,
         Job::LtcMake { stripe } => Some(text(&stripe.label())),
         Job::Number { label } => Some(text(label)),
         Job::LabelOf { label } => Some(text(label)),
@@ -127,6 +146,37 @@ fn jobs_are_read(rt: HostRuntime) -> Result<(), Fail> {
             Ok(Job::LtcConvert { version }),
             "at {line}"
         );
+    }
+    for (line, threshold, fineness, tick_rate) in [
+        ("pcm-ltc 24 1 1", Threshold::Fixed(1), 1, 1),
+        ("pcm-ltc 25 48000 1000", Threshold::Fixed(1_000), 1, 48_000),
+        (
+            "pcm-ltc 30 1562500 32767 64",
+            Threshold::Fixed(32_767),
+            64,
+            100_000_000,
+        ),
+        (
+            "pcm-ltc 25 48000 250 16 follow",
+            Threshold::Follow(250),
+            16,
+            768_000,
+        ),
+    ] {
+        let words = typed(alloc, line)?;
+        let Ok(Job::PcmLtc { slicing }) = read_words(alloc, &words) else {
+            return Err("no slicing".into());
+        };
+        assert_eq!(rt; slicing.threshold(), threshold, "at {line}");
+        assert_eq!(rt; slicing.fineness(), fineness, "at {line}");
+        assert_eq!(rt; slicing.tick_rate(), tick_rate, "at {line}");
+    }
+    for (line, size) in [("ltc-pcm 1", 1), ("ltc-pcm 32767", 32_767)] {
+        let words = typed(alloc, line)?;
+        let Ok(Job::LtcPcm { amplitude }) = read_words(alloc, &words) else {
+            return Err("no sound".into());
+        };
+        assert_eq!(rt; amplitude.size(), size, "at {line}");
     }
     for (line, wanted) in [
         ("label 30 2591999", *b"23:59:59:29"),

@@ -2,11 +2,12 @@
 //! `job`.
 ghost use Rattle.std.specs.Prelude.{◌≡◌, ◌⊎◌, map, position, string_bytes, alloc_error};
 ghost use Rattle.command_words.specs.CommandLine.{begins_with_dash};
-ghost use Rattle.tc_words.specs.Job.{answer_to, without_dashes, job_of, no_values, ltc_fly, ltc_mtc, number, label_of, ltc_make, ltc_convert};
+ghost use Rattle.tc_words.specs.Job.{answer_to, without_dashes, job_of, no_values, ltc_fly, ltc_mtc, number, label_of, ltc_make, ltc_convert, pcm_ltc, ltc_pcm};
 
 use crate::commands;
 use crate::fault::WordsFault;
 use crate::job::Job;
+use crate::sound::{amplitude_in, following, in_samples, in_ticks};
 use crate::tape::{at_one_length, moving};
 use crate::values::{count_in, limit_in, numbered, spelled, version_in};
 use command_words::CommandLine;
@@ -62,6 +63,8 @@ fn job_of(command: &str, values: &[&str]) -> Result<Job, WordsFault>
         commands::MTC_READ => no_values(values, Job::MtcRead),
         commands::LTC_MAKE => ltc_make(values),
         commands::LTC_CONVERT => ltc_convert(values),
+        commands::PCM_LTC => pcm_ltc(values),
+        commands::LTC_PCM => ltc_pcm(values),
         commands::NUMBER => number(values),
         commands::LABEL => label_of(values),
         _ => Err(WordsFault::Command),
@@ -133,6 +136,31 @@ fn ltc_convert(values: &[&str]) -> Result<Job, WordsFault>
     };
     let version = version_in(version).ok_or(WordsFault::Value(1))?;
     Ok(Job::LtcConvert { version })
+}
+
+// `pcm-ltc SYSTEM RATE THRESHOLD [FINENESS [follow]]`
+fn pcm_ltc(values: &[&str]) -> Result<Job, WordsFault>
+    ensures { result ≡ pcm_ltc (map (λ v. v.now) values.now) }
+{
+    match values {
+        [system, rate, threshold] => in_samples(system, rate, threshold),
+        [system, rate, threshold, fineness] => in_ticks(system, rate, threshold, fineness),
+        [system, rate, threshold, fineness, follow] => {
+            following(system, rate, threshold, fineness, follow)
+        }
+        _ => Err(WordsFault::CountOfWords),
+    }
+}
+
+// `ltc-pcm LEVEL`
+fn ltc_pcm(values: &[&str]) -> Result<Job, WordsFault>
+    ensures { result ≡ ltc_pcm (map (λ v. v.now) values.now) }
+{
+    let [level] = values else {
+        return Err(WordsFault::CountOfWords);
+    };
+    let amplitude = amplitude_in(level).ok_or(WordsFault::Value(1))?;
+    Ok(Job::LtcPcm { amplitude })
 }
 
 // `number COUNT LABEL`
