@@ -12,6 +12,7 @@ ghost use Rattle.tc_words.specs.declared.job.Job.{Job};
 ghost use Rattle.tc_top.specs.Commands.{meaning_of};
 ghost use Rattle.tc_top.specs.LtcConvert.{in_version};
 ghost use Rattle.tc_top.specs.Meaning.{Meaning};
+ghost use Rattle.tc_top.specs.declared.chasing.TheConstants.{MAX_SCRIPT};
 ghost use Rattle.tc_top.specs.declared.engines.mtc_read.TheConstants.{MAX_BYTES};
 
 use direction_reader::laws::a_list_has_one_list_of_events;
@@ -31,6 +32,11 @@ pub fn an_input_has_one_output()
 /// `mtc-read` reads a thousand million bytes, and no more.
 pub fn mtc_read_has_this_limit()
     ensures { MAX_BYTES ≡ 1000000000 }
+{}
+
+/// A script of `chase` has a mebibyte at most.
+pub fn a_script_has_this_limit()
+    ensures { MAX_SCRIPT ≡ 1048576 }
 {}
 
 /// `ltc-convert` writes the file of the asked version with the system, the tick rate and the intervals
