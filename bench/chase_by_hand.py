@@ -69,13 +69,14 @@ class Chase:
         return self.state, error, order, loss
 
 
-def any_rows(rng, labels, rows):
-    """Rows of anything: a command, its target, a master with its motion, a slip."""
-    for _ in range(rows):
-        command = rng.choice(["", "", "", "play", "play", "wait", "locate"])
-        target = rng.randrange(len(labels)) if command == "locate" else None
-        master = (rng.randrange(len(labels)), rng.choice([80, -80])) if rng.random() < 0.8 else None
-        yield command, target, master, rng.choice([0, 8, -8, 9, 40, 41, -1_000_000, rng.randrange(-60, 60)])
+def any_row(rng, labels, position):
+    """A row of anything: a command, its target, a master with its motion, a slip. The master is mostly near the transport."""
+    command = rng.choice(["", "", "", "play", "play", "wait", "locate"])
+    target = rng.randrange(len(labels)) if command == "locate" else None
+    near = (position // 80 + rng.choice([0, 0, 0, 1, -1, 30])) % len(labels)
+    number = near if rng.random() < 0.9 else rng.randrange(len(labels))
+    master = (number, rng.choice([80, -80])) if rng.random() < 0.8 else None
+    return command, target, master, rng.choice([0, 8, -8, 9, 40, 41, -1_000_000, rng.randrange(-60, 60)])
 
 
 def steady_rows(rng, labels, number, rows):
@@ -107,15 +108,14 @@ def main():
         count = rng.choice(list(RATES))
         labels = days[count]
         start = rng.choice([0, len(labels) - 1, rng.randrange(len(labels))])
-        rows = list(any_rows(rng, labels, rng.randrange(12)))
-        steady_from = len(rows)
-        if n % 4:
-            near = (start + rng.randint(-60, 60)) % len(labels)
-            rows += steady_rows(rng, labels, near, rng.randrange(1, 60))
         chase = Chase(80 * len(labels), 80 * start)
-        wanted, held, lost = [], None, 0
-        for i, row in enumerate(rows):
+        steady_from, steady = rng.randrange(12), []
+        rows, wanted, held, lost = [], [], None, 0
+        while len(rows) < steady_from or steady:
+            i = len(rows)
+            row = any_row(rng, labels, chase.position) if i < steady_from else steady.pop(0)
             state, error, order, loss = chase.step(*row)
+            rows.append(row)
             lost += loss != "none"
             place = f"{labels[chase.position // 80]}+{chase.position % 80:02}"
             wanted.append(f"step {i + 1} {state} error {error} order {order} loss {loss} at {place}\n")
@@ -125,6 +125,9 @@ def main():
                 locked_rows += 1
             elif i >= steady_from and state == "locked":
                 held = 0
+            if i + 1 == steady_from and n % 4:
+                begins = (chase.position // 80 + rng.randint(-60, 60)) % len(labels)
+                steady = list(steady_rows(rng, labels, begins, rng.randrange(1, 60)))
         wanted.append(f"end steps {len(rows)} losses {lost}\n")
         losses += lost
         script = "".join(fields_of(labels, row) + "\n" for row in rows)
