@@ -29,8 +29,13 @@ all_is_left law place rows =
 pub a_line_more : (place : Loop) (row : ScriptRow) (rows : List ScriptRow) (steps losses : ℕ)
     → text_left (record { place = place; rows = row ∷ rows; steps = steps; losses = losses; is_ended = false })
     ≡ step_line place.chase.count (steps + 1) (traced place (row_of row))
-    ++ text_left (record { place = after_row place (row_of row); rows = rows; steps = steps + 1;
-      losses = losses + cond (loses (traced place (row_of row))) 1 0; is_ended = false })
+    ++ text_left (record {
+      place = after_row place (row_of row);
+      rows = rows;
+      steps = steps + 1;
+      losses = losses + cond (loses (traced place (row_of row))) 1 0;
+      is_ended = false;
+    })
 unfolding step_lines trace
 a_line_more place row rows steps losses =
     let line = traced place (row_of row) in

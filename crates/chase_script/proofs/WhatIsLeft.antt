@@ -48,9 +48,9 @@ takes_some (d ∷ rest) c s fields field read e =
     elim (one_of (is_end (step default_config s c).1) _ _ read e) [
       | inl here ↦ let same : (d ∷ rest) ≡ read.2 = ap rest_of here in rw (← same) (omega arith)
       | inr later ↦
-        let fewer = takes_some rest d (step default_config s c).0 (fields_after (step default_config s c).1 fields field)
-        (field_after (step default_config s c).1 c field) read later in
-        omega (arith, fewer)
+          let fewer = takes_some rest d (step default_config s c).0 (fields_after (step default_config s c).1 fields field)
+          (field_after (step default_config s c).1 c field) read later in
+          omega (arith, fewer)
     ]
 
 -- ---- what is left

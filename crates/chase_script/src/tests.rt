@@ -6,7 +6,8 @@ use tc_address::{Count, Direction};
 
 #[test]
 fn rows_of_a_script(rt: HostRuntime) -> Result<(), Fail> {
-    let script = b"play,,00:00:00;00,forward,-40\nlocate,00:01:00;02,,,\n\nwait,,23:59:59;29,backward,1000000";
+    let script =
+        b"play,,00:00:00;00,forward,-40\nlocate,00:01:00;02,,,\n\nwait,,23:59:59;29,backward,1000000";
     let Ok(rows) = script_rows(rt.alloc(), script, Count::Drop30) else {
         return Err("the script is refused".into());
     };

@@ -155,7 +155,8 @@ plays_backward laws system word n s = record {
   marked = true_of_one _ (at-low_bits 80 (reversed_bits n) 0 (omega arith) ∙ laws.turned n 0 (omega arith) ∙ set_79 n s.sync);
 }
 
-pub plays : WordLaws → (direction : Direction) (system : System) (word : LtcWord) (n : ℕ) → Spells system word n → Plays direction (low_bits 80 (in_time direction n))
+pub plays : WordLaws → (direction : Direction) (system : System) (word : LtcWord) (n : ℕ) → Spells system word n
+    → Plays direction (low_bits 80 (in_time direction n))
 plays laws Forward system word n s = plays_forward laws system word n s
 plays laws Backward system word n s = plays_backward laws system word n s
 
@@ -170,13 +171,15 @@ at_right w r i count = let e : 80 + i - 80 ≡ i = omega arith in get_or-append_
 one_at : (list : List Bool) (i j : ℕ) → Twelve list i → i ≤ j → j < i + 12 → at list j ≡ true
 one_at list i j ones le lt = let e : i + (j - i) ≡ j = omega arith in rw e at (ones (j - i) (omega arith))
 
-pub only_sync : (direction : Direction) (w r : List Bool) → Plays direction w → Starts r → (i : ℕ) → i < 80 → Twelve (w ++ r) i → i ≡ sync_place direction
+pub only_sync : (direction : Direction) (w r : List Bool) → Plays direction w → Starts r → (i : ℕ) → i < 80 → Twelve (w ++ r) i
+    → i ≡ sync_place direction
 only_sync direction w r p starts i lt ones = elim (cases_lt i 69) [
   | inl low ↦ p.inside i (omega arith) (λ k less. sym (at_left w r (i + k) p.count (omega arith)) ∙ ones k less)
   | inr high ↦ elim (cases_lt i 77) [
     | inl mid ↦ let left : (j : ℕ) → 76 ≤ j → j < 80 → at w j ≡ true =
         λ j le less. sym (at_left w r j p.count less) ∙ one_at (w ++ r) i j ones (omega arith) (omega arith) in
-        absurd (p.ends (left 76 (omega arith) (omega arith)) (left 77 (omega arith) (omega arith)) (left 78 (omega arith) (omega arith)) (left 79 (omega arith) (omega arith)))
+        absurd (p.ends (left 76 (omega arith) (omega arith)) (left 77 (omega arith) (omega arith))
+        (left 78 (omega arith) (omega arith)) (left 79 (omega arith) (omega arith)))
     | inr late ↦ let right : (j : ℕ) → j < 4 → at r j ≡ true =
         λ j less. sym (at_right w r j p.count) ∙ one_at (w ++ r) i (80 + j) ones (omega arith) (omega arith) in
         absurd (starts (right 0 (omega arith)) (right 1 (omega arith)) (right 2 (omega arith)) (right 3 (omega arith)))
@@ -186,18 +189,30 @@ only_sync direction w r p starts i lt ones = elim (cases_lt i 69) [
 -- ---- candidates
 
 ones_of_sync : (n k : ℕ) → EndsInSync n → k < 12 → bit_at n (66 + k) ≡ 1
-ones_of_sync n zero sync lt = let e = sync_bit n 2 in let m = n / 2 ^ 64 in let h : m % 2 ^ 16 ≡ 49148 = sync in omega (arith, e)
-ones_of_sync n (suc zero) sync lt = let e = sync_bit n 3 in let m = n / 2 ^ 64 in let h : m % 2 ^ 16 ≡ 49148 = sync in omega (arith, e)
-ones_of_sync n (suc (suc zero)) sync lt = let e = sync_bit n 4 in let m = n / 2 ^ 64 in let h : m % 2 ^ 16 ≡ 49148 = sync in omega (arith, e)
-ones_of_sync n (suc (suc (suc zero))) sync lt = let e = sync_bit n 5 in let m = n / 2 ^ 64 in let h : m % 2 ^ 16 ≡ 49148 = sync in omega (arith, e)
-ones_of_sync n (suc (suc (suc (suc zero)))) sync lt = let e = sync_bit n 6 in let m = n / 2 ^ 64 in let h : m % 2 ^ 16 ≡ 49148 = sync in omega (arith, e)
-ones_of_sync n (suc (suc (suc (suc (suc zero))))) sync lt = let e = sync_bit n 7 in let m = n / 2 ^ 64 in let h : m % 2 ^ 16 ≡ 49148 = sync in omega (arith, e)
-ones_of_sync n (suc (suc (suc (suc (suc (suc zero)))))) sync lt = let e = sync_bit n 8 in let m = n / 2 ^ 64 in let h : m % 2 ^ 16 ≡ 49148 = sync in omega (arith, e)
-ones_of_sync n (suc (suc (suc (suc (suc (suc (suc zero))))))) sync lt = let e = sync_bit n 9 in let m = n / 2 ^ 64 in let h : m % 2 ^ 16 ≡ 49148 = sync in omega (arith, e)
-ones_of_sync n (suc (suc (suc (suc (suc (suc (suc (suc zero)))))))) sync lt = let e = sync_bit n 10 in let m = n / 2 ^ 64 in let h : m % 2 ^ 16 ≡ 49148 = sync in omega (arith, e)
-ones_of_sync n (suc (suc (suc (suc (suc (suc (suc (suc (suc zero))))))))) sync lt = let e = sync_bit n 11 in let m = n / 2 ^ 64 in let h : m % 2 ^ 16 ≡ 49148 = sync in omega (arith, e)
-ones_of_sync n (suc (suc (suc (suc (suc (suc (suc (suc (suc (suc zero)))))))))) sync lt = let e = sync_bit n 12 in let m = n / 2 ^ 64 in let h : m % 2 ^ 16 ≡ 49148 = sync in omega (arith, e)
-ones_of_sync n (suc (suc (suc (suc (suc (suc (suc (suc (suc (suc (suc zero))))))))))) sync lt = let e = sync_bit n 13 in let m = n / 2 ^ 64 in let h : m % 2 ^ 16 ≡ 49148 = sync in omega (arith, e)
+ones_of_sync n zero sync lt =
+    let e = sync_bit n 2 in let m = n / 2 ^ 64 in let h : m % 2 ^ 16 ≡ 49148 = sync in omega (arith, e)
+ones_of_sync n (suc zero) sync lt =
+    let e = sync_bit n 3 in let m = n / 2 ^ 64 in let h : m % 2 ^ 16 ≡ 49148 = sync in omega (arith, e)
+ones_of_sync n (suc (suc zero)) sync lt =
+    let e = sync_bit n 4 in let m = n / 2 ^ 64 in let h : m % 2 ^ 16 ≡ 49148 = sync in omega (arith, e)
+ones_of_sync n (suc (suc (suc zero))) sync lt =
+    let e = sync_bit n 5 in let m = n / 2 ^ 64 in let h : m % 2 ^ 16 ≡ 49148 = sync in omega (arith, e)
+ones_of_sync n (suc (suc (suc (suc zero)))) sync lt =
+    let e = sync_bit n 6 in let m = n / 2 ^ 64 in let h : m % 2 ^ 16 ≡ 49148 = sync in omega (arith, e)
+ones_of_sync n (suc (suc (suc (suc (suc zero))))) sync lt =
+    let e = sync_bit n 7 in let m = n / 2 ^ 64 in let h : m % 2 ^ 16 ≡ 49148 = sync in omega (arith, e)
+ones_of_sync n (suc (suc (suc (suc (suc (suc zero)))))) sync lt =
+    let e = sync_bit n 8 in let m = n / 2 ^ 64 in let h : m % 2 ^ 16 ≡ 49148 = sync in omega (arith, e)
+ones_of_sync n (suc (suc (suc (suc (suc (suc (suc zero))))))) sync lt =
+    let e = sync_bit n 9 in let m = n / 2 ^ 64 in let h : m % 2 ^ 16 ≡ 49148 = sync in omega (arith, e)
+ones_of_sync n (suc (suc (suc (suc (suc (suc (suc (suc zero)))))))) sync lt =
+    let e = sync_bit n 10 in let m = n / 2 ^ 64 in let h : m % 2 ^ 16 ≡ 49148 = sync in omega (arith, e)
+ones_of_sync n (suc (suc (suc (suc (suc (suc (suc (suc (suc zero))))))))) sync lt =
+    let e = sync_bit n 11 in let m = n / 2 ^ 64 in let h : m % 2 ^ 16 ≡ 49148 = sync in omega (arith, e)
+ones_of_sync n (suc (suc (suc (suc (suc (suc (suc (suc (suc (suc zero)))))))))) sync lt =
+    let e = sync_bit n 12 in let m = n / 2 ^ 64 in let h : m % 2 ^ 16 ≡ 49148 = sync in omega (arith, e)
+ones_of_sync n (suc (suc (suc (suc (suc (suc (suc (suc (suc (suc (suc zero))))))))))) sync lt =
+    let e = sync_bit n 13 in let m = n / 2 ^ 64 in let h : m % 2 ^ 16 ≡ 49148 = sync in omega (arith, e)
 ones_of_sync n (suc (suc (suc (suc (suc (suc (suc (suc (suc (suc (suc (suc k)))))))))))) sync lt = absurd (omega arith)
 
 at_window : (list : List Bool) (j m : ℕ) → m < 80 → at (take 80 (drop j list)) m ≡ at list (j + m)

@@ -65,7 +65,9 @@ width_in_time laws Forward n lt = lt
 width_in_time laws Backward n lt = laws.width n
 
 window_is : WordLaws → (d : Direction) (n : ℕ) (r : List Bool) → n < 2 ^ 80 → window_bits (low_bits 80 (in_time d n) ++ r) 0 ≡ in_time d n
-window_is laws d n r lt = first_window (low_bits 80 (in_time d n)) r (length-low_bits 80 (in_time d n)) ∙ number-low_bits 80 (in_time d n) (width_in_time laws d n lt)
+window_is laws d n r lt =
+    first_window (low_bits 80 (in_time d n)) r (length-low_bits 80 (in_time d n))
+    ∙ number-low_bits 80 (in_time d n) (width_in_time laws d n lt)
 
 -- the window of a word that is played is that word, and nothing else
 word_read : WordLaws → (d : Direction) (system : System) (word : LtcWord) (n : ℕ) (r : List Bool) (end len : ℕ) → Spells system word n → Starts r
@@ -166,8 +168,10 @@ between laws system cells w v more p are spelled i lt =
     let two = plays laws v.direction system v.word (spelling_of v.word) spelled.1.0 in
     let starts = starts_words laws system more spelled.1.1 in
     let quiet : IsQuiet (window_bits (played_bits w ++ (played_bits v ++ bits_of_words more)) (1 + i)) = record {
-      forward = quiet_forward w.direction v.direction (played_bits w) (played_bits v) (bits_of_words more) one two starts (1 + i) (omega arith) (omega arith);
-      backward = quiet_backward laws w.direction v.direction (played_bits w) (played_bits v) (bits_of_words more) one two starts (1 + i) (omega arith) (omega arith);
+      forward = quiet_forward w.direction v.direction (played_bits w) (played_bits v) (bits_of_words more) one two starts (1 + i)
+          (omega arith) (omega arith);
+      backward = quiet_backward laws w.direction v.direction (played_bits w) (played_bits v) (bits_of_words more) one two starts (1 + i)
+          (omega arith) (omega arith);
     } in
     rw there quiet
 

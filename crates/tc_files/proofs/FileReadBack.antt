@@ -1,8 +1,7 @@
--- The bytes of a file are read as its header and its intervals: the header first, and then one interval after another.
-use Rattle.std.proofs.Common.{◌≡◌, ℕ, ◌+◌, ◌<◌, ◌≤◌, ◌^◌, List, [], ◌∷◌, ◌++◌, length, fold, Some, None, Ok, refl, sym, ◌∙◌, ap, subst, arith, append_assoc, append-nil, length-append}
-use Rattle.std.specs.Prelude.{nat_le, nat_lt, ◌&&◌, if◌then◌else◌}
-use Rattle.std.specs.declared.option.Option.{Option}
-use Rattle.std.proofs.lemmas.Bool.{le-leb, lt-ltb}
+-- The bytes of a file are read as its header and its intervals: the header first, and then one interval after another, within the limit.
+use Rattle.std.proofs.Common.{◌≡◌, ◌⊎◌, inl, inr, ℕ, ◌+◌, ◌<◌, ◌≤◌, List, [], ◌∷◌, ◌++◌, length, take, fold, Some, None, refl, sym, ◌∙◌, ap, subst, arith, append_assoc, append-nil, length-append}
+use Rattle.std.proofs.lemmas.Bool.{cases_order, le-leb, le-ltb, lt-leb, lt-ltb}
+use Rattle.std.proofs.lemmas.List.{length_push, take-append-le, take_all}
 use Rattle.std.proofs.lemmas.List.Sums.{fold-append}
 use Rattle.byteorder.specs.Endian.{big_number, big_bytes}
 use Rattle.byteorder.specs.Numbers.{big_number-reads_back}
@@ -10,7 +9,6 @@ use Rattle.biphase.specs.declared.cell.TheConstants.{MAX_INTERVAL}
 use Rattle.direction_reader.specs.declared.reader.TheConstants.{MAX_INTERVALS}
 use Rattle.tc_address.specs.declared.system.System.{System}
 use Rattle.tc_address.specs.declared.system.System.TheVariants.{F24, F25, F30}
-use Rattle.tc_files.specs.declared.fault.FileFault.{FileFault}
 use Rattle.tc_files.specs.declared.interval_file.decoder.Taken.{Taken}
 use Rattle.tc_files.specs.declared.interval_file.decoder.Taken.TheVariants.{Interval}
 use Rattle.tc_files.specs.declared.interval_file.header.FileVersion.{FileVersion}
@@ -22,8 +20,9 @@ use Rattle.tc_files.specs.IntervalFile.{end, fault_in, header_answer}
 use Rattle.tc_files.specs.IntervalHeader.{IsTickRate, header_bytes}
 use Rattle.tc_files.specs.Piece.{spelling}
 use Rattle.tc_files.specs.Progress.{Progress}
-use Rattle.tc_files.specs.Recording.{Decoding, IsBetween, Recording, decoding_of, end_fault_of, fault_at_end, no_decoding, no_recording, recording_of, with_byte, with_item, with_number, with_taken}
-use Rattle.tc_files.specs.Verdict.{Verdict, good, refused, past_limit}
+use Rattle.tc_files.specs.Recording.{Decoding, IsBetween, Recording, decoding_of, end_fault_of, fault_at_end, no_decoding, no_recording, recording_of, with_byte, with_taken}
+use Rattle.tc_files.specs.Verdict.{Verdict, good, past_limit}
+use Rattle.tc_files.specs.WithinLimit.{within_limit}
 use Rattle.tc_files.proofs.ReadBack.{spelling_back}
 
 -- ---- the header
@@ -59,75 +58,126 @@ header_read Two F30 rate range = in_range Two F30 _ rate (four_bytes rate range)
 
 -- ---- the intervals
 
--- a decoder between two intervals, of bytes that are good
-pub record IsGood (d : Decoding) (version : FileVersion) (header : IntervalHeader) (intervals : List ℕ) : Type 0 where
+-- what is read of a header and intervals
+abbrev pub so_far : IntervalHeader → List ℕ → Recording
+so_far header intervals = within_limit header intervals (length intervals) good
+
+abbrev pub plain : IntervalHeader → List ℕ → Verdict → Recording
+plain header intervals verdict = record { header = Some header; intervals = intervals; verdict = verdict }
+
+-- within the limit and past it
+pub within : (header : IntervalHeader) (intervals : List ℕ) (whole : ℕ) (verdict : Verdict) → length intervals ≤ MAX_INTERVALS → whole ≤ MAX_INTERVALS
+    → within_limit header intervals whole verdict ≡ plain header intervals verdict
+within header intervals whole verdict few below = rw (take_all MAX_INTERVALS intervals few, le-leb whole MAX_INTERVALS below) refl
+
+pub past : (header : IntervalHeader) (intervals : List ℕ) (whole : ℕ) (verdict : Verdict) → MAX_INTERVALS < whole
+    → within_limit header intervals whole verdict ≡ plain header (take MAX_INTERVALS intervals) past_limit
+past header intervals whole verdict above = rw (lt-leb whole MAX_INTERVALS above) refl
+
+-- an interval more
+one_taken : (header : IntervalHeader) (intervals : List ℕ) (x : ℕ)
+    → with_taken (so_far header intervals) (Interval x) ≡ so_far header (intervals ++ x ∷ [])
+one_taken header intervals x = by_order (cases_order (length intervals) MAX_INTERVALS)
+  where
+    by_order : (length intervals ≡ MAX_INTERVALS) ⊎ ((length intervals < MAX_INTERVALS) ⊎ (MAX_INTERVALS < length intervals))
+        → with_taken (so_far header intervals) (Interval x) ≡ so_far header (intervals ++ x ∷ [])
+    by_order (inl full) =
+        let long = length_push intervals x in
+        let kept = take-append-le MAX_INTERVALS intervals (x ∷ []) (omega (arith, full)) in
+        let one_past : with_taken (plain header intervals good) (Interval x) ≡ plain header intervals past_limit =
+        rw (le-ltb (length intervals) MAX_INTERVALS (omega (arith, full))) refl in
+        ap (λ (r : Recording). with_taken r (Interval x)) (within header intervals (length intervals) good (omega (arith, full)) (omega (arith, full)))
+        ∙ one_past
+        ∙ ap (λ (l : List ℕ). plain header l past_limit) (sym (take_all MAX_INTERVALS intervals (omega (arith, full))) ∙ sym kept)
+        ∙ sym (past header (intervals ++ x ∷ []) (length (intervals ++ x ∷ [])) good (omega (arith, full, long)))
+    by_order (inr (inl few)) =
+        let long = length_push intervals x in
+        let one_within : with_taken (plain header intervals good) (Interval x) ≡ plain header (intervals ++ x ∷ []) good =
+        rw (lt-ltb (length intervals) MAX_INTERVALS few) refl in
+        ap (λ (r : Recording). with_taken r (Interval x)) (within header intervals (length intervals) good (omega (arith, few)) (omega (arith, few)))
+        ∙ one_within
+        ∙ sym (within header (intervals ++ x ∷ []) (length (intervals ++ x ∷ [])) good (omega (arith, few, long)) (omega (arith, few, long)))
+    by_order (inr (inr many)) =
+        let long = length_push intervals x in
+        let kept = take-append-le MAX_INTERVALS intervals (x ∷ []) (omega (arith, many)) in
+        ap (λ (r : Recording). with_taken r (Interval x)) (past header intervals (length intervals) good many)
+        ∙ ap (λ (l : List ℕ). plain header l past_limit) (sym kept)
+        ∙ sym (past header (intervals ++ x ∷ []) (length (intervals ++ x ∷ [])) good (omega (arith, many, long)))
+
+-- a decoder between two intervals, of so many bytes that are good
+pub record IsGood (d : Decoding) (header : IntervalHeader) (intervals : List ℕ) (bytes : ℕ) : Type 0 where
   pub between : IsBetween d.progress
-  pub keeps : d.progress.version ≡ version
-  pub says : d.recording ≡ record { header = Some header; intervals = intervals; verdict = good }
+  pub version : d.progress.version ≡ header.version
+  pub taken : d.progress.taken ≡ bytes
+  pub says : d.recording ≡ so_far header intervals
 
 -- one interval more
-one_more : (d : Decoding) (version : FileVersion) (header : IntervalHeader) (intervals : List ℕ) (x : ℕ) → IsGood d version header intervals
-    → length intervals < MAX_INTERVALS → 1 ≤ x → x ≤ MAX_INTERVAL
-    → IsGood (fold with_byte d (spelling version x)) version header (intervals ++ x ∷ [])
-one_more d version header intervals x is below least most =
-    let width = length (spelling version x) in
-    let read = spelling_back d version x least most is.between is.keeps in
-    let longer : with_taken d.recording (Interval x) ≡ record { header = Some header; intervals = intervals ++ x ∷ []; verdict = good } =
-    ap (λ (r : Recording). with_taken r (Interval x)) is.says ∙ rw (lt-ltb (length intervals) MAX_INTERVALS below) refl in
-    subst (λ (e : Decoding). IsGood e version header (intervals ++ x ∷ [])) (sym read) (record {
+one_more : (d : Decoding) (header : IntervalHeader) (intervals : List ℕ) (bytes x : ℕ) → IsGood d header intervals bytes → 1 ≤ x → x ≤ MAX_INTERVAL
+    → IsGood (fold with_byte d (spelling header.version x)) header (intervals ++ x ∷ []) (bytes + length (spelling header.version x))
+one_more d header intervals bytes x is least most =
+    let width = length (spelling header.version x) in
+    let read = spelling_back d header.version x least most is.between is.version in
+    subst (λ (e : Decoding). IsGood e header (intervals ++ x ∷ []) (bytes + width)) (sym read) (record {
       between = record {
         no_fault = is.between.no_fault;
         header = (let late = is.between.header in omega arith);
         no_part = is.between.no_part;
       };
-      keeps = is.keeps;
-      says = longer;
+      version = is.version;
+      taken = ap (λ (n : ℕ). n + width) is.taken;
+      says = ap (λ (r : Recording). with_taken r (Interval x)) is.says ∙ one_taken header intervals x;
     })
 
-all_read : (more : List ℕ) (d : Decoding) (version : FileVersion) (header : IntervalHeader) (intervals : List ℕ) → IsGood d version header intervals
-    → AreIntervals more → length intervals + length more ≤ MAX_INTERVALS
-    → IsGood (fold with_byte d (intervals_bytes version more)) version header (intervals ++ more)
-all_read [] d version header intervals is are few =
-    subst (λ (xs : List ℕ). IsGood d version header xs) (sym (append-nil intervals)) is
-all_read (x ∷ more) d version header intervals is are few =
-    let first = one_more d version header intervals x is (omega (arith, few)) are.0 are.1 in
+all_read : (more : List ℕ) (d : Decoding) (header : IntervalHeader) (intervals : List ℕ) (bytes : ℕ) → IsGood d header intervals bytes → AreIntervals more
+    → IsGood (fold with_byte d (intervals_bytes header.version more)) header (intervals ++ more) (bytes + length (intervals_bytes header.version more))
+all_read [] d header intervals bytes is are =
+    let none : bytes ≡ bytes + 0 = omega arith in
+    subst (λ (n : ℕ). IsGood d header (intervals ++ []) n) none
+    (subst (λ (xs : List ℕ). IsGood d header xs bytes) (sym (append-nil intervals)) is)
+all_read (x ∷ more) d header intervals bytes is are =
+    let version = header.version in
+    let first = one_more d header intervals bytes x is are.0 are.1 in
     let next = fold with_byte d (spelling version x) in
-    let long = length-append intervals (x ∷ []) in
-    let rest = all_read more next version header (intervals ++ x ∷ []) first are.2 (omega (arith, few, long)) in
-    subst (λ (e : Decoding). IsGood e version header (intervals ++ x ∷ more)) (sym (fold-append with_byte d (spelling version x) (intervals_bytes version more)))
-    (subst (λ (xs : List ℕ). IsGood (fold with_byte next (intervals_bytes version more)) version header xs) (append_assoc intervals (x ∷ []) more) rest)
+    let rest = all_read more next header (intervals ++ x ∷ []) (bytes + length (spelling version x)) first are.2 in
+    let long = length-append (spelling version x) (intervals_bytes version more) in
+    let count : bytes + length (spelling version x) + length (intervals_bytes version more)
+    ≡ bytes + length (spelling version x ++ intervals_bytes version more) =
+    omega (arith, long) in
+    subst (λ (e : Decoding). IsGood e header (intervals ++ x ∷ more) (bytes + length (intervals_bytes version (x ∷ more))))
+    (sym (fold-append with_byte d (spelling version x) (intervals_bytes version more)))
+    (subst (λ (n : ℕ). IsGood (fold with_byte next (intervals_bytes version more)) header (intervals ++ x ∷ more) n) count
+    (subst (λ (xs : List ℕ). IsGood (fold with_byte next (intervals_bytes version more)) header xs
+    (bytes + length (spelling version x) + length (intervals_bytes version more))) (append_assoc intervals (x ∷ []) more) rest))
 
 -- ---- the file
 
-file_good : (header : IntervalHeader) (intervals : List ℕ) → IsTickRate header.tick_rate → AreIntervals intervals → length intervals ≤ MAX_INTERVALS
-    → IsGood (decoding_of (file_of header intervals)) header.version header intervals
-file_good header intervals rate are few =
-    let begun = header_read header.version header.system header.tick_rate rate in
-    let start : IsGood (decoding_of (header_bytes header)) header.version header [] =
-    subst (λ (e : Decoding). IsGood e header.version header []) (sym begun)
-    (record { between = record { no_fault = refl; header = omega arith; no_part = refl }; keeps = refl; says = refl }) in
-    subst (λ (e : Decoding). IsGood e header.version header intervals) (sym (fold-append with_byte no_decoding (header_bytes header) (intervals_bytes header.version intervals)))
-    (all_read intervals (decoding_of (header_bytes header)) header.version header [] start are (omega (arith, few)))
+pub file_good : (bytes : List ℕ) (header : IntervalHeader) (intervals : List ℕ) → IsFile bytes header intervals
+    → IsGood (decoding_of bytes) header intervals (length bytes)
+file_good bytes header intervals is =
+    let begun = header_read header.version header.system header.tick_rate is.tick_rate in
+    let start : IsGood (decoding_of (header_bytes header)) header [] 12 =
+    subst (λ (e : Decoding). IsGood e header [] 12) (sym begun)
+    (record { between = record { no_fault = refl; header = omega arith; no_part = refl }; version = refl; taken = refl; says = refl }) in
+    let spelled = intervals_bytes header.version intervals in
+    let long : 12 + length spelled ≡ length (file_of header intervals) = omega (arith, length-append (header_bytes header) spelled) in
+    let read = all_read intervals (decoding_of (header_bytes header)) header [] 12 start is.range in
+    let whole = fold-append with_byte no_decoding (header_bytes header) spelled in
+    let all = subst (λ (e : Decoding). IsGood e header intervals (12 + length spelled)) (sym whole) read in
+    subst (λ (l : List ℕ). IsGood (decoding_of l) header intervals (length l)) (sym is.are)
+    (subst (λ (n : ℕ). IsGood (decoding_of (file_of header intervals)) header intervals n) long all)
 
 -- it may end there
 may_end : (p : Progress) → IsBetween p → fault_at_end (end p) ≡ None
 may_end p between = rw (between.no_fault, le-leb 12 p.taken between.header, between.no_part) refl
 
+pub whole_file_read : (bytes : List ℕ) (header : IntervalHeader) (intervals : List ℕ) → IsFile bytes header intervals
+    → (recording_of bytes ≡ so_far header intervals) × (end_fault_of bytes ≡ None)
+whole_file_read bytes header intervals is =
+    let read = file_good bytes header intervals is in
+    (read.says, may_end (decoding_of bytes).progress read.between)
+
 pub file_read : (bytes : List ℕ) (header : IntervalHeader) (intervals : List ℕ) → IsFile bytes header intervals → length intervals ≤ MAX_INTERVALS
     → (recording_of bytes ≡ record { header = Some header; intervals = intervals; verdict = good }) × (end_fault_of bytes ≡ None)
 file_read bytes header intervals is few =
-    let read = file_good header intervals is.tick_rate is.range few in (
-      ap recording_of is.are ∙ read.says,
-      ap end_fault_of is.are ∙ may_end (decoding_of (file_of header intervals)).progress read.between,
-    )
-
--- what a recording says, where its header is whole
-abbrev header_or : IntervalHeader → Option IntervalHeader → IntervalHeader
-header_or other None = other
-header_or other (Some header) = header
-
-pub one_recording : (bytes : List ℕ) (a b : IntervalHeader) (xs ys : List ℕ) → IsFile bytes a xs → IsFile bytes b ys
-    → length xs ≤ MAX_INTERVALS → length ys ≤ MAX_INTERVALS → (a ≡ b) × (xs ≡ ys)
-one_recording bytes a b xs ys first second few short =
-    let same = sym (file_read bytes a xs first few).0 ∙ (file_read bytes b ys second short).0 in
-    (ap (λ (r : Recording). header_or a r.header) same, ap (λ (r : Recording). r.intervals) same)
+    let read = whole_file_read bytes header intervals is in
+    (read.0 ∙ within header intervals (length intervals) good few few, read.1)

@@ -1,11 +1,9 @@
 -- What stands at the front of bytes is what a decoder makes of them.
-use Rattle.std.proofs.Common.{◌≡◌, ℕ, ◌<◌, ◌≤◌, List, length, take, fold, Ok, Err, refl, sym, ◌∙◌, ap, subst, arith, Bool, true, false}
+use Rattle.std.proofs.Common.{◌≡◌, ℕ, ◌≤◌, List, length, take, fold, Ok, Err, refl, subst, arith, Bool, true, false}
 use Rattle.std.specs.Prelude.{nat_le, ◌&&◌, ◌==◌, if◌then◌else◌}
-use Rattle.std.specs.declared.result.Result.{Result}
 use Rattle.std.proofs.lemmas.Bool.{leb-true, leb-false, and_parts}
 use Rattle.byteorder.specs.Endian.{big_number}
 use Rattle.biphase.specs.declared.cell.TheConstants.{MAX_INTERVAL}
-use Rattle.tc_files.specs.declared.fault.FileFault.{FileFault}
 use Rattle.tc_files.specs.declared.fault.FileFault.TheVariants as fault
 use Rattle.tc_files.specs.declared.interval_file.header.FileVersion.{FileVersion}
 use Rattle.tc_files.specs.declared.interval_file.header.FileVersion.TheVariants.{One, Two}
@@ -16,7 +14,7 @@ use Rattle.tc_files.specs.Piece.{interval_in, least_in, number_in, piece_width}
 use Rattle.tc_files.proofs.WholeNumbers.{whole_number}
 
 -- an interval has two bytes at least, and six at most
-widths : (version : FileVersion) (bytes : List ℕ) → (2 ≤ piece_width version bytes) × (piece_width version bytes ≤ 6)
+pub widths : (version : FileVersion) (bytes : List ℕ) → (2 ≤ piece_width version bytes) × (piece_width version bytes ≤ 6)
 widths One bytes = (omega arith, omega arith)
 widths Two bytes = by_zero (big_number 2 bytes == 0)
   where
@@ -25,7 +23,7 @@ widths Two bytes = by_zero (big_number 2 bytes == 0)
     by_zero false = (omega arith, omega arith)
 
 -- and one tick at least
-least : (version : FileVersion) (bytes : List ℕ) → 1 ≤ least_in version bytes
+pub least : (version : FileVersion) (bytes : List ℕ) → 1 ≤ least_in version bytes
 least One bytes = omega arith
 least Two bytes = by_zero (big_number 2 bytes == 0)
   where

@@ -1,24 +1,24 @@
 -- The bytes of an interval behind a whole one are the next one: all but the last complete nothing, and the last completes the interval.
-use Rattle.std.proofs.Common.{◌≡◌, ℕ, ◌+◌, ◌-◌, ◌*◌, ◌<◌, ◌≤◌, List, [], ◌∷◌, ◌++◌, length, take, fold, Some, None, Ok, Err, refl, sym, ◌∙◌, ap, subst, arith, Bool, true, false}
-use Rattle.std.specs.Prelude.{nat_le, nat_lt, ◌&&◌, ◌==◌, if◌then◌else◌}
+use Rattle.std.proofs.Common.{◌≡◌, ℕ, ◌+◌, ◌-◌, ◌≤◌, List, [], ◌∷◌, ◌++◌, length, take, fold, None, Ok, Err, refl, sym, ◌∙◌, ap, subst, arith, Bool, true, false}
+use Rattle.std.specs.Prelude.{nat_le, ◌==◌, if◌then◌else◌}
 use Rattle.std.specs.declared.option.Option.{Option}
 use Rattle.std.specs.declared.result.Result.{Result}
-use Rattle.std.proofs.lemmas.Bool.{ne_eqb, lt-ltb, le-ltb}
+use Rattle.std.proofs.lemmas.Bool.{ne_eqb, le-ltb}
 use Rattle.byteorder.specs.Endian.{big_number}
 use Rattle.tc_address.specs.declared.system.System.{System}
 use Rattle.tc_files.specs.declared.fault.FileFault.{FileFault}
 use Rattle.tc_files.specs.declared.interval_file.decoder.Taken.{Taken}
-use Rattle.tc_files.specs.declared.interval_file.decoder.Taken.TheVariants.{Nothing, Interval, Fault}
+use Rattle.tc_files.specs.declared.interval_file.decoder.Taken.TheVariants.{Nothing}
 use Rattle.tc_files.specs.declared.interval_file.header.FileVersion.{FileVersion}
 use Rattle.tc_files.specs.declared.interval_file.header.FileVersion.TheVariants.{One, Two}
-use Rattle.tc_files.specs.IntervalFile.{after, answer, interval_answer, fault_in, kept_part, whole_answer}
+use Rattle.tc_files.specs.IntervalFile.{after, answer, interval_answer, fault_in}
 use Rattle.tc_files.specs.Piece.{interval_in, piece_width}
 use Rattle.tc_files.specs.Progress.{Progress}
 use Rattle.tc_files.specs.Recording.{Recording, Decoding, IsBetween, with_byte, with_number, with_taken}
 use Rattle.tc_files.specs.Verdict.{Verdict, good, refused, past_limit}
 
 -- so many bytes without a fault, with this part of an interval
-abbrev at : ℕ → FileVersion → Option System → List ℕ → Recording → Decoding
+abbrev pub at : ℕ → FileVersion → Option System → List ℕ → Recording → Decoding
 at taken version system part r =
     record { progress = record { taken = taken; version = version; system = system; part = part; fault = None }; recording = r }
 
@@ -32,7 +32,7 @@ nothing_more r = whatever r.verdict
     whatever past_limit = refl
 
 -- these bytes are all of their interval, or not
-abbrev IsAll : FileVersion → List ℕ → Bool → Type 0
+abbrev pub IsAll : FileVersion → List ℕ → Bool → Type 0
 IsAll version piece all = nat_le (piece_width version piece) (length piece) ≡ all
 
 -- a byte that leaves the interval open
@@ -45,7 +45,7 @@ is_kept : (t : ℕ) (version : FileVersion) (system : Option System) (part : Lis
 is_kept t version system part x r late more =
     rw (ne_eqb t 4 (λ e. omega arith), ne_eqb t 5 (λ e. omega arith), le-ltb t 8 (omega arith), le-ltb t 12 late, more) refl
 
-adds : (t : ℕ) (version : FileVersion) (system : Option System) (part : List ℕ) (x : ℕ) (r : Recording) → 12 ≤ t
+pub adds : (t : ℕ) (version : FileVersion) (system : Option System) (part : List ℕ) (x : ℕ) (r : Recording) → 12 ≤ t
     → IsAll version (part ++ x ∷ []) false → with_byte (at t version system part r) x ≡ at (t + 1) version system (part ++ x ∷ []) r
 adds t version system part x r late more =
     let next = at (t + 1) version system (part ++ x ∷ []) r in
@@ -185,7 +185,7 @@ next t Two system r (a ∷ []) late long = absurd (too_short (big_number 2 (a �
 next t Two system r (a ∷ b ∷ more) late long = by_zero (big_number 2 (a ∷ b ∷ []) == 0) t system r a b more late refl long
 
 -- the decoder is what it has between two intervals
-is_between : (d : Decoding) → IsBetween d.progress → d ≡ at d.progress.taken d.progress.version d.progress.system [] d.recording
+pub is_between : (d : Decoding) → IsBetween d.progress → d ≡ at d.progress.taken d.progress.version d.progress.system [] d.recording
 is_between d between =
     let p = d.progress in
     ap (λ (f : Option FileFault). record { progress = record { taken = p.taken; version = p.version; system = p.system; part = p.part; fault = f }; recording = d.recording })

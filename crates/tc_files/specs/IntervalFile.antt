@@ -10,7 +10,6 @@ use Rattle.tc_files.specs.declared.fault.FileFault.{FileFault}
 use Rattle.tc_files.specs.declared.fault.FileFault.TheVariants as fault
 use Rattle.tc_files.specs.declared.interval_file.decoder.Taken.{Taken}
 use Rattle.tc_files.specs.declared.interval_file.decoder.Taken.TheVariants.{Nothing, Header, Interval, Fault}
-use Rattle.tc_files.specs.declared.interval_file.header.IntervalHeader.{IntervalHeader}
 use Rattle.tc_files.specs.IntervalHeader.{IsTickRate, system_at, version_at}
 use Rattle.tc_files.specs.Piece.{interval_in, piece_width}
 use Rattle.tc_files.specs.Progress.{Progress}

@@ -10,3 +10,4 @@ pub mod Progress
 pub mod Recording
 pub mod Texts
 pub mod Verdict
+pub mod WithinLimit

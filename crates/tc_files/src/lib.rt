@@ -1,16 +1,19 @@
 //! The files and the texts of the toolkit.
 //!
-//! An interval file, version 1, holds the lengths of the intervals between the transitions of a
-//! recording, in ticks of the recorder's clock. It is decoded one byte at a time. The lines of a
-//! report are texts of at most 128 bytes.
+//! An interval file, in two versions, holds the lengths of the intervals between the transitions of a
+//! recording, in ticks of the recorder's clock. It is decoded one byte at a time, or an interval at a
+//! time. The lines of a report are texts of at most 128 bytes.
 //!
 //! What this crate promises:
 //! - `IntervalDecoder` answers each byte by the bytes before it: the header, an interval, nothing
 //!   yet, or the first fault with its byte place (`specs/IntervalFile.antt`, `answer` and `after`;
-//!   `CompletesAt` says at which places). `whole_numbers` and `interval_at` take four bytes at once,
-//!   and answer what the bytes one by one would.
+//!   `CompletesAt` says at which places). `next_interval` takes the bytes of an interval at once, and
+//!   answers what the bytes one by one would (`specs/Next.antt`).
 //! - What the bytes of a file say so far is one value: the header, the intervals, and whether they
 //!   are good, refused or past the limit (`specs/Recording.antt`, `recording_of`).
+//! - As a whole text, every list of bytes is a file or has one first fault (`specs/Grammar.antt`,
+//!   `Says`), and this is what the steps read, within the limit of a command
+//!   (`specs/WithinLimit.antt`, `read_of`; `laws`).
 //! - `event_text` and `read_end_text` give their lines byte for byte (`specs/Texts.antt`), and
 //!   `interval_header` the twelve bytes of a header.
 //!

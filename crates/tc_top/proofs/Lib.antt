@@ -8,11 +8,12 @@ pub mod FlightGrows
 pub mod FramesInOrder
 pub mod LinesGrow
 pub mod LinesOfFrames
+pub mod MadeInPieces
+pub mod MadeIsRead
+pub mod MadeIsShort
 pub mod MarkedLines
 pub mod MidiGrows
 pub mod MidiLimit
-pub mod MadeInPieces
-pub mod MadeIsRead
 pub mod OneOutput
 pub mod OneStatus
 pub mod PushedLines

@@ -29,7 +29,8 @@ cell_bytes-next shape next cell bit tail e =
 pub cell_pushed : (old new : List ℕ) (shape next : Shape) (cell : Cell) (bit : Bool) (tail : List Bool) → new ≡ old ++ interval_bytes (intervals_of cell)
     → shaped shape (bit ∷ tail) ≡ cell ∷ shaped next tail → new ++ cell_bytes next tail ≡ old ++ cell_bytes shape (bit ∷ tail)
 cell_pushed old new shape next cell bit tail pushed e =
-    ap (λ (l : List ℕ). l ++ cell_bytes next tail) pushed ∙ append_assoc old (interval_bytes (intervals_of cell)) (cell_bytes next tail) ∙ ap (λ (l : List ℕ). old ++ l) (sym (cell_bytes-next shape next cell bit tail e))
+    ap (λ (l : List ℕ). l ++ cell_bytes next tail) pushed ∙ append_assoc old (interval_bytes (intervals_of cell)) (cell_bytes next tail)
+    ∙ ap (λ (l : List ℕ). old ++ l) (sym (cell_bytes-next shape next cell bit tail e))
 
 -- the bits that are left, one of them taken
 pub low_bits-more : (done count number : ℕ) → done < count
@@ -80,7 +81,8 @@ frames_from-more none sum direction label frames valid =
     let f : ℕ → Played = λ k. frame_of direction (step label (steps_in direction k)) in
     let g : ℕ → Played = λ k. frame_of direction (step (step label (steps_in direction 1)) (steps_in direction k)) in
     let next : (k : ℕ) → f (suc k) ≡ g k =
-    λ k. ap (frame_of direction) (ap (λ (j : ℤ). step label j) (sym (one_and_more direction k)) ∙ sym (sum label (steps_in direction 1) (steps_in direction k))) in
+    λ k. ap (frame_of direction) (ap (λ (j : ℤ). step label j) (sym (one_and_more direction k))
+    ∙ sym (sum label (steps_in direction 1) (steps_in direction k))) in
     let first : f 0 ≡ frame_of direction label = ap (frame_of direction) (ap (λ (j : ℤ). step label j) (no_steps direction) ∙ none label valid) in
     let rest = map_later f g next 0 frames in
     rw (first, rest) refl

@@ -1,8 +1,10 @@
 -- What is made is read back: its cells are a chain, and each of its frames has a label, and so a word with one spelling.
-use Rattle.std.proofs.Common.{◌≡◌, ℕ, zero, suc, ◌+◌, ◌^◌, ◌<◌, Bool, true, false, List, [], ◌∷◌, Some, None, refl, sym, ap, subst, lit<, arith}
+use Rattle.std.proofs.Common.{◌≡◌, ℕ, zero, suc, ◌+◌, ◌^◌, ◌<◌, ◌≤◌, Bool, true, false, List, [], ◌∷◌, Some, None, refl, sym, ap, subst, lit<, arith}
 use Rattle.std.specs.Prelude.{ℤ, map, slice_get, length, take, drop}
 use Rattle.std.specs.declared.option.Option.{Option}
-use Rattle.std.specs.List.{range_with_len}
+use Rattle.std.specs.List.{All, range_with_len}
+use Rattle.std.proofs.lemmas.List.Elements.{All-head, All-tail}
+use Rattle.biphase.specs.declared.cell.TheConstants.{MAX_INTERVAL}
 use Rattle.std.specs.Option.{unwrap_or}
 use Rattle.biphase.specs.declared.cell.Cell.{Cell}
 use Rattle.biphase.specs.declared.profile.Profile.{Profile}
@@ -24,8 +26,9 @@ use Rattle.tc_address.specs.Count.{system_with}
 use Rattle.tc_address.specs.Label.{Address, IsLabel, labels}
 use Rattle.tc_address.specs.Numbering.{number_of, step}
 use Rattle.tc_bits.specs.Fields.{agrees, IsFields}
+use Rattle.tc_files.specs.Grammar.{AreIntervals}
 use Rattle.tc_words.specs.Stripe.{IsStripe, Striping}
-use Rattle.tc_top.specs.Made.{IsReadBack, drops, frames_from, made_cells, made_frames, word_of}
+use Rattle.tc_top.specs.Made.{IsReadBack, drops, frames_from, made_cells, made_events, made_frames, word_of}
 
 -- what the laws of the crates below say
 abbrev pub LabelsAreValid : Type 0
@@ -86,8 +89,35 @@ frames_spelled law words direction label frames valid =
 
 -- ---- all of it
 
-pub made_is_read : LabelsAreValid → WordsAreSpelled → ShapesAreChains → ShapesHaveBits → WordsAreRead → (s : Striping) → IsStripe s → IsReadBack s
-made_is_read labels_law words chains have_bits read s is =
+abbrev pub IsInterval : ℕ → Type 0
+IsInterval x = (1 ≤ x) × (x ≤ MAX_INTERVAL)
+
+abbrev pub ShapesAreIntervals : Type 0
+ShapesAreIntervals = (shape : Shape) (list : List Bool) → IsShape shape → All IsInterval (flat (shaped shape list))
+
+in_range : (xs : List ℕ) → All IsInterval xs → AreIntervals xs
+in_range [] all = tt
+in_range (x ∷ xs) all =
+    let first = All-head IsInterval x xs all in
+    (first.0, first.1, in_range xs (All-tail IsInterval x xs all))
+
+events_are : LabelsAreValid → WordsAreSpelled → ShapesAreChains → ShapesHaveBits → WordsAreRead → (s : Striping) → IsStripe s
+    → AreEvents (system_with s.label.count) Normal (flat (made_cells s)) (made_events s)
+events_are labels_law words chains have_bits read s is =
     let list = false ∷ true ∷ bits_of_words (made_frames s) in
     read (system_with s.label.count) Normal (made_cells s) (made_frames s) (chains s.shape list is.shape) (have_bits s.shape list)
     (frames_spelled labels_law words s.direction s.label s.frames is.label)
+
+pub made_is_read : LabelsAreValid → WordsAreSpelled → ShapesAreChains → ShapesHaveBits → ShapesAreIntervals → WordsAreRead → (s : Striping) → IsStripe s
+    → IsReadBack s
+made_is_read labels_law words chains have_bits intervals read s is =
+    let some = is.some_ticks in
+    let most = is.not_too_fast in
+    record {
+      file = record {
+        tick_rate = (omega arith, omega arith);
+        range = in_range (flat (made_cells s)) (intervals s.shape (false ∷ true ∷ bits_of_words (made_frames s)) is.shape);
+        are = refl;
+      };
+      events = events_are labels_law words chains have_bits read s is;
+    }

@@ -21,6 +21,7 @@ use Rattle.direction_reader.specs.Played.{Played, bits_of_words, events_of_words
 use Rattle.flywheel.specs.Frames.{steps_in}
 use Rattle.tc_files.specs.declared.interval_file.header.FileVersion.TheVariants.{One}
 use Rattle.tc_files.specs.declared.interval_file.header.IntervalHeader.{IntervalHeader}
+use Rattle.tc_files.specs.Grammar.{IsFile}
 use Rattle.tc_files.specs.IntervalHeader.{header_bytes}
 use Rattle.tc_words.specs.declared.job.Job.{Job}
 use Rattle.tc_words.specs.declared.job.Job.TheVariants.{LtcMake}
@@ -68,9 +69,10 @@ made s = header_bytes (made_header s) ++ interval_bytes (flat (made_cells s))
 abbrev pub made_events : Striping → List Event
 made_events s = events_of_words (duration (take 2 (made_cells s))) (drop 2 (made_cells s)) (made_frames s)
 
--- these are the events of its intervals: each frame is read, none is refused, and no code is lost
-abbrev pub IsReadBack : Striping → Type 0
-IsReadBack s = AreEvents (system_with s.label.count) Normal (flat (made_cells s)) (made_events s)
+-- it is the file of its header and its intervals, and these are their events: each frame is read, none is refused, and no code is lost
+pub record IsReadBack (s : Striping) : Type 0 where
+  pub file : IsFile (made s) (made_header s) (flat (made_cells s))
+  pub events : AreEvents (system_with s.label.count) Normal (flat (made_cells s)) (made_events s)
 
 -- what `ltc-make` makes is read back
 abbrev pub MakesWhatIsRead : Job → Type 0

@@ -1,22 +1,30 @@
 //! What follows from the definitions alone.
-ghost use Rattle.std.specs.Prelude.{◌≡◌, ◌≤◌, List, ℕ, length, [], ◌∷◌};
-ghost use Rattle.direction_reader.specs.declared.reader.TheConstants.{MAX_INTERVALS};
+ghost use Rattle.std.specs.Prelude.{◌≡◌, ◌≤◌, List, ℕ, [], ◌∷◌, ◌++◌, length, None, Some};
+ghost use Rattle.biphase.specs.Chain.{flat};
 ghost use Rattle.tc_files.specs.declared.interval_file.header.FileVersion.{FileVersion};
 ghost use Rattle.tc_files.specs.declared.interval_file.header.IntervalHeader.{IntervalHeader};
-ghost use Rattle.tc_files.specs.Grammar.{IsFile};
+ghost use Rattle.tc_files.specs.Grammar.{AreBytes, IsFile};
+ghost use Rattle.tc_files.specs.Recording.{end_fault_of, recording_of};
+ghost use Rattle.tc_files.specs.Verdict.{good};
 ghost use Rattle.mtc_reader.specs.Laws.{falling, full_message, rising};
 ghost use Rattle.quarter_frame.specs.Message.{full_of};
 ghost use Rattle.quarter_frame.specs.Runs.{quarters};
 ghost use Rattle.tc_address.specs.Label.{Address};
 ghost use Rattle.tc_words.specs.declared.job.Job.{Job};
 ghost use Rattle.tc_top.specs.Commands.{meaning_of};
+ghost use Rattle.tc_words.specs.Stripe.{IsStripe, Striping};
 ghost use Rattle.tc_top.specs.LtcConvert.{in_version};
-ghost use Rattle.tc_top.specs.Meaning.{Meaning};
+ghost use Rattle.tc_top.specs.LtcRead.{last_line, lines};
+ghost use Rattle.tc_top.specs.Made.{made, made_cells, made_events, made_header};
+ghost use Rattle.tc_top.specs.Meaning.{Meaning, IsInput};
 ghost use Rattle.tc_top.specs.declared.chasing.TheConstants.{MAX_SCRIPT};
 ghost use Rattle.tc_top.specs.declared.engines.mtc_read.TheConstants.{MAX_BYTES};
 
-use direction_reader::laws::a_list_has_one_list_of_events;
-use tc_files::laws::a_file_is_read_as_it_was_written;
+use biphase::laws::shaped_cells_are_a_chain;
+use direction_reader::laws::{a_list_has_one_list_of_events, played_words_are_read};
+use ltc_word::laws::each_word_has_its_spelling;
+use tc_address::laws::number_and_label_are_inverse;
+use tc_files::laws::{a_file_is_read_as_it_was_written, bytes_are_read_as_the_text_says};
 
 /// A job writes one output of an input, and one part of the bytes that were pulled. So the lines are
 /// the same in whatever pieces the input comes.
@@ -39,16 +47,38 @@ pub fn a_script_has_this_limit()
     ensures { MAX_SCRIPT ≡ 1048576 }
 {}
 
-/// `ltc-convert` writes the file of the asked version with the system, the tick rate and the intervals
-/// of its input. So a file comes out in its own version as it was.
+/// Each input that `ltc-convert` takes whole is a file, and it writes the file of the asked version with
+/// the system, the tick rate and the intervals of it. So a file comes out in its own version as it was.
 pub fn converting_keeps_the_recording()
-    ensures output { (version : FileVersion) (bytes written : List ℕ) (header : IntervalHeader) (intervals : List ℕ)
-        → IsFile bytes header intervals → length intervals ≤ MAX_INTERVALS
-        → Meaning.output (meaning_of (Job.LtcConvert version)) bytes written → IsFile written (in_version version header) intervals }
-    ensures same { (bytes written : List ℕ) (header : IntervalHeader) (intervals : List ℕ)
-        → IsFile bytes header intervals → length intervals ≤ MAX_INTERVALS
-        → Meaning.output (meaning_of (Job.LtcConvert header.version)) bytes written → written ≡ bytes }
+    ensures output { (version : FileVersion) (bytes written : List ℕ) → AreBytes bytes
+        → IsInput (meaning_of (Job.LtcConvert version)) bytes
+        → Meaning.output (meaning_of (Job.LtcConvert version)) bytes written
+        → (header : IntervalHeader) × (intervals : List ℕ)
+        × IsFile bytes header intervals × IsFile written (in_version version header) intervals }
+    ensures same { (bytes written : List ℕ) (header : IntervalHeader) → AreBytes bytes
+        → IsInput (meaning_of (Job.LtcConvert header.version)) bytes
+        → Meaning.output (meaning_of (Job.LtcConvert header.version)) bytes written
+        → (recording_of bytes).header ≡ Some header → written ≡ bytes }
 {
+    a_file_is_read_as_it_was_written();
+    bytes_are_read_as_the_text_says();
+}
+
+/// What `ltc-make` makes is within the limit of a reading, and is read as its header and its intervals.
+/// So the report of `ltc-read` of it is known: a line a frame, with its word, and the last line.
+pub fn what_is_made_is_read_whole()
+    ensures few { (s : Striping) → IsStripe s → length (flat (made_cells s)) ≤ 160000003 }
+    ensures read { (s : Striping) → IsStripe s
+        → (recording_of (made s) ≡ record { header = Some (made_header s); intervals = flat (made_cells s); verdict = good })
+        × (end_fault_of (made s) ≡ None) }
+    ensures report { (s : Striping) (written : List ℕ) → IsStripe s → Meaning.output (meaning_of Job.LtcRead) (made s) written
+        → written ≡ lines (made_header s) (made_events s) ++ last_line (flat (made_cells s)) (made_events s) }
+{
+    each_word_has_its_spelling();
+    number_and_label_are_inverse();
+    played_words_are_read();
+    shaped_cells_are_a_chain();
+    a_list_has_one_list_of_events();
     a_file_is_read_as_it_was_written();
 }
 

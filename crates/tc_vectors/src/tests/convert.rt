@@ -1,10 +1,10 @@
 //! Interval files in both versions, and from one into the other.
 use super::reading::THREE_LINES;
-use super::recording::{Pace, THREE_WORDS, file, recorded, three_frames};
+use super::recording::{Pace, THREE_WORDS, recorded, three_frames};
 use super::trial::Trial;
 use std::alloc::{AllocError, Global};
 use std::test::Fail;
-use tc_address::{Direction, System};
+use tc_address::Direction;
 use tc_top::Status;
 
 /// A header of version 1 at 25 frames and 48000 ticks a second, and three intervals at the edges.
@@ -17,10 +17,11 @@ const EDGES_IN_TWO: &[u8] = b"LTCI\x02\x19\x00\x00\x00\x00\xbb\x80\
 
 /// Three frames in version 2: each interval is below 65,536.
 fn three_frames_in_two(alloc: Global) -> Result<Vec<u8>, AllocError> {
-    let mut bytes = file(alloc, System::F25, &[])?;
-    bytes[4] = 2;
+    let mut bytes = Vec::new(alloc);
+    bytes.extend_from_slice(b"LTCI\x02\x19\x00\x00\x00\x00\xbb\x80")?;
     for interval in recorded(alloc, Direction::Forward, Pace::Steady, &THREE_WORDS)? {
-        bytes.extend_from_slice(&(interval as u16).to_be_bytes())?;
+        let [_, _, high, low] = interval.to_be_bytes();
+        bytes.extend_from_slice(&[high, low])?;
     }
     Ok(bytes)
 }
@@ -41,7 +42,7 @@ fn there_and_back(rt: HostRuntime) -> Result<(), Fail> {
                 pieces: &pieces,
                 ..Trial::new(words, input)
             };
-            trial.writes(&rt, Status::Done, output, "")?;
+            trial.gives(&rt, Status::Done, output, "")?;
         }
         let trial = Trial {
             pieces: &pieces,
@@ -54,17 +55,19 @@ fn there_and_back(rt: HostRuntime) -> Result<(), Fail> {
 
 #[test]
 fn the_edges_of_the_spelling(rt: HostRuntime) -> Result<(), Fail> {
-    Trial::new("ltc-convert 2", EDGES).writes(&rt, Status::Done, EDGES_IN_TWO, "")?;
-    Trial::new("ltc-convert 1", EDGES_IN_TWO).writes(&rt, Status::Done, EDGES, "")
+    Trial::new("ltc-convert 2", EDGES).gives(&rt, Status::Done, EDGES_IN_TWO, "")?;
+    Trial::new("ltc-convert 1", EDGES_IN_TWO).gives(&rt, Status::Done, EDGES, "")
 }
 
 #[test]
 fn a_version_that_is_unknown(rt: HostRuntime) -> Result<(), Fail> {
-    for version in [0, 3, 255] {
-        let mut input = three_frames(rt.alloc())?;
-        input[4] = version;
+    for input in [
+        b"LTCI\x00\x19\x00\x00\x00\x00\xbb\x80",
+        b"LTCI\x03\x19\x00\x00\x00\x00\xbb\x80",
+        b"LTCI\xff\x19\x00\x00\x00\x00\xbb\x80",
+    ] {
         for words in ["ltc-read", "ltc-convert 2"] {
-            Trial::new(words, &input).ends(
+            Trial::new(words, input.as_slice()).ends(
                 &rt,
                 Status::Refused,
                 "",
@@ -123,7 +126,7 @@ fn a_file_of_version_two_that_is_cut(rt: HostRuntime) -> Result<(), Fail> {
         } else {
             Status::Refused
         };
-        Trial::new("ltc-convert 1", cut).writes(&rt, status, output, note)?;
+        Trial::new("ltc-convert 1", cut).gives(&rt, status, output, note)?;
     }
     Ok(())
 }
@@ -140,7 +143,7 @@ fn what_stands_where_a_call_fails(rt: HostRuntime) -> Result<(), Fail> {
         let output = EDGES_IN_TWO
             .get(..stands)
             .ok_or("a file that is too short")?;
-        trial.writes(&rt, Status::ReadFault, output, "tc: read fault\n")?;
+        trial.gives(&rt, Status::ReadFault, output, "tc: read fault\n")?;
     }
     for (push, stands) in [(1, 0), (2, 12), (3, 14), (4, 20)] {
         let trial = Trial {
@@ -151,7 +154,7 @@ fn what_stands_where_a_call_fails(rt: HostRuntime) -> Result<(), Fail> {
         let output = EDGES_IN_TWO
             .get(..stands)
             .ok_or("a file that is too short")?;
-        trial.writes(&rt, Status::WriteFault, output, "tc: write fault\n")?;
+        trial.gives(&rt, Status::WriteFault, output, "tc: write fault\n")?;
     }
     for room in [0, 1, 13, 25] {
         let trial = Trial {
@@ -159,7 +162,7 @@ fn what_stands_where_a_call_fails(rt: HostRuntime) -> Result<(), Fail> {
             ..Trial::new("ltc-convert 2", EDGES)
         };
         let output = EDGES_IN_TWO.get(..room).ok_or("a file that is too short")?;
-        trial.writes(&rt, Status::WriteFault, output, "tc: write fault\n")?;
+        trial.gives(&rt, Status::WriteFault, output, "tc: write fault\n")?;
     }
     Ok(())
 }

@@ -17,7 +17,7 @@ fn making(words: &str) -> Trial<'_> {
 #[test]
 fn three_frames_are_made_as_they_were_recorded(rt: HostRuntime) -> Result<(), Fail> {
     let wanted = three_frames(rt.alloc())?;
-    let made = making("ltc-make 25 forward 01:00:00:00 3 24 48000").writes(&rt, Status::Done)?;
+    let made = making("ltc-make 25 forward 01:00:00:00 3 24 48000").output(&rt, Status::Done)?;
     assert_eq!(rt; made.as_slice(), wanted.as_slice());
     Trial::new("ltc-read", &made).ends(&rt, Status::Done, THREE_LINES, "")
 }
@@ -60,7 +60,7 @@ fn what_is_made_is_read_back(rt: HostRuntime) -> Result<(), Fail> {
             end intervals 191 words 2 refused 0 lost 0 ticks 127800\n",
         ),
     ] {
-        let made = making(words).writes(&rt, Status::Done)?;
+        let made = making(words).output(&rt, Status::Done)?;
         Trial::new("ltc-read", &made).ends(&rt, Status::Done, report, "")?;
     }
     Ok(())
@@ -74,7 +74,7 @@ fn a_full_output_leaves_a_front_of_the_recording(rt: HostRuntime) -> Result<(), 
             room,
             ..making("ltc-make 25 forward 01:00:00:00 3 24 48000")
         };
-        let made = trial.writes(&rt, Status::WriteFault)?;
+        let made = trial.output(&rt, Status::WriteFault)?;
         assert_eq!(rt;
             Some(made.as_slice()),
             wanted.get(..room),

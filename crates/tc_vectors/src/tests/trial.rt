@@ -34,27 +34,6 @@ impl<'a> Trial<'a> {
         }
     }
 
-    /// Runs it, and compares its status, its output of bytes and its note.
-    pub fn writes(
-        &self,
-        rt: &(impl Abort + AllocGlobal),
-        status: Status,
-        output: &[u8],
-        note: &str,
-    ) -> Result<(), Fail> {
-        let alloc = rt.alloc();
-        let words = split(alloc, self.words)?;
-        let mut source = MemorySource::new(alloc, self.input, self.pieces, self.failing_pulls)?;
-        let mut out = MemorySink::new(alloc, self.room, self.failing_pushes)?;
-        let mut notes = MemorySink::new(alloc, self.notes_room, &[])?;
-        let ended = run(alloc, &words, &mut source, &mut out, &mut notes);
-        let noted = str::from_utf8(notes.written())?;
-        assert_eq!(rt; out.written(), output, "the output of {}", self.words);
-        assert_eq!(rt; noted, note, "the note of {}", self.words);
-        assert_eq!(rt; ended, status, "the status of {}", self.words);
-        Ok(())
-    }
-
     /// Runs it, and compares its status, its output of text and its note.
     pub fn ends(
         &self,
@@ -92,11 +71,9 @@ impl<'a> Trial<'a> {
         assert_eq!(rt; ended, status, "the status of {}", self.words);
         Ok(())
     }
-}
 
-impl Trial<'_> {
     /// Runs it, compares its status, and gives its output.
-    pub fn writes(&self, rt: &(impl Abort + AllocGlobal), status: Status) -> Result<Vec<u8>, Fail> {
+    pub fn output(&self, rt: &(impl Abort + AllocGlobal), status: Status) -> Result<Vec<u8>, Fail> {
         let alloc = rt.alloc();
         let words = split(alloc, self.words)?;
         let mut source = MemorySource::new(alloc, self.input, self.pieces, self.failing_pulls)?;

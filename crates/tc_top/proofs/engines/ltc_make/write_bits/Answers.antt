@@ -13,7 +13,8 @@ cells-preserved c =
     record {
       cells = λ tail.
           let later = low_bits (80 - (c.cells._done + 1)) (c.cells.rest / 2) ++ tail in
-          cell_pushed old c.push_cell.new.room.items shape c.next_cell.new.self c.next_cell.result _ later c.push_cell.ensures.items (c.next_cell.ensures.cells later)
+          cell_pushed old c.push_cell.new.room.items shape c.next_cell.new.self c.next_cell.result _ later
+          c.push_cell.ensures.items (c.next_cell.ensures.cells later)
           ∙ ap (λ (list : List Bool). old ++ cell_bytes shape (list ++ tail)) (sym more) ∙ c.cells.invariant.cells tail;
       len = omega arith;
     }

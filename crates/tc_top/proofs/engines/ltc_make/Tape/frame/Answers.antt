@@ -25,7 +25,8 @@ returns-clause-rest c =
     let valid : IsLabel label = fields.label in
     let count : c.args.self.now.frames - 1 + 1 ≡ c.args.self.now.frames = omega arith in
     let played : c.in_time.result ≡ in_time direction (spelling_of (word_of label)) = cc in
-    let written : (tail : List Bool) → new ++ cell_bytes later tail ≡ old ++ cell_bytes shape (low_bits 80 (in_time direction (spelling_of (word_of label))) ++ tail) =
+    let bits = in_time direction (spelling_of (word_of label)) in
+    let written : (tail : List Bool) → new ++ cell_bytes later tail ≡ old ++ cell_bytes shape (low_bits 80 bits ++ tail) =
     λ tail. c.write_bits.ensures.cells tail ∙ ap (λ (n : ℕ). old ++ cell_bytes shape (low_bits 80 n ++ tail)) played in
     rw next (frame_written c.steps_add_up.ensures.none c.steps_add_up.ensures.sum direction label (c.args.self.now.frames - 1) c.args.self.now.frames
     old new shape later valid count written)

@@ -4,4 +4,5 @@ use Rattle.tc_top.proofs.engines.ltc_make.Tape.new.Goals as goal
 -- what is made is read back
 pub returns-clause-read : goal.returns-clause-read
 returns-clause-read c = made_is_read c.number_and_label_are_inverse.ensures.number c.each_word_has_its_spelling.ensures
-    c.shaped_cells_are_a_chain.ensures.chain c.shaped_cells_are_a_chain.ensures.bits c.played_words_are_read.ensures c.args.stripe.now c.frames.ensures.valid
+    c.shaped_cells_are_a_chain.ensures.chain c.shaped_cells_are_a_chain.ensures.bits
+    c.shaped_cells_are_a_chain.ensures.intervals c.played_words_are_read.ensures c.args.stripe.now c.frames.ensures.valid
