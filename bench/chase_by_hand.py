@@ -1,7 +1,9 @@
 #!/usr/bin/env python3
 """Random scripts through `tc chase`, against a second reading of the tables in docs/FORMATS.md.
 
-    bench/chase_by_hand.py [SCRIPTS] [SEED]        10000 scripts, and the seed 1, where nothing is said
+    bench/chase_by_hand.py [SCRIPTS] [SEED]
+
+Ten thousand scripts where nothing is said.
 
 Three scripts of four keep to the premises of the theorem on the lock: after some rows of anything a master moves steadily in
 one direction, no command comes, and the transport slips by at most 8 subframes. Of these it is checked, beside each
