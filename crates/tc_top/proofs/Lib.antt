@@ -1,5 +1,6 @@
 pub mod AlongTheInput
 pub mod AnItemMore
+pub mod ChaseStatus
 pub mod Converted
 pub mod CountedEvents
 pub mod Digits

@@ -102,12 +102,12 @@ settles (LabelOf label) = writes_settles _
 -- ---- the status of the whole input
 
 -- what was consumed is a front
-front_of_all : (all bytes : List ℕ) (left : Option (List ℕ)) → Consumes (Some all) left bytes → (more : List ℕ) × (all ≡ bytes ++ more)
+pub front_of_all : (all bytes : List ℕ) (left : Option (List ℕ)) → Consumes (Some all) left bytes → (more : List ℕ) × (all ≡ bytes ++ more)
 front_of_all all bytes None consumed = absurd consumed
 front_of_all all bytes (Some more) consumed = (more, consumed)
 
 -- and all of it at the end
-all_at_end : (all bytes : List ℕ) (left : Option (List ℕ)) → Consumes (Some all) left bytes → IsAtEnd left → all ≡ bytes
+pub all_at_end : (all bytes : List ℕ) (left : Option (List ℕ)) → Consumes (Some all) left bytes → IsAtEnd left → all ≡ bytes
 all_at_end all bytes None consumed ended = absurd consumed
 all_at_end all bytes (Some more) consumed ended = consumed ∙ ap (λ (l : List ℕ). bytes ++ l) ended ∙ append-nil bytes
 

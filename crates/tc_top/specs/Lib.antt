@@ -1,12 +1,14 @@
 pub mod Along
 pub mod Answer
 pub mod Causes
+pub mod Chase
 pub mod Commands
 pub mod KeptAlong
 pub mod KeptConversion
 pub mod KeptLine
 pub mod KeptTape
 pub mod KeptReport
+pub mod KeptScript
 pub mod KeptFlight
 pub mod KeptMtc
 pub mod KeptSlices

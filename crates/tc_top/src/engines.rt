@@ -1,5 +1,6 @@
 //! The commands, a file each. A command behind an interval file is a `Behind` (`along`), one that
 //! reads nothing a `Maker` (`making`). Next: `ltc_read`.
+pub(crate) mod chase;
 pub(crate) mod labels;
 pub(crate) mod ltc_convert;
 pub(crate) mod ltc_fly;

@@ -17,6 +17,7 @@ ghost use Rattle.tc_top.specs.LtcConvert.{in_version};
 ghost use Rattle.tc_top.specs.LtcRead.{last_line, lines};
 ghost use Rattle.tc_top.specs.Made.{made, made_cells, made_events, made_header};
 ghost use Rattle.tc_top.specs.Meaning.{Meaning, IsInput};
+ghost use Rattle.tc_top.specs.declared.chasing.TheConstants.{MAX_SCRIPT};
 ghost use Rattle.tc_top.specs.declared.engines.mtc_read.TheConstants.{MAX_BYTES};
 ghost use Rattle.tc_top.specs.declared.engines.pcm_ltc.TheConstants.{MAX_SAMPLES};
 
@@ -45,6 +46,11 @@ pub fn mtc_read_has_this_limit()
 /// `pcm-ltc` takes a thousand million samples, and no more.
 pub fn pcm_ltc_has_this_limit()
     ensures { MAX_SAMPLES ≡ 1000000000 }
+{}
+
+/// A script of `chase` has a mebibyte at most.
+pub fn a_script_has_this_limit()
+    ensures { MAX_SCRIPT ≡ 1048576 }
 {}
 
 /// Each input that `ltc-convert` takes whole is a file, and it writes the file of the asked version with

@@ -1,4 +1,5 @@
 //! Runs of the program whose status, output and note are known from outside.
+mod chase;
 mod convert;
 mod damage;
 mod faults;

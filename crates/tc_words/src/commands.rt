@@ -1,6 +1,9 @@
 //! The words of the commands, as they are typed, which the code and the definitions share. `laws`
 //! spells each of them. Next: `words`.
 
+/// The word of `Task::Chase`.
+pub const CHASE: &str = "chase";
+
 /// The word of `Job::LtcRead`.
 pub const LTC_READ: &str = "ltc-read";
 

@@ -5,7 +5,17 @@ use crate::stripe::Stripe;
 use tc_address::Label;
 use tc_files::FileVersion;
 
-/// What the program is to do.
+/// What the words name.
+#[derive(Clone, Copy, Debug, PartialEq, Eq)]
+pub enum Task {
+    /// A job that is worked while its input comes, in fixed memory.
+    Stream(Job),
+    /// `chase COUNT LABEL`: reads a chase script, and writes the trace of a chase that begins at the label.
+    /// The script is read whole before anything is written.
+    Chase { label: Label },
+}
+
+/// What the program is to do while its input comes.
 #[derive(Clone, Copy, Debug, PartialEq, Eq)]
 pub enum Job {
     /// `ltc-read`: reads an interval file, and writes a line for each word, refusal and loss.

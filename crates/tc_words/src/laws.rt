@@ -6,6 +6,7 @@ ghost use Rattle.tc_words.specs.declared.stripe.TheConstants.{MAX_FRAMES, MAX_TI
 
 /// Each command has its word.
 pub fn each_command_has_its_word()
+    ensures chase { commands.CHASE.now ≡ codes "chase" }
     ensures ltc_read { commands.LTC_READ.now ≡ codes "ltc-read" }
     ensures ltc_worn { commands.LTC_WORN.now ≡ codes "ltc-worn" }
     ensures ltc_fly { commands.LTC_FLY.now ≡ codes "ltc-fly" }

@@ -93,6 +93,9 @@ fn the_first_fault_is_told(rt: HostRuntime) -> Result<(), Fail> {
         ("label 30d 2589408", WordsFault::Value(2)),
         ("label 30d +1", WordsFault::Value(2)),
         ("label 25 --", WordsFault::Dash(2)),
+        ("chase 25", WordsFault::CountOfWords),
+        ("chase 29 00:00:00:00", WordsFault::Value(1)),
+        ("chase 30d 00:01:00;00", WordsFault::Value(2)),
         ("-", WordsFault::Dash(0)),
         ("LTC-READ", WordsFault::Command),
         (
@@ -106,8 +109,15 @@ fn the_first_fault_is_told(rt: HostRuntime) -> Result<(), Fail> {
     Ok(())
 }
 
-/// The text of the label that the job is about.
-fn label_text(job: &Job) -> Option<[u8; 11]> {
+/// The text of the label that the task is about.
+fn label_text(task: &Task) -> Option<[u8; 11]> {
+    match task {
+        Task::Stream(job) => label_text_of(job),
+        Task::Chase { label } => Some(text(label)),
+    }
+}
+
+fn label_text_of(job: &Job) -> Option<[u8; 11]> {
     match job {
         Job::LtcRead | Job::LtcWorn | Job::LtcFly { .. } | Job::LtcConvert { .. } => None,
         Job::LtcMtc { .. } | Job::MtcRead => None,
@@ -122,11 +132,11 @@ fn label_text(job: &Job) -> Option<[u8; 11]> {
 fn jobs_are_read(rt: HostRuntime) -> Result<(), Fail> {
     let alloc = rt.alloc();
     let words = typed(alloc, "ltc-read")?;
-    assert_eq!(rt; read_words(alloc, &words), Ok(Job::LtcRead));
+    assert_eq!(rt; read_words(alloc, &words), Ok(Task::Stream(Job::LtcRead)));
     let words = typed(alloc, "ltc-worn")?;
-    assert_eq!(rt; read_words(alloc, &words), Ok(Job::LtcWorn));
+    assert_eq!(rt; read_words(alloc, &words), Ok(Task::Stream(Job::LtcWorn)));
     let words = typed(alloc, "mtc-read")?;
-    assert_eq!(rt; read_words(alloc, &words), Ok(Job::MtcRead));
+    assert_eq!(rt; read_words(alloc, &words), Ok(Task::Stream(Job::MtcRead)));
     for (line, job) in [
         ("ltc-fly 0", Job::LtcFly { limit: 0 }),
         ("ltc-fly 255", Job::LtcFly { limit: 255 }),
@@ -134,7 +144,7 @@ fn jobs_are_read(rt: HostRuntime) -> Result<(), Fail> {
         ("ltc-mtc 255", Job::LtcMtc { limit: 255 }),
     ] {
         let words = typed(alloc, line)?;
-        assert_eq!(rt; read_words(alloc, &words), Ok(job), "at {line}");
+        assert_eq!(rt; read_words(alloc, &words), Ok(Task::Stream(job)), "at {line}");
     }
     for (line, version) in [
         ("ltc-convert 1", FileVersion::One),
@@ -143,7 +153,7 @@ fn jobs_are_read(rt: HostRuntime) -> Result<(), Fail> {
         let words = typed(alloc, line)?;
         assert_eq!(rt;
             read_words(alloc, &words),
-            Ok(Job::LtcConvert { version }),
+            Ok(Task::Stream(Job::LtcConvert { version })),
             "at {line}"
         );
     }
@@ -183,16 +193,17 @@ fn jobs_are_read(rt: HostRuntime) -> Result<(), Fail> {
         ("label 25 0", *b"00:00:00:00"),
         ("label 30d 00000000000000001800", *b"00:01:00;02"),
         ("number 24 12:34:56:23", *b"12:34:56:23"),
+        ("chase 30d 00:01:00;02", *b"00:01:00;02"),
         (
             "ltc-make 30d backward 00:01:00;02 1000000 800 100000000 400 50",
             *b"00:01:00;02",
         ),
     ] {
         let words = typed(alloc, line)?;
-        let Ok(job) = read_words(alloc, &words) else {
-            return Err("no job".into());
+        let Ok(task) = read_words(alloc, &words) else {
+            return Err("no task".into());
         };
-        assert_eq!(rt; label_text(&job), Some(wanted), "at {line}");
+        assert_eq!(rt; label_text(&task), Some(wanted), "at {line}");
     }
     Ok(())
 }

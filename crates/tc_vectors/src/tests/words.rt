@@ -53,7 +53,6 @@ fn commands_to_come_are_unknown(rt: HostRuntime) -> Result<(), Fail> {
         "ltc-load 1 1000",
         "vitc-read",
         "vitc-make 30 00:00:00:00 1 460",
-        "chase 25 00:00:00:00",
         "ltc-jam 2 24 48000",
         "ltc-chase 25 01:00:00:00 2 1 0",
     ] {
