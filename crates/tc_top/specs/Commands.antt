@@ -2,9 +2,10 @@
 use Rattle.biphase.specs.declared.profile.Profile.TheVariants.{Normal, Worn}
 use Rattle.tc_address.specs.Numbering.{number_of}
 use Rattle.tc_words.specs.declared.job.Job.{Job}
-use Rattle.tc_words.specs.declared.job.Job.TheVariants.{LtcRead, LtcWorn, LtcFly, LtcMtc, MtcRead, Number, LabelOf, LtcMake, LtcConvert}
+use Rattle.tc_words.specs.declared.job.Job.TheVariants.{LtcRead, LtcWorn, LtcFly, LtcMtc, MtcRead, Number, LabelOf, LtcMake, LtcLoad, LtcConvert}
 use Rattle.tc_top.specs.Along.{along_intervals}
 use Rattle.tc_top.specs.Labels.{number_line, label_line}
+use Rattle.tc_top.specs.Load.{load_text}
 use Rattle.tc_top.specs.LtcConvert.{conversion}
 use Rattle.tc_top.specs.LtcFly.{flight}
 use Rattle.tc_top.specs.LtcMtc.{time_code}
@@ -20,6 +21,7 @@ meaning_of (LtcFly limit) = along_intervals (flight limit)
 meaning_of (LtcMtc limit) = along_intervals (time_code limit)
 meaning_of MtcRead = along_midi
 meaning_of (LtcMake stripe) = writes (made stripe)
+meaning_of (LtcLoad run) = writes (load_text run)
 meaning_of (LtcConvert version) = along_intervals (conversion version)
 meaning_of (Number label) = writes (number_line (number_of label))
 meaning_of (LabelOf label) = writes (label_line label)

@@ -8,8 +8,10 @@ pub mod KeptLine
 pub mod KeptTape
 pub mod KeptReport
 pub mod KeptFlight
+pub mod KeptLoad
 pub mod KeptMtc
 pub mod Labels
+pub mod Load
 pub mod LtcConvert
 pub mod LtcFly
 pub mod LtcMtc

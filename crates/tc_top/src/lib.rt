@@ -22,6 +22,7 @@
 #![tactic(auto)]
 
 mod along;
+mod chance;
 mod engine;
 mod engines;
 mod flight;

@@ -6,8 +6,10 @@ use Rattle.tc_words.specs.declared.job.Job.TheVariants as jobs
 use Rattle.tc_words.specs.declared.commands.TheConstants as commands
 use Rattle.tc_words.specs.declared.fault.WordsFault.{WordsFault}
 use Rattle.tc_words.specs.declared.fault.WordsFault.TheVariants.{Dash, Command, CountOfWords, Value}
+use Rattle.tc_words.specs.declared.load.TheConstants.{MAX_WORDS}
+use Rattle.tc_words.specs.Load.{loading_of}
 use Rattle.tc_words.specs.Tape.{at_one_length, moving}
-use Rattle.tc_words.specs.Values.{Word, count_in, limit_in, numbered, spelled, version_in}
+use Rattle.tc_words.specs.Values.{Word, between, count_in, limit_in, number_in, numbered, spelled, version_in}
 use Rattle.command_words.specs.CommandLine.{begins_with_dash}
 
 -- the job, or the first fault
@@ -43,6 +45,12 @@ ltc_make (count ∷ direction ∷ label ∷ frames ∷ cell ∷ tick_rate ∷ to
     moving count direction label frames cell tick_rate to_cell step
 ltc_make _ = Err CountOfWords
 
+-- `ltc-load SEED WORDS`
+abbrev pub ltc_load : List Word → Answer
+ltc_load (seed ∷ words ∷ []) =
+    with_value 1 (number_in seed) (λ s. with_value 2 (between 1 MAX_WORDS words) (λ w. Ok (jobs.LtcLoad (loading_of s w))))
+ltc_load _ = Err CountOfWords
+
 -- `ltc-convert VERSION`
 abbrev pub ltc_convert : List Word → Answer
 ltc_convert (version ∷ []) = with_value 1 (version_in version) (λ v. Ok (jobs.LtcConvert v))
@@ -71,6 +79,7 @@ job_of command values =
     else if bytes_eq command commands.LTC_MTC.now then ltc_mtc values
     else if bytes_eq command commands.MTC_READ.now then no_values jobs.MtcRead values
     else if bytes_eq command commands.LTC_MAKE.now then ltc_make values
+    else if bytes_eq command commands.LTC_LOAD.now then ltc_load values
     else if bytes_eq command commands.LTC_CONVERT.now then ltc_convert values
     else if bytes_eq command commands.NUMBER.now then number values
     else if bytes_eq command commands.LABEL.now then label_of values

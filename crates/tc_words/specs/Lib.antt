@@ -1,4 +1,5 @@
 pub mod Job
+pub mod Load
 pub mod Stripe
 pub mod Tape
 pub mod Values

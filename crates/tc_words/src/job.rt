@@ -1,4 +1,5 @@
 //! What the words name. Next: `tc_top`, which does it.
+use crate::load::LoadRun;
 use crate::stripe::Stripe;
 use tc_address::Label;
 use tc_files::FileVersion;
@@ -21,6 +22,8 @@ pub enum Job {
     /// `ltc-make COUNT DIRECTION LABEL FRAMES CELL TICK-RATE [TO-CELL STEP]`: makes an interval file of
     /// these frames.
     LtcMake { stripe: Stripe },
+    /// `ltc-load SEED WORDS`: makes a recording of so many words by chance, reads it, and writes one line.
+    LtcLoad { run: LoadRun },
     /// `ltc-convert VERSION`: reads an interval file, and writes it in this version.
     LtcConvert { version: FileVersion },
     /// `number COUNT LABEL`: writes how many labels of the count stand before the label in the day.

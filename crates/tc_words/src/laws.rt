@@ -1,6 +1,7 @@
 //! The words of the commands, letter by letter: what holds the constants of `commands`.
 ghost use Rattle.std.specs.Prelude.{◌≡◌, codes};
 ghost use Rattle.tc_words.specs.declared.commands.TheConstants as commands;
+ghost use Rattle.tc_words.specs.declared.load.TheConstants.{MAX_WORDS};
 ghost use Rattle.tc_words.specs.declared.stripe.TheConstants.{MAX_FRAMES, MAX_TICK_RATE};
 
 /// Each command has its word.
@@ -11,13 +12,16 @@ pub fn each_command_has_its_word()
     ensures ltc_mtc { commands.LTC_MTC.now ≡ codes "ltc-mtc" }
     ensures mtc_read { commands.MTC_READ.now ≡ codes "mtc-read" }
     ensures ltc_make { commands.LTC_MAKE.now ≡ codes "ltc-make" }
+    ensures ltc_load { commands.LTC_LOAD.now ≡ codes "ltc-load" }
     ensures ltc_convert { commands.LTC_CONVERT.now ≡ codes "ltc-convert" }
     ensures number { commands.NUMBER.now ≡ codes "number" }
     ensures label { commands.LABEL.now ≡ codes "label" }
 {}
 
-/// A run makes a million frames at most, in ticks of a clock of a hundred million a second at most.
+/// A run makes a million frames at most, in ticks of a clock of a hundred million a second at most; a
+/// load run reads a hundred thousand words at most.
 pub fn the_limits_are_these()
     ensures frames { MAX_FRAMES ≡ 1000000 }
     ensures tick_rate { MAX_TICK_RATE ≡ 100000000 }
+    ensures words { MAX_WORDS ≡ 100000 }
 {}

@@ -7,7 +7,7 @@
 //! the order of `WordsFault`, and want of memory is an answer of its own (`specs/Job.antt`,
 //! `answer_to`).
 //!
-//! Read `commands`, `fault`, `job`, `stripe`, `tape`, `values` and `words`, with `specs/Job.antt` and `specs/Values.antt`
+//! Read `commands`, `fault`, `job`, `stripe`, `tape`, `load`, `values` and `words`, with `specs/Job.antt` and `specs/Values.antt`
 //! beside them: `words` and `Job.antt` have the same rows. `tc_top` stands on this crate.
 //!
 //! A later command joins in these places:
@@ -22,6 +22,7 @@ pub mod commands;
 mod fault;
 mod job;
 pub mod laws;
+mod load;
 mod stripe;
 mod tape;
 mod values;
@@ -29,6 +30,7 @@ mod words;
 
 pub use fault::WordsFault;
 pub use job::Job;
+pub use load::{LoadRun, MAX_WORDS};
 pub use stripe::{MAX_FRAMES, MAX_TICK_RATE, Stripe};
 pub use words::read_words;
 
