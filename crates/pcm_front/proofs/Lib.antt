@@ -9,3 +9,5 @@ pub mod RunByRun
 pub mod Bounds
 pub mod InPieces
 pub mod SlicedAgain
+pub mod ReadBack
+pub mod SampleBySample

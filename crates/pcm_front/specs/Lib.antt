@@ -2,6 +2,7 @@ pub mod Crossing
 pub mod Distance
 pub mod Level
 pub mod Runs
+pub mod Samples
 pub mod Side
 pub mod Sound
 pub mod StandsFor

@@ -1,5 +1,6 @@
 //! What follows from the definitions of crossings and distances alone.
-ghost use Rattle.std.specs.Prelude.{◌≡◌, ℕ, ◌+◌, ◌-◌, ◌*◌, ◌<◌, ◌≤◌, ◌^◌, false, true, ℤ, pos, ◌≤ℤ◌, int_le, unsigned_abs, List, [], ◌∷◌, ◌++◌, length, map, take, drop};
+ghost use Rattle.std.specs.Prelude.{◌≡◌, ℕ, ◌+◌, ◌-◌, ◌*◌, ◌<◌, ◌≤◌, ◌^◌, FitsSigned, false, true, ℤ, pos, ◌≤ℤ◌, int_le, unsigned_abs, List, [], ◌∷◌, ◌++◌, length, map, take, drop};
+ghost use Rattle.std.specs.Int.{w16};
 ghost use Rattle.std.specs.List.{All, AllByRecursion, sum};
 ghost use Rattle.pcm_front.specs.declared.interval.TheConstants.{MAX_INTERVAL};
 ghost use Rattle.pcm_front.specs.declared.side.Side.{Side};
@@ -9,6 +10,7 @@ ghost use Rattle.pcm_front.specs.Level.{HasSixteenBits, level_of};
 ghost use Rattle.pcm_front.specs.Crossing.{apart, crossings, is_crossing, moments, tick_at, tick_in_step};
 ghost use Rattle.pcm_front.specs.Distance.{distances, gaps, intervals, pieces_of, IsInterval};
 ghost use Rattle.pcm_front.specs.Runs.{Alternate, IsOfSize, LiesOn, joined};
+ghost use Rattle.pcm_front.specs.Samples.{bytes_of, samples_of};
 ghost use Rattle.pcm_front.specs.Sound.{sound};
 
 /// The greatest length of an interval, in ticks: 24 bits.
@@ -88,6 +90,14 @@ pub fn a_sound_is_sliced_into_its_intervals()
     ensures intervals { (threshold size : ℕ) (lengths : List ℕ)
         → 1 ≤ threshold → threshold ≤ size → AllByRecursion IsInterval lengths
         → intervals 1 (Fixed threshold) (sound size lengths) ≡ lengths }
+{}
+
+/// Samples of 16 bits are read from bytes as they were written, among them those of each sound.
+pub fn samples_are_read_as_they_were_written()
+    ensures read { (samples : List ℤ) → AllByRecursion (FitsSigned w16) samples
+        → samples_of (bytes_of samples) ≡ samples }
+    ensures sound { (size : ℕ) (intervals : List ℕ) → size < 2 ^ 15
+        → samples_of (bytes_of (sound size intervals)) ≡ sound size intervals }
 {}
 
 /// The level of samples of 16 bits: its peak is at most 32,768, and its sum below 2 to the 26th.

@@ -12,6 +12,8 @@
 //! - `Slicer::sample` gives exactly the distances of the crossings of the samples so far
 //!   (`specs/Distance.antt`, `distances`), without keeping the samples (`specs/StandsFor.antt`, clause
 //!   `stands`).
+//! - `Slicer::run` takes the whole samples of bytes (`specs/Samples.antt`, `samples_of`), up to one that
+//!   brings a distance.
 //! - `pieces` writes a distance as intervals of at most `MAX_INTERVAL` (`specs/Distance.antt`,
 //!   `pieces_of`).
 //! - Moments rise, from crossing to crossing the ticks differ from those of whole samples by less than
@@ -32,6 +34,7 @@ mod slicer;
 mod threshold;
 
 pub use interval::{MAX_INTERVAL, pieces};
+pub use side::Side;
 pub use slicer::Slicer;
 pub use threshold::Threshold;
 

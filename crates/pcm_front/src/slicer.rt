@@ -1,8 +1,9 @@
 //! The slicer. Next: `interval`.
-ghost use Rattle.std.specs.Prelude.{◌≡◌, ℕ, ℤ, ◌+◌, ◌<◌, ◌≤◌, ◌^◌, List, [], ◌∷◌, ◌++◌, IfSome, unsigned_abs, pos, ◌≤ℤ◌, Option};
+ghost use Rattle.std.specs.Prelude.{◌≡◌, ℕ, ℤ, ◌+◌, ◌*◌, ◌<◌, ◌≤◌, ◌^◌, List, [], ◌∷◌, ◌++◌, length, take, None, IfSome, unsigned_abs, pos, ◌≤ℤ◌, Option};
 ghost use Rattle.std.specs.Option.{option_to_list};
 ghost use Rattle.pcm_front.specs.Level.{IsInRange};
 ghost use Rattle.pcm_front.specs.Distance.{distances};
+ghost use Rattle.pcm_front.specs.Samples.{samples_of};
 ghost use Rattle.pcm_front.specs.State.{between, crossing_after, distance_at, fresh, state_after, IsThreshold};
 ghost use Rattle.pcm_front.specs.StandsFor.{StandsFor};
 
@@ -10,6 +11,7 @@ use crate::crossing::tick_to;
 use crate::level::Level;
 use crate::side::{Side, differs, side_of, stays};
 use crate::threshold::Threshold;
+use byteorder::{ByteOrder, LittleEndian};
 use std::marker::Model;
 
 /// Finds the crossings in the samples of a recording, one sample at a time.
@@ -139,5 +141,38 @@ impl Slicer {
             ≡ distances self.old.fineness self.old.threshold samples ++ option_to_list result }
     {
         self.step(sample)
+    }
+
+    /// Takes the whole samples at the front of bytes, the less significant byte of each first, up to one
+    /// that brings a distance. Gives how many bytes these are, and the distance.
+    pub fn run(&mut self, bytes: &[u8]) -> (usize, Option<u64>)
+        requires { self.old.tick + self.old.fineness * length bytes.now ≤ 2 ^ 62 }
+
+        // Where no distance comes, all whole samples were taken.
+        ensures within { result.0 ≤ length bytes.now }
+        ensures some { 2 ≤ length bytes.now → 2 ≤ result.0 }
+        ensures all { result.1 ≡ None → length bytes.now < result.0 + 2 }
+        ensures range { IfSome result.1 (λ distance. (1 ≤ distance) × (distance ≤ 2 ^ 62)) }
+        ensures tick { (count : ℕ) × (result.0 ≡ 2 * count) × (self.new.tick ≡ self.old.tick + self.old.fineness * count) }
+        ensures fineness { self.new.fineness ≡ self.old.fineness }
+        ensures threshold { self.new.threshold ≡ self.old.threshold }
+
+        // What it means for the samples so far.
+        ensures stands { (samples : List ℤ) → StandsFor self.old samples
+            → StandsFor self.new (samples ++ samples_of (take result.0 bytes.now)) }
+        ensures distances { (samples : List ℤ) → StandsFor self.old samples
+            → distances self.old.fineness self.old.threshold (samples ++ samples_of (take result.0 bytes.now))
+            ≡ distances self.old.fineness self.old.threshold samples ++ option_to_list result.1 }
+    {
+        let mut at = 0;
+        'samples: while 2 <= bytes.len() - at {
+            let sample = LittleEndian::read_i16(&bytes[at..]);
+            at += 2;
+            let distance = self.sample(sample);
+            if distance.is_some() {
+                return (at, distance);
+            }
+        }
+        (at, None)
     }
 }

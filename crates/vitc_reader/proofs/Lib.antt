@@ -1,7 +1,9 @@
 pub mod AnswerGrows
 pub mod BitsOfCells
 pub mod LevelOfARun
+pub mod OneAnswer
 pub mod ReadSoFar
+pub mod RunsOfBits
 pub mod SameWord
 pub mod WholeCells
 pub mod WrittenSoFar

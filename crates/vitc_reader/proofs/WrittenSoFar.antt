@@ -1,13 +1,14 @@
 -- Each edge is less than a tick before its place, so a written run is within a quarter of a cell. The runs
 -- so far and the bits that are left are all of the line.
-use Rattle.std.proofs.Common.{◌≡◌, ℕ, ◌+◌, ◌-◌, ◌*◌, ◌/◌, ◌%◌, ◌^◌, ◌<◌, ◌≤◌, Bool, true, false, not, List, [], ◌∷◌, ◌++◌, length, take, drop, set}
+use Rattle.std.proofs.Common.{append_assoc, append-nil, ◌≡◌, ℕ, zero, suc, ◌+◌, ◌-◌, ◌*◌, ◌/◌, ◌%◌, ◌^◌, ◌<◌, ◌≤◌, Bool, true, false, not, List, [], ◌∷◌, ◌++◌, length, take, drop, set}
 use Rattle.std.proofs.Common.{refl, sym, ap, ◌∙◌, arith, inl, inr}
-use Rattle.std.specs.Prelude.{◌↔◌}
+use Rattle.std.specs.Prelude.{◌↔◌, ◌==◌}
 use Rattle.std.proofs.Math.Nat.{pow-le-pow_right}
-use Rattle.std.proofs.lemmas.Bool.{cases_lt}
+use Rattle.std.proofs.lemmas.Bool.{cases_lt, ne_eqb}
 use Rattle.std.proofs.lemmas.Nat.{pow-add, shr_split, mul-le}
 use Rattle.std.proofs.lemmas.List.{take_more_set, length-set, drop-set-lt, drop-drop}
 use Rattle.vitc_reader.specs.Runs.{total, bits_of_run, bits_of, IsCells, AreCells, StandFor, runs_from, HaveCells, AreRunsOf}
+use Rattle.vitc_reader.specs.Written.{run_length, cells_in, runs_in}
 use Rattle.vitc_reader.proofs.BitsOfCells.{level_after, level_after-last, bits_of-last, odd_runs}
 use Rattle.vitc_reader.proofs.WholeCells.{total-append}
 
@@ -55,6 +56,7 @@ pub record WrittenSoFar (n bits : ℕ) (old runs : List ℕ) (rest cell number :
   pub size : length runs ≡ 90
   pub next : 1 ≤ rest → ((rest % 2 ≡ 1) ↔ (is_high ≡ true))
   pub last : rest ≡ 0 → is_high ≡ false
+  pub left : list ++ cells_in (90 - number) is_high rest ≡ cells_in 90 true bits
 
 pub none_written : (n bits : ℕ) (runs : List ℕ) → bits % 2 ≡ 1 → length runs ≡ 90 → WrittenSoFar n bits runs runs bits 0 0 true
 none_written n bits runs odd size = record {
@@ -70,6 +72,7 @@ none_written n bits runs odd size = record {
   size = size;
   next = λ some. (λ e. refl, λ e. odd);
   last = λ none. absurd (omega (arith, odd, none));
+  left = refl;
 }
 
 -- bits that are left are within the line
@@ -117,11 +120,26 @@ ended m false h z = let e = h.1 refl in absurd (omega (arith, e, z))
 drop_more : (xs ys : List ℕ) (n : ℕ) → drop n xs ≡ drop n ys → drop (n + 1) xs ≡ drop (n + 1) ys
 drop_more xs ys n e = sym (drop-drop 1 n xs) ∙ ap (λ (zs : List ℕ). drop 1 zs) e ∙ drop-drop 1 n ys
 
+-- the first run of bits that are left, and those behind it
+cells_more : (number rest k : ℕ) (is_high : Bool) → number < 90 → 1 ≤ rest → k ≡ run_length is_high rest
+    → cells_in (90 - number) is_high rest ≡ k ∷ cells_in (90 - (number + 1)) (not is_high) (rest / 2 ^ k)
+unfolding cells_in
+cells_more number rest k is_high lt some exact =
+    let more : 90 - number ≡ suc (90 - (number + 1)) = omega (arith, lt) in
+    let not_none : (rest == 0) ≡ false = ne_eqb rest 0 (λ e. omega (arith, e, some)) in
+    rw (more, not_none, exact) refl
+
+none_more : (n : ℕ) (level : Bool) → cells_in n level 0 ≡ []
+unfolding cells_in
+none_more zero level = refl
+none_more (suc n) level = refl
+
 -- one run more is written
 pub write_more : (n bits : ℕ) (old runs : List ℕ) (rest cell number k : ℕ) (is_high : Bool) → WrittenSoFar n bits old runs rest cell number is_high
     → bits < 2 ^ 90 → number < 90 → 1 ≤ k → 2 ^ (k - 1) ≤ rest → rest % 2 ^ k ≡ bits_of_run is_high k → ((rest / 2 ^ k % 2 ≡ 1) ↔ (is_high ≡ false))
+    → k ≡ run_length is_high rest → 1 ≤ rest
     → WrittenSoFar n bits old (set runs number ((cell + k) * n / 115 - cell * n / 115)) (rest / 2 ^ k) (cell + k) (number + 1) (not is_high)
-write_more n bits old runs rest cell number k is_high s width room some least run change =
+write_more n bits old runs rest cell number k is_high s width room some least run change exact bits_left =
     let size = s.size in
     let lt : number < length runs = omega (arith, size, room) in
     let run_value = (cell + k) * n / 115 - cell * n / 115 in
@@ -145,6 +163,8 @@ write_more n bits old runs rest cell number k is_high s width room some least ru
       size = length-set runs number run_value ∙ size;
       next = λ more. turned (rest / 2 ^ k) is_high change;
       last = λ none. ended (rest / 2 ^ k) is_high change none;
+      left = append_assoc s.list (k ∷ []) (cells_in (90 - (number + 1)) (not is_high) (rest / 2 ^ k))
+          ∙ ap (λ (l : List ℕ). s.list ++ l) (sym (cells_more number rest k is_high room bits_left exact)) ∙ s.left;
     }
 
 -- nothing is left
@@ -153,6 +173,13 @@ pub all_written : (n bits : ℕ) (old runs : List ℕ) (cell number : ℕ) (is_h
 all_written n bits old runs cell number is_high s =
     let value = s.value in
     (s.list, s.have, odd_runs s.list (sym s.level ∙ s.last refl), omega (arith, value), s.front)
+
+-- the runs that are written are those of the bits
+pub exactly_written : (n bits : ℕ) (old runs : List ℕ) (cell number : ℕ) (is_high : Bool) → WrittenSoFar n bits old runs 0 cell number is_high
+    → take number runs ≡ runs_in n bits
+exactly_written n bits old runs cell number is_high s =
+    let all : s.list ≡ cells_in 90 true bits = sym (append-nil s.list) ∙ ap (λ (l : List ℕ). s.list ++ l) (sym (none_more (90 - number) is_high)) ∙ s.left in
+    s.front ∙ ap (runs_from n 0) all
 
 pub odd_number : (n bits : ℕ) (old runs : List ℕ) (cell number : ℕ) (is_high : Bool) → WrittenSoFar n bits old runs 0 cell number is_high
     → (number % 2 ≡ 1) × (number ≤ 89)

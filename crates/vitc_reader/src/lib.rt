@@ -18,6 +18,7 @@
 
 mod fault;
 mod field;
+pub mod laws;
 mod reading;
 mod writing;
 

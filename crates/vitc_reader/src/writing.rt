@@ -2,12 +2,14 @@
 
 ghost use Rattle.std.specs.Prelude.{◌≡◌, ◌↔◌, ◌^◌, ◌<◌, ◌≤◌, ◌%◌, ◌/◌, ◌*◌, ◌+◌, ◌-◌, take, drop, Bool, true, false};
 ghost use Rattle.vitc_reader.specs.Runs.{IsLineLength, MayBeLine, StandFor, AreRunsOf, bits_of_run};
+ghost use Rattle.vitc_reader.specs.Written.{run_length, runs_in};
 
 /// How many of the lowest bits have this level, where the lowest one has it.
 fn run_of(is_high: bool, rest: u128) -> u32
     requires width { rest < 2 ^ 90 }
     requires some { 1 ≤ rest }
     requires level { (rest % 2 ≡ 1) ↔ (is_high ≡ true) }
+    ensures exact { result ≡ run_length is_high rest }
     ensures least { 1 ≤ result }
     ensures within { result ≤ 90 }
     ensures run { rest % 2 ^ result ≡ bits_of_run is_high result }
@@ -39,6 +41,7 @@ pub fn runs_of(length: u32, bits: u128, runs: &mut [u16; 90]) -> usize
     requires high { bits % 2 ≡ 1 }
     ensures number { result ≤ 89 }
     ensures written { AreRunsOf length bits (take result runs.new) }
+    ensures exact { take result runs.new ≡ runs_in length bits }
     ensures rest { drop result runs.new ≡ drop result runs.old }
 
     // What is written is read back.

@@ -61,7 +61,7 @@ fn a_cell_just_outside_the_tolerance_costs_its_word(rt: HostRuntime) -> Result<(
     ] {
         let mut intervals = steady.clone()?;
         for (place, length) in places {
-            intervals[place] = length;
+            *intervals.get_mut(place).ok_or("no such interval")? = length;
         }
         let input = file(alloc, System::F25, &intervals)?;
         Trial::new("ltc-read", &input).ends(&rt, Status::Done, report, "")?;

@@ -1,4 +1,4 @@
-use Rattle.std.proofs.Common.{arith}
+use Rattle.std.proofs.Common.{arith, refl}
 use Rattle.vitc_reader.proofs.LevelOfARun.{ones_level, zeros_level, not_odd}
 use Rattle.vitc_reader.proofs.writing.run_of.Goals as goal
 
@@ -8,6 +8,7 @@ returns-then-is_high c =
     let h = ones_level c.args.rest c.requires.width (c.requires.level.1 c.if-is_high.true) in
     let e = c.trailing_ones.ensures in
     record {
+      exact = rw c.if-is_high.true e;
       least = rw e h.0.least;
       within = rw e h.0.within;
       run = rw (c.if-is_high.true, e) h.0.run;
@@ -21,6 +22,7 @@ returns-else-is_high c =
     let even = not_odd c.args.rest (λ odd. let high = c.requires.level.0 odd in let low = c.if-is_high.false in absurd cc) in
     let h = zeros_level c.args.rest c.requires.width c.requires.some even in
     record {
+      exact = rw c.if-is_high.false refl;
       least = h.0.least;
       within = h.0.within;
       run = rw c.if-is_high.false h.0.run;

@@ -1,0 +1,6 @@
+pub mod Answer
+pub mod Column
+pub mod Kept
+pub mod Lock
+pub mod Script
+pub mod TraceText

@@ -1,0 +1,81 @@
+-- The text of a trace, byte for byte: a line a row, and a last line. The form is this project's own.
+use Rattle.std.specs.Prelude.{ℕ, ◌+◌, ◌*◌, ◌/◌, ◌%◌, Bool, true, false, List, [], ◌∷◌, ◌++◌, length, map, codes, decimal, slice_get, Option, Some, None}
+use Rattle.std.specs.Fmt.{signed_decimal}
+use Rattle.std.specs.List.{count_by}
+use Rattle.tc_address.specs.declared.count.Count.{Count}
+use Rattle.tc_address.specs.Label.{Address, labels}
+use Rattle.tc_address.specs.Numbering.{number_of}
+use Rattle.tc_address.specs.Spelling.{text_of, two_digits}
+use Rattle.chase_core.specs.declared.mode.Mode.TheVariants as modes
+use Rattle.chase_core.specs.declared.report.State.{State}
+use Rattle.chase_core.specs.declared.report.State.TheVariants.{Waiting, Locating, Pulling, Locked}
+use Rattle.chase_core.specs.declared.report.Loss.{Loss}
+use Rattle.chase_core.specs.declared.report.Loss.TheVariants.{NoCode, Window}
+use Rattle.chase_core.specs.Trace.{Loop, Row, Traced, trace}
+use Rattle.chase_script.specs.declared.row.ScriptRow.{ScriptRow}
+
+-- ---- the lines
+
+abbrev pub state_name : State → List ℕ
+state_name Waiting = codes "waiting"
+state_name Locating = codes "locating"
+state_name Pulling = codes "pulling"
+state_name Locked = codes "locked"
+
+abbrev pub loss_name : Option Loss → List ℕ
+loss_name None = codes "none"
+loss_name (Some NoCode) = codes "no-code"
+loss_name (Some (Window error)) = codes "window"
+
+-- the text of a label, if there is one
+abbrev pub label_text : Option Address → List ℕ
+label_text None = []
+label_text (Some label) = text_of label
+
+-- a position: the label that it lies in, and the subframes behind the label's beginning
+abbrev pub position_text : Count → ℕ → List ℕ
+position_text count position = label_text (slice_get (labels count) (position / 80)) ++ codes "+" ++ two_digits (position % 80)
+
+-- the line of a step
+abbrev pub step_line : Count → ℕ → Traced → List ℕ
+step_line count step line =
+    codes "step " ++ decimal step ++ codes " " ++ state_name line.report.state ++ codes " error " ++ signed_decimal line.report.error
+    ++ codes " order " ++ signed_decimal line.report.order ++ codes " loss " ++ loss_name line.report.loss
+    ++ codes " at " ++ position_text count line.position ++ codes "\n"
+
+-- the last line
+abbrev pub step_end_line : ℕ → ℕ → List ℕ
+step_end_line steps losses = codes "end steps " ++ decimal steps ++ codes " losses " ++ decimal losses ++ codes "\n"
+
+-- ---- all of them
+
+-- the step lost the lock
+abbrev pub is_lost : Option Loss → Bool
+is_lost None = false
+is_lost (Some loss) = true
+
+abbrev pub loses : Traced → Bool
+loses line = is_lost line.report.loss
+
+-- lines of steps, the first of which has this number
+unfoldable pub step_lines : Count → ℕ → List Traced → List ℕ
+step_lines count step [] = []
+step_lines count step (line ∷ lines) = step_line count step line ++ step_lines count (step + 1) lines
+
+-- the text of a trace
+abbrev pub trace_text : Count → List Traced → List ℕ
+trace_text count lines = step_lines count 1 lines ++ step_end_line (length lines) (count_by loses lines)
+
+-- ---- the trace of a script
+
+-- the row as the closed loop takes it
+abbrev pub row_of : ScriptRow → Row
+row_of row = record { command = row.command; master = row.master; slip = row.slip }
+
+-- a chase that waits, and a transport at the first subframe of a label
+abbrev pub starts_at : Address → Loop
+starts_at label = record { chase = record { count = label.count; mode = modes.Waiting }; position = 80 * number_of label }
+
+-- the trace of rows from a label on
+abbrev pub trace_from : Address → List ScriptRow → List Traced
+trace_from label rows = trace (starts_at label) (map row_of rows)

@@ -1,0 +1,45 @@
+//! The rows of a script. Next: `tc_top`, which works them.
+ghost use Rattle.std.specs.Prelude.{◌≡◌, IfErr, IfOk, Ok};
+ghost use Rattle.tc_address.specs.declared.count.Count.{Count};
+ghost use Rattle.chase_script.specs.Script.{script_in};
+ghost use Rattle.chase_script.specs.Answer.{AreRowsFor, IsRefusal};
+
+use crate::fault::{RowFault, ScriptFault};
+use crate::row::{ScriptRow, row_in};
+use csv::ReaderBuilder;
+use std::alloc::{AllocError, Global};
+use tc_address::Count;
+
+/// The rows of a script, in memory.
+pub type Script = Vec<ScriptRow>;
+
+/// Reads the rows of a script, with the labels of a count. The first refused record is named, with its
+/// least refused column.
+pub fn script_rows(alloc: Global, bytes: &[u8], count: Count) -> Result<Script, ScriptFault>
+    ensures reads { IfOk result (λ script. script_in count bytes.now ≡ Ok script.items) }
+    ensures refuses { IfErr result (λ fault. IsRefusal (script_in count bytes.now) fault) }
+    ensures fits { IfOk result (λ script. AreRowsFor count script.items) }
+{
+    let reader = ReaderBuilder::new()
+        .has_headers(false)
+        .flexible(true)
+        .from_reader(alloc, bytes);
+    let mut rows = Vec::new(alloc);
+    for read in reader.into_byte_records() {
+        let Ok(fields) = read else {
+            return Err(ScriptFault::Memory(AllocError));
+        };
+        match row_in(count, &fields) {
+            Ok(row) => {
+                if rows.push(row).is_err() {
+                    return Err(ScriptFault::Memory(AllocError));
+                }
+            }
+            Err(column) => {
+                let row = rows.len() as u64 + 1;
+                return Err(ScriptFault::Row(RowFault { row, column }));
+            }
+        }
+    }
+    Ok(rows)
+}
