@@ -3,11 +3,14 @@ pub mod AnItemMore
 pub mod ChaseStatus
 pub mod Converted
 pub mod CountedEvents
+pub mod CountedLabels
 pub mod Digits
 pub mod FlightGrows
 pub mod FramesInOrder
 pub mod LinesGrow
 pub mod LinesOfFrames
+pub mod LoadInPieces
+pub mod LoadIsRead
 pub mod MadeInPieces
 pub mod MadeIsRead
 pub mod MadeIsShort

@@ -9,7 +9,7 @@ use Rattle.direction_reader.specs.ListEvents.{AreEvents}
 use Rattle.tc_files.specs.declared.interval_file.header.IntervalHeader.{IntervalHeader}
 use Rattle.tc_files.specs.Recording.{recording_of}
 use Rattle.tc_words.specs.declared.job.Job.{Job}
-use Rattle.tc_words.specs.declared.job.Job.TheVariants.{LtcRead, LtcWorn, LtcFly, LtcMtc, MtcRead, Number, LabelOf, LtcMake, LtcConvert, PcmLtc, LtcPcm}
+use Rattle.tc_words.specs.declared.job.Job.TheVariants.{LtcRead, LtcWorn, LtcFly, LtcMtc, MtcRead, Number, LabelOf, LtcMake, LtcConvert, PcmLtc, LtcPcm, LtcLoad}
 use Rattle.tc_top.specs.Along.{IsPartBehind, IsWholeBehind}
 use Rattle.tc_top.specs.Commands.{meaning_of}
 use Rattle.tc_top.specs.LtcFly.{lines_of_frames}
@@ -83,6 +83,7 @@ one_output law (LtcMtc limit) input a b x y =
     one_flight law limit messages_of_frames (recording_of input).header (recording_of input).intervals a b x y
 one_output law MtcRead input a b x y = x ∙ sym y
 one_output law (LtcMake stripe) input a b x y = x.1 ∙ sym y.1
+one_output law (LtcLoad run) input a b x y = x.1 ∙ sym y.1
 one_output law (LtcConvert version) input a b x y = one_conversion version (recording_of input).header (recording_of input).intervals a b x y
 one_output law (PcmLtc slicing) input a b x y = x ∙ sym y
 one_output law (LtcPcm size) input a b x y = one_sound size (recording_of input).header (recording_of input).intervals a b x y
@@ -98,6 +99,7 @@ one_part_of law (LtcMtc limit) pulled a b x y =
     one_flight_part law limit messages_of_frames (recording_of pulled).header (recording_of pulled).intervals a b x y
 one_part_of law MtcRead pulled a b x y = x ∙ sym y
 one_part_of law (LtcMake stripe) pulled a b x y = x ∙ sym y
+one_part_of law (LtcLoad run) pulled a b x y = x ∙ sym y
 one_part_of law (LtcConvert version) pulled a b x y = one_conversion_part version (recording_of pulled).header (recording_of pulled).intervals a b x y
 one_part_of law (PcmLtc slicing) pulled a b x y = x ∙ sym y
 one_part_of law (LtcPcm size) pulled a b x y = one_sound_part size (recording_of pulled).header (recording_of pulled).intervals a b x y

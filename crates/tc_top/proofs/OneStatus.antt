@@ -9,7 +9,7 @@ use Rattle.tc_files.specs.declared.fault.FileFault.{FileFault}
 use Rattle.tc_files.specs.Recording.{Recording, decoding_of}
 use Rattle.tc_files.specs.Verdict.{Verdict, good, refused, past_limit}
 use Rattle.tc_words.specs.declared.job.Job.{Job}
-use Rattle.tc_words.specs.declared.job.Job.TheVariants.{LtcRead, LtcWorn, LtcFly, LtcMtc, MtcRead, Number, LabelOf, LtcMake, LtcConvert, PcmLtc, LtcPcm}
+use Rattle.tc_words.specs.declared.job.Job.TheVariants.{LtcRead, LtcWorn, LtcFly, LtcMtc, MtcRead, Number, LabelOf, LtcMake, LtcConvert, PcmLtc, LtcPcm, LtcLoad}
 use Rattle.tc_top.specs.declared.status.Status.TheVariants as status
 use Rattle.tc_top.specs.declared.stop.Stop.{Stop}
 use Rattle.tc_top.specs.declared.stop.Stop.TheVariants as stops
@@ -93,6 +93,7 @@ settles (LtcFly limit) = along_settles _
 settles (LtcMtc limit) = along_settles _
 settles MtcRead = midi_settles
 settles (LtcMake stripe) = writes_settles _
+settles (LtcLoad run) = writes_settles _
 settles (LtcConvert version) = along_settles _
 settles (PcmLtc slicing) = samples_settle slicing
 settles (LtcPcm size) = along_settles _

@@ -10,10 +10,12 @@ pub mod KeptTape
 pub mod KeptReport
 pub mod KeptScript
 pub mod KeptFlight
+pub mod KeptLoad
 pub mod KeptMtc
 pub mod KeptSlices
 pub mod KeptSound
 pub mod Labels
+pub mod Load
 pub mod LtcConvert
 pub mod LtcFly
 pub mod LtcMtc

@@ -4,6 +4,7 @@ pub(crate) mod chase;
 pub(crate) mod labels;
 pub(crate) mod ltc_convert;
 pub(crate) mod ltc_fly;
+pub(crate) mod ltc_load;
 pub(crate) mod ltc_make;
 pub(crate) mod ltc_mtc;
 pub(crate) mod ltc_pcm;

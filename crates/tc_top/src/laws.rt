@@ -18,6 +18,7 @@ ghost use Rattle.tc_top.specs.LtcRead.{last_line, lines};
 ghost use Rattle.tc_top.specs.Made.{made, made_cells, made_events, made_header};
 ghost use Rattle.tc_top.specs.Meaning.{Meaning, IsInput};
 ghost use Rattle.tc_top.specs.declared.chasing.TheConstants.{MAX_SCRIPT};
+ghost use Rattle.tc_top.specs.declared.chance.TheConstants as chance;
 ghost use Rattle.tc_top.specs.declared.engines.mtc_read.TheConstants.{MAX_BYTES};
 ghost use Rattle.tc_top.specs.declared.engines.pcm_ltc.TheConstants.{MAX_SAMPLES};
 
@@ -51,6 +52,15 @@ pub fn pcm_ltc_has_this_limit()
 /// A script of `chase` has a mebibyte at most.
 pub fn a_script_has_this_limit()
     ensures { MAX_SCRIPT ≡ 1048576 }
+{}
+
+/// The generator of `ltc-load` has these numbers.
+pub fn the_generator_is_this()
+    ensures factor { chance.FACTOR ≡ 6364136223846793005 }
+    ensures summand { chance.SUMMAND ≡ 1442695040888963407 }
+    ensures first { chance.FIRST_LENGTH ≡ 512 }
+    ensures least { chance.LEAST_LENGTH ≡ 64 }
+    ensures greatest { chance.GREATEST_LENGTH ≡ 4096 }
 {}
 
 /// Each input that `ltc-convert` takes whole is a file, and it writes the file of the asked version with

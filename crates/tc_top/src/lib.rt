@@ -24,6 +24,7 @@
 #![tactic(auto)]
 
 mod along;
+mod chance;
 mod chasing;
 mod engine;
 mod engines;

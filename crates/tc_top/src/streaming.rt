@@ -73,7 +73,7 @@ pub fn stream<S: Source, K: Sink, N: Sink>(
     ensures marked { (limit : ℕ) → job.now ≡ Job.LtcFly limit
         → (written : List ℕ) × Appends (K.written out.old) (K.written out.new) written × IsMarked limit written }
 
-    // A recording that the job makes is read back, frame by frame.
+    // A recording that the job makes is read back, frame by frame; what `ltc-load` makes is read, word by word.
     ensures read { MakesWhatIsRead job.now }
 
     // Sound that the job makes is sliced into the same intervals.
@@ -123,6 +123,7 @@ fn work_on<S: Source, K: Sink>(job: &Job, source: &mut S, out: &mut K) -> Result
         }
         Job::MtcRead => work(&mut MtcReport::new(), source, out),
         Job::LtcMake { stripe } => make(&mut Tape::new(stripe), source, out),
+        Job::LtcLoad { run } => make(&mut OneLine::load(run), source, out),
         Job::LtcConvert { version } => {
             work(&mut Along::<Conversion>::new(*version), source, out)
         }

@@ -4,6 +4,7 @@ mod convert;
 mod damage;
 mod faults;
 mod frames;
+mod load;
 mod made;
 mod midi;
 mod reading;

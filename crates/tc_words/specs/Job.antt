@@ -10,7 +10,9 @@ use Rattle.tc_words.specs.declared.fault.WordsFault.{WordsFault}
 use Rattle.tc_words.specs.declared.fault.WordsFault.TheVariants.{Dash, Command, CountOfWords, Value}
 use Rattle.tc_words.specs.Sound.{amplitude_in, following, in_samples, in_ticks}
 use Rattle.tc_words.specs.Tape.{at_one_length, moving, value_or}
-use Rattle.tc_words.specs.Values.{Word, count_in, limit_in, numbered, spelled, version_in}
+use Rattle.tc_words.specs.declared.load.TheConstants.{MAX_WORDS}
+use Rattle.tc_words.specs.Load.{loading_of}
+use Rattle.tc_words.specs.Values.{Word, between, count_in, limit_in, number_in, numbered, spelled, version_in}
 use Rattle.command_words.specs.CommandLine.{begins_with_dash}
 
 -- the job, or the first fault
@@ -45,6 +47,12 @@ ltc_make (count ∷ direction ∷ label ∷ frames ∷ cell ∷ tick_rate ∷ []
 ltc_make (count ∷ direction ∷ label ∷ frames ∷ cell ∷ tick_rate ∷ to_cell ∷ step ∷ []) =
     moving count direction label frames cell tick_rate to_cell step
 ltc_make _ = Err CountOfWords
+
+-- `ltc-load SEED WORDS`
+abbrev pub ltc_load : List Word → Answer
+ltc_load (seed ∷ words ∷ []) =
+    with_value 1 (number_in seed) (λ s. with_value 2 (between 1 MAX_WORDS words) (λ w. Ok (jobs.LtcLoad (loading_of s w))))
+ltc_load _ = Err CountOfWords
 
 -- `ltc-convert VERSION`
 abbrev pub ltc_convert : List Word → Answer
@@ -86,6 +94,7 @@ job_of command values =
     else if bytes_eq command commands.LTC_MTC.now then ltc_mtc values
     else if bytes_eq command commands.MTC_READ.now then no_values jobs.MtcRead values
     else if bytes_eq command commands.LTC_MAKE.now then ltc_make values
+    else if bytes_eq command commands.LTC_LOAD.now then ltc_load values
     else if bytes_eq command commands.LTC_CONVERT.now then ltc_convert values
     else if bytes_eq command commands.PCM_LTC.now then pcm_ltc values
     else if bytes_eq command commands.LTC_PCM.now then ltc_pcm values

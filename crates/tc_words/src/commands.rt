@@ -22,6 +22,9 @@ pub const MTC_READ: &str = "mtc-read";
 /// The word of `Job::LtcMake`.
 pub const LTC_MAKE: &str = "ltc-make";
 
+/// The word of `Job::LtcLoad`.
+pub const LTC_LOAD: &str = "ltc-load";
+
 /// The word of `Job::LtcConvert`.
 pub const LTC_CONVERT: &str = "ltc-convert";
 

@@ -1,5 +1,6 @@
 //! What the words name. Next: `tc_top`, which does it.
 use crate::amplitude::Amplitude;
+use crate::load::LoadRun;
 use crate::slicing::Slicing;
 use crate::stripe::Stripe;
 use tc_address::Label;
@@ -33,6 +34,8 @@ pub enum Job {
     /// `ltc-make COUNT DIRECTION LABEL FRAMES CELL TICK-RATE [TO-CELL STEP]`: makes an interval file of
     /// these frames.
     LtcMake { stripe: Stripe },
+    /// `ltc-load SEED WORDS`: makes a recording of so many words by chance, reads it, and writes one line.
+    LtcLoad { run: LoadRun },
     /// `ltc-convert VERSION`: reads an interval file, and writes it in this version.
     LtcConvert { version: FileVersion },
     /// `pcm-ltc SYSTEM RATE THRESHOLD [FINENESS [follow]]`: reads samples of sound, and writes an interval

@@ -7,8 +7,9 @@
 //! the order of `WordsFault`, and want of memory is an answer of its own (`specs/Job.antt`,
 //! `answer_to`). A task is a job that is streamed, or a chase.
 //!
-//! Read `commands`, `fault`, `job`, `stripe`, `tape`, `slicing`, `amplitude`, `sound`, `values` and `words`, with `specs/Job.antt` and `specs/Values.antt`
-//! beside them: `words` and `Job.antt` have the same rows. `tc_top` stands on this crate.
+//! Read `commands`, `fault`, `job`, `stripe`, `tape`, `load`, `slicing`, `amplitude`, `sound`, `values` and
+//! `words`, with `specs/Job.antt` and `specs/Values.antt` beside them: `words` and `Job.antt` have the same
+//! rows. `tc_top` stands on this crate.
 //!
 //! A later command joins in these places:
 //! - its job, a variant of `Job` (`job`);
@@ -23,6 +24,7 @@ pub mod commands;
 mod fault;
 mod job;
 pub mod laws;
+mod load;
 mod slicing;
 mod sound;
 mod stripe;
@@ -32,8 +34,9 @@ mod words;
 
 pub use amplitude::Amplitude;
 pub use fault::WordsFault;
-pub use slicing::{MAX_FINENESS, MAX_SIZE, Slicing};
 pub use job::{Job, Task};
+pub use load::{LoadRun, MAX_WORDS};
+pub use slicing::{MAX_FINENESS, MAX_SIZE, Slicing};
 pub use stripe::{MAX_FRAMES, MAX_TICK_RATE, Stripe};
 pub use words::read_words;
 

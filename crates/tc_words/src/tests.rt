@@ -67,6 +67,11 @@ fn the_first_fault_is_told(rt: HostRuntime) -> Result<(), Fail> {
             "ltc-make 25 backward 00:00:00:00 1000000 8388607 100000001",
             WordsFault::Value(6),
         ),
+        ("ltc-load 1", WordsFault::CountOfWords),
+        ("ltc-load one 0", WordsFault::Value(1)),
+        ("ltc-load 18446744073709551616 1", WordsFault::Value(1)),
+        ("ltc-load 18446744073709551615 0", WordsFault::Value(2)),
+        ("ltc-load 0 100001", WordsFault::Value(2)),
         ("ltc-convert", WordsFault::CountOfWords),
         ("ltc-convert 3", WordsFault::Value(1)),
         ("ltc-convert 01", WordsFault::Value(1)),
@@ -144,7 +149,11 @@ fn jobs_are_read(rt: HostRuntime) -> Result<(), Fail> {
         ("ltc-mtc 255", Job::LtcMtc { limit: 255 }),
     ] {
         let words = typed(alloc, line)?;
-        assert_eq!(rt; read_words(alloc, &words), Ok(Task::Stream(job)), "at {line}");
+        assert_eq!(rt;
+            read_words(alloc, &words),
+            Ok(Task::Stream(job)),
+            "at {line}"
+        );
     }
     for (line, version) in [
         ("ltc-convert 1", FileVersion::One),

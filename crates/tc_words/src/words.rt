@@ -2,14 +2,15 @@
 //! `job`.
 ghost use Rattle.std.specs.Prelude.{◌≡◌, ◌⊎◌, map, position, string_bytes, alloc_error};
 ghost use Rattle.command_words.specs.CommandLine.{begins_with_dash};
-ghost use Rattle.tc_words.specs.Job.{answer_to, without_dashes, job_of, no_values, ltc_fly, ltc_mtc, number, label_of, ltc_make, ltc_convert, pcm_ltc, ltc_pcm, task_of, chase};
+ghost use Rattle.tc_words.specs.Job.{answer_to, without_dashes, job_of, no_values, ltc_fly, ltc_mtc, number, label_of, ltc_make, ltc_convert, pcm_ltc, ltc_pcm, task_of, chase, ltc_load};
 
 use crate::commands;
 use crate::fault::WordsFault;
-use crate::sound::{amplitude_in, following, in_samples, in_ticks};
 use crate::job::{Job, Task};
+use crate::load::{LoadRun, MAX_WORDS};
+use crate::sound::{amplitude_in, following, in_samples, in_ticks};
 use crate::tape::{at_one_length, moving};
-use crate::values::{count_in, limit_in, numbered, spelled, version_in};
+use crate::values::{between, count_in, limit_in, number_in, numbered, spelled, version_in};
 use command_words::CommandLine;
 use std::alloc::Global;
 
@@ -84,6 +85,7 @@ fn job_of(command: &str, values: &[&str]) -> Result<Job, WordsFault>
         commands::LTC_MTC => ltc_mtc(values),
         commands::MTC_READ => no_values(values, Job::MtcRead),
         commands::LTC_MAKE => ltc_make(values),
+        commands::LTC_LOAD => ltc_load(values),
         commands::LTC_CONVERT => ltc_convert(values),
         commands::PCM_LTC => pcm_ltc(values),
         commands::LTC_PCM => ltc_pcm(values),
@@ -147,6 +149,20 @@ fn ltc_make(values: &[&str]) -> Result<Job, WordsFault>
         ),
         _ => Err(WordsFault::CountOfWords),
     }
+}
+
+// `ltc-load SEED WORDS`
+fn ltc_load(values: &[&str]) -> Result<Job, WordsFault>
+    ensures { result ≡ ltc_load (map (λ v. v.now) values.now) }
+{
+    let [seed, words] = values else {
+        return Err(WordsFault::CountOfWords);
+    };
+    let seed = number_in(seed).ok_or(WordsFault::Value(1))?;
+    let words = between(1, MAX_WORDS, words).ok_or(WordsFault::Value(2))?;
+    Ok(Job::LtcLoad {
+        run: LoadRun::new(seed, words),
+    })
 }
 
 // `ltc-convert VERSION`

@@ -35,11 +35,7 @@ fn a_script_becomes_a_trace(rt: HostRuntime) -> Result<(), Fail> {
 #[test]
 fn labels_are_located_from_any_place(rt: HostRuntime) -> Result<(), Fail> {
     for (words, script, trace) in [
-        (
-            "chase 25 00:00:00:00",
-            "",
-            "end steps 0 losses 0\n",
-        ),
+        ("chase 25 00:00:00:00", "", "end steps 0 losses 0\n"),
         (
             "chase 25 00:00:00:00",
             "locate,00:00:01:00,,,\n,,,,",
@@ -99,7 +95,10 @@ fn rows_are_the_records_of_the_text(rt: HostRuntime) -> Result<(), Fail> {
 fn the_first_refused_row_and_its_least_column(rt: HostRuntime) -> Result<(), Fail> {
     for (script, note) in [
         (b"play".as_slice(), "tc: refused: row 1 column 0\n"),
-        (b"play,,00:00:00:00,forward,0,", "tc: refused: row 1 column 0\n"),
+        (
+            b"play,,00:00:00:00,forward,0,",
+            "tc: refused: row 1 column 0\n",
+        ),
         (b"\"\"", "tc: refused: row 1 column 0\n"),
         (b"\xef\xbb", "tc: refused: row 1 column 0\n"),
         (b"Play,,,,", "tc: refused: row 1 column 1\n"),
@@ -118,7 +117,10 @@ fn the_first_refused_row_and_its_least_column(rt: HostRuntime) -> Result<(), Fai
         (b",,,,+1", "tc: refused: row 1 column 5\n"),
         (b",,,,-", "tc: refused: row 1 column 5\n"),
         (b",,,,1 ", "tc: refused: row 1 column 5\n"),
-        (b",,,,-1000000\n\n,,,,1000000\nwait,,,,\nx,,,,\n", "tc: refused: row 4 column 1\n"),
+        (
+            b",,,,-1000000\n\n,,,,1000000\nwait,,,,\nx,,,,\n",
+            "tc: refused: row 4 column 1\n",
+        ),
     ] {
         Trial::new("chase 25 00:00:00:00", script).ends(&rt, Status::Refused, "", note)?;
     }
