@@ -97,7 +97,7 @@ fn the_first_fault_is_told(rt: HostRuntime) -> Result<(), Fail> {
 fn label_text(job: &Job) -> Option<[u8; 11]> {
     match job {
         Job::LtcRead | Job::LtcWorn | Job::LtcFly { .. } | Job::LtcConvert { .. } => None,
-        Job::LtcMtc { .. } | Job::MtcRead => None,
+        Job::LtcMtc { .. } | Job::MtcRead | Job::LtcLoad { .. } => None,
         Job::LtcMake { stripe } => Some(text(&stripe.label())),
         Job::Number { label } => Some(text(label)),
         Job::LabelOf { label } => Some(text(label)),
