@@ -125,8 +125,8 @@ fn label_text(task: &Task) -> Option<[u8; 11]> {
 fn label_text_of(job: &Job) -> Option<[u8; 11]> {
     match job {
         Job::LtcRead | Job::LtcWorn | Job::LtcFly { .. } | Job::LtcConvert { .. } => None,
-        Job::LtcMtc { .. } | Job::MtcRead => None,
         Job::PcmLtc { .. } | Job::LtcPcm { .. } => None,
+        Job::LtcMtc { .. } | Job::MtcRead | Job::LtcLoad { .. } => None,
         Job::LtcMake { stripe } => Some(text(&stripe.label())),
         Job::Number { label } => Some(text(label)),
         Job::LabelOf { label } => Some(text(label)),
