@@ -8,6 +8,7 @@ complete -c tc -n '__fish_is_first_arg' -a ltc-make -d 'a recording of a run of 
 complete -c tc -n '__fish_is_first_arg' -a ltc-load -d 'a generated recording, read'
 complete -c tc -n '__fish_is_first_arg' -a ltc-convert -d 'a recording in the other version of the file'
 complete -c tc -n '__fish_is_first_arg' -a mtc-read -d 'the labels in MIDI bytes'
+complete -c tc -n '__fish_is_first_arg' -a vitc-read -d 'the fields of vertical interval time code'
 complete -c tc -n '__fish_is_first_arg' -a number -d 'the number of a label'
 complete -c tc -n '__fish_is_first_arg' -a label -d 'the label of a number'
 complete -c tc -n '__fish_seen_subcommand_from number label ltc-make; and test (count (commandline -opc)) -eq 2' -a '24 25 30 30d'

@@ -3,6 +3,7 @@ pub mod AnItemMore
 pub mod Converted
 pub mod CountedEvents
 pub mod Digits
+pub mod FieldsGrow
 pub mod FlightGrows
 pub mod FramesInOrder
 pub mod LinesGrow

@@ -7,6 +7,7 @@ pub mod KeptConversion
 pub mod KeptLine
 pub mod KeptTape
 pub mod KeptReport
+pub mod KeptFields
 pub mod KeptFlight
 pub mod KeptMtc
 pub mod Labels
@@ -22,3 +23,4 @@ pub mod OfFrames
 pub mod Status
 pub mod Stops
 pub mod Tape
+pub mod VitcRead

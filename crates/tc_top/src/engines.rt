@@ -7,3 +7,4 @@ pub(crate) mod ltc_make;
 pub(crate) mod ltc_mtc;
 pub(crate) mod ltc_read;
 pub(crate) mod mtc_read;
+pub(crate) mod vitc_read;

@@ -15,6 +15,7 @@ ghost use Rattle.tc_top.specs.Meaning.{Meaning};
 ghost use Rattle.tc_top.specs.declared.engines.mtc_read.TheConstants.{MAX_BYTES};
 
 use direction_reader::laws::a_list_has_one_list_of_events;
+use line_file::laws::bytes_have_one_list_of_answers;
 use tc_files::laws::a_file_is_read_as_it_was_written;
 
 /// A job writes one output of an input, and one part of the bytes that were pulled. So the lines are
@@ -26,6 +27,7 @@ pub fn an_input_has_one_output()
         → Meaning.part (meaning_of job) pulled b → a ≡ b }
 {
     a_list_has_one_list_of_events();
+    bytes_have_one_list_of_answers();
 }
 
 /// `mtc-read` reads a thousand million bytes, and no more.

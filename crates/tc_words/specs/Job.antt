@@ -72,6 +72,7 @@ job_of command values =
     else if bytes_eq command commands.MTC_READ.now then no_values jobs.MtcRead values
     else if bytes_eq command commands.LTC_MAKE.now then ltc_make values
     else if bytes_eq command commands.LTC_CONVERT.now then ltc_convert values
+    else if bytes_eq command commands.VITC_READ.now then no_values jobs.VitcRead values
     else if bytes_eq command commands.NUMBER.now then number values
     else if bytes_eq command commands.LABEL.now then label_of values
     else Err Command

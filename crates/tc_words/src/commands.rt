@@ -22,6 +22,9 @@ pub const LTC_MAKE: &str = "ltc-make";
 /// The word of `Job::LtcConvert`.
 pub const LTC_CONVERT: &str = "ltc-convert";
 
+/// The word of `Job::VitcRead`.
+pub const VITC_READ: &str = "vitc-read";
+
 /// The word of `Job::Number`.
 pub const NUMBER: &str = "number";
 

@@ -23,6 +23,8 @@ pub enum Job {
     LtcMake { stripe: Stripe },
     /// `ltc-convert VERSION`: reads an interval file, and writes it in this version.
     LtcConvert { version: FileVersion },
+    /// `vitc-read`: reads a line file, and writes a line for each field.
+    VitcRead,
     /// `number COUNT LABEL`: writes how many labels of the count stand before the label in the day.
     Number { label: Label },
     /// `label COUNT NUMBER`: writes the label of that number of the day.

@@ -12,6 +12,7 @@ pub fn each_command_has_its_word()
     ensures mtc_read { commands.MTC_READ.now ≡ codes "mtc-read" }
     ensures ltc_make { commands.LTC_MAKE.now ≡ codes "ltc-make" }
     ensures ltc_convert { commands.LTC_CONVERT.now ≡ codes "ltc-convert" }
+    ensures vitc_read { commands.VITC_READ.now ≡ codes "vitc-read" }
     ensures number { commands.NUMBER.now ≡ codes "number" }
     ensures label { commands.LABEL.now ≡ codes "label" }
 {}

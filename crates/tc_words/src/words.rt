@@ -62,6 +62,7 @@ fn job_of(command: &str, values: &[&str]) -> Result<Job, WordsFault>
         commands::MTC_READ => no_values(values, Job::MtcRead),
         commands::LTC_MAKE => ltc_make(values),
         commands::LTC_CONVERT => ltc_convert(values),
+        commands::VITC_READ => no_values(values, Job::VitcRead),
         commands::NUMBER => number(values),
         commands::LABEL => label_of(values),
         _ => Err(WordsFault::Command),
