@@ -8,5 +8,4 @@ mod midi;
 mod reading;
 mod recording;
 mod trial;
-mod vitc;
 mod words;
