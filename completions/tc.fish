@@ -10,6 +10,7 @@ complete -c tc -n '__fish_is_first_arg' -a ltc-convert -d 'a recording in the ot
 complete -c tc -n '__fish_is_first_arg' -a pcm-ltc -d 'sound as a recording'
 complete -c tc -n '__fish_is_first_arg' -a ltc-pcm -d 'a recording as sound'
 complete -c tc -n '__fish_is_first_arg' -a mtc-read -d 'the labels in MIDI bytes'
+complete -c tc -n '__fish_is_first_arg' -a vitc-read -d 'the fields of vertical interval time code'
 complete -c tc -n '__fish_is_first_arg' -a chase -d 'the trace of a chase script'
 complete -c tc -n '__fish_is_first_arg' -a number -d 'the number of a label'
 complete -c tc -n '__fish_is_first_arg' -a label -d 'the label of a number'

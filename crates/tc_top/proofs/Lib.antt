@@ -5,6 +5,7 @@ pub mod Converted
 pub mod CountedEvents
 pub mod CountedLabels
 pub mod Digits
+pub mod FieldsGrow
 pub mod FlightGrows
 pub mod FramesInOrder
 pub mod LinesGrow

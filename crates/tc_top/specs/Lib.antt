@@ -9,6 +9,7 @@ pub mod KeptLine
 pub mod KeptTape
 pub mod KeptReport
 pub mod KeptScript
+pub mod KeptFields
 pub mod KeptFlight
 pub mod KeptLoad
 pub mod KeptMtc
@@ -31,3 +32,4 @@ pub mod SoundAgain
 pub mod Status
 pub mod Stops
 pub mod Tape
+pub mod VitcRead

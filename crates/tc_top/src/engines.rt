@@ -11,3 +11,4 @@ pub(crate) mod ltc_pcm;
 pub(crate) mod ltc_read;
 pub(crate) mod mtc_read;
 pub(crate) mod pcm_ltc;
+pub(crate) mod vitc_read;

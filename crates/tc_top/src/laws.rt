@@ -27,6 +27,7 @@ use direction_reader::laws::{a_list_has_one_list_of_events, played_words_are_rea
 use ltc_word::laws::each_word_has_its_spelling;
 use tc_address::laws::number_and_label_are_inverse;
 use tc_files::laws::{a_file_is_read_as_it_was_written, bytes_are_read_as_the_text_says};
+use line_file::laws::bytes_have_one_list_of_answers;
 
 /// A job writes one output of an input, and one part of the bytes that were pulled. So the lines are
 /// the same in whatever pieces the input comes.
@@ -37,6 +38,7 @@ pub fn an_input_has_one_output()
         → Meaning.part (meaning_of job) pulled b → a ≡ b }
 {
     a_list_has_one_list_of_events();
+    bytes_have_one_list_of_answers();
 }
 
 /// `mtc-read` reads a thousand million bytes, and no more.

@@ -23,6 +23,7 @@ use crate::engines::ltc_pcm::{MadeSound, is_sliced_again};
 use crate::engines::ltc_read::Report;
 use crate::engines::mtc_read::MtcReport;
 use crate::engines::pcm_ltc::SlicedSound;
+use crate::engines::vitc_read::FieldReport;
 use crate::flight::FlightTo;
 use crate::intake::work;
 use crate::making::make;
@@ -33,6 +34,7 @@ use biphase::Profile;
 use direction_reader::laws::{
     events_find_the_tape_again, events_mirror_the_tape, events_tell_the_tape,
 };
+use line_file::laws::what_bytes_show_stays;
 use flywheel::laws::invention_is_bounded_and_marked;
 use tc_io::{Sink, Source};
 use tc_words::Job;
@@ -83,6 +85,7 @@ pub fn stream<S: Source, K: Sink, N: Sink>(
     events_find_the_tape_again();
     invention_is_bounded_and_marked();
     events_mirror_the_tape();
+    what_bytes_show_stays();
     match work_on(job, source, out) {
         Ok(()) => Status::Done,
         Err(stop) => {
@@ -121,6 +124,7 @@ fn work_on<S: Source, K: Sink>(job: &Job, source: &mut S, out: &mut K) -> Result
                 out,
             )
         }
+        Job::VitcRead => work(&mut FieldReport::new(), source, out),
         Job::MtcRead => work(&mut MtcReport::new(), source, out),
         Job::LtcMake { stripe } => make(&mut Tape::new(stripe), source, out),
         Job::LtcLoad { run } => make(&mut OneLine::load(run), source, out),

@@ -98,6 +98,7 @@ job_of command values =
     else if bytes_eq command commands.LTC_CONVERT.now then ltc_convert values
     else if bytes_eq command commands.PCM_LTC.now then pcm_ltc values
     else if bytes_eq command commands.LTC_PCM.now then ltc_pcm values
+    else if bytes_eq command commands.VITC_READ.now then no_values jobs.VitcRead values
     else if bytes_eq command commands.NUMBER.now then number values
     else if bytes_eq command commands.LABEL.now then label_of values
     else Err Command

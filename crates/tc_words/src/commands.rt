@@ -34,6 +34,9 @@ pub const PCM_LTC: &str = "pcm-ltc";
 /// The word of `Job::LtcPcm`.
 pub const LTC_PCM: &str = "ltc-pcm";
 
+/// The word of `Job::VitcRead`.
+pub const VITC_READ: &str = "vitc-read";
+
 /// The word of `Job::Number`.
 pub const NUMBER: &str = "number";
 

@@ -43,6 +43,8 @@ pub enum Job {
     PcmLtc { slicing: Slicing },
     /// `ltc-pcm LEVEL`: reads an interval file, and writes it as samples of sound.
     LtcPcm { amplitude: Amplitude },
+    /// `vitc-read`: reads a line file, and writes a line for each field.
+    VitcRead,
     /// `number COUNT LABEL`: writes how many labels of the count stand before the label in the day.
     Number { label: Label },
     /// `label COUNT NUMBER`: writes the label of that number of the day.

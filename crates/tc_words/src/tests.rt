@@ -31,6 +31,7 @@ fn the_first_fault_is_told(rt: HostRuntime) -> Result<(), Fail> {
         ("ltc-mtc 2 2", WordsFault::CountOfWords),
         ("ltc-mtc 256", WordsFault::Value(1)),
         ("mtc-read x", WordsFault::CountOfWords),
+        ("vitc-read 25", WordsFault::CountOfWords),
         (
             "ltc-make 25 forward 00:00:00:00 4 800 48000 400",
             WordsFault::CountOfWords,

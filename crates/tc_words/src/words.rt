@@ -89,6 +89,7 @@ fn job_of(command: &str, values: &[&str]) -> Result<Job, WordsFault>
         commands::LTC_CONVERT => ltc_convert(values),
         commands::PCM_LTC => pcm_ltc(values),
         commands::LTC_PCM => ltc_pcm(values),
+        commands::VITC_READ => no_values(values, Job::VitcRead),
         commands::NUMBER => number(values),
         commands::LABEL => label_of(values),
         _ => Err(WordsFault::Command),
