@@ -18,7 +18,6 @@ pub record Decoding : Type 0 where
   pub fields : ℕ
   pub part : List ℕ
 
-
 abbrev pub decoding_of : Option LineHeader → ℕ → ℕ → List ℕ → Decoding
 decoding_of header place fields part = record { header = header; place = place; fields = fields; part = part }
 

@@ -26,10 +26,7 @@ pub enum Taken {
     /// So many bytes, and no field.
     Nothing(usize),
     /// So many bytes, and with the last of them a field, which has this answer.
-    Field {
-        count: usize,
-        answer: FieldAnswer,
-    },
+    Field { count: usize, answer: FieldAnswer },
     /// The first fault of the bytes so far.
     Fault(FileFault),
     /// One field too many.
@@ -42,10 +39,7 @@ pub(crate) enum Piece {
     /// The header.
     Header(LineHeader),
     /// A field of so many bytes, with its answer.
-    Field {
-        answer: FieldAnswer,
-        width: usize,
-    },
+    Field { answer: FieldAnswer, width: usize },
     /// The first bytes of either.
     Short,
     /// A piece that fails its test.
@@ -98,7 +92,11 @@ impl LineDecoder {
     {
         let before = self.part.len();
         let room = FIELD_ROOM - before;
-        let count = if bytes.len() < room { bytes.len() } else { room };
+        let count = if bytes.len() < room {
+            bytes.len()
+        } else {
+            room
+        };
         push(&mut self.part, &bytes[..count]);
         match piece_in(self.header, self.place, self.fields, &self.part) {
             Piece::Header(header) => {

@@ -27,10 +27,7 @@ type Runs = ArrayVec<u16, 89>;
 #[derive(Clone, Copy, Debug, PartialEq, Eq)]
 pub(crate) enum FoundField {
     /// A field of so many bytes, with the answer of its lines.
-    Whole {
-        answer: FieldAnswer,
-        width: usize,
-    },
+    Whole { answer: FieldAnswer, width: usize },
     /// The first bytes of one.
     Short,
     /// A piece that fails its test.

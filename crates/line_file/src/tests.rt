@@ -8,7 +8,10 @@ use vitc_reader::{FieldAnswer, ReadFault, RunFault};
 #[test]
 fn lines_as_they_are_printed(rt: HostRuntime) {
     for (answer, line) in [
-        (FieldAnswer::NoLine, b"field 99 nothing no-line\n".as_slice()),
+        (
+            FieldAnswer::NoLine,
+            b"field 99 nothing no-line\n".as_slice(),
+        ),
         (
             FieldAnswer::Nothing(ReadFault::Runs(RunFault::Run(88))),
             b"field 99 nothing run 88\n",
@@ -29,7 +32,10 @@ fn lines_as_they_are_printed(rt: HostRuntime) {
         assert_eq!(rt; field_text(99, &answer).as_slice(), line);
     }
     let end = field_end_text(91, 60, 5, 26);
-    assert_eq!(rt; end.as_slice(), b"end fields 91 agreed 60 conflict 5 nothing 26\n".as_slice());
+    assert_eq!(rt;
+        end.as_slice(),
+        b"end fields 91 agreed 60 conflict 5 nothing 26\n".as_slice()
+    );
 }
 
 #[test]
@@ -39,7 +45,10 @@ fn a_header_and_a_field_in_pieces(rt: HostRuntime) {
         length: 460,
     };
     let bytes = line_header(&header);
-    assert_eq!(rt; bytes.as_slice(), b"VITL\x01\x1e\x00\x00\x00\x00\x01\xcc".as_slice());
+    assert_eq!(rt;
+        bytes.as_slice(),
+        b"VITL\x01\x1e\x00\x00\x00\x00\x01\xcc".as_slice()
+    );
     let mut decoder = LineDecoder::new();
     assert_eq!(rt; decoder.finish(), Err(FileFault::Truncated(0)));
     assert_eq!(rt; decoder.take(&bytes), Taken::Nothing(12));
@@ -48,7 +57,16 @@ fn a_header_and_a_field_in_pieces(rt: HostRuntime) {
     assert_eq!(rt; decoder.finish(), Err(FileFault::Truncated(14)));
     assert_eq!(rt; decoder.take(b"\x00\x00"), Taken::Fault(FileFault::Run(14)));
     let answer = FieldAnswer::Nothing(ReadFault::Line(LineFault::SyncPair(1)));
-    assert_eq!(rt; decoder.take(b"\x00\x04\x00"), Taken::Field { count: 2, answer });
-    assert_eq!(rt; decoder.take(b"\x00"), Taken::Field { count: 1, answer: FieldAnswer::NoLine });
+    assert_eq!(rt;
+        decoder.take(b"\x00\x04\x00"),
+        Taken::Field { count: 2, answer }
+    );
+    assert_eq!(rt;
+        decoder.take(b"\x00"),
+        Taken::Field {
+            count: 1,
+            answer: FieldAnswer::NoLine
+        }
+    );
     assert_eq!(rt; decoder.finish(), Ok(()));
 }

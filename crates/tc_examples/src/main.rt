@@ -8,6 +8,7 @@ use tc_io::{ReadSource, WriteSink};
 use tc_top::run;
 
 /// A command as it is typed, and the file that is its standard input.
+#[derive(Clone, Copy)]
 struct Example {
     line: &'static str,
     input: &'static str,

@@ -24,10 +24,10 @@ ghost use Rattle.tc_top.specs.declared.engines.pcm_ltc.TheConstants.{MAX_SAMPLES
 
 use biphase::laws::shaped_cells_are_a_chain;
 use direction_reader::laws::{a_list_has_one_list_of_events, played_words_are_read};
+use line_file::laws::bytes_have_one_list_of_answers;
 use ltc_word::laws::each_word_has_its_spelling;
 use tc_address::laws::number_and_label_are_inverse;
 use tc_files::laws::{a_file_is_read_as_it_was_written, bytes_are_read_as_the_text_says};
-use line_file::laws::bytes_have_one_list_of_answers;
 
 /// A job writes one output of an input, and one part of the bytes that were pulled. So the lines are
 /// the same in whatever pieces the input comes.

@@ -34,8 +34,8 @@ use biphase::Profile;
 use direction_reader::laws::{
     events_find_the_tape_again, events_mirror_the_tape, events_tell_the_tape,
 };
-use line_file::laws::what_bytes_show_stays;
 use flywheel::laws::invention_is_bounded_and_marked;
+use line_file::laws::what_bytes_show_stays;
 use tc_io::{Sink, Source};
 use tc_words::Job;
 

@@ -22,8 +22,7 @@ returns-in_ok-print-in-Field-clause-works g c = λ front written stands.
     let r = c.args.self.now in
     let mid : FieldReport = record r { decoder = c.take.new.self } in
     let taken = take c.in-Field.count c.args.bytes.now in
-    let reads_on = c.in-Field.ensures.takes.stands front stands.answers stands.decoder in
-    (
+    let reads_on = c.in-Field.ensures.takes.stands front stands.answers stands.decoder in (
       field_line r.fields c.in-Field.answer,
       c.in_ok-print-in-Field.ensures.all,
       printed c.a_decoder_tells_the_file.ensures r mid c.print.new.self front written taken c.in-Field.answer stands reads_on refl c.in_ok-print-in-Field.ensures.counted,
