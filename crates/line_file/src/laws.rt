@@ -46,3 +46,9 @@ pub fn bytes_have_one_list_of_answers()
 {
     lines_have_one_answer();
 }
+
+/// The file of a header and fields is read as that header and these fields, and the input may end there.
+pub fn a_file_is_read_as_it_was_written()
+    ensures { (header : LineHeader) (fields : List (List (List ℕ))) → IsHeader header → AreFields fields → length fields ≤ decoder.MAX_FIELDS
+        → reading_of (file_of header fields) ≡ record { header = Some header; fields = fields; verdict = good; is_whole = true } }
+{}

@@ -8,4 +8,5 @@ mod midi;
 mod reading;
 mod recording;
 mod trial;
+mod vitc;
 mod words;
