@@ -2,12 +2,14 @@
 _tc() {
     local word=${COMP_WORDS[COMP_CWORD]} command=${COMP_WORDS[1]} values=
     if [ "$COMP_CWORD" -eq 1 ]; then
-        values="ltc-read ltc-worn ltc-fly ltc-mtc ltc-make ltc-convert mtc-read number label"
+        values="ltc-read ltc-worn ltc-fly ltc-mtc ltc-make ltc-load ltc-convert pcm-ltc ltc-pcm mtc-read vitc-read chase number label"
     else
         case $command:$COMP_CWORD in
-            number:2 | label:2 | ltc-make:2) values="24 25 30 30d" ;;
+            number:2 | label:2 | ltc-make:2 | chase:2) values="24 25 30 30d" ;;
             ltc-make:3) values="forward backward" ;;
             ltc-convert:2) values="1 2" ;;
+            pcm-ltc:2) values="24 25 30" ;;
+            pcm-ltc:6) values="follow" ;;
         esac
     fi
     mapfile -t COMPREPLY < <(compgen -W "$values" -- "$word")

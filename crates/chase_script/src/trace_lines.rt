@@ -71,6 +71,7 @@ impl TraceLines {
         ensures line { IfSome result (λ line. text_left self.old ≡ line.items ++ text_left self.new) }
         ensures fewer { IfSome result (λ line. lines_left self.new < lines_left self.old) }
         ensures all { result ≡ None → text_left self.old ≡ [] }
+        ensures idle { result ≡ None → self.new ≡ self.old }
     {
         if self.at < self.rows.len() {
             return Some(self.step_line());

@@ -276,6 +276,10 @@ header_fault_read bytes (fault.Reserved place) is =
 header_fault_read bytes (fault.TickRate place) is =
     named bytes (fault.TickRate 8) (fault.TickRate place) (ap (λ (n : ℕ). fault.TickRate n) (sym is.0)) (wrong_rate bytes is.1)
 header_fault_read bytes (fault.Interval place) is = absurd is
+header_fault_read bytes (fault.LineLength place) is = absurd is
+header_fault_read bytes (fault.LineCount place) is = absurd is
+header_fault_read bytes (fault.RunCount place) is = absurd is
+header_fault_read bytes (fault.Run place) is = absurd is
 header_fault_read bytes (fault.Truncated place) is =
     let read = ends_in_header bytes is.1 in
     (read.0, read.1 ∙ ap (λ (n : ℕ). Some (fault.Truncated n)) (sym is.0))

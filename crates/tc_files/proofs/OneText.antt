@@ -66,6 +66,10 @@ is_stuck version place rest (fault.Version n) fails = absurd fails
 is_stuck version place rest (fault.System n) fails = absurd fails
 is_stuck version place rest (fault.Reserved n) fails = absurd fails
 is_stuck version place rest (fault.TickRate n) fails = absurd fails
+is_stuck version place rest (fault.LineLength n) fails = absurd fails
+is_stuck version place rest (fault.LineCount n) fails = absurd fails
+is_stuck version place rest (fault.RunCount n) fails = absurd fails
+is_stuck version place rest (fault.Run n) fails = absurd fails
 
 end_is_stuck : (version : FileVersion) → IsStuck version []
 end_is_stuck version = λ whole. let wide = widths version [] in let two = wide.0 in absurd (omega (arith, whole, two))

@@ -6,7 +6,7 @@ use Rattle.std.specs.List.{flat_map}
 use Rattle.byteorder.specs.Endian.{big_number}
 use Rattle.biphase.specs.declared.cell.TheConstants.{MAX_INTERVAL}
 use Rattle.tc_files.specs.declared.fault.FileFault.{FileFault}
-use Rattle.tc_files.specs.declared.fault.FileFault.TheVariants.{Magic, Version, System, Reserved, TickRate, Interval, Truncated}
+use Rattle.tc_files.specs.declared.fault.FileFault.TheVariants.{Magic, Version, System, Reserved, TickRate, Interval, Truncated, LineLength, LineCount, RunCount, Run}
 use Rattle.tc_files.specs.declared.interval_file.header.FileVersion.{FileVersion}
 use Rattle.tc_files.specs.declared.interval_file.header.IntervalHeader.{IntervalHeader}
 use Rattle.tc_files.specs.declared.interval_file.header.TheConstants.{MAGIC, HEADER_LENGTH, HEAD_LENGTH}
@@ -74,6 +74,10 @@ IsHeaderFault (System place) bytes = (place ≡ 5) × IsFirstWrong place bytes
 IsHeaderFault (Reserved place) bytes = (6 ≤ place) × (place < HEAD_LENGTH) × IsFirstWrong place bytes
 IsHeaderFault (TickRate place) bytes = (place ≡ HEAD_LENGTH) × IsWrongRate bytes
 IsHeaderFault (Interval place) bytes = ⊥
+IsHeaderFault (LineLength place) bytes = ⊥
+IsHeaderFault (LineCount place) bytes = ⊥
+IsHeaderFault (RunCount place) bytes = ⊥
+IsHeaderFault (Run place) bytes = ⊥
 IsHeaderFault (Truncated place) bytes = (place ≡ length bytes) × EndsInHeader bytes
 
 -- ---- a fault behind the header

@@ -1,19 +1,19 @@
-//! The faults of an interval file. Next: `tc_top/src/notes.rt`, which prints them.
+//! The faults of an interval file and of a line file. Next: `tc_top/src/notes.rt`, which prints them.
 ghost use Rattle.std.specs.Prelude.{◌≡◌};
 
 use crate::names;
 use thiserror::Error;
 
-/// The first fault of an interval file, with the byte place, from 0, at which it stands.
+/// The first fault of an interval file or of a line file, with the byte place, from 0, at which it stands.
 #[derive(Clone, Copy, Debug, PartialEq, Eq, Error)]
 pub enum FileFault {
-    /// One of the first four bytes is not that of the magic `LTCI`.
-    #[error("no interval file")]
+    /// One of the first four bytes is not that of the magic, `LTCI` or `VITL`.
+    #[error("another file")]
     Magic(u64),
-    /// The version is not 1.
+    /// The version is none of the file's.
     #[error("an unknown version")]
     Version(u64),
-    /// The system is none of 24, 25 and 30.
+    /// The system is none of 24, 25 and 30, or in a line file none of 25 and 30.
     #[error("an unknown system")]
     System(u64),
     /// A reserved byte is not 0.
@@ -22,10 +22,22 @@ pub enum FileFault {
     /// The tick rate is 0 or above 100,000,000. The place is its first byte.
     #[error("a tick rate out of range")]
     TickRate(u64),
+    /// A line lasts less than 460 or more than 65,535 ticks. The place is its first byte.
+    #[error("a line length out of range")]
+    LineLength(u64),
     /// An interval is 0 or above 16,777,215 ticks. The place is its first byte.
     #[error("an interval out of range")]
     Interval(u64),
-    /// The input ends inside the header or inside an interval. The place is the number of its bytes.
+    /// A field has more than 20 lines. The place is that of the number.
+    #[error("too many lines in a field")]
+    LineCount(u64),
+    /// A line has an even number of runs, or more than 89. The place is that of the number.
+    #[error("a number of runs out of range")]
+    RunCount(u64),
+    /// A run has 0 ticks. The place is its first byte.
+    #[error("a run out of range")]
+    Run(u64),
+    /// The input ends inside the header, or inside an interval or a field. The place is the number of its bytes.
     #[error("an input that ends too early")]
     Truncated(u64),
 }
@@ -43,7 +55,11 @@ impl FileFault {
             FileFault::System(_) => names::SYSTEM_NAME,
             FileFault::Reserved(_) => names::RESERVED_NAME,
             FileFault::TickRate(_) => names::TICK_RATE_NAME,
+            FileFault::LineLength(_) => names::LINE_LENGTH_NAME,
             FileFault::Interval(_) => names::INTERVAL_NAME,
+            FileFault::LineCount(_) => names::LINE_COUNT_NAME,
+            FileFault::RunCount(_) => names::RUN_COUNT_NAME,
+            FileFault::Run(_) => names::RUN_NAME,
             FileFault::Truncated(_) => names::TRUNCATED_NAME,
         }
     }
@@ -58,7 +74,11 @@ impl FileFault {
             | FileFault::System(place)
             | FileFault::Reserved(place)
             | FileFault::TickRate(place)
+            | FileFault::LineLength(place)
             | FileFault::Interval(place)
+            | FileFault::LineCount(place)
+            | FileFault::RunCount(place)
+            | FileFault::Run(place)
             | FileFault::Truncated(place) => place,
         }
     }

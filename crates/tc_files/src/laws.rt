@@ -23,14 +23,18 @@ pub fn a_header_is_this()
     ensures least_long { piece.LEAST_LONG ≡ 65536 }
 {}
 
-/// The faults of an interval file have these names in notes.
+/// The faults of an interval file and of a line file have these names in notes.
 pub fn each_fault_has_its_name()
     ensures magic { names.MAGIC_NAME.now ≡ codes "magic" }
     ensures version { names.VERSION_NAME.now ≡ codes "version" }
     ensures system { names.SYSTEM_NAME.now ≡ codes "system" }
     ensures reserved { names.RESERVED_NAME.now ≡ codes "reserved" }
     ensures tick_rate { names.TICK_RATE_NAME.now ≡ codes "tick-rate" }
+    ensures line_length { names.LINE_LENGTH_NAME.now ≡ codes "line-length" }
     ensures interval { names.INTERVAL_NAME.now ≡ codes "interval" }
+    ensures line_count { names.LINE_COUNT_NAME.now ≡ codes "line-count" }
+    ensures run_count { names.RUN_COUNT_NAME.now ≡ codes "run-count" }
+    ensures run { names.RUN_NAME.now ≡ codes "run" }
     ensures truncated { names.TRUNCATED_NAME.now ≡ codes "truncated" }
 {}
 

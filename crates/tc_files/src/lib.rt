@@ -36,7 +36,7 @@ pub use interval_file::header::{
 pub use interval_file::piece::{LEAST_LONG, Next, interval_bytes, next_interval};
 pub use texts::event::event_text;
 pub use texts::frame::frame_text;
-pub use texts::line::{Text, push_bytes, push_number};
+pub use texts::line::{Text, push_bytes, push_flag, push_hexadecimal, push_number};
 pub use texts::summary::{fly_end_text, read_end_text};
 
 #[cfg(test)]

@@ -5,3 +5,9 @@ use Rattle.std.proofs.lemmas.Fmt.{length-decimal-le}
 
 pub digits_of_any : (n : ℕ) → n < 2 ^ 64 → length (decimal n) ≤ 20
 digits_of_any n p = length-decimal-le 20 n (omega arith) (omega arith) p
+
+pub digits_of_words : (n : ℕ) → n ≤ 100000 → length (decimal n) ≤ 6
+digits_of_words n p = length-decimal-le 6 n (omega arith) (omega arith) (omega arith)
+
+pub digits_of_counts : (n : ℕ) → n < 100000000 → length (decimal n) ≤ 8
+digits_of_counts n p = length-decimal-le 8 n (omega arith) (omega arith) (omega arith)

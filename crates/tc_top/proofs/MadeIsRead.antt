@@ -1,5 +1,5 @@
 -- What is made is read back: its cells are a chain, and each of its frames has a label, and so a word with one spelling.
-use Rattle.std.proofs.Common.{◌≡◌, ℕ, zero, suc, ◌+◌, ◌^◌, ◌<◌, ◌≤◌, Bool, true, false, List, [], ◌∷◌, Some, None, refl, sym, ap, subst, lit<, arith}
+use Rattle.std.proofs.Common.{◌≡◌, ℕ, zero, suc, ◌+◌, ◌^◌, ◌<◌, ◌≤◌, Bool, true, false, List, [], ◌∷◌, Some, None, refl, subst, lit<, arith}
 use Rattle.std.specs.Prelude.{ℤ, map, slice_get, length, take, drop}
 use Rattle.std.specs.declared.option.Option.{Option}
 use Rattle.std.specs.List.{All, range_with_len}
@@ -55,7 +55,7 @@ found : LabelsAreValid → (a : Address) (n : ℕ) (o : Option Address) → slic
 found law a n None e valid = (valid, refl)
 found law a n (Some b) e valid = let h = law a.count n b e in (h.2, h.1)
 
-step_valid : LabelsAreValid → (a : Address) (k : ℤ) → IsLabel a → IsLabel (step a k) × ((step a k).count ≡ a.count)
+pub step_valid : LabelsAreValid → (a : Address) (k : ℤ) → IsLabel a → IsLabel (step a k) × ((step a k).count ≡ a.count)
 unfolding step
 step_valid law a k valid = found law a (moved (length (labels a.count)) (number_of a) k) _ refl valid
 

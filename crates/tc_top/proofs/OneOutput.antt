@@ -9,15 +9,20 @@ use Rattle.direction_reader.specs.ListEvents.{AreEvents}
 use Rattle.tc_files.specs.declared.interval_file.header.IntervalHeader.{IntervalHeader}
 use Rattle.tc_files.specs.Recording.{recording_of}
 use Rattle.tc_words.specs.declared.job.Job.{Job}
-use Rattle.tc_words.specs.declared.job.Job.TheVariants.{LtcRead, LtcWorn, LtcFly, LtcMtc, MtcRead, Number, LabelOf, LtcMake, LtcConvert}
+use Rattle.tc_words.specs.declared.job.Job.TheVariants.{LtcRead, LtcWorn, LtcFly, LtcMtc, MtcRead, Number, LabelOf, LtcMake, LtcConvert, PcmLtc, LtcPcm, LtcLoad, VitcRead}
 use Rattle.tc_top.specs.Along.{IsPartBehind, IsWholeBehind}
 use Rattle.tc_top.specs.Commands.{meaning_of}
 use Rattle.tc_top.specs.LtcFly.{lines_of_frames}
 use Rattle.tc_top.specs.LtcMtc.{messages_of_frames}
 use Rattle.tc_files.specs.declared.interval_file.header.FileVersion.{FileVersion}
 use Rattle.tc_top.specs.LtcConvert.{conversion}
+use Rattle.tc_top.specs.LtcPcm.{made_sound}
 use Rattle.tc_top.specs.LtcRead.{report, lines, last_line}
 use Rattle.tc_top.specs.Meaning.{Meaning}
+use Rattle.tc_top.specs.VitcRead.{along_fields, answer_lines, field_report}
+use Rattle.line_file.specs.Answers.{AreAnswersOf}
+use Rattle.line_file.specs.LineFile.{reading_of}
+use Rattle.vitc_reader.specs.declared.field.FieldAnswer.{FieldAnswer}
 use Rattle.tc_top.specs.OfFrames.{FrameText, along_frames, frames_of}
 
 abbrev pub OneListOfEvents : Type 0
@@ -62,28 +67,57 @@ one_conversion_part : (version : FileVersion) (header : Option IntervalHeader) (
 one_conversion_part version None intervals a b x y = x ∙ sym y
 one_conversion_part version (Some header) intervals a b x y = x ∙ sym y
 
-pub one_output : OneListOfEvents → (job : Job) (input a b : List ℕ) → Meaning.output (meaning_of job) input a
-    → Meaning.output (meaning_of job) input b → a ≡ b
-one_output law LtcRead input a b x y = one_whole law _ (recording_of input).header (recording_of input).intervals a b x y
-one_output law LtcWorn input a b x y = one_whole law _ (recording_of input).header (recording_of input).intervals a b x y
-one_output law (LtcFly limit) input a b x y = one_flight law limit lines_of_frames (recording_of input).header (recording_of input).intervals a b x y
-one_output law (LtcMtc limit) input a b x y =
-    one_flight law limit messages_of_frames (recording_of input).header (recording_of input).intervals a b x y
-one_output law MtcRead input a b x y = x ∙ sym y
-one_output law (LtcMake stripe) input a b x y = x.1 ∙ sym y.1
-one_output law (LtcConvert version) input a b x y = one_conversion version (recording_of input).header (recording_of input).intervals a b x y
-one_output law (Number label) input a b x y = x.1 ∙ sym y.1
-one_output law (LabelOf label) input a b x y = x.1 ∙ sym y.1
+-- and a sound is made in one way
+one_sound : (size : ℕ) (header : Option IntervalHeader) (intervals a b : List ℕ)
+    → IsWholeBehind (made_sound size) header intervals a → IsWholeBehind (made_sound size) header intervals b → a ≡ b
+one_sound size None intervals a b x y = absurd x
+one_sound size (Some header) intervals a b x y = x ∙ sym y
 
-pub one_part_of : OneListOfEvents → (job : Job) (pulled a b : List ℕ) → Meaning.part (meaning_of job) pulled a
+one_sound_part : (size : ℕ) (header : Option IntervalHeader) (intervals a b : List ℕ)
+    → IsPartBehind (made_sound size) header intervals a → IsPartBehind (made_sound size) header intervals b → a ≡ b
+one_sound_part size None intervals a b x y = x ∙ sym y
+one_sound_part size (Some header) intervals a b x y = x ∙ sym y
+
+abbrev pub OneListOfAnswers : Type 0
+OneListOfAnswers = (bytes : List ℕ) (a b : List FieldAnswer) → AreAnswersOf (reading_of bytes) a → AreAnswersOf (reading_of bytes) b → a ≡ b
+
+-- and fields have one list of answers
+one_field_report : OneListOfAnswers → (input a b : List ℕ) → Meaning.output along_fields input a → Meaning.output along_fields input b → a ≡ b
+one_field_report law input a b x y = x.2 ∙ ap field_report (law input x.0 y.0 x.1 y.1) ∙ sym y.2
+
+one_field_part : OneListOfAnswers → (pulled a b : List ℕ) → Meaning.part along_fields pulled a → Meaning.part along_fields pulled b → a ≡ b
+one_field_part law pulled a b x y = x.2 ∙ ap (answer_lines 0) (law pulled x.0 y.0 x.1 y.1) ∙ sym y.2
+
+pub one_output : OneListOfEvents → OneListOfAnswers → (job : Job) (input a b : List ℕ) → Meaning.output (meaning_of job) input a
+    → Meaning.output (meaning_of job) input b → a ≡ b
+one_output law answers_law LtcRead input a b x y = one_whole law _ (recording_of input).header (recording_of input).intervals a b x y
+one_output law answers_law LtcWorn input a b x y = one_whole law _ (recording_of input).header (recording_of input).intervals a b x y
+one_output law answers_law (LtcFly limit) input a b x y = one_flight law limit lines_of_frames (recording_of input).header (recording_of input).intervals a b x y
+one_output law answers_law (LtcMtc limit) input a b x y =
+    one_flight law limit messages_of_frames (recording_of input).header (recording_of input).intervals a b x y
+one_output law answers_law (LtcLoad run) input a b x y = x.1 ∙ sym y.1
+one_output law answers_law (PcmLtc slicing) input a b x y = x ∙ sym y
+one_output law answers_law (LtcPcm size) input a b x y = one_sound size (recording_of input).header (recording_of input).intervals a b x y
+one_output law answers_law MtcRead input a b x y = x ∙ sym y
+one_output law answers_law (LtcMake stripe) input a b x y = x.1 ∙ sym y.1
+one_output law answers_law (LtcConvert version) input a b x y = one_conversion version (recording_of input).header (recording_of input).intervals a b x y
+one_output law answers_law VitcRead input a b x y = one_field_report answers_law input a b x y
+one_output law answers_law (Number label) input a b x y = x.1 ∙ sym y.1
+one_output law answers_law (LabelOf label) input a b x y = x.1 ∙ sym y.1
+
+pub one_part_of : OneListOfEvents → OneListOfAnswers → (job : Job) (pulled a b : List ℕ) → Meaning.part (meaning_of job) pulled a
     → Meaning.part (meaning_of job) pulled b → a ≡ b
-one_part_of law LtcRead pulled a b x y = one_part law _ (recording_of pulled).header (recording_of pulled).intervals a b x y
-one_part_of law LtcWorn pulled a b x y = one_part law _ (recording_of pulled).header (recording_of pulled).intervals a b x y
-one_part_of law (LtcFly limit) pulled a b x y = one_flight_part law limit lines_of_frames (recording_of pulled).header (recording_of pulled).intervals a b x y
-one_part_of law (LtcMtc limit) pulled a b x y =
+one_part_of law answers_law LtcRead pulled a b x y = one_part law _ (recording_of pulled).header (recording_of pulled).intervals a b x y
+one_part_of law answers_law LtcWorn pulled a b x y = one_part law _ (recording_of pulled).header (recording_of pulled).intervals a b x y
+one_part_of law answers_law (LtcFly limit) pulled a b x y = one_flight_part law limit lines_of_frames (recording_of pulled).header (recording_of pulled).intervals a b x y
+one_part_of law answers_law (LtcMtc limit) pulled a b x y =
     one_flight_part law limit messages_of_frames (recording_of pulled).header (recording_of pulled).intervals a b x y
-one_part_of law MtcRead pulled a b x y = x ∙ sym y
-one_part_of law (LtcMake stripe) pulled a b x y = x ∙ sym y
-one_part_of law (LtcConvert version) pulled a b x y = one_conversion_part version (recording_of pulled).header (recording_of pulled).intervals a b x y
-one_part_of law (Number label) pulled a b x y = x ∙ sym y
-one_part_of law (LabelOf label) pulled a b x y = x ∙ sym y
+one_part_of law answers_law (LtcLoad run) pulled a b x y = x ∙ sym y
+one_part_of law answers_law (PcmLtc slicing) pulled a b x y = x ∙ sym y
+one_part_of law answers_law (LtcPcm size) pulled a b x y = one_sound_part size (recording_of pulled).header (recording_of pulled).intervals a b x y
+one_part_of law answers_law MtcRead pulled a b x y = x ∙ sym y
+one_part_of law answers_law (LtcMake stripe) pulled a b x y = x ∙ sym y
+one_part_of law answers_law (LtcConvert version) pulled a b x y = one_conversion_part version (recording_of pulled).header (recording_of pulled).intervals a b x y
+one_part_of law answers_law VitcRead pulled a b x y = one_field_part answers_law pulled a b x y
+one_part_of law answers_law (Number label) pulled a b x y = x ∙ sym y
+one_part_of law answers_law (LabelOf label) pulled a b x y = x ∙ sym y

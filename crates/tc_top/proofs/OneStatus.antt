@@ -9,7 +9,7 @@ use Rattle.tc_files.specs.declared.fault.FileFault.{FileFault}
 use Rattle.tc_files.specs.Recording.{Recording, decoding_of}
 use Rattle.tc_files.specs.Verdict.{Verdict, good, refused, past_limit}
 use Rattle.tc_words.specs.declared.job.Job.{Job}
-use Rattle.tc_words.specs.declared.job.Job.TheVariants.{LtcRead, LtcWorn, LtcFly, LtcMtc, MtcRead, Number, LabelOf, LtcMake, LtcConvert}
+use Rattle.tc_words.specs.declared.job.Job.TheVariants.{LtcRead, LtcWorn, LtcFly, LtcMtc, MtcRead, Number, LabelOf, LtcMake, LtcConvert, PcmLtc, LtcPcm, LtcLoad, VitcRead}
 use Rattle.tc_top.specs.declared.status.Status.TheVariants as status
 use Rattle.tc_top.specs.declared.stop.Stop.{Stop}
 use Rattle.tc_top.specs.declared.stop.Stop.TheVariants as stops
@@ -19,11 +19,17 @@ use Rattle.tc_top.specs.Causes.{SourceCause, OutCause}
 use Rattle.tc_top.specs.Commands.{meaning_of}
 use Rattle.tc_top.specs.Meaning.{Meaning, IsEnd, IsInput, writes}
 use Rattle.tc_top.specs.MtcRead.{along_midi}
+use Rattle.tc_top.specs.VitcRead.{along_fields}
+use Rattle.line_file.specs.LineFile.{reading_of}
 use Rattle.tc_top.specs.Notes.{stop_note}
 use Rattle.tc_top.specs.Status.{status_of}
 use Rattle.tc_top.specs.Stops.{StopsAlong}
 use Rattle.tc_top.specs.declared.engines.mtc_read.TheConstants.{MAX_BYTES}
+use Rattle.tc_words.specs.Slicing.{Slices}
+use Rattle.tc_top.specs.PcmLtc.{along_samples}
+use Rattle.tc_top.specs.declared.engines.pcm_ltc.TheConstants.{MAX_SAMPLES}
 use Rattle.tc_top.proofs.MidiLimit.{never_refused, past_within}
+use Rattle.tc_top.proofs.SlicedOn.{never_refused as no_fault_yet, past_within as past_samples}
 use Rattle.tc_top.proofs.VerdictStays.{more_bytes, past_stays, refused_stays}
 
 -- ---- a job that stopped answers so
@@ -64,6 +70,28 @@ midi_settles = record {
   idle = λ e all. absurd (false≢true (sym e));
 }
 
+-- samples
+samples_settle : (s : Slices) → Settles (along_samples s)
+samples_settle s = record {
+  fault = λ front rest f e. absurd (no_fault_yet MAX_SAMPLES front f e);
+  limit = λ front rest e. past_samples MAX_SAMPLES front rest e;
+  ends = λ bytes f e. refl;
+  idle = λ e all. absurd (false≢true (sym e));
+}
+
+-- what bytes of a line file show, more bytes show
+pub record FieldsStay : Type 0 where
+  pub fault : (bytes more : List ℕ) (f : FileFault) → (reading_of bytes).verdict ≡ refused f → (reading_of (bytes ++ more)).verdict ≡ refused f
+  pub limit : (bytes more : List ℕ) → (reading_of bytes).verdict ≡ past_limit → (reading_of (bytes ++ more)).verdict ≡ past_limit
+
+fields_settle : FieldsStay → Settles along_fields
+fields_settle stay = record {
+  fault = λ front rest f e. stay.fault front rest f e;
+  limit = λ front rest e. stay.limit front rest e;
+  ends = λ bytes f e. refl;
+  idle = λ e all. absurd (false≢true (sym e));
+}
+
 -- nothing
 writes_settles : (text : List ℕ) → Settles (writes text)
 writes_settles text = record {
@@ -73,26 +101,30 @@ writes_settles text = record {
   idle = λ e all. refl;
 }
 
-pub settles : (job : Job) → Settles (meaning_of job)
-settles LtcRead = along_settles _
-settles LtcWorn = along_settles _
-settles (LtcFly limit) = along_settles _
-settles (LtcMtc limit) = along_settles _
-settles MtcRead = midi_settles
-settles (LtcMake stripe) = writes_settles _
-settles (LtcConvert version) = along_settles _
-settles (Number label) = writes_settles _
-settles (LabelOf label) = writes_settles _
+pub settles : FieldsStay → (job : Job) → Settles (meaning_of job)
+settles stay (LtcLoad run) = writes_settles _
+settles stay (PcmLtc slicing) = samples_settle slicing
+settles stay (LtcPcm size) = along_settles _
+settles stay LtcRead = along_settles _
+settles stay LtcWorn = along_settles _
+settles stay (LtcFly limit) = along_settles _
+settles stay (LtcMtc limit) = along_settles _
+settles stay MtcRead = midi_settles
+settles stay (LtcMake stripe) = writes_settles _
+settles stay (LtcConvert version) = along_settles _
+settles stay VitcRead = fields_settle stay
+settles stay (Number label) = writes_settles _
+settles stay (LabelOf label) = writes_settles _
 
 -- ---- the status of the whole input
 
 -- what was consumed is a front
-front_of_all : (all bytes : List ℕ) (left : Option (List ℕ)) → Consumes (Some all) left bytes → (more : List ℕ) × (all ≡ bytes ++ more)
+pub front_of_all : (all bytes : List ℕ) (left : Option (List ℕ)) → Consumes (Some all) left bytes → (more : List ℕ) × (all ≡ bytes ++ more)
 front_of_all all bytes None consumed = absurd consumed
 front_of_all all bytes (Some more) consumed = (more, consumed)
 
 -- and all of it at the end
-all_at_end : (all bytes : List ℕ) (left : Option (List ℕ)) → Consumes (Some all) left bytes → IsAtEnd left → all ≡ bytes
+pub all_at_end : (all bytes : List ℕ) (left : Option (List ℕ)) → Consumes (Some all) left bytes → IsAtEnd left → all ≡ bytes
 all_at_end all bytes None consumed ended = absurd consumed
 all_at_end all bytes (Some more) consumed ended = consumed ∙ ap (λ (l : List ℕ). bytes ++ l) ended ∙ append-nil bytes
 

@@ -1,20 +1,27 @@
 -- The answer of a run: what was pulled and written, and the note, by status.
-use Rattle.std.specs.Prelude.{◌≡◌, ℕ, List, [], codes, Option, Some, None, Ok, Err}
+use Rattle.std.specs.Prelude.{◌≡◌, ◌⊎◌, ℕ, List, [], codes, Option, Some, None, Ok, Err}
 use Rattle.std.specs.Io.KnownBytes.{Appends, Consumes}
 use Rattle.tc_io.specs.Source.{Rose}
 use Rattle.tc_io.specs.Sink.{AppendsFront}
 use Rattle.tc_files.specs.declared.fault.FileFault.{FileFault}
 use Rattle.tc_files.specs.Verdict.{Verdict, good, refused, past_limit}
-use Rattle.tc_words.specs.declared.job.Job.{Job}
+use Rattle.tc_address.specs.Label.{Address}
+use Rattle.chase_script.specs.declared.fault.RowFault.{RowFault}
+use Rattle.chase_script.specs.declared.row.ScriptRow.{ScriptRow}
+use Rattle.tc_words.specs.declared.job.Task.{Task}
+use Rattle.tc_words.specs.declared.job.Task.TheVariants.{Stream, Chase}
 use Rattle.tc_words.specs.declared.fault.WordsFault.{WordsFault}
 use Rattle.tc_words.specs.Job.{answer_to}
+use Rattle.tc_top.specs.declared.stop.ChaseStop.{ChaseStop}
+use Rattle.tc_top.specs.declared.stop.ChaseStop.TheVariants as chase
 use Rattle.tc_top.specs.declared.stop.Stop.{Stop}
 use Rattle.tc_top.specs.declared.stop.Stop.TheVariants as stops
 use Rattle.tc_top.specs.declared.status.Status.{Status}
 use Rattle.tc_top.specs.declared.status.Status.TheVariants.{Done, Usage, Refused, ReadFault, WriteFault, Memory, Limit}
+use Rattle.tc_top.specs.Chase.{IsChaseStop, IsTraced}
 use Rattle.tc_top.specs.Commands.{meaning_of}
 use Rattle.tc_top.specs.Meaning.{Meaning, IsInput, IsEnd}
-use Rattle.tc_top.specs.Notes.{stop_note, usage_note}
+use Rattle.tc_top.specs.Notes.{chase_note, stop_note, usage_note}
 use Rattle.tc_top.specs.Stops.{StopsAlong}
 
 -- what went through a run: the bytes pulled and what is left of the input, the bytes written, and the note
@@ -60,25 +67,51 @@ IsAnswer m Limit e = StoppedBy stops.Limit m e
 IsAnswer m Usage e = ⊥
 IsAnswer m Memory e = ⊥
 
+-- the chase stopped for this cause, and the note names it
+pub record ChaseStoppedBy (stop : ChaseStop) (label : Address) (e : Exchange) : Type 0 where
+  pub why : IsChaseStop label stop e.left e.pulled e.written
+  pub note : e.note ≡ chase_note stop
+
+-- the chase came to the end of its script, and wrote the whole trace
+pub record IsChaseDone (label : Address) (e : Exchange) : Type 0 where
+  pub rows : List ScriptRow
+  pub traced : IsTraced label e.left e.pulled e.written rows
+  pub note : e.note ≡ []
+
+-- what a chase answers
+abbrev pub IsChaseAnswer : Address → Status → Exchange → Type 0
+IsChaseAnswer label Done e = IsChaseDone label e
+IsChaseAnswer label Refused e = (fault : RowFault) × ChaseStoppedBy (chase.Refused fault) label e
+IsChaseAnswer label ReadFault e = ChaseStoppedBy chase.ReadFault label e
+IsChaseAnswer label WriteFault e = ChaseStoppedBy chase.WriteFault label e
+IsChaseAnswer label Memory e = ChaseStoppedBy chase.Memory label e
+IsChaseAnswer label Limit e = ChaseStoppedBy chase.Limit label e
+IsChaseAnswer label Usage e = ⊥
+
+-- what a task answers
+abbrev pub IsTaskAnswer : Task → Status → Exchange → Type 0
+IsTaskAnswer (Stream job) status e = IsAnswer (meaning_of job) status e
+IsTaskAnswer (Chase label) status e = IsChaseAnswer label status e
+
 -- nothing was pulled or written, and the note says why
 pub record BeginsNothing (why : List ℕ) (e : Exchange) : Type 0 where
   pub pulled : e.pulled ≡ []
   pub written : e.written ≡ []
   pub note : e.note ≡ why
 
--- the words name a job, and this is its answer
-abbrev pub IsJobAnswer : List (List ℕ) → Status → Exchange → Type 0
-IsJobAnswer words status e = (job : Job) × (answer_to words ≡ Ok job) × IsAnswer (meaning_of job) status e
+-- the words name a task, and this is its answer
+abbrev pub IsNamedAnswer : List (List ℕ) → Status → Exchange → Type 0
+IsNamedAnswer words status e = (task : Task) × (answer_to words ≡ Ok task) × IsTaskAnswer task status e
 
--- what the program answers to words: their first fault, want of memory, or the answer of their job
+-- what the program answers to words: their first fault, want of memory for them, or the answer of their task
 abbrev pub IsRunAnswer : List (List ℕ) → Status → Exchange → Type 0
 IsRunAnswer words Usage e = (fault : WordsFault) × (answer_to words ≡ Err fault) × BeginsNothing (usage_note fault) e
-IsRunAnswer words Memory e = BeginsNothing (codes "tc: out of memory\n") e
-IsRunAnswer words Done e = IsJobAnswer words Done e
-IsRunAnswer words Refused e = IsJobAnswer words Refused e
-IsRunAnswer words ReadFault e = IsJobAnswer words ReadFault e
-IsRunAnswer words WriteFault e = IsJobAnswer words WriteFault e
-IsRunAnswer words Limit e = IsJobAnswer words Limit e
+IsRunAnswer words Memory e = BeginsNothing (codes "tc: out of memory\n") e ⊎ IsNamedAnswer words Memory e
+IsRunAnswer words Done e = IsNamedAnswer words Done e
+IsRunAnswer words Refused e = IsNamedAnswer words Refused e
+IsRunAnswer words ReadFault e = IsNamedAnswer words ReadFault e
+IsRunAnswer words WriteFault e = IsNamedAnswer words WriteFault e
+IsRunAnswer words Limit e = IsNamedAnswer words Limit e
 
 -- ---- the status of a whole input
 

@@ -17,10 +17,14 @@ ghost use Rattle.tc_top.specs.LtcConvert.{in_version};
 ghost use Rattle.tc_top.specs.LtcRead.{last_line, lines};
 ghost use Rattle.tc_top.specs.Made.{made, made_cells, made_events, made_header};
 ghost use Rattle.tc_top.specs.Meaning.{Meaning, IsInput};
+ghost use Rattle.tc_top.specs.declared.chasing.TheConstants.{MAX_SCRIPT};
+ghost use Rattle.tc_top.specs.declared.chance.TheConstants as chance;
 ghost use Rattle.tc_top.specs.declared.engines.mtc_read.TheConstants.{MAX_BYTES};
+ghost use Rattle.tc_top.specs.declared.engines.pcm_ltc.TheConstants.{MAX_SAMPLES};
 
 use biphase::laws::shaped_cells_are_a_chain;
 use direction_reader::laws::{a_list_has_one_list_of_events, played_words_are_read};
+use line_file::laws::bytes_have_one_list_of_answers;
 use ltc_word::laws::each_word_has_its_spelling;
 use tc_address::laws::number_and_label_are_inverse;
 use tc_files::laws::{a_file_is_read_as_it_was_written, bytes_are_read_as_the_text_says};
@@ -34,11 +38,31 @@ pub fn an_input_has_one_output()
         → Meaning.part (meaning_of job) pulled b → a ≡ b }
 {
     a_list_has_one_list_of_events();
+    bytes_have_one_list_of_answers();
 }
 
 /// `mtc-read` reads a thousand million bytes, and no more.
 pub fn mtc_read_has_this_limit()
     ensures { MAX_BYTES ≡ 1000000000 }
+{}
+
+/// `pcm-ltc` takes a thousand million samples, and no more.
+pub fn pcm_ltc_has_this_limit()
+    ensures { MAX_SAMPLES ≡ 1000000000 }
+{}
+
+/// A script of `chase` has a mebibyte at most.
+pub fn a_script_has_this_limit()
+    ensures { MAX_SCRIPT ≡ 1048576 }
+{}
+
+/// The generator of `ltc-load` has these numbers.
+pub fn the_generator_is_this()
+    ensures factor { chance.FACTOR ≡ 6364136223846793005 }
+    ensures summand { chance.SUMMAND ≡ 1442695040888963407 }
+    ensures first { chance.FIRST_LENGTH ≡ 512 }
+    ensures least { chance.LEAST_LENGTH ≡ 64 }
+    ensures greatest { chance.GREATEST_LENGTH ≡ 4096 }
 {}
 
 /// Each input that `ltc-convert` takes whole is a file, and it writes the file of the asked version with

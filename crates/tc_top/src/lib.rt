@@ -16,16 +16,21 @@
 //! - What `ltc-read` and `ltc-worn` print are the lines of the events of the file's intervals, each
 //!   counted in the last line (`specs/LtcRead.antt`). Where the file holds a tape within the tolerance,
 //!   these are the tape's own words (`specs/Tape.antt`, clause `truth`).
+//! - A chase writes nothing before its whole script was read and each row was judged, and its trace keeps
+//!   its lock (`specs/Chase.antt`; clause `lock`).
 //!
-//! Read `top_call`, `streaming`, `engine`, `intake`, `along`, `making`, `pushing`, `notes`, and then the
-//! engines. `tc` and the conformance runs of `tc_vectors` stand on this crate.
+//! Read `top_call`, `streaming`, `engine`, `intake`, `along`, `making`, `chasing`, `pushing`, `notes`, and
+//! then the engines. `tc` and the conformance runs of `tc_vectors` stand on this crate.
 #![tactic(auto)]
 
 mod along;
+mod chance;
+mod chasing;
 mod engine;
 mod engines;
 mod flight;
 mod frame_sink;
+mod gathered;
 mod intake;
 pub mod laws;
 mod making;
@@ -36,6 +41,7 @@ mod stop;
 mod streaming;
 mod top_call;
 
+pub use chasing::MAX_SCRIPT;
 pub use status::Status;
 pub use streaming::stream;
 pub use top_call::run;

@@ -57,7 +57,7 @@ pub(crate) fn make<M: Maker, S: Source, K: Sink>(
 }
 
 /// Pushes each piece.
-fn give_all<M: Maker, K: Sink>(maker: &mut M, out: &mut K) -> Result<(), Stop>
+pub(crate) fn give_all<M: Maker, K: Sink>(maker: &mut M, out: &mut K) -> Result<(), Stop>
     ensures all { OnOk result (Appends (K.written out.old) (K.written out.new) (M.rest maker.old)) }
     ensures front { OnErr result (AppendsFront (K.written out.old) (K.written out.new) (M.rest maker.old)) }
     ensures why { IfErr result (λ stop. stop ≡ Stop.WriteFault) }

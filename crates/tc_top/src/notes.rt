@@ -3,9 +3,10 @@ ghost use Rattle.std.specs.Prelude.{◌≡◌, ◌++◌, ◌+◌, ◌≤◌, ◌
 ghost use Rattle.std.specs.Io.KnownBytes.{Appends};
 ghost use Rattle.tc_io.specs.Source.{Rose};
 ghost use Rattle.tc_io.specs.Sink.{AppendsFront};
-ghost use Rattle.tc_top.specs.Notes.{usage_note, stop_note, refused_note};
+ghost use Rattle.tc_top.specs.Notes.{usage_note, stop_note, refused_note, chase_note, row_note};
 
-use crate::stop::Stop;
+use crate::stop::{ChaseStop, Stop};
+use chase_script::RowFault;
 use tc_files::{FileFault, Text, push_bytes, push_number};
 use tc_io::{Sink, push_all};
 use tc_words::WordsFault;
@@ -31,6 +32,19 @@ pub(crate) fn stop_note(stop: Stop) -> Text
     }
 }
 
+/// The note of a chase that stopped.
+pub(crate) fn chase_note(stop: ChaseStop) -> Text
+    ensures { result.items ≡ chase_note stop }
+{
+    match stop {
+        ChaseStop::Refused(fault) => row_note(fault),
+        ChaseStop::ReadFault => line_of(b"tc: read fault\n"),
+        ChaseStop::WriteFault => line_of(b"tc: write fault\n"),
+        ChaseStop::Memory => line_of(b"tc: out of memory\n"),
+        ChaseStop::Limit => line_of(b"tc: limit\n"),
+    }
+}
+
 /// The note of words that name no job, or that there is no memory to read.
 pub(crate) fn usage_note(fault: WordsFault) -> Text
     ensures { result.items ≡ usage_note fault }
@@ -52,6 +66,18 @@ fn refused_note(fault: FileFault) -> Text
     push_bytes(&mut line, fault.name().as_bytes());
     push_bytes(&mut line, b" at byte ");
     push_number(&mut line, fault.place());
+    push_bytes(&mut line, b"\n");
+    line
+}
+
+#[tactic(auto, using(crate::proofs::Digits::digits_of_any))]
+fn row_note(fault: RowFault) -> Text
+    ensures { result.items ≡ row_note fault }
+{
+    let mut line = line_of(b"tc: refused: row ");
+    push_number(&mut line, fault.row);
+    push_bytes(&mut line, b" column ");
+    push_number(&mut line, fault.column.number());
     push_bytes(&mut line, b"\n");
     line
 }

@@ -1,8 +1,9 @@
 //! How a run ended.
 ghost use Rattle.std.specs.Prelude.{◌≡◌};
+ghost use Rattle.tc_top.specs.Chase.{status_of_chase};
 ghost use Rattle.tc_top.specs.Status.{code_of, status_of, status_of_words};
 
-use crate::stop::Stop;
+use crate::stop::{ChaseStop, Stop};
 use tc_words::WordsFault;
 
 /// How a run ended.
@@ -49,6 +50,19 @@ impl Status {
             Stop::ReadFault => Status::ReadFault,
             Stop::WriteFault => Status::WriteFault,
             Stop::Limit => Status::Limit,
+        }
+    }
+
+    /// The status of a chase that stopped.
+    pub(crate) fn of_chase(stop: ChaseStop) -> Status
+        ensures { result ≡ status_of_chase stop }
+    {
+        match stop {
+            ChaseStop::Refused(_) => Status::Refused,
+            ChaseStop::ReadFault => Status::ReadFault,
+            ChaseStop::WriteFault => Status::WriteFault,
+            ChaseStop::Memory => Status::Memory,
+            ChaseStop::Limit => Status::Limit,
         }
     }
 

@@ -1,4 +1,5 @@
 //! Why a job stopped before its end. Next: `status`.
+use chase_script::RowFault;
 use tc_files::FileFault;
 
 /// Why a job stopped before its end.
@@ -11,5 +12,20 @@ pub enum Stop {
     /// A push on the output failed.
     WriteFault,
     /// The input is longer than the command takes.
+    Limit,
+}
+
+/// Why a chase stopped before its end.
+#[derive(Clone, Copy, Debug, PartialEq, Eq)]
+pub enum ChaseStop {
+    /// The script has a refused row.
+    Refused(RowFault),
+    /// A pull failed.
+    ReadFault,
+    /// A push on the output failed.
+    WriteFault,
+    /// There was not enough memory for the script or its rows.
+    Memory,
+    /// The script is longer than a chase takes.
     Limit,
 }

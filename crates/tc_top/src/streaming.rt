@@ -8,6 +8,7 @@ ghost use Rattle.tc_top.specs.Commands.{meaning_of};
 ghost use Rattle.tc_top.specs.LtcFly.{IsMarked};
 ghost use Rattle.tc_top.specs.Made.{MakesWhatIsRead};
 ghost use Rattle.tc_top.specs.Meaning.{Meaning, IsInput, IsEnd};
+ghost use Rattle.tc_top.specs.SoundAgain.{SoundsTheIntervals};
 ghost use Rattle.tc_top.specs.Stops.{StopsAlong};
 ghost use Rattle.tc_top.specs.Tape.{IsReport, ReportsTheTape};
 ghost use Rattle.biphase.specs.declared.profile.Profile.{Profile};
@@ -18,8 +19,11 @@ use crate::engines::ltc_convert::Conversion;
 use crate::engines::ltc_fly::FrameLines;
 use crate::engines::ltc_make::Tape;
 use crate::engines::ltc_mtc::FrameMessages;
+use crate::engines::ltc_pcm::{MadeSound, is_sliced_again};
 use crate::engines::ltc_read::Report;
 use crate::engines::mtc_read::MtcReport;
+use crate::engines::pcm_ltc::SlicedSound;
+use crate::engines::vitc_read::FieldReport;
 use crate::flight::FlightTo;
 use crate::intake::work;
 use crate::making::make;
@@ -31,6 +35,7 @@ use direction_reader::laws::{
     events_find_the_tape_again, events_mirror_the_tape, events_tell_the_tape,
 };
 use flywheel::laws::invention_is_bounded_and_marked;
+use line_file::laws::what_bytes_show_stays;
 use tc_io::{Sink, Source};
 use tc_words::Job;
 
@@ -70,13 +75,17 @@ pub fn stream<S: Source, K: Sink, N: Sink>(
     ensures marked { (limit : ℕ) → job.now ≡ Job.LtcFly limit
         → (written : List ℕ) × Appends (K.written out.old) (K.written out.new) written × IsMarked limit written }
 
-    // A recording that the job makes is read back, frame by frame.
+    // A recording that the job makes is read back, frame by frame; what `ltc-load` makes is read, word by word.
     ensures read { MakesWhatIsRead job.now }
+
+    // Sound that the job makes is sliced into the same intervals.
+    ensures sound { SoundsTheIntervals job.now }
 {
     events_tell_the_tape();
     events_find_the_tape_again();
     invention_is_bounded_and_marked();
     events_mirror_the_tape();
+    what_bytes_show_stays();
     match work_on(job, source, out) {
         Ok(()) => Status::Done,
         Err(stop) => {
@@ -102,6 +111,7 @@ fn work_on<S: Source, K: Sink>(job: &Job, source: &mut S, out: &mut K) -> Result
     ensures idle { Meaning.reads (meaning_of job.now) ≡ false → source.new ≡ source.old }
     ensures writes { Meaning.reads (meaning_of job.now) ≡ false → IfErr result (λ stop. stop ≡ Stop.WriteFault) }
     ensures read { MakesWhatIsRead job.now }
+    ensures sound { SoundsTheIntervals job.now }
 {
     match job {
         Job::LtcRead => work(&mut Along::<Report>::new(Profile::Normal), source, out),
@@ -114,10 +124,17 @@ fn work_on<S: Source, K: Sink>(job: &Job, source: &mut S, out: &mut K) -> Result
                 out,
             )
         }
+        Job::VitcRead => work(&mut FieldReport::new(), source, out),
         Job::MtcRead => work(&mut MtcReport::new(), source, out),
         Job::LtcMake { stripe } => make(&mut Tape::new(stripe), source, out),
+        Job::LtcLoad { run } => make(&mut OneLine::load(run), source, out),
         Job::LtcConvert { version } => {
             work(&mut Along::<Conversion>::new(*version), source, out)
+        }
+        Job::PcmLtc { slicing } => work(&mut SlicedSound::new(slicing), source, out),
+        Job::LtcPcm { amplitude } => {
+            is_sliced_again(*amplitude);
+            work(&mut Along::<MadeSound>::new(*amplitude), source, out)
         }
         Job::Number { label } => make(&mut OneLine::number(label), source, out),
         Job::LabelOf { label } => make(&mut OneLine::label(label), source, out),

@@ -1,11 +1,14 @@
 //! Runs of the program whose status, output and note are known from outside.
+mod chase;
 mod convert;
 mod damage;
 mod faults;
 mod frames;
+mod load;
 mod made;
 mod midi;
 mod reading;
 mod recording;
+mod sound;
 mod trial;
 mod words;

@@ -1,6 +1,7 @@
 -- The first fault where words have several, and the edges of a number.
 use Rattle.std.proofs.Common.{◌≡◌, [], ◌∷◌, Some, None, Ok, Err, refl, codes}
 use Rattle.tc_words.specs.declared.job.Job.TheVariants.{LtcRead}
+use Rattle.tc_words.specs.declared.job.Task.TheVariants.{Stream}
 use Rattle.tc_words.specs.declared.fault.WordsFault.TheVariants.{Dash, Command, CountOfWords, Value}
 use Rattle.tc_words.specs.Job.{answer_to}
 use Rattle.tc_words.specs.Values.{number_in}
@@ -11,7 +12,7 @@ no_word = refl
 an_empty_word : answer_to ([] ∷ []) ≡ Err Command
 an_empty_word = refl
 
-ltc_read_alone : answer_to (codes "ltc-read" ∷ []) ≡ Ok LtcRead
+ltc_read_alone : answer_to (codes "ltc-read" ∷ []) ≡ Ok (Stream LtcRead)
 ltc_read_alone = refl
 
 -- a dash comes before an unknown command, and that before a count

@@ -1,13 +1,18 @@
--- The job of a list of words, or their first fault.
+-- The task of a list of words, or their first fault.
 use Rattle.std.specs.Prelude.{ℕ, List, [], ◌∷◌, Option, Some, None, Result, Ok, Err, if◌then◌else◌, position}
 use Rattle.std.specs.Str.{bytes_eq}
 use Rattle.tc_words.specs.declared.job.Job.{Job}
 use Rattle.tc_words.specs.declared.job.Job.TheVariants as jobs
+use Rattle.tc_words.specs.declared.job.Task.{Task}
+use Rattle.tc_words.specs.declared.job.Task.TheVariants as tasks
 use Rattle.tc_words.specs.declared.commands.TheConstants as commands
 use Rattle.tc_words.specs.declared.fault.WordsFault.{WordsFault}
 use Rattle.tc_words.specs.declared.fault.WordsFault.TheVariants.{Dash, Command, CountOfWords, Value}
-use Rattle.tc_words.specs.Tape.{at_one_length, moving}
-use Rattle.tc_words.specs.Values.{Word, count_in, limit_in, numbered, spelled, version_in}
+use Rattle.tc_words.specs.Sound.{amplitude_in, following, in_samples, in_ticks}
+use Rattle.tc_words.specs.Tape.{at_one_length, moving, value_or}
+use Rattle.tc_words.specs.declared.load.TheConstants.{MAX_WORDS}
+use Rattle.tc_words.specs.Load.{loading_of}
+use Rattle.tc_words.specs.Values.{Word, between, count_in, limit_in, number_in, numbered, spelled, version_in}
 use Rattle.command_words.specs.CommandLine.{begins_with_dash}
 
 -- the job, or the first fault
@@ -43,10 +48,28 @@ ltc_make (count ∷ direction ∷ label ∷ frames ∷ cell ∷ tick_rate ∷ to
     moving count direction label frames cell tick_rate to_cell step
 ltc_make _ = Err CountOfWords
 
+-- `ltc-load SEED WORDS`
+abbrev pub ltc_load : List Word → Answer
+ltc_load (seed ∷ words ∷ []) =
+    with_value 1 (number_in seed) (λ s. with_value 2 (between 1 MAX_WORDS words) (λ w. Ok (jobs.LtcLoad (loading_of s w))))
+ltc_load _ = Err CountOfWords
+
 -- `ltc-convert VERSION`
 abbrev pub ltc_convert : List Word → Answer
 ltc_convert (version ∷ []) = with_value 1 (version_in version) (λ v. Ok (jobs.LtcConvert v))
 ltc_convert _ = Err CountOfWords
+
+-- `pcm-ltc SYSTEM RATE THRESHOLD [FINENESS [follow]]`: without the last words the ticks are samples, and the threshold stays where it is
+abbrev pub pcm_ltc : List Word → Answer
+pcm_ltc (system ∷ rate ∷ threshold ∷ []) = in_samples system rate threshold
+pcm_ltc (system ∷ rate ∷ threshold ∷ fineness ∷ []) = in_ticks system rate threshold fineness
+pcm_ltc (system ∷ rate ∷ threshold ∷ fineness ∷ follow ∷ []) = following system rate threshold fineness follow
+pcm_ltc _ = Err CountOfWords
+
+-- `ltc-pcm LEVEL`
+abbrev pub ltc_pcm : List Word → Answer
+ltc_pcm (level ∷ []) = with_value 1 (amplitude_in level) (λ n. Ok (jobs.LtcPcm n))
+ltc_pcm _ = Err CountOfWords
 
 -- `number COUNT LABEL`
 abbrev pub number : List Word → Answer
@@ -60,7 +83,7 @@ label_of (count ∷ number ∷ []) =
     with_value 1 (count_in count) (λ c. with_value 2 (numbered c number) (λ address. Ok (jobs.LabelOf address)))
 label_of _ = Err CountOfWords
 
--- ---- the table of the commands: a row each
+-- ---- the table of the jobs: a row each
 
 -- the row of the command that the word names
 abbrev pub job_of : Word → List Word → Answer
@@ -71,23 +94,47 @@ job_of command values =
     else if bytes_eq command commands.LTC_MTC.now then ltc_mtc values
     else if bytes_eq command commands.MTC_READ.now then no_values jobs.MtcRead values
     else if bytes_eq command commands.LTC_MAKE.now then ltc_make values
+    else if bytes_eq command commands.LTC_LOAD.now then ltc_load values
     else if bytes_eq command commands.LTC_CONVERT.now then ltc_convert values
+    else if bytes_eq command commands.PCM_LTC.now then pcm_ltc values
+    else if bytes_eq command commands.LTC_PCM.now then ltc_pcm values
+    else if bytes_eq command commands.VITC_READ.now then no_values jobs.VitcRead values
     else if bytes_eq command commands.NUMBER.now then number values
     else if bytes_eq command commands.LABEL.now then label_of values
     else Err Command
 
+-- ---- the tasks
+
+-- the task, or the first fault
+abbrev pub TaskAnswer : Type 0
+TaskAnswer = Result Task WordsFault
+
+-- `chase COUNT LABEL`
+abbrev pub chase : List Word → TaskAnswer
+chase (count ∷ label ∷ []) =
+    value_or 1 (count_in count) (λ c. value_or 2 (spelled c label) (λ address. Ok (tasks.Chase address)))
+chase _ = Err CountOfWords
+
+-- each other command is a job that is streamed
+abbrev pub streamed : Answer → TaskAnswer
+streamed (Ok job) = Ok (tasks.Stream job)
+streamed (Err fault) = Err fault
+
+abbrev pub task_of : Word → List Word → TaskAnswer
+task_of command values = if bytes_eq command commands.CHASE.now then chase values else streamed (job_of command values)
+
 -- ---- all words
 
 -- words of which none begins with a dash: the first is the command
-abbrev pub without_dashes : List Word → Answer
+abbrev pub without_dashes : List Word → TaskAnswer
 without_dashes [] = Err Command
-without_dashes (command ∷ values) = job_of command values
+without_dashes (command ∷ values) = task_of command values
 
--- the first word that begins with a dash, or else the job
-abbrev pub after_dashes : Option ℕ → List Word → Answer
+-- the first word that begins with a dash, or else the task
+abbrev pub after_dashes : Option ℕ → List Word → TaskAnswer
 after_dashes (Some place) words = Err (Dash place)
 after_dashes None words = without_dashes words
 
 -- a dash in any word is the first fault, then the command, then the count of words, then the values
-abbrev pub answer_to : List Word → Answer
+abbrev pub answer_to : List Word → TaskAnswer
 answer_to words = after_dashes (position begins_with_dash words) words

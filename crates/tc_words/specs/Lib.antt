@@ -1,4 +1,7 @@
 pub mod Job
+pub mod Slicing
+pub mod Sound
+pub mod Load
 pub mod Stripe
 pub mod Tape
 pub mod Values

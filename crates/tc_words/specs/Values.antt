@@ -8,6 +8,8 @@ use Rattle.tc_address.specs.declared.count.Count.{Count}
 use Rattle.tc_address.specs.declared.count.Count.TheVariants.{C24, C25, C30, Drop30}
 use Rattle.tc_address.specs.declared.direction.Direction.{Direction}
 use Rattle.tc_address.specs.declared.direction.Direction.TheVariants.{Forward, Backward}
+use Rattle.tc_address.specs.declared.system.System.{System}
+use Rattle.tc_address.specs.declared.system.System.TheVariants.{F24, F25, F30}
 use Rattle.tc_address.specs.Label.{Address, labels}
 use Rattle.tc_address.specs.Spelling.{label_in}
 use Rattle.tc_files.specs.declared.interval_file.header.FileVersion.{FileVersion}
@@ -24,6 +26,14 @@ count_in word =
     else if bytes_eq word (codes "25") then Some C25
     else if bytes_eq word (codes "30") then Some C30
     else if bytes_eq word (codes "30d") then Some Drop30
+    else None
+
+-- `24`, `25` or `30`
+abbrev pub system_in : Word → Option System
+system_in word =
+    if bytes_eq word (codes "24") then Some F24
+    else if bytes_eq word (codes "25") then Some F25
+    else if bytes_eq word (codes "30") then Some F30
     else None
 
 -- one to twenty digits

@@ -1,6 +1,9 @@
 //! The words of the commands, as they are typed, which the code and the definitions share. `laws`
 //! spells each of them. Next: `words`.
 
+/// The word of `Task::Chase`.
+pub const CHASE: &str = "chase";
+
 /// The word of `Job::LtcRead`.
 pub const LTC_READ: &str = "ltc-read";
 
@@ -19,8 +22,20 @@ pub const MTC_READ: &str = "mtc-read";
 /// The word of `Job::LtcMake`.
 pub const LTC_MAKE: &str = "ltc-make";
 
+/// The word of `Job::LtcLoad`.
+pub const LTC_LOAD: &str = "ltc-load";
+
 /// The word of `Job::LtcConvert`.
 pub const LTC_CONVERT: &str = "ltc-convert";
+
+/// The word of `Job::PcmLtc`.
+pub const PCM_LTC: &str = "pcm-ltc";
+
+/// The word of `Job::LtcPcm`.
+pub const LTC_PCM: &str = "ltc-pcm";
+
+/// The word of `Job::VitcRead`.
+pub const VITC_READ: &str = "vitc-read";
 
 /// The word of `Job::Number`.
 pub const NUMBER: &str = "number";

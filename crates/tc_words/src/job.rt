@@ -1,9 +1,22 @@
 //! What the words name. Next: `tc_top`, which does it.
+use crate::amplitude::Amplitude;
+use crate::load::LoadRun;
+use crate::slicing::Slicing;
 use crate::stripe::Stripe;
 use tc_address::Label;
 use tc_files::FileVersion;
 
-/// What the program is to do.
+/// What the words name.
+#[derive(Clone, Copy, Debug, PartialEq, Eq)]
+pub enum Task {
+    /// A job that is worked while its input comes, in fixed memory.
+    Stream(Job),
+    /// `chase COUNT LABEL`: reads a chase script, and writes the trace of a chase that begins at the label.
+    /// The script is read whole before anything is written.
+    Chase { label: Label },
+}
+
+/// What the program is to do while its input comes.
 #[derive(Clone, Copy, Debug, PartialEq, Eq)]
 pub enum Job {
     /// `ltc-read`: reads an interval file, and writes a line for each word, refusal and loss.
@@ -21,8 +34,17 @@ pub enum Job {
     /// `ltc-make COUNT DIRECTION LABEL FRAMES CELL TICK-RATE [TO-CELL STEP]`: makes an interval file of
     /// these frames.
     LtcMake { stripe: Stripe },
+    /// `ltc-load SEED WORDS`: makes a recording of so many words by chance, reads it, and writes one line.
+    LtcLoad { run: LoadRun },
     /// `ltc-convert VERSION`: reads an interval file, and writes it in this version.
     LtcConvert { version: FileVersion },
+    /// `pcm-ltc SYSTEM RATE THRESHOLD [FINENESS [follow]]`: reads samples of sound, and writes an interval
+    /// file of the distances of their crossings.
+    PcmLtc { slicing: Slicing },
+    /// `ltc-pcm LEVEL`: reads an interval file, and writes it as samples of sound.
+    LtcPcm { amplitude: Amplitude },
+    /// `vitc-read`: reads a line file, and writes a line for each field.
+    VitcRead,
     /// `number COUNT LABEL`: writes how many labels of the count stand before the label in the day.
     Number { label: Label },
     /// `label COUNT NUMBER`: writes the label of that number of the day.

@@ -3,12 +3,13 @@
 //! The first word is the command, and the others are its values. Words are counted from 0, so the
 //! command is word 0. No word begins with a dash: there are no flags.
 //!
-//! What this crate promises: `read_words` answers the job of the words, or else their first fault, in
+//! What this crate promises: `read_words` answers the task of the words, or else their first fault, in
 //! the order of `WordsFault`, and want of memory is an answer of its own (`specs/Job.antt`,
-//! `answer_to`).
+//! `answer_to`). A task is a job that is streamed, or a chase.
 //!
-//! Read `commands`, `fault`, `job`, `stripe`, `tape`, `values` and `words`, with `specs/Job.antt` and `specs/Values.antt`
-//! beside them: `words` and `Job.antt` have the same rows. `tc_top` stands on this crate.
+//! Read `commands`, `fault`, `job`, `stripe`, `tape`, `load`, `slicing`, `amplitude`, `sound`, `values` and
+//! `words`, with `specs/Job.antt` and `specs/Values.antt` beside them: `words` and `Job.antt` have the same
+//! rows. `tc_top` stands on this crate.
 //!
 //! A later command joins in these places:
 //! - its job, a variant of `Job` (`job`);
@@ -18,17 +19,24 @@
 //! - its lines in the tables of `tests`.
 #![tactic(auto)]
 
+mod amplitude;
 pub mod commands;
 mod fault;
 mod job;
 pub mod laws;
+mod load;
+mod slicing;
+mod sound;
 mod stripe;
 mod tape;
 mod values;
 mod words;
 
+pub use amplitude::Amplitude;
 pub use fault::WordsFault;
-pub use job::Job;
+pub use job::{Job, Task};
+pub use load::{LoadRun, MAX_WORDS};
+pub use slicing::{MAX_FINENESS, MAX_SIZE, Slicing};
 pub use stripe::{MAX_FRAMES, MAX_TICK_RATE, Stripe};
 pub use words::read_words;
 

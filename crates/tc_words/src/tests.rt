@@ -1,5 +1,6 @@
 //! Words as they are typed, and what they say.
 use super::*;
+use pcm_front::Threshold;
 use std::alloc::{AllocError, Global};
 use std::test::Fail;
 use tc_address::text;
@@ -30,6 +31,7 @@ fn the_first_fault_is_told(rt: HostRuntime) -> Result<(), Fail> {
         ("ltc-mtc 2 2", WordsFault::CountOfWords),
         ("ltc-mtc 256", WordsFault::Value(1)),
         ("mtc-read x", WordsFault::CountOfWords),
+        ("vitc-read 25", WordsFault::CountOfWords),
         (
             "ltc-make 25 forward 00:00:00:00 4 800 48000 400",
             WordsFault::CountOfWords,
@@ -66,15 +68,40 @@ fn the_first_fault_is_told(rt: HostRuntime) -> Result<(), Fail> {
             "ltc-make 25 backward 00:00:00:00 1000000 8388607 100000001",
             WordsFault::Value(6),
         ),
+        ("ltc-load 1", WordsFault::CountOfWords),
+        ("ltc-load one 0", WordsFault::Value(1)),
+        ("ltc-load 18446744073709551616 1", WordsFault::Value(1)),
+        ("ltc-load 18446744073709551615 0", WordsFault::Value(2)),
+        ("ltc-load 0 100001", WordsFault::Value(2)),
         ("ltc-convert", WordsFault::CountOfWords),
         ("ltc-convert 3", WordsFault::Value(1)),
         ("ltc-convert 01", WordsFault::Value(1)),
+        ("pcm-ltc 25 48000", WordsFault::CountOfWords),
+        ("pcm-ltc 30d 0 0 0 follows", WordsFault::Value(1)),
+        ("pcm-ltc 25 100000001 0 0 follows", WordsFault::Value(2)),
+        ("pcm-ltc 25 48000 32768 0 follows", WordsFault::Value(3)),
+        ("pcm-ltc 25 48000 0", WordsFault::Value(3)),
+        ("pcm-ltc 25 48000 1000 65 follows", WordsFault::Value(4)),
+        ("pcm-ltc 25 48000 1000 0", WordsFault::Value(4)),
+        ("pcm-ltc 25 1562501 1000 64", WordsFault::Value(4)),
+        ("pcm-ltc 25 100000000 1000 2", WordsFault::Value(4)),
+        ("pcm-ltc 25 48000 1000 16 Follow", WordsFault::Value(5)),
+        (
+            "pcm-ltc 25 48000 1000 16 follow 1",
+            WordsFault::CountOfWords,
+        ),
+        ("ltc-pcm", WordsFault::CountOfWords),
+        ("ltc-pcm 0", WordsFault::Value(1)),
+        ("ltc-pcm 32768", WordsFault::Value(1)),
         ("number 30d", WordsFault::CountOfWords),
         ("number 29 00:01:00;02", WordsFault::Value(1)),
         ("number 30d 00:01:00;00", WordsFault::Value(2)),
         ("label 30d 2589408", WordsFault::Value(2)),
         ("label 30d +1", WordsFault::Value(2)),
         ("label 25 --", WordsFault::Dash(2)),
+        ("chase 25", WordsFault::CountOfWords),
+        ("chase 29 00:00:00:00", WordsFault::Value(1)),
+        ("chase 30d 00:01:00;00", WordsFault::Value(2)),
         ("-", WordsFault::Dash(0)),
         ("LTC-READ", WordsFault::Command),
         (
@@ -88,11 +115,19 @@ fn the_first_fault_is_told(rt: HostRuntime) -> Result<(), Fail> {
     Ok(())
 }
 
-/// The text of the label that the job is about.
-fn label_text(job: &Job) -> Option<[u8; 11]> {
+/// The text of the label that the task is about.
+fn label_text(task: &Task) -> Option<[u8; 11]> {
+    match task {
+        Task::Stream(job) => label_text_of(job),
+        Task::Chase { label } => Some(text(label)),
+    }
+}
+
+fn label_text_of(job: &Job) -> Option<[u8; 11]> {
     match job {
         Job::LtcRead | Job::LtcWorn | Job::LtcFly { .. } | Job::LtcConvert { .. } => None,
-        Job::LtcMtc { .. } | Job::MtcRead => None,
+        Job::PcmLtc { .. } | Job::LtcPcm { .. } => None,
+        Job::LtcMtc { .. } | Job::MtcRead | Job::LtcLoad { .. } => None,
         Job::LtcMake { stripe } => Some(text(&stripe.label())),
         Job::Number { label } => Some(text(label)),
         Job::LabelOf { label } => Some(text(label)),
@@ -103,11 +138,11 @@ fn label_text(job: &Job) -> Option<[u8; 11]> {
 fn jobs_are_read(rt: HostRuntime) -> Result<(), Fail> {
     let alloc = rt.alloc();
     let words = typed(alloc, "ltc-read")?;
-    assert_eq!(rt; read_words(alloc, &words), Ok(Job::LtcRead));
+    assert_eq!(rt; read_words(alloc, &words), Ok(Task::Stream(Job::LtcRead)));
     let words = typed(alloc, "ltc-worn")?;
-    assert_eq!(rt; read_words(alloc, &words), Ok(Job::LtcWorn));
+    assert_eq!(rt; read_words(alloc, &words), Ok(Task::Stream(Job::LtcWorn)));
     let words = typed(alloc, "mtc-read")?;
-    assert_eq!(rt; read_words(alloc, &words), Ok(Job::MtcRead));
+    assert_eq!(rt; read_words(alloc, &words), Ok(Task::Stream(Job::MtcRead)));
     for (line, job) in [
         ("ltc-fly 0", Job::LtcFly { limit: 0 }),
         ("ltc-fly 255", Job::LtcFly { limit: 255 }),
@@ -115,7 +150,11 @@ fn jobs_are_read(rt: HostRuntime) -> Result<(), Fail> {
         ("ltc-mtc 255", Job::LtcMtc { limit: 255 }),
     ] {
         let words = typed(alloc, line)?;
-        assert_eq!(rt; read_words(alloc, &words), Ok(job), "at {line}");
+        assert_eq!(rt;
+            read_words(alloc, &words),
+            Ok(Task::Stream(job)),
+            "at {line}"
+        );
     }
     for (line, version) in [
         ("ltc-convert 1", FileVersion::One),
@@ -124,25 +163,57 @@ fn jobs_are_read(rt: HostRuntime) -> Result<(), Fail> {
         let words = typed(alloc, line)?;
         assert_eq!(rt;
             read_words(alloc, &words),
-            Ok(Job::LtcConvert { version }),
+            Ok(Task::Stream(Job::LtcConvert { version })),
             "at {line}"
         );
+    }
+    for (line, threshold, fineness, tick_rate) in [
+        ("pcm-ltc 24 1 1", Threshold::Fixed(1), 1, 1),
+        ("pcm-ltc 25 48000 1000", Threshold::Fixed(1_000), 1, 48_000),
+        (
+            "pcm-ltc 30 1562500 32767 64",
+            Threshold::Fixed(32_767),
+            64,
+            100_000_000,
+        ),
+        (
+            "pcm-ltc 25 48000 250 16 follow",
+            Threshold::Follow(250),
+            16,
+            768_000,
+        ),
+    ] {
+        let words = typed(alloc, line)?;
+        let Ok(Job::PcmLtc { slicing }) = read_words(alloc, &words) else {
+            return Err("no slicing".into());
+        };
+        assert_eq!(rt; slicing.threshold(), threshold, "at {line}");
+        assert_eq!(rt; slicing.fineness(), fineness, "at {line}");
+        assert_eq!(rt; slicing.tick_rate(), tick_rate, "at {line}");
+    }
+    for (line, size) in [("ltc-pcm 1", 1), ("ltc-pcm 32767", 32_767)] {
+        let words = typed(alloc, line)?;
+        let Ok(Job::LtcPcm { amplitude }) = read_words(alloc, &words) else {
+            return Err("no sound".into());
+        };
+        assert_eq!(rt; amplitude.size(), size, "at {line}");
     }
     for (line, wanted) in [
         ("label 30 2591999", *b"23:59:59:29"),
         ("label 25 0", *b"00:00:00:00"),
         ("label 30d 00000000000000001800", *b"00:01:00;02"),
         ("number 24 12:34:56:23", *b"12:34:56:23"),
+        ("chase 30d 00:01:00;02", *b"00:01:00;02"),
         (
             "ltc-make 30d backward 00:01:00;02 1000000 800 100000000 400 50",
             *b"00:01:00;02",
         ),
     ] {
         let words = typed(alloc, line)?;
-        let Ok(job) = read_words(alloc, &words) else {
-            return Err("no job".into());
+        let Ok(task) = read_words(alloc, &words) else {
+            return Err("no task".into());
         };
-        assert_eq!(rt; label_text(&job), Some(wanted), "at {line}");
+        assert_eq!(rt; label_text(&task), Some(wanted), "at {line}");
     }
     Ok(())
 }

@@ -2,10 +2,10 @@
 ghost use Rattle.std.specs.Prelude.{◌≡◌, ◌≤◌, IfSome};
 ghost use Rattle.std.specs.Char.{is_ascii_digit};
 ghost use Rattle.std.specs.List.{list_all};
-ghost use Rattle.tc_words.specs.Values.{between, count_in, direction_in, is_number, limit_in, number_in, numbered, spelled, version_in};
+ghost use Rattle.tc_words.specs.Values.{between, count_in, direction_in, is_number, limit_in, number_in, numbered, spelled, system_in, version_in};
 ghost use Rattle.tc_address.specs.Label.{IsLabel};
 
-use tc_address::{Count, Direction, Label, day_labels, label_at, read_text};
+use tc_address::{Count, Direction, Label, System, day_labels, label_at, read_text};
 use tc_files::FileVersion;
 
 /// A count: `24`, `25`, `30` or `30d`.
@@ -17,6 +17,18 @@ pub fn count_in(word: &str) -> Option<Count>
         "25" => Some(Count::C25),
         "30" => Some(Count::C30),
         "30d" => Some(Count::Drop30),
+        _ => None,
+    }
+}
+
+/// A system: `24`, `25` or `30`.
+pub fn system_in(word: &str) -> Option<System>
+    ensures { result ≡ system_in word.now }
+{
+    match word {
+        "24" => Some(System::F24),
+        "25" => Some(System::F25),
+        "30" => Some(System::F30),
         _ => None,
     }
 }

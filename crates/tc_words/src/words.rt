@@ -1,19 +1,21 @@
-//! The words of the command line as a job, or their first fault. Next: `values` for each value, then
+//! The words of the command line as a task, or their first fault. Next: `values` for each value, then
 //! `job`.
 ghost use Rattle.std.specs.Prelude.{◌≡◌, ◌⊎◌, map, position, string_bytes, alloc_error};
 ghost use Rattle.command_words.specs.CommandLine.{begins_with_dash};
-ghost use Rattle.tc_words.specs.Job.{answer_to, without_dashes, job_of, no_values, ltc_fly, ltc_mtc, number, label_of, ltc_make, ltc_convert};
+ghost use Rattle.tc_words.specs.Job.{answer_to, without_dashes, job_of, no_values, ltc_fly, ltc_mtc, number, label_of, ltc_make, ltc_convert, pcm_ltc, ltc_pcm, task_of, chase, ltc_load};
 
 use crate::commands;
 use crate::fault::WordsFault;
-use crate::job::Job;
+use crate::job::{Job, Task};
+use crate::load::{LoadRun, MAX_WORDS};
+use crate::sound::{amplitude_in, following, in_samples, in_ticks};
 use crate::tape::{at_one_length, moving};
-use crate::values::{count_in, limit_in, numbered, spelled, version_in};
+use crate::values::{between, count_in, limit_in, number_in, numbered, spelled, version_in};
 use command_words::CommandLine;
 use std::alloc::Global;
 
-/// The job of the words, or their first fault. Word 0 is the command.
-pub fn read_words(alloc: Global, words: &[String]) -> Result<Job, WordsFault>
+/// The task of the words, or their first fault. Word 0 is the command.
+pub fn read_words(alloc: Global, words: &[String]) -> Result<Task, WordsFault>
     ensures { (result ≡ answer_to (map string_bytes words.now)) ⊎ (result ≡ Err (WordsFault.Memory alloc_error)) }
 {
     match first_dash(words) {
@@ -24,7 +26,7 @@ pub fn read_words(alloc: Global, words: &[String]) -> Result<Job, WordsFault>
 
 // The same of words of which none begins with a dash.
 #[tactic(auto, using(crate::proofs::FirstDash::no_dashes))]
-fn without_dashes(alloc: Global, words: &[String]) -> Result<Job, WordsFault>
+fn without_dashes(alloc: Global, words: &[String]) -> Result<Task, WordsFault>
     requires { position begins_with_dash (map string_bytes words.now) ≡ None }
     ensures { (result ≡ without_dashes (map string_bytes words.now)) ⊎ (result ≡ Err (WordsFault.Memory alloc_error)) }
 {
@@ -32,7 +34,7 @@ fn without_dashes(alloc: Global, words: &[String]) -> Result<Job, WordsFault>
         return Err(WordsFault::Command);
     }
     match CommandLine::read(alloc, words) {
-        Ok(line) => job_of(line.command(), line.values()),
+        Ok(line) => task_of(line.command(), line.values()),
         Err(memory) => Err(WordsFault::Memory(memory)),
     }
 }
@@ -50,7 +52,29 @@ fn begins_with_dash(word: &str) -> bool
     word.as_bytes().first() == Some(&b'-')
 }
 
-// The table of the commands: a row each, and below it how the values of each are read.
+// A chase, or else a job that is streamed.
+fn task_of(command: &str, values: &[&str]) -> Result<Task, WordsFault>
+    ensures { result ≡ task_of command.now (map (λ v. v.now) values.now) }
+{
+    match command {
+        commands::CHASE => chase(values),
+        _ => Ok(Task::Stream(job_of(command, values)?)),
+    }
+}
+
+// `chase COUNT LABEL`
+fn chase(values: &[&str]) -> Result<Task, WordsFault>
+    ensures { result ≡ chase (map (λ v. v.now) values.now) }
+{
+    let [count, label] = values else {
+        return Err(WordsFault::CountOfWords);
+    };
+    let count = count_in(count).ok_or(WordsFault::Value(1))?;
+    let label = spelled(count, label).ok_or(WordsFault::Value(2))?;
+    Ok(Task::Chase { label })
+}
+
+// The table of the jobs: a row each, and below it how the values of each are read.
 fn job_of(command: &str, values: &[&str]) -> Result<Job, WordsFault>
     ensures { result ≡ job_of command.now (map (λ v. v.now) values.now) }
 {
@@ -61,7 +85,11 @@ fn job_of(command: &str, values: &[&str]) -> Result<Job, WordsFault>
         commands::LTC_MTC => ltc_mtc(values),
         commands::MTC_READ => no_values(values, Job::MtcRead),
         commands::LTC_MAKE => ltc_make(values),
+        commands::LTC_LOAD => ltc_load(values),
         commands::LTC_CONVERT => ltc_convert(values),
+        commands::PCM_LTC => pcm_ltc(values),
+        commands::LTC_PCM => ltc_pcm(values),
+        commands::VITC_READ => no_values(values, Job::VitcRead),
         commands::NUMBER => number(values),
         commands::LABEL => label_of(values),
         _ => Err(WordsFault::Command),
@@ -124,6 +152,20 @@ fn ltc_make(values: &[&str]) -> Result<Job, WordsFault>
     }
 }
 
+// `ltc-load SEED WORDS`
+fn ltc_load(values: &[&str]) -> Result<Job, WordsFault>
+    ensures { result ≡ ltc_load (map (λ v. v.now) values.now) }
+{
+    let [seed, words] = values else {
+        return Err(WordsFault::CountOfWords);
+    };
+    let seed = number_in(seed).ok_or(WordsFault::Value(1))?;
+    let words = between(1, MAX_WORDS, words).ok_or(WordsFault::Value(2))?;
+    Ok(Job::LtcLoad {
+        run: LoadRun::new(seed, words),
+    })
+}
+
 // `ltc-convert VERSION`
 fn ltc_convert(values: &[&str]) -> Result<Job, WordsFault>
     ensures { result ≡ ltc_convert (map (λ v. v.now) values.now) }
@@ -133,6 +175,31 @@ fn ltc_convert(values: &[&str]) -> Result<Job, WordsFault>
     };
     let version = version_in(version).ok_or(WordsFault::Value(1))?;
     Ok(Job::LtcConvert { version })
+}
+
+// `pcm-ltc SYSTEM RATE THRESHOLD [FINENESS [follow]]`
+fn pcm_ltc(values: &[&str]) -> Result<Job, WordsFault>
+    ensures { result ≡ pcm_ltc (map (λ v. v.now) values.now) }
+{
+    match values {
+        [system, rate, threshold] => in_samples(system, rate, threshold),
+        [system, rate, threshold, fineness] => in_ticks(system, rate, threshold, fineness),
+        [system, rate, threshold, fineness, follow] => {
+            following(system, rate, threshold, fineness, follow)
+        }
+        _ => Err(WordsFault::CountOfWords),
+    }
+}
+
+// `ltc-pcm LEVEL`
+fn ltc_pcm(values: &[&str]) -> Result<Job, WordsFault>
+    ensures { result ≡ ltc_pcm (map (λ v. v.now) values.now) }
+{
+    let [level] = values else {
+        return Err(WordsFault::CountOfWords);
+    };
+    let amplitude = amplitude_in(level).ok_or(WordsFault::Value(1))?;
+    Ok(Job::LtcPcm { amplitude })
 }
 
 // `number COUNT LABEL`

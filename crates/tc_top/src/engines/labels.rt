@@ -1,12 +1,16 @@
-//! The commands that turn labels into numbers and back. Next: `making`.
+//! The commands that write one line: those that turn labels into numbers and back, and the load run.
+//! Next: `making`.
 ghost use Rattle.std.specs.Prelude.{◌≡◌};
 ghost use Rattle.tc_address.specs.Numbering.{number_of};
 ghost use Rattle.tc_top.specs.KeptLine.{rest_of};
 ghost use Rattle.tc_top.specs.Labels.{number_line, label_line};
+ghost use Rattle.tc_top.specs.Load.{IsAllRead, load_text};
 
+use crate::engines::ltc_load::load_text;
 use crate::making::{Maker, Piece};
 use tc_address::{Label, number, text};
 use tc_files::{Text, push_bytes, push_number};
+use tc_words::LoadRun;
 
 /// An output of one line.
 #[derive(Drop)]
@@ -34,6 +38,16 @@ impl OneLine {
         push_bytes(&mut line, &text(label));
         push_bytes(&mut line, b"\n");
         OneLine { line: Some(line) }
+    }
+
+    /// The line of `ltc-load`: what was read of a recording that was made.
+    pub(crate) fn load(run: &LoadRun) -> OneLine
+        ensures line { rest_of result.line ≡ load_text run.now }
+        ensures read { IsAllRead run.now }
+    {
+        OneLine {
+            line: Some(load_text(run)),
+        }
     }
 }
 

@@ -217,7 +217,7 @@ fn drops(count: Count) -> bool
 }
 
 /// The 80 bits of a word, bit 0 first in time.
-fn spelling(word: &LtcWord) -> u128
+pub(crate) fn spelling(word: &LtcWord) -> u128
     ensures value { result ≡ spelling_of word.now }
     ensures width { result < 2 ^ 80 }
 {

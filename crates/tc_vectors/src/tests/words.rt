@@ -50,11 +50,7 @@ fn words_that_name_no_job_are_refused(rt: HostRuntime) -> Result<(), Fail> {
 #[test]
 fn commands_to_come_are_unknown(rt: HostRuntime) -> Result<(), Fail> {
     for words in [
-        "ltc-load 1 1000",
-        "vitc-read",
         "vitc-make 30 00:00:00:00 1 460",
-        "chase 25 00:00:00:00",
-        "pcm-ltc 25 48000 1000",
         "ltc-jam 2 24 48000",
         "ltc-chase 25 01:00:00:00 2 1 0",
     ] {

@@ -7,3 +7,10 @@ returns-in-LabelOf-clause-stops g c = rw (c.in-LabelOf.is, ← c.label.ensures) 
 -- a front of the recording was written
 pub returns-in-LtcMake-clause-stops : goal.returns-in-LtcMake-clause-stops
 returns-in-LtcMake-clause-stops g c = rw (c.in-LtcMake.is, ← c.new-in-LtcMake.ensures.rest) c.make.ensures.stops
+
+-- the line of what was made and read was written, or a front of it
+pub returns-in-LtcLoad-clause-ends : goal.returns-in-LtcLoad-clause-ends
+returns-in-LtcLoad-clause-ends g c = rw (c.in-LtcLoad.is, ← c.load.ensures.line) c.make-in-LtcLoad.ensures.ends
+
+pub returns-in-LtcLoad-clause-stops : goal.returns-in-LtcLoad-clause-stops
+returns-in-LtcLoad-clause-stops g c = rw (c.in-LtcLoad.is, ← c.load.ensures.line) c.make-in-LtcLoad.ensures.stops

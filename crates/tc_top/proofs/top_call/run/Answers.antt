@@ -1,20 +1,17 @@
-use Rattle.std.proofs.Common.{[], refl, map, string_bytes, ◌≡◌, subst, sym}
+use Rattle.std.proofs.Common.{◌≡◌, ℕ, List, [], refl, map, string_bytes, subst, sym}
 use Rattle.std.proofs.KnownBytes.{Appends-nil, Consumes-nil}
+use Rattle.std.specs.Io.KnownBytes.{Appends, Consumes}
+use Rattle.chase_script.specs.declared.row.ScriptRow.{ScriptRow}
+use Rattle.chase_script.specs.Lock.{KeepsItsLock}
+use Rattle.tc_words.specs.declared.job.Task.TheVariants.{Stream, Chase}
 use Rattle.tc_top.specs.Answer.{Exchange, IsPulled, IsWritten}
-use Rattle.tc_words.specs.declared.job.Job.TheVariants as jobs
-use Rattle.tc_top.proofs.MarkedLines.{nothing_marked}
-use Rattle.tc_top.proofs.WordsAnswer.{job_answers, named, fault_answers, same_job}
+use Rattle.tc_top.specs.Chase.{IsTraced}
 use Rattle.tc_top.specs.Commands.{meaning_of}
 use Rattle.tc_top.specs.Meaning.{IsEnd}
 use Rattle.tc_top.specs.Tape.{IsReport, ReportsTheTape}
+use Rattle.tc_top.proofs.MarkedLines.{nothing_marked}
+use Rattle.tc_top.proofs.WordsAnswer.{fault_answers, named, same_job, same_label}
 use Rattle.tc_top.proofs.top_call.run.Goals as goal
-
--- the answer of the job that the words name
-pub returns-in-Ok-clause-answer : goal.returns-in-Ok-clause-answer
-returns-in-Ok-clause-answer g c =
-    let words = map string_bytes c.args.words.now in
-    let a = c.stream.ensures.answer in
-    (a.0, a.1, a.2, a.3, job_answers words c.in-Ok.job c.stream.result a.0 (named words c.in-Ok.job c.in-Ok.ensures) a.4)
 
 -- the fault of the words
 pub returns-in-Err-clause-answer : goal.returns-in-Err-clause-answer
@@ -25,25 +22,31 @@ returns-in-Err-clause-answer g c =
       record { bytes = Consumes-nil _; left = refl },
       Appends-nil _,
       record { front = c.push_note.ensures.front; all = c.push_note.ensures.all },
-      rw c.of_words.ensures (fault_answers words c.in-Err.fault _ c.usage_note.result.items c.in-Err.ensures c.usage_note.ensures),
+      rw c.of_words.ensures (fault_answers words c.in-Err.fault _ c.usage_note.result.items (rw c.in-Err.is at c.read_words.ensures) c.usage_note.ensures),
     )
-
--- the lines of frames are marked
-pub returns-in-Ok-clause-marked : goal.returns-in-Ok-clause-marked
-returns-in-Ok-clause-marked g c = λ limit is.
-    let words = map string_bytes c.args.words.now in
-    c.stream.ensures.marked limit (same_job words c.in-Ok.job (jobs.LtcFly limit) (named words c.in-Ok.job c.in-Ok.ensures) is)
 
 -- nothing was written
 pub returns-in-Err-clause-marked : goal.returns-in-Err-clause-marked
 returns-in-Err-clause-marked g c = λ limit is. ([], Appends-nil _, nothing_marked limit)
 
 -- a report tells the tape: the job is the one that the words name
-pub returns-in-Ok-clause-truth : goal.returns-in-Ok-clause-truth
-returns-in-Ok-clause-truth g c = λ done job profile says is.
-    let own = named (map string_bytes c.args.words.now) c.in-Ok.job c.in-Ok.ensures in
-    let same : job ≡ c.in-Ok.job = same_job (map string_bytes c.args.words.now) job c.in-Ok.job says own in
+pub returns-in-Stream-clause-truth : goal.returns-in-Stream-clause-truth
+returns-in-Stream-clause-truth g c = λ done job profile says is.
+    let words = map string_bytes c.args.words.now in
+    let own = named words (Stream c.in-Stream.job) (rw (c.in-Ok.is, c.in-Stream.is) at c.read_words.ensures) in
+    let same : job ≡ c.in-Stream.job = same_job words job c.in-Stream.job says own in
     let told = c.stream.ensures.truth done profile (subst (λ j. IsReport j profile) same is) in
     subst (λ j. (e : Exchange) × IsPulled (g.S.Source.left c.args.source.now) (g.S.Source.left c.stream.new.source) e
     × IsEnd (meaning_of j) e.left × IsWritten (g.K.Sink.written c.args.out.now) (g.K.Sink.written c.stream.new.out) e
     × ReportsTheTape profile e.pulled e.written) (sym same) told
+
+-- the chase keeps its lock: it begins at the label that the words name
+pub returns-in-Chase-clause-lock : goal.returns-in-Chase-clause-lock
+returns-in-Chase-clause-lock g c = λ label says done.
+    let words = map string_bytes c.args.words.now in
+    let own = named words (Chase c.in-Chase.label) (rw (c.in-Ok.is, c.in-Chase.is) at c.read_words.ensures) in
+    let same = same_label words label c.in-Chase.label says own in
+    subst (λ l. (pulled written : List ℕ) × (rows : List ScriptRow)
+    × Consumes (g.S.Source.left c.args.source.now) (g.S.Source.left c.chase.new.source) pulled
+    × Appends (g.K.Sink.written c.args.out.now) (g.K.Sink.written c.chase.new.out) written
+    × IsTraced l (g.S.Source.left c.chase.new.source) pulled written rows × KeepsItsLock l rows) (sym same) (c.chase.ensures.lock done)

@@ -1,9 +1,9 @@
 use Rattle.std.proofs.Common.{◌∙◌, ap, ap₂, inl}
-use Rattle.tc_words.specs.Job.{job_of, without_dashes}
+use Rattle.tc_words.specs.Job.{task_of, without_dashes}
 use Rattle.tc_words.proofs.words.without_dashes.Goals as goal
 
 -- the words are the command and the values that were read
 pub returns-in-Ok : goal.returns-in-Ok
 returns-in-Ok c =
-    let read = c.job_of.ensures ∙ ap₂ job_of c.command.ensures c.values.ensures in
+    let read = c.task_of.ensures ∙ ap₂ task_of c.command.ensures c.values.ensures in
     inl (read ∙ ap without_dashes c.in-Ok.ensures)

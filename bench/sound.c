@@ -1,0 +1,96 @@
+/* Sound of linear time code made and read by libltc, another project's encoder and decoder, for sound.sh.
+ *
+ *     sound make FPS RATE FRAMES > SAMPLES 2> ADDRESSES    frames from 01:00:00:00 on, and the address of each, a line each
+ *     sound fall DB < SAMPLES > SAMPLES                    a level that falls evenly by so many decibels, from the first sample to the last
+ *     sound read FPS RATE < SAMPLES > ADDRESSES            the addresses that libltc's decoder reads
+ *
+ * Samples are raw: 16 bits with a sign, little endian, one channel. Build: cc -O2 -o sound sound.c -lltc -lm
+ */
+#include <ltc.h>
+#include <math.h>
+#include <stdint.h>
+#include <stdio.h>
+#include <stdlib.h>
+#include <string.h>
+
+static void put_sample(int sample) {
+    putchar(sample & 0xff);
+    putchar((sample >> 8) & 0xff);
+}
+
+static void make(double fps, double rate, long frames) {
+    LTCEncoder *encoder = ltc_encoder_create(1, 1, LTC_TV_625_50, 0);
+    ltc_encoder_set_buffersize(encoder, rate, fps);
+    ltc_encoder_reinit(encoder, rate, fps, fps == 25 ? LTC_TV_625_50 : LTC_TV_525_60, 0);
+    ltc_encoder_set_volume(encoder, -3.0);
+    ltc_encoder_set_filter(encoder, 40.0);
+    ltc_encoder_set_user_bits(encoder, 0x2a5f19c3);
+    SMPTETimecode start;
+    memset(&start, 0, sizeof start);
+    start.hours = 1;
+    ltc_encoder_set_timecode(encoder, &start);
+    for (long i = 0; i < frames; i++) {
+        SMPTETimecode now;
+        ltcsnd_sample_t *samples;
+        ltc_encoder_get_timecode(encoder, &now);
+        fprintf(stderr, "%02d:%02d:%02d:%02d\n", now.hours, now.mins, now.secs, now.frame);
+        ltc_encoder_encode_frame(encoder);
+        int count = ltc_encoder_get_bufferptr(encoder, &samples, 1);
+        for (int k = 0; k < count; k++) put_sample(((int)samples[k] - 128) * 256);
+        ltc_encoder_inc_timecode(encoder);
+    }
+    ltc_encoder_free(encoder);
+}
+
+/* All samples of the input. */
+static int16_t *all_samples(size_t *count) {
+    size_t room = 1 << 20;
+    unsigned char *bytes = malloc(room);
+    size_t length = 0, more;
+    while ((more = fread(bytes + length, 1, room - length, stdin)) > 0) {
+        length += more;
+        if (length == room) bytes = realloc(bytes, room *= 2);
+    }
+    int16_t *samples = malloc(length + 2);
+    *count = length / 2;
+    for (size_t i = 0; i < *count; i++) samples[i] = (int16_t)(bytes[2 * i] | bytes[2 * i + 1] << 8);
+    free(bytes);
+    return samples;
+}
+
+static void fall(double decibels) {
+    size_t count;
+    int16_t *samples = all_samples(&count);
+    for (size_t i = 0; i < count; i++)
+        put_sample((int)lrint(samples[i] * pow(10, -decibels * i / count / 20)));
+    free(samples);
+}
+
+static void read_addresses(double fps, double rate) {
+    size_t count;
+    int16_t *samples = all_samples(&count);
+    LTCDecoder *decoder = ltc_decoder_create((int)(rate / fps), 64);
+    LTCFrameExt frame;
+    for (size_t at = 0; at < count; at += 1024) {
+        size_t some = count - at < 1024 ? count - at : 1024;
+        ltc_decoder_write_s16(decoder, samples + at, some, (ltc_off_t)at);
+        while (ltc_decoder_read(decoder, &frame)) {
+            SMPTETimecode time;
+            ltc_frame_to_time(&time, &frame.ltc, 0);
+            printf("%02d:%02d:%02d:%02d\n", time.hours, time.mins, time.secs, time.frame);
+        }
+    }
+    ltc_decoder_free(decoder);
+    free(samples);
+}
+
+int main(int argc, char **argv) {
+    if (argc == 5 && !strcmp(argv[1], "make")) make(atof(argv[2]), atof(argv[3]), atol(argv[4]));
+    else if (argc == 3 && !strcmp(argv[1], "fall")) fall(atof(argv[2]));
+    else if (argc == 4 && !strcmp(argv[1], "read")) read_addresses(atof(argv[2]), atof(argv[3]));
+    else {
+        fputs("usage: sound make FPS RATE FRAMES | sound fall DB | sound read FPS RATE\n", stderr);
+        return 2;
+    }
+    return 0;
+}

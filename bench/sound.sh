@@ -1,0 +1,96 @@
+#!/usr/bin/env bash
+# The table of docs/SOUND.md: how many words of sound that libltc made and sox hurt are read, by `tc` and by libltc's own decoder. Behind a
+# plus sign stand the false ones: words with an address that was never encoded.
+#
+#     bench/sound.sh [TC [FRAMES]]
+#
+# TC is the built program (bin/tc), FRAMES how many frames of drop-frame code at 29.97 a second are made (1800). It wants a C compiler, Debian's libltc-dev and
+# sox. It builds nothing but its own small C program. The gate does not run it.
+set -eu
+top=$(cd "$(dirname "$0")/.." && pwd)
+tc=${1:-$top/bin/tc}
+frames=${2:-1800}
+fps=29.97
+system=30
+[ -x "$tc" ] || { echo "no program at $tc: run ./build" >&2; exit 2; }
+room=$(mktemp -d)
+trap 'rm -rf "$room"' EXIT
+cc -O2 -o "$room/sound" "$top/bench/sound.c" -lltc -lm
+
+# Raw samples as sox reads and writes them, at a rate.
+raw() { echo "-t raw -e signed -b 16 -c 1 -r $1"; }
+
+# Sound of a rate through effects of sox, behind its own dither.
+hurt() { # RATE EFFECT..
+    local rate=$1
+    shift
+    # shellcheck disable=SC2046
+    sox -R -D $(raw "$rate") - $(raw "$rate") - "$@"
+}
+
+# White noise under the sound, so many decibels below full scale.
+noisy() { # RATE DECIBELS
+    local rate=$1 amplitude
+    amplitude=$(awk -v db="$2" 'BEGIN { print 10 ^ (-db / 20) }')
+    cat > "$room/still"
+    # shellcheck disable=SC2046
+    sox -R -D $(raw "$rate") "$room/still" $(raw "$rate") "$room/noise" synth whitenoise vol "$amplitude"
+    # shellcheck disable=SC2046
+    sox -R -D -m -v 1 $(raw "$rate") "$room/still" -v 1 $(raw "$rate") "$room/noise" $(raw "$rate") -
+}
+
+# How many lines are encoded addresses, and behind a plus sign how many are not.
+counted() {
+    awk 'NR == FNR { encoded[$1] = 1; next } $1 in encoded { good++; next } { false_ones++ }
+        END { printf "%d%s", good, false_ones ? " +" false_ones : "" }' "$room/addresses" -
+}
+
+# The addresses of the words that a command reads of an interval file.
+words() { "$tc" "$1" | awk '$1 == "word" { sub(";", ":", $3); print $3 }'; }
+
+# A row: what was done to the sound, its rate, and how many words are read of it.
+row() { # NAME RATE
+    local name=$1 rate=$2 cells
+    cells="| $name | $("$room/sound" read "$fps" "$rate" < "$room/now" | counted)"
+    for how in "1000" "1000 16" "250 16 follow"; do
+        for command in ltc-read ltc-worn; do
+            # shellcheck disable=SC2086
+            cells="$cells | $("$tc" pcm-ltc "$system" "$rate" $how < "$room/now" | words "$command" | counted)"
+        done
+    done
+    echo "$cells |"
+}
+
+echo "| Sound of $frames frames | libltc | whole samples | worn | sixteenths | worn | following | worn |"
+echo "|---|---|---|---|---|---|---|---|"
+"$room/sound" make "$fps" 48000 "$frames" > "$room/clean" 2> "$room/addresses"
+cp "$room/clean" "$room/now" && row "as it was made" 48000
+# The edges of a tape are not square, and it hisses: what follows was hurt so first.
+hurt 48000 vol 0.5 lowpass 6000 < "$room/clean" | noisy 48000 50 > "$room/tape"
+cp "$room/tape" "$room/now" && row "low-pass at 6000 Hz, noise at -50 dB: a tape" 48000
+for level in 40 30 26 22 18 14; do
+    noisy 48000 "$level" < "$room/tape" > "$room/now" && row "the tape, noise at -$level dB" 48000
+done
+for corner in 4000 2500 1500; do
+    hurt 48000 lowpass "$corner" < "$room/tape" > "$room/now" && row "the tape, low-pass at $corner Hz" 48000
+done
+for speed in 0.4 0.9 1.1 1.6 2.3 3.5; do
+    hurt 48000 speed "$speed" rate 48000 < "$room/tape" > "$room/now" && row "the tape at speed $speed" 48000
+done
+# Some seconds forward and some backward, each piece at another speed, spliced where they end.
+for piece in "0 1 " "8 2.3 reverse" "3 0.6 " "21 1.3 " "15 3.1 reverse" "30 0.4 reverse" "26 1.9 " "45 1.1 reverse" "38 2.7 "; do
+    read -r from speed way <<< "$piece"
+    # shellcheck disable=SC2086
+    hurt 48000 trim "$from" 5.03 $way speed "$speed" rate 48000 < "$room/tape"
+done > "$room/now" && row "nine pieces of it, forward and backward, from 0.4 to 3.1" 48000
+"$room/sound" fall 30 < "$room/tape" > "$room/now" && row "the tape, its level falling by 30 dB" 48000
+"$room/sound" fall 30 < "$room/tape" | noisy 48000 60 > "$room/now" && row "the same, noise at -60 dB" 48000
+# shellcheck disable=SC2046
+sox -R -D $(raw 48000) "$room/tape" -t raw -e signed -b 8 - | sox -R -D -t raw -e signed -b 8 -c 1 -r 48000 - $(raw 48000) "$room/now" && row "the tape in 8 bits" 48000
+for rate in 44100 22050; do
+    # shellcheck disable=SC2046
+    sox -R -D $(raw 48000) "$room/tape" $(raw "$rate") "$room/slow" rate "$rate"
+    cp "$room/slow" "$room/now" && row "the tape at $rate samples a second" "$rate"
+done
+# shellcheck disable=SC2046
+sox -R -D $(raw 22050) "$room/slow" $(raw 44100) "$room/now" rate 44100 && row "the same, doubled by sox" 44100

@@ -1,0 +1,9 @@
+pub mod DecoderMore
+pub mod DecoderTakes
+pub mod Digits
+pub mod FaultsStay
+pub mod FieldByField
+pub mod HeaderBytes
+pub mod OwnBytes
+pub mod PieceByPiece
+pub mod Pushed

@@ -1,0 +1,44 @@
+-- What the code finds at the front of bytes, as the definitions say it. No promise speaks of it.
+use Rattle.std.specs.Prelude.{◌≡◌, ℕ, ◌<◌, List, Option, Some, None}
+use Rattle.vitc_reader.specs.Field.{IsAnswer}
+use Rattle.line_file.specs.declared.decoder.Piece.{Piece}
+use Rattle.line_file.specs.declared.decoder.Piece.TheVariants as pieces
+use Rattle.line_file.specs.declared.decoder.TheConstants.{MAX_FIELDS}
+use Rattle.line_file.specs.declared.field.FoundField.{FoundField}
+use Rattle.line_file.specs.declared.field.FoundField.TheVariants as fields
+use Rattle.line_file.specs.declared.found.Found.{Found}
+use Rattle.line_file.specs.declared.found.Found.TheVariants as things
+use Rattle.line_file.specs.declared.header.FoundHeader.{FoundHeader}
+use Rattle.line_file.specs.declared.header.FoundHeader.TheVariants as headers
+use Rattle.line_file.specs.declared.header.LineHeader.{LineHeader}
+use Rattle.line_file.specs.LineFile.{Front, whole, short, bad, field_at, field_width, header_at}
+
+-- a thing that was found, with what it says
+abbrev pub front_of : {A : Type 0} → Found → A → Front A
+front_of things.Whole says = whole says
+front_of things.Short says = short
+front_of (things.Fault f) says = bad f
+
+abbrev pub header_front : FoundHeader → Front LineHeader
+header_front (headers.Whole header) = whole header
+header_front headers.Short = short
+header_front (headers.Fault f) = bad f
+
+-- a field that was found, with its answer
+abbrev pub IsFoundField : LineHeader → ℕ → List ℕ → FoundField → Type 0
+IsFoundField header place bytes (fields.Whole answer width) =
+    (lines : List (List ℕ)) × (field_at place bytes ≡ whole lines) × (width ≡ field_width lines) × IsAnswer header.system header.length lines answer
+IsFoundField header place bytes fields.Short = field_at place bytes ≡ short
+IsFoundField header place bytes (fields.Fault f) = field_at place bytes ≡ bad f
+
+-- what stands at the front of bytes for a decoder: a header first, and then fields up to the limit
+abbrev pub IsPiece : Option LineHeader → ℕ → ℕ → List ℕ → Piece → Type 0
+IsPiece None place count bytes (pieces.Header header) = header_at bytes ≡ whole header
+IsPiece None place count bytes pieces.Short = header_at bytes ≡ short
+IsPiece None place count bytes (pieces.Fault f) = header_at bytes ≡ bad f
+IsPiece None place count bytes _ = ⊥
+IsPiece (Some header) place count bytes (pieces.Header _) = ⊥
+IsPiece (Some header) place count bytes (pieces.Field answer width) = (count < MAX_FIELDS) × IsFoundField header place bytes (fields.Whole answer width)
+IsPiece (Some header) place count bytes pieces.Short = (count < MAX_FIELDS) × (field_at place bytes ≡ short)
+IsPiece (Some header) place count bytes (pieces.Fault f) = (count < MAX_FIELDS) × (field_at place bytes ≡ bad f)
+IsPiece (Some header) place count bytes pieces.Limit = count ≡ MAX_FIELDS

@@ -1,0 +1,171 @@
+//! The decoder of a line file. Next: `texts`, with the answer of a field.
+ghost use Rattle.std.specs.Prelude.{◌≡◌, ◌<◌, ◌≤◌, ◌^◌, ◌+◌, ◌++◌, ℕ, List, [], length, Ok, Err, Some, None, IfSome, OnOk, IfErr};
+ghost use Rattle.arrayvec.specs.ArrayVec.{array_vec_len};
+ghost use Rattle.vitc_reader.specs.declared.field.FieldAnswer.{FieldAnswer};
+ghost use Rattle.line_file.specs.KeptFront.{IsPiece};
+ghost use Rattle.line_file.specs.LineFile.{end_fault_of};
+ghost use Rattle.line_file.specs.LineHeader.{IsHeader};
+ghost use Rattle.line_file.specs.StandsFor.{StandsFor, no_decoding, AddsTaken, FitsFields, StopsAt};
+
+use crate::field::{FoundField, field_in};
+use crate::header::{FoundHeader, HEADER_LENGTH, LineHeader, header_in};
+use arrayvec::ArrayVec;
+use std::marker::Model;
+use tc_files::FileFault;
+use vitc_reader::FieldAnswer;
+
+/// So many fields are read, at most.
+pub const MAX_FIELDS: u32 = 100_000_000;
+
+/// The most bytes of a field: 20 lines of 89 runs.
+pub const FIELD_ROOM: usize = 3_581;
+
+/// What bytes complete.
+#[derive(Clone, Copy, Debug, PartialEq, Eq)]
+pub enum Taken {
+    /// So many bytes, and no field.
+    Nothing(usize),
+    /// So many bytes, and with the last of them a field, which has this answer.
+    Field { count: usize, answer: FieldAnswer },
+    /// The first fault of the bytes so far.
+    Fault(FileFault),
+    /// One field too many.
+    Limit,
+}
+
+/// What stands at the front of bytes.
+#[derive(Clone, Copy, Debug, PartialEq, Eq)]
+pub(crate) enum Piece {
+    /// The header.
+    Header(LineHeader),
+    /// A field of so many bytes, with its answer.
+    Field { answer: FieldAnswer, width: usize },
+    /// The first bytes of either.
+    Short,
+    /// A piece that fails its test.
+    Fault(FileFault),
+    /// One field too many.
+    Limit,
+}
+
+/// Decodes a line file field by field, and keeps less than one field of it.
+#[derive(Drop)]
+pub struct LineDecoder {
+    header: Option<LineHeader>,
+    place: u64,
+    fields: u32,
+    part: ArrayVec<u8, FIELD_ROOM>,
+}
+
+impl Model for LineDecoder {
+    ghost use Rattle.line_file.specs.StandsFor.{Decoding, IsDecoding, decoding_of};
+
+    ghost Value = { Decoding };
+
+    ghost view = { λ d. decoding_of d.header d.place d.fields d.part.items };
+
+    ghost invariant = { λ d. IsDecoding (decoding_of d.header d.place d.fields d.part.items) };
+}
+
+impl LineDecoder {
+    /// A decoder that stands before the first byte.
+    pub fn new() -> LineDecoder
+        ensures value { result ≡ no_decoding }
+        ensures stands { StandsFor result [] [] }
+    {
+        LineDecoder {
+            header: None,
+            place: 0,
+            fields: 0,
+            part: ArrayVec::new(),
+        }
+    }
+
+    /// Takes some of the bytes, from the first on: up to the end of the header or of a field, or all. A
+    /// fault and the limit leave the decoder as it was.
+    pub fn take(&mut self, bytes: &[u8]) -> Taken
+        requires { 0 < length bytes.now }
+        ensures takes { AddsTaken self.old self.new bytes.now result }
+        ensures bounds { FitsFields self.new }
+        ensures stops { (front : List ℕ) (answers : List FieldAnswer) → StandsFor self.old front answers
+            → StopsAt (front ++ bytes.now) answers result }
+    {
+        let before = self.part.len();
+        let room = FIELD_ROOM - before;
+        let count = if bytes.len() < room {
+            bytes.len()
+        } else {
+            room
+        };
+        push(&mut self.part, &bytes[..count]);
+        match piece_in(self.header, self.place, self.fields, &self.part) {
+            Piece::Header(header) => {
+                self.header = Some(header);
+                self.place += HEADER_LENGTH as u64;
+                self.part.clear();
+                Taken::Nothing(HEADER_LENGTH - before)
+            }
+            Piece::Field { answer, width } => {
+                self.fields += 1;
+                self.place += width as u64;
+                self.part.clear();
+                Taken::Field {
+                    count: width - before,
+                    answer,
+                }
+            }
+            Piece::Short => Taken::Nothing(count),
+            Piece::Fault(fault) => {
+                self.part.truncate(before);
+                Taken::Fault(fault)
+            }
+            Piece::Limit => {
+                self.part.truncate(before);
+                Taken::Limit
+            }
+        }
+    }
+
+    /// The end of the input: the fault where it may not end here.
+    pub fn finish(&self) -> Result<(), FileFault>
+        ensures ok { OnOk result ((bytes : List ℕ) (answers : List FieldAnswer) → StandsFor self.now bytes answers → end_fault_of bytes ≡ None) }
+        ensures err { IfErr result (λ fault. (bytes : List ℕ) (answers : List FieldAnswer) → StandsFor self.now bytes answers
+            → end_fault_of bytes ≡ Some fault) }
+    {
+        if self.header.is_some() && self.part.is_empty() {
+            Ok(())
+        } else {
+            Err(FileFault::Truncated(self.place + self.part.len() as u64))
+        }
+    }
+}
+
+/// What stands at the front of bytes behind so many fields.
+fn piece_in(header: Option<LineHeader>, place: u64, fields: u32, bytes: &[u8]) -> Piece
+    requires header { IfSome header IsHeader }
+    requires place { place < 2 ^ 62 }
+    requires fields { fields ≤ MAX_FIELDS }
+    ensures { IsPiece header place fields bytes.now result }
+{
+    match header {
+        None => match header_in(bytes) {
+            FoundHeader::Whole(header) => Piece::Header(header),
+            FoundHeader::Short => Piece::Short,
+            FoundHeader::Fault(fault) => Piece::Fault(fault),
+        },
+        Some(_) if fields == MAX_FIELDS => Piece::Limit,
+        Some(header) => match field_in(&header, place, bytes) {
+            FoundField::Whole { answer, width } => Piece::Field { answer, width },
+            FoundField::Short => Piece::Short,
+            FoundField::Fault(fault) => Piece::Fault(fault),
+        },
+    }
+}
+
+/// Appends bytes for which there is room.
+fn push(part: &mut ArrayVec<u8, FIELD_ROOM>, bytes: &[u8])
+    requires { array_vec_len part.old + length bytes.now ≤ FIELD_ROOM }
+    ensures { part.new.items ≡ part.old.items ++ bytes.now }
+{
+    let _fits = part.try_extend_from_slice(bytes);
+}

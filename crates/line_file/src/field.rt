@@ -1,0 +1,103 @@
+//! A field at the front of bytes. Next: `vitc_reader/src/field.rt` with each of its lines, and then
+//! `decoder`.
+ghost use Rattle.std.specs.Prelude.{◌≡◌, ◌<◌, ◌≤◌, ◌+◌, ◌*◌, ◌^◌, length};
+ghost use Rattle.vitc_reader.specs.Runs.{MayBeLine};
+ghost use Rattle.line_file.specs.KeptFront.{front_of, IsFoundField};
+ghost use Rattle.line_file.specs.LineFile.{is_run_count, line_at, line_width};
+ghost use Rattle.line_file.specs.LineHeader.{IsHeader};
+ghost use Rattle.line_file.specs.declared.found.Found.TheVariants as things;
+
+use crate::found::Found;
+use crate::header::LineHeader;
+use arrayvec::ArrayVec;
+use byteorder::{BigEndian, ByteOrder};
+use tc_files::FileFault;
+use vitc_reader::{FieldAnswer, FieldReader};
+
+/// The most lines of a field.
+pub const MAX_LINES: u8 = 20;
+
+/// The most runs of a line.
+pub const MAX_RUNS: u8 = 89;
+
+/// The runs of one line, in ticks.
+type Runs = ArrayVec<u16, 89>;
+
+/// What stands at the front of bytes behind the header.
+#[derive(Clone, Copy, Debug, PartialEq, Eq)]
+pub(crate) enum FoundField {
+    /// A field of so many bytes, with the answer of its lines.
+    Whole { answer: FieldAnswer, width: usize },
+    /// The first bytes of one.
+    Short,
+    /// A piece that fails its test.
+    Fault(FileFault),
+}
+
+/// The field with which bytes begin, the first of which stands at this place of the file.
+pub(crate) fn field_in(header: &LineHeader, place: u64, bytes: &[u8]) -> FoundField
+    requires header { IsHeader header.now }
+    requires place { place < 2 ^ 62 }
+    ensures { IsFoundField header.now place bytes.now result }
+{
+    if bytes.is_empty() {
+        return FoundField::Short;
+    }
+    let count = bytes[0];
+    if count > MAX_LINES {
+        return FoundField::Fault(FileFault::LineCount(place));
+    }
+    let mut reader = FieldReader::new(header.system, header.length);
+    let mut runs = Runs::new();
+    let mut width = 1;
+    'lines: for _line in 0..count {
+        match line_in(place + width as u64, &bytes[width..], &mut runs) {
+            Found::Whole => {}
+            Found::Short => return FoundField::Short,
+            Found::Fault(fault) => return FoundField::Fault(fault),
+        }
+        width += 1 + 2 * runs.len();
+        reader.line(&runs);
+    }
+    FoundField::Whole {
+        answer: reader.answer(),
+        width,
+    }
+}
+
+/// The line with which bytes begin, and its runs.
+fn line_in(place: u64, bytes: &[u8], runs: &mut Runs) -> Found
+    requires place { place < 2 ^ 63 }
+    ensures front { front_of result runs.new.items ≡ line_at place bytes.now }
+    ensures line { result ≡ things.Whole → MayBeLine runs.new.items }
+    ensures within { result ≡ things.Whole → line_width runs.new.items ≤ length bytes.now }
+{
+    if bytes.is_empty() {
+        return Found::Short;
+    }
+    let count = bytes[0];
+    if !is_run_count(count) {
+        return Found::Fault(FileFault::RunCount(place));
+    }
+    runs.clear();
+    let mut at = 1;
+    'runs: for _run in 0..count {
+        if bytes.len() < at + 2 {
+            return Found::Short;
+        }
+        let ticks = BigEndian::read_u16(&bytes[at..]);
+        if ticks == 0 {
+            return Found::Fault(FileFault::Run(place + at as u64));
+        }
+        runs.push(ticks);
+        at += 2;
+    }
+    Found::Whole
+}
+
+/// Whether a line may have so many runs.
+fn is_run_count(count: u8) -> bool
+    ensures { result ≡ is_run_count count }
+{
+    count % 2 == 1 && count <= MAX_RUNS
+}

@@ -1,0 +1,13 @@
+//! What stands at the front of bytes. Next: `header`.
+use tc_files::FileFault;
+
+/// What stands at the front of bytes.
+#[derive(Clone, Copy, Debug, PartialEq, Eq)]
+pub(crate) enum Found {
+    /// A whole thing.
+    Whole,
+    /// The first bytes of one.
+    Short,
+    /// A piece that fails its test.
+    Fault(FileFault),
+}

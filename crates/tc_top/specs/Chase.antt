@@ -1,0 +1,71 @@
+-- `chase`: a script is read whole, and then the trace of its rows is written. So it is no stream: it takes memory for its
+-- input, and what is refused is a row and a column.
+use Rattle.std.specs.Prelude.{◌≡◌, ℕ, ◌+◌, ◌≤◌, Bool, true, false, nat_le, List, [], length, Option, Result, Ok, Err}
+use Rattle.std.specs.Io.KnownBytes.{IsAtEnd}
+use Rattle.tc_io.specs.Sink.{IsFront}
+use Rattle.tc_address.specs.Label.{Address}
+use Rattle.chase_script.specs.declared.row.ScriptRow.{ScriptRow}
+use Rattle.chase_script.specs.Script.{Script, script_in}
+use Rattle.chase_script.specs.TraceText.{trace_from, trace_text}
+use Rattle.tc_top.specs.declared.chasing.TheConstants.{MAX_SCRIPT}
+use Rattle.tc_top.specs.declared.stop.ChaseStop.{ChaseStop}
+use Rattle.tc_top.specs.declared.stop.ChaseStop.TheVariants.{Refused, ReadFault, WriteFault, Memory, Limit}
+use Rattle.tc_top.specs.declared.status.Status.{Status}
+use Rattle.tc_top.specs.declared.status.Status.TheVariants as status
+
+-- the text of the trace of these rows, of a chase that begins at the label
+abbrev pub chase_text : Address → List ScriptRow → List ℕ
+chase_text label rows = trace_text label.count (trace_from label rows)
+
+-- the bytes pulled are the whole input, and no longer than a script may be
+pub record IsWhole (left : Option (List ℕ)) (pulled : List ℕ) : Type 0 where
+  pub end : IsAtEnd left
+  pub short : length pulled ≤ MAX_SCRIPT
+
+-- they are a script of these rows
+pub record IsScript (label : Address) (left : Option (List ℕ)) (pulled : List ℕ) (rows : List ScriptRow) : Type 0 where
+  pub whole : IsWhole left pulled
+  pub are : script_in label.count pulled ≡ Ok rows
+
+-- the chase came to its end: the whole trace was written
+pub record IsTraced (label : Address) (left : Option (List ℕ)) (pulled written : List ℕ) (rows : List ScriptRow) : Type 0 where
+  pub script : IsScript label left pulled rows
+  pub text : written ≡ chase_text label rows
+
+-- why a chase stops, and what was written then: nothing, unless a push failed. At most a byte more is pulled than a script
+-- may have, and no row is judged before the end of the input
+abbrev pub IsChaseStop : Address → ChaseStop → Option (List ℕ) → List ℕ → List ℕ → Type 0
+IsChaseStop label (Refused fault) left pulled written =
+    IsWhole left pulled × (script_in label.count pulled ≡ Err fault) × (written ≡ [])
+IsChaseStop label ReadFault left pulled written = (length pulled ≤ MAX_SCRIPT) × (written ≡ [])
+IsChaseStop label WriteFault left pulled written =
+    (rows : List ScriptRow) × IsScript label left pulled rows × IsFront written (chase_text label rows)
+IsChaseStop label Memory left pulled written = (length pulled ≤ MAX_SCRIPT + 1) × (written ≡ [])
+IsChaseStop label Limit left pulled written = (length pulled ≡ MAX_SCRIPT + 1) × (written ≡ [])
+
+-- the status of a chase that stopped
+abbrev pub status_of_chase : ChaseStop → Status
+status_of_chase (Refused fault) = status.Refused
+status_of_chase ReadFault = status.ReadFault
+status_of_chase WriteFault = status.WriteFault
+status_of_chase Memory = status.Memory
+status_of_chase Limit = status.Limit
+
+-- of a part of it that came to its end, or stopped
+abbrev pub chase_ended : {T : Type 0} → Result T ChaseStop → Status
+chase_ended (Ok _) = status.Done
+chase_ended (Err stop) = status_of_chase stop
+
+-- ---- the status of a whole input
+
+abbrev pub status_of_script : Script → Status
+status_of_script (Ok rows) = status.Done
+status_of_script (Err fault) = status.Refused
+
+abbrev pub status_of_length : Bool → Script → Status
+status_of_length true script = status_of_script script
+status_of_length false script = status.Limit
+
+-- the one status of a chase on an input where no call fails, want of memory aside
+abbrev pub chase_status_on : Address → List ℕ → Status
+chase_status_on label input = status_of_length (nat_le (length input) MAX_SCRIPT) (script_in label.count input)

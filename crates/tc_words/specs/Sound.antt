@@ -1,0 +1,63 @@
+-- The values of `pcm-ltc` and `ltc-pcm`, word by word.
+use Rattle.std.specs.Prelude.{ℕ, ◌*◌, ◌≤◌, nat_le, codes, Option, Some, None, Result, Ok, Err, if◌then◌else◌, option_and_then}
+use Rattle.std.specs.Str.{bytes_eq}
+use Rattle.pcm_front.specs.declared.threshold.Threshold.{Threshold}
+use Rattle.pcm_front.specs.declared.threshold.Threshold.TheVariants.{Fixed, Follow}
+use Rattle.tc_words.specs.declared.fault.WordsFault.{WordsFault}
+use Rattle.tc_words.specs.declared.job.Job.{Job}
+use Rattle.tc_words.specs.declared.job.Job.TheVariants.{PcmLtc}
+use Rattle.tc_words.specs.declared.slicing.TheConstants.{MAX_FINENESS, MAX_SIZE}
+use Rattle.tc_words.specs.declared.sound.Sound.{Sound}
+use Rattle.tc_words.specs.declared.stripe.TheConstants.{MAX_TICK_RATE}
+use Rattle.tc_words.specs.Slicing.{IsSize, slicing_of}
+use Rattle.tc_words.specs.Tape.{value_or}
+use Rattle.tc_words.specs.Values.{Word, between, system_in}
+
+-- the values of the first three words: the system, the samples a second, and the threshold
+abbrev pub sound_in : Word → Word → Word → Result Sound WordsFault
+sound_in system rate threshold =
+    value_or 1 (system_in system) (λ s. value_or 2 (between 1 MAX_TICK_RATE rate) (λ r. value_or 3 (between 1 MAX_SIZE threshold) (λ t.
+    Ok (record { system = s; rate = r; threshold = t }))))
+
+-- numbers in their ranges
+pub record IsSound (sound : Sound) : Type 0 where
+  pub some_samples : 1 ≤ sound.rate
+  pub not_too_fast : sound.rate ≤ MAX_TICK_RATE
+  pub threshold : IsSize sound.threshold
+
+-- the job of slicing it at a threshold, so many ticks a sample
+abbrev pub sliced_job : Sound → Threshold → ℕ → Job
+sliced_job sound threshold fineness = PcmLtc (slicing_of sound.system sound.rate threshold fineness)
+
+-- so many ticks a sample, where they are not too many a second
+abbrev pub fineness_in : ℕ → Word → Option ℕ
+fineness_in rate word = option_and_then (λ n. if nat_le (rate * n) MAX_TICK_RATE then Some n else None) (between 1 MAX_FINENESS word)
+
+-- `follow`: a threshold that follows the level, and is never below this
+abbrev pub following_in : ℕ → Word → Option Threshold
+following_in least word = if bytes_eq word (codes "follow") then Some (Follow least) else None
+
+-- what follows from the values of the first three words, or their first fault
+abbrev pub with_sound : {Y : Type 0} → Result Sound WordsFault → (Sound → Result Y WordsFault) → Result Y WordsFault
+with_sound (Err fault) next = Err fault
+with_sound (Ok sound) next = next sound
+
+-- the job of three words: whole samples, and one threshold
+unfoldable pub in_samples : Word → Word → Word → Result Job WordsFault
+in_samples system rate threshold = with_sound (sound_in system rate threshold) (λ sound. Ok (sliced_job sound (Fixed sound.threshold) 1))
+
+-- the job of four words: so many ticks a sample
+unfoldable pub in_ticks : Word → Word → Word → Word → Result Job WordsFault
+in_ticks system rate threshold fineness =
+    with_sound (sound_in system rate threshold) (λ sound. value_or 4 (fineness_in sound.rate fineness) (λ f.
+    Ok (sliced_job sound (Fixed sound.threshold) f)))
+
+-- the job of five words: a threshold that follows the level
+unfoldable pub following : Word → Word → Word → Word → Word → Result Job WordsFault
+following system rate threshold fineness follow =
+    with_sound (sound_in system rate threshold) (λ sound. value_or 4 (fineness_in sound.rate fineness) (λ f.
+    value_or 5 (following_in sound.threshold follow) (λ t. Ok (sliced_job sound t f))))
+
+-- how loud sound is: a size from 1 to the greatest
+abbrev pub amplitude_in : Word → Option ℕ
+amplitude_in word = between 1 MAX_SIZE word

@@ -1,0 +1,54 @@
+//! What `ltc-load` is told: a seed, and how many words to make and to read. Next:
+//! `tc_top/src/engines/ltc_load.rt`, which does both.
+ghost use Rattle.std.specs.Prelude.{◌≡◌};
+ghost use Rattle.tc_words.specs.Load.{IsLoading, loading_of};
+
+use std::marker::Model;
+
+/// The greatest number of words that one run makes and reads.
+pub const MAX_WORDS: u32 = 100_000;
+
+/// A load run: the seed of its generator, and how many words it makes and reads.
+#[derive(Clone, Copy, Debug, PartialEq, Eq)]
+pub struct LoadRun {
+    seed: u64,
+    words: u32,
+}
+
+impl Model for LoadRun {
+    ghost use Rattle.tc_words.specs.Load.{IsLoading, Loading, loading_of};
+
+    ghost Value = { Loading };
+
+    ghost view = { λ l. record { seed = l.seed; words = l.words } };
+
+    ghost invariant = { λ l. IsLoading (loading_of l.seed l.words) };
+
+    ghost inverse = { λ l. record { seed = l.seed; words = l.words } };
+}
+
+impl LoadRun {
+    /// So many words from this seed.
+    pub(crate) fn new(seed: u64, words: u32) -> LoadRun
+        requires { IsLoading (loading_of seed words) }
+        ensures { result ≡ loading_of seed words }
+    {
+        LoadRun { seed, words }
+    }
+
+    /// The seed of the generator.
+    pub fn seed(&self) -> u64
+        ensures value { result ≡ self.now.seed }
+        ensures valid { IsLoading self.now }
+    {
+        self.seed
+    }
+
+    /// How many words, from 1 to `MAX_WORDS`.
+    pub fn words(&self) -> u32
+        ensures value { result ≡ self.now.words }
+        ensures valid { IsLoading self.now }
+    {
+        self.words
+    }
+}

@@ -1,0 +1,82 @@
+//! What `pcm-ltc` is told: how sound is sliced into intervals. Next: `tc_top/src/engines/pcm_ltc.rt`,
+//! which slices it.
+ghost use Rattle.std.specs.Prelude.{◌≡◌, ◌*◌};
+ghost use Rattle.tc_words.specs.Slicing.{IsSlicing, slicing_of};
+
+use pcm_front::Threshold;
+use std::marker::Model;
+use tc_address::System;
+
+/// The greatest fineness, in ticks a sample.
+pub const MAX_FINENESS: u32 = 64;
+
+/// The greatest size of a sample whose opposite is a sample too.
+pub const MAX_SIZE: u32 = 32_767;
+
+/// Sound, and how it is sliced.
+#[derive(Clone, Copy, Debug, PartialEq, Eq)]
+pub struct Slicing {
+    system: System,
+    rate: u32,
+    threshold: Threshold,
+    fineness: u32,
+}
+
+impl Model for Slicing {
+    ghost use Rattle.tc_words.specs.Slicing.{IsSlicing, Slices, slicing_of};
+
+    ghost Value = { Slices };
+
+    ghost view = { λ s. slicing_of s.system s.rate s.threshold s.fineness };
+
+    ghost invariant = { λ s. IsSlicing (slicing_of s.system s.rate s.threshold s.fineness) };
+
+    ghost inverse = { λ s. record { system = s.system; rate = s.rate; threshold = s.threshold; fineness = s.fineness } };
+}
+
+impl Slicing {
+    /// Sound of this system, of so many samples a second, sliced at this threshold, so many ticks a
+    /// sample.
+    pub(crate) fn new(system: System, rate: u32, threshold: Threshold, fineness: u32) -> Slicing
+        requires { IsSlicing (slicing_of system rate threshold fineness) }
+        ensures { result ≡ slicing_of system rate threshold fineness }
+    {
+        Slicing {
+            system,
+            rate,
+            threshold,
+            fineness,
+        }
+    }
+
+    /// The system of the time code.
+    pub fn system(&self) -> System
+        ensures { result ≡ self.now.system }
+    {
+        self.system
+    }
+
+    /// The threshold.
+    pub fn threshold(&self) -> Threshold
+        ensures value { result ≡ self.now.threshold }
+        ensures valid { IsSlicing self.now }
+    {
+        self.threshold
+    }
+
+    /// Ticks a sample, from 1 to `MAX_FINENESS`.
+    pub fn fineness(&self) -> u32
+        ensures value { result ≡ self.now.fineness }
+        ensures valid { IsSlicing self.now }
+    {
+        self.fineness
+    }
+
+    /// Ticks a second, from 1 to `MAX_TICK_RATE`.
+    pub fn tick_rate(&self) -> u32
+        ensures value { result ≡ self.now.rate * self.now.fineness }
+        ensures valid { IsSlicing self.now }
+    {
+        self.rate * self.fineness
+    }
+}

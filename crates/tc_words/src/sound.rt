@@ -1,0 +1,124 @@
+//! The values of `pcm-ltc` and `ltc-pcm`, word by word. Next: `slicing` and `amplitude`, which hold them.
+ghost use Rattle.std.specs.Prelude.{◌≡◌, ◌≤◌, ◌*◌, IfOk, IfSome};
+ghost use Rattle.pcm_front.specs.State.{IsThreshold};
+ghost use Rattle.tc_words.specs.Slicing.{IsSize, IsSlicing, slicing_of};
+ghost use Rattle.tc_words.specs.Sound.{amplitude_in, fineness_in, following, following_in, in_samples, in_ticks, sliced_job, sound_in, IsSound};
+
+use crate::amplitude::Amplitude;
+use crate::fault::WordsFault;
+use crate::job::Job;
+use crate::slicing::{MAX_FINENESS, MAX_SIZE, Slicing};
+use crate::stripe::MAX_TICK_RATE;
+use crate::values::{between, system_in};
+use pcm_front::Threshold;
+use tc_address::System;
+
+/// The values of the first three words.
+#[derive(Clone, Copy)]
+struct Sound {
+    system: System,
+    /// Samples a second.
+    rate: u32,
+    threshold: u32,
+}
+
+/// The job of three words: whole samples, and one threshold.
+#[tactic(auto, unfolding(crate::specs::Sound::in_samples))]
+pub(crate) fn in_samples(system: &str, rate: &str, threshold: &str) -> Result<Job, WordsFault>
+    ensures { result ≡ in_samples system.now rate.now threshold.now }
+{
+    let sound = sound_in(system, rate, threshold)?;
+    Ok(sound.job(Threshold::Fixed(sound.threshold), 1))
+}
+
+/// The job of four words: so many ticks a sample.
+#[tactic(auto, unfolding(crate::specs::Sound::in_ticks))]
+pub(crate) fn in_ticks(
+    system: &str,
+    rate: &str,
+    threshold: &str,
+    fineness: &str,
+) -> Result<Job, WordsFault>
+    ensures { result ≡ in_ticks system.now rate.now threshold.now fineness.now }
+{
+    let sound = sound_in(system, rate, threshold)?;
+    let fineness = fineness_in(sound.rate, fineness).ok_or(WordsFault::Value(4))?;
+    Ok(sound.job(Threshold::Fixed(sound.threshold), fineness))
+}
+
+/// The job of five words: a threshold that follows the level.
+#[tactic(auto, unfolding(crate::specs::Sound::following))]
+pub(crate) fn following(
+    system: &str,
+    rate: &str,
+    threshold: &str,
+    fineness: &str,
+    follow: &str,
+) -> Result<Job, WordsFault>
+    ensures { result ≡ following system.now rate.now threshold.now fineness.now follow.now }
+{
+    let sound = sound_in(system, rate, threshold)?;
+    let fineness = fineness_in(sound.rate, fineness).ok_or(WordsFault::Value(4))?;
+    let threshold = following_in(sound.threshold, follow).ok_or(WordsFault::Value(5))?;
+    Ok(sound.job(threshold, fineness))
+}
+
+/// The values of the first three words, or the first fault of them.
+fn sound_in(system: &str, rate: &str, threshold: &str) -> Result<Sound, WordsFault>
+    ensures value { result ≡ sound_in system.now rate.now threshold.now }
+    ensures valid { IfOk result IsSound }
+{
+    let system = system_in(system).ok_or(WordsFault::Value(1))?;
+    let rate = between(1, MAX_TICK_RATE, rate).ok_or(WordsFault::Value(2))?;
+    let threshold = between(1, MAX_SIZE, threshold).ok_or(WordsFault::Value(3))?;
+    Ok(Sound {
+        system,
+        rate,
+        threshold,
+    })
+}
+
+impl Sound {
+    /// The job of slicing it at this threshold, so many ticks a sample.
+    fn job(self, threshold: Threshold, fineness: u32) -> Job
+        requires { IsSlicing (slicing_of self.system self.rate threshold fineness) }
+        ensures { result ≡ sliced_job self threshold fineness }
+    {
+        Job::PcmLtc {
+            slicing: Slicing::new(self.system, self.rate, threshold, fineness),
+        }
+    }
+}
+
+/// So many ticks a sample, where they are not too many a second.
+fn fineness_in(rate: u32, word: &str) -> Option<u32>
+    ensures value { result ≡ fineness_in rate word.now }
+    ensures range { IfSome result (λ n. (1 ≤ n) × (n ≤ MAX_FINENESS) × (rate * n ≤ MAX_TICK_RATE)) }
+{
+    let fineness = between(1, MAX_FINENESS, word)?;
+    if u64::from(rate) * u64::from(fineness) <= u64::from(MAX_TICK_RATE) {
+        Some(fineness)
+    } else {
+        None
+    }
+}
+
+/// A threshold that follows the level, and is never below this.
+fn following_in(least: u32, word: &str) -> Option<Threshold>
+    requires { IsSize least }
+    ensures value { result ≡ following_in least word.now }
+    ensures valid { IfSome result IsThreshold }
+{
+    match word {
+        "follow" => Some(Threshold::Follow(least)),
+        _ => None,
+    }
+}
+
+/// How loud the sound is.
+pub(crate) fn amplitude_in(word: &str) -> Option<Amplitude>
+    ensures { result ≡ amplitude_in word.now }
+{
+    let size = between(1, MAX_SIZE, word)?;
+    Some(Amplitude::new(size as u16))
+}
