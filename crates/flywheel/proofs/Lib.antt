@@ -1,5 +1,6 @@
 pub mod BoundedInvention
 pub mod DueInOrder
+mod FrameAfterFrame
 pub mod GivenComeFirst
 pub mod GivenSoFar
 pub mod PairsOfWords

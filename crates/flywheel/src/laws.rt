@@ -7,7 +7,10 @@ ghost use Rattle.flywheel.specs.Frames.{due_steps, frames, is_due, is_next, labe
 ghost use Rattle.flywheel.specs.declared.frame.Frame.{Frame};
 ghost use Rattle.flywheel.specs.StandsFor.{StandsFor};
 ghost use Rattle.flywheel.specs.Wheel.{Wheel};
+ghost use Rattle.flywheel.specs.GoOn.{GoOn};
 ghost use Rattle.flywheel.specs.Marked.{AreMarked, words_in, word_of};
+
+use tc_address::laws::steps_add_up;
 
 /// Between two heard frames, and after the last, stand at most `limit` invented ones, with the steps
 /// 1, 2 and so on, and the heard frames are exactly the words.
@@ -15,6 +18,15 @@ pub fn invention_is_bounded_and_marked()
     ensures marked { (limit last : ℕ) (words : List HeardWord) → AreMarked limit None (frames limit words last) }
     ensures heard { (limit last : ℕ) (words : List HeardWord) → words_in (frames limit words last) ≡ map word_of words }
 {}
+
+/// An invented frame and a joined one have the next label in the direction of the frame before, and no
+/// first frame goes on.
+pub fn a_frame_that_goes_on_is_the_next()
+    ensures { (limit last : ℕ) (words : List HeardWord) → GoOn None (frames limit words last) }
+{
+    steps_add_up();
+    the_next_word_fits();
+}
 
 /// The steps up to the limit that are due are the first ones, as many as there are.
 pub fn steps_are_due_in_order()

@@ -2,8 +2,8 @@
 ghost use Rattle.std.specs.Prelude.{◌≡◌, ℕ, ◌<◌, List, ℤ, pos, ◌+ℤ◌, slice_get};
 ghost use Rattle.tc_address.specs.declared.count.Count.{Count};
 ghost use Rattle.tc_address.specs.Label.{Address, labels, IsLabel};
-ghost use Rattle.tc_address.specs.Numbering.{number_of, step};
-ghost use Rattle.tc_address.specs.Circle.{IsShortest};
+ghost use Rattle.tc_address.specs.Numbering.{day_length, number_of, step};
+ghost use Rattle.tc_address.specs.Circle.{moved, IsShortest};
 ghost use Rattle.tc_address.specs.declared.spelling.TextFault.{TextFault};
 ghost use Rattle.tc_address.specs.Spelling.{text_of, IsFirstTextFault};
 
@@ -17,6 +17,13 @@ pub fn number_and_label_are_inverse()
 pub fn steps_add_up()
     ensures none { (a : Address) → IsLabel a → step a (pos 0) ≡ a }
     ensures sum { (a : Address) (j k : ℤ) → step (step a j) k ≡ step a (j +ℤ k) }
+{}
+
+/// A step moves the number by as many places on the circle of the day, and leads to a label of the same
+/// count.
+pub fn a_step_moves_the_number()
+    ensures number { (a : Address) (steps : ℤ) → number_of (step a steps) ≡ moved (day_length a.count) (number_of a) steps }
+    ensures label { (a : Address) (steps : ℤ) → ((step a steps).count ≡ a.count) × IsLabel (step a steps) }
 {}
 
 /// One way between two places of a circle is the shortest.

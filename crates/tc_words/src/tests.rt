@@ -127,7 +127,7 @@ fn label_text_of(job: &Job) -> Option<[u8; 11]> {
     match job {
         Job::LtcRead | Job::LtcWorn | Job::LtcFly { .. } | Job::LtcConvert { .. } => None,
         Job::PcmLtc { .. } | Job::LtcPcm { .. } => None,
-        Job::LtcMtc { .. } | Job::MtcRead | Job::LtcLoad { .. } => None,
+        Job::LtcMtc { .. } | Job::MtcRead | Job::VitcRead | Job::LtcLoad { .. } => None,
         Job::LtcMake { stripe } => Some(text(&stripe.label())),
         Job::Number { label } => Some(text(label)),
         Job::LabelOf { label } => Some(text(label)),
@@ -167,6 +167,12 @@ fn jobs_are_read(rt: HostRuntime) -> Result<(), Fail> {
             "at {line}"
         );
     }
+    Ok(())
+}
+
+#[test]
+fn slicings_and_levels_are_read(rt: HostRuntime) -> Result<(), Fail> {
+    let alloc = rt.alloc();
     for (line, threshold, fineness, tick_rate) in [
         ("pcm-ltc 24 1 1", Threshold::Fixed(1), 1, 1),
         ("pcm-ltc 25 48000 1000", Threshold::Fixed(1_000), 1, 48_000),
@@ -184,7 +190,7 @@ fn jobs_are_read(rt: HostRuntime) -> Result<(), Fail> {
         ),
     ] {
         let words = typed(alloc, line)?;
-        let Ok(Job::PcmLtc { slicing }) = read_words(alloc, &words) else {
+        let Ok(Task::Stream(Job::PcmLtc { slicing })) = read_words(alloc, &words) else {
             return Err("no slicing".into());
         };
         assert_eq!(rt; slicing.threshold(), threshold, "at {line}");
@@ -193,11 +199,17 @@ fn jobs_are_read(rt: HostRuntime) -> Result<(), Fail> {
     }
     for (line, size) in [("ltc-pcm 1", 1), ("ltc-pcm 32767", 32_767)] {
         let words = typed(alloc, line)?;
-        let Ok(Job::LtcPcm { amplitude }) = read_words(alloc, &words) else {
+        let Ok(Task::Stream(Job::LtcPcm { amplitude })) = read_words(alloc, &words) else {
             return Err("no sound".into());
         };
         assert_eq!(rt; amplitude.size(), size, "at {line}");
     }
+    Ok(())
+}
+
+#[test]
+fn labels_are_read(rt: HostRuntime) -> Result<(), Fail> {
+    let alloc = rt.alloc();
     for (line, wanted) in [
         ("label 30 2591999", *b"23:59:59:29"),
         ("label 25 0", *b"00:00:00:00"),
