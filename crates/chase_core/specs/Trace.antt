@@ -1,15 +1,17 @@
 -- The closed loop: chase and transport take turns, a row a frame. First the chase steps, and then the transport moves by
 -- its order and slips.
-use Rattle.std.specs.Prelude.{◌≡◌, ℕ, ◌<◌, ◌≤◌, ℤ, pos, neg_ℤ, List, [], ◌∷◌, Option, Some, None, zero, suc, IfSome, slice_get, take}
+use Rattle.std.specs.Prelude.{◌≡◌, ℕ, ◌*◌, ◌<◌, ◌≤◌, ℤ, pos, neg_ℤ, List, [], ◌∷◌, Option, Some, None, zero, suc, IfSome, slice_get, take}
 use Rattle.tc_address.specs.declared.count.Count.{Count}
 use Rattle.tc_address.specs.declared.direction.Direction.{Direction}
 use Rattle.tc_address.specs.declared.direction.Direction.TheVariants.{Forward, Backward}
-use Rattle.tc_address.specs.Numbering.{day_length}
+use Rattle.tc_address.specs.Label.{Address}
+use Rattle.tc_address.specs.Numbering.{day_length, number_of}
 use Rattle.tc_address.specs.Circle.{moved}
 use Rattle.transport_model.specs.Move.{TransportState, day_of, after_move, HonoursBound}
 use Rattle.chase_core.specs.declared.command.Command.{Command}
 use Rattle.chase_core.specs.declared.command.Master.{Master}
 use Rattle.chase_core.specs.declared.report.Report.{Report}
+use Rattle.chase_core.specs.declared.mode.Mode.TheVariants.{Waiting}
 use Rattle.chase_core.specs.declared.outcome.Outcome.{Outcome}
 use Rattle.chase_core.specs.Step.{ChaseState, step_of, report_of, chase_after}
 
@@ -19,6 +21,9 @@ pub record Row : Type 0 where
   pub master : Option Master
   pub slip : ℤ
 
+abbrev pub row_with : Option Command → Option Master → ℤ → Row
+row_with command master slip = record { command = command; master = master; slip = slip }
+
 -- a chase, and the position of its transport in subframes
 pub record Loop : Type 0 where
   pub chase : ChaseState
@@ -27,6 +32,10 @@ pub record Loop : Type 0 where
 -- the transport stands on the circle of the day
 abbrev pub IsOnTheDay : Loop → Type 0
 IsOnTheDay loop = loop.position < day_of loop.chase.count
+
+-- a chase that waits, and a transport at the first subframe of a label
+abbrev pub starts_at : Address → Loop
+starts_at label = record { chase = record { count = label.count; mode = Waiting }; position = 80 * number_of label }
 
 -- what comes of the chase's step in a row
 abbrev pub outcome_in : Loop → Row → Outcome

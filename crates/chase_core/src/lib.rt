@@ -14,13 +14,15 @@
 //!   transport keeps its slip bound. Its error is then at most 40, 24 and at last 8 subframes (`laws`).
 //! - Under the same premises pulling ends: from an error of 40 + 1272·n the chase is locked n rows
 //!   later (`laws`).
+//! - `ClosedLoop` works that loop a frame at a time (`after_row`, `traced`).
 //!
 //! Read `command`, `report`, `mode`, `outcome` and `chase`, in this order, and `specs/Step.antt` beside
-//! them; then `laws` with `specs/Trace.antt`. `transport_model` is what moves. Nothing here allocates or
-//! refuses.
+//! them; then `closed_loop` and `laws` with `specs/Trace.antt`. `transport_model` is what moves. Nothing
+//! here allocates or refuses.
 #![tactic(auto)]
 
 mod chase;
+mod closed_loop;
 mod command;
 pub mod laws;
 mod mode;
@@ -30,5 +32,6 @@ mod report;
 mod tests;
 
 pub use chase::Chase;
+pub use closed_loop::ClosedLoop;
 pub use command::{Command, Master};
 pub use report::{Loss, Report, State};

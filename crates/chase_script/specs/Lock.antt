@@ -6,9 +6,9 @@ use Rattle.chase_core.specs.declared.command.Master.{Master}
 use Rattle.chase_core.specs.declared.mode.Mode.TheVariants as modes
 use Rattle.chase_core.specs.declared.report.State.TheVariants as states
 use Rattle.chase_core.specs.Step.{after_command, error_to}
-use Rattle.chase_core.specs.Trace.{Row, Traced, IsSteadyFromTo, loop_at, lock_bound}
+use Rattle.chase_core.specs.Trace.{Row, Traced, IsSteadyFromTo, loop_at, lock_bound, starts_at}
 use Rattle.chase_script.specs.declared.row.ScriptRow.{ScriptRow}
-use Rattle.chase_script.specs.TraceText.{row_of, starts_at, trace_from}
+use Rattle.chase_script.specs.TraceText.{row_of, trace_from}
 
 -- from a first row to a last the master moves steadily in one direction, modulo the day, no command comes, and the
 -- transport slips within its bound

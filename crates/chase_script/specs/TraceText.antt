@@ -1,17 +1,15 @@
 -- The text of a trace, byte for byte: a line a row, and a last line. The form is this project's own.
-use Rattle.std.specs.Prelude.{ℕ, ◌+◌, ◌*◌, ◌/◌, ◌%◌, Bool, true, false, List, [], ◌∷◌, ◌++◌, length, map, codes, decimal, slice_get, Option, Some, None}
+use Rattle.std.specs.Prelude.{ℕ, ◌+◌, ◌/◌, ◌%◌, Bool, true, false, List, [], ◌∷◌, ◌++◌, length, map, codes, decimal, slice_get, Option, Some, None}
 use Rattle.std.specs.Fmt.{signed_decimal}
 use Rattle.std.specs.List.{count_by}
 use Rattle.tc_address.specs.declared.count.Count.{Count}
 use Rattle.tc_address.specs.Label.{Address, labels}
-use Rattle.tc_address.specs.Numbering.{number_of}
 use Rattle.tc_address.specs.Spelling.{text_of, two_digits}
-use Rattle.chase_core.specs.declared.mode.Mode.TheVariants as modes
 use Rattle.chase_core.specs.declared.report.State.{State}
 use Rattle.chase_core.specs.declared.report.State.TheVariants.{Waiting, Locating, Pulling, Locked}
 use Rattle.chase_core.specs.declared.report.Loss.{Loss}
 use Rattle.chase_core.specs.declared.report.Loss.TheVariants.{NoCode, Window}
-use Rattle.chase_core.specs.Trace.{Loop, Row, Traced, trace}
+use Rattle.chase_core.specs.Trace.{Row, Traced, starts_at, trace}
 use Rattle.chase_script.specs.declared.row.ScriptRow.{ScriptRow}
 
 -- ---- the lines
@@ -71,10 +69,6 @@ trace_text count lines = step_lines count 1 lines ++ step_end_line (length lines
 -- the row as the closed loop takes it
 abbrev pub row_of : ScriptRow → Row
 row_of row = record { command = row.command; master = row.master; slip = row.slip }
-
--- a chase that waits, and a transport at the first subframe of a label
-abbrev pub starts_at : Address → Loop
-starts_at label = record { chase = record { count = label.count; mode = modes.Waiting }; position = 80 * number_of label }
 
 -- the trace of rows from a label on
 abbrev pub trace_from : Address → List ScriptRow → List Traced

@@ -16,11 +16,10 @@
 //!   `KeepsItsLock`).
 //!
 //! Read `column`, `fault`, `row`, `slip` and `script`, in this order, with `specs/Script.antt` beside
-//! them, and then `closed_loop`, `texts` and `trace_lines` with `specs/TraceText.antt`. `tc_top` stands
+//! them, and then `texts` and `trace_lines` with `specs/TraceText.antt`. `tc_top` stands
 //! on this crate.
 #![tactic(auto)]
 
-mod closed_loop;
 mod column;
 mod fault;
 mod row;
@@ -29,7 +28,6 @@ mod slip;
 mod texts;
 mod trace_lines;
 
-pub use closed_loop::ClosedLoop;
 pub use column::Column;
 pub use fault::{RowFault, ScriptFault};
 pub use row::ScriptRow;

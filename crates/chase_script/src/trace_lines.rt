@@ -3,12 +3,15 @@ ghost use Rattle.std.specs.Prelude.{◌≡◌, ◌<◌, ◌++◌, [], IfSome, No
 ghost use Rattle.chase_script.specs.Answer.{AreRowsFor};
 ghost use Rattle.chase_script.specs.Kept.{text_left, lines_left};
 ghost use Rattle.chase_script.specs.Lock.{KeepsItsLock};
-ghost use Rattle.chase_script.specs.TraceText.{is_lost, trace_from, trace_text};
+ghost use Rattle.chase_core.specs.Trace.{after_row, traced};
+ghost use Rattle.chase_script.specs.Script.{IsRowFor};
+ghost use Rattle.chase_script.specs.TraceText.{is_lost, row_of, trace_from, trace_text};
+ghost use Rattle.transport_model.specs.Move.{day_of};
 
-use crate::closed_loop::ClosedLoop;
+use crate::row::ScriptRow;
 use crate::script::Script;
 use crate::texts::{step_end_text, step_text};
-use chase_core::Loss;
+use chase_core::{ClosedLoop, Loss, Report};
 use chase_core::laws::{
     a_locked_chase_stays_locked, a_trace_has_a_line_for_each_row, pulling_ends,
 };
@@ -91,11 +94,23 @@ impl TraceLines {
         ensures fewer { lines_left self.new < lines_left self.old }
     {
         let row = self.rows[self.at];
-        let (report, position) = self.place.row(&row);
+        let (report, position) = worked(&mut self.place, &row);
         self.losses += lost(report.loss);
         self.at += 1;
         step_text(self.at as u64, &report, self.count, position)
     }
+}
+
+/// Works a row: what the chase says, and where the transport stands after it.
+fn worked(place: &mut ClosedLoop, row: &ScriptRow) -> (Report, u32)
+    requires { IsRowFor place.old.chase.count row.now }
+    ensures report { result.0 ≡ (traced place.old (row_of row.now)).report }
+    ensures position { result.1 ≡ (traced place.old (row_of row.now)).position }
+    ensures after { place.new ≡ after_row place.old (row_of row.now) }
+    ensures day { result.1 < day_of place.old.chase.count }
+{
+    let report = place.work(row.command, row.master, row.slip);
+    (report, place.position())
 }
 
 /// How many times the lock was lost in a step.

@@ -7,10 +7,12 @@ ghost use Rattle.tc_address.specs.Circle.{moved, IsShortest};
 ghost use Rattle.tc_address.specs.declared.spelling.TextFault.{TextFault};
 ghost use Rattle.tc_address.specs.Spelling.{text_of, IsFirstTextFault};
 
-/// Within a day a label is found by its number, and what is found by a number has that number.
+/// Within a day a label is found by its number, and what is found by a number has that number. Each label
+/// has a number of the day.
 pub fn number_and_label_are_inverse()
     ensures label { (a : Address) → IsLabel a → slice_get (labels a.count) (number_of a) ≡ Some a }
     ensures number { (c : Count) (n : ℕ) (a : Address) → slice_get (labels c) n ≡ Some a → (number_of a ≡ n) × (a.count ≡ c) × IsLabel a }
+    ensures below { (a : Address) → IsLabel a → number_of a < day_length a.count }
 {}
 
 /// No step leads to the label itself, and steps add up.

@@ -1,5 +1,6 @@
 use Rattle.std.proofs.Common.{map}
-use Rattle.chase_script.specs.TraceText.{row_of, starts_at}
+use Rattle.chase_script.specs.TraceText.{row_of}
+use Rattle.chase_core.specs.Trace.{starts_at}
 use Rattle.chase_script.proofs.RowsFit.{rows_of_the_day}
 use Rattle.chase_script.proofs.trace_lines.TraceLines.new.Goals as goal
 

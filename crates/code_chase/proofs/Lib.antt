@@ -1,0 +1,3 @@
+mod LinesOfFrames
+mod RowsOfFrames
+mod CausesOfALoss

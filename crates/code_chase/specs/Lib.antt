@@ -1,0 +1,9 @@
+pub use Rattle.chase_core.specs.Step
+pub use Rattle.chase_core.specs.Trace
+pub use Rattle.flywheel.specs.Frames
+pub use Rattle.flywheel.specs.GoOn
+pub use Rattle.generator.specs.Draw
+pub use Rattle.tc_address.specs.Label
+pub use Rattle.tc_address.specs.Numbering
+pub mod CodeTrace
+pub mod Lock

@@ -1,0 +1,28 @@
+//! A chase over recorded code: the frames of a recording are the master of a modelled transport.
+//!
+//! Each frame of a recording, heard, invented or gone, is one step of a chase. Its label is what the
+//! master reads, where it has the count of the chase; where the time code is gone the master reads
+//! nothing. The transport slips in each step by a number of subframes drawn by chance, up to a bound, so
+//! a run can be repeated by its seed. The rule is this project's own.
+//!
+//! What this crate promises:
+//! - `CodeChase::frame` answers the step of each frame, and moves the transport, exactly
+//!   (`specs/CodeTrace.antt`, `code_trace`; its clauses and `laws::a_frame_adds_a_line`).
+//! - A loss has one of four causes: the frame is gone, or has another count, or was heard and does not
+//!   join, or the transport slipped by more than eight subframes in the step before
+//!   (`laws::each_loss_has_a_cause`). So a recording without gaps keeps the lock of a transport that keeps
+//!   its bound (`laws::whole_code_keeps_the_lock`).
+//!
+//! Read `master`, `slip` and `code_loop`, in this order, with `specs/CodeTrace.antt` beside them, and
+//! `laws` with `specs/Lock.antt`. Nothing here allocates or fails.
+#![tactic(auto)]
+
+mod code_loop;
+pub mod laws;
+mod master;
+mod slip;
+
+pub use code_loop::CodeChase;
+
+#[cfg(test)]
+mod tests;
