@@ -10,5 +10,6 @@ mod midi;
 mod reading;
 mod recording;
 mod sound;
+mod sweep;
 mod trial;
 mod words;

@@ -4,7 +4,7 @@ use std::alloc::{AllocError, Global};
 use std::test::Fail;
 use tc_top::Status;
 
-const SCRIPT: &[u8] = b"play,,00:00:00:00,forward,0\n\
+pub const SCRIPT: &[u8] = b"play,,00:00:00:00,forward,0\n\
     ,,00:00:00:01,forward,60\n\
     ,,00:00:00:02,forward,0\n\
     ,,00:00:00:03,forward,0\n\

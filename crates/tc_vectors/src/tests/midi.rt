@@ -8,7 +8,7 @@ use tc_address::{Count, Direction, System};
 use tc_top::Status;
 
 /// 01:37:52:16 and the frame after it, at 30 frames, forward.
-const FORWARD: &[u8] = b"\xf0\x7f\x7f\x01\x01\x61\x25\x34\x10\xf7\
+pub const FORWARD: &[u8] = b"\xf0\x7f\x7f\x01\x01\x61\x25\x34\x10\xf7\
     \xf1\x00\xf1\x11\xf1\x24\xf1\x33\xf1\x45\xf1\x52\xf1\x61\xf1\x76";
 
 /// The same two frames backward.

@@ -20,6 +20,14 @@ pub struct Trial<'a> {
     pub notes_room: usize,
 }
 
+/// How a run ended.
+#[derive(Drop)]
+pub struct Ended {
+    pub status: Status,
+    pub output: Vec<u8>,
+    pub note: Vec<u8>,
+}
+
 impl<'a> Trial<'a> {
     /// A run in which nothing fails.
     pub fn new(words: &'a str, input: &'a [u8]) -> Trial<'a> {
@@ -53,38 +61,55 @@ impl<'a> Trial<'a> {
         output: &[u8],
         note: &str,
     ) -> Result<(), Fail> {
-        let alloc = rt.alloc();
-        let words = split(alloc, self.words)?;
-        let mut source = MemorySource::new(alloc, self.input, self.pieces, self.failing_pulls)?;
-        let mut out = MemorySink::new(alloc, self.room, self.failing_pushes)?;
-        let mut notes = MemorySink::new(alloc, self.notes_room, &[])?;
-        let ended = run(alloc, &words, &mut source, &mut out, &mut notes);
-        let noted = str::from_utf8(notes.written())?;
+        let ended = self.ended(rt)?;
         match str::from_utf8(output) {
             Ok(text) => {
-                let written = str::from_utf8(out.written())?;
+                let written = str::from_utf8(&ended.output)?;
                 assert_eq!(rt; written, text, "the output of {}", self.words);
             }
-            Err(_) => assert_eq!(rt; out.written(), output, "the output of {}", self.words),
+            Err(_) => {
+                assert_eq!(rt;
+                    ended.output.as_slice(),
+                    output,
+                    "the output of {}",
+                    self.words
+                )
+            }
         }
+        let noted = str::from_utf8(&ended.note)?;
         assert_eq!(rt; noted, note, "the note of {}", self.words);
-        assert_eq!(rt; ended, status, "the status of {}", self.words);
+        assert_eq!(rt; ended.status, status, "the status of {}", self.words);
         Ok(())
     }
 
     /// Runs it, compares its status, and gives its output.
     pub fn output(&self, rt: &(impl Abort + AllocGlobal), status: Status) -> Result<Vec<u8>, Fail> {
+        let ended = self.ended(rt)?;
+        assert_eq!(rt; ended.status, status, "the status of {}", self.words);
+        Ok(ended.output)
+    }
+
+    /// Runs it.
+    pub fn ended(&self, rt: &(impl Abort + AllocGlobal)) -> Result<Ended, Fail> {
         let alloc = rt.alloc();
         let words = split(alloc, self.words)?;
         let mut source = MemorySource::new(alloc, self.input, self.pieces, self.failing_pulls)?;
         let mut out = MemorySink::new(alloc, self.room, self.failing_pushes)?;
         let mut notes = MemorySink::new(alloc, self.notes_room, &[])?;
-        let ended = run(alloc, &words, &mut source, &mut out, &mut notes);
-        assert_eq!(rt; ended, status, "the status of {}", self.words);
-        let mut written = Vec::new(alloc);
-        written.extend_from_slice(out.written())?;
-        Ok(written)
+        let status = run(alloc, &words, &mut source, &mut out, &mut notes);
+        Ok(Ended {
+            status,
+            output: copied(alloc, out.written())?,
+            note: copied(alloc, notes.written())?,
+        })
     }
+}
+
+/// Bytes of their own.
+fn copied(alloc: Global, bytes: &[u8]) -> Result<Vec<u8>, AllocError> {
+    let mut copy = Vec::new(alloc);
+    copy.extend_from_slice(bytes)?;
+    Ok(copy)
 }
 
 /// The words of a command line.
