@@ -1,6 +1,6 @@
 //! The bytes of an interval, in each version of the file. Next: `decoder`.
-ghost use Rattle.std.specs.Prelude.{◌≡◌, ◌≤◌, ◌<◌, ◌++◌, ◌==◌, length, drop, fold, nat_le, Some, None, Ok, IfOk, if◌then◌else◌};
-ghost use Rattle.tc_files.specs.Piece.{interval_in, piece_width, spelling};
+ghost use Rattle.std.specs.Prelude.{◌≡◌, ◌≤◌, ◌<◌, ◌++◌, ◌==◌, length, drop, fold, nat_le, Some, None, Ok, IfOk, OnErr, if◌then◌else◌};
+ghost use Rattle.tc_files.specs.Piece.{interval_in, most_width, piece_width, spelling};
 ghost use Rattle.biphase.specs.declared.cell.TheConstants.{MAX_INTERVAL};
 ghost use Rattle.tc_files.specs.Next.{IsNext, next_of};
 ghost use Rattle.tc_files.specs.Recording.{Decoding, IsBetween, with_byte, with_number};
@@ -72,6 +72,8 @@ pub(crate) fn interval_in(version: FileVersion, place: u64, bytes: &[u8]) -> Res
     requires { piece_width version bytes.now ≤ length bytes.now }
     ensures exact { result ≡ interval_in version place bytes.now }
     ensures range { IfOk result (λ x. (1 ≤ x) × (x ≤ MAX_INTERVAL)) }
+    // Two bytes hold no number out of range.
+    ensures wide { OnErr result (piece_width version bytes.now ≡ most_width version) }
 {
     let (least, ticks) = match version {
         FileVersion::One => (1, BigEndian::read_u32(bytes)),
