@@ -1,5 +1,5 @@
 //! The decoder of an interval file. Next: `direction_reader/src/reader.rt`.
-ghost use Rattle.std.specs.Prelude.{◌≡◌, ◌<◌, ◌≤◌, ◌^◌, ◌*◌, ◌++◌, ◌+◌, [], ◌∷◌, length, IfErr, IfNone, OnOk, IsTrue, ℕ, ◌-◌, ◌==◌, None, if◌then◌else◌};
+ghost use Rattle.std.specs.Prelude.{◌≡◌, ◌↔◌, List, ◌<◌, ◌≤◌, ◌^◌, ◌*◌, ◌++◌, ◌+◌, [], ◌∷◌, length, IfErr, IfNone, OnOk, IsTrue, ℕ, ◌-◌, ◌==◌, None, if◌then◌else◌};
 ghost use Rattle.arrayvec.specs.ArrayVec.{array_vec_len};
 ghost use Rattle.tc_files.specs.IntervalFile.{
   no_progress,
@@ -13,11 +13,14 @@ ghost use Rattle.tc_files.specs.IntervalFile.{
   is_whole,
   kept_part,
   piece_answer,
+  progress_of,
   version_or,
   whole_answer,
   CompletesAt,
 };
+ghost use Rattle.tc_files.specs.Grammar.{AreBytes, Contents, Says};
 ghost use Rattle.tc_files.specs.IntervalHeader.{system_at, version_at};
+ghost use Rattle.tc_files.specs.NextByte.{Brings, end_of_text};
 ghost use Rattle.tc_files.specs.Piece.{AreWhole, interval_in};
 ghost use Rattle.tc_files.specs.Progress.{IsBoundary, IsProgress, IsWholeAt};
 ghost use Rattle.tc_files.specs.Recording.{FitsBytes, IsBetween, interval_count};
@@ -99,11 +102,17 @@ impl IntervalDecoder {
         ensures answers { result ≡ answer self.old byte }
         ensures next { self.new ≡ after self.old byte }
 
-        // Where the first fault was not met before, a header, an interval or nothing is completed
-        // only at its byte place, and the intervals account for the bytes.
+        // Where no fault was met before, a header, an interval, a fault or nothing is completed only
+        // where the version lets it stand, and the intervals account for the bytes.
         ensures completes { IfNone self.old.fault (CompletesAt self.old.version result (self.old.taken + 1)) }
         ensures fits { (count : ℕ) → FitsBytes self.old count → FitsBytes self.new (count + interval_count result) }
         ensures part { length self.new.part < 6 }
+
+        // For each list of bytes that the decoder stands for, it stands for the list with the byte, and
+        // the answer is what the byte brings to the text that these bytes are, and nothing else.
+        ensures stands { (bytes : List ℕ) → self.old ≡ progress_of bytes → self.new ≡ progress_of (bytes ++ byte ∷ []) }
+        ensures text { (bytes : List ℕ) (before now : Contents) (taken : Taken) → self.old ≡ progress_of bytes → AreBytes bytes
+            → Says before bytes → Says now (bytes ++ byte ∷ []) → (result ≡ taken ↔ Brings taken before now) }
     {
         match self.fault {
             Some(fault) => Taken::Fault(fault),
@@ -184,6 +193,10 @@ impl IntervalDecoder {
         // The input may end after the header or after any interval, and is else cut off where it ends.
         ensures whole { OnOk result (IsBoundary self.now.version self.now.taken) }
         ensures cut_off { IfNone self.now.fault (IfErr result (λ first. first ≡ FileFault.Truncated self.now.taken)) }
+
+        // For each list of bytes that the decoder stands for: whether it is an interval file, or its fault.
+        ensures text { (bytes : List ℕ) (contents : Contents) → self.now ≡ progress_of bytes → Says contents bytes
+            → result ≡ end_of_text contents }
     {
         match self.fault {
             Some(fault) => Err(fault),
