@@ -42,8 +42,9 @@ they_bring front bytes header intervals are is =
     by_width (inl short) range =
         brings Short (rw (lt-leb (piece_width version bytes) (length bytes) short) refl) (none_or_part bytes short)
     by_width (inr whole) (inr wrong) =
+        let width = piece_width version bytes in
         brings (Fault (fault.Interval (length front)))
-        (rw (le-leb (piece_width version bytes) (length bytes) whole) (ap (next_with (piece_width version bytes)) (wrong_interval version (length front) bytes wrong)))
+        (rw (le-leb width (length bytes) whole) (ap (next_with width) (wrong_interval version (length front) bytes wrong)))
         (record { front = front; rest = bytes; are = refl; file = is; fails = (refl, whole, wrong) })
     by_width (inr whole) (inl range) =
         let x = number_in version bytes in

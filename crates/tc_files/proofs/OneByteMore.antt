@@ -280,8 +280,9 @@ open_brings bytes byte header intervals before now are is of says =
         let some = least version rest in
         let low = range.0 in
         let width = exactly version is.rest byte is.short whole in
+        let rest_are = bytes_behind is.front rest (subst AreBytes all are) in
         let spelled : rest ≡ spelling version x =
-        sym (take_all (piece_width version rest) rest (omega (arith, width))) ∙ is_spelled version rest whole (bytes_behind is.front rest (subst AreBytes all are)) range in
+        sym (take_all (piece_width version rest) rest (omega (arith, width))) ∙ is_spelled version rest whole rest_are range in
         brought (Interval x) (file header (intervals ++ x ∷ [])) (whole_answer (Ok x) whole (in_range_is version place rest range))
         (subst (λ (l : List ℕ). IsFile l header (intervals ++ x ∷ [])) (sym all)
         (file_more is.front rest header intervals x is.whole spelled (omega (arith, some, low)) range.1))
