@@ -10,5 +10,6 @@ pub mod LocalStretch
 pub mod LockStays
 pub mod MirroredCells
 pub mod OneStretch
+pub mod PieceEnds
 pub mod StretchGrows
 pub mod StretchesGoOn

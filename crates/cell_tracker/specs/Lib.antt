@@ -7,6 +7,7 @@ pub mod GoOn
 pub mod Kept
 pub mod Lock
 pub mod Mirrored
+pub mod PieceEnd
 pub mod Recording
 pub mod StandsFor
 pub mod State

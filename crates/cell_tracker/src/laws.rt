@@ -9,7 +9,10 @@ ghost use Rattle.cell_tracker.specs.GoOn.{GoOn};
 ghost use Rattle.cell_tracker.specs.Kept.{IsPiece, cells_from, stretch_of_piece};
 ghost use Rattle.cell_tracker.specs.Lock.{HasNoLock, IsLock};
 ghost use Rattle.cell_tracker.specs.Mirrored.{BeginMirrored};
+ghost use Rattle.cell_tracker.specs.PieceEnd.{StandsAtBoundary, StandsInsideOne};
 ghost use Rattle.cell_tracker.specs.Recording.{recording, stretch_of};
+ghost use Rattle.cell_tracker.specs.StandsFor.{AtCellStandsFor, HuntingStandsFor, MidCellStandsFor};
+ghost use Rattle.cell_tracker.specs.State.{AtCellState, HuntingState, MidCellState};
 ghost use Rattle.cell_tracker.specs.Stretch.{Stretch, AreStretches, begun, with_break, with_cell};
 
 /// Each list of intervals has its stretches, and only those.
@@ -49,6 +52,22 @@ pub fn a_recording_within_the_tolerance_is_one_stretch()
         → IsPiece profile intervals one cut → IsPiece profile intervals two other
         → IsLock profile intervals 0 lock
         → cells_from one cut intervals lock ≡ cells_from two other intervals lock }
+{}
+
+/// How the states follow a recording within the tolerance, of whatever chain it is a piece. Where the
+/// search goes on, no two neighbours were unequal; at a cell the state stands at a boundary of the
+/// chain, and keeps the length of the cell that ends there; inside a cell it keeps the first half of a
+/// one of the chain, and the length of the cell before it.
+pub fn states_stand_in_the_recording()
+    ensures hunting { (state : HuntingState) (intervals : List ℕ) (stretches : List Stretch) (cells : List Cell) (cut : ℕ)
+        → HuntingStandsFor state intervals stretches → IsPiece state.profile intervals cells cut
+        → HasNoLock state.profile intervals 0 }
+    ensures at_cell { (state : AtCellState) (intervals : List ℕ) (earlier : List Stretch) (stretch : Stretch) (cells : List Cell) (cut : ℕ)
+        → AtCellStandsFor state intervals earlier stretch → IsPiece state.profile intervals cells cut
+        → StandsAtBoundary state cells (cut + length intervals) }
+    ensures mid_cell { (state : MidCellState) (intervals : List ℕ) (earlier : List Stretch) (stretch : Stretch) (cells : List Cell) (cut : ℕ)
+        → MidCellStandsFor state intervals earlier stretch → IsPiece state.profile intervals cells cut
+        → StandsInsideOne state cells (cut + length intervals) }
 {}
 
 /// Resynchronisation: whatever stands before a recording within the tolerance, from the greater

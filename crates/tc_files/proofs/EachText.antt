@@ -178,7 +178,7 @@ spelled_one (a ∷ b ∷ []) long are = absurd (omega (arith, long))
 spelled_one (a ∷ b ∷ c ∷ []) long are = absurd (omega (arith, long))
 spelled_one (a ∷ b ∷ c ∷ e ∷ more) long are = sym (four_bytes a b c e are.0 are.1.0 are.1.1.0 are.1.1.1.0)
 
-abbrev IsSpelled : FileVersion → List ℕ → Type 0
+abbrev pub IsSpelled : FileVersion → List ℕ → Type 0
 IsSpelled version rest = take (piece_width version rest) rest ≡ spelling version (number_in version rest)
 
 spelled_short : (a b : ℕ) (more : List ℕ) → a < 256 → b < 256 → (big_number 2 (a ∷ b ∷ more) == 0) ≡ false → IsSpelled Two (a ∷ b ∷ more)
@@ -211,11 +211,11 @@ spelled_two [] false e long are range = absurd (omega (arith, long))
 spelled_two (a ∷ []) false e long are range = absurd (omega (arith, long))
 spelled_two (a ∷ b ∷ more) false short long are range = spelled_short a b more are.0 are.1.0 short
 
-is_spelled : (version : FileVersion) (rest : List ℕ) → piece_width version rest ≤ length rest → AreBytes rest → InRange version rest → IsSpelled version rest
+pub is_spelled : (version : FileVersion) (rest : List ℕ) → piece_width version rest ≤ length rest → AreBytes rest → InRange version rest → IsSpelled version rest
 is_spelled One rest long are range = spelled_one rest long are
 is_spelled Two rest long are range = spelled_two rest (big_number 2 rest == 0) refl long are range.0
 
-in_range_or_not : (version : FileVersion) (rest : List ℕ) → InRange version rest ⊎ (¬ InRange version rest)
+pub in_range_or_not : (version : FileVersion) (rest : List ℕ) → InRange version rest ⊎ (¬ InRange version rest)
 in_range_or_not version rest = by_order (cases_lt (number_in version rest) (least_in version rest)) (cases_lt MAX_INTERVAL (number_in version rest))
   where
     by_order : (number_in version rest < least_in version rest) ⊎ (least_in version rest ≤ number_in version rest)

@@ -10,7 +10,7 @@ use Rattle.tc_files.specs.declared.interval_file.header.FileVersion.TheVariants.
 use Rattle.tc_files.specs.declared.interval_file.piece.Next.TheVariants.{Short}
 use Rattle.tc_files.specs.Recording.{with_byte, with_number}
 use Rattle.tc_files.specs.Next.{IsNext, Makes, next_of, next_with}
-use Rattle.tc_files.specs.Piece.{interval_in, least_in, number_in, piece_width}
+use Rattle.tc_files.specs.Piece.{AreWhole, interval_in, least_in, number_in, piece_width}
 use Rattle.tc_files.proofs.WholeNumbers.{whole_number}
 
 -- an interval has two bytes at least, and six at most
@@ -21,6 +21,15 @@ widths Two bytes = by_zero (big_number 2 bytes == 0)
     by_zero : (zero : Bool) → (2 ≤ (if zero then 6 else 2)) × ((if zero then 6 else 2) ≤ 6)
     by_zero true = (omega arith, omega arith)
     by_zero false = (omega arith, omega arith)
+
+-- in version 1 a multiple of four, and in version 2 an even number
+pub width_is_whole : (version : FileVersion) (bytes : List ℕ) → AreWhole version (piece_width version bytes)
+width_is_whole One bytes = refl
+width_is_whole Two bytes = by_zero (big_number 2 bytes == 0)
+  where
+    by_zero : (zero : Bool) → AreWhole Two (if zero then 6 else 2)
+    by_zero true = refl
+    by_zero false = refl
 
 -- and one tick at least
 pub least : (version : FileVersion) (bytes : List ℕ) → 1 ≤ least_in version bytes
@@ -46,7 +55,7 @@ by_range version place bytes true long e is =
     let low = leb-true (least_in version bytes) (number_in version bytes) both.0 in
     let some = least version bytes in
     let wide = widths version bytes in
-    (omega (arith, low, some), leb-true (number_in version bytes) MAX_INTERVAL both.1, wide.0, wide.1, long, is)
+    (omega (arith, low, some), leb-true (number_in version bytes) MAX_INTERVAL both.1, wide.0, wide.1, long, is, width_is_whole version bytes)
 by_range version place bytes false long e is = (piece_width version bytes, long, is)
 
 by_length : (version : FileVersion) (place : ℕ) (bytes : List ℕ) (whole : Bool) → nat_le (piece_width version bytes) (length bytes) ≡ whole

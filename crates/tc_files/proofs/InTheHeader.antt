@@ -1,6 +1,6 @@
 -- A decoder within the header: each of the first eight bytes that may stand leaves it without a fault, the first one that may not is its fault for good, and
 -- so is a tick rate out of range.
-use Rattle.std.proofs.Common.{◌≡◌, ◌⊎◌, inl, inr, ℕ, ◌+◌, ◌<◌, ◌≤◌, List, [], ◌∷◌, length, take, drop, fold, slice_index, Some, None, refl, sym, ◌∙◌, ap, ap₂, arith, Bool, true, false}
+use Rattle.std.proofs.Common.{◌≡◌, ◌⊎◌, inl, inr, ℕ, ◌+◌, ◌-◌, ◌<◌, ◌≤◌, List, [], ◌∷◌, length, take, drop, fold, slice_index, Some, None, refl, sym, ◌∙◌, ap, ap₂, arith, Bool, true, false}
 use Rattle.std.specs.Prelude.{⊤, nat_le, nat_lt, ◌==◌, ◌&&◌, is_some, if◌then◌else◌}
 use Rattle.std.specs.declared.option.Option.{Option}
 use Rattle.std.proofs.lemmas.Bool.{and_parts, cases_lt, false_from_ne_true, leb-true, le-ltb, lt-leb, lt-ltb, ne_eqb}
@@ -38,7 +38,7 @@ over_stays r item over = by_verdict r.verdict over
     by_verdict (refused f) over = refl
     by_verdict past_limit over = refl
 
-fault_stays : (p : Progress) (byte : ℕ) (first : FileFault) → p.fault ≡ Some first → after p byte ≡ p
+pub fault_stays : (p : Progress) (byte : ℕ) (first : FileFault) → p.fault ≡ Some first → after p byte ≡ p
 fault_stays p byte first met = rw met refl
 
 one_stays : (d : Decoding) (byte : ℕ) (first : FileFault) → d.progress.fault ≡ Some first → IsOver d.recording.verdict → with_byte d byte ≡ d
@@ -62,14 +62,14 @@ head_at place version system = record {
 }
 
 -- the fault of the byte at a place
-abbrev fault_at : ℕ → FileFault
+abbrev pub fault_at : ℕ → FileFault
 fault_at place =
     if nat_lt place 4 then fault.Magic place
     else if place == 4 then fault.Version place
     else if place == 5 then fault.System place
     else fault.Reserved place
 
-abbrev tested_as : Bool → ℕ → Taken
+abbrev pub tested_as : Bool → ℕ → Taken
 tested_as may place = if may then Nothing else Fault (fault_at place)
 
 by_row : (low four five magic version system zero : Bool) (place : ℕ)
@@ -89,7 +89,7 @@ by_row false false false magic version system true place = refl
 by_row false false false magic version system false place = refl
 
 -- each byte is tested by the table
-tested : (place byte : ℕ) → head_answer place byte ≡ tested_as (may_stand place byte) place
+pub tested : (place byte : ℕ) → head_answer place byte ≡ tested_as (may_stand place byte) place
 tested place byte =
     by_row (nat_lt place 4) (place == 4) (place == 5) (byte == slice_index MAGIC place) (is_some (version_at byte)) (is_some (system_at byte)) (byte == 0) place
 
@@ -214,7 +214,7 @@ wrong_rate bytes is =
     (ap (λ (d : Decoding). d.recording) all, ap ending all)
 
 -- a decoder that has a part of the header
-abbrev within_header : ℕ → FileVersion → Option System → List ℕ → Decoding
+abbrev pub within_header : ℕ → FileVersion → Option System → List ℕ → Decoding
 within_header taken version system part = record {
   progress = record { taken = taken; version = version; system = system; part = part; fault = None };
   recording = no_recording;
@@ -228,29 +228,51 @@ rate_open version system (a ∷ b ∷ []) short = refl
 rate_open version system (a ∷ b ∷ c ∷ []) short = refl
 rate_open version system (a ∷ b ∷ c ∷ e ∷ more) short = absurd (omega (arith, short))
 
--- where bytes end within the header they are cut off
-cut_off : (bytes : List ℕ) (taken : ℕ) (version : FileVersion) (system : Option System) (part : List ℕ) → taken ≡ length bytes → taken < 12
-    → decoding_of bytes ≡ within_header taken version system part → IsRead bytes good (fault.Truncated (length bytes))
-cut_off bytes taken version system part all_taken short all =
-    let ends : ending (within_header taken version system part) ≡ Some (fault.Truncated taken) = rw (lt-leb 12 taken short) refl in
-    (ap (λ (d : Decoding). d.recording) all, ap ending all ∙ ends ∙ ap (λ (n : ℕ). Some (fault.Truncated n)) all_taken)
+-- where bytes end within the header, so does the decoder, and they are cut off
+pub record InHeader (bytes : List ℕ) : Type 0 where
+  pub version : FileVersion
+  pub system : Option System
+  pub part : List ℕ
+  pub is : decoding_of bytes ≡ within_header (length bytes) version system part
+  pub behind_head : length part ≡ length bytes - 8
 
-ends_in_header : (bytes : List ℕ) → EndsInHeader bytes → IsRead bytes good (fault.Truncated (length bytes))
-ends_in_header bytes is = by_length (cases_lt (length bytes) 8)
+pub in_header : (bytes : List ℕ) → EndsInHeader bytes → InHeader bytes
+in_header bytes is = by_length (cases_lt (length bytes) 8)
   where
-    by_length : (length bytes < 8) ⊎ (8 ≤ length bytes) → IsRead bytes good (fault.Truncated (length bytes))
+    by_length : (length bytes < 8) ⊎ (8 ≤ length bytes) → InHeader bytes
     by_length (inl few) =
         let all_eight = take_all 8 bytes (omega (arith, few)) in
         let may : MayStand 0 bytes = rw all_eight at is.before in
         let walked = walks bytes 0 One None may (omega (arith, few)) in
-        cut_off bytes (0 + length bytes) walked.0 walked.1 [] (omega arith) (omega (arith, few)) walked.2
+        let none : 0 + length bytes ≡ length bytes = omega arith in
+        record {
+          version = walked.0;
+          system = walked.1;
+          part = [];
+          is = walked.2 ∙ ap (λ (n : ℕ). within_header n walked.0 walked.1 []) none;
+          behind_head = omega (arith, few);
+        }
     by_length (inr more) =
         let short = is.short in
         let head = reaches bytes 8 is.before more (omega arith) in
         let long = length-drop 8 bytes in
         let all = split_fold bytes 8 ∙ ap (λ (d : Decoding). fold with_byte d (drop 8 bytes)) head.2
         ∙ rate_open head.0 head.1 (drop 8 bytes) (omega (arith, short, long)) in
-        cut_off bytes (8 + length (drop 8 bytes)) head.0 head.1 (drop 8 bytes) (omega (arith, long, more)) (omega (arith, short, long, more)) all
+        let taken : 8 + length (drop 8 bytes) ≡ length bytes = omega (arith, long, more) in
+        record {
+          version = head.0;
+          system = head.1;
+          part = drop 8 bytes;
+          is = all ∙ ap (λ (n : ℕ). within_header n head.0 head.1 (drop 8 bytes)) taken;
+          behind_head = omega (arith, long);
+        }
+
+ends_in_header : (bytes : List ℕ) → EndsInHeader bytes → IsRead bytes good (fault.Truncated (length bytes))
+ends_in_header bytes is =
+    let stands = in_header bytes is in
+    let taken = length bytes in
+    let ends : ending (within_header taken stands.version stands.system stands.part) ≡ Some (fault.Truncated taken) = rw (lt-leb 12 taken is.short) refl in
+    (ap (λ (d : Decoding). d.recording) stands.is, ap ending stands.is ∙ ends)
 
 -- ---- each fault of the table
 

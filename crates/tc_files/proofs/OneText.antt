@@ -134,7 +134,7 @@ one_list bytes a b xs ys same first second =
 
 -- ---- one answer
 
-some_is : {A : Type 0} → (x y : A) → Some x ≡ Some y → x ≡ y
+pub some_is : {A : Type 0} → (x y : A) → Some x ≡ Some y → x ≡ y
 some_is x y e = (cc)
 
 abbrev header_in : Contents → Option IntervalHeader

@@ -64,7 +64,7 @@ is_over header intervals whole first = by_limit (nat_le whole MAX_INTERVALS)
     by_limit true = tt
     by_limit false = tt
 
-wrong_interval : (version : FileVersion) (place : ℕ) (rest : List ℕ) → ¬ InRange version rest
+pub wrong_interval : (version : FileVersion) (place : ℕ) (rest : List ℕ) → ¬ InRange version rest
     → interval_in version place rest ≡ Err (fault.Interval place)
 wrong_interval version place rest wrong =
     let low = nat_le (least_in version rest) (number_in version rest) in
@@ -113,7 +113,7 @@ front_is_short Two (a ∷ b ∷ front) more short =
     omega (arith, short, long)
 
 -- each byte of it leaves it open
-stays_open : (rest : List ℕ) (taken : ℕ) (version : FileVersion) (system : Option System) (part : List ℕ) (r : Recording) → 12 ≤ taken
+pub stays_open : (rest : List ℕ) (taken : ℕ) (version : FileVersion) (system : Option System) (part : List ℕ) (r : Recording) → 12 ≤ taken
     → length (part ++ rest) < piece_width version (part ++ rest)
     → fold with_byte (at taken version system part r) rest ≡ at (taken + length rest) version system (part ++ rest) r
 stays_open [] taken version system part r late short =

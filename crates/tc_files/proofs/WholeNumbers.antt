@@ -36,7 +36,7 @@ abbrev pub IsAll : FileVersion → List ℕ → Bool → Type 0
 IsAll version piece all = nat_le (piece_width version piece) (length piece) ≡ all
 
 -- a byte that leaves the interval open
-leaves_open : (t : ℕ) (version : FileVersion) (system : Option System) (part : List ℕ) (x : ℕ) (r : Recording) → 12 ≤ t
+pub leaves_open : (t : ℕ) (version : FileVersion) (system : Option System) (part : List ℕ) (x : ℕ) (r : Recording) → 12 ≤ t
     → IsAll version (part ++ x ∷ []) false → answer (at t version system part r).progress x ≡ Nothing
 leaves_open t version system part x r late more = rw (le-ltb t 8 (omega arith), le-ltb t 12 late, more) refl
 
@@ -62,7 +62,7 @@ behind taken version system item r = record {
 }
 
 -- the byte that completes it
-completes : (t u : ℕ) (version : FileVersion) (system : Option System) (part : List ℕ) (x : ℕ) (r : Recording) → 12 ≤ u
+pub completes : (t u : ℕ) (version : FileVersion) (system : Option System) (part : List ℕ) (x : ℕ) (r : Recording) → 12 ≤ u
     → IsAll version (part ++ x ∷ []) true → u + 1 - length (part ++ x ∷ []) ≡ t
     → answer (at u version system part r).progress x ≡ interval_answer (interval_in version t (part ++ x ∷ []))
 completes t u version system part x r late all place = rw (le-ltb u 8 (omega arith), le-ltb u 12 late, all, place) refl

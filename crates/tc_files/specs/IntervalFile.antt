@@ -1,9 +1,9 @@
 -- The interval file, byte by byte: what each completes, and the first fault.
-use Rattle.std.specs.Prelude.{⊤, ◌≡◌, ◌≢◌, ◌<◌, ◌≤◌, ℕ, ◌+◌, ◌-◌, List, [], ◌∷◌, ◌++◌, length, slice_index, Bool, Option, Some, None, Result, Ok, Err, nat_lt, nat_le, ◌==◌, ◌&&◌, is_some, fold, if◌then◌else◌}
+use Rattle.std.specs.Prelude.{⊤, ◌≡◌, ◌≢◌, ◌<◌, ◌≤◌, ℕ, ◌+◌, ◌-◌, ◌%◌, List, [], ◌∷◌, ◌++◌, length, slice_index, Bool, Option, Some, None, Result, Ok, Err, nat_lt, nat_le, ◌==◌, ◌&&◌, is_some, fold, if◌then◌else◌}
 use Rattle.byteorder.specs.Endian.{big_number}
 use Rattle.tc_address.specs.declared.system.System.{System}
 use Rattle.tc_files.specs.declared.interval_file.header.FileVersion.{FileVersion}
-use Rattle.tc_files.specs.declared.interval_file.header.FileVersion.TheVariants.{One}
+use Rattle.tc_files.specs.declared.interval_file.header.FileVersion.TheVariants.{One, Two}
 use Rattle.tc_files.specs.declared.interval_file.header.TheConstants.{MAGIC, HEADER_LENGTH, HEAD_LENGTH, MAX_TICK_RATE}
 use Rattle.biphase.specs.declared.cell.TheConstants.{MAX_INTERVAL}
 use Rattle.tc_files.specs.declared.fault.FileFault.{FileFault}
@@ -11,8 +11,8 @@ use Rattle.tc_files.specs.declared.fault.FileFault.TheVariants as fault
 use Rattle.tc_files.specs.declared.interval_file.decoder.Taken.{Taken}
 use Rattle.tc_files.specs.declared.interval_file.decoder.Taken.TheVariants.{Nothing, Header, Interval, Fault}
 use Rattle.tc_files.specs.IntervalHeader.{IsTickRate, system_at, version_at}
-use Rattle.tc_files.specs.Piece.{interval_in, piece_width}
-use Rattle.tc_files.specs.Progress.{Progress}
+use Rattle.tc_files.specs.Piece.{AreWhole, interval_in, most_width, piece_width}
+use Rattle.tc_files.specs.Progress.{IsBoundary, Progress}
 
 -- the progress of no bytes
 abbrev pub no_progress : Progress
@@ -96,12 +96,28 @@ end p = elim p.fault [
   | None ↦ if nat_le HEADER_LENGTH p.taken && (length p.part == 0) then Ok tt else Err (fault.Truncated p.taken)
 ]
 
--- what so many bytes may complete: the header is whole with twelve, and intervals come behind it
-abbrev pub CompletesAt : Taken → ℕ → Type 0
-CompletesAt Nothing taken = taken ≢ HEADER_LENGTH
-CompletesAt (Header header) taken = (taken ≡ HEADER_LENGTH) × IsTickRate header.tick_rate
-CompletesAt (Interval ticks) taken = (HEADER_LENGTH < taken) × (1 ≤ ticks) × (ticks ≤ MAX_INTERVAL)
-CompletesAt (Fault first) taken = ⊤
+-- with how many bytes each fault is found: a byte of the first eight at once, the tick rate with the header, and an interval, which begins where one may,
+-- with its last byte. In version 2 it has six: two hold no number out of range
+abbrev pub FoundAt : FileVersion → FileFault → ℕ → Type 0
+FoundAt version (fault.Magic place) taken = (place < 4) × (taken ≡ place + 1)
+FoundAt version (fault.Version place) taken = (place ≡ 4) × (taken ≡ 5)
+FoundAt version (fault.System place) taken = (place ≡ 5) × (taken ≡ 6)
+FoundAt version (fault.Reserved place) taken = (6 ≤ place) × (place < HEAD_LENGTH) × (taken ≡ place + 1)
+FoundAt version (fault.TickRate place) taken = (place ≡ HEAD_LENGTH) × (taken ≡ HEADER_LENGTH)
+FoundAt version (fault.Interval place) taken = IsBoundary version place × (taken ≡ place + most_width version)
+FoundAt version first taken = ⊥
+
+-- so many bytes may end inside an interval: in version 1 not at a multiple of four
+abbrev pub MayBeInside : FileVersion → ℕ → Type 0
+MayBeInside One taken = taken % 4 ≢ 0
+MayBeInside Two taken = ⊤
+
+-- what so many bytes may complete: the header is whole with twelve, and behind it each interval where one may end
+abbrev pub CompletesAt : FileVersion → Taken → ℕ → Type 0
+CompletesAt version Nothing taken = (taken ≢ HEADER_LENGTH) × (HEADER_LENGTH < taken → MayBeInside version taken)
+CompletesAt version (Header header) taken = (taken ≡ HEADER_LENGTH) × IsTickRate header.tick_rate
+CompletesAt version (Interval ticks) taken = (HEADER_LENGTH < taken) × AreWhole version taken × (1 ≤ ticks) × (ticks ≤ MAX_INTERVAL)
+CompletesAt version (Fault first) taken = FoundAt version first taken
 
 -- the progress of bytes, one after another
 abbrev pub progress_of : List ℕ → Progress

@@ -5,6 +5,7 @@ pub mod IntervalFile
 pub mod IntervalHeader
 pub mod Line
 pub mod Next
+pub mod NextByte
 pub mod Piece
 pub mod Progress
 pub mod Recording

@@ -1,5 +1,5 @@
 -- The bytes of an interval, in each version of the file. A number is the sum of its bytes by their weights, the most significant one first.
-use Rattle.std.specs.Prelude.{ℕ, List, ◌∷◌, drop, nat_le, nat_lt, ◌==◌, ◌&&◌, Result, Ok, Err, if◌then◌else◌}
+use Rattle.std.specs.Prelude.{◌≡◌, ◌%◌, ℕ, List, ◌∷◌, drop, nat_le, nat_lt, ◌==◌, ◌&&◌, Result, Ok, Err, if◌then◌else◌}
 use Rattle.byteorder.specs.Endian.{big_bytes, big_number}
 use Rattle.biphase.specs.declared.cell.TheConstants.{MAX_INTERVAL}
 use Rattle.tc_files.specs.declared.fault.FileFault.{FileFault}
@@ -12,6 +12,16 @@ use Rattle.tc_files.specs.declared.interval_file.piece.TheConstants.{LEAST_LONG}
 abbrev pub piece_width : FileVersion → List ℕ → ℕ
 piece_width One bytes = 4
 piece_width Two bytes = if big_number 2 bytes == 0 then 6 else 2
+
+-- the most bytes of an interval
+abbrev pub most_width : FileVersion → ℕ
+most_width One = 4
+most_width Two = 6
+
+-- so many bytes may be whole intervals: in version 1 a multiple of four, in version 2 an even number
+abbrev pub AreWhole : FileVersion → ℕ → Type 0
+AreWhole One count = count % 4 ≡ 0
+AreWhole Two count = count % 2 ≡ 0
 
 -- the number in them, behind the two bytes that are 0
 abbrev pub number_in : FileVersion → List ℕ → ℕ

@@ -13,7 +13,8 @@
 //!   are good, refused or past the limit (`specs/Recording.antt`, `recording_of`).
 //! - As a whole text, every list of bytes is a file or has one first fault (`specs/Grammar.antt`,
 //!   `Says`), and this is what the steps read, within the limit of a command
-//!   (`specs/WithinLimit.antt`, `read_of`; `laws`).
+//!   (`specs/WithinLimit.antt`, `read_of`; `laws`). Each single answer is what the byte, the bytes or
+//!   the end of the input bring to this text (`specs/NextByte.antt`, clauses `text`).
 //! - `event_text` and `read_end_text` give their lines byte for byte (`specs/Texts.antt`), and
 //!   `interval_header` the twelve bytes of a header.
 //!

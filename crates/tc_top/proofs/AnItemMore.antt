@@ -13,7 +13,10 @@ use Rattle.tc_files.specs.declared.fault.FileFault.{FileFault}
 use Rattle.tc_files.specs.declared.interval_file.decoder.Taken.{Taken}
 use Rattle.tc_files.specs.declared.interval_file.decoder.Taken.TheVariants.{Nothing, Header, Interval, Fault}
 use Rattle.tc_files.specs.declared.interval_file.header.IntervalHeader.{IntervalHeader}
+use Rattle.tc_files.specs.declared.interval_file.header.FileVersion.{FileVersion}
+use Rattle.tc_files.specs.declared.interval_file.header.FileVersion.TheVariants.{One, Two}
 use Rattle.tc_files.specs.IntervalFile.{after, answer}
+use Rattle.tc_files.specs.Piece.{AreWhole}
 use Rattle.tc_files.specs.Progress.{Progress}
 use Rattle.tc_files.specs.Recording.{Recording, Decoding, IsBetween, with_byte, with_item, with_taken, with_number, decoding_of, recording_of}
 use Rattle.tc_files.specs.Verdict.{Verdict, good, refused, past_limit}
@@ -325,6 +328,11 @@ pub by_bad_number : (decoder : Progress) (front bytes : List ℕ) (width : ℕ) 
 by_bad_number decoder front bytes width f same is =
     subst (λ (p : Progress). decoding_of (front ++ bytes) ≡ record { progress = record p { taken = p.taken + width; fault = Some f }; recording = with_taken (recording_of front) (Fault f) })
     (sym same) (more_bytes front bytes ∙ is)
+
+-- whole intervals and more of them are whole intervals
+pub more_whole : (version : FileVersion) (one two : ℕ) → AreWhole version one → AreWhole version two → AreWhole version (one + two)
+more_whole One one two first second = omega (arith, first, second)
+more_whole Two one two first second = omega (arith, first, second)
 
 -- with some intervals passed over, a decoder is between two intervals as before
 pub passed_over : (d : Progress) (count : ℕ) → IsBetween d → IsBetween (record d { taken = d.taken + count })

@@ -1,5 +1,5 @@
 //! The decoder of an interval file. Next: `direction_reader/src/reader.rt`.
-ghost use Rattle.std.specs.Prelude.{◌≡◌, ◌<◌, ◌≤◌, ◌^◌, ◌*◌, ◌++◌, ◌+◌, [], ◌∷◌, length, IfNone, OnOk, IsTrue, ℕ, ◌-◌, ◌==◌, None, if◌then◌else◌};
+ghost use Rattle.std.specs.Prelude.{◌≡◌, ◌↔◌, List, ◌<◌, ◌≤◌, ◌^◌, ◌*◌, ◌++◌, ◌+◌, [], ◌∷◌, length, IfErr, IfNone, OnOk, IsTrue, ℕ, ◌-◌, ◌==◌, None, if◌then◌else◌};
 ghost use Rattle.arrayvec.specs.ArrayVec.{array_vec_len};
 ghost use Rattle.tc_files.specs.IntervalFile.{
   no_progress,
@@ -9,15 +9,20 @@ ghost use Rattle.tc_files.specs.IntervalFile.{
   fault_in,
   head_answer,
   header_answer,
+  interval_answer,
   is_whole,
   kept_part,
   piece_answer,
+  progress_of,
   version_or,
   whole_answer,
   CompletesAt,
 };
+ghost use Rattle.tc_files.specs.Grammar.{AreBytes, Contents, Says};
 ghost use Rattle.tc_files.specs.IntervalHeader.{system_at, version_at};
-ghost use Rattle.tc_files.specs.Progress.{IsProgress};
+ghost use Rattle.tc_files.specs.NextByte.{Brings, end_of_text};
+ghost use Rattle.tc_files.specs.Piece.{AreWhole, interval_in};
+ghost use Rattle.tc_files.specs.Progress.{IsBoundary, IsProgress, IsWholeAt};
 ghost use Rattle.tc_files.specs.Recording.{FitsBytes, IsBetween, interval_count};
 
 use crate::fault::FileFault;
@@ -97,11 +102,17 @@ impl IntervalDecoder {
         ensures answers { result ≡ answer self.old byte }
         ensures next { self.new ≡ after self.old byte }
 
-        // Where the first fault was not met before, a header, an interval or nothing is completed
-        // only at its byte place, and the intervals account for the bytes.
-        ensures completes { IfNone self.old.fault (CompletesAt result (self.old.taken + 1)) }
+        // Where no fault was met before, a header, an interval, a fault or nothing is completed only
+        // where the version lets it stand, and the intervals account for the bytes.
+        ensures completes { IfNone self.old.fault (CompletesAt self.old.version result (self.old.taken + 1)) }
         ensures fits { (count : ℕ) → FitsBytes self.old count → FitsBytes self.new (count + interval_count result) }
         ensures part { length self.new.part < 6 }
+
+        // For each list of bytes that the decoder stands for, it stands for the list with the byte, and
+        // the answer is what the byte brings to the text that these bytes are, and nothing else.
+        ensures stands { (bytes : List ℕ) → self.old ≡ progress_of bytes → self.new ≡ progress_of (bytes ++ byte ∷ []) }
+        ensures text { (bytes : List ℕ) (before now : Contents) (taken : Taken) → self.old ≡ progress_of bytes → AreBytes bytes
+            → Says before bytes → Says now (bytes ++ byte ∷ []) → (result ≡ taken ↔ Brings taken before now) }
     {
         match self.fault {
             Some(fault) => Taken::Fault(fault),
@@ -116,7 +127,7 @@ impl IntervalDecoder {
         requires place { self.old.taken < HEAD_LENGTH }
         ensures answers { result ≡ answer self.old byte }
         ensures next { self.new ≡ after self.old byte }
-        ensures completes { CompletesAt result (self.old.taken + 1) }
+        ensures completes { CompletesAt self.old.version result (self.old.taken + 1) }
     {
         let place = self.taken;
         let taken = head_answer(place, byte);
@@ -134,7 +145,7 @@ impl IntervalDecoder {
         requires room { self.old.taken < 2 ^ 62 }
         ensures answers { result ≡ answer self.old byte }
         ensures next { self.new ≡ after self.old byte }
-        ensures completes { CompletesAt result (self.old.taken + 1) }
+        ensures completes { CompletesAt self.old.version result (self.old.taken + 1) }
         ensures fits { (count : ℕ) → FitsBytes self.old count → FitsBytes self.new (count + interval_count result) }
     {
         let place = self.taken;
@@ -147,6 +158,7 @@ impl IntervalDecoder {
     /// Passes over so many bytes of whole intervals, all of them in range.
     pub fn pass_over(&mut self, count: usize)
         requires between { IsBetween self.old }
+        requires whole { AreWhole self.old.version count }
         requires room { self.old.taken + count < 2 ^ 62 }
         ensures { self.new ≡ record self.old { taken = self.old.taken + count } }
     {
@@ -178,8 +190,13 @@ impl IntervalDecoder {
     /// end here.
     pub fn finish(&self) -> Result<(), FileFault>
         ensures answers { result ≡ end self.now }
-        // The input may end after the header or after any interval.
-        ensures whole { OnOk result (HEADER_LENGTH ≤ self.now.taken) }
+        // The input may end after the header or after any interval, and is else cut off where it ends.
+        ensures whole { OnOk result (IsBoundary self.now.version self.now.taken) }
+        ensures cut_off { IfNone self.now.fault (IfErr result (λ first. first ≡ FileFault.Truncated self.now.taken)) }
+
+        // For each list of bytes that the decoder stands for: whether it is an interval file, or its fault.
+        ensures text { (bytes : List ℕ) (contents : Contents) → self.now ≡ progress_of bytes → Says contents bytes
+            → result ≡ end_of_text contents }
     {
         match self.fault {
             Some(fault) => Err(fault),
@@ -193,7 +210,7 @@ impl IntervalDecoder {
 fn head_answer(place: u64, byte: u8) -> Taken
     requires { place < HEAD_LENGTH }
     ensures exact { result ≡ head_answer place byte }
-    ensures completes { CompletesAt result (place + 1) }
+    ensures completes { (version : FileVersion) → CompletesAt version result (place + 1) }
 {
     match place {
         0..=3 if byte != MAGIC[place as usize] => Taken::Fault(FileFault::Magic(place)),
@@ -239,7 +256,7 @@ fn add_to_piece(
     requires below { place < 2 ^ 62 }
     ensures part { part.new.items ≡ kept_part place version (part.old.items ++ byte ∷ []) }
     ensures keeps { IsProgress (place + 1) version part.new.items }
-    ensures completes { CompletesAt result (place + 1) }
+    ensures completes { CompletesAt version result (place + 1) }
     ensures fits { (count : ℕ) → place ≤ HEADER_LENGTH + 6 * count + length part.old.items
         → place + 1 ≤ HEADER_LENGTH + 6 * (count + interval_count result) + length part.new.items }
     ensures answer { result ≡ whole_answer place version system (part.old.items ++ byte ∷ []) }
@@ -269,15 +286,28 @@ fn piece_taken(place: u64, version: FileVersion, system: Option<System>, piece: 
     requires whole { IsTrue (is_whole place version piece.now) }
     requires place { length piece.now ≤ place + 1 }
     requires late { HEADER_LENGTH ≤ place + 1 }
+    requires begins { HEADER_LENGTH ≤ place → IsWholeAt version (place + 1) piece.now }
     requires below { place < 2 ^ 62 }
     ensures answer { result ≡ piece_answer place version system piece.now }
-    ensures completes { CompletesAt result (place + 1) }
+    ensures completes { CompletesAt version result (place + 1) }
     ensures counts { HEADER_LENGTH ≤ place → interval_count result ≡ 1 }
 {
     if place < HEADER_LENGTH {
-        return whole_header(version, system, BigEndian::read_u32(piece));
+        whole_header(version, system, BigEndian::read_u32(piece))
+    } else {
+        whole_interval(version, place + 1, piece)
     }
-    match interval_in(version, place + 1 - piece.len() as u64, piece) {
+}
+
+/// What a whole interval says that ends with so many bytes.
+fn whole_interval(version: FileVersion, taken: u64, piece: &[u8]) -> Taken
+    requires begins { IsWholeAt version taken piece.now }
+    requires below { taken < 2 ^ 63 }
+    ensures answer { result ≡ interval_answer (interval_in version (taken - length piece.now) piece.now) }
+    ensures completes { CompletesAt version result taken }
+    ensures counts { interval_count result ≡ 1 }
+{
+    match interval_in(version, taken - piece.len() as u64, piece) {
         Ok(ticks) => Taken::Interval(ticks),
         Err(fault) => Taken::Fault(fault),
     }
@@ -286,7 +316,7 @@ fn piece_taken(place: u64, version: FileVersion, system: Option<System>, piece: 
 /// The header, where the tick rate is in range.
 fn whole_header(version: FileVersion, system: Option<System>, tick_rate: u32) -> Taken
     ensures exact { result ≡ header_answer version system tick_rate }
-    ensures completes { CompletesAt result HEADER_LENGTH }
+    ensures completes { CompletesAt version result HEADER_LENGTH }
 {
     match system {
         Some(system) if 1 <= tick_rate && tick_rate <= MAX_TICK_RATE => {

@@ -1,8 +1,11 @@
 //! The bytes of an interval, in each version of the file. Next: `decoder`.
-ghost use Rattle.std.specs.Prelude.{◌≡◌, ◌≤◌, ◌<◌, ◌++◌, ◌==◌, length, drop, fold, nat_le, Some, None, Ok, IfOk, if◌then◌else◌};
-ghost use Rattle.tc_files.specs.Piece.{interval_in, piece_width, spelling};
+ghost use Rattle.std.specs.Prelude.{◌≡◌, ℕ, List, ◌≤◌, ◌<◌, ◌++◌, ◌==◌, length, drop, fold, nat_le, Some, None, Ok, IfOk, OnErr, if◌then◌else◌};
+ghost use Rattle.tc_files.specs.Piece.{interval_in, most_width, piece_width, spelling};
 ghost use Rattle.biphase.specs.declared.cell.TheConstants.{MAX_INTERVAL};
+ghost use Rattle.tc_files.specs.Grammar.{IsFile};
 ghost use Rattle.tc_files.specs.Next.{IsNext, next_of};
+ghost use Rattle.tc_files.specs.NextByte.{BringNext};
+ghost use Rattle.tc_files.specs.declared.interval_file.header.IntervalHeader.{IntervalHeader};
 ghost use Rattle.tc_files.specs.Recording.{Decoding, IsBetween, with_byte, with_number};
 
 use crate::fault::FileFault;
@@ -30,6 +33,9 @@ pub enum Next {
 pub fn next_interval(version: FileVersion, place: u64, bytes: &[u8]) -> Next
     ensures exact { result ≡ next_of version place bytes.now }
     ensures makes { IsNext version place bytes.now result }
+    // Behind a file that ends there, it is what the bytes bring to what the file says as a text.
+    ensures text { (front : List ℕ) (header : IntervalHeader) (intervals : List ℕ) → IsFile front header intervals
+        → header.version ≡ version → length front ≡ place → BringNext front header intervals bytes.now result }
 {
     front_interval(version, place, bytes)
 }
@@ -72,6 +78,8 @@ pub(crate) fn interval_in(version: FileVersion, place: u64, bytes: &[u8]) -> Res
     requires { piece_width version bytes.now ≤ length bytes.now }
     ensures exact { result ≡ interval_in version place bytes.now }
     ensures range { IfOk result (λ x. (1 ≤ x) × (x ≤ MAX_INTERVAL)) }
+    // Two bytes hold no number out of range.
+    ensures wide { OnErr result (piece_width version bytes.now ≡ most_width version) }
 {
     let (least, ticks) = match version {
         FileVersion::One => (1, BigEndian::read_u32(bytes)),

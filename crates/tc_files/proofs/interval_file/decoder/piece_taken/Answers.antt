@@ -8,4 +8,4 @@ returns-then-place-lt-HEADER_LENGTH-clause-completes c =
     let low = c.if-place-lt-HEADER_LENGTH.true in
     let late = c.requires.late in
     let last : 12 ≡ c.args.place + 1 = omega arith in
-    subst (λ (n : ℕ). CompletesAt c.whole_header.result n) last c.whole_header.ensures.completes
+    subst (λ (n : ℕ). CompletesAt c.args.version c.whole_header.result n) last c.whole_header.ensures.completes

@@ -4,7 +4,7 @@ use Rattle.tc_files.specs.Progress.{Progress}
 use Rattle.tc_files.specs.Recording.{FitsBytes, recording_of, decoding_of}
 use Rattle.tc_top.specs.KeptAlong.{Halts, IsHalt, Stands}
 use Rattle.tc_top.proofs.AlongTheInput.{Works, stops_on, works_on, cut_more, through, within_rest}
-use Rattle.tc_top.proofs.AnItemMore.{an_interval, a_fault, interval_stops, by_number, by_bad_number, passed_over, has_header, cut_some}
+use Rattle.tc_top.proofs.AnItemMore.{an_interval, a_fault, interval_stops, more_whole, by_number, by_bad_number, passed_over, has_header, cut_some}
 use Rattle.tc_top.proofs.along.Along.run.Goals as goal
 
 -- the intervals before were worked on, and the next one is past the limit, or its output was not taken
@@ -83,6 +83,7 @@ run-preserved g c =
     let sum : virtual.taken + width ≡ next.taken = omega arith in
     record {
       within = inside;
+      whole = more_whole c.args.version at width i.whole makes.6;
       decoder = e.decoder ∙ i.decoder;
       choice = e.choice ∙ i.choice;
       behind = e.header;

@@ -1,5 +1,6 @@
 use Rattle.std.proofs.Common.{◌≡◌, ◌+◌, ◌-◌, ◌≤◌, take, length}
 use Rattle.std.specs.Prelude.{IsSome}
+use Rattle.tc_files.specs.Piece.{AreWhole}
 use Rattle.tc_files.specs.Recording.{FitsBytes}
 use Rattle.tc_top.specs.KeptAlong.{FitsBehind, Stands}
 use Rattle.tc_top.proofs.AlongTheInput.{Works}
@@ -9,6 +10,7 @@ use Rattle.tc_top.proofs.along.Along.run.Given as goal
 abbrev pub invariant-run : goal.invariant-run
 invariant-run g l = record {
   within : l.at ≤ length l.bytes;
+  whole : AreWhole l.version l.at;
   decoder : l.self.decoder ≡ l.fn.self.decoder;
   choice : l.self.choice ≡ l.fn.self.choice;
   behind : IsSome l.self.behind;
