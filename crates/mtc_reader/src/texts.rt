@@ -1,5 +1,5 @@
 //! The lines of a report.
-ghost use Rattle.std.specs.Prelude.{◌≡◌, ◌+◌, ◌≤◌, ◌++◌, length, decimal};
+ghost use Rattle.std.specs.Prelude.{◌≡◌, ◌+◌, ◌≤◌, ◌++◌, length, decimal, codes};
 ghost use Rattle.arrayvec.specs.ArrayVec.{array_vec_len};
 ghost use Rattle.mtc_reader.specs.Texts.{direction_name, fault_name, at_byte, event_line, end_line};
 
@@ -41,6 +41,16 @@ fn direction_name(direction: Direction) -> &'static str
     }
 }
 
+/// How the line of a label of quarter frames begins.
+fn quarter_words(direction: Direction) -> &'static str
+    ensures { result.now ≡ codes "quarter " ++ direction_name direction ++ codes " " }
+{
+    match direction {
+        Direction::Forward => "quarter forward ",
+        Direction::Backward => "quarter backward ",
+    }
+}
+
 /// The name of a fault in a line.
 fn fault_name(fault: LabelFault) -> &'static str
     ensures { result.now ≡ fault_name fault }
@@ -64,45 +74,51 @@ fn push_place(line: &mut Text, place: u64)
     push_bytes(line, b"\n");
 }
 
-/// The line of an event.
-pub fn mtc_text(event: &MtcEvent) -> Text
-    ensures { result.items ≡ event_line event.now }
+/// Appends the line of an event: 55 bytes at most.
+pub fn push_mtc_text(line: &mut Text, event: &MtcEvent)
+    requires { array_vec_len line.old + 55 ≤ 128 }
+    ensures { line.new.items ≡ line.old.items ++ event_line event.now }
 {
-    let mut line = Text::new();
     match *event {
         MtcEvent::Full { label, place } => {
-            push_bytes(&mut line, b"full ");
-            push_bytes(&mut line, &text(&label));
-            push_place(&mut line, place);
+            push_bytes(line, b"full ");
+            push_bytes(line, &text(&label));
+            push_place(line, place);
         }
         MtcEvent::Quarter {
             direction,
             label,
             place,
         } => {
-            push_bytes(&mut line, b"quarter ");
-            push_bytes(&mut line, direction_name(direction).as_bytes());
-            push_bytes(&mut line, b" ");
-            push_bytes(&mut line, &text(&label));
-            push_place(&mut line, place);
+            push_bytes(line, quarter_words(direction).as_bytes());
+            push_bytes(line, &text(&label));
+            push_place(line, place);
         }
         MtcEvent::RefusedFull { fault, place } => {
-            push_bytes(&mut line, b"refused full ");
-            push_bytes(&mut line, fault_name(fault).as_bytes());
-            push_place(&mut line, place);
+            push_bytes(line, b"refused full ");
+            push_bytes(line, fault_name(fault).as_bytes());
+            push_place(line, place);
         }
         MtcEvent::RefusedQuarter {
             direction,
             fault,
             place,
         } => {
-            push_bytes(&mut line, b"refused ");
-            push_bytes(&mut line, direction_name(direction).as_bytes());
-            push_bytes(&mut line, b" ");
-            push_bytes(&mut line, fault_name(fault).as_bytes());
-            push_place(&mut line, place);
+            push_bytes(line, b"refused ");
+            push_bytes(line, direction_name(direction).as_bytes());
+            push_bytes(line, b" ");
+            push_bytes(line, fault_name(fault).as_bytes());
+            push_place(line, place);
         }
     }
+}
+
+/// The line of an event.
+pub fn mtc_text(event: &MtcEvent) -> Text
+    ensures { result.items ≡ event_line event.now }
+{
+    let mut line = Text::new();
+    push_mtc_text(&mut line, event);
     line
 }
 
