@@ -101,7 +101,11 @@ fn may_carry(latest: u64) -> bool
 {
     let first = (latest >> 56) % 256 / 16;
     let last = latest % 256 / 16;
-    (first == 0 && last == 7) || (first == 7 && last == 0)
+    match last {
+        7 => first == 0,
+        0 => first == 7,
+        _ => false,
+    }
 }
 
 /// What eight quarter frames carry, in the order in which they came.

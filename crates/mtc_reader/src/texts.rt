@@ -41,16 +41,6 @@ fn direction_name(direction: Direction) -> &'static str
     }
 }
 
-/// How the line of a label of quarter frames begins.
-fn quarter_words(direction: Direction) -> &'static str
-    ensures { result.now ≡ codes "quarter " ++ direction_name direction ++ codes " " }
-{
-    match direction {
-        Direction::Forward => "quarter forward ",
-        Direction::Backward => "quarter backward ",
-    }
-}
-
 /// The name of a fault in a line.
 fn fault_name(fault: LabelFault) -> &'static str
     ensures { result.now ≡ fault_name fault }
@@ -61,6 +51,18 @@ fn fault_name(fault: LabelFault) -> &'static str
         LabelFault::Seconds => "seconds",
         LabelFault::Frames => "frames",
         LabelFault::Dropped => "dropped",
+    }
+}
+
+/// Begins the line of a label of quarter frames.
+fn push_quarter(line: &mut Text, direction: Direction)
+    requires { array_vec_len line.old + 17 ≤ 128 }
+    ensures items { line.new.items ≡ line.old.items ++ (codes "quarter " ++ direction_name direction ++ codes " ") }
+    ensures len { array_vec_len line.new ≤ array_vec_len line.old + 17 }
+{
+    match direction {
+        Direction::Forward => push_bytes(line, b"quarter forward "),
+        Direction::Backward => push_bytes(line, b"quarter backward "),
     }
 }
 
@@ -90,7 +92,7 @@ pub fn push_mtc_text(line: &mut Text, event: &MtcEvent)
             label,
             place,
         } => {
-            push_bytes(line, quarter_words(direction).as_bytes());
+            push_quarter(line, direction);
             push_bytes(line, &text(&label));
             push_place(line, place);
         }

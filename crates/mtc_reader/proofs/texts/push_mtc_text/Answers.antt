@@ -13,17 +13,15 @@ returns-in-Quarter c =
     let words = codes "quarter " ++ direction_name c.in-Quarter.direction ++ codes " " in
     let label = text_of c.in-Quarter.label in
     let place = at_byte c.in-Quarter.place in
-    let first : c.push_bytes-in-Quarter.new.line.items ≡ old ++ words =
-    c.push_bytes-in-Quarter.ensures.items ∙ ap (λ l. old ++ l) (c.as_bytes.ensures.value ∙ c.quarter_words.ensures) in
-    let second : c.push_bytes-in-Quarter-2.new.line.items ≡ c.push_bytes-in-Quarter.new.line.items ++ label =
-    c.push_bytes-in-Quarter-2.ensures.items ∙ ap (λ l. c.push_bytes-in-Quarter.new.line.items ++ l) c.text-in-Quarter.ensures in
-    rw c.in-Quarter.is (three_pushes old _ _ _ words label place first second c.push_place-in-Quarter.ensures ∙ ap (λ l. old ++ l) (simp append_assoc))
+    let second : c.push_bytes-in-Quarter.new.line.items ≡ c.push_quarter.new.line.items ++ label =
+    c.push_bytes-in-Quarter.ensures.items ∙ ap (λ l. c.push_quarter.new.line.items ++ l) c.text-in-Quarter.ensures in
+    rw c.in-Quarter.is (three_pushes old _ _ _ words label place c.push_quarter.ensures.items second c.push_place-in-Quarter.ensures ∙ ap (λ l. old ++ l) (simp append_assoc))
 
 pub returns-in-RefusedFull : goal.returns-in-RefusedFull
 returns-in-RefusedFull c = rw (
   c.push_place-in-RefusedFull.ensures,
   c.push_bytes-in-RefusedFull-2.ensures.items,
-  c.as_bytes-in-RefusedFull.ensures.value,
+  c.as_bytes.ensures.value,
   c.fault_name.ensures,
   c.push_bytes-in-RefusedFull.ensures.items,
   c.in-RefusedFull.is,
