@@ -70,12 +70,12 @@ eight_turned : (xs : List ℕ) → map piece_of (reverse xs) ≡ pieces → leng
 eight_turned xs is = sym (length-reverse xs) ∙ eight_of (reverse xs) is
 
 -- a place of a window forward has its own piece, and backward the piece at the place from the other end
-forward_at : (xs : List ℕ) → map piece_of xs ≡ pieces → (piece_of (slice_index xs 0) ≡ 0) × (piece_of (slice_index xs 7) ≡ 7)
+pub forward_at : (xs : List ℕ) → map piece_of xs ≡ pieces → (piece_of (slice_index xs 0) ≡ 0) × (piece_of (slice_index xs 7) ≡ 7)
 forward_at xs is =
     let same = ap (map piece_of) (sym (eight xs (eight_of xs is))) ∙ is in
     (ap (λ l. slice_index l 0) same, ap (λ l. slice_index l 7) same)
 
-backward_at : (xs : List ℕ) → map piece_of (reverse xs) ≡ pieces → (piece_of (slice_index xs 0) ≡ 7) × (piece_of (slice_index xs 7) ≡ 0)
+pub backward_at : (xs : List ℕ) → map piece_of (reverse xs) ≡ pieces → (piece_of (slice_index xs 0) ≡ 7) × (piece_of (slice_index xs 7) ≡ 0)
 backward_at xs is =
     let same = ap (λ l. map piece_of (reverse l)) (sym (eight xs (eight_turned xs is))) ∙ is in
     (ap (λ l. slice_index l 7) same, ap (λ l. slice_index l 0) same)
@@ -84,7 +84,7 @@ is_false : (xs : List ℕ) → xs ≢ pieces → (b : Bool) → bytes_eq xs piec
 is_false xs other false is = refl
 is_false xs other true is = absurd (other ((bytes_eq-Decides xs pieces).0 is))
 
-neither : (xs : List ℕ) (place : ℕ) → map piece_of xs ≢ pieces → map piece_of (reverse xs) ≢ pieces → window_event xs place ≡ None
+pub neither : (xs : List ℕ) (place : ℕ) → map piece_of xs ≢ pieces → map piece_of (reverse xs) ≢ pieces → window_event xs place ≡ None
 neither xs place not_forward not_backward =
     let forward : bytes_eq (map piece_of xs) pieces ≡ false = is_false (map piece_of xs) not_forward _ refl in
     let backward : bytes_eq (map piece_of (reverse xs)) pieces ≡ false = is_false (map piece_of (reverse xs)) not_backward _ refl in

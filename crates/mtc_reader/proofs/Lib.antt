@@ -7,3 +7,7 @@ pub mod Labels
 pub mod OneByteMore
 pub mod ReadBack
 pub mod Runs
+pub mod PackedRow
+pub mod OneQuarterMore
+pub mod PieceByPiece
+pub mod PushedInTurn

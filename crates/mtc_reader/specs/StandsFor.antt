@@ -1,31 +1,50 @@
 -- Which lists of bytes a reader stands for. What it keeps of the message on its way and of the row of quarter frames is tied to the list here.
-use Rattle.std.specs.Prelude.{◌≡◌, ℕ, List, [], ◌∷◌, take, length, reverse, Option, Some, None}
+use Rattle.std.specs.Prelude.{◌≡◌, ◌⊎◌, ◌<◌, ℕ, Bool, ◌==◌, ◌&&◌, ◌||◌, List, [], ◌∷◌, take, length, reverse, slice_index, Option, Some, None}
+use Rattle.std.specs.Int.{to_be_bytes, w64}
 use Rattle.mtc_reader.specs.declared.current.CurrentMessage.{CurrentMessage}
 use Rattle.mtc_reader.specs.declared.event.MtcEvent.{MtcEvent}
 use Rattle.mtc_reader.specs.declared.message.Message.{Message}
+use Rattle.mtc_reader.specs.declared.message.MessageKind.{MessageKind}
+use Rattle.mtc_reader.specs.declared.message.MessageKind.TheVariants.{Quarter, Exclusive, Other}
 use Rattle.mtc_reader.specs.declared.reader.MtcReader.{MtcReader}
 use Rattle.mtc_reader.specs.declared.row.Row.{Row}
 use Rattle.mtc_reader.specs.declared.row.TheConstants.{NO_QUARTER}
-use Rattle.mtc_reader.specs.Messages.{current_in, messages_in, without_real_time}
-use Rattle.mtc_reader.specs.Events.{row_in, latest_eight}
+use Rattle.mtc_reader.specs.Messages.{Current, current_in, messages_in, without_real_time}
+use Rattle.mtc_reader.specs.Events.{piece_of, row_in, latest_eight}
 
 -- the data bytes that are kept: one more than a full message has
 abbrev pub first_nine : List ℕ → List ℕ
 first_nine numbers = take 9 numbers
 
+-- no byte completes it any more: it is no message of MIDI Time Code, or a quarter frame that is complete
+abbrev pub IsPast : Current → Type 0
+IsPast current = (current.kind ≡ Other) ⊎ ((current.kind ≡ Quarter) × (0 < length current.numbers))
+
+-- a message is that on its way, as far as it matters what kind may still be completed, and with which data bytes
+abbrev pub KeepsAs : MessageKind → List ℕ → Current → Type 0
+KeepsAs Quarter numbers current = (current.kind ≡ Quarter) × (current.numbers ≡ [])
+KeepsAs Exclusive numbers current = (current.kind ≡ Exclusive) × (numbers ≡ first_nine current.numbers)
+KeepsAs Other numbers current = IsPast current
+
 -- the message on its way is that of these bytes, the latest first, which are no real-time bytes
-pub record Keeps (message : CurrentMessage) (bytes : List ℕ) : Type 0 where
-  pub kind_is : message.kind ≡ (current_in bytes).kind
-  pub numbers_are : message.numbers.items ≡ first_nine (current_in bytes).numbers
+abbrev pub Keeps : CurrentMessage → List ℕ → Type 0
+Keeps message bytes = KeepsAs message.kind message.numbers.items (current_in bytes)
 
 -- eight numbers that are no quarter frames, and then quarter frames
 abbrev pub padded : List ℕ → List ℕ
 padded row =
     NO_QUARTER ∷ NO_QUARTER ∷ NO_QUARTER ∷ NO_QUARTER ∷ NO_QUARTER ∷ NO_QUARTER ∷ NO_QUARTER ∷ NO_QUARTER ∷ row
 
+-- eight quarter frames begin and end as those that carry an address
+abbrev pub have_ends : List ℕ → Bool
+have_ends window =
+    let first = piece_of (slice_index window 0) in
+    let last = piece_of (slice_index window 7) in
+    (first == 0) && (last == 7) || (first == 7) && (last == 0)
+
 -- the row is that of these messages, the latest first
 abbrev pub KeepsRow : Row → List Message → Type 0
-KeepsRow row messages = row.latest ≡ latest_eight (padded (row_in messages))
+KeepsRow row messages = to_be_bytes w64 row.latest ≡ latest_eight (padded (row_in messages))
 
 -- the reader was given these bytes
 pub record StandsFor (reader : MtcReader) (bytes : List ℕ) : Type 0 where

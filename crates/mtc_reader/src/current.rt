@@ -1,5 +1,5 @@
 //! The message that is on its way. Next: `row`, with a message that is complete.
-ghost use Rattle.std.specs.Prelude.{◌≡◌, ◌++◌, ℕ, List, [], ◌∷◌};
+ghost use Rattle.std.specs.Prelude.{◌≡◌, ◌<◌, ◌≤◌, ◌++◌, ℕ, List, [], ◌∷◌};
 ghost use Rattle.mtc_reader.specs.Messages.{current_in, completed_by, full_in};
 ghost use Rattle.mtc_reader.specs.StandsFor.{Keeps, first_nine};
 
@@ -12,8 +12,8 @@ const END: u8 = 0xf7;
 /// Bytes below this one are data bytes.
 const STATUS: u8 = 0x80;
 
-/// The message to which the latest byte belongs. Of its data bytes nine are kept, one more than a full
-/// message has.
+/// What the message on its way may still become: a quarter frame, which wants its first data byte, a full
+/// message, or nothing more. Of the data bytes of a full message nine are kept, one more than it has.
 #[derive(Drop)]
 pub struct CurrentMessage {
     kind: MessageKind,
@@ -37,27 +37,57 @@ impl CurrentMessage {
         ensures keeps { (before : List ℕ) → Keeps self.old before → Keeps self.new (byte ∷ before) }
         ensures completes { (before : List ℕ) → Keeps self.old before → result ≡ completed_by byte (current_in before) }
     {
-        let completed = self.completed_by(byte);
         if byte < STATUS {
-            self.add(byte);
+            self.number(byte)
         } else {
-            self.kind = kind_of(byte);
+            self.status(byte)
+        }
+    }
+
+    /// Takes the two bytes of a quarter frame.
+    #[inline(always)]
+    pub fn pass(&mut self)
+        ensures { (before : List ℕ) (number : ℕ) → number < 0x80 → Keeps self.new (number ∷ 0xf1 ∷ before) }
+    {
+        self.kind = MessageKind::Other;
+    }
+
+    /// Takes a data byte.
+    #[inline(always)]
+    fn number(&mut self, number: u8) -> Option<Message>
+        requires { number < 0x80 }
+        ensures keeps { (before : List ℕ) → Keeps self.old before → Keeps self.new (number ∷ before) }
+        ensures completes { (before : List ℕ) → Keeps self.old before → result ≡ completed_by number (current_in before) }
+    {
+        match self.kind {
+            MessageKind::Quarter => {
+                self.kind = MessageKind::Other;
+                Some(Message::QuarterFrame(number))
+            }
+            MessageKind::Exclusive => {
+                self.add(number);
+                None
+            }
+            MessageKind::Other => None,
+        }
+    }
+
+    /// Takes a status byte.
+    #[inline(always)]
+    fn status(&mut self, status: u8) -> Option<Message>
+        requires { 0x80 ≤ status }
+        ensures keeps { (before : List ℕ) → Keeps self.old before → Keeps self.new (status ∷ before) }
+        ensures completes { (before : List ℕ) → Keeps self.old before → result ≡ completed_by status (current_in before) }
+    {
+        let completed = match self.kind {
+            MessageKind::Exclusive if status == END => self.full_message(),
+            _ => None,
+        };
+        self.kind = kind_of(status);
+        if let MessageKind::Exclusive = self.kind {
             self.numbers.clear();
         }
         completed
-    }
-
-    /// The message that a byte completes.
-    fn completed_by(&self, byte: u8) -> Option<Message>
-        ensures { result ≡ completed_by byte (record { kind = self.now.kind; numbers = self.now.numbers.items }) }
-    {
-        match self.kind {
-            MessageKind::Quarter if byte < STATUS && self.numbers.is_empty() => {
-                Some(Message::QuarterFrame(byte))
-            }
-            MessageKind::Exclusive if byte == END => self.full_message(),
-            _ => None,
-        }
     }
 
     /// The full message that the data bytes are.

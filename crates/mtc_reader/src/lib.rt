@@ -9,10 +9,10 @@
 //! What this crate promises:
 //! - What `MtcReader::byte` answers of one byte after another are exactly the events of the list of
 //!   bytes (`specs/Events.antt`, `events_in`), without keeping the bytes (`specs/StandsFor.antt`,
-//!   clause `gives`).
+//!   clause `gives`). `MtcReader::take` takes bytes up to the next event at once, by the same clause.
 //! - Real-time bytes, wherever they stand, change the places of events and nothing else of them;
 //!   events stay whatever bytes come later; the messages of a label are read as that label (`laws`).
-//! - `mtc_text` and `mtc_end_text` give the lines of a report byte for byte (`specs/Texts.antt`).
+//! - `mtc_text`, `push_mtc_text` and `mtc_end_text` give the lines of a report byte for byte (`specs/Texts.antt`).
 //!
 //! Read `reader`, `current`, `message`, `row`, `address`, `event` and `texts`, in this order, and
 //! `specs/Messages.antt` and `Events.antt` beside them. Nothing here allocates or fails.
@@ -29,7 +29,7 @@ mod texts;
 
 pub use event::MtcEvent;
 pub use reader::MtcReader;
-pub use texts::{Text, mtc_end_text, mtc_text};
+pub use texts::{Text, mtc_end_text, mtc_text, push_mtc_text};
 
 #[cfg(test)]
 mod tests;

@@ -1,5 +1,5 @@
 //! From bytes to events, one byte at a time. Next: `current`, with a byte that is no real-time byte.
-ghost use Rattle.std.specs.Prelude.{◌≡◌, ◌<◌, ◌+◌, ◌^◌, ◌++◌, ℕ, List, [], ◌∷◌};
+ghost use Rattle.std.specs.Prelude.{◌≡◌, ◌<◌, ◌≤◌, ◌+◌, ◌^◌, ◌++◌, ℕ, List, [], ◌∷◌, None, true, false, length, take};
 ghost use Rattle.mtc_reader.specs.Events.{events_in};
 ghost use Rattle.mtc_reader.specs.StandsFor.{StandsFor, events_of};
 
@@ -12,6 +12,9 @@ const REAL_TIME: u8 = 0xf8;
 
 /// The status byte of a quarter frame.
 const QUARTER_FRAME: u8 = 0xf1;
+
+/// Bytes below this one are data bytes.
+const STATUS: u8 = 0x80;
 
 /// Reads the labels of MIDI Time Code, one byte at a time.
 #[derive(Drop)]
@@ -62,17 +65,85 @@ impl MtcReader {
         }
     }
 
-    /// Takes the status byte of a quarter frame and the data byte behind it: the same as both one by one, and
-    /// quicker.
-    #[inline(always)]
-    pub fn quarter_frame(&mut self, number: u8) -> Option<MtcEvent>
-        requires { self.old.bytes + 1 < 2 ^ 62 }
-        ensures count { self.new.bytes ≡ self.old.bytes + 2 }
-        ensures stands { (bytes : List ℕ) → StandsFor self.old bytes → StandsFor self.new (bytes ++ 0xf1 ∷ number ∷ []) }
-        ensures gives { (bytes : List ℕ) → StandsFor self.old bytes
-            → events_in (bytes ++ 0xf1 ∷ number ∷ []) ≡ events_in bytes ++ events_of result }
+    /// Takes bytes up to the one with which an event is complete, and all of them where none is: the same as
+    /// one by one, and quicker. It answers how many these are, and the event.
+    pub fn take(&mut self, bytes: &[u8]) -> (usize, Option<MtcEvent>)
+        requires { self.old.bytes + length bytes.now ≤ 2 ^ 62 }
+        ensures some { 0 < length bytes.now → 1 ≤ result.0 }
+        ensures most { result.0 ≤ length bytes.now }
+        ensures all { result.1 ≡ None → result.0 ≡ length bytes.now }
+        ensures count { self.new.bytes ≡ self.old.bytes + result.0 }
+        ensures stands { (front : List ℕ) → StandsFor self.old front → StandsFor self.new (front ++ take result.0 bytes.now) }
+        ensures gives { (front : List ℕ) → StandsFor self.old front
+            → events_in (front ++ take result.0 bytes.now) ≡ events_in front ++ events_of result.1 }
     {
-        let _none = self.byte(QUARTER_FRAME);
-        self.byte(number)
+        let mut at = 0;
+        'bytes: while at < bytes.len() {
+            at += self.passed(&bytes[at..]);
+            if at == bytes.len() {
+                return (at, None);
+            }
+            let event = self.byte(bytes[at]);
+            at += 1;
+            if event.is_some() {
+                return (at, event);
+            }
+        }
+        (at, None)
+    }
+
+    /// Takes the quarter frames in front with which no event is complete, and answers how many bytes these
+    /// are.
+    fn passed(&mut self, bytes: &[u8]) -> usize
+        requires { self.old.bytes + length bytes.now ≤ 2 ^ 62 }
+        ensures most { result ≤ length bytes.now }
+        ensures count { self.new.bytes ≡ self.old.bytes + result }
+        ensures stands { (front : List ℕ) → StandsFor self.old front → StandsFor self.new (front ++ take result bytes.now) }
+        ensures none { (front : List ℕ) → StandsFor self.old front → events_in (front ++ take result bytes.now) ≡ events_in front }
+    {
+        let mut at = 0;
+        'bytes: while at < bytes.len() {
+            if !self.pass(&bytes[at..]) {
+                return at;
+            }
+            at += 2;
+        }
+        at
+    }
+
+    /// Takes the quarter frame in front where there is one and no event is complete with it, and answers
+    /// whether it took it.
+    #[inline(always)]
+    fn pass(&mut self, bytes: &[u8]) -> bool
+        requires { self.old.bytes + length bytes.now ≤ 2 ^ 62 }
+        ensures two { result ≡ true → 2 ≤ length bytes.now }
+        ensures count { result ≡ true → self.new.bytes ≡ self.old.bytes + 2 }
+        ensures stays { result ≡ false → self.new ≡ self.old }
+        ensures stands { result ≡ true → (front : List ℕ) → StandsFor self.old front → StandsFor self.new (front ++ take 2 bytes.now) }
+        ensures none { result ≡ true → (front : List ℕ) → StandsFor self.old front → events_in (front ++ take 2 bytes.now) ≡ events_in front }
+    {
+        match bytes {
+            [QUARTER_FRAME, number, ..] if *number < STATUS => self.quarter_frame(*number),
+            _ => false,
+        }
+    }
+
+    /// Takes both bytes of a quarter frame where no event is complete with it, and answers whether it took
+    /// them.
+    #[inline(always)]
+    fn quarter_frame(&mut self, number: u8) -> bool
+        requires data { number < 0x80 }
+        requires within { self.old.bytes + 2 ≤ 2 ^ 62 }
+        ensures count { result ≡ true → self.new.bytes ≡ self.old.bytes + 2 }
+        ensures stays { result ≡ false → self.new ≡ self.old }
+        ensures stands { result ≡ true → (front : List ℕ) → StandsFor self.old front → StandsFor self.new (front ++ 0xf1 ∷ number ∷ []) }
+        ensures none { result ≡ true → (front : List ℕ) → StandsFor self.old front → events_in (front ++ 0xf1 ∷ number ∷ []) ≡ events_in front }
+    {
+        let passed = self.row.pass(number);
+        if passed {
+            self.bytes += 2;
+            self.message.pass();
+        }
+        passed
     }
 }

@@ -1,24 +1,26 @@
 //! The row of quarter frames that goes on. Next: `address`, with eight of them.
-ghost use Rattle.std.specs.Prelude.{◌≡◌, ◌≤◌, ◌++◌, ℕ, List, [], ◌∷◌, bytes_eq, length, map, reverse};
+ghost use Rattle.std.specs.Prelude.{◌≡◌, ◌≤◌, ◌++◌, ℕ, List, [], ◌∷◌, None, true, false, bytes_eq, length, map, reverse};
+ghost use Rattle.std.specs.Int.{to_be_bytes, w64};
 ghost use Rattle.mtc_reader.specs.declared.message.Message.{Message};
+ghost use Rattle.mtc_reader.specs.declared.message.Message.TheVariants.{QuarterFrame};
 ghost use Rattle.mtc_reader.specs.Events.{event_of, latest_eight, piece_of, pieces, window_event};
-ghost use Rattle.mtc_reader.specs.StandsFor.{KeepsRow};
+ghost use Rattle.mtc_reader.specs.StandsFor.{have_ends, KeepsRow};
 
 use crate::address::{full, quarter};
 use crate::event::MtcEvent;
 use crate::message::Message;
 use tc_address::Direction;
 
-/// The pieces of a forward row, in order.
-const PIECES: [u8; 8] = [0, 1, 2, 3, 4, 5, 6, 7];
-
 /// What stands for a quarter frame that did not come yet: a number with no piece.
 pub const NO_QUARTER: u8 = 0xff;
 
-/// The latest eight quarter frames since the last full message, the oldest first.
+/// No quarter frame came yet.
+const NONE_YET: u64 = u64::MAX;
+
+/// The latest eight quarter frames since the last full message, a byte each, the oldest one highest.
 #[derive(Drop)]
 pub struct Row {
-    latest: [u8; 8],
+    latest: u64,
 }
 
 impl Row {
@@ -26,9 +28,7 @@ impl Row {
     pub fn new() -> Row
         ensures { KeepsRow result [] }
     {
-        Row {
-            latest: [NO_QUARTER; 8],
-        }
+        Row { latest: NONE_YET }
     }
 
     /// Takes the next message, which is complete at a byte place, and answers what it gives.
@@ -39,7 +39,7 @@ impl Row {
     {
         match message {
             Message::QuarterFrame(quarter) => {
-                self.add(quarter);
+                self.latest = with_quarter(self.latest, quarter);
                 self.event(place)
             }
             Message::FullMessage {
@@ -48,31 +48,63 @@ impl Row {
                 seconds,
                 frames,
             } => {
-                self.latest = [NO_QUARTER; 8];
+                self.latest = NONE_YET;
                 Some(full(hours, minutes, seconds, frames, place))
             }
         }
     }
 
-    /// Adds a quarter frame.
+    /// Takes a quarter frame where no eight can end with it, and answers whether it took it.
     #[inline(always)]
-    fn add(&mut self, quarter: u8)
-        ensures { (row : List ℕ) → 8 ≤ length row → self.old.latest ≡ latest_eight row
-            → self.new.latest ≡ latest_eight (row ++ quarter ∷ []) }
+    pub fn pass(&mut self, quarter: u8) -> bool
+        ensures keeps { result ≡ true → (before : List Message) → KeepsRow self.old before → KeepsRow self.new (QuarterFrame quarter ∷ before) }
+        ensures none { result ≡ true → (before : List Message) (place : ℕ) → KeepsRow self.old before
+            → event_of (QuarterFrame quarter) before place ≡ None }
+        ensures stays { result ≡ false → self.new ≡ self.old }
     {
-        let [_, b, c, d, e, f, g, h] = self.latest;
-        self.latest = [b, c, d, e, f, g, h, quarter];
+        let latest = with_quarter(self.latest, quarter);
+        if may_carry(latest) {
+            return false;
+        }
+        self.latest = latest;
+        true
     }
 
-    /// What the latest eight quarter frames carry. A row ends with piece 7 forward and with piece 0 backward.
+    /// What the latest eight quarter frames carry.
     #[inline(always)]
+    #[tactic(auto, using(crate::proofs::PackedRow::no_ends))]
     fn event(&self, place: u64) -> Option<MtcEvent>
-        ensures { result ≡ window_event self.now.latest place }
+        ensures { result ≡ window_event (to_be_bytes w64 self.now.latest) place }
     {
-        match self.latest[7] / 16 {
-            0 | 7 => carried_by(&self.latest, place),
-            _ => None,
+        if may_carry(self.latest) {
+            carried_by(&self.latest.to_be_bytes(), place)
+        } else {
+            None
         }
+    }
+}
+
+/// One quarter frame more, in the place of the oldest.
+#[inline(always)]
+fn with_quarter(latest: u64, quarter: u8) -> u64
+    ensures { (row : List ℕ) → 8 ≤ length row → to_be_bytes w64 latest ≡ latest_eight row
+        → to_be_bytes w64 result ≡ latest_eight (row ++ quarter ∷ []) }
+{
+    (latest << 8) + u64::from(quarter)
+}
+
+/// Whether the latest eight quarter frames begin and end as those that carry an address: with the pieces 0
+/// and 7 forward, and with 7 and 0 backward.
+#[inline(always)]
+fn may_carry(latest: u64) -> bool
+    ensures { result ≡ have_ends (to_be_bytes w64 latest) }
+{
+    let first = (latest >> 56) % 256 / 16;
+    let last = latest % 256 / 16;
+    match last {
+        7 => first == 0,
+        0 => first == 7,
+        _ => false,
     }
 }
 
@@ -95,24 +127,15 @@ fn carried_by(window: &[u8; 8], place: u64) -> Option<MtcEvent>
 fn is_in_order(window: &[u8; 8]) -> bool
     ensures { result ≡ bytes_eq (map piece_of window.now) pieces }
 {
-    pieces_of(window).as_slice() == PIECES.as_slice()
-}
-
-/// The pieces of eight quarter frames.
-fn pieces_of(window: &[u8; 8]) -> [u8; 8]
-    ensures { result ≡ map piece_of window.now }
-{
     let [a, b, c, d, e, f, g, h] = *window;
-    [
-        a / 16,
-        b / 16,
-        c / 16,
-        d / 16,
-        e / 16,
-        f / 16,
-        g / 16,
-        h / 16,
-    ]
+    a / 16 == 0
+        && b / 16 == 1
+        && c / 16 == 2
+        && d / 16 == 3
+        && e / 16 == 4
+        && f / 16 == 5
+        && g / 16 == 6
+        && h / 16 == 7
 }
 
 /// The last one first.

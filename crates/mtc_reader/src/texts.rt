@@ -1,5 +1,5 @@
 //! The lines of a report.
-ghost use Rattle.std.specs.Prelude.{◌≡◌, ◌+◌, ◌≤◌, ◌++◌, length, decimal};
+ghost use Rattle.std.specs.Prelude.{◌≡◌, ◌+◌, ◌≤◌, ◌++◌, length, decimal, codes};
 ghost use Rattle.arrayvec.specs.ArrayVec.{array_vec_len};
 ghost use Rattle.mtc_reader.specs.Texts.{direction_name, fault_name, at_byte, event_line, end_line};
 
@@ -54,6 +54,18 @@ fn fault_name(fault: LabelFault) -> &'static str
     }
 }
 
+/// Begins the line of a label of quarter frames.
+fn push_quarter(line: &mut Text, direction: Direction)
+    requires { array_vec_len line.old + 17 ≤ 128 }
+    ensures items { line.new.items ≡ line.old.items ++ (codes "quarter " ++ direction_name direction ++ codes " ") }
+    ensures len { array_vec_len line.new ≤ array_vec_len line.old + 17 }
+{
+    match direction {
+        Direction::Forward => push_bytes(line, b"quarter forward "),
+        Direction::Backward => push_bytes(line, b"quarter backward "),
+    }
+}
+
 /// Ends a line with the place of a byte.
 fn push_place(line: &mut Text, place: u64)
     requires { array_vec_len line.old + 27 ≤ 128 }
@@ -64,45 +76,51 @@ fn push_place(line: &mut Text, place: u64)
     push_bytes(line, b"\n");
 }
 
-/// The line of an event.
-pub fn mtc_text(event: &MtcEvent) -> Text
-    ensures { result.items ≡ event_line event.now }
+/// Appends the line of an event: 55 bytes at most.
+pub fn push_mtc_text(line: &mut Text, event: &MtcEvent)
+    requires { array_vec_len line.old + 55 ≤ 128 }
+    ensures { line.new.items ≡ line.old.items ++ event_line event.now }
 {
-    let mut line = Text::new();
     match *event {
         MtcEvent::Full { label, place } => {
-            push_bytes(&mut line, b"full ");
-            push_bytes(&mut line, &text(&label));
-            push_place(&mut line, place);
+            push_bytes(line, b"full ");
+            push_bytes(line, &text(&label));
+            push_place(line, place);
         }
         MtcEvent::Quarter {
             direction,
             label,
             place,
         } => {
-            push_bytes(&mut line, b"quarter ");
-            push_bytes(&mut line, direction_name(direction).as_bytes());
-            push_bytes(&mut line, b" ");
-            push_bytes(&mut line, &text(&label));
-            push_place(&mut line, place);
+            push_quarter(line, direction);
+            push_bytes(line, &text(&label));
+            push_place(line, place);
         }
         MtcEvent::RefusedFull { fault, place } => {
-            push_bytes(&mut line, b"refused full ");
-            push_bytes(&mut line, fault_name(fault).as_bytes());
-            push_place(&mut line, place);
+            push_bytes(line, b"refused full ");
+            push_bytes(line, fault_name(fault).as_bytes());
+            push_place(line, place);
         }
         MtcEvent::RefusedQuarter {
             direction,
             fault,
             place,
         } => {
-            push_bytes(&mut line, b"refused ");
-            push_bytes(&mut line, direction_name(direction).as_bytes());
-            push_bytes(&mut line, b" ");
-            push_bytes(&mut line, fault_name(fault).as_bytes());
-            push_place(&mut line, place);
+            push_bytes(line, b"refused ");
+            push_bytes(line, direction_name(direction).as_bytes());
+            push_bytes(line, b" ");
+            push_bytes(line, fault_name(fault).as_bytes());
+            push_place(line, place);
         }
     }
+}
+
+/// The line of an event.
+pub fn mtc_text(event: &MtcEvent) -> Text
+    ensures { result.items ≡ event_line event.now }
+{
+    let mut line = Text::new();
+    push_mtc_text(&mut line, event);
     line
 }
 

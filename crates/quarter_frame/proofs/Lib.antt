@@ -1,2 +1,5 @@
 pub mod OneFrameMore
 pub mod TwoParts
+pub mod GoesOn
+pub mod RunIsRead
+pub mod RunsAreRead

@@ -4,3 +4,6 @@ pub use Rattle.tc_address.specs.Numbering
 pub mod Message
 pub mod Runs
 pub mod StandsFor
+pub use Rattle.mtc_reader.specs.Events
+pub use Rattle.mtc_reader.specs.Laws
+pub mod ReadAgain

@@ -1,10 +1,20 @@
 //! What follows from the definitions alone, and messages from outside.
-ghost use Rattle.std.specs.Prelude.{◌≡◌, [], ◌∷◌, ◌++◌, true, false};
+ghost use Rattle.std.specs.Prelude.{◌≡◌, ℕ, List, [], ◌∷◌, ◌++◌, map, true, false};
 ghost use Rattle.tc_address.specs.declared.count.Count.TheVariants.{C24, C25, C30, Drop30};
 ghost use Rattle.tc_address.specs.declared.direction.Direction.TheVariants.{Forward, Backward};
 ghost use Rattle.tc_address.specs.Label.{Address, address};
 ghost use Rattle.quarter_frame.specs.Message.{full_of, quarter_of};
-ghost use Rattle.quarter_frame.specs.Runs.{before, four_of, quarters};
+ghost use Rattle.flywheel.specs.declared.frame.Frame.{Frame};
+ghost use Rattle.flywheel.specs.declared.heard.HeardWord.{HeardWord};
+ghost use Rattle.flywheel.specs.Frames.{frames};
+ghost use Rattle.mtc_reader.specs.Events.{events_in};
+ghost use Rattle.mtc_reader.specs.Laws.{at_no_place};
+ghost use Rattle.quarter_frame.specs.ReadAgain.{placed, read_of, AreLabelled, IsNeighbour, Placed};
+ghost use Rattle.quarter_frame.specs.Runs.{before, four_of, goes_on, mtc_of, quarters};
+
+use flywheel::laws::{steps_are_due_in_order, the_next_word_fits};
+use mtc_reader::laws::a_run_is_read_back;
+use tc_address::laws::{number_and_label_are_inverse, steps_add_up};
 
 /// The eight quarter frames of two neighbouring frames carry the earlier label of the two.
 pub fn a_pair_carries_its_earlier_label()
@@ -31,3 +41,19 @@ pub fn messages_of_each_count()
     ensures last_at_thirty_drop { quarter_of (address Drop30 16 44 59 26) 7 ≡ 0xf1 ∷ 0x75 ∷ [] }
     ensures last_at_thirty { quarter_of (address C30 19 39 59 27) 7 ≡ 0xf1 ∷ 0x77 ∷ [] }
 {}
+
+/// What is sent of the frames of words is read as these frames: run by run a full message with the first
+/// label, and then, for each two frames, their earlier label with the run's direction.
+pub fn what_is_sent_is_read_back()
+    ensures events { (limit last : ℕ) (words : List HeardWord) → AreLabelled words
+        → map at_no_place (events_in (mtc_of (frames limit words last))) ≡ read_of (frames limit words last) }
+    ensures neighbours { (limit last : ℕ) (words : List HeardWord) (front rest : List Frame) (first second : Frame) → AreLabelled words
+        → frames limit words last ≡ front ++ first ∷ second ∷ rest → goes_on second ≡ true
+        → (a b : Placed) × (placed first ≡ a ∷ []) × (placed second ≡ b ∷ []) × IsNeighbour a b }
+{
+    a_run_is_read_back();
+    steps_are_due_in_order();
+    the_next_word_fits();
+    steps_add_up();
+    number_and_label_are_inverse();
+}

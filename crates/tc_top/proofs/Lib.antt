@@ -8,6 +8,7 @@ pub mod Digits
 pub mod FieldsGrow
 pub mod FlightGrows
 pub mod FramesInOrder
+pub mod LabelsHeard
 pub mod LinesGrow
 pub mod LinesOfFrames
 pub mod LoadInPieces
@@ -23,6 +24,7 @@ pub mod OneStatus
 pub mod PushedLines
 pub mod PutMore
 pub mod ReportsTheTape
+pub mod SentIsRead
 pub mod SlicedAgain
 pub mod SlicedOn
 pub mod SoundGrows

@@ -28,6 +28,7 @@ pub mod MtcRead
 pub mod Notes
 pub mod OfFrames
 pub mod PcmLtc
+pub mod SentAgain
 pub mod SoundAgain
 pub mod Status
 pub mod Stops

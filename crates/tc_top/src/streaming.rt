@@ -8,6 +8,7 @@ ghost use Rattle.tc_top.specs.Commands.{meaning_of};
 ghost use Rattle.tc_top.specs.LtcFly.{IsMarked};
 ghost use Rattle.tc_top.specs.Made.{MakesWhatIsRead};
 ghost use Rattle.tc_top.specs.Meaning.{Meaning, IsInput, IsEnd};
+ghost use Rattle.tc_top.specs.SentAgain.{SendsTheFrames};
 ghost use Rattle.tc_top.specs.SoundAgain.{SoundsTheIntervals};
 ghost use Rattle.tc_top.specs.Stops.{StopsAlong};
 ghost use Rattle.tc_top.specs.Tape.{IsReport, ReportsTheTape};
@@ -36,6 +37,7 @@ use direction_reader::laws::{
 };
 use flywheel::laws::invention_is_bounded_and_marked;
 use line_file::laws::what_bytes_show_stays;
+use quarter_frame::laws::what_is_sent_is_read_back;
 use tc_io::{Sink, Source};
 use tc_words::Job;
 
@@ -80,12 +82,18 @@ pub fn stream<S: Source, K: Sink, N: Sink>(
 
     // Sound that the job makes is sliced into the same intervals.
     ensures sound { SoundsTheIntervals job.now }
+
+    // What `ltc-mtc` sent of a recording is read as its frames.
+    ensures sent { result ≡ Status.Done → (limit : ℕ) → job.now ≡ Job.LtcMtc limit → (e : Exchange)
+        × IsPulled (S.left source.old) (S.left source.new) e × IsEnd (meaning_of job.now) e.left
+        × IsWritten (K.written out.old) (K.written out.new) e × SendsTheFrames limit e.pulled e.written }
 {
     events_tell_the_tape();
     events_find_the_tape_again();
     invention_is_bounded_and_marked();
     events_mirror_the_tape();
     what_bytes_show_stays();
+    what_is_sent_is_read_back();
     match work_on(job, source, out) {
         Ok(()) => Status::Done,
         Err(stop) => {

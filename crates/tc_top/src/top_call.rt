@@ -17,6 +17,7 @@ ghost use Rattle.tc_top.specs.Commands.{meaning_of};
 ghost use Rattle.tc_top.specs.LtcFly.{IsMarked};
 ghost use Rattle.tc_top.specs.Made.{MakesWhatIsRead};
 ghost use Rattle.tc_top.specs.Meaning.{Meaning, IsEnd};
+ghost use Rattle.tc_top.specs.SentAgain.{SendsTheFrames};
 ghost use Rattle.tc_top.specs.SoundAgain.{SoundsTheIntervals};
 ghost use Rattle.tc_top.specs.Tape.{IsReport, ReportsTheTape};
 ghost use Rattle.tc_top.specs.Made.{MakesWhatIsRead};
@@ -91,6 +92,11 @@ pub fn run<S: Source, K: Sink, N: Sink>(
 
     // Sound that was made is sliced into the same intervals.
     ensures sound { (job : Job) → answer_to (map string_bytes words.now) ≡ Ok (Task.Stream job) → result ≡ Status.Done → SoundsTheIntervals job }
+
+    // What `ltc-mtc` sent of a recording is read as its frames.
+    ensures sent { result ≡ Status.Done → (limit : ℕ) → answer_to (map string_bytes words.now) ≡ Ok (Task.Stream (Job.LtcMtc limit))
+        → (e : Exchange) × IsPulled (S.left source.old) (S.left source.new) e × IsEnd (meaning_of (Job.LtcMtc limit)) e.left
+        × IsWritten (K.written out.old) (K.written out.new) e × SendsTheFrames limit e.pulled e.written }
 
     // A recording that was made is read back, frame by frame.
     ensures read { (job : Job) → answer_to (map string_bytes words.now) ≡ Ok (Task.Stream job) → result ≡ Status.Done → MakesWhatIsRead job }

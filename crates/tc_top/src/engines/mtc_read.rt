@@ -14,14 +14,11 @@ ghost use Rattle.tc_top.specs.KeptMtc.{counted, FitsReport, Stands};
 use crate::engine::Engine;
 use crate::pushing::push_line;
 use crate::stop::Stop;
-use mtc_reader::{MtcEvent, MtcReader, mtc_end_text, mtc_text};
+use mtc_reader::{MtcEvent, MtcReader, Text, mtc_end_text, push_mtc_text};
 use tc_io::Sink;
 
 /// So many bytes are read, at most.
 pub const MAX_BYTES: u64 = 1_000_000_000;
-
-/// The status byte of a quarter frame.
-const QUARTER_FRAME: u8 = 0xf1;
 
 /// A reader of MIDI bytes, and how many of its events of each kind were printed.
 #[derive(Drop)]
@@ -46,9 +43,8 @@ impl MtcReport {
         }
     }
 
-    /// Takes the first byte, or both bytes of a quarter frame, and answers how many these are and the event
-    /// that is complete with them.
-    #[inline(always)]
+    /// Takes bytes up to the one with which an event is complete, and all that may be taken where none is. It
+    /// answers how many these are, and the event.
     fn read(&mut self, bytes: &[u8]) -> (usize, Option<MtcEvent>)
         requires some { 0 < length bytes.now }
         requires within { self.old.reader.bytes < MAX_BYTES }
@@ -62,12 +58,8 @@ impl MtcReport {
         ensures gives { (front : List ℕ) → reads.StandsFor self.old.reader front
             → events_in (front ++ take result.0 bytes.now) ≡ events_in front ++ events_of result.1 }
     {
-        match bytes {
-            [QUARTER_FRAME, number, ..] if self.reader.bytes() + 1 < MAX_BYTES => {
-                (2, self.reader.quarter_frame(*number))
-            }
-            _ => (1, self.reader.byte(bytes[0])),
-        }
+        let room = (MAX_BYTES - self.reader.bytes()) as usize;
+        self.reader.take(&bytes[..bytes.len().min(room)])
     }
 
     /// Counts an event, and pushes its line.
@@ -86,7 +78,9 @@ impl MtcReport {
             MtcEvent::RefusedFull { .. } => self.refused += 1,
             MtcEvent::RefusedQuarter { .. } => self.refused += 1,
         }
-        push_line(out, &mtc_text(event))
+        let mut line = Text::new();
+        push_mtc_text(&mut line, event);
+        push_line(out, &line)
     }
 }
 

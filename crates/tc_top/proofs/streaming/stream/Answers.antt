@@ -6,6 +6,7 @@ use Rattle.tc_top.specs.declared.status.Status.TheVariants as status
 use Rattle.tc_top.proofs.MarkedLines.{job_marked}
 use Rattle.tc_top.proofs.OneStatus.{answer_of, done_is_final, settles, stop_is_final}
 use Rattle.tc_top.proofs.ReportsTheTape.{reports_the_tape}
+use Rattle.tc_top.proofs.SentIsRead.{sends_the_frames}
 use Rattle.tc_top.proofs.streaming.stream.Goals as goal
 
 -- the job is done
@@ -72,3 +73,15 @@ pub returns-in-Err-clause-marked : goal.returns-in-Err-clause-marked
 returns-in-Err-clause-marked g c = λ limit is.
     let a = returns-in-Err-clause-answer g c in
     (a.0.written, a.2, job_marked c.invention_is_bounded_and_marked.ensures.marked c.args.job.now limit is c.of_stop.result a.0 a.4)
+
+-- what was sent is read as the frames
+pub returns-in-Ok-clause-sent : goal.returns-in-Ok-clause-sent
+returns-in-Ok-clause-sent g c = λ _ limit is.
+    let e = c.in-Ok.ensures.ends in
+    let went : Exchange = record { pulled = e.0; left = g.S.Source.left c.work_on.new.source; written = e.1; note = [] } in (
+      went,
+      record { bytes = e.2; left = refl },
+      e.4,
+      e.3,
+      sends_the_frames c.what_is_sent_is_read_back.ensures.events c.args.job.now limit e.0 e.1 is e.6,
+    )

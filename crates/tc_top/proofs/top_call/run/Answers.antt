@@ -3,11 +3,13 @@ use Rattle.std.proofs.KnownBytes.{Appends-nil, Consumes-nil}
 use Rattle.std.specs.Io.KnownBytes.{Appends, Consumes}
 use Rattle.chase_script.specs.declared.row.ScriptRow.{ScriptRow}
 use Rattle.chase_script.specs.Lock.{KeepsItsLock}
+use Rattle.tc_words.specs.declared.job.Job.TheVariants.{LtcMtc}
 use Rattle.tc_words.specs.declared.job.Task.TheVariants.{Stream, Chase}
 use Rattle.tc_top.specs.Answer.{Exchange, IsPulled, IsWritten}
 use Rattle.tc_top.specs.Chase.{IsTraced}
 use Rattle.tc_top.specs.Commands.{meaning_of}
 use Rattle.tc_top.specs.Meaning.{IsEnd}
+use Rattle.tc_top.specs.SentAgain.{SendsTheFrames}
 use Rattle.tc_top.specs.Tape.{IsReport, ReportsTheTape}
 use Rattle.tc_top.proofs.MarkedLines.{nothing_marked}
 use Rattle.tc_top.proofs.WordsAnswer.{fault_answers, named, same_job, same_label}
@@ -39,6 +41,17 @@ returns-in-Stream-clause-truth g c = λ done job profile says is.
     subst (λ j. (e : Exchange) × IsPulled (g.S.Source.left c.args.source.now) (g.S.Source.left c.stream.new.source) e
     × IsEnd (meaning_of j) e.left × IsWritten (g.K.Sink.written c.args.out.now) (g.K.Sink.written c.stream.new.out) e
     × ReportsTheTape profile e.pulled e.written) (sym same) told
+
+-- what was sent is read as the frames: the job is the one that the words name
+pub returns-in-Stream-clause-sent : goal.returns-in-Stream-clause-sent
+returns-in-Stream-clause-sent g c = λ done limit says.
+    let words = map string_bytes c.args.words.now in
+    let own = named words (Stream c.in-Stream.job) (rw (c.in-Ok.is, c.in-Stream.is) at c.read_words.ensures) in
+    let same : LtcMtc limit ≡ c.in-Stream.job = same_job words (LtcMtc limit) c.in-Stream.job says own in
+    let told = c.stream.ensures.sent done limit (sym same) in
+    subst (λ j. (e : Exchange) × IsPulled (g.S.Source.left c.args.source.now) (g.S.Source.left c.stream.new.source) e
+    × IsEnd (meaning_of j) e.left × IsWritten (g.K.Sink.written c.args.out.now) (g.K.Sink.written c.stream.new.out) e
+    × SendsTheFrames limit e.pulled e.written) (sym same) told
 
 -- the chase keeps its lock: it begins at the label that the words name
 pub returns-in-Chase-clause-lock : goal.returns-in-Chase-clause-lock

@@ -1,21 +1,8 @@
-use Rattle.std.proofs.Common.{◌++◌, ◌∷◌, ◌∙◌, [], ℕ, List, ap, sym, subst, append_assoc}
-use Rattle.mtc_reader.specs.declared.event.MtcEvent.{MtcEvent}
-use Rattle.mtc_reader.specs.Events.{events_in}
-use Rattle.mtc_reader.specs.StandsFor.{StandsFor, events_of}
-use Rattle.mtc_reader.proofs.OneByteMore.{status_gives_none}
+use Rattle.std.proofs.Common.{refl}
+use Rattle.mtc_reader.proofs.OneQuarterMore.{stands_with_both}
 use Rattle.mtc_reader.proofs.reader.MtcReader.quarter_frame.Goals as goal
 
--- one byte and then the other
-pub returns-clause-stands : goal.returns-clause-stands
-returns-clause-stands c = λ bytes stands.
-    let number = c.args.number in
-    subst (λ (l : List ℕ). StandsFor c.byte.new.self l) (append_assoc bytes (0xf1 ∷ []) (number ∷ []))
-    (c.byte.ensures.stands (bytes ++ 0xf1 ∷ []) (c.byte-none.ensures.stands bytes stands))
-
--- the first one gives nothing
-pub returns-clause-gives : goal.returns-clause-gives
-returns-clause-gives c = λ bytes stands.
-    let number = c.args.number in
-    ap events_in (sym (append_assoc bytes (0xf1 ∷ []) (number ∷ [])))
-    ∙ c.byte.ensures.gives (bytes ++ 0xf1 ∷ []) (c.byte-none.ensures.stands bytes stands)
-    ∙ ap (λ (l : List MtcEvent). l ++ events_of c.byte.result) (status_gives_none bytes)
+-- both bytes were taken
+pub returns-then-passed-clause-stands : goal.returns-then-passed-clause-stands
+returns-then-passed-clause-stands c = λ is front stands.
+    stands_with_both c.args.self.now _ front c.args.number c.requires.data refl c.pass.ensures (c.pass-passed.ensures.keeps is) stands

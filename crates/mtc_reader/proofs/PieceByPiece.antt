@@ -1,0 +1,69 @@
+-- Bytes that are taken piece by piece are taken as a whole.
+use Rattle.std.proofs.Common.{◌≡◌, ◌<◌, ◌≤◌, ℕ, ◌+◌, ◌-◌, Bool, true, false, get_or, List, [], ◌∷◌, ◌++◌, length, take, drop, Option, Some, None, refl, sym, ◌∙◌, ap, subst, append_assoc, append-nil, arith}
+use Rattle.std.specs.Prelude.{is_some}
+use Rattle.std.proofs.Math.Seq.{take-add}
+use Rattle.std.proofs.lemmas.Grind.{common_steps}
+use Rattle.std.proofs.lemmas.List.{take_more, take_rest}
+use Rattle.mtc_reader.specs.declared.event.MtcEvent.{MtcEvent}
+use Rattle.mtc_reader.specs.declared.reader.MtcReader.{MtcReader}
+use Rattle.mtc_reader.specs.Events.{events_in}
+use Rattle.mtc_reader.specs.StandsFor.{StandsFor, events_of}
+
+-- what bytes lead to, and what they give
+abbrev pub Gives : MtcReader → MtcReader → List ℕ → Option MtcEvent → Type 0
+Gives old new bytes event =
+    (front : List ℕ) → StandsFor old front → StandsFor new (front ++ bytes) × (events_in (front ++ bytes) ≡ events_in front ++ events_of event)
+
+-- they give nothing
+abbrev pub Passes : MtcReader → MtcReader → List ℕ → Type 0
+Passes old new bytes = (front : List ℕ) → StandsFor old front → StandsFor new (front ++ bytes) × (events_in (front ++ bytes) ≡ events_in front)
+
+pub nothing_yet : (reader : MtcReader) → Passes reader reader []
+nothing_yet reader = λ front stands.
+    (subst (λ (l : List ℕ). StandsFor reader l) (sym (append-nil front)) stands, ap events_in (append-nil front))
+
+pub passes_on : (old mid new : MtcReader) (a b : List ℕ) → Passes old mid a → Passes mid new b → Passes old new (a ++ b)
+passes_on old mid new a b first second = λ front stands.
+    let one = first front stands in
+    let two = second (front ++ a) one.0 in
+    let joined = append_assoc front a b in
+    (subst (λ (l : List ℕ). StandsFor new l) joined two.0, ap events_in (sym joined) ∙ two.1 ∙ one.1)
+
+pub gives_then : (old mid new : MtcReader) (a b : List ℕ) (event : Option MtcEvent) → Passes old mid a → Gives mid new b event → Gives old new (a ++ b) event
+gives_then old mid new a b event first second = λ front stands.
+    let one = first front stands in
+    let two = second (front ++ a) one.0 in
+    let joined = append_assoc front a b in
+    (subst (λ (l : List ℕ). StandsFor new l) joined two.0, ap events_in (sym joined) ∙ two.1 ∙ ap (λ (es : List MtcEvent). es ++ events_of event) one.1)
+
+pub gives_none : (old new : MtcReader) (bytes : List ℕ) → Passes old new bytes → Gives old new bytes None
+gives_none old new bytes passes = λ front stands. let is = passes front stands in (is.0, is.1 ∙ sym (append-nil (events_in front)))
+
+pub passes_none : (old new : MtcReader) (bytes : List ℕ) (event : Option MtcEvent) → event ≡ None → Gives old new bytes event → Passes old new bytes
+passes_none old new bytes event none gives = λ front stands.
+    let is = gives front stands in
+    (is.0, is.1 ∙ ap (λ (e : Option MtcEvent). events_in front ++ events_of e) none ∙ append-nil (events_in front))
+
+pub no_event : (event : Option MtcEvent) → is_some event ≡ false → event ≡ None
+no_event None is = refl
+no_event (Some event) is = cc
+
+-- what is taken of the rest
+pub cut_more : (at n : ℕ) (bytes : List ℕ) → take at bytes ++ take n (take (length bytes - at) (drop at bytes)) ≡ take (at + n) bytes
+cut_more at n bytes = ap (λ (l : List ℕ). take at bytes ++ take n l) (take_rest bytes at) ∙ sym (take-add at n bytes)
+
+pub within_rest : (at n : ℕ) (bytes : List ℕ) → at ≤ length bytes → n ≤ length (take (length bytes - at) (drop at bytes)) → at + n ≤ length bytes
+within_rest at n bytes within less = grind (arith, common_steps)
+
+-- bytes that give nothing, some more of the rest, and then a byte
+pub behind_passed : (old mid later new : MtcReader) (at n : ℕ) (bytes : List ℕ) (event : Option MtcEvent) → at + n < length bytes
+    → Passes old mid (take at bytes)
+    → ((front : List ℕ) → StandsFor mid front → StandsFor later (front ++ take n (take (length bytes - at) (drop at bytes))))
+    → ((front : List ℕ) → StandsFor mid front → events_in (front ++ take n (take (length bytes - at) (drop at bytes))) ≡ events_in front)
+    → ((front : List ℕ) → StandsFor later front → StandsFor new (front ++ get_or bytes (at + n) 0 ∷ []))
+    → ((front : List ℕ) → StandsFor later front → events_in (front ++ get_or bytes (at + n) 0 ∷ []) ≡ events_in front ++ events_of event)
+    → Gives old new (take (at + n + 1) bytes) event
+behind_passed old mid later new at n bytes event within first stands none more gives =
+    let passed = passes_on old mid later (take at bytes) _ first (λ front is. (stands front is, none front is)) in
+    subst (λ (l : List ℕ). Gives old new l event) (ap (λ (l : List ℕ). l ++ get_or bytes (at + n) 0 ∷ []) (cut_more at n bytes) ∙ sym (take_more bytes (at + n) 0 within))
+    (gives_then old later new _ (get_or bytes (at + n) 0 ∷ []) event passed (λ front is. (more front is, gives front is)))

@@ -1,0 +1,65 @@
+-- What a reader of MIDI Time Code reads of frames that are sent: run by run, one full message and then one label for each two frames.
+use Rattle.std.specs.Prelude.{◌≡◌, ℕ, Bool, true, cond, List, [], ◌∷◌, ◌++◌, map}
+use Rattle.std.specs.List.{flat_map, take_while}
+use Rattle.tc_address.specs.declared.direction.Direction.{Direction}
+use Rattle.tc_address.specs.declared.direction.Direction.TheVariants.{Forward, Backward}
+use Rattle.tc_address.specs.Label.{Address, IsLabel}
+use Rattle.flywheel.specs.declared.heard.HeardWord.{HeardWord}
+use Rattle.flywheel.specs.declared.frame.Frame.{Frame}
+use Rattle.flywheel.specs.declared.frame.Frame.TheVariants.{Heard, Invented, Gone}
+use Rattle.mtc_reader.specs.declared.event.MtcEvent.{MtcEvent}
+use Rattle.mtc_reader.specs.declared.event.MtcEvent.TheVariants.{Full, Quarter}
+use Rattle.quarter_frame.specs.Runs.{before, begins_run, goes_on, is_end}
+
+-- the label of a frame, and the way in which the tape moved
+pub record Placed : Type 0 where
+  pub label : Address
+  pub direction : Direction
+
+-- those of a frame, but of an end
+abbrev pub placed : Frame → List Placed
+placed (Heard label direction joined tick) = record { label = label; direction = direction } ∷ []
+placed (Invented label direction step tick) = record { label = label; direction = direction } ∷ []
+placed (Gone tick) = []
+
+abbrev pub all_placed : List Frame → List Placed
+all_placed frames = flat_map placed frames
+
+-- of two frames that follow each other in a run, the label that is one before the other: the first one's forward, the second one's backward
+abbrev pub earlier : Direction → Address → Address → Address
+earlier Forward first second = first
+earlier Backward first second = second
+
+-- and the other one
+abbrev pub later : Direction → Address → Address → Address
+later Forward first second = second
+later Backward first second = first
+
+-- a frame goes on where the frame before it leads: it has its direction, and of their labels the earlier one is one before the later
+pub record IsNeighbour (first second : Placed) : Type 0 where
+  pub direction : second.direction ≡ first.direction
+  pub label : before (later first.direction first.label second.label) ≡ earlier first.direction first.label second.label
+
+-- the labels of the quarter frames of a run: for each two frames the earlier one, with the run's direction. The last frame is read where it is one of two
+abbrev pub pairs_read : List Placed → List MtcEvent
+pairs_read [] = []
+pairs_read (first ∷ []) = []
+pairs_read (first ∷ second ∷ more) = Quarter first.direction (earlier first.direction first.label second.label) 0 ∷ pairs_read more
+
+-- a run, by its first frame and the others: a full message with the first label, and the pairs
+abbrev pub run_read : Frame → List Frame → List MtcEvent
+run_read first others = map (λ (f : Placed). Full f.label 0) (placed first) ++ pairs_read (all_placed (first ∷ others))
+
+-- the runs, one after another; `fresh` says whether the first frame here comes first or after an end
+abbrev pub read_from : Bool → List Frame → List MtcEvent
+read_from fresh [] = []
+read_from fresh (frame ∷ more) = cond (begins_run fresh frame) (run_read frame (take_while goes_on more)) [] ++ read_from (is_end frame) more
+
+-- what is read of frames, but for the places
+abbrev pub read_of : List Frame → List MtcEvent
+read_of frames = read_from true frames
+
+-- each word has a label
+abbrev pub AreLabelled : List HeardWord → Type 0
+AreLabelled [] = Unit {0}
+AreLabelled (word ∷ more) = IsLabel word.label × AreLabelled more
