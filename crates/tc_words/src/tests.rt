@@ -134,7 +134,7 @@ fn label_text_of(job: &Job) -> Option<[u8; 11]> {
     match job {
         Job::LtcRead | Job::LtcWorn | Job::LtcFly { .. } | Job::LtcConvert { .. } => None,
         Job::PcmLtc { .. } | Job::LtcPcm { .. } => None,
-        Job::LtcJam { .. } => None,
+        Job::LtcJam { .. } | Job::VitcRead => None,
         Job::LtcMtc { .. } | Job::MtcRead | Job::LtcLoad { .. } => None,
         Job::LtcMake { stripe } => Some(text(&stripe.label())),
         Job::Number { label } => Some(text(label)),
