@@ -1,5 +1,5 @@
 //! What `ltc-jam` is told: how many frames are invented in a row, and what the clean recording is made of.
-//! Next: `tc_top/src/engines/ltc_jam.rt`, which makes it.
+//! Next: `tc_top/src/engines/jam.rt`, which makes it.
 ghost use Rattle.std.specs.Prelude.{◌≡◌};
 ghost use Rattle.tc_words.specs.Jam.{IsJamming, jamming_of};
 
