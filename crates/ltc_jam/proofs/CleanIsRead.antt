@@ -112,5 +112,6 @@ clean_is_read steady spelled chains have_bits read system cell frames is are =
     let chain : IsChain Normal (steady_cells cell list) = subst (λ (cells : List Cell). IsChain Normal cells) (sym same) (chains shape list is_shape) in
     let has : bits (steady_cells cell list) ≡ list = ap bits same ∙ have_bits shape list in
     let first : duration (take 2 (steady_cells cell list)) ≡ (2 + 80 * 0) * cell = omega arith in
-    subst (λ (events : List Event). AreEvents system Normal (flat (clean_cells cell frames)) events) (events_at cell 0 (duration (take 2 (steady_cells cell list))) words first)
+    let same_events = events_at cell 0 (duration (take 2 (steady_cells cell list))) words first in
+    subst (λ (events : List Event). AreEvents system Normal (flat (clean_cells cell frames)) events) same_events
     (read system Normal (steady_cells cell list) words chain has (words_spelled spelled system frames are))

@@ -1,5 +1,6 @@
 -- Each word that is read at a system has a label of it, and a step from a label leads to one of its count, so each frame has a label of the system.
-use Rattle.std.proofs.Common.{◌≡◌, ◌⊎◌, ℕ, ◌+◌, Bool, true, false, cond, List, [], ◌∷◌, ◌++◌, length, map, Some, None, inl, inr, refl, sym, subst, ap, ◌∙◌, IsSomeAnd}
+use Rattle.std.proofs.Common.{◌≡◌, ◌⊎◌, ℕ, ◌+◌, Bool, true, false, cond, List, [], ◌∷◌, ◌++◌, length, map, Some, None, inl, inr}
+use Rattle.std.proofs.Common.{refl, sym, subst, ap, ◌∙◌, IsSomeAnd}
 use Rattle.std.specs.Prelude.{ℤ, slice_get}
 use Rattle.std.specs.Option.{unwrap_or}
 use Rattle.std.specs.declared.option.Option.{Option}
@@ -22,7 +23,8 @@ use Rattle.direction_reader.specs.declared.event.Event.TheVariants.{Word, Refuse
 use Rattle.direction_reader.specs.declared.event.Events.{Events}
 use Rattle.direction_reader.specs.Candidate as candidate
 use Rattle.direction_reader.specs.Events.{event_list, listed}
-use Rattle.direction_reader.specs.ListEvents.{CellWindow, AreEvents, AreEventsOfStretch, AreEventsOfStretches, AreEventsOfWindows, begin_of, break_events, windows}
+use Rattle.direction_reader.specs.ListEvents.{AreEvents, AreEventsOfStretch, AreEventsOfStretches, AreEventsOfWindows}
+use Rattle.direction_reader.specs.ListEvents.{CellWindow, begin_of, break_events, windows}
 use Rattle.flywheel.specs.declared.frame.Frame.{Frame}
 use Rattle.flywheel.specs.declared.frame.Frame.TheVariants.{Gone}
 use Rattle.flywheel.specs.declared.heard.HeardWord.{HeardWord}

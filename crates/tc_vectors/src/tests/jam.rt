@@ -32,8 +32,10 @@ fn turning(alloc: Global, pace: Pace) -> Result<Vec<u8>, AllocError> {
 #[test]
 fn a_dropout_is_written_anew(rt: HostRuntime) -> Result<(), Fail> {
     let input = with_a_dropout(rt.alloc())?;
-    let made = Trial::new("ltc-make 25 forward 01:00:00:00 4 24 48000", b"")
-        .output(&rt, Status::Done)?;
+    let made = Trial::new("ltc-make 25 forward 01:00:00:00 4 24 48000", b"").output(
+        &rt,
+        Status::Done,
+    )?;
     assert_eq!(rt; made.len(), 1552);
     for pieces in [[1, 1], [3, 5], [4096, 4096]] {
         let trial = Trial {
@@ -42,7 +44,8 @@ fn a_dropout_is_written_anew(rt: HostRuntime) -> Result<(), Fail> {
         };
         trial.gives(&rt, Status::Done, &made, "")?;
     }
-    let report = "word forward 01:00:00:00 user 00000000 flags 00000 balance 1 tick 1968 length 1920 speed 1000\n\
+    let report =
+        "word forward 01:00:00:00 user 00000000 flags 00000 balance 1 tick 1968 length 1920 speed 1000\n\
         word forward 01:00:00:01 user 00000000 flags 00000 balance 1 tick 3888 length 1920 speed 1000\n\
         word forward 01:00:00:02 user 00000000 flags 00000 balance 1 tick 5808 length 1920 speed 1000\n\
         word forward 01:00:00:03 user 00000000 flags 00000 balance 1 tick 7728 length 1920 speed 1000\n\
@@ -55,10 +58,11 @@ fn what_is_gone_is_left_out(rt: HostRuntime) -> Result<(), Fail> {
     let input = with_a_dropout(rt.alloc())?;
     let wanted = without_the_second_frame(rt.alloc())?;
     Trial::new("ltc-jam 0 24 48000", &input).gives(&rt, Status::Done, &wanted, "")?;
-    let report = "word forward 01:00:00:00 user 00000000 flags 00000 balance 1 tick 1968 length 1920 speed 1000\n\
+    let report =
+        "word forward 01:00:00:00 user 00000000 flags 00000 balance 1 tick 1968 length 1920 speed 1000\n\
         word forward 01:00:00:02 user 00000000 flags 00000 balance 1 tick 3888 length 1920 speed 1000\n\
         word forward 01:00:00:03 user 00000000 flags 00000 balance 1 tick 5808 length 1920 speed 1000\n\
-        end intervals 290 words 3 refused 0 lost 0 ticks 5808\n";
+        end intervals 289 words 3 refused 0 lost 0 ticks 5808\n";
     Trial::new("ltc-read", &wanted).ends(&rt, Status::Done, report, "")
 }
 
@@ -75,7 +79,7 @@ fn a_header_alone_gives_what_stands_first(rt: HostRuntime) -> Result<(), Fail> {
 
 #[test]
 fn a_turning_tape_turns_where_it_did(rt: HostRuntime) -> Result<(), Fail> {
-    let input = turning(rt.alloc(), Pace::Uneven)?;
+    let input = turning(rt.alloc(), Pace::Pulled)?;
     let wanted = turning(rt.alloc(), Pace::Steady)?;
     let trial = Trial {
         room: 4000,
@@ -108,7 +112,7 @@ fn user_bits_and_flags_are_lost(rt: HostRuntime) -> Result<(), Fail> {
         (System::F30, Count::Drop30, 0xbffc_f9c9_e407_b5a8_6ed3),
         (System::F30, Count::C30, 0xbffc_f5c9_e407_b5a8_6ad3),
     ] {
-        let intervals = recorded(alloc, Direction::Forward, Pace::Uneven, &[bits])?;
+        let intervals = recorded(alloc, Direction::Forward, Pace::Pulled, &[bits])?;
         let input = file(alloc, system, &intervals)?;
         let bare = spelled(count, [19, 47, 58, 23])?;
         let intervals = recorded(alloc, Direction::Forward, Pace::Steady, &[bare])?;
