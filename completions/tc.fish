@@ -4,6 +4,7 @@ complete -c tc -n '__fish_is_first_arg' -a ltc-read -d 'the words of a recording
 complete -c tc -n '__fish_is_first_arg' -a ltc-worn -d 'the same with the tolerance of worn tapes'
 complete -c tc -n '__fish_is_first_arg' -a ltc-fly -d 'the frames, missing ones invented and marked'
 complete -c tc -n '__fish_is_first_arg' -a ltc-mtc -d 'these frames as MIDI Time Code'
+complete -c tc -n '__fish_is_first_arg' -a ltc-jam -d 'a clean recording of these frames'
 complete -c tc -n '__fish_is_first_arg' -a ltc-make -d 'a recording of a run of labels'
 complete -c tc -n '__fish_is_first_arg' -a ltc-load -d 'a generated recording, read'
 complete -c tc -n '__fish_is_first_arg' -a ltc-convert -d 'a recording in the other version of the file'

@@ -2,11 +2,13 @@ pub mod AlongTheInput
 pub mod AnItemMore
 pub mod ChaseStatus
 pub mod Converted
+pub mod CleanCopy
 pub mod CountedEvents
 pub mod CountedLabels
 pub mod Digits
 pub mod FieldsGrow
 pub mod FlightGrows
+pub mod FramesAnew
 pub mod FramesInOrder
 pub mod LabelsHeard
 pub mod LinesGrow

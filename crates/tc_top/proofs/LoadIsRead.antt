@@ -12,6 +12,7 @@ use Rattle.direction_reader.specs.declared.event.Event.TheVariants.{Word}
 use Rattle.direction_reader.specs.Events.{is_lost, is_refused, is_word}
 use Rattle.direction_reader.specs.ListEvents.{duration}
 use Rattle.direction_reader.specs.Played.{AreSpelled, Played, bits_of_words, events_of_words}
+use Rattle.ltc_word.specs.declared.word.LtcWord.{LtcWord}
 use Rattle.ltc_word.specs.Spelled.{spelling_of}
 use Rattle.ltc_word.specs.Spelling.{Spells}
 use Rattle.tc_address.specs.declared.count.Count.{Count}
@@ -24,7 +25,11 @@ use Rattle.tc_bits.specs.Fields.{IsFields}
 use Rattle.tc_words.specs.Load.{Loading}
 use Rattle.tc_top.specs.declared.chance.Chance.{Chance}
 use Rattle.tc_top.specs.Load.{IsAllRead, IsChance, begun, behind, cell_of, cells_by, first_label, load_cells, load_word, load_words, lock, next_bits, one_cell, one_draw, word_cells_by, words_by}
-use Rattle.tc_top.proofs.MadeIsRead.{LabelsAreValid, WordsAreRead, WordsAreSpelled, step_valid}
+use Rattle.tc_top.proofs.MadeIsRead.{StepsAreValid, WordsAreRead}
+
+-- what the law of words says
+abbrev pub EachIsSpelled : Type 0
+EachIsSpelled = (word : LtcWord) → IsFields word.fields → word.fields.user < 2 ^ 32 → Spells (system_with word.fields.label.count) word (spelling_of word)
 
 -- ---- the cells are a chain
 
@@ -92,19 +97,19 @@ bits_of_word_cells (suc n) g label =
 
 -- ---- each word is spelled
 
-word_spelled : WordsAreSpelled → (label : Address) (value : ℕ) → IsLabel label → label.count ≡ C25 → value < 2 ^ 64
+word_spelled : EachIsSpelled → (label : Address) (value : ℕ) → IsLabel label → label.count ≡ C25 → value < 2 ^ 64
     → Spells F25 (load_word label value) (spelling_of (load_word label value))
 word_spelled law label value valid is_25 below =
     let fields : IsFields (load_word label value).fields = record { label = valid; flag = rw is_25 refl } in
     let spells = law (load_word label value) fields (omega (arith, below)) in
     subst (λ (c : Count). Spells (system_with c) (load_word label value) (spelling_of (load_word label value))) is_25 spells
 
-words_spelled : LabelsAreValid → WordsAreSpelled → (n : ℕ) (g : Chance) (label : Address) → IsLabel label → label.count ≡ C25
+words_spelled : StepsAreValid → EachIsSpelled → (n : ℕ) (g : Chance) (label : Address) → IsLabel label → label.count ≡ C25
     → AreSpelled F25 (words_by g label n)
 unfolding words_by
 words_spelled valid spelled zero g label is is_25 = tt
 words_spelled valid spelled (suc n) g label is is_25 =
-    let next = step_valid valid label (pos 1) is in (
+    let next = valid label (pos 1) is in (
       word_spelled spelled label _ is is_25 (omega arith),
       words_spelled valid spelled n (behind (one_draw g) (next_bits g label)) (step label (pos 1)) next.0 (next.1 ∙ is_25),
     )
@@ -150,7 +155,7 @@ load_bits l =
     map-append bit_of (cells_by (begun l) lock) (word_cells_by last (first_label l.seed) l.words)
     ∙ ap₂ (λ (a b : List Bool). a ++ b) (bits_of_cells lock (begun l)) (bits_of_word_cells l.words last (first_label l.seed))
 
-pub load_is_read : LabelsAreValid → WordsAreSpelled → WordsAreRead → (l : Loading) → IsLabel (first_label l.seed) → (first_label l.seed).count ≡ C25
+pub load_is_read : StepsAreValid → EachIsSpelled → WordsAreRead → (l : Loading) → IsLabel (first_label l.seed) → (first_label l.seed).count ≡ C25
     → IsAllRead l
 load_is_read valid spelled read l label is_25 =
     let words = words_spelled valid spelled l.words (behind (begun l) lock) (first_label l.seed) label is_25 in

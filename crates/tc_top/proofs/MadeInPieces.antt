@@ -9,15 +9,15 @@ use Rattle.biphase.specs.declared.cell.Cell.{Cell}
 use Rattle.biphase.specs.Chain.{flat, intervals_of}
 use Rattle.biphase.specs.Shape.{Shape, shaped, shaped_from}
 use Rattle.byteorder.specs.Endian.{big_bytes}
-use Rattle.direction_reader.specs.Played.{Played, bits_of_words, in_time, low_bits}
+use Rattle.direction_reader.specs.Played.{Played, bits_of_words, low_bits}
 use Rattle.flywheel.specs.Frames.{steps_in}
-use Rattle.ltc_word.specs.Spelled.{spelling_of}
 use Rattle.tc_address.specs.declared.direction.Direction.{Direction}
 use Rattle.tc_address.specs.declared.direction.Direction.TheVariants.{Forward, Backward}
 use Rattle.tc_address.specs.Label.{Address, IsLabel}
 use Rattle.tc_address.specs.Numbering.{step}
 use Rattle.tc_top.specs.KeptTape.{cell_bytes, rest_of}
-use Rattle.tc_top.specs.Made.{frames_from, interval_bytes, word_of}
+use Rattle.ltc_jam.specs.Word.{played_as, time_bits}
+use Rattle.tc_top.specs.Made.{frames_from, interval_bytes}
 
 -- the bytes of a cell, and those of the cells behind it
 cell_bytes-next : (shape next : Shape) (cell : Cell) (bit : Bool) (tail : List Bool) → shaped shape (bit ∷ tail) ≡ cell ∷ shaped next tail
@@ -70,33 +70,30 @@ pub one_step_fits : (direction : Direction) → to_z w64 (of_z w64 (steps_in dir
 one_step_fits Forward = refl
 one_step_fits Backward = refl
 
-abbrev frame_of : Direction → Address → Played
-frame_of direction label = record { direction = direction; word = word_of label }
-
 -- the first frame, and those from the next label on
 pub frames_from-more : NoStep → StepsAddUp → (direction : Direction) (label : Address) (frames : ℕ) → IsLabel label
-    → frames_from direction label (suc frames) ≡ frame_of direction label ∷ frames_from direction (step label (steps_in direction 1)) frames
+    → frames_from direction label (suc frames) ≡ played_as direction label ∷ frames_from direction (step label (steps_in direction 1)) frames
 unfolding frames_from
 frames_from-more none sum direction label frames valid =
-    let f : ℕ → Played = λ k. frame_of direction (step label (steps_in direction k)) in
-    let g : ℕ → Played = λ k. frame_of direction (step (step label (steps_in direction 1)) (steps_in direction k)) in
+    let f : ℕ → Played = λ k. played_as direction (step label (steps_in direction k)) in
+    let g : ℕ → Played = λ k. played_as direction (step (step label (steps_in direction 1)) (steps_in direction k)) in
     let next : (k : ℕ) → f (suc k) ≡ g k =
-    λ k. ap (frame_of direction) (ap (λ (j : ℤ). step label j) (sym (one_and_more direction k))
+    λ k. ap (played_as direction) (ap (λ (j : ℤ). step label j) (sym (one_and_more direction k))
     ∙ sym (sum label (steps_in direction 1) (steps_in direction k))) in
-    let first : f 0 ≡ frame_of direction label = ap (frame_of direction) (ap (λ (j : ℤ). step label j) (no_steps direction) ∙ none label valid) in
+    let first : f 0 ≡ played_as direction label = ap (played_as direction) (ap (λ (j : ℤ). step label j) (no_steps direction) ∙ none label valid) in
     let rest = map_later f g next 0 frames in
     rw (first, rest) refl
 
 -- a frame was written
 pub frame_written : NoStep → StepsAddUp → (direction : Direction) (label : Address) (left frames : ℕ) (old new : List ℕ) (shape later : Shape) → IsLabel label
     → left + 1 ≡ frames
-    → ((tail : List Bool) → new ++ cell_bytes later tail ≡ old ++ cell_bytes shape (low_bits 80 (in_time direction (spelling_of (word_of label))) ++ tail))
+    → ((tail : List Bool) → new ++ cell_bytes later tail ≡ old ++ cell_bytes shape (low_bits 80 (time_bits direction label) ++ tail))
     → new ++ cell_bytes later (bits_of_words (frames_from direction (step label (steps_in direction 1)) left))
     ≡ old ++ cell_bytes shape (bits_of_words (frames_from direction label frames))
 frame_written none sum direction label left frames old new shape later valid count written =
     let rest = frames_from direction (step label (steps_in direction 1)) left in
     let one : suc left ≡ frames = omega arith in
-    let all : frames_from direction label frames ≡ frame_of direction label ∷ rest =
+    let all : frames_from direction label frames ≡ played_as direction label ∷ rest =
     rw one at (frames_from-more none sum direction label left valid) in
     written (bits_of_words rest) ∙ ap (λ (ps : List Played). old ++ cell_bytes shape (bits_of_words ps)) (sym all)
 

@@ -13,7 +13,8 @@ use Rattle.tc_address.specs.declared.direction.Direction.{Direction}
 use Rattle.tc_address.specs.Label.{Address}
 use Rattle.tc_address.specs.Numbering.{step}
 use Rattle.tc_words.specs.Stripe.{IsStripe, Striping}
-use Rattle.tc_top.specs.Made.{frames_from, made_cells, made_frames, word_of}
+use Rattle.tc_top.specs.Made.{frames_from, made_cells, made_frames}
+use Rattle.ltc_jam.specs.Word.{played_as}
 use Rattle.tc_top.proofs.MadeIsRead.{ShapesHaveBits}
 
 length-low_bits : (count number : ℕ) → length (low_bits count number) ≡ count
@@ -32,7 +33,7 @@ length-bits_of_words (p ∷ more) =
 length-frames_from : (direction : Direction) (label : Address) (frames : ℕ) → length (frames_from direction label frames) ≡ frames
 unfolding frames_from
 length-frames_from direction label frames =
-    length-map (range_with_len 0 frames) (λ (k : ℕ). record { direction = direction; word = word_of (step label (steps_in direction k)) })
+    length-map (range_with_len 0 frames) (λ (k : ℕ). played_as direction (step label (steps_in direction k)))
     ∙ length-range_with_len 0 frames
 
 -- two intervals a cell at most

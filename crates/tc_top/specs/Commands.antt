@@ -2,12 +2,13 @@
 use Rattle.biphase.specs.declared.profile.Profile.TheVariants.{Normal, Worn}
 use Rattle.tc_address.specs.Numbering.{number_of}
 use Rattle.tc_words.specs.declared.job.Job.{Job}
-use Rattle.tc_words.specs.declared.job.Job.TheVariants.{LtcRead, LtcWorn, LtcFly, LtcMtc, MtcRead, Number, LabelOf, LtcMake, LtcConvert, PcmLtc, LtcPcm, LtcLoad, VitcRead}
+use Rattle.tc_words.specs.declared.job.Job.TheVariants.{LtcRead, LtcWorn, LtcFly, LtcMtc, LtcJam, MtcRead, Number, LabelOf, LtcMake, LtcConvert, PcmLtc, LtcPcm, LtcLoad, VitcRead}
 use Rattle.tc_top.specs.Along.{along_intervals}
 use Rattle.tc_top.specs.Labels.{number_line, label_line}
 use Rattle.tc_top.specs.Load.{load_text}
 use Rattle.tc_top.specs.LtcConvert.{conversion}
 use Rattle.tc_top.specs.LtcFly.{flight}
+use Rattle.tc_top.specs.LtcJam.{clean_recording}
 use Rattle.tc_top.specs.LtcMtc.{time_code}
 use Rattle.tc_top.specs.LtcPcm.{made_sound}
 use Rattle.tc_top.specs.LtcRead.{report}
@@ -22,6 +23,7 @@ meaning_of LtcRead = along_intervals (report Normal)
 meaning_of LtcWorn = along_intervals (report Worn)
 meaning_of (LtcFly limit) = along_intervals (flight limit)
 meaning_of (LtcMtc limit) = along_intervals (time_code limit)
+meaning_of (LtcJam jam) = along_intervals (clean_recording jam)
 meaning_of MtcRead = along_midi
 meaning_of (LtcMake stripe) = writes (made stripe)
 meaning_of (LtcLoad run) = writes (load_text run)

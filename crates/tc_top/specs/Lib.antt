@@ -19,6 +19,7 @@ pub mod Labels
 pub mod Load
 pub mod LtcConvert
 pub mod LtcFly
+pub mod LtcJam
 pub mod LtcMtc
 pub mod LtcPcm
 pub mod LtcRead

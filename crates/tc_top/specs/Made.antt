@@ -1,20 +1,15 @@
 -- The recording that `ltc-make` makes, all of it at once: words from a label on, and cells of a shape.
-use Rattle.std.specs.Prelude.{ℕ, Bool, true, false, List, ◌∷◌, ◌++◌, map, take, drop}
+use Rattle.std.specs.Prelude.{ℕ, true, false, List, ◌∷◌, ◌++◌, map, take, drop}
 use Rattle.std.specs.List.{flat_map, range_with_len}
 use Rattle.byteorder.specs.Endian.{big_bytes}
 use Rattle.biphase.specs.declared.cell.Cell.{Cell}
 use Rattle.biphase.specs.declared.profile.Profile.TheVariants.{Normal}
 use Rattle.biphase.specs.Chain.{flat}
 use Rattle.biphase.specs.Shape.{shaped}
-use Rattle.tc_address.specs.declared.count.Count.{Count}
-use Rattle.tc_address.specs.declared.count.Count.TheVariants.{C24, C25, C30, Drop30}
 use Rattle.tc_address.specs.declared.direction.Direction.{Direction}
 use Rattle.tc_address.specs.Count.{system_with}
 use Rattle.tc_address.specs.Label.{Address}
 use Rattle.tc_address.specs.Numbering.{step}
-use Rattle.tc_bits.specs.Fields.{contents}
-use Rattle.ltc_word.specs.declared.word.LtcWord.{LtcWord}
-use Rattle.ltc_word.specs.Spelling.{flags}
 use Rattle.direction_reader.specs.declared.event.Event.{Event}
 use Rattle.direction_reader.specs.ListEvents.{duration, AreEvents}
 use Rattle.direction_reader.specs.Played.{Played, bits_of_words, events_of_words}
@@ -23,26 +18,16 @@ use Rattle.tc_files.specs.declared.interval_file.header.FileVersion.TheVariants.
 use Rattle.tc_files.specs.declared.interval_file.header.IntervalHeader.{IntervalHeader}
 use Rattle.tc_files.specs.Grammar.{IsFile}
 use Rattle.tc_files.specs.IntervalHeader.{header_bytes}
+use Rattle.ltc_jam.specs.Word.{played_as}
 use Rattle.tc_words.specs.declared.job.Job.{Job}
 use Rattle.tc_words.specs.declared.job.Job.TheVariants.{LtcLoad, LtcMake}
 use Rattle.tc_words.specs.Stripe.{Striping}
 use Rattle.tc_top.specs.Load.{IsAllRead}
 
--- the count drops labels
-abbrev pub drops : Count → Bool
-drops C24 = false
-drops C25 = false
-drops C30 = false
-drops Drop30 = true
-
--- the word of a label: no flag is set but that of drop-frame, the user bits are 0, and it is balanced
-abbrev pub word_of : Address → LtcWord
-word_of label = record { fields = contents label (flags (drops label.count) false false false false) 0; balanced = true }
-
 -- so many frames from a label on in a direction, each with its word
 unfoldable pub frames_from : Direction → Address → ℕ → List Played
 frames_from direction label frames =
-    map (λ k. record { direction = direction; word = word_of (step label (steps_in direction k)) }) (range_with_len 0 frames)
+    map (λ k. played_as direction (step label (steps_in direction k))) (range_with_len 0 frames)
 
 -- the frames of a recording
 abbrev pub made_frames : Striping → List Played

@@ -1,6 +1,7 @@
 //! The commands, a file each. A command behind an interval file is a `Behind` (`along`), one that
 //! reads nothing a `Maker` (`making`). Next: `ltc_read`.
 pub(crate) mod chase;
+pub(crate) mod jam;
 pub(crate) mod labels;
 pub(crate) mod ltc_convert;
 pub(crate) mod ltc_fly;

@@ -13,7 +13,9 @@ ghost use Rattle.tc_address.specs.Label.{Address};
 ghost use Rattle.tc_words.specs.declared.job.Job.{Job};
 ghost use Rattle.tc_top.specs.Commands.{meaning_of};
 ghost use Rattle.tc_words.specs.Stripe.{IsStripe, Striping};
+ghost use Rattle.tc_words.specs.Jam.{IsJamming, Jamming};
 ghost use Rattle.tc_top.specs.LtcConvert.{in_version};
+ghost use Rattle.tc_top.specs.LtcJam.{CleansTheInput};
 ghost use Rattle.tc_top.specs.LtcRead.{last_line, lines};
 ghost use Rattle.tc_top.specs.Made.{made, made_cells, made_events, made_header};
 ghost use Rattle.tc_top.specs.Meaning.{Meaning, IsInput};
@@ -25,8 +27,10 @@ ghost use Rattle.tc_top.specs.declared.engines.pcm_ltc.TheConstants.{MAX_SAMPLES
 use biphase::laws::shaped_cells_are_a_chain;
 use direction_reader::laws::{a_list_has_one_list_of_events, played_words_are_read};
 use line_file::laws::bytes_have_one_list_of_answers;
-use ltc_word::laws::each_word_has_its_spelling;
-use tc_address::laws::number_and_label_are_inverse;
+use ltc_jam::laws::{
+    cells_of_one_length_are_shaped, clean_recordings_are_read, steps_lead_to_labels,
+    what_is_read_has_labels_of_its_system, words_of_labels_are_spelled,
+};
 use tc_files::laws::{a_file_is_read_as_it_was_written, bytes_are_read_as_the_text_says};
 
 /// A job writes one output of an input, and one part of the bytes that were pulled. So the lines are
@@ -92,12 +96,23 @@ pub fn what_is_made_is_read_whole()
     ensures report { (s : Striping) (written : List ℕ) → IsStripe s → Meaning.output (meaning_of Job.LtcRead) (made s) written
         → written ≡ lines (made_header s) (made_events s) ++ last_line (flat (made_cells s)) (made_events s) }
 {
-    each_word_has_its_spelling();
-    number_and_label_are_inverse();
+    words_of_labels_are_spelled();
+    steps_lead_to_labels();
     played_words_are_read();
     shaped_cells_are_a_chain();
     a_list_has_one_list_of_events();
     a_file_is_read_as_it_was_written();
+}
+
+/// What `ltc-jam` writes of a whole input is the file of a clean recording: each frame of the input that was
+/// heard or invented is read from it, in order and in its place, and nothing else.
+pub fn what_is_jammed_is_read()
+    ensures { (j : Jamming) → IsJamming j → CleansTheInput j }
+{
+    cells_of_one_length_are_shaped();
+    clean_recordings_are_read();
+    shaped_cells_are_a_chain();
+    what_is_read_has_labels_of_its_system();
 }
 
 /// The messages that `ltc-mtc` sends are those that `mtc-read` reads: a full message of a label, and the

@@ -5,7 +5,10 @@ ghost use Rattle.tc_io.specs.Source.{Rose};
 ghost use Rattle.tc_top.specs.Answer.{Exchange, IsAnswer, IsPulled, IsWritten, IsNoted, status_on};
 ghost use Rattle.tc_top.specs.Causes.{SourceCause, OutCause, HasSourceCause, HasOutCause};
 ghost use Rattle.tc_top.specs.Commands.{meaning_of};
+ghost use Rattle.tc_files.specs.Recording.{recording_of};
+ghost use Rattle.tc_words.specs.Jam.{Jamming};
 ghost use Rattle.tc_top.specs.LtcFly.{IsMarked};
+ghost use Rattle.tc_top.specs.LtcJam.{CleansIfItJams, IsClean};
 ghost use Rattle.tc_top.specs.Made.{MakesWhatIsRead};
 ghost use Rattle.tc_top.specs.Meaning.{Meaning, IsInput, IsEnd};
 ghost use Rattle.tc_top.specs.SentAgain.{SendsTheFrames};
@@ -15,6 +18,7 @@ ghost use Rattle.tc_top.specs.Tape.{IsReport, ReportsTheTape};
 ghost use Rattle.biphase.specs.declared.profile.Profile.{Profile};
 
 use crate::along::Along;
+use crate::engines::jam::{CleanRecording, is_clean};
 use crate::engines::labels::OneLine;
 use crate::engines::ltc_convert::Conversion;
 use crate::engines::ltc_fly::FrameLines;
@@ -80,6 +84,12 @@ pub fn stream<S: Source, K: Sink, N: Sink>(
     // A recording that the job makes is read back, frame by frame; what `ltc-load` makes is read, word by word.
     ensures read { MakesWhatIsRead job.now }
 
+    // What `ltc-jam` writes is a clean recording: each frame of the input that was heard or invented is read
+    // from it, in order and in its place, and nothing else.
+    ensures clean { (jam : Jamming) → job.now ≡ Job.LtcJam jam → result ≡ Status.Done → (e : Exchange)
+        × IsPulled (S.left source.old) (S.left source.new) e × IsEnd (meaning_of (Job.LtcJam jam)) e.left
+        × IsWritten (K.written out.old) (K.written out.new) e × IsClean jam (recording_of e.pulled) e.written }
+
     // Sound that the job makes is sliced into the same intervals.
     ensures sound { SoundsTheIntervals job.now }
 
@@ -119,6 +129,7 @@ fn work_on<S: Source, K: Sink>(job: &Job, source: &mut S, out: &mut K) -> Result
     ensures idle { Meaning.reads (meaning_of job.now) ≡ false → source.new ≡ source.old }
     ensures writes { Meaning.reads (meaning_of job.now) ≡ false → IfErr result (λ stop. stop ≡ Stop.WriteFault) }
     ensures read { MakesWhatIsRead job.now }
+    ensures clean { CleansIfItJams job.now }
     ensures sound { SoundsTheIntervals job.now }
 {
     match job {
@@ -128,6 +139,14 @@ fn work_on<S: Source, K: Sink>(job: &Job, source: &mut S, out: &mut K) -> Result
         Job::LtcMtc { limit } => {
             work(
                 &mut Along::<FlightTo<FrameMessages>>::new(*limit),
+                source,
+                out,
+            )
+        }
+        Job::LtcJam { jam } => {
+            is_clean(jam);
+            work(
+                &mut Along::<FlightTo<CleanRecording>>::new(*jam),
                 source,
                 out,
             )

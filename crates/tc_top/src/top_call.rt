@@ -14,7 +14,10 @@ ghost use Rattle.tc_top.specs.Answer.{Exchange, IsRunAnswer, IsPulled, IsWritten
 ghost use Rattle.tc_top.specs.Causes.{SourceCause, OutCause};
 ghost use Rattle.tc_top.specs.Chase.{IsTraced, chase_status_on};
 ghost use Rattle.tc_top.specs.Commands.{meaning_of};
+ghost use Rattle.tc_files.specs.Recording.{recording_of};
+ghost use Rattle.tc_words.specs.Jam.{Jamming};
 ghost use Rattle.tc_top.specs.LtcFly.{IsMarked};
+ghost use Rattle.tc_top.specs.LtcJam.{IsClean};
 ghost use Rattle.tc_top.specs.Made.{MakesWhatIsRead};
 ghost use Rattle.tc_top.specs.Meaning.{Meaning, IsEnd};
 ghost use Rattle.tc_top.specs.SentAgain.{SendsTheFrames};
@@ -89,6 +92,12 @@ pub fn run<S: Source, K: Sink, N: Sink>(
     // The lines of `ltc-fly` mark each frame that is invented, and these are within the limit.
     ensures marked { (limit : ℕ) → answer_to (map string_bytes words.now) ≡ Ok (Task.Stream (Job.LtcFly limit))
         → (written : List ℕ) × Appends (K.written out.old) (K.written out.new) written × IsMarked limit written }
+
+    // What `ltc-jam` wrote is a clean recording: each frame of the input that was heard or invented is read
+    // from it, in order and in its place, and nothing else.
+    ensures clean { (jam : Jamming) → answer_to (map string_bytes words.now) ≡ Ok (Task.Stream (Job.LtcJam jam)) → result ≡ Status.Done
+        → (e : Exchange) × IsPulled (S.left source.old) (S.left source.new) e × IsEnd (meaning_of (Job.LtcJam jam)) e.left
+        × IsWritten (K.written out.old) (K.written out.new) e × IsClean jam (recording_of e.pulled) e.written }
 
     // Sound that was made is sliced into the same intervals.
     ensures sound { (job : Job) → answer_to (map string_bytes words.now) ≡ Ok (Task.Stream job) → result ≡ Status.Done → SoundsTheIntervals job }

@@ -4,6 +4,7 @@ mod convert;
 mod damage;
 mod faults;
 mod frames;
+mod jam;
 mod load;
 mod made;
 mod midi;

@@ -1,3 +1,4 @@
+pub mod Jam
 pub mod Job
 pub mod Slicing
 pub mod Sound

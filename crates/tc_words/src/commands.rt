@@ -16,6 +16,9 @@ pub const LTC_FLY: &str = "ltc-fly";
 /// The word of `Job::LtcMtc`.
 pub const LTC_MTC: &str = "ltc-mtc";
 
+/// The word of `Job::LtcJam`.
+pub const LTC_JAM: &str = "ltc-jam";
+
 /// The word of `Job::MtcRead`.
 pub const MTC_READ: &str = "mtc-read";
 

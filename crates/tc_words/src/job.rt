@@ -1,5 +1,6 @@
 //! What the words name. Next: `tc_top`, which does it.
 use crate::amplitude::Amplitude;
+use crate::jam::Jam;
 use crate::load::LoadRun;
 use crate::slicing::Slicing;
 use crate::stripe::Stripe;
@@ -28,6 +29,9 @@ pub enum Job {
     LtcFly { limit: u8 },
     /// `ltc-mtc LIMIT`: reads an interval file, and writes MIDI Time Code of the same frames.
     LtcMtc { limit: u8 },
+    /// `ltc-jam LIMIT CELL TICK-RATE`: reads an interval file, and writes the same frames anew as an interval
+    /// file of cells of one length.
+    LtcJam { jam: Jam },
     /// `mtc-read`: reads MIDI bytes, and writes a line for each label of MIDI Time Code in them, and for
     /// each address that is no label.
     MtcRead,

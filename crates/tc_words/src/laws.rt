@@ -12,6 +12,7 @@ pub fn each_command_has_its_word()
     ensures ltc_worn { commands.LTC_WORN.now ≡ codes "ltc-worn" }
     ensures ltc_fly { commands.LTC_FLY.now ≡ codes "ltc-fly" }
     ensures ltc_mtc { commands.LTC_MTC.now ≡ codes "ltc-mtc" }
+    ensures ltc_jam { commands.LTC_JAM.now ≡ codes "ltc-jam" }
     ensures mtc_read { commands.MTC_READ.now ≡ codes "mtc-read" }
     ensures ltc_make { commands.LTC_MAKE.now ≡ codes "ltc-make" }
     ensures ltc_load { commands.LTC_LOAD.now ≡ codes "ltc-load" }

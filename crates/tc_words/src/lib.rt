@@ -7,7 +7,7 @@
 //! the order of `WordsFault`, and want of memory is an answer of its own (`specs/Job.antt`,
 //! `answer_to`). A task is a job that is streamed, or a chase.
 //!
-//! Read `commands`, `fault`, `job`, `stripe`, `tape`, `load`, `slicing`, `amplitude`, `sound`, `values` and
+//! Read `commands`, `fault`, `job`, `stripe`, `tape`, `jam`, `load`, `slicing`, `amplitude`, `sound`, `values` and
 //! `words`, with `specs/Job.antt` and `specs/Values.antt` beside them: `words` and `Job.antt` have the same
 //! rows. `tc_top` stands on this crate.
 //!
@@ -22,6 +22,7 @@
 mod amplitude;
 pub mod commands;
 mod fault;
+mod jam;
 mod job;
 pub mod laws;
 mod load;
@@ -34,6 +35,7 @@ mod words;
 
 pub use amplitude::Amplitude;
 pub use fault::WordsFault;
+pub use jam::Jam;
 pub use job::{Job, Task};
 pub use load::{LoadRun, MAX_WORDS};
 pub use slicing::{MAX_FINENESS, MAX_SIZE, Slicing};

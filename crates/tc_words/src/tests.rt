@@ -30,6 +30,13 @@ fn the_first_fault_is_told(rt: HostRuntime) -> Result<(), Fail> {
         ("ltc-mtc", WordsFault::CountOfWords),
         ("ltc-mtc 2 2", WordsFault::CountOfWords),
         ("ltc-mtc 256", WordsFault::Value(1)),
+        ("ltc-jam 2 24", WordsFault::CountOfWords),
+        ("ltc-jam 2 24 48000 1", WordsFault::CountOfWords),
+        ("ltc-jam 256 15 0", WordsFault::Value(1)),
+        ("ltc-jam 255 15 0", WordsFault::Value(2)),
+        ("ltc-jam 255 8388608 0", WordsFault::Value(2)),
+        ("ltc-jam 255 8388607 0", WordsFault::Value(3)),
+        ("ltc-jam 0 16 100000001", WordsFault::Value(3)),
         ("mtc-read x", WordsFault::CountOfWords),
         ("vitc-read 25", WordsFault::CountOfWords),
         (
@@ -127,7 +134,8 @@ fn label_text_of(job: &Job) -> Option<[u8; 11]> {
     match job {
         Job::LtcRead | Job::LtcWorn | Job::LtcFly { .. } | Job::LtcConvert { .. } => None,
         Job::PcmLtc { .. } | Job::LtcPcm { .. } => None,
-        Job::LtcMtc { .. } | Job::MtcRead | Job::VitcRead | Job::LtcLoad { .. } => None,
+        Job::LtcJam { .. } | Job::VitcRead => None,
+        Job::LtcMtc { .. } | Job::MtcRead | Job::LtcLoad { .. } => None,
         Job::LtcMake { stripe } => Some(text(&stripe.label())),
         Job::Number { label } => Some(text(label)),
         Job::LabelOf { label } => Some(text(label)),
@@ -196,6 +204,18 @@ fn slicings_and_levels_are_read(rt: HostRuntime) -> Result<(), Fail> {
         assert_eq!(rt; slicing.threshold(), threshold, "at {line}");
         assert_eq!(rt; slicing.fineness(), fineness, "at {line}");
         assert_eq!(rt; slicing.tick_rate(), tick_rate, "at {line}");
+    }
+    for (line, limit, cell, tick_rate) in [
+        ("ltc-jam 0 16 1", 0, 16, 1),
+        ("ltc-jam 255 8388607 100000000", 255, 8_388_607, 100_000_000),
+    ] {
+        let words = typed(alloc, line)?;
+        let Ok(Task::Stream(Job::LtcJam { jam })) = read_words(alloc, &words) else {
+            return Err("no clean recording".into());
+        };
+        assert_eq!(rt; jam.limit(), limit, "at {line}");
+        assert_eq!(rt; jam.cell(), cell, "at {line}");
+        assert_eq!(rt; jam.tick_rate(), tick_rate, "at {line}");
     }
     for (line, size) in [("ltc-pcm 1", 1), ("ltc-pcm 32767", 32_767)] {
         let words = typed(alloc, line)?;

@@ -2,15 +2,18 @@
 //! `job`.
 ghost use Rattle.std.specs.Prelude.{◌≡◌, ◌⊎◌, map, position, string_bytes, alloc_error};
 ghost use Rattle.command_words.specs.CommandLine.{begins_with_dash};
-ghost use Rattle.tc_words.specs.Job.{answer_to, without_dashes, job_of, no_values, ltc_fly, ltc_mtc, number, label_of, ltc_make, ltc_convert, pcm_ltc, ltc_pcm, task_of, chase, ltc_load};
+ghost use Rattle.tc_words.specs.Job.{answer_to, without_dashes, job_of, no_values, ltc_fly, ltc_mtc, ltc_jam, number, label_of, ltc_make, ltc_convert, pcm_ltc, ltc_pcm, task_of, chase, ltc_load};
 
 use crate::commands;
 use crate::fault::WordsFault;
+use crate::jam::Jam;
 use crate::job::{Job, Task};
 use crate::load::{LoadRun, MAX_WORDS};
 use crate::sound::{amplitude_in, following, in_samples, in_ticks};
+use crate::stripe::MAX_TICK_RATE;
 use crate::tape::{at_one_length, moving};
 use crate::values::{between, count_in, limit_in, number_in, numbered, spelled, version_in};
+use biphase::{MAX_SHAPED, MIN_SHAPED};
 use command_words::CommandLine;
 use std::alloc::Global;
 
@@ -83,6 +86,7 @@ fn job_of(command: &str, values: &[&str]) -> Result<Job, WordsFault>
         commands::LTC_WORN => no_values(values, Job::LtcWorn),
         commands::LTC_FLY => ltc_fly(values),
         commands::LTC_MTC => ltc_mtc(values),
+        commands::LTC_JAM => ltc_jam(values),
         commands::MTC_READ => no_values(values, Job::MtcRead),
         commands::LTC_MAKE => ltc_make(values),
         commands::LTC_LOAD => ltc_load(values),
@@ -126,6 +130,21 @@ fn ltc_mtc(values: &[&str]) -> Result<Job, WordsFault>
     };
     let limit = limit_in(limit).ok_or(WordsFault::Value(1))?;
     Ok(Job::LtcMtc { limit })
+}
+
+// `ltc-jam LIMIT CELL TICK-RATE`
+fn ltc_jam(values: &[&str]) -> Result<Job, WordsFault>
+    ensures { result ≡ ltc_jam (map (λ v. v.now) values.now) }
+{
+    let [limit, cell, tick_rate] = values else {
+        return Err(WordsFault::CountOfWords);
+    };
+    let limit = limit_in(limit).ok_or(WordsFault::Value(1))?;
+    let cell = between(MIN_SHAPED, MAX_SHAPED, cell).ok_or(WordsFault::Value(2))?;
+    let tick_rate = between(1, MAX_TICK_RATE, tick_rate).ok_or(WordsFault::Value(3))?;
+    Ok(Job::LtcJam {
+        jam: Jam::new(limit, cell, tick_rate),
+    })
 }
 
 // `ltc-make COUNT DIRECTION LABEL FRAMES CELL TICK-RATE [TO-CELL STEP]`

@@ -21,9 +21,9 @@ use direction_reader::laws::{
     a_list_has_one_list_of_events, a_reader_gives_the_events_of_its_list, played_words_are_read,
 };
 use direction_reader::{DirectionReader, Event, MAX_INTERVALS};
+use ltc_jam::laws::steps_lead_to_labels;
 use ltc_word::LtcWord;
 use ltc_word::laws::each_word_has_its_spelling;
-use tc_address::laws::number_and_label_are_inverse;
 use tc_address::{Count, Label, System, advance, day_labels, label_at, text};
 use tc_bits::{Fields, Flags, UserBits};
 use tc_files::{Text, push_bytes, push_number};
@@ -191,7 +191,7 @@ pub(crate) fn load_text(run: &LoadRun) -> Text
     a_list_has_one_list_of_events();
     a_reader_gives_the_events_of_its_list();
     each_word_has_its_spelling();
-    number_and_label_are_inverse();
+    steps_lead_to_labels();
     played_words_are_read();
     let mut chance = Chance::new(run.seed());
     let mut tally = Tally::new();

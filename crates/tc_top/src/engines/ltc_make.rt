@@ -3,23 +3,23 @@ ghost use Rattle.std.specs.Prelude.{◌≡◌, ◌+◌, ◌^◌, ◌<◌, ◌≤
 ghost use Rattle.arrayvec.specs.ArrayVec.{array_vec_len};
 ghost use Rattle.biphase.specs.Chain.{intervals_of};
 ghost use Rattle.byteorder.specs.Endian.{big_bytes};
-ghost use Rattle.direction_reader.specs.Played.{in_time, low_bits};
+ghost use Rattle.direction_reader.specs.Played.{low_bits};
 ghost use Rattle.flywheel.specs.Frames.{steps_in};
 ghost use Rattle.ltc_word.specs.Spelled.{spelling_of};
-ghost use Rattle.tc_bits.specs.Fields.{IsFields};
 ghost use Rattle.tc_top.specs.KeptTape.{cell_bytes, rest_of};
-ghost use Rattle.tc_top.specs.Made.{drops, interval_bytes, made, word_of, IsReadBack};
+ghost use Rattle.tc_top.specs.Made.{interval_bytes, made, IsReadBack};
 
 use crate::making::{Maker, PIECE, Piece};
 use biphase::laws::shaped_cells_are_a_chain;
 use biphase::{Cell, Shaper};
 use byteorder::{BigEndian, ByteOrder};
 use direction_reader::laws::played_words_are_read;
+use ltc_jam::laws::{steps_lead_to_labels, words_of_labels_are_spelled};
+use ltc_jam::played_bits;
 use ltc_word::laws::{each_word_has_its_spelling, spelling_is_exact};
-use ltc_word::{LtcWord, encode, reversed};
-use tc_address::laws::{number_and_label_are_inverse, steps_add_up};
-use tc_address::{Count, Direction, Label, advance, system_of};
-use tc_bits::{Fields, Flags, UserBits};
+use ltc_word::{LtcWord, encode};
+use tc_address::laws::steps_add_up;
+use tc_address::{Direction, Label, advance, system_of};
 use tc_files::{FileVersion, IntervalHeader, interval_header};
 use tc_words::Stripe;
 
@@ -42,8 +42,8 @@ impl Tape {
         ensures rest { rest_of result.header result.shaper result.direction result.label result.frames ≡ made stripe.now }
         ensures read { IsReadBack stripe.now }
     {
-        each_word_has_its_spelling();
-        number_and_label_are_inverse();
+        words_of_labels_are_spelled();
+        steps_lead_to_labels();
         played_words_are_read();
         shaped_cells_are_a_chain();
         let label = stripe.label();
@@ -71,8 +71,8 @@ impl Tape {
         ensures header { self.new.header ≡ self.old.header }
     {
         steps_add_up();
-        let bits = spelling(&word_of(&self.label));
-        write_bits(&mut self.shaper, in_time(self.direction, bits), room);
+        let bits = played_bits(self.direction, &self.label);
+        write_bits(&mut self.shaper, bits, room);
         self.label = advance(&self.label, one_step(self.direction));
         self.frames -= 1;
     }
@@ -98,17 +98,6 @@ impl Maker for Tape {
             self.frame(room);
         }
         true
-    }
-}
-
-/// The bits in the order of time in which they are played.
-fn in_time(direction: Direction, bits: u128) -> u128
-    requires { bits < 2 ^ 80 }
-    ensures { result ≡ in_time direction bits }
-{
-    match direction {
-        Direction::Forward => bits,
-        Direction::Backward => reversed(bits),
     }
 }
 
@@ -163,7 +152,7 @@ fn push_cell(room: &mut Piece, cell: Cell)
 }
 
 /// An interval, the most significant byte first.
-fn push_interval(room: &mut Piece, ticks: u32)
+pub(crate) fn push_interval(room: &mut Piece, ticks: u32)
     requires { array_vec_len room.old + 4 ≤ PIECE }
     ensures items { room.new.items ≡ room.old.items ++ big_bytes 4 ticks }
     ensures len { array_vec_len room.new ≡ array_vec_len room.old + 4 }
@@ -174,7 +163,7 @@ fn push_interval(room: &mut Piece, ticks: u32)
 }
 
 /// Bytes for which there is room.
-fn push_all(room: &mut Piece, bytes: &[u8])
+pub(crate) fn push_all(room: &mut Piece, bytes: &[u8])
     requires { array_vec_len room.old + length bytes.now ≤ PIECE }
     ensures items { room.new.items ≡ room.old.items ++ bytes.now }
     ensures len { array_vec_len room.new ≡ array_vec_len room.old + length bytes.now }
@@ -182,37 +171,6 @@ fn push_all(room: &mut Piece, bytes: &[u8])
     match room.try_extend_from_slice(bytes) {
         Ok(()) => (),
         Err(_) => unreachable!(),
-    }
-}
-
-/// The word of a label: user bits 0, and no flag but that of drop-frame.
-fn word_of(label: &Label) -> LtcWord
-    ensures value { result ≡ word_of label.now }
-    ensures valid { IsFields result.fields }
-{
-    let flags = Flags {
-        bit10: drops(label.count()),
-        colour: false,
-        bgf0: false,
-        bgf1: false,
-        bgf2: false,
-    };
-    match Fields::new(*label, flags, UserBits::new(0)) {
-        Ok(fields) => LtcWord {
-            fields,
-            balanced: true,
-        },
-        Err(_) => unreachable!(),
-    }
-}
-
-/// Whether the count drops labels.
-fn drops(count: Count) -> bool
-    ensures { result ≡ drops count }
-{
-    match count {
-        Count::C24 | Count::C25 | Count::C30 => false,
-        Count::Drop30 => true,
     }
 }
 

@@ -15,7 +15,7 @@ returns-clause-few c = made_is_short c.shaped_cells_are_a_chain.ensures.bits
 
 pub returns-clause-read : goal.returns-clause-read
 returns-clause-read c = λ s is.
-    let back = made_is_read c.number_and_label_are_inverse.ensures.number c.each_word_has_its_spelling.ensures
+    let back = made_is_read c.steps_lead_to_labels.ensures c.words_of_labels_are_spelled.ensures
     c.shaped_cells_are_a_chain.ensures.chain c.shaped_cells_are_a_chain.ensures.bits
     c.shaped_cells_are_a_chain.ensures.intervals c.played_words_are_read.ensures s is in
     let few = made_is_short c.shaped_cells_are_a_chain.ensures.bits s is in
@@ -24,7 +24,7 @@ returns-clause-read c = λ s is.
 -- the events of the report are those of the frames
 pub returns-clause-report : goal.returns-clause-report
 returns-clause-report c = λ s written is output.
-    let back = made_is_read c.number_and_label_are_inverse.ensures.number c.each_word_has_its_spelling.ensures
+    let back = made_is_read c.steps_lead_to_labels.ensures c.words_of_labels_are_spelled.ensures
     c.shaped_cells_are_a_chain.ensures.chain c.shaped_cells_are_a_chain.ensures.bits
     c.shaped_cells_are_a_chain.ensures.intervals c.played_words_are_read.ensures s is in
     let few = made_is_short c.shaped_cells_are_a_chain.ensures.bits s is in

@@ -1,8 +1,11 @@
-use Rattle.std.proofs.Common.{[], refl}
+use Rattle.std.proofs.Common.{[], refl, subst}
 use Rattle.std.proofs.KnownBytes.{Appends-nil}
 use Rattle.tc_top.specs.Answer.{Exchange}
 use Rattle.tc_top.specs.Commands.{meaning_of}
 use Rattle.tc_top.specs.declared.status.Status.TheVariants as status
+use Rattle.tc_words.specs.declared.job.Job.{Job}
+use Rattle.tc_top.specs.Meaning.{IsEnd}
+use Rattle.tc_top.proofs.CleanCopy.{job_cleans}
 use Rattle.tc_top.proofs.MarkedLines.{job_marked}
 use Rattle.tc_top.proofs.OneStatus.{answer_of, done_is_final, settles, stop_is_final}
 use Rattle.tc_top.proofs.ReportsTheTape.{reports_the_tape}
@@ -61,6 +64,18 @@ returns-in-Ok-clause-truth g c = λ _ profile is.
         mirror = c.events_mirror_the_tape.ensures;
       })
           c.args.job.now profile e.0 e.1 is e.6,
+    )
+
+-- what `ltc-jam` wrote is clean
+pub returns-in-Ok-clause-clean : goal.returns-in-Ok-clause-clean
+returns-in-Ok-clause-clean g c = λ jam is done.
+    let e = c.in-Ok.ensures.ends in
+    let went : Exchange = record { pulled = e.0; left = g.S.Source.left c.work_on.new.source; written = e.1; note = [] } in (
+      went,
+      record { bytes = e.2; left = refl },
+      subst (λ (j : Job). IsEnd (meaning_of j) went.left) is e.4,
+      e.3,
+      job_cleans c.args.job.now jam is c.in-Ok.ensures.clean e.0 e.1 e.6,
     )
 
 -- the lines of frames are marked, at the end and at a stop

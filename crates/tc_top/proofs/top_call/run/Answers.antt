@@ -3,7 +3,7 @@ use Rattle.std.proofs.KnownBytes.{Appends-nil, Consumes-nil}
 use Rattle.std.specs.Io.KnownBytes.{Appends, Consumes}
 use Rattle.chase_script.specs.declared.row.ScriptRow.{ScriptRow}
 use Rattle.chase_script.specs.Lock.{KeepsItsLock}
-use Rattle.tc_words.specs.declared.job.Job.TheVariants.{LtcMtc}
+use Rattle.tc_words.specs.declared.job.Job.TheVariants.{LtcJam, LtcMtc}
 use Rattle.tc_words.specs.declared.job.Task.TheVariants.{Stream, Chase}
 use Rattle.tc_top.specs.Answer.{Exchange, IsPulled, IsWritten}
 use Rattle.tc_top.specs.Chase.{IsTraced}
@@ -52,6 +52,13 @@ returns-in-Stream-clause-sent g c = λ done limit says.
     subst (λ j. (e : Exchange) × IsPulled (g.S.Source.left c.args.source.now) (g.S.Source.left c.stream.new.source) e
     × IsEnd (meaning_of j) e.left × IsWritten (g.K.Sink.written c.args.out.now) (g.K.Sink.written c.stream.new.out) e
     × SendsTheFrames limit e.pulled e.written) (sym same) told
+
+-- what `ltc-jam` wrote is clean: the job is the one that the words name
+pub returns-in-Stream-clause-clean : goal.returns-in-Stream-clause-clean
+returns-in-Stream-clause-clean g c = λ jam says done.
+    let words = map string_bytes c.args.words.now in
+    let own = named words (Stream c.in-Stream.job) (rw (c.in-Ok.is, c.in-Stream.is) at c.read_words.ensures) in
+    c.stream.ensures.clean jam (sym (same_job words (LtcJam jam) c.in-Stream.job says own)) done
 
 -- the chase keeps its lock: it begins at the label that the words name
 pub returns-in-Chase-clause-lock : goal.returns-in-Chase-clause-lock

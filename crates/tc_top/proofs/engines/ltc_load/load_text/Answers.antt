@@ -79,7 +79,7 @@ returns-clause-read c =
     let same : c.first_label-label.result ≡ first_label run.seed = c.first_label-label.ensures.value ∙ ap first_label c.seed-2.ensures.value in
     let valid = subst (λ (a : Address). IsLabel a) same c.first_label-label.ensures.valid in
     let is_25 = sym (ap (λ (a : Address). a.count) same) ∙ c.first_label-label.ensures.count in
-    load_is_read c.number_and_label_are_inverse.ensures.number c.each_word_has_its_spelling.ensures c.played_words_are_read.ensures run valid is_25
+    load_is_read c.steps_lead_to_labels.ensures c.each_word_has_its_spelling.ensures c.played_words_are_read.ensures run valid is_25
 
 -- what was counted are the events of the recording
 pub returns-clause-line : goal.returns-clause-line

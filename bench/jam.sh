@@ -1,0 +1,62 @@
+#!/usr/bin/env bash
+# How fast `tc ltc-jam 2` works on about one hour at 25 frames a second, as a multiple of `tc ltc-read` of the same file, and its
+# greatest resident memory; and whether the words that are read from the copies of recordings are their frames, in order and in place.
+#
+#     bench/jam.sh [TC [RECORDING..]]
+#
+# TC is the built program (bin/tc). The first RECORDING (examples/25-worn.ltci) is repeated for the hour, and each of them (those in
+# examples/) is jammed and read again. It builds nothing. The gate does not run it: how long a run takes depends on the machine.
+set -eu
+top=$(cd "$(dirname "$0")/.." && pwd)
+tc=${1:-$top/bin/tc}
+recordings=("${@:2}")
+[ ${#recordings[@]} -gt 0 ] || recordings=("$top"/examples/25-worn.ltci "$top"/examples/25-turn.ltci "$top"/examples/30d-damaged.ltci)
+words=90000
+rounds=7
+header=12
+cell=20
+
+[ -x "$tc" ] || { echo "no program at $tc: run ./build" >&2; exit 2; }
+room=$(mktemp -d)
+trap 'rm -rf "$room"' EXIT
+
+# The words of a copy: way, label, and tick, of which the frame number k has (82 + 80 k) cells.
+for recording in "${recordings[@]}"; do
+    for limit in 0 1 2 255; do
+        "$tc" ltc-fly "$limit" < "$recording" | awk -v cell="$cell" \
+            '$1 == "heard" || $1 == "invented" { print $2, $3, (82 + 80 * k++) * cell }' > "$room/frames"
+        "$tc" ltc-jam "$limit" "$cell" 48000 < "$recording" | "$tc" ltc-read > "$room/report"
+        awk '$1 == "word" && $5 == "00000000" && $9 == 1 { print $2, $3, $11 }' "$room/report" | cmp - "$room/frames"
+        grep -q ' refused 0 lost 0 ' "$room/report" || { echo "$recording, $limit: $(tail -n 1 "$room/report")" >&2; exit 1; }
+        echo "$(basename "$recording"), limit $limit: $(wc -l < "$room/frames") frames, all read from the copy"
+    done
+done
+
+each=$("$tc" ltc-read < "${recordings[0]}" | awk '$1 == "end" { print $5 }')
+tail -c "+$((header + 1))" "${recordings[0]}" > "$room/body"
+{ head -c "$header" "${recordings[0]}"; for _ in $(seq $((words / each + 1))); do cat "$room/body"; done; } > "$room/hour"
+"$tc" ltc-jam 2 "$cell" 48000 < "$room/hour" > "$room/copy"
+echo "an hour: $(stat -c %s "$room/hour") bytes; its copy: $(stat -c %s "$room/copy") bytes; $("$tc" ltc-read < "$room/copy" | tail -n 1)"
+
+# User and system time of a command that writes to a file, in milliseconds; the two commands take turns.
+time_of() { # COMMAND..
+    local TIMEFORMAT='%3U %3S'
+    { time "$@" < "$room/hour" > "$room/written"; } 2>&1 | awk '{ print int(1000 * $1 + 0.5), int(1000 * ($1 + $2) + 0.5) }'
+}
+for _ in $(seq "$rounds"); do
+    time_of "$tc" ltc-read >> "$room/read"
+    time_of "$tc" ltc-jam 2 "$cell" 48000 >> "$room/jam"
+done
+least() { sort -n -k "$2,$2" "$1" | awk -v field="$2" 'NR == 1 { print $field }'; }
+for field in 1 2; do
+    awk -v read="$(least "$room/read" "$field")" -v jam="$(least "$room/jam" "$field")" -v what="$field" 'BEGIN {
+        printf "%s: ltc-read %d ms, ltc-jam 2 %d ms = %.2f times\n", what == 1 ? "user" : "user and system", read, jam, jam / read }'
+done
+
+# The greatest resident memory in KiB. GNU time is small itself, so it does not hide the program's.
+if [ -x /usr/bin/time ]; then
+    /usr/bin/time -f %M -o "$room/resident" "$tc" ltc-jam 2 "$cell" 48000 < "$room/hour" > /dev/null
+    echo "greatest resident memory: $(cat "$room/resident") KiB"
+else
+    echo "greatest resident memory: not measured, there is no /usr/bin/time"
+fi

@@ -1,0 +1,4 @@
+pub mod CleanIsRead
+pub mod LabelsOfSystem
+pub mod Steady
+pub mod WordOfLabel

@@ -1,0 +1,8 @@
+use Rattle.ltc_jam.proofs.LabelsOfSystem.{of_events, of_words}
+use Rattle.ltc_jam.proofs.laws.what_is_read_has_labels_of_its_system.Goals as goal
+
+pub returns-clause-events : goal.returns-clause-events
+returns-clause-events c = of_events
+
+pub returns-clause-frames : goal.returns-clause-frames
+returns-clause-frames c = of_words c.steps_lead_to_labels.ensures
