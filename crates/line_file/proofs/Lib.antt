@@ -3,6 +3,7 @@ pub mod DecoderTakes
 pub mod Digits
 pub mod FaultsStay
 pub mod FieldByField
+pub mod FileReadBack
 pub mod HeaderBytes
 pub mod OwnBytes
 pub mod PieceByPiece
