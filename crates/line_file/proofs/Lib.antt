@@ -8,3 +8,4 @@ pub mod HeaderBytes
 pub mod OwnBytes
 pub mod PieceByPiece
 pub mod Pushed
+pub mod RunsFit
