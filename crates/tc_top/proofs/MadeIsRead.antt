@@ -61,7 +61,7 @@ step_valid law a k valid = found law a (moved (length (labels a.count)) (number_
 
 -- ---- each word is spelled
 
-flag_agrees : (count : Count) → agrees count (drops count) ≡ true
+pub flag_agrees : (count : Count) → agrees count (drops count) ≡ true
 flag_agrees C24 = refl
 flag_agrees C25 = refl
 flag_agrees C30 = refl

@@ -15,11 +15,10 @@ ghost use Rattle.tc_top.specs.Causes.{SourceCause, OutCause};
 ghost use Rattle.tc_top.specs.Chase.{IsTraced, chase_status_on};
 ghost use Rattle.tc_top.specs.Commands.{meaning_of};
 ghost use Rattle.tc_top.specs.LtcFly.{IsMarked};
-ghost use Rattle.tc_top.specs.Made.{MakesWhatIsRead};
 ghost use Rattle.tc_top.specs.Meaning.{Meaning, IsEnd};
 ghost use Rattle.tc_top.specs.SoundAgain.{SoundsTheIntervals};
 ghost use Rattle.tc_top.specs.Tape.{IsReport, ReportsTheTape};
-ghost use Rattle.tc_top.specs.Made.{MakesWhatIsRead};
+ghost use Rattle.tc_top.specs.ReadBack.{MakesWhatIsRead};
 
 use crate::chasing::chase;
 use crate::notes::{push_note, usage_note};
@@ -92,7 +91,7 @@ pub fn run<S: Source, K: Sink, N: Sink>(
     // Sound that was made is sliced into the same intervals.
     ensures sound { (job : Job) → answer_to (map string_bytes words.now) ≡ Ok (Task.Stream job) → result ≡ Status.Done → SoundsTheIntervals job }
 
-    // A recording that was made is read back, frame by frame.
+    // A recording that was made is read back, frame by frame, and a line file field by field.
     ensures read { (job : Job) → answer_to (map string_bytes words.now) ≡ Ok (Task.Stream job) → result ≡ Status.Done → MakesWhatIsRead job }
 {
     let task = match read_words(alloc, words) {

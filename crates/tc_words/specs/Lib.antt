@@ -1,6 +1,8 @@
 pub mod Job
 pub mod Slicing
 pub mod Sound
+pub mod Lines
+pub mod LineStripe
 pub mod Load
 pub mod Stripe
 pub mod Tape

@@ -7,8 +7,8 @@
 //! the order of `WordsFault`, and want of memory is an answer of its own (`specs/Job.antt`,
 //! `answer_to`). A task is a job that is streamed, or a chase.
 //!
-//! Read `commands`, `fault`, `job`, `stripe`, `tape`, `load`, `slicing`, `amplitude`, `sound`, `values` and
-//! `words`, with `specs/Job.antt` and `specs/Values.antt` beside them: `words` and `Job.antt` have the same
+//! Read `commands`, `fault`, `job`, `stripe`, `tape`, `line_stripe`, `lines`, `load`, `slicing`, `amplitude`, `sound`,
+//! `values` and `words`, with `specs/Job.antt` and `specs/Values.antt` beside them: `words` and `Job.antt` have the same
 //! rows. `tc_top` stands on this crate.
 //!
 //! A later command joins in these places:
@@ -24,6 +24,8 @@ pub mod commands;
 mod fault;
 mod job;
 pub mod laws;
+mod line_stripe;
+mod lines;
 mod load;
 mod slicing;
 mod sound;
@@ -35,6 +37,7 @@ mod words;
 pub use amplitude::Amplitude;
 pub use fault::WordsFault;
 pub use job::{Job, Task};
+pub use line_stripe::LineStripe;
 pub use load::{LoadRun, MAX_WORDS};
 pub use slicing::{MAX_FINENESS, MAX_SIZE, Slicing};
 pub use stripe::{MAX_FRAMES, MAX_TICK_RATE, Stripe};

@@ -174,7 +174,7 @@ fn push_interval(room: &mut Piece, ticks: u32)
 }
 
 /// Bytes for which there is room.
-fn push_all(room: &mut Piece, bytes: &[u8])
+pub(crate) fn push_all(room: &mut Piece, bytes: &[u8])
     requires { array_vec_len room.old + length bytes.now ≤ PIECE }
     ensures items { room.new.items ≡ room.old.items ++ bytes.now }
     ensures len { array_vec_len room.new ≡ array_vec_len room.old + length bytes.now }
@@ -207,7 +207,7 @@ fn word_of(label: &Label) -> LtcWord
 }
 
 /// Whether the count drops labels.
-fn drops(count: Count) -> bool
+pub(crate) fn drops(count: Count) -> bool
     ensures { result ≡ drops count }
 {
     match count {
