@@ -3,7 +3,9 @@ pub mod DecoderTakes
 pub mod Digits
 pub mod FaultsStay
 pub mod FieldByField
+pub mod FileReadBack
 pub mod HeaderBytes
 pub mod OwnBytes
 pub mod PieceByPiece
 pub mod Pushed
+pub mod RunsFit

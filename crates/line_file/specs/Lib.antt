@@ -1,4 +1,5 @@
 pub mod Answers
+pub mod Grammar
 pub mod KeptFront
 pub mod LineFile
 pub mod LineHeader

@@ -1,14 +1,18 @@
 //! The numbers that code and definitions share, as the table of a line file gives them; and what follows
 //! from the definitions alone.
-ghost use Rattle.std.specs.Prelude.{◌≡◌, ℕ, List, [], ◌∷◌, ◌++◌};
+ghost use Rattle.std.specs.Prelude.{◌≡◌, ◌≤◌, ℕ, List, [], ◌∷◌, ◌++◌, length, Some, true};
 ghost use Rattle.tc_files.specs.declared.fault.FileFault.{FileFault};
 ghost use Rattle.tc_files.specs.Verdict.{good, refused, past_limit};
 ghost use Rattle.vitc_reader.specs.declared.field.FieldAnswer.{FieldAnswer};
 ghost use Rattle.line_file.specs.declared.decoder.TheConstants as decoder;
 ghost use Rattle.line_file.specs.declared.field.TheConstants as field;
 ghost use Rattle.line_file.specs.declared.header.TheConstants as header;
+ghost use Rattle.line_file.specs.declared.header.LineHeader.{LineHeader};
 ghost use Rattle.line_file.specs.Answers.{AreAnswersOf};
+ghost use Rattle.line_file.specs.Grammar.{file_of, AreFields, AreRuns};
 ghost use Rattle.line_file.specs.LineFile.{reading_of};
+ghost use Rattle.line_file.specs.LineHeader.{IsHeader};
+ghost use Rattle.vitc_reader.specs.Runs.{IsLineLength, StandFor};
 ghost use Rattle.line_file.specs.StandsFor.{Decoding, StandsFor, IsTold};
 
 use vitc_reader::laws::lines_have_one_answer;
@@ -46,3 +50,14 @@ pub fn bytes_have_one_list_of_answers()
 {
     lines_have_one_answer();
 }
+
+/// The file of a header and fields is read as that header and these fields, and the input may end there.
+pub fn a_file_is_read_as_it_was_written()
+    ensures { (header : LineHeader) (fields : List (List (List ℕ))) → IsHeader header → AreFields fields → length fields ≤ decoder.MAX_FIELDS
+        → reading_of (file_of header fields) ≡ record { header = Some header; fields = fields; verdict = good; is_whole = true } }
+{}
+
+/// Runs that stand for the bits of a line last a tick or more, and each of them fits its two bytes.
+pub fn runs_of_a_line_fit_the_file()
+    ensures { (n bits : ℕ) (runs : List ℕ) → IsLineLength n → StandFor n runs bits → AreRuns runs }
+{}

@@ -18,6 +18,8 @@ pub mod LoadIsRead
 pub mod MadeInPieces
 pub mod MadeIsRead
 pub mod MadeIsShort
+pub mod MadeLinesAreRead
+pub mod MadeLinesInPieces
 pub mod MarkedLines
 pub mod MidiGrows
 pub mod MidiLimit

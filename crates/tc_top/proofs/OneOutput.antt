@@ -9,7 +9,7 @@ use Rattle.direction_reader.specs.ListEvents.{AreEvents}
 use Rattle.tc_files.specs.declared.interval_file.header.IntervalHeader.{IntervalHeader}
 use Rattle.tc_files.specs.Recording.{recording_of}
 use Rattle.tc_words.specs.declared.job.Job.{Job}
-use Rattle.tc_words.specs.declared.job.Job.TheVariants.{LtcRead, LtcWorn, LtcFly, LtcMtc, LtcJam, MtcRead, Number, LabelOf, LtcMake, LtcConvert, PcmLtc, LtcPcm, LtcLoad, VitcRead}
+use Rattle.tc_words.specs.declared.job.Job.TheVariants.{LtcRead, LtcWorn, LtcFly, LtcMtc, LtcJam, MtcRead, Number, LabelOf, LtcMake, LtcConvert, PcmLtc, LtcPcm, LtcLoad, VitcRead, VitcMake}
 use Rattle.tc_top.specs.Along.{IsPartBehind, IsWholeBehind}
 use Rattle.tc_top.specs.Commands.{meaning_of}
 use Rattle.tc_top.specs.LtcFly.{lines_of_frames}
@@ -103,6 +103,7 @@ one_output law answers_law (LtcJam jam) input a b x y =
     one_flight law jam.limit (file_of_frames jam) (recording_of input).header (recording_of input).intervals a b x y
 one_output law answers_law MtcRead input a b x y = x ∙ sym y
 one_output law answers_law (LtcMake stripe) input a b x y = x.1 ∙ sym y.1
+one_output law answers_law (VitcMake stripe) input a b x y = x.1 ∙ sym y.1
 one_output law answers_law (LtcConvert version) input a b x y = one_conversion version (recording_of input).header (recording_of input).intervals a b x y
 one_output law answers_law VitcRead input a b x y = one_field_report answers_law input a b x y
 one_output law answers_law (Number label) input a b x y = x.1 ∙ sym y.1
@@ -122,6 +123,7 @@ one_part_of law answers_law (LtcJam jam) pulled a b x y =
     one_flight_part law jam.limit (file_of_frames jam) (recording_of pulled).header (recording_of pulled).intervals a b x y
 one_part_of law answers_law MtcRead pulled a b x y = x ∙ sym y
 one_part_of law answers_law (LtcMake stripe) pulled a b x y = x ∙ sym y
+one_part_of law answers_law (VitcMake stripe) pulled a b x y = x ∙ sym y
 one_part_of law answers_law (LtcConvert version) pulled a b x y = one_conversion_part version (recording_of pulled).header (recording_of pulled).intervals a b x y
 one_part_of law answers_law VitcRead pulled a b x y = one_field_part answers_law pulled a b x y
 one_part_of law answers_law (Number label) pulled a b x y = x ∙ sym y

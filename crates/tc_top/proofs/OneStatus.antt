@@ -9,7 +9,7 @@ use Rattle.tc_files.specs.declared.fault.FileFault.{FileFault}
 use Rattle.tc_files.specs.Recording.{Recording, decoding_of}
 use Rattle.tc_files.specs.Verdict.{Verdict, good, refused, past_limit}
 use Rattle.tc_words.specs.declared.job.Job.{Job}
-use Rattle.tc_words.specs.declared.job.Job.TheVariants.{LtcRead, LtcWorn, LtcFly, LtcMtc, LtcJam, MtcRead, Number, LabelOf, LtcMake, LtcConvert, PcmLtc, LtcPcm, LtcLoad, VitcRead}
+use Rattle.tc_words.specs.declared.job.Job.TheVariants.{LtcRead, LtcWorn, LtcFly, LtcMtc, LtcJam, MtcRead, Number, LabelOf, LtcMake, LtcConvert, PcmLtc, LtcPcm, LtcLoad, VitcRead, VitcMake}
 use Rattle.tc_top.specs.declared.status.Status.TheVariants as status
 use Rattle.tc_top.specs.declared.stop.Stop.{Stop}
 use Rattle.tc_top.specs.declared.stop.Stop.TheVariants as stops
@@ -112,6 +112,7 @@ settles stay (LtcMtc limit) = along_settles _
 settles stay (LtcJam jam) = along_settles _
 settles stay MtcRead = midi_settles
 settles stay (LtcMake stripe) = writes_settles _
+settles stay (VitcMake stripe) = writes_settles _
 settles stay (LtcConvert version) = along_settles _
 settles stay VitcRead = fields_settle stay
 settles stay (Number label) = writes_settles _

@@ -2,7 +2,7 @@
 use Rattle.biphase.specs.declared.profile.Profile.TheVariants.{Normal, Worn}
 use Rattle.tc_address.specs.Numbering.{number_of}
 use Rattle.tc_words.specs.declared.job.Job.{Job}
-use Rattle.tc_words.specs.declared.job.Job.TheVariants.{LtcRead, LtcWorn, LtcFly, LtcMtc, LtcJam, MtcRead, Number, LabelOf, LtcMake, LtcConvert, PcmLtc, LtcPcm, LtcLoad, VitcRead}
+use Rattle.tc_words.specs.declared.job.Job.TheVariants.{LtcRead, LtcWorn, LtcFly, LtcMtc, LtcJam, MtcRead, Number, LabelOf, LtcMake, LtcConvert, PcmLtc, LtcPcm, LtcLoad, VitcRead, VitcMake}
 use Rattle.tc_top.specs.Along.{along_intervals}
 use Rattle.tc_top.specs.Labels.{number_line, label_line}
 use Rattle.tc_top.specs.Load.{load_text}
@@ -13,6 +13,7 @@ use Rattle.tc_top.specs.LtcMtc.{time_code}
 use Rattle.tc_top.specs.LtcPcm.{made_sound}
 use Rattle.tc_top.specs.LtcRead.{report}
 use Rattle.tc_top.specs.Made.{made}
+use Rattle.tc_top.specs.MadeLines.{made_lines}
 use Rattle.tc_top.specs.Meaning.{Meaning, writes}
 use Rattle.tc_top.specs.MtcRead.{along_midi}
 use Rattle.tc_top.specs.PcmLtc.{along_samples}
@@ -31,5 +32,6 @@ meaning_of (LtcConvert version) = along_intervals (conversion version)
 meaning_of (PcmLtc slicing) = along_samples slicing
 meaning_of (LtcPcm size) = along_intervals (made_sound size)
 meaning_of VitcRead = along_fields
+meaning_of (VitcMake stripe) = writes (made_lines stripe)
 meaning_of (Number label) = writes (number_line (number_of label))
 meaning_of (LabelOf label) = writes (label_line label)

@@ -6,6 +6,7 @@ pub mod Commands
 pub mod KeptAlong
 pub mod KeptConversion
 pub mod KeptLine
+pub mod KeptLines
 pub mod KeptTape
 pub mod KeptReport
 pub mod KeptScript
@@ -24,11 +25,13 @@ pub mod LtcMtc
 pub mod LtcPcm
 pub mod LtcRead
 pub mod Made
+pub mod MadeLines
 pub mod Meaning
 pub mod MtcRead
 pub mod Notes
 pub mod OfFrames
 pub mod PcmLtc
+pub mod ReadBack
 pub mod SentAgain
 pub mod SoundAgain
 pub mod Status

@@ -19,10 +19,7 @@ use Rattle.tc_files.specs.declared.interval_file.header.IntervalHeader.{Interval
 use Rattle.tc_files.specs.Grammar.{IsFile}
 use Rattle.tc_files.specs.IntervalHeader.{header_bytes}
 use Rattle.ltc_jam.specs.Word.{played_as}
-use Rattle.tc_words.specs.declared.job.Job.{Job}
-use Rattle.tc_words.specs.declared.job.Job.TheVariants.{LtcLoad, LtcMake}
 use Rattle.tc_words.specs.Stripe.{Striping}
-use Rattle.tc_top.specs.Load.{IsAllRead}
 
 -- so many frames from a label on in a direction, each with its word
 unfoldable pub frames_from : Direction → Address → ℕ → List Played
@@ -59,9 +56,3 @@ made_events s = events_of_words (duration (take 2 (made_cells s))) (drop 2 (made
 pub record IsReadBack (s : Striping) : Type 0 where
   pub file : IsFile (made s) (made_header s) (flat (made_cells s))
   pub events : AreEvents (system_with s.label.count) Normal (flat (made_cells s)) (made_events s)
-
--- what `ltc-make` makes is read back, and what `ltc-load` makes is read
-abbrev pub MakesWhatIsRead : Job → Type 0
-MakesWhatIsRead (LtcMake stripe) = IsReadBack stripe
-MakesWhatIsRead (LtcLoad run) = IsAllRead run
-MakesWhatIsRead _ = Unit {0}

@@ -12,4 +12,5 @@ pub(crate) mod ltc_pcm;
 pub(crate) mod ltc_read;
 pub(crate) mod mtc_read;
 pub(crate) mod pcm_ltc;
+pub(crate) mod vitc_make;
 pub(crate) mod vitc_read;

@@ -1,5 +1,5 @@
 //! What follows from the definitions alone.
-ghost use Rattle.std.specs.Prelude.{◌≡◌, ◌≤◌, List, ℕ, [], ◌∷◌, ◌++◌, length, None, Some};
+ghost use Rattle.std.specs.Prelude.{◌≡◌, ◌≤◌, List, ℕ, [], ◌∷◌, ◌++◌, length, map, None, Some};
 ghost use Rattle.biphase.specs.Chain.{flat};
 ghost use Rattle.tc_files.specs.declared.interval_file.header.FileVersion.{FileVersion};
 ghost use Rattle.tc_files.specs.declared.interval_file.header.IntervalHeader.{IntervalHeader};
@@ -18,7 +18,11 @@ ghost use Rattle.tc_top.specs.LtcConvert.{in_version};
 ghost use Rattle.tc_top.specs.LtcJam.{CleansTheInput};
 ghost use Rattle.tc_top.specs.LtcRead.{last_line, lines};
 ghost use Rattle.tc_top.specs.Made.{made, made_cells, made_events, made_header};
+ghost use Rattle.tc_top.specs.MadeLines.{made_lines, made_words};
 ghost use Rattle.tc_top.specs.Meaning.{Meaning, IsInput};
+ghost use Rattle.tc_top.specs.VitcRead.{field_report};
+ghost use Rattle.tc_words.specs.LineStripe.{IsLineStripe, LineStriping};
+ghost use Rattle.vitc_reader.specs.declared.field.FieldAnswer.{FieldAnswer};
 ghost use Rattle.tc_top.specs.declared.chasing.TheConstants.{MAX_SCRIPT};
 ghost use Rattle.tc_top.specs.declared.chance.TheConstants as chance;
 ghost use Rattle.tc_top.specs.declared.engines.mtc_read.TheConstants.{MAX_BYTES};
@@ -26,12 +30,17 @@ ghost use Rattle.tc_top.specs.declared.engines.pcm_ltc.TheConstants.{MAX_SAMPLES
 
 use biphase::laws::shaped_cells_are_a_chain;
 use direction_reader::laws::{a_list_has_one_list_of_events, played_words_are_read};
-use line_file::laws::bytes_have_one_list_of_answers;
+use line_file::laws::{
+    a_file_is_read_as_it_was_written as line_files_are_read_as_they_were_written,
+    bytes_have_one_list_of_answers, runs_of_a_line_fit_the_file,
+};
 use ltc_jam::laws::{
     cells_of_one_length_are_shaped, clean_recordings_are_read, steps_lead_to_labels,
     what_is_read_has_labels_of_its_system, words_of_labels_are_spelled,
 };
 use tc_files::laws::{a_file_is_read_as_it_was_written, bytes_are_read_as_the_text_says};
+use vitc_line::laws::each_word_has_its_line;
+use vitc_reader::laws::each_line_has_its_runs;
 
 /// A job writes one output of an input, and one part of the bytes that were pulled. So the lines are
 /// the same in whatever pieces the input comes.
@@ -113,6 +122,21 @@ pub fn what_is_jammed_is_read()
     clean_recordings_are_read();
     shaped_cells_are_a_chain();
     what_is_read_has_labels_of_its_system();
+}
+
+/// What `vitc-make` makes is an input of `vitc-read`, and its report is known: each field is agreed with its
+/// frame's word, and the field mark is 0 and then 1.
+pub fn lines_that_are_made_are_read_whole()
+    ensures input { (s : LineStriping) → IsLineStripe s → IsInput (meaning_of Job.VitcRead) (made_lines s) }
+    ensures report { (s : LineStriping) (written : List ℕ) → IsLineStripe s → Meaning.output (meaning_of Job.VitcRead) (made_lines s) written
+        → written ≡ field_report (map (λ word. FieldAnswer.Agreed word) (made_words s)) }
+{
+    steps_lead_to_labels();
+    each_word_has_its_line();
+    each_line_has_its_runs();
+    runs_of_a_line_fit_the_file();
+    line_files_are_read_as_they_were_written();
+    bytes_have_one_list_of_answers();
 }
 
 /// The messages that `ltc-mtc` sends are those that `mtc-read` reads: a full message of a label, and the

@@ -9,7 +9,7 @@ ghost use Rattle.tc_files.specs.Recording.{recording_of};
 ghost use Rattle.tc_words.specs.Jam.{Jamming};
 ghost use Rattle.tc_top.specs.LtcFly.{IsMarked};
 ghost use Rattle.tc_top.specs.LtcJam.{CleansIfItJams, IsClean};
-ghost use Rattle.tc_top.specs.Made.{MakesWhatIsRead};
+ghost use Rattle.tc_top.specs.ReadBack.{MakesWhatIsRead};
 ghost use Rattle.tc_top.specs.Meaning.{Meaning, IsInput, IsEnd};
 ghost use Rattle.tc_top.specs.SentAgain.{SendsTheFrames};
 ghost use Rattle.tc_top.specs.SoundAgain.{SoundsTheIntervals};
@@ -28,6 +28,7 @@ use crate::engines::ltc_pcm::{MadeSound, is_sliced_again};
 use crate::engines::ltc_read::Report;
 use crate::engines::mtc_read::MtcReport;
 use crate::engines::pcm_ltc::SlicedSound;
+use crate::engines::vitc_make::LineTape;
 use crate::engines::vitc_read::FieldReport;
 use crate::flight::FlightTo;
 use crate::intake::work;
@@ -81,7 +82,7 @@ pub fn stream<S: Source, K: Sink, N: Sink>(
     ensures marked { (limit : ℕ) → job.now ≡ Job.LtcFly limit
         → (written : List ℕ) × Appends (K.written out.old) (K.written out.new) written × IsMarked limit written }
 
-    // A recording that the job makes is read back, frame by frame; what `ltc-load` makes is read, word by word.
+    // A recording that the job makes is read back, frame by frame, and a line file field by field; what `ltc-load` makes is read, word by word.
     ensures read { MakesWhatIsRead job.now }
 
     // What `ltc-jam` writes is a clean recording: each frame of the input that was heard or invented is read
@@ -154,6 +155,7 @@ fn work_on<S: Source, K: Sink>(job: &Job, source: &mut S, out: &mut K) -> Result
         Job::VitcRead => work(&mut FieldReport::new(), source, out),
         Job::MtcRead => work(&mut MtcReport::new(), source, out),
         Job::LtcMake { stripe } => make(&mut Tape::new(stripe), source, out),
+        Job::VitcMake { stripe } => make(&mut LineTape::new(stripe), source, out),
         Job::LtcLoad { run } => make(&mut OneLine::load(run), source, out),
         Job::LtcConvert { version } => {
             work(&mut Along::<Conversion>::new(*version), source, out)

@@ -18,12 +18,11 @@ ghost use Rattle.tc_files.specs.Recording.{recording_of};
 ghost use Rattle.tc_words.specs.Jam.{Jamming};
 ghost use Rattle.tc_top.specs.LtcFly.{IsMarked};
 ghost use Rattle.tc_top.specs.LtcJam.{IsClean};
-ghost use Rattle.tc_top.specs.Made.{MakesWhatIsRead};
 ghost use Rattle.tc_top.specs.Meaning.{Meaning, IsEnd};
 ghost use Rattle.tc_top.specs.SentAgain.{SendsTheFrames};
 ghost use Rattle.tc_top.specs.SoundAgain.{SoundsTheIntervals};
 ghost use Rattle.tc_top.specs.Tape.{IsReport, ReportsTheTape};
-ghost use Rattle.tc_top.specs.Made.{MakesWhatIsRead};
+ghost use Rattle.tc_top.specs.ReadBack.{MakesWhatIsRead};
 
 use crate::chasing::chase;
 use crate::notes::{push_note, usage_note};
@@ -107,7 +106,7 @@ pub fn run<S: Source, K: Sink, N: Sink>(
         → (e : Exchange) × IsPulled (S.left source.old) (S.left source.new) e × IsEnd (meaning_of (Job.LtcMtc limit)) e.left
         × IsWritten (K.written out.old) (K.written out.new) e × SendsTheFrames limit e.pulled e.written }
 
-    // A recording that was made is read back, frame by frame.
+    // A recording that was made is read back, frame by frame, and a line file field by field.
     ensures read { (job : Job) → answer_to (map string_bytes words.now) ≡ Ok (Task.Stream job) → result ≡ Status.Done → MakesWhatIsRead job }
 {
     let task = match read_words(alloc, words) {

@@ -14,6 +14,7 @@ use Rattle.tc_words.specs.Jam.{jamming_of}
 use Rattle.tc_words.specs.Sound.{amplitude_in, following, in_samples, in_ticks}
 use Rattle.tc_words.specs.Tape.{at_one_length, moving, value_or}
 use Rattle.tc_words.specs.declared.load.TheConstants.{MAX_WORDS}
+use Rattle.tc_words.specs.Lines.{in_lines}
 use Rattle.tc_words.specs.Load.{loading_of}
 use Rattle.tc_words.specs.Values.{Word, between, count_in, limit_in, number_in, numbered, spelled, version_in}
 use Rattle.command_words.specs.CommandLine.{begins_with_dash}
@@ -81,6 +82,11 @@ abbrev pub ltc_pcm : List Word → Answer
 ltc_pcm (level ∷ []) = with_value 1 (amplitude_in level) (λ n. Ok (jobs.LtcPcm n))
 ltc_pcm _ = Err CountOfWords
 
+-- `vitc-make COUNT LABEL FRAMES LENGTH`
+abbrev pub vitc_make : List Word → Answer
+vitc_make (count ∷ label ∷ frames ∷ length ∷ []) = in_lines count label frames length
+vitc_make _ = Err CountOfWords
+
 -- `number COUNT LABEL`
 abbrev pub number : List Word → Answer
 number (count ∷ label ∷ []) =
@@ -110,6 +116,7 @@ job_of command values =
     else if bytes_eq command commands.PCM_LTC.now then pcm_ltc values
     else if bytes_eq command commands.LTC_PCM.now then ltc_pcm values
     else if bytes_eq command commands.VITC_READ.now then no_values jobs.VitcRead values
+    else if bytes_eq command commands.VITC_MAKE.now then vitc_make values
     else if bytes_eq command commands.NUMBER.now then number values
     else if bytes_eq command commands.LABEL.now then label_of values
     else Err Command

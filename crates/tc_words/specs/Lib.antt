@@ -2,6 +2,8 @@ pub mod Jam
 pub mod Job
 pub mod Slicing
 pub mod Sound
+pub mod Lines
+pub mod LineStripe
 pub mod Load
 pub mod Stripe
 pub mod Tape

@@ -28,6 +28,16 @@ count_in word =
     else if bytes_eq word (codes "30d") then Some Drop30
     else None
 
+-- a count whose pictures have lines of time code: not `24`
+abbrev pub with_lines : Count → Option Count
+with_lines C24 = None
+with_lines C25 = Some C25
+with_lines C30 = Some C30
+with_lines Drop30 = Some Drop30
+
+abbrev pub count_with_lines : Word → Option Count
+count_with_lines word = option_and_then with_lines (count_in word)
+
 -- `24`, `25` or `30`
 abbrev pub system_in : Word → Option System
 system_in word =

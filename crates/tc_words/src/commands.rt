@@ -40,6 +40,9 @@ pub const LTC_PCM: &str = "ltc-pcm";
 /// The word of `Job::VitcRead`.
 pub const VITC_READ: &str = "vitc-read";
 
+/// The word of `Job::VitcMake`.
+pub const VITC_MAKE: &str = "vitc-make";
+
 /// The word of `Job::Number`.
 pub const NUMBER: &str = "number";
 

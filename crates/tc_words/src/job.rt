@@ -1,6 +1,7 @@
 //! What the words name. Next: `tc_top`, which does it.
 use crate::amplitude::Amplitude;
 use crate::jam::Jam;
+use crate::line_stripe::LineStripe;
 use crate::load::LoadRun;
 use crate::slicing::Slicing;
 use crate::stripe::Stripe;
@@ -49,6 +50,8 @@ pub enum Job {
     LtcPcm { amplitude: Amplitude },
     /// `vitc-read`: reads a line file, and writes a line for each field.
     VitcRead,
+    /// `vitc-make COUNT LABEL FRAMES LENGTH`: makes a line file of these frames.
+    VitcMake { stripe: LineStripe },
     /// `number COUNT LABEL`: writes how many labels of the count stand before the label in the day.
     Number { label: Label },
     /// `label COUNT NUMBER`: writes the label of that number of the day.

@@ -20,6 +20,7 @@ pub fn each_command_has_its_word()
     ensures pcm_ltc { commands.PCM_LTC.now ≡ codes "pcm-ltc" }
     ensures ltc_pcm { commands.LTC_PCM.now ≡ codes "ltc-pcm" }
     ensures vitc_read { commands.VITC_READ.now ≡ codes "vitc-read" }
+    ensures vitc_make { commands.VITC_MAKE.now ≡ codes "vitc-make" }
     ensures number { commands.NUMBER.now ≡ codes "number" }
     ensures label { commands.LABEL.now ≡ codes "label" }
 {}

@@ -7,8 +7,8 @@
 //! the order of `WordsFault`, and want of memory is an answer of its own (`specs/Job.antt`,
 //! `answer_to`). A task is a job that is streamed, or a chase.
 //!
-//! Read `commands`, `fault`, `job`, `stripe`, `tape`, `jam`, `load`, `slicing`, `amplitude`, `sound`, `values` and
-//! `words`, with `specs/Job.antt` and `specs/Values.antt` beside them: `words` and `Job.antt` have the same
+//! Read `commands`, `fault`, `job`, `stripe`, `tape`, `jam`, `line_stripe`, `lines`, `load`, `slicing`, `amplitude`,
+//! `sound`, `values` and `words`, with `specs/Job.antt` and `specs/Values.antt` beside them: `words` and `Job.antt` have the same
 //! rows. `tc_top` stands on this crate.
 //!
 //! A later command joins in these places:
@@ -25,6 +25,8 @@ mod fault;
 mod jam;
 mod job;
 pub mod laws;
+mod line_stripe;
+mod lines;
 mod load;
 mod slicing;
 mod sound;
@@ -37,6 +39,7 @@ pub use amplitude::Amplitude;
 pub use fault::WordsFault;
 pub use jam::Jam;
 pub use job::{Job, Task};
+pub use line_stripe::LineStripe;
 pub use load::{LoadRun, MAX_WORDS};
 pub use slicing::{MAX_FINENESS, MAX_SIZE, Slicing};
 pub use stripe::{MAX_FRAMES, MAX_TICK_RATE, Stripe};

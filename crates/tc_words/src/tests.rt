@@ -39,6 +39,18 @@ fn the_first_fault_is_told(rt: HostRuntime) -> Result<(), Fail> {
         ("ltc-jam 0 16 100000001", WordsFault::Value(3)),
         ("mtc-read x", WordsFault::CountOfWords),
         ("vitc-read 25", WordsFault::CountOfWords),
+        ("vitc-make 30 00:00:00:00 1", WordsFault::CountOfWords),
+        ("vitc-make 24 00:00:00:00 1 460", WordsFault::Value(1)),
+        ("vitc-make 24 00:00:00:30 0 459", WordsFault::Value(1)),
+        ("vitc-make 30d 00:01:00;00 0 459", WordsFault::Value(2)),
+        ("vitc-make 30d 00:00:00:00 1 460", WordsFault::Value(2)),
+        ("vitc-make 25 00:00:00:00 0 459", WordsFault::Value(3)),
+        (
+            "vitc-make 25 00:00:00:00 1000001 65536",
+            WordsFault::Value(3),
+        ),
+        ("vitc-make 25 00:00:00:00 1000000 459", WordsFault::Value(4)),
+        ("vitc-make 25 00:00:00:00 1 65536", WordsFault::Value(4)),
         (
             "ltc-make 25 forward 00:00:00:00 4 800 48000 400",
             WordsFault::CountOfWords,
@@ -137,6 +149,7 @@ fn label_text_of(job: &Job) -> Option<[u8; 11]> {
         Job::LtcJam { .. } | Job::VitcRead => None,
         Job::LtcMtc { .. } | Job::MtcRead | Job::LtcLoad { .. } => None,
         Job::LtcMake { stripe } => Some(text(&stripe.label())),
+        Job::VitcMake { stripe } => Some(text(&stripe.label())),
         Job::Number { label } => Some(text(label)),
         Job::LabelOf { label } => Some(text(label)),
     }
@@ -224,6 +237,21 @@ fn slicings_and_levels_are_read(rt: HostRuntime) -> Result<(), Fail> {
         };
         assert_eq!(rt; amplitude.size(), size, "at {line}");
     }
+    for (line, length, frames) in [
+        ("vitc-make 25 00:00:00:00 1 460", 460, 1),
+        (
+            "vitc-make 30d 00:01:00;02 01000000 0065535",
+            65_535,
+            1_000_000,
+        ),
+    ] {
+        let words = typed(alloc, line)?;
+        let Ok(Task::Stream(Job::VitcMake { stripe })) = read_words(alloc, &words) else {
+            return Err("no lines".into());
+        };
+        assert_eq!(rt; stripe.length(), length, "at {line}");
+        assert_eq!(rt; stripe.frames(), frames, "at {line}");
+    }
     Ok(())
 }
 
@@ -236,6 +264,7 @@ fn labels_are_read(rt: HostRuntime) -> Result<(), Fail> {
         ("label 30d 00000000000000001800", *b"00:01:00;02"),
         ("number 24 12:34:56:23", *b"12:34:56:23"),
         ("chase 30d 00:01:00;02", *b"00:01:00;02"),
+        ("vitc-make 30 23:59:59:29 1 460", *b"23:59:59:29"),
         (
             "ltc-make 30d backward 00:01:00;02 1000000 800 100000000 400 50",
             *b"00:01:00;02",

@@ -2,8 +2,10 @@
 ghost use Rattle.std.specs.Prelude.{◌≡◌, ◌≤◌, IfSome};
 ghost use Rattle.std.specs.Char.{is_ascii_digit};
 ghost use Rattle.std.specs.List.{list_all};
-ghost use Rattle.tc_words.specs.Values.{between, count_in, direction_in, is_number, limit_in, number_in, numbered, spelled, system_in, version_in};
+ghost use Rattle.tc_words.specs.Values.{between, count_in, count_with_lines, direction_in, is_number, limit_in, number_in, numbered, spelled, system_in, version_in};
+ghost use Rattle.tc_address.specs.Count.{system_with};
 ghost use Rattle.tc_address.specs.Label.{IsLabel};
+ghost use Rattle.vitc_line.specs.Places.{HasLines};
 
 use tc_address::{Count, Direction, Label, System, day_labels, label_at, read_text};
 use tc_files::FileVersion;
@@ -18,6 +20,17 @@ pub fn count_in(word: &str) -> Option<Count>
         "30" => Some(Count::C30),
         "30d" => Some(Count::Drop30),
         _ => None,
+    }
+}
+
+/// A count whose pictures have lines of time code: `25`, `30` or `30d`.
+pub fn count_with_lines(word: &str) -> Option<Count>
+    ensures value { result ≡ count_with_lines word.now }
+    ensures valid { IfSome result (λ count. HasLines (system_with count)) }
+{
+    match count_in(word)? {
+        Count::C24 => None,
+        count => Some(count),
     }
 }
 
@@ -107,6 +120,7 @@ pub fn version_in(word: &str) -> Option<FileVersion>
 pub fn spelled(count: Count, word: &str) -> Option<Label>
     ensures value { result ≡ spelled count word.now }
     ensures valid { IfSome result IsLabel }
+    ensures count { IfSome result (λ label. label.count ≡ count) }
 {
     read_text(word.as_bytes(), count).ok()
 }

@@ -2,12 +2,13 @@
 //! `job`.
 ghost use Rattle.std.specs.Prelude.{◌≡◌, ◌⊎◌, map, position, string_bytes, alloc_error};
 ghost use Rattle.command_words.specs.CommandLine.{begins_with_dash};
-ghost use Rattle.tc_words.specs.Job.{answer_to, without_dashes, job_of, no_values, ltc_fly, ltc_mtc, ltc_jam, number, label_of, ltc_make, ltc_convert, pcm_ltc, ltc_pcm, task_of, chase, ltc_load};
+ghost use Rattle.tc_words.specs.Job.{answer_to, without_dashes, job_of, no_values, ltc_fly, ltc_mtc, ltc_jam, number, label_of, ltc_make, ltc_convert, pcm_ltc, ltc_pcm, task_of, chase, ltc_load, vitc_make};
 
 use crate::commands;
 use crate::fault::WordsFault;
 use crate::jam::Jam;
 use crate::job::{Job, Task};
+use crate::lines::in_lines;
 use crate::load::{LoadRun, MAX_WORDS};
 use crate::sound::{amplitude_in, following, in_samples, in_ticks};
 use crate::stripe::MAX_TICK_RATE;
@@ -94,6 +95,7 @@ fn job_of(command: &str, values: &[&str]) -> Result<Job, WordsFault>
         commands::PCM_LTC => pcm_ltc(values),
         commands::LTC_PCM => ltc_pcm(values),
         commands::VITC_READ => no_values(values, Job::VitcRead),
+        commands::VITC_MAKE => vitc_make(values),
         commands::NUMBER => number(values),
         commands::LABEL => label_of(values),
         _ => Err(WordsFault::Command),
@@ -219,6 +221,16 @@ fn ltc_pcm(values: &[&str]) -> Result<Job, WordsFault>
     };
     let amplitude = amplitude_in(level).ok_or(WordsFault::Value(1))?;
     Ok(Job::LtcPcm { amplitude })
+}
+
+// `vitc-make COUNT LABEL FRAMES LENGTH`
+fn vitc_make(values: &[&str]) -> Result<Job, WordsFault>
+    ensures { result ≡ vitc_make (map (λ v. v.now) values.now) }
+{
+    match values {
+        [count, label, frames, length] => in_lines(count, label, frames, length),
+        _ => Err(WordsFault::CountOfWords),
+    }
 }
 
 // `number COUNT LABEL`

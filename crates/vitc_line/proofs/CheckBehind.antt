@@ -6,6 +6,7 @@ use Rattle.std.specs.Int.{bit_at}
 use Rattle.std.proofs.lemmas.Nat.{shr-shr, shr_high, mod_below}
 use Rattle.std.proofs.lemmas.Nat.Bits.{bit_at_cat_low, bit_at-lt, same_from_bits_below}
 use Rattle.vitc_line.specs.CheckBits.{bits_of_residue, residue}
+use Rattle.vitc_line.specs.Spelled.{check_sum}
 use Rattle.vitc_line.proofs.FoldedCheck.{each_residue, sum_at, residue_is_parity, bit_at-behind}
 
 -- the bits of a residue before the check, and the bit of the check that has this residue
@@ -117,3 +118,37 @@ one_check body a b below wa wb ha hb =
     let turned : check_bit r ≡ k = omega arith in
     let e = bit_of_check body a r below within (ha r within) ∙ sym (bit_of_check body b r below within (hb r within)) in
     rw turned at e)
+
+-- ---- the check that is made
+
+made_bit : (a b c d e f g h : ℕ) → a < 2 → b < 2 → c < 2 → d < 2 → e < 2 → f < 2 → g < 2 → h < 2
+    → (bit_at (a + 2 * b + 4 * c + 8 * d + 16 * e + 32 * f + 64 * g + 128 * h) 0 ≡ a) × (bit_at (a + 2 * b + 4 * c + 8 * d + 16 * e + 32 * f + 64 * g + 128 * h) 1 ≡ b)
+    × (bit_at (a + 2 * b + 4 * c + 8 * d + 16 * e + 32 * f + 64 * g + 128 * h) 2 ≡ c) × (bit_at (a + 2 * b + 4 * c + 8 * d + 16 * e + 32 * f + 64 * g + 128 * h) 3 ≡ d)
+    × (bit_at (a + 2 * b + 4 * c + 8 * d + 16 * e + 32 * f + 64 * g + 128 * h) 4 ≡ e) × (bit_at (a + 2 * b + 4 * c + 8 * d + 16 * e + 32 * f + 64 * g + 128 * h) 5 ≡ f)
+    × (bit_at (a + 2 * b + 4 * c + 8 * d + 16 * e + 32 * f + 64 * g + 128 * h) 6 ≡ g) × (bit_at (a + 2 * b + 4 * c + 8 * d + 16 * e + 32 * f + 64 * g + 128 * h) 7 ≡ h)
+made_bit a b c d e f g h la lb lc ld le lf lg lh =
+    (omega arith, omega arith, omega arith, omega arith, omega arith, omega arith, omega arith, omega arith)
+
+-- its bits are the exclusive ors of the residues
+check_bits : (body r : ℕ) → r < 8 → bit_at (check_sum body) (check_bit r) ≡ residue r body
+check_bits body r lt =
+    let b = made_bit (residue 2 body) (residue 3 body) (residue 4 body) (residue 5 body) (residue 6 body) (residue 7 body) (residue 0 body) (residue 1 body)
+    (residue_below 2 body) (residue_below 3 body) (residue_below 4 body) (residue_below 5 body) (residue_below 6 body) (residue_below 7 body)
+    (residue_below 0 body) (residue_below 1 body) in
+    each_residue (λ r. bit_at (check_sum body) (check_bit r) ≡ residue r body) b.6 b.7 b.0 b.1 b.2 b.3 b.4 b.5 r lt
+
+pub check_made : (body : ℕ) → body < 2 ^ 82 → (r : ℕ) → r < 8 → residue r (body + check_sum body * 2 ^ 82) ≡ 0
+check_made body below r lt =
+    residue_with_check body (check_sum body) r below lt ∙ ap (λ (n : ℕ). (residue r body + n) % 2) (check_bits body r lt) ∙ doubled (residue r body)
+
+pub check_less : (body : ℕ) → check_sum body < 2 ^ 8
+check_less body =
+    let a = residue_below 0 body in
+    let b = residue_below 1 body in
+    let c = residue_below 2 body in
+    let d = residue_below 3 body in
+    let e = residue_below 4 body in
+    let f = residue_below 5 body in
+    let g = residue_below 6 body in
+    let h = residue_below 7 body in
+    omega (arith, a, b, c, d, e, f, g, h)

@@ -20,11 +20,12 @@ use Rattle.vitc_line.specs.CheckBits.{bits_of_residue, residue, is_wrong_residue
 use Rattle.vitc_line.specs.Fault.{is_wrong_pair, wrong_sync_pair, first_fault}
 use Rattle.vitc_line.specs.Places.{sync_pair_place, field_mark_place}
 use Rattle.vitc_line.specs.Reading.{raw_in, flags_in, user_in}
+use Rattle.vitc_line.specs.Spelled.{base_sum}
 use Rattle.vitc_line.specs.Spelling.{Spells}
 use Rattle.vitc_line.proofs.CheckBehind.{one_check}
 use Rattle.vitc_line.proofs.FoldedCheck.{each_residue, sum_at, residue_is_parity}
 use Rattle.vitc_line.proofs.FieldsSaid.{user_spelled, user_read, address_spelled, flags_spelled, same_raw, flags_read}
-use Rattle.vitc_line.proofs.RowOfALine.{base_sum, whole_sum, SpellsRows, spells_rows, rows_sum}
+use Rattle.vitc_line.proofs.RowOfALine.{whole_sum, SpellsRows, spells_rows, rows_sum}
 use Rattle.vitc_line.proofs.Searches.{find_none, none_found, not_false}
 
 -- no sync pair is wrong exactly where each is the bits 1 and 0

@@ -14,10 +14,8 @@ use Rattle.tc_bits.specs.Row.{Entry, entry, FillsFrom, Holds, sum_of, SumHolds, 
 use Rattle.tc_bits.specs.UserBits.{group}
 use Rattle.vitc_line.specs.declared.places.TheConstants as places
 use Rattle.vitc_line.specs.Places.{sync_pair_place, field_mark_place, group_flag_zero_place, group_flag_two_place}
+use Rattle.vitc_line.specs.Spelled.{digit, address_sum, flag_sum, mark_sum, user_sum, base_sum}
 use Rattle.vitc_line.specs.Spelling.{SpellsAddress, SpellsFlags, SpellsUserBits}
-
-abbrev pub digit : Bool → ℕ
-digit flag = cond flag 1 0
 
 -- the bits whose meaning the system decides
 abbrev bit_35 : System → Flags → Bool → ℕ
@@ -52,37 +50,6 @@ row_with a f user p q r check =
 
 abbrev pub row_of : System → Address → Flags → ℕ → Bool → ℕ → List Entry
 row_of system a f user mark check = row_with a f user (bit_35 system f mark) (bit_55 system f) (bit_75 system f mark) check
-
--- the weights of the address
-abbrev pub address_sum : Address → ℕ
-address_sum a =
-    a.frames % 10 * 2 ^ places.FRAME_UNITS.first + a.frames / 10 * 2 ^ places.FRAME_TENS.first
-    + a.seconds % 10 * 2 ^ places.SECOND_UNITS.first + a.seconds / 10 * 2 ^ places.SECOND_TENS.first
-    + a.minutes % 10 * 2 ^ places.MINUTE_UNITS.first + a.minutes / 10 * 2 ^ places.MINUTE_TENS.first
-    + a.hours % 10 * 2 ^ places.HOUR_UNITS.first + a.hours / 10 * 2 ^ places.HOUR_TENS.first
-
--- the weights of the flags
-abbrev pub flag_sum : System → Flags → ℕ
-flag_sum system f =
-    digit f.bit10 * 2 ^ places.DROP_FRAME.first + digit f.colour * 2 ^ places.COLOUR_FRAME.first
-    + digit f.bgf0 * 2 ^ (group_flag_zero_place system).first
-    + digit f.bgf1 * 2 ^ places.GROUP_FLAG_ONE.first + digit f.bgf2 * 2 ^ (group_flag_two_place system).first
-
--- the weight of the field mark
-abbrev pub mark_sum : System → Bool → ℕ
-mark_sum system mark = digit mark * 2 ^ (field_mark_place system).first
-
--- the weights of the user groups
-abbrev pub user_sum : ℕ → ℕ
-user_sum user =
-    group 1 user * 2 ^ places.USER_GROUP_ONE.first + group 2 user * 2 ^ places.USER_GROUP_TWO.first
-    + group 3 user * 2 ^ places.USER_GROUP_THREE.first + group 4 user * 2 ^ places.USER_GROUP_FOUR.first
-    + group 5 user * 2 ^ places.USER_GROUP_FIVE.first + group 6 user * 2 ^ places.USER_GROUP_SIX.first
-    + group 7 user * 2 ^ places.USER_GROUP_SEVEN.first + group 8 user * 2 ^ places.USER_GROUP_EIGHT.first
-
--- all of them and the sync pairs
-abbrev pub base_sum : System → Address → Flags → ℕ → Bool → ℕ
-base_sum system a f user mark = address_sum a + flag_sum system f + mark_sum system mark + user_sum user + places.ALL_SYNC_PAIRS
 
 -- what was made of the parts of a word is their sum
 pub sum_of_parts : (system : System) (a : Address) (f : Flags) (user : ℕ) (mark : Bool)

@@ -2,6 +2,7 @@ pub mod CheckBits
 pub mod Fault
 pub mod Places
 pub mod Reading
+pub mod Spelled
 pub mod Spelling
 -- what the public clauses cite of the crates below
 pub use Rattle.tc_address.specs.Count

@@ -1,11 +1,14 @@
 //! What follows from the definitions alone, and lines from outside that pin the table.
 
-ghost use Rattle.std.specs.Prelude.{◌≡◌, ℕ, ◌<◌, ◌^◌, None, true, false};
+ghost use Rattle.std.specs.Prelude.{◌≡◌, ℕ, ◌<◌, ◌^◌, ◌%◌, None, true, false};
 ghost use Rattle.tc_address.specs.declared.system.System.{System};
 ghost use Rattle.tc_address.specs.declared.system.System.TheVariants.{F25, F30};
 ghost use Rattle.tc_address.specs.declared.count.Count.TheVariants.{C25, C30, Drop30};
+ghost use Rattle.tc_address.specs.Count.{system_with};
+ghost use Rattle.tc_bits.specs.Fields.{IsFields};
 ghost use Rattle.vitc_line.specs.declared.word.VitcWord.{VitcWord};
 ghost use Rattle.vitc_line.specs.Places.{are_shared_out, places_of};
+ghost use Rattle.vitc_line.specs.Spelled.{line_of};
 ghost use Rattle.vitc_line.specs.Spelling.{Spells, word_with, flags};
 ghost use Rattle.vitc_line.specs.Fault.{first_fault};
 
@@ -23,6 +26,15 @@ pub fn spelling_is_exact()
     ensures one_word { (system : System) (a b : VitcWord) (bits : ℕ) → Spells system a bits → Spells system b bits → a ≡ b }
     ensures one_spelling { (system : System) (word : VitcWord) (a b : ℕ) → Spells system word a → Spells system word b → a ≡ b }
     ensures no_fault { (system : System) (word : VitcWord) (bits : ℕ) → Spells system word bits → first_fault system bits ≡ None }
+{
+    a_row_is_its_sum();
+}
+
+/// A word that has lines is spelled by one: the sum of its numbers by their weights, with the check.
+pub fn each_word_has_its_line()
+    ensures spells { (word : VitcWord) → IsFields word.fields → word.fields.user < 2 ^ 32 → Spells (system_with word.fields.label.count) word (line_of word) }
+    ensures width { (word : VitcWord) → IsFields word.fields → word.fields.user < 2 ^ 32 → line_of word < 2 ^ 90 }
+    ensures odd { (word : VitcWord) → IsFields word.fields → word.fields.user < 2 ^ 32 → line_of word % 2 ≡ 1 }
 {
     a_row_is_its_sum();
 }

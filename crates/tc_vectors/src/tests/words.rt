@@ -49,10 +49,7 @@ fn words_that_name_no_job_are_refused(rt: HostRuntime) -> Result<(), Fail> {
 
 #[test]
 fn commands_to_come_are_unknown(rt: HostRuntime) -> Result<(), Fail> {
-    for words in [
-        "vitc-make 30 00:00:00:00 1 460",
-        "ltc-chase 25 01:00:00:00 2 1 0",
-    ] {
+    for words in ["ltc-chase 25 01:00:00:00 2 1 0"] {
         unread(words).ends(&rt, Status::Usage, "", "tc: usage: command\n")?;
     }
     Ok(())

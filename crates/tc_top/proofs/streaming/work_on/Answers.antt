@@ -14,3 +14,7 @@ returns-in-LtcLoad-clause-ends g c = rw (c.in-LtcLoad.is, ← c.load.ensures.lin
 
 pub returns-in-LtcLoad-clause-stops : goal.returns-in-LtcLoad-clause-stops
 returns-in-LtcLoad-clause-stops g c = rw (c.in-LtcLoad.is, ← c.load.ensures.line) c.make-in-LtcLoad.ensures.stops
+
+-- a front of the line file was written
+pub returns-in-VitcMake-clause-stops : goal.returns-in-VitcMake-clause-stops
+returns-in-VitcMake-clause-stops g c = rw (c.in-VitcMake.is, ← c.new-in-VitcMake.ensures.rest) c.make-in-VitcMake.ensures.stops

@@ -1,0 +1,28 @@
+//! The values of `vitc-make`, word by word. Next: `line_stripe`, which holds them.
+ghost use Rattle.std.specs.Prelude.{◌≡◌};
+ghost use Rattle.tc_words.specs.Lines.{in_lines};
+
+use crate::fault::WordsFault;
+use crate::job::Job;
+use crate::line_stripe::LineStripe;
+use crate::stripe::MAX_FRAMES;
+use crate::values::{between, count_with_lines, spelled};
+use line_file::{MAX_LINE_LENGTH, MIN_LINE_LENGTH};
+
+/// The job of four words, or their first fault.
+pub(crate) fn in_lines(
+    count: &str,
+    label: &str,
+    frames: &str,
+    length: &str,
+) -> Result<Job, WordsFault>
+    ensures { result ≡ in_lines count.now label.now frames.now length.now }
+{
+    let count = count_with_lines(count).ok_or(WordsFault::Value(1))?;
+    let label = spelled(count, label).ok_or(WordsFault::Value(2))?;
+    let frames = between(1, MAX_FRAMES, frames).ok_or(WordsFault::Value(3))?;
+    let length = between(MIN_LINE_LENGTH, MAX_LINE_LENGTH, length).ok_or(WordsFault::Value(4))?;
+    Ok(Job::VitcMake {
+        stripe: LineStripe::new(label, frames, length),
+    })
+}
