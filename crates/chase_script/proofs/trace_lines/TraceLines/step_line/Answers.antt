@@ -7,9 +7,9 @@ use Rattle.chase_script.proofs.TraceGoesOn.{at_most_one, line_of, next_row}
 use Rattle.chase_script.proofs.trace_lines.TraceLines.step_line.Goals as goal
 
 -- the next row keeps to the labels of the count
-pub worked-place-requires : goal.worked-place-requires
+pub worked-position-requires : goal.worked-position-requires
 unfolding AreRowsFor
-worked-place-requires c =
+worked-position-requires c =
     let s = c.self.inside in
     let next = next_row s.rows.items s.at c.index.result.now (rw (← c.self.view_is) at c.requires.some) c.index.ensures in
     let fit : AreRowsFor s.count (c.index.result.now ∷ drop (s.at + 1) s.rows.items) = rw next at c.self.invariant.3 in
@@ -24,10 +24,10 @@ invariant_of-self c =
     let going = rw (← c.self.view_is) at c.requires.going in
     let next = next_row s.rows.items s.at c.index.result.now some c.index.ensures in
     let fit : AreRowsFor s.count (c.index.result.now ∷ drop (s.at + 1) s.rows.items) = rw next at c.self.invariant.3 in
-    let lost : c.lost.result ≤ 1 = rw c.lost.ensures (at_most_one c.worked-place.result.0.loss) in (
+    let lost : c.lost.result ≤ 1 = rw c.lost.ensures (at_most_one c.worked-position.result.0.loss) in (
       omega (arith, some, length-drop s.at s.rows.items),
       omega (arith, c.self.invariant.1, lost),
-      ap (λ (l : Loop). l.chase.count) c.worked-place.ensures.after ∙ c.self.invariant.2,
+      ap (λ (l : Loop). l.chase.count) c.worked-position.ensures.after ∙ c.self.invariant.2,
       fit.1,
       λ ended. absurd (false≢true (sym going ∙ ended)),
     )
@@ -39,7 +39,7 @@ returns-clause-line c =
     let some = rw (← c.self.view_is) at c.requires.some in
     let going = rw (← c.self.view_is) at c.requires.going in
     let next = next_row s.rows.items s.at c.index.result.now some c.index.ensures in
-    let stepped = c.worked-place.ensures in
-    rw (← c.self.view_is) (line_of s.place c.worked-place.new.self c.index.result.now _ _ s.at s.losses c.lost.result c.worked-place.result.1
-    c.worked-place.result.0 s.count c.step_text.result.items s.is_ended going next c.self.invariant.2 stepped.report stepped.position
+    let stepped = c.worked-position.ensures in
+    rw (← c.self.view_is) (line_of s.place c.worked-position.new.self c.index.result.now _ _ s.at s.losses c.lost.result c.worked-position.result.1
+    c.worked-position.result.0 s.count c.step_text.result.items s.is_ended going next c.self.invariant.2 stepped.report stepped.position
     stepped.after c.lost.ensures c.step_text.ensures)
