@@ -181,7 +181,8 @@ impl IntervalDecoder {
 
     /// Whether the bytes so far end between two intervals.
     pub fn is_between(&self) -> bool
-        ensures { IsTrue result → IsBetween self.now }
+        ensures between { IsTrue result ↔ IsBetween self.now }
+        ensures boundary { IsTrue result → IsBoundary self.now.version self.now.taken }
     {
         self.fault.is_none() && HEADER_LENGTH <= self.taken && self.part.is_empty()
     }
