@@ -55,15 +55,27 @@ cut_more at n bytes = ap (λ (l : List ℕ). take at bytes ++ take n l) (take_re
 pub within_rest : (at n : ℕ) (bytes : List ℕ) → at ≤ length bytes → n ≤ length (take (length bytes - at) (drop at bytes)) → at + n ≤ length bytes
 within_rest at n bytes within less = grind (arith, common_steps)
 
--- bytes that give nothing, some more of the rest, and then a byte
-pub behind_passed : (old mid later new : MtcReader) (at n : ℕ) (bytes : List ℕ) (event : Option MtcEvent) → at + n < length bytes
-    → Passes old mid (take at bytes)
-    → ((front : List ℕ) → StandsFor mid front → StandsFor later (front ++ take n (take (length bytes - at) (drop at bytes))))
-    → ((front : List ℕ) → StandsFor mid front → events_in (front ++ take n (take (length bytes - at) (drop at bytes))) ≡ events_in front)
-    → ((front : List ℕ) → StandsFor later front → StandsFor new (front ++ get_or bytes (at + n) 0 ∷ []))
-    → ((front : List ℕ) → StandsFor later front → events_in (front ++ get_or bytes (at + n) 0 ∷ []) ≡ events_in front ++ events_of event)
-    → Gives old new (take (at + n + 1) bytes) event
-behind_passed old mid later new at n bytes event within first stands none more gives =
+-- two bytes more
+pub two_more : (at : ℕ) (bytes : List ℕ) → at + 2 ≤ length bytes → take at bytes ++ get_or bytes at 0 ∷ get_or bytes (at + 1) 0 ∷ [] ≡ take (at + 2) bytes
+two_more at bytes within =
+    let first = take_more bytes at 0 (omega (arith, within)) in
+    let second = take_more bytes (at + 1) 0 (omega (arith, within)) in
+    sym (append_assoc (take at bytes) (get_or bytes at 0 ∷ []) (get_or bytes (at + 1) 0 ∷ []))
+    ∙ ap (λ (l : List ℕ). l ++ get_or bytes (at + 1) 0 ∷ []) (sym first) ∙ sym second ∙ ap (λ n. take n bytes) (omega arith)
+
+-- the rest of bytes, from a place on
+abbrev pub rest_of : ℕ → List ℕ → List ℕ
+rest_of at bytes = take (length bytes - at) (drop at bytes)
+
+-- bytes that give nothing, some more of the rest, and then those of an event or none
+pub behind_passed : (old mid later new : MtcReader) (at n m : ℕ) (bytes : List ℕ) (event : Option MtcEvent) → Passes old mid (take at bytes)
+    → ((front : List ℕ) → StandsFor mid front → StandsFor later (front ++ take n (rest_of at bytes)))
+    → ((front : List ℕ) → StandsFor mid front → events_in (front ++ take n (rest_of at bytes)) ≡ events_in front)
+    → ((front : List ℕ) → StandsFor later front → StandsFor new (front ++ take m (rest_of (at + n) bytes)))
+    → ((front : List ℕ) → StandsFor later front → events_in (front ++ take m (rest_of (at + n) bytes)) ≡ events_in front ++ events_of event)
+    → Gives old new (take (at + n + m) bytes) event
+behind_passed old mid later new at n m bytes event first stands none more gives =
     let passed = passes_on old mid later (take at bytes) _ first (λ front is. (stands front is, none front is)) in
-    subst (λ (l : List ℕ). Gives old new l event) (ap (λ (l : List ℕ). l ++ get_or bytes (at + n) 0 ∷ []) (cut_more at n bytes) ∙ sym (take_more bytes (at + n) 0 within))
-    (gives_then old later new _ (get_or bytes (at + n) 0 ∷ []) event passed (λ front is. (more front is, gives front is)))
+    subst (λ (l : List ℕ). Gives old new l event)
+    (ap (λ (l : List ℕ). l ++ take m (rest_of (at + n) bytes)) (cut_more at n bytes) ∙ cut_more (at + n) m bytes)
+    (gives_then old later new _ (take m (rest_of (at + n) bytes)) event passed (λ front is. (more front is, gives front is)))

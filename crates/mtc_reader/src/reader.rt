@@ -83,13 +83,45 @@ impl MtcReader {
             if at == bytes.len() {
                 return (at, None);
             }
-            let event = self.byte(bytes[at]);
-            at += 1;
+            let (count, event) = self.next(&bytes[at..]);
+            at += count;
             if event.is_some() {
                 return (at, event);
             }
         }
         (at, None)
+    }
+
+    /// Takes the first byte, or both bytes of a quarter frame, and answers how many these are, and the event
+    /// that is complete with them.
+    #[inline(always)]
+    fn next(&mut self, bytes: &[u8]) -> (usize, Option<MtcEvent>)
+        requires some { 0 < length bytes.now }
+        requires within { self.old.bytes + length bytes.now ≤ 2 ^ 62 }
+        ensures least { 1 ≤ result.0 }
+        ensures most { result.0 ≤ length bytes.now }
+        ensures count { self.new.bytes ≡ self.old.bytes + result.0 }
+        ensures stands { (front : List ℕ) → StandsFor self.old front → StandsFor self.new (front ++ take result.0 bytes.now) }
+        ensures gives { (front : List ℕ) → StandsFor self.old front
+            → events_in (front ++ take result.0 bytes.now) ≡ events_in front ++ events_of result.1 }
+    {
+        match bytes {
+            [QUARTER_FRAME, number, ..] => (2, self.both(*number)),
+            _ => (1, self.byte(bytes[0])),
+        }
+    }
+
+    /// Takes the status byte of a quarter frame and the byte behind it.
+    #[inline(always)]
+    fn both(&mut self, number: u8) -> Option<MtcEvent>
+        requires { self.old.bytes + 2 ≤ 2 ^ 62 }
+        ensures count { self.new.bytes ≡ self.old.bytes + 2 }
+        ensures stands { (front : List ℕ) → StandsFor self.old front → StandsFor self.new (front ++ 0xf1 ∷ number ∷ []) }
+        ensures gives { (front : List ℕ) → StandsFor self.old front
+            → events_in (front ++ 0xf1 ∷ number ∷ []) ≡ events_in front ++ events_of result }
+    {
+        let _none = self.byte(QUARTER_FRAME);
+        self.byte(number)
     }
 
     /// Takes the quarter frames in front with which no event is complete, and answers how many bytes these
@@ -102,8 +134,8 @@ impl MtcReader {
         ensures none { (front : List ℕ) → StandsFor self.old front → events_in (front ++ take result bytes.now) ≡ events_in front }
     {
         let mut at = 0;
-        'bytes: while at < bytes.len() {
-            if !self.pass(&bytes[at..]) {
+        'bytes: while 2 <= bytes.len() - at {
+            if !self.pass(bytes[at], bytes[at + 1]) {
                 return at;
             }
             at += 2;
@@ -111,21 +143,17 @@ impl MtcReader {
         at
     }
 
-    /// Takes the quarter frame in front where there is one and no event is complete with it, and answers
-    /// whether it took it.
+    /// Takes two bytes where they are a quarter frame and no event is complete with it, and answers whether it
+    /// took them.
     #[inline(always)]
-    fn pass(&mut self, bytes: &[u8]) -> bool
-        requires { self.old.bytes + length bytes.now ≤ 2 ^ 62 }
-        ensures two { result ≡ true → 2 ≤ length bytes.now }
+    fn pass(&mut self, status: u8, number: u8) -> bool
+        requires { self.old.bytes + 2 ≤ 2 ^ 62 }
         ensures count { result ≡ true → self.new.bytes ≡ self.old.bytes + 2 }
         ensures stays { result ≡ false → self.new ≡ self.old }
-        ensures stands { result ≡ true → (front : List ℕ) → StandsFor self.old front → StandsFor self.new (front ++ take 2 bytes.now) }
-        ensures none { result ≡ true → (front : List ℕ) → StandsFor self.old front → events_in (front ++ take 2 bytes.now) ≡ events_in front }
+        ensures stands { result ≡ true → (front : List ℕ) → StandsFor self.old front → StandsFor self.new (front ++ status ∷ number ∷ []) }
+        ensures none { result ≡ true → (front : List ℕ) → StandsFor self.old front → events_in (front ++ status ∷ number ∷ []) ≡ events_in front }
     {
-        match bytes {
-            [QUARTER_FRAME, number, ..] if *number < STATUS => self.quarter_frame(*number),
-            _ => false,
-        }
+        status == QUARTER_FRAME && number < STATUS && self.quarter_frame(number)
     }
 
     /// Takes both bytes of a quarter frame where no event is complete with it, and answers whether it took

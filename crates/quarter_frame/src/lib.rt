@@ -13,10 +13,11 @@
 //!   `full_of`).
 //! - What `QuarterWriter::frame` writes of one frame after another is the MIDI Time Code of the frames
 //!   (`specs/Runs.antt`, `mtc_of`), without keeping them (`specs/StandsFor.antt`, clause `stands`).
-//! - Eight quarter frames of a pair carry its earlier label in either direction (`laws`).
+//! - Eight quarter frames of a pair carry its earlier label in either direction, and what is sent of the
+//!   frames of words is read by mtc_reader as these frames (`specs/ReadAgain.antt`, `read_of`; `laws`).
 //!
-//! Read `message`, `half` and `writer`, in this order, and `specs/Message.antt`, `Runs.antt` and
-//! `StandsFor.antt` beside them. Nothing here allocates or fails.
+//! Read `message`, `half` and `writer`, in this order, and `specs/Message.antt`, `Runs.antt`,
+//! `StandsFor.antt` and `ReadAgain.antt` beside them. Nothing here allocates or fails.
 #![tactic(auto)]
 
 mod half;

@@ -1,5 +1,5 @@
-use Rattle.std.proofs.Common.{◌+◌, ◌-◌, drop, length, take, subst, arith}
-use Rattle.mtc_reader.proofs.PieceByPiece.{cut_more, nothing_yet, passes_on, within_rest, Passes}
+use Rattle.std.proofs.Common.{◌+◌, ◌≤◌, length, take, subst, arith}
+use Rattle.mtc_reader.proofs.PieceByPiece.{nothing_yet, passes_on, two_more, Passes}
 use Rattle.mtc_reader.proofs.reader.MtcReader.passed.Goals as goal
 
 pub bytes-init : goal.bytes-init
@@ -13,9 +13,10 @@ bytes-preserved c =
     let bytes = c.args.bytes.now in
     let e = c.pass.ensures in
     let took = c.if-not-pass.false in
+    let within : at + 2 ≤ length bytes = omega (arith, i.within, c.bytes-test.true) in
     record {
-      within = within_rest at 2 bytes i.within (e.two took);
+      within = within;
       count = omega (arith, e.count took, i.count);
-      passes = subst (λ bs. Passes c.args.self.now c.pass.new.self bs) (cut_more at 2 bytes)
+      passes = subst (λ bs. Passes c.args.self.now c.pass.new.self bs) (two_more at bytes within)
           (passes_on c.args.self.now c.bytes.self c.pass.new.self _ _ i.passes (λ front stands. (e.stands took front stands, e.none took front stands)));
     }
