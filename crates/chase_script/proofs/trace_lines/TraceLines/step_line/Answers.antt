@@ -40,6 +40,6 @@ returns-clause-line c =
     let going = rw (← c.self.view_is) at c.requires.going in
     let next = next_row s.rows.items s.at c.index.result.now some c.index.ensures in
     let stepped = c.worked-position.ensures in
-    rw (← c.self.view_is) (line_of s.place c.worked-position.new.self c.index.result.now _ _ s.at s.losses c.lost.result c.worked-position.result.1
+    rw (← c.self.view_is) (line_of s.place c.worked-position.new.place c.index.result.now _ _ s.at s.losses c.lost.result c.worked-position.result.1
     c.worked-position.result.0 s.count c.step_text.result.items s.is_ended going next c.self.invariant.2 stepped.report stepped.position
     stepped.after c.lost.ensures c.step_text.ensures)
