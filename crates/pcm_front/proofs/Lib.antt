@@ -11,3 +11,4 @@ pub mod InPieces
 pub mod SlicedAgain
 pub mod ReadBack
 pub mod SampleBySample
+pub mod StaysStill

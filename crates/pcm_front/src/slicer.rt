@@ -164,6 +164,31 @@ impl Slicer {
             → distances self.old.fineness self.old.threshold (samples ++ samples_of (take result.0 bytes.now))
             ≡ distances self.old.fineness self.old.threshold samples ++ option_to_list result.1 }
     {
+        let still = self.still(bytes);
+        let (more, distance) = self.sample_by_sample(&bytes[still..]);
+        (still + more, distance)
+    }
+
+    /// The same, sample by sample.
+    fn sample_by_sample(&mut self, bytes: &[u8]) -> (usize, Option<u64>)
+        requires { self.old.tick + self.old.fineness * length bytes.now ≤ 2 ^ 62 }
+
+        // Where no distance comes, all whole samples were taken.
+        ensures within { result.0 ≤ length bytes.now }
+        ensures some { 2 ≤ length bytes.now → 2 ≤ result.0 }
+        ensures all { result.1 ≡ None → length bytes.now < result.0 + 2 }
+        ensures range { IfSome result.1 (λ distance. (1 ≤ distance) × (distance ≤ 2 ^ 62)) }
+        ensures tick { (count : ℕ) × (result.0 ≡ 2 * count) × (self.new.tick ≡ self.old.tick + self.old.fineness * count) }
+        ensures fineness { self.new.fineness ≡ self.old.fineness }
+        ensures threshold { self.new.threshold ≡ self.old.threshold }
+
+        // What it means for the samples so far.
+        ensures stands { (samples : List ℤ) → StandsFor self.old samples
+            → StandsFor self.new (samples ++ samples_of (take result.0 bytes.now)) }
+        ensures distances { (samples : List ℤ) → StandsFor self.old samples
+            → distances self.old.fineness self.old.threshold (samples ++ samples_of (take result.0 bytes.now))
+            ≡ distances self.old.fineness self.old.threshold samples ++ option_to_list result.1 }
+    {
         let mut at = 0;
         'samples: while 2 <= bytes.len() - at {
             let sample = LittleEndian::read_i16(&bytes[at..]);
@@ -174,5 +199,39 @@ impl Slicer {
             }
         }
         (at, None)
+    }
+
+    /// Takes the whole samples at the front of bytes with which the sound stays on its side, where the
+    /// threshold is fixed, and gives how many bytes these are. None of them brings a distance.
+    fn still(&mut self, bytes: &[u8]) -> usize
+        requires { self.old.tick + self.old.fineness * length bytes.now ≤ 2 ^ 62 }
+        ensures within { result ≤ length bytes.now }
+        ensures tick { (count : ℕ) × (result ≡ 2 * count) × (self.new.tick ≡ self.old.tick + self.old.fineness * count) }
+        ensures fineness { self.new.fineness ≡ self.old.fineness }
+        ensures threshold { self.new.threshold ≡ self.old.threshold }
+        ensures stands { (samples : List ℤ) → StandsFor self.old samples
+            → StandsFor self.new (samples ++ samples_of (take result bytes.now)) }
+        ensures none { (samples : List ℤ) → StandsFor self.old samples
+            → distances self.old.fineness self.old.threshold (samples ++ samples_of (take result bytes.now))
+            ≡ distances self.old.fineness self.old.threshold samples }
+    {
+        let Threshold::Fixed(threshold) = self.threshold else {
+            return 0;
+        };
+        let (side, fineness) = (self.side, u64::from(self.fineness));
+        let (mut tick, mut before) = (self.tick, self.before);
+        let mut at = 0;
+        'samples: while 2 <= bytes.len() - at {
+            let sample = LittleEndian::read_i16(&bytes[at..]);
+            if !stays(side, threshold, sample) {
+                break;
+            }
+            at += 2;
+            tick += fineness;
+            before = sample;
+        }
+        self.tick = tick;
+        self.before = before;
+        at
     }
 }

@@ -1,6 +1,6 @@
 use Rattle.std.proofs.Common.{◌≡◌, ◌+◌, ◌-◌, ◌*◌, ◌≤◌, ℕ, None, take, length}
 use Rattle.pcm_front.proofs.SampleBySample.{RunsTo}
-use Rattle.pcm_front.proofs.slicer.Slicer.run.Given as goal
+use Rattle.pcm_front.proofs.slicer.Slicer.sample_by_sample.Given as goal
 
 -- the samples so far were taken, and brought nothing
 abbrev pub invariant-samples : goal.invariant-samples
