@@ -16,6 +16,8 @@
 //! - What `ltc-read` and `ltc-worn` print are the lines of the events of the file's intervals, each
 //!   counted in the last line (`specs/LtcRead.antt`). Where the file holds a tape within the tolerance,
 //!   these are the tape's own words (`specs/Tape.antt`, clause `truth`).
+//! - What `ltc-jam` writes is a clean recording, from which each frame of the input that was heard or
+//!   invented is read, and nothing else (`specs/LtcJam.antt`, `IsClean`; clause `clean`).
 //! - A chase writes nothing before its whole script was read and each row was judged, and its trace keeps
 //!   its lock (`specs/Chase.antt`; clause `lock`).
 //!
