@@ -1,13 +1,13 @@
 -- Where the threshold is fixed and the sound stays on its side, a sample changes the tick and the sample before, and nothing else.
-use Rattle.std.proofs.Common.{◌≡◌, ℕ, ◌+◌, ℤ, List, [], ◌∷◌, ◌++◌, Bool, true, false, cond, Option, None, Some, refl, sym, ◌∙◌, ap, subst, append-nil}
-use Rattle.std.specs.Option.{option_or, option_to_list}
+use Rattle.std.proofs.Common.{◌≡◌, ℕ, ◌+◌, ℤ, List, [], ◌∷◌, ◌++◌, true, Option, None, Some, refl, sym, ◌∙◌, ap, subst}
+use Rattle.std.specs.Option.{option_to_list}
 use Rattle.pcm_front.specs.declared.level.Level.{Level}
 use Rattle.pcm_front.specs.declared.side.Side.{Side}
 use Rattle.pcm_front.specs.declared.threshold.Threshold.{Threshold}
-use Rattle.pcm_front.specs.declared.threshold.Threshold.TheVariants.{Fixed, Follow}
+use Rattle.pcm_front.specs.declared.threshold.Threshold.TheVariants.{Fixed}
 use Rattle.pcm_front.specs.Distance.{distances}
 use Rattle.pcm_front.specs.Samples.{samples_of}
-use Rattle.pcm_front.specs.Side.{differs, side_of, stays}
+use Rattle.pcm_front.specs.Side.{side_of, stays}
 use Rattle.pcm_front.specs.State.{between, distance_at, state_after, state_of, SlicerState}
 use Rattle.pcm_front.specs.StandsFor.{StandsFor}
 use Rattle.pcm_front.proofs.SampleBySample.{no_bytes, runs_on, RunsTo}

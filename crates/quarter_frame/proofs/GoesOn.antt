@@ -1,5 +1,5 @@
 -- The frames of words go on step by step: an invented frame, and a word that joins, stands one step after the frame before it.
-use Rattle.std.proofs.Common.{◌≡◌, ℕ, zero, suc, ◌+◌, ◌≤◌, Bool, true, false, not, ◌&&◌, cond, ℤ, pos, neg_ℤ, ◌+ℤ◌, List, [], ◌∷◌, ◌++◌, length, map, Option, Some, None, refl, sym, ◌∙◌, ap, subst, append_assoc, append-nil, arith}
+use Rattle.std.proofs.Common.{◌≡◌, ℕ, zero, suc, ◌+◌, Bool, true, false, not, ◌&&◌, cond, ℤ, pos, ◌+ℤ◌, List, [], ◌∷◌, ◌++◌, length, map, Option, Some, None, refl, sym, ◌∙◌, ap, subst, append_assoc, append-nil, arith}
 use Rattle.std.specs.Prelude.{slice_get, ◌↔◌}
 use Rattle.std.specs.Option.{unwrap_or}
 use Rattle.std.specs.List.{range_with_len}
@@ -13,7 +13,7 @@ use Rattle.tc_address.specs.Numbering.{number_of, step}
 use Rattle.flywheel.specs.declared.heard.HeardWord.{HeardWord}
 use Rattle.flywheel.specs.declared.frame.Frame.{Frame}
 use Rattle.flywheel.specs.declared.frame.Frame.TheVariants.{Heard, Invented, Gone}
-use Rattle.flywheel.specs.Frames.{due_steps, frames, frames_after, frames_between, heard_as, invented_after, is_due, is_gone, is_joined, is_next, label_after, steps_in, tick_after}
+use Rattle.flywheel.specs.Frames.{due_steps, frames, frames_after, frames_between, heard_as, invented_after, is_gone, is_joined, is_next, label_after, steps_in, tick_after}
 use Rattle.quarter_frame.specs.ReadAgain.{AreLabelled, Placed}
 
 -- what the crates below say

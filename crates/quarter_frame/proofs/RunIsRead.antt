@@ -1,6 +1,6 @@
 -- The text of a run is a full message and pairs, eight quarter frames each, and maybe half a pair; so it is read pair by pair.
-use Rattle.std.proofs.Common.{◌≡◌, ◌<◌, ◌⊎◌, inl, inr, ℕ, ◌+◌, ◌*◌, ◌/◌, ◌%◌, ◌==◌, Bool, true, false, ℤ, pos, neg_ℤ, ◌+ℤ◌, cond, List, [], ◌∷◌, ◌++◌, map, Option, Some, None, refl, sym, ◌∙◌, ap, subst, append_assoc, append-nil, arith}
-use Rattle.std.specs.List.{flat_map, take_while}
+use Rattle.std.proofs.Common.{◌≡◌, ◌<◌, ◌⊎◌, inl, inr, ℕ, ◌+◌, ◌*◌, ◌%◌, true, false, pos, neg_ℤ, List, [], ◌∷◌, ◌++◌, map, Some, refl, sym, ◌∙◌, ap, subst, append_assoc, append-nil, arith}
+use Rattle.std.specs.List.{take_while}
 use Rattle.std.proofs.lemmas.Bool.Decides.{nat_tests}
 use Rattle.std.proofs.lemmas.List.Sums.{take_while-cons}
 use Rattle.tc_address.specs.declared.count.Count.{Count}
@@ -18,8 +18,8 @@ use Rattle.mtc_reader.specs.Events.{events_in}
 use Rattle.mtc_reader.specs.Laws.{all_falling, all_rising, at_no_place, falling, falling_half, quarter_events, rising, rising_half, AreLabels}
 use Rattle.mtc_reader.specs.Laws as read
 use Rattle.quarter_frame.specs.Message.{code_of, full_of}
-use Rattle.quarter_frame.specs.ReadAgain.{all_placed, earlier, later, pairs_read, placed, run_read, IsNeighbour, Placed}
-use Rattle.quarter_frame.specs.Runs.{before, four_of, full_message, goes_on, is_even, quarters_from, run_text}
+use Rattle.quarter_frame.specs.ReadAgain.{all_placed, earlier, later, pairs_read, IsNeighbour, Placed}
+use Rattle.quarter_frame.specs.Runs.{before, four_of, goes_on, is_even, quarters_from}
 use Rattle.quarter_frame.proofs.GoesOn.{Follows, GoOn, Laws, placed_at, step_label}
 
 -- what the reader's crate says of a run

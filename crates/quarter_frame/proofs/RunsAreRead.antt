@@ -1,8 +1,6 @@
 -- The runs of frames that go on are read one after another.
 use Rattle.std.proofs.Common.{◌≡◌, ℕ, Bool, true, false, List, [], ◌∷◌, ◌++◌, map, Option, Some, None, refl, sym, ◌∙◌, ap, subst, append_assoc, append-nil}
 use Rattle.std.specs.List.{take_while}
-use Rattle.tc_address.specs.declared.direction.Direction.{Direction}
-use Rattle.tc_address.specs.Label.{Address, IsLabel}
 use Rattle.flywheel.specs.declared.heard.HeardWord.{HeardWord}
 use Rattle.flywheel.specs.declared.frame.Frame.{Frame}
 use Rattle.flywheel.specs.declared.frame.Frame.TheVariants.{Heard, Invented, Gone}
@@ -11,8 +9,8 @@ use Rattle.mtc_reader.specs.declared.event.MtcEvent.{MtcEvent}
 use Rattle.mtc_reader.specs.Events.{events_in}
 use Rattle.mtc_reader.specs.Laws.{at_no_place}
 use Rattle.quarter_frame.specs.ReadAgain.{placed, read_from, read_of, run_read, AreLabelled, IsNeighbour, Placed}
-use Rattle.quarter_frame.specs.Runs.{goes_on, is_end, mtc_from, mtc_of, run_text}
-use Rattle.quarter_frame.proofs.GoesOn.{frames_go_on, placed_at, FollowsLast, GoOn, Laws}
+use Rattle.quarter_frame.specs.Runs.{goes_on, mtc_from, mtc_of, run_text}
+use Rattle.quarter_frame.proofs.GoesOn.{frames_go_on, placed_at, GoOn, Laws}
 use Rattle.quarter_frame.proofs.RunIsRead.{one_before, run_of, ReadsRuns}
 
 -- no frame came before, or an end

@@ -1,4 +1,4 @@
-use Rattle.std.proofs.Common.{◌≡◌, ◌+◌, ◌*◌, take, subst, arith}
+use Rattle.std.proofs.Common.{◌+◌, take, subst, arith}
 use Rattle.std.proofs.lemmas.List.{take_rest}
 use Rattle.pcm_front.proofs.SampleBySample.{runs_then, ticks_in_parts, RunsTo}
 use Rattle.pcm_front.proofs.slicer.Slicer.run.Goals as goal

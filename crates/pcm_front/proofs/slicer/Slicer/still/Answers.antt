@@ -1,5 +1,5 @@
 use Rattle.std.specs.Int.{w16}
-use Rattle.std.proofs.Common.{FitsSigned, rules, ◌≡◌, ◌+◌, ◌*◌, ◌≤◌, ℤ, List, [], ◌∷◌, ◌++◌, length, take, None, refl, sym, ◌∙◌, ap, subst, append-nil, arith, true, to_z, to_z-of_z}
+use Rattle.std.proofs.Common.{FitsSigned, rules, ◌≡◌, ◌+◌, [], ◌∷◌, ◌++◌, take, refl, sym, ◌∙◌, ap, subst, append-nil, arith, true, to_z, to_z-of_z}
 use Rattle.std.proofs.lemmas.List.{take_rest}
 use Rattle.pcm_front.specs.Distance.{distances}
 use Rattle.pcm_front.specs.Samples.{sample_in, samples_of}

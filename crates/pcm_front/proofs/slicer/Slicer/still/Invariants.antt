@@ -1,6 +1,5 @@
 use Rattle.std.proofs.Common.{◌≡◌, ◌+◌, ◌-◌, ◌*◌, ◌≤◌, ℕ, None, take, length}
 use Rattle.pcm_front.specs.declared.threshold.Threshold.TheVariants.{Fixed}
-use Rattle.pcm_front.specs.State.{state_of}
 use Rattle.pcm_front.proofs.SampleBySample.{RunsTo}
 use Rattle.pcm_front.proofs.slicer.Slicer.still.Given as goal
 
