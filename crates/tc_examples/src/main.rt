@@ -15,7 +15,7 @@ struct Example {
 }
 
 /// The examples, in the order of the lesson.
-const EXAMPLES: [Example; 6] = [
+const EXAMPLES: [Example; 7] = [
     Example {
         line: "ltc-read",
         input: "25-worn.ltci",
@@ -39,6 +39,10 @@ const EXAMPLES: [Example; 6] = [
     Example {
         line: "mtc-read",
         input: "30d-damaged.mtc",
+    },
+    Example {
+        line: "vitc-read",
+        input: "30-damaged.vitl",
     },
 ];
 
