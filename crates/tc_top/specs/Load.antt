@@ -21,15 +21,12 @@ use Rattle.direction_reader.specs.declared.event.Event.TheVariants.{Word, Refuse
 use Rattle.direction_reader.specs.Events.{is_lost, is_refused, is_word}
 use Rattle.direction_reader.specs.ListEvents.{AreEvents, duration}
 use Rattle.direction_reader.specs.Played.{Played, events_of_words, played_bits}
+use Rattle.generator.specs.Draw.{drawn}
 use Rattle.tc_words.specs.Load.{Loading}
 use Rattle.tc_top.specs.declared.chance.Chance.{Chance}
-use Rattle.tc_top.specs.declared.chance.TheConstants.{FACTOR, SUMMAND, FIRST_LENGTH, LEAST_LENGTH, GREATEST_LENGTH}
+use Rattle.tc_top.specs.declared.chance.TheConstants.{FIRST_LENGTH, LEAST_LENGTH, GREATEST_LENGTH}
 
 -- ---- the generator
-
--- one draw from a state: the next state is its value
-abbrev pub drawn : ℕ → ℕ
-drawn state = (FACTOR * state + SUMMAND) % 2 ^ 64
 
 -- the length of a cell is within these bounds
 abbrev pub IsChance : Chance → Type 0

@@ -1,16 +1,12 @@
-//! The generator of the load run: cells whose length changes by chance. Next: `engines/ltc_load.rt`.
+//! The cells of the load run: their length changes by chance. Next: `engines/ltc_load.rt`.
 ghost use Rattle.std.specs.Prelude.{◌≡◌, ◌≤◌, ◌<◌};
 ghost use Rattle.biphase.specs.Chain.{intervals_of};
+ghost use Rattle.generator.specs.Draw.{drawn};
 ghost use Rattle.tc_files.specs.Grammar.{AreIntervals};
-ghost use Rattle.tc_top.specs.Load.{IsChance, begins_with, cell_of, drawn, first_half, one_cell, one_draw};
+ghost use Rattle.tc_top.specs.Load.{IsChance, begins_with, cell_of, first_half, one_cell, one_draw};
 
 use biphase::Cell;
-
-/// The factor of a draw.
-pub(crate) const FACTOR: u64 = 6_364_136_223_846_793_005;
-
-/// What a draw adds.
-pub(crate) const SUMMAND: u64 = 1_442_695_040_888_963_407;
+use generator::Generator;
 
 /// The length before the first cell, in ticks.
 pub(crate) const FIRST_LENGTH: u32 = 512;
@@ -24,7 +20,7 @@ pub(crate) const GREATEST_LENGTH: u32 = 4_096;
 /// How far the generator is: its state, and the length of the latest cell.
 #[derive(Clone, Copy)]
 pub(crate) struct Chance {
-    state: u64,
+    state: Generator,
     length: u32,
 }
 
@@ -34,7 +30,7 @@ impl Chance {
         ensures value { result ≡ begins_with seed }
     {
         Chance {
-            state: seed,
+            state: Generator::new(seed),
             length: FIRST_LENGTH,
         }
     }
@@ -44,8 +40,7 @@ impl Chance {
         ensures value { result ≡ drawn self.old.state }
         ensures next { self.new ≡ one_draw self.old }
     {
-        self.state = self.state.wrapping_mul(FACTOR).wrapping_add(SUMMAND);
-        self.state
+        self.state.draw()
     }
 
     /// The next cell, with this bit.

@@ -69,10 +69,8 @@ pub fn a_script_has_this_limit()
     ensures { MAX_SCRIPT ≡ 1048576 }
 {}
 
-/// The generator of `ltc-load` has these numbers.
-pub fn the_generator_is_this()
-    ensures factor { chance.FACTOR ≡ 6364136223846793005 }
-    ensures summand { chance.SUMMAND ≡ 1442695040888963407 }
+/// The lengths that `ltc-load` makes of what it draws have these limits.
+pub fn the_lengths_of_a_load_run_are_these()
     ensures first { chance.FIRST_LENGTH ≡ 512 }
     ensures least { chance.LEAST_LENGTH ≡ 64 }
     ensures greatest { chance.GREATEST_LENGTH ≡ 4096 }

@@ -14,7 +14,8 @@ use Rattle.tc_address.specs.declared.system.System.TheVariants.{F25}
 use Rattle.tc_top.specs.declared.chance.Chance.{Chance}
 use Rattle.tc_top.specs.declared.engines.ltc_load.Counts.{Counts}
 use Rattle.tc_top.specs.KeptLoad.{line_with}
-use Rattle.tc_top.specs.Load.{IsAllRead, begins_with, begun, cell_of, cells_by, drawn, first_label, load_cells, load_events, load_line, load_word, next_bits, one_cell}
+use Rattle.generator.specs.Draw.{drawn}
+use Rattle.tc_top.specs.Load.{IsAllRead, begins_with, begun, cell_of, cells_by, first_label, load_cells, load_events, load_line, load_word, next_bits, one_cell}
 use Rattle.tc_top.proofs.CountedLabels.{line_of_events}
 use Rattle.tc_top.proofs.LoadInPieces.{all_were_read, locked, word_read}
 use Rattle.tc_top.proofs.LoadIsRead.{load_is_read}
