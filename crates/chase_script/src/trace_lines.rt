@@ -11,10 +11,10 @@ ghost use Rattle.transport_model.specs.Move.{day_of};
 use crate::row::ScriptRow;
 use crate::script::Script;
 use crate::texts::{step_end_text, step_text};
-use chase_core::{ClosedLoop, Loss, Report};
 use chase_core::laws::{
     a_locked_chase_stays_locked, a_trace_has_a_line_for_each_row, pulling_ends,
 };
+use chase_core::{ClosedLoop, Loss, Report};
 use std::marker::Model;
 use tc_address::{Count, Label};
 use tc_files::Text;

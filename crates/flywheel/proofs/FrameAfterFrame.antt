@@ -47,8 +47,7 @@ go_on-steps sum word n zero rest on = let P : ℕ → Type 0 = λ k. GoOn (Some 
 go_on-steps sum word n (suc m) rest on =
     let e : n + suc m ≡ suc n + m = omega arith in
     let later = go_on-steps sum word (suc n) m rest (subst (λ k. GoOn (Some (place_since word k)) rest) e on) in
-    let f : suc (suc n) ≡ suc n + 1 = omega arith in
-    (
+    let f : suc (suc n) ≡ suc n + 1 = omega arith in (
       λ _. (place_since word n, refl, ap (λ p. Some p) (sym (next-since sum word n))),
       subst (λ k. GoOn (Some (place_since word (suc n))) (map (invented_after word) (range_with_len k m) ++ rest)) f later,
     )
