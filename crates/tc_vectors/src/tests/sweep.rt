@@ -19,20 +19,22 @@ const ROOM: usize = 40_000;
 const MANY: u64 = 1_000;
 
 /// The commands along an interval file.
-const ALONG_INTERVALS: [&str; 7] = [
+const ALONG_INTERVALS: [&str; 8] = [
     "ltc-read",
     "ltc-worn",
     "ltc-fly 2",
     "ltc-mtc 2",
+    "ltc-jam 2 24 48000",
     "ltc-convert 1",
     "ltc-convert 2",
     "ltc-pcm 1000",
 ];
 
 /// The commands that read nothing.
-const ALONE: [&str; 4] = [
+const ALONE: [&str; 5] = [
     "ltc-make 30d backward 00:01:00;02 2 20 48000",
     "ltc-load 1 2",
+    "vitc-make 30d 00:01:00;02 1 460",
     "number 25 12:34:56:23",
     "label 30d 1800",
 ];
@@ -72,7 +74,8 @@ impl Case {
 }
 
 /// The cases that read an input.
-fn reading(alloc: Global) -> Result<Vec<Case>, Fail> {
+fn reading(rt: &(impl Abort + AllocGlobal)) -> Result<Vec<Case>, Fail> {
+    let alloc = rt.alloc();
     let recording = with_a_dropout(alloc)?;
     let mut cases = Vec::new(alloc);
     for words in ALONG_INTERVALS {
@@ -80,6 +83,8 @@ fn reading(alloc: Global) -> Result<Vec<Case>, Fail> {
     }
     cases.push(Case::new(alloc, "mtc-read", FORWARD)?)?;
     cases.push(Case::new(alloc, "chase 25 00:00:00:00", SCRIPT)?)?;
+    let lines = Trial::new("vitc-make 25 10:00:00:00 2 1000", b"").output(rt, Status::Done)?;
+    cases.push(Case::new(alloc, "vitc-read", &lines)?)?;
     let sound = cases_sound(alloc)?;
     cases.push(Case::new(alloc, "pcm-ltc 25 48000 1000 16 follow", &sound)?)?;
     Ok(cases)
@@ -98,8 +103,9 @@ fn cases_sound(alloc: Global) -> Result<Vec<u8>, AllocError> {
 }
 
 /// All cases.
-fn cases(alloc: Global) -> Result<Vec<Case>, Fail> {
-    let mut cases = reading(alloc)?;
+fn cases(rt: &(impl Abort + AllocGlobal)) -> Result<Vec<Case>, Fail> {
+    let alloc = rt.alloc();
+    let mut cases = reading(rt)?;
     for words in ALONE {
         cases.push(Case::new(alloc, words, b"")?)?;
     }
@@ -174,7 +180,7 @@ fn fail_each_pull(rt: &(impl Abort + AllocGlobal), case: &Case) -> Result<(), Fa
 
 #[test]
 fn each_pull_fails_in_turn(rt: HostRuntime) -> Result<(), Fail> {
-    for case in &reading(rt.alloc())? {
+    for case in &reading(&rt)? {
         fail_each_pull(&rt, case)?;
     }
     Ok(())
@@ -213,7 +219,7 @@ fn fail_each_push(rt: &(impl Abort + AllocGlobal), case: &Case) -> Result<(), Fa
 
 #[test]
 fn each_push_fails_in_turn(rt: HostRuntime) -> Result<(), Fail> {
-    for case in &cases(rt.alloc())? {
+    for case in &cases(&rt)? {
         fail_each_push(&rt, case)?;
     }
     Ok(())
@@ -252,7 +258,7 @@ fn fill_each_room(rt: &(impl Abort + AllocGlobal), case: &Case) -> Result<(), Fa
 
 #[test]
 fn the_output_is_full_at_each_length(rt: HostRuntime) -> Result<(), Fail> {
-    for case in &cases(rt.alloc())? {
+    for case in &cases(&rt)? {
         fill_each_room(&rt, case)?;
     }
     Ok(())
@@ -261,7 +267,7 @@ fn the_output_is_full_at_each_length(rt: HostRuntime) -> Result<(), Fail> {
 #[test]
 fn the_notes_have_room_for_each_number_of_bytes(rt: HostRuntime) -> Result<(), Fail> {
     let note = b"tc: write fault\n".as_slice();
-    for case in &cases(rt.alloc())? {
+    for case in &cases(&rt)? {
         for notes_room in 0..note.len() {
             let ended = Trial {
                 notes_room,
