@@ -1,13 +1,11 @@
 -- The two bytes of a quarter frame more.
-use Rattle.std.proofs.Common.{◌≡◌, ◌<◌, ℕ, ◌+◌, List, [], ◌∷◌, ◌++◌, length, refl, sym, ◌∙◌, ap, subst, length-append}
+use Rattle.std.proofs.Common.{◌≡◌, ◌<◌, ℕ, ◌+◌, List, [], ◌∷◌, ◌++◌, refl, sym, ◌∙◌, ap, subst, length-append}
 use Rattle.std.specs.Prelude.{reverse}
 use Rattle.std.proofs.lemmas.List.{reverse-append}
-use Rattle.mtc_reader.specs.declared.current.CurrentMessage.{CurrentMessage}
 use Rattle.mtc_reader.specs.declared.message.Message.{Message}
 use Rattle.mtc_reader.specs.declared.message.Message.TheVariants.{QuarterFrame}
 use Rattle.mtc_reader.specs.declared.reader.MtcReader.{MtcReader}
-use Rattle.mtc_reader.specs.declared.row.Row.{Row}
-use Rattle.mtc_reader.specs.Messages.{current_in, messages_in, without_real_time}
+use Rattle.mtc_reader.specs.Messages.{messages_in, without_real_time}
 use Rattle.mtc_reader.specs.StandsFor.{Keeps, KeepsRow, StandsFor}
 use Rattle.mtc_reader.proofs.ReadBack.{below, sounds}
 

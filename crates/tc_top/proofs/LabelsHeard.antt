@@ -1,5 +1,5 @@
 -- The words that are heard in a recording have labels.
-use Rattle.std.proofs.Common.{◌≡◌, ◌⊎◌, inl, inr, ℕ, List, [], ◌∷◌, ◌++◌, Option, Some, None, refl, subst, sym}
+use Rattle.std.proofs.Common.{◌≡◌, inl, inr, ℕ, List, [], ◌∷◌, ◌++◌, Option, Some, None, subst, sym}
 use Rattle.std.specs.Prelude.{IsSomeAnd}
 use Rattle.std.proofs.lemmas.Bool.{cases_eq}
 use Rattle.biphase.specs.declared.profile.Profile.{Profile}
@@ -9,13 +9,12 @@ use Rattle.direction_reader.specs.declared.event.Event.TheVariants.{Word, Refuse
 use Rattle.direction_reader.specs.declared.event.Events.{Events}
 use Rattle.direction_reader.specs.Candidate.{AreEventsOf, IsEventOf}
 use Rattle.direction_reader.specs.Events.{event_list, listed}
-use Rattle.direction_reader.specs.ListEvents.{break_events, begin_of, windows, AreEvents, AreEventsOfStretches, AreEventsOfWindows, CellWindow}
+use Rattle.direction_reader.specs.ListEvents.{break_events, AreEvents, AreEventsOfStretches, AreEventsOfWindows, CellWindow}
 use Rattle.ltc_word.specs.declared.places.TheConstants as places
-use Rattle.ltc_word.specs.Reversal.{reversed_bits, EndsInSync}
+use Rattle.ltc_word.specs.Reversal.{reversed_bits}
 use Rattle.quarter_frame.specs.ReadAgain.{AreLabelled}
 use Rattle.tc_address.specs.declared.direction.Direction.{Direction}
 use Rattle.tc_address.specs.declared.system.System.{System}
-use Rattle.tc_address.specs.Label.{IsLabel}
 use Rattle.tc_bits.specs.Register.{number_in}
 use Rattle.tc_top.specs.OfFrames.{words_heard}
 

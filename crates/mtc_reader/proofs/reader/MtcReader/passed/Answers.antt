@@ -1,4 +1,4 @@
-use Rattle.std.proofs.Common.{◌+◌, ◌≤◌, length, take, subst, arith}
+use Rattle.std.proofs.Common.{◌+◌, ◌≤◌, length, subst, arith}
 use Rattle.mtc_reader.proofs.PieceByPiece.{nothing_yet, passes_on, two_more, Passes}
 use Rattle.mtc_reader.proofs.reader.MtcReader.passed.Goals as goal
 

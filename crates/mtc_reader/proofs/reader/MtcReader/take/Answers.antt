@@ -1,4 +1,4 @@
-use Rattle.std.proofs.Common.{◌+◌, ◌≤◌, length, sym, ◌∙◌, arith}
+use Rattle.std.proofs.Common.{◌+◌, sym, ◌∙◌, arith}
 use Rattle.mtc_reader.proofs.PieceByPiece.{behind_passed, nothing_yet, no_event, passes_none, within_rest}
 use Rattle.mtc_reader.proofs.reader.MtcReader.take.Goals as goal
 

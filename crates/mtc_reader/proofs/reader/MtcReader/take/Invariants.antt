@@ -1,4 +1,4 @@
-use Rattle.std.proofs.Common.{length, take, ◌-◌, ◌≡◌, ◌≤◌, ◌+◌, ℕ}
+use Rattle.std.proofs.Common.{length, take, ◌-◌, ◌≡◌, ◌≤◌, ◌+◌}
 use Rattle.mtc_reader.proofs.PieceByPiece.{Passes}
 use Rattle.mtc_reader.proofs.reader.MtcReader.take.Given as goal
 

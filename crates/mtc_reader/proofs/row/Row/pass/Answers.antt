@@ -1,4 +1,4 @@
-use Rattle.std.proofs.Common.{◌++◌, ◌∷◌, ◌∙◌, [], ap, arith, sym, refl}
+use Rattle.std.proofs.Common.{◌++◌, ◌∷◌, ◌∙◌, [], ap, arith, sym}
 use Rattle.std.specs.Int.{to_be_bytes, w64}
 use Rattle.mtc_reader.specs.Events.{row_in, window_event}
 use Rattle.mtc_reader.specs.StandsFor.{padded}
