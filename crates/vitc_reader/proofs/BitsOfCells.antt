@@ -38,15 +38,6 @@ bits_of_below level (k ∷ cells) =
     let swap : bits_of (not level) cells * 2 ^ k + bits_of_run level k ≡ bits_of_run level k + 2 ^ k * bits_of (not level) cells = grind arith in
     rw (← swap, e) h
 
--- bits above others, and both within a line
-pub more_below : (bits more cells count : ℕ) → bits < 2 ^ cells → more < 2 ^ count → cells + count ≤ 90 → bits + more * 2 ^ cells < 2 ^ 90
-more_below bits more cells count below above few =
-    let h = mul-add-lt more (2 ^ cells) bits (2 ^ count) above below in
-    let e = pow-add 2 cells count in
-    let whole : more * 2 ^ cells + bits < 2 ^ (cells + count) = rw e h in
-    let within = pow-le-pow_right {n = 2} (omega arith) {i = cells + count} {j = 90} few in
-    omega (arith, whole, within)
-
 digit : Bool → ℕ
 digit true = 1
 digit false = 0

@@ -1,9 +1,11 @@
 pub mod AnswerGrows
 pub mod BitsOfCells
+pub mod ByAProduct
 pub mod LevelOfARun
 pub mod OneAnswer
 pub mod ReadSoFar
 pub mod RunsOfBits
 pub mod SameWord
+pub mod TurnedSoFar
 pub mod WholeCells
 pub mod WrittenSoFar

@@ -1,38 +1,46 @@
 -- A run is nearer to its number of cells than to any other, so runs have one list of cells.
 use Rattle.std.proofs.Common.{◌≡◌, ℕ, suc, ◌+◌, ◌-◌, ◌*◌, ◌/◌, ◌<◌, ◌≤◌, List, [], ◌∷◌, ◌++◌, length, take, drop, get_or, refl, sym, ap, ap₂, ◌∙◌, arith}
 use Rattle.std.specs.Int.{abs_diff}
-use Rattle.std.proofs.Math.Nat.{div-eq_of_lt-le}
+use Rattle.std.proofs.Math.Nat.{div-eq_of_lt-le, div-mul-le_self}
 use Rattle.std.proofs.Math.Seq.{drop-cons}
 use Rattle.std.proofs.lemmas.List.{take-append-drop}
 use Rattle.vitc_reader.specs.Runs.{total, IsCells, AreCells}
 
--- the whole number of cells that is nearest
+-- the whole number of cells that a run can be, to a quarter of a cell
 abbrev pub nearest : ℕ → ℕ → ℕ
-nearest n r = (2 * (115 * r) + n) / (2 * n)
+nearest n r = (460 * r + n) / (4 * n)
 
-twice : (n k : ℕ) → k * (2 * n) ≡ 2 * (k * n)
-twice n k = grind arith
+quarters : (n k : ℕ) → k * (4 * n) ≡ 4 * (k * n)
+quarters n k = grind arith
 
-twice_more : (n k : ℕ) → (k + 1) * (2 * n) ≡ 2 * (k * n) + 2 * n
-twice_more n k = grind arith
+quarters_more : (n k : ℕ) → (k + 1) * (4 * n) ≡ 4 * (k * n) + 4 * n
+quarters_more n k = grind arith
 
 is_nearest : (n r k : ℕ) → 1 ≤ n → IsCells n r k → nearest n r ≡ k
 is_nearest n r k some cells =
-    let a = twice n k in
-    let b = twice_more n k in
+    let a = quarters n k in
+    let b = quarters_more n k in
     let near : 4 * ((115 * r - k * n) + (k * n - 115 * r)) ≤ n = cells.1 in
-    let low : k * (2 * n) ≤ 2 * (115 * r) + n = omega (arith, a, near) in
-    let high : 2 * (115 * r) + n < (k + 1) * (2 * n) = omega (arith, b, near) in
-    div-eq_of_lt-le (2 * n) low high
+    let low : k * (4 * n) ≤ 460 * r + n = omega (arith, a, near) in
+    let high : 460 * r + n < (k + 1) * (4 * n) = omega (arith, b, near) in
+    div-eq_of_lt-le (4 * n) low high
+
+-- the nearest number of cells lasts no longer than the run and a quarter of a cell
+pub not_longer : (n r : ℕ) → 4 * (nearest n r * n) ≤ 460 * r + n
+not_longer n r = let h = div-mul-le_self (460 * r + n) (4 * n) in let e = quarters n (nearest n r) in omega (arith, h, e)
+
+-- it is the number of cells where it is some, and not much shorter
+pub are_cells : (n r : ℕ) → 1 ≤ nearest n r → 460 * r + n - 4 * (nearest n r * n) ≤ 2 * n → IsCells n r (nearest n r)
+are_cells n r some near = let h = not_longer n r in (some, omega (arith, h, near))
 
 -- so there is none where the nearest is 0 or not near
 pub not_none : (n r k : ℕ) → 1 ≤ n → IsCells n r k → nearest n r < 1 → ⊥
 not_none n r k some cells low = let e = is_nearest n r k some cells in let one = cells.0 in omega (arith, e, one, low)
 
-pub not_far : (n r k : ℕ) → 1 ≤ n → IsCells n r k → n < 4 * abs_diff (115 * r) (nearest n r * n) → ⊥
+pub not_far : (n r k : ℕ) → 1 ≤ n → IsCells n r k → 2 * n < 460 * r + n - 4 * (nearest n r * n) → ⊥
 not_far n r k some cells far =
     let e = is_nearest n r k some cells in
-    let far' : n < 4 * abs_diff (115 * r) (k * n) = rw e at far in
+    let far' : 2 * n < 460 * r + n - 4 * (k * n) = rw e at far in
     let near = cells.1 in
     omega (arith, far', near)
 
