@@ -21,7 +21,7 @@ make=(vitc-make 25 19:53:20:00 10000 "$length")
 tail -n 1 "$room/report" | grep -q '^end fields 20000 agreed 20000 conflict 0 nothing 0$'
 echo "20,000 fields: $(stat -c %s "$room/lines") bytes, all agreed"
 
-# The same fields twenty times over for the clock.
+# Twenty times as many fields, for the clock.
 many=(vitc-make 25 19:53:20:00 200000 "$length")
 "$tc" "${many[@]}" > "$room/many"
 user_time() { TIMEFORMAT=%3U; { time "${@:2}" < "$1" > /dev/null; } 2>&1; }
