@@ -38,7 +38,7 @@ fn follow(rt: &impl Abort, bound: u32, rows: &[(Frame, Step)]) {
         assert_eq!(rt; report.error, *error);
         assert_eq!(rt; report.order, *order);
         assert_eq!(rt; report.loss, *loss);
-        assert_eq!(rt; chase.position(), HOUR + *position);
+        assert_eq!(rt; chase.position(), HOUR.saturating_add(*position));
     }
 }
 

@@ -1,10 +1,11 @@
 //! Runs the commands of `examples/` on their recordings, one after another, and prints each with its
-//! output. The gate compares what it prints with `stdout`, and so the reports of `examples/`, whole.
+//! output, and whether it is the same in whatever pieces the input comes. The gate compares what it prints
+//! with `stdout`, and so the reports of `examples/`, whole.
 #![tactic(auto)]
 
 use std::alloc::{AllocError, Global};
 use std::{fs, io};
-use tc_io::{ReadSource, WriteSink};
+use tc_io::{MemorySink, MemorySource, ReadSource, WriteSink};
 use tc_top::run;
 
 /// A command as it is typed, and the file that is its standard input.
@@ -46,19 +47,61 @@ const EXAMPLES: [Example; 7] = [
     },
 ];
 
+/// How many bytes a pull gives, in the runs that are compared.
+const PIECES: [usize; 6] = [1, 3, 4, 5, 4095, 4096];
+
+/// The room for a report.
+const ROOM: usize = 100_000;
+
 fn main(rt: HostRuntime) -> io::Result<()> {
     for example in EXAMPLES {
         println!(rt; "$ tc {} < {}", example.line, example.input)?;
+        let words = words(rt.alloc(), example.line)?;
         let status = run(
             rt.alloc(),
-            &words(rt.alloc(), example.line)?,
+            &words,
             &mut ReadSource::new(fs::open(&rt, example.input)?),
             &mut WriteSink::new(rt.stdout()),
             &mut WriteSink::new(rt.stderr()),
         );
         println!(rt; "status {}", status.code())?;
+        let input = fs::read(&rt, example.input)?;
+        let answer = if is_same_in_pieces(rt.alloc(), &words, &input)? {
+            "the same"
+        } else {
+            "not the same"
+        };
+        println!(rt; "{answer} in pieces of 1, 3, 4, 5, 4095 and 4096 bytes")?;
     }
     Ok(())
+}
+
+/// Whether the output is the same in whatever pieces the input comes.
+fn is_same_in_pieces(alloc: Global, words: &[String], input: &[u8]) -> Result<bool, AllocError> {
+    let whole = output(alloc, words, input, &[])?;
+    for piece in PIECES {
+        let cut = output(alloc, words, input, &[piece])?;
+        if cut.as_slice() != whole.as_slice() {
+            return Ok(false);
+        }
+    }
+    Ok(true)
+}
+
+/// What is written, where a pull gives so many bytes.
+fn output(
+    alloc: Global,
+    words: &[String],
+    input: &[u8],
+    pieces: &[usize],
+) -> Result<Vec<u8>, AllocError> {
+    let mut source = MemorySource::new(alloc, input, pieces, &[])?;
+    let mut out = MemorySink::new(alloc, ROOM, &[])?;
+    let mut notes = MemorySink::new(alloc, ROOM, &[])?;
+    run(alloc, words, &mut source, &mut out, &mut notes);
+    let mut written = Vec::new(alloc);
+    written.extend_from_slice(out.written())?;
+    Ok(written)
 }
 
 /// The words of a command line.

@@ -4,7 +4,9 @@ ghost use Rattle.std.specs.Prelude.{◌≡◌, ◌≤◌, ◌<◌, ◌+◌, ◌*
 ghost use Rattle.arrayvec.specs.ArrayVec.{array_vec_len};
 ghost use Rattle.biphase.specs.Chain.{flat, intervals_of};
 ghost use Rattle.biphase.specs.declared.cell.TheConstants.{MAX_INTERVAL};
-ghost use Rattle.direction_reader.specs.Events.{listed};
+ghost use Rattle.direction_reader.specs.declared.event.Events.{Events};
+ghost use Rattle.direction_reader.specs.Events.{event_list, listed};
+ghost use Rattle.direction_reader.specs.StandsFor.{MayTell, Tells};
 ghost use Rattle.direction_reader.specs.Played.{low_bits};
 ghost use Rattle.direction_reader.specs.declared.reader.TheConstants.{MAX_INTERVALS};
 ghost use Rattle.tc_address.specs.Label.{IsLabel};
@@ -20,7 +22,7 @@ use biphase::{Cell, MAX_INTERVAL, Profile};
 use direction_reader::laws::{
     a_list_has_one_list_of_events, a_reader_gives_the_events_of_its_list, played_words_are_read,
 };
-use direction_reader::{DirectionReader, Event, MAX_INTERVALS};
+use direction_reader::{Brought, DirectionReader, Event, MAX_INTERVALS};
 use ltc_jam::laws::steps_lead_to_labels;
 use ltc_word::LtcWord;
 use ltc_word::laws::each_word_has_its_spelling;
@@ -131,6 +133,7 @@ impl Tally {
     }
 
     /// Reads an interval, of `x` ticks.
+    #[inline(always)]
     fn interval(&mut self, x: u32)
         requires least { 1 ≤ x }
         requires most { x ≤ MAX_INTERVAL }
@@ -140,7 +143,26 @@ impl Tally {
         ensures count { self.new.reader.intervals ≡ self.old.reader.intervals + 1 }
         ensures reads { (intervals : List ℕ) → HasRead self.old intervals → HasRead self.new (intervals ++ x ∷ []) }
     {
-        let events = self.reader.feed(x);
+        match self.reader.step(x) {
+            Brought::Nothing => (),
+            brought => self.count(brought),
+        }
+    }
+
+    /// Counts what the latest interval brought: nearly every interval brings nothing.
+    #[cold]
+    #[inline(never)]
+    fn count(&mut self, brought: Brought)
+        requires taken { 1 ≤ self.old.reader.intervals }
+        requires few { self.old.reader.intervals ≤ MAX_INTERVALS }
+        requires may { MayTell self.old.reader brought }
+        requires room { total self.old.counts + 2 ≤ 2 * self.old.reader.intervals }
+        ensures fits { FitsTally self.new }
+        ensures reader { self.new.reader ≡ self.old.reader }
+        ensures counted { (own : Events) × Tells self.old.reader brought own
+            × (self.new.counts ≡ fold with_event self.old.counts (event_list own)) }
+    {
+        let events = self.reader.events(brought);
         self.counts.add(events.first);
         self.counts.add(events.second);
     }

@@ -1,23 +1,31 @@
-use Rattle.std.proofs.Common.{◌∙◌, ◌++◌, fold, sym, ap}
+use Rattle.std.proofs.Common.{◌∙◌, ◌++◌, [], fold, refl, sym, ap, append-nil}
 use Rattle.std.proofs.lemmas.List.Sums.{fold-append}
-use Rattle.direction_reader.specs.Events.{event_list, listed}
+use Rattle.direction_reader.specs.Events.{event_list, no_events}
 use Rattle.tc_top.specs.declared.engines.ltc_load.Counts.{Counts}
 use Rattle.tc_top.specs.KeptLoad.{no_counts, with_event}
 use Rattle.tc_top.proofs.engines.ltc_load.Tally.interval.Goals as goal
 
--- the events of the interval are counted behind the others
-pub returns-clause-reads : goal.returns-clause-reads
-returns-clause-reads c = λ intervals read.
-    let own = c.feed-events.result in
-    let takes = c.feed-events.ensures.next in
+-- the interval brought nothing
+pub returns-in-Nothing-clause-reads : goal.returns-in-Nothing-clause-reads
+returns-in-Nothing-clause-reads c = λ intervals read.
+    let takes = c.step.ensures.next in
     record {
       system = takes.system ∙ read.system;
       profile = takes.profile ∙ read.profile;
-      events = read.events ++ event_list own;
-      stands = c.feed-events.ensures.stands intervals read.events read.stands;
-      counts =
-          c.add-2.ensures.counted ∙ ap (λ (n : Counts). fold with_event n (listed own.second)) c.add.ensures.counted
-          ∙ ap (λ (n : Counts). fold with_event (fold with_event n (listed own.first)) (listed own.second)) read.counts
-          ∙ sym (fold-append with_event (fold with_event no_counts read.events) (listed own.first) (listed own.second))
-          ∙ sym (fold-append with_event no_counts read.events (event_list own));
+      events = read.events ++ [];
+      stands = c.in-Nothing.ensures.stands intervals read.events no_events read.stands refl;
+      counts = read.counts ∙ ap (fold with_event no_counts) (sym (append-nil read.events));
+    }
+
+-- its events are counted behind the others
+pub returns-clause-reads : goal.returns-clause-reads
+returns-clause-reads c = λ intervals read.
+    let told = c.count.ensures.counted in
+    let takes = c.step.ensures.next in
+    record {
+      system = ?;
+      profile = ?;
+      events = read.events ++ event_list told.0;
+      stands = rw c.count.ensures.reader (c.step.ensures.stands intervals read.events told.0 read.stands told.1);
+      counts = told.2 ∙ ap (λ (n : Counts). fold with_event n (event_list told.0)) read.counts ∙ sym (fold-append with_event no_counts read.events (event_list told.0));
     }
