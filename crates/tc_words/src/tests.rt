@@ -142,6 +142,48 @@ fn label_text_of(job: &Job) -> Option<[u8; 11]> {
     }
 }
 
+fn slicing_in(task: &Task) -> Option<Slicing> {
+    match task {
+        Task::Stream(job) => slicing_of(job),
+        Task::Chase { .. } => None,
+    }
+}
+
+fn slicing_of(job: &Job) -> Option<Slicing> {
+    match job {
+        Job::PcmLtc { slicing } => Some(*slicing),
+        _ => None,
+    }
+}
+
+fn jam_in(task: &Task) -> Option<Jam> {
+    match task {
+        Task::Stream(job) => jam_of(job),
+        Task::Chase { .. } => None,
+    }
+}
+
+fn jam_of(job: &Job) -> Option<Jam> {
+    match job {
+        Job::LtcJam { jam } => Some(*jam),
+        _ => None,
+    }
+}
+
+fn amplitude_in(task: &Task) -> Option<Amplitude> {
+    match task {
+        Task::Stream(job) => amplitude_of(job),
+        Task::Chase { .. } => None,
+    }
+}
+
+fn amplitude_of(job: &Job) -> Option<Amplitude> {
+    match job {
+        Job::LtcPcm { amplitude } => Some(*amplitude),
+        _ => None,
+    }
+}
+
 #[test]
 fn jobs_are_read(rt: HostRuntime) -> Result<(), Fail> {
     let alloc = rt.alloc();
@@ -192,7 +234,10 @@ fn jobs_are_read(rt: HostRuntime) -> Result<(), Fail> {
         ),
     ] {
         let words = typed(alloc, line)?;
-        let Ok(Task::Stream(Job::PcmLtc { slicing })) = read_words(alloc, &words) else {
+        let Ok(task) = read_words(alloc, &words) else {
+            return Err("no task".into());
+        };
+        let Some(slicing) = slicing_in(&task) else {
             return Err("no slicing".into());
         };
         assert_eq!(rt; slicing.threshold(), threshold, "at {line}");
@@ -204,7 +249,10 @@ fn jobs_are_read(rt: HostRuntime) -> Result<(), Fail> {
         ("ltc-jam 255 8388607 100000000", 255, 8_388_607, 100_000_000),
     ] {
         let words = typed(alloc, line)?;
-        let Ok(Task::Stream(Job::LtcJam { jam })) = read_words(alloc, &words) else {
+        let Ok(task) = read_words(alloc, &words) else {
+            return Err("no task".into());
+        };
+        let Some(jam) = jam_in(&task) else {
             return Err("no clean recording".into());
         };
         assert_eq!(rt; jam.limit(), limit, "at {line}");
@@ -213,7 +261,10 @@ fn jobs_are_read(rt: HostRuntime) -> Result<(), Fail> {
     }
     for (line, size) in [("ltc-pcm 1", 1), ("ltc-pcm 32767", 32_767)] {
         let words = typed(alloc, line)?;
-        let Ok(Task::Stream(Job::LtcPcm { amplitude })) = read_words(alloc, &words) else {
+        let Ok(task) = read_words(alloc, &words) else {
+            return Err("no task".into());
+        };
+        let Some(amplitude) = amplitude_in(&task) else {
             return Err("no sound".into());
         };
         assert_eq!(rt; amplitude.size(), size, "at {line}");
