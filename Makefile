@@ -1,6 +1,7 @@
 # make               proves and builds bin/tc
 # make check         the gate: proves every crate from nothing, tries the must-fail edits, runs tests and program
 # make install       program, manual pages, completions, documents and examples, under PREFIX (and DESTDIR, for packagers)
+# make install-strip the same, with the program stripped of its symbols
 # make uninstall     removes what install put there
 #
 # iproute2 has a program of the name tc too. PROGRAM=tcode installs this one, its manual pages and completions as tcode;
@@ -14,7 +15,8 @@ ZSHDIR = $(PREFIX)/share/zsh/site-functions
 FISHDIR = $(PREFIX)/share/fish/vendor_completions.d
 DOCDIR = $(PREFIX)/share/doc/$(PROGRAM)
 EXAMPLES = $(wildcard examples/*)
-# What the documents want beside the program: README.md, docs/ and tools/ lie to each other as in the repository.
+# README.md, docs/ and examples/ lie to each other as in the repository; the scripts of tools/ that draw and that turn pixels into
+# runs are examples too.
 DOCUMENTS = $(wildcard docs/*)
 TOOLS = tools/draw_report tools/plot_chase tools/line_runs tools/line_rows
 
@@ -26,7 +28,9 @@ UPPER = $(shell echo $(PROGRAM) | tr a-z A-Z)
 RENAME_MAN = sed -e 's/^\.Dt TC/.Dt $(UPPER)/' -e 's/\(^\|\\fB\|[ \x27]\)tc\( \|\\fP\|$$\)/\1$(PROGRAM)\2/g' \
 	-e 's/^\(\.Nm\|\.Xr\) tc-formats/\1 $(PROGRAM)-formats/'
 
-.PHONY: all check install uninstall
+INSTALL_PROGRAM = install -m 755
+
+.PHONY: all check install install-strip uninstall
 
 all:
 	./build
@@ -37,9 +41,9 @@ check:
 install:
 	@[ -x bin/tc ] || { echo "bin/tc is not built: run make first" >&2; exit 1; }
 	install -d "$(DESTDIR)$(BINDIR)" "$(DESTDIR)$(MANDIR)/man1" "$(DESTDIR)$(MANDIR)/man5" "$(DESTDIR)$(BASHDIR)" \
-	    "$(DESTDIR)$(ZSHDIR)" "$(DESTDIR)$(FISHDIR)" "$(DESTDIR)$(DOCDIR)/examples" "$(DESTDIR)$(DOCDIR)/docs" \
-	    "$(DESTDIR)$(DOCDIR)/tools"
-	install -m 755 bin/tc "$(DESTDIR)$(BINDIR)/$(PROGRAM)"
+	    "$(DESTDIR)$(ZSHDIR)" "$(DESTDIR)$(FISHDIR)" "$(DESTDIR)$(DOCDIR)/examples" "$(DESTDIR)$(DOCDIR)/examples/tools" \
+	    "$(DESTDIR)$(DOCDIR)/docs"
+	$(INSTALL_PROGRAM) bin/tc "$(DESTDIR)$(BINDIR)/$(PROGRAM)"
 	$(RENAME_MAN) man/tc.1 > "$(DESTDIR)$(MANDIR)/man1/$(PROGRAM).1"
 	$(RENAME_MAN) man/tc-formats.5 > "$(DESTDIR)$(MANDIR)/man5/$(PROGRAM)-formats.5"
 	$(RENAME) completions/tc.bash > "$(DESTDIR)$(BASHDIR)/$(PROGRAM)"
@@ -50,7 +54,10 @@ install:
 	install -m 644 README.md "$(DESTDIR)$(DOCDIR)"
 	install -m 644 $(DOCUMENTS) "$(DESTDIR)$(DOCDIR)/docs"
 	install -m 644 $(EXAMPLES) "$(DESTDIR)$(DOCDIR)/examples"
-	install -m 755 $(TOOLS) "$(DESTDIR)$(DOCDIR)/tools"
+	install -m 755 $(TOOLS) "$(DESTDIR)$(DOCDIR)/examples/tools"
+
+install-strip:
+	$(MAKE) INSTALL_PROGRAM="install -s -m 755" install
 
 uninstall:
 	rm -f "$(DESTDIR)$(BINDIR)/$(PROGRAM)" "$(DESTDIR)$(MANDIR)/man1/$(PROGRAM).1" "$(DESTDIR)$(MANDIR)/man5/$(PROGRAM)-formats.5" \
