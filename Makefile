@@ -5,7 +5,8 @@
 # make uninstall     removes what install put there
 #
 # iproute2 has a program of the name tc too. PROGRAM=tcode installs this one, its manual pages and completions as tcode;
-# the notes on standard error begin with "tc:" all the same.
+# the notes on standard error begin with "tc:" all the same. A package (PREFIX=/usr) has to take another name: bash's completion
+# of both stands in the same file.
 PREFIX ?= /usr/local
 PROGRAM ?= tc
 BINDIR = $(PREFIX)/bin
