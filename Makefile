@@ -1,9 +1,12 @@
 # make               proves and builds bin/tc
 # make check         the gate: proves every crate from nothing, tries the must-fail edits, runs tests and program
-# make install       program, manual pages, completions and examples, under PREFIX (and DESTDIR, for packagers)
+# make install       program, manual pages, completions, documents and examples, under PREFIX (and DESTDIR, for packagers)
+# make install-strip the same, with the program stripped of its symbols
 # make uninstall     removes what install put there
 #
-# iproute2 has a program of the name tc too. PROGRAM=tcode installs this one, its manual pages and completions as tcode.
+# iproute2 has a program of the name tc too. PROGRAM=tcode installs this one, its manual pages and completions as tcode;
+# the notes on standard error begin with "tc:" all the same. A package (PREFIX=/usr) has to take another name: bash's completion
+# of both stands in the same file.
 PREFIX ?= /usr/local
 PROGRAM ?= tc
 BINDIR = $(PREFIX)/bin
@@ -13,15 +16,22 @@ ZSHDIR = $(PREFIX)/share/zsh/site-functions
 FISHDIR = $(PREFIX)/share/fish/vendor_completions.d
 DOCDIR = $(PREFIX)/share/doc/$(PROGRAM)
 EXAMPLES = $(wildcard examples/*)
+# README.md, docs/ and examples/ lie to each other as in the repository; the scripts of tools/ that draw and that turn pixels into
+# runs are examples too.
+DOCUMENTS = $(wildcard docs/*)
+TOOLS = tools/draw_report tools/plot_chase tools/line_runs tools/line_rows
 
 # The name under which it is installed, in place of tc where the text speaks of the program.
 RENAME = sed -e 's/_tc\b/_$(PROGRAM)/g' -e 's/\b_tc_/_$(PROGRAM)_/g' -e 's/^\#compdef tc$$/\#compdef $(PROGRAM)/' \
-	-e 's/\(complete .*\) tc$$/\1 $(PROGRAM)/' -e 's/complete -c tc\b/complete -c $(PROGRAM)/g'
-RENAME_MAN = sed -e 's/^\.Dt TC /.Dt $(shell echo $(PROGRAM) | tr a-z A-Z) /' -e 's/^\.Nm tc$$/.Nm $(PROGRAM)/' \
-	-e 's/^\.Nm tc-formats$$/.Nm $(PROGRAM)-formats/' -e 's/^\.Dt TC-FORMATS /.Dt $(shell echo $(PROGRAM) | tr a-z A-Z)-FORMATS /' \
-	-e 's/^\.Xr tc-formats /.Xr $(PROGRAM)-formats /' -e 's/^\.Xr tc 1/.Xr $(PROGRAM) 1/'
+	-e 's/\(complete .*\) tc$$/\1 $(PROGRAM)/' -e 's/complete -c tc\b/complete -c $(PROGRAM)/g' -e 's/completion of tc:/completion of $(PROGRAM):/'
+UPPER = $(shell echo $(PROGRAM) | tr a-z A-Z)
+# tc as a word of its own, and not where a note begins with it.
+RENAME_MAN = sed -e 's/^\.Dt TC/.Dt $(UPPER)/' -e 's/\(^\|\\fB\|[ \x27]\)tc\( \|\\fP\|$$\)/\1$(PROGRAM)\2/g' \
+	-e 's/^\(\.Nm\|\.Xr\) tc-formats/\1 $(PROGRAM)-formats/'
 
-.PHONY: all check install uninstall
+INSTALL_PROGRAM = install -m 755
+
+.PHONY: all check install install-strip uninstall
 
 all:
 	./build
@@ -32,8 +42,9 @@ check:
 install:
 	@[ -x bin/tc ] || { echo "bin/tc is not built: run make first" >&2; exit 1; }
 	install -d "$(DESTDIR)$(BINDIR)" "$(DESTDIR)$(MANDIR)/man1" "$(DESTDIR)$(MANDIR)/man5" "$(DESTDIR)$(BASHDIR)" \
-	    "$(DESTDIR)$(ZSHDIR)" "$(DESTDIR)$(FISHDIR)" "$(DESTDIR)$(DOCDIR)/examples"
-	install -m 755 bin/tc "$(DESTDIR)$(BINDIR)/$(PROGRAM)"
+	    "$(DESTDIR)$(ZSHDIR)" "$(DESTDIR)$(FISHDIR)" "$(DESTDIR)$(DOCDIR)/examples" "$(DESTDIR)$(DOCDIR)/examples/tools" \
+	    "$(DESTDIR)$(DOCDIR)/docs"
+	$(INSTALL_PROGRAM) bin/tc "$(DESTDIR)$(BINDIR)/$(PROGRAM)"
 	$(RENAME_MAN) man/tc.1 > "$(DESTDIR)$(MANDIR)/man1/$(PROGRAM).1"
 	$(RENAME_MAN) man/tc-formats.5 > "$(DESTDIR)$(MANDIR)/man5/$(PROGRAM)-formats.5"
 	$(RENAME) completions/tc.bash > "$(DESTDIR)$(BASHDIR)/$(PROGRAM)"
@@ -41,7 +52,13 @@ install:
 	$(RENAME) completions/tc.fish > "$(DESTDIR)$(FISHDIR)/$(PROGRAM).fish"
 	chmod 644 "$(DESTDIR)$(MANDIR)/man1/$(PROGRAM).1" "$(DESTDIR)$(MANDIR)/man5/$(PROGRAM)-formats.5" \
 	    "$(DESTDIR)$(BASHDIR)/$(PROGRAM)" "$(DESTDIR)$(ZSHDIR)/_$(PROGRAM)" "$(DESTDIR)$(FISHDIR)/$(PROGRAM).fish"
+	install -m 644 README.md "$(DESTDIR)$(DOCDIR)"
+	install -m 644 $(DOCUMENTS) "$(DESTDIR)$(DOCDIR)/docs"
 	install -m 644 $(EXAMPLES) "$(DESTDIR)$(DOCDIR)/examples"
+	install -m 755 $(TOOLS) "$(DESTDIR)$(DOCDIR)/examples/tools"
+
+install-strip:
+	$(MAKE) INSTALL_PROGRAM="install -s -m 755" install
 
 uninstall:
 	rm -f "$(DESTDIR)$(BINDIR)/$(PROGRAM)" "$(DESTDIR)$(MANDIR)/man1/$(PROGRAM).1" "$(DESTDIR)$(MANDIR)/man5/$(PROGRAM)-formats.5" \
