@@ -18,13 +18,13 @@ returns-in-Nothing-clause-reads c = λ intervals read.
     }
 
 -- its events are counted behind the others
-pub returns-clause-reads : goal.returns-clause-reads
-returns-clause-reads c = λ intervals read.
+pub returns-in_default-clause-reads : goal.returns-in_default-clause-reads
+returns-in_default-clause-reads c = λ intervals read.
     let told = c.count.ensures.counted in
     let takes = c.step.ensures.next in
     record {
-      system = ?;
-      profile = ?;
+      system = rw c.count.ensures.reader (takes.system ∙ read.system);
+      profile = rw c.count.ensures.reader (takes.profile ∙ read.profile);
       events = read.events ++ event_list told.0;
       stands = rw c.count.ensures.reader (c.step.ensures.stands intervals read.events told.0 read.stands told.1);
       counts = told.2 ∙ ap (λ (n : Counts). fold with_event n (event_list told.0)) read.counts ∙ sym (fold-append with_event no_counts read.events (event_list told.0));
