@@ -33,6 +33,9 @@ pub at_header : (o : Option LineHeader) (place count : ℕ) (part bytes : List �
 at_header None place count part bytes header waits is = record { none = refl; begin = waits.0; kept = short_header part waits.1; read = is }
 at_header (Some h) place count part bytes header waits is = absurd is
 
+pub header_there : (o : Option LineHeader) (place : ℕ) (part bytes : List ℕ) (header : LineHeader) → AtHeader o place part bytes header → IsHeader header
+header_there o place part bytes header s = header_valid bytes header s.read
+
 pub record AtField (o : Option LineHeader) (place count : ℕ) (part bytes : List ℕ) (answer : FieldAnswer) (width : ℕ) : Type 0 where
   pub header : LineHeader
   pub some : o ≡ Some header
