@@ -10,8 +10,7 @@ use Rattle.byteorder.specs.Endian.{big_number}
 use Rattle.tc_files.specs.declared.fault.FileFault.{FileFault}
 use Rattle.tc_files.specs.declared.fault.FileFault.TheVariants as fault
 use Rattle.vitc_reader.specs.Field as answers
-use Rattle.vitc_reader.specs.Runs.{MayBeLine}
-use Rattle.line_file.specs.declared.field.TheConstants.{MAX_LINES, MAX_RUNS}
+use Rattle.line_file.specs.declared.field.TheConstants.{MAX_LINES}
 use Rattle.line_file.specs.declared.header.LineHeader.{LineHeader}
 use Rattle.line_file.specs.declared.header.TheConstants.{HEAD_LENGTH}
 use Rattle.line_file.specs.LineFile.{Front, whole, short, bad, with_first, is_wrong, head_fault, head_at, runs_at, is_run_count, line_at, line_width, line_then, lines_at, lines_width, field_at, field_width}

@@ -1,4 +1,4 @@
-use Rattle.std.proofs.Common.{◌≡◌, ◌+◌, sym, ap, ◌∙◌, drop}
+use Rattle.std.proofs.Common.{◌+◌, sym, ap, ◌∙◌}
 use Rattle.std.proofs.lemmas.List.{take_rest}
 use Rattle.line_file.specs.LineFile.{line_at}
 use Rattle.line_file.proofs.PieceByPiece.{by_lines, no_lines, no_last, lines_short, lines_bad, last_again, last_more, some_bytes}

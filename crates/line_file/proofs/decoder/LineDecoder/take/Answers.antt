@@ -1,6 +1,6 @@
-use Rattle.std.proofs.Common.{◌≡◌, ◌++◌, ◌<◌, ◌≤◌, refl, sym, ◌∙◌, ap, subst, take, length, arith}
+use Rattle.std.proofs.Common.{refl, sym, subst, arith}
 use Rattle.line_file.specs.StandsFor.{Decoding, StandsFor}
-use Rattle.line_file.proofs.DecoderTakes.{at_header, header_there, at_field, at_short, at_fault, waits_less, waits_none, header_added, field_added, part_added, fault_there, limit_there}
+use Rattle.line_file.proofs.DecoderTakes.{at_header, header_there, at_field, at_short, at_fault, waits_less, waits_none, header_added, field_added, fault_there, limit_there}
 use Rattle.line_file.proofs.decoder.LineDecoder.take.Goals as goal
 
 -- the header begins with what was kept
