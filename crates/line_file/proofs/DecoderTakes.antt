@@ -1,8 +1,8 @@
 -- What a decoder takes of the bytes that were pulled, by what stands at the front of those that it kept and these.
-use Rattle.std.proofs.Common.{true, false, ◌≡◌, ℕ, zero, suc, ◌+◌, ◌-◌, ◌*◌, ◌<◌, ◌≤◌, Bool, List, [], ◌∷◌, ◌++◌, Some, None, length, take, drop, refl, sym, ap, ◌∙◌, arith, subst, append_assoc, append-nil}
+use Rattle.std.proofs.Common.{true, false, ◌≡◌, ℕ, zero, suc, ◌+◌, ◌-◌, ◌<◌, ◌≤◌, Bool, List, [], ◌∷◌, ◌++◌, Some, None, length, take, drop, refl, ap, ◌∙◌, arith, subst}
 use Rattle.std.specs.Prelude.{is_some, if◌then◌else◌}
 use Rattle.std.specs.declared.option.Option.{Option}
-use Rattle.std.proofs.lemmas.List.{length-append, length-take, take-append-drop}
+use Rattle.std.proofs.lemmas.List.{length-append, take-append-drop}
 use Rattle.tc_files.specs.declared.fault.FileFault.{FileFault}
 use Rattle.tc_files.specs.declared.fault.FileFault.TheVariants as fault
 use Rattle.tc_files.specs.Verdict.{good, refused, past_limit}
@@ -12,9 +12,9 @@ use Rattle.line_file.specs.declared.decoder.Piece.TheVariants as pieces
 use Rattle.line_file.specs.declared.decoder.TheConstants.{MAX_FIELDS, FIELD_ROOM}
 use Rattle.line_file.specs.declared.header.LineHeader.{LineHeader}
 use Rattle.line_file.specs.KeptFront.{IsPiece}
-use Rattle.line_file.specs.LineFile.{Front, whole, short, bad, header_at, field_at, field_width, Fields, fields_at, Reading, reading_of, behind_header, no_header, end_fault_of}
+use Rattle.line_file.specs.LineFile.{Front, whole, short, header_at, field_at, field_width, Fields, fields_at, Reading, reading_of, behind_header, no_header, end_fault_of}
 use Rattle.line_file.specs.LineHeader.{IsHeader}
-use Rattle.line_file.specs.StandsFor.{Decoding, decoding_of, Waits, StandsFor, Adds, IsTold}
+use Rattle.line_file.specs.StandsFor.{decoding_of, Waits, StandsFor, Adds, IsTold}
 use Rattle.line_file.proofs.DecoderMore.{IsBad, part_less, piece_bytes, field_taken, header_taken, part_taken, fault_told, limit_told}
 use Rattle.line_file.proofs.FieldByField.{fields_by}
 use Rattle.line_file.proofs.HeaderBytes.{header_valid, short_header, whole_header}
@@ -32,6 +32,9 @@ pub at_header : (o : Option LineHeader) (place count : ℕ) (part bytes : List �
     → IsPiece o place count bytes (pieces.Header header) → AtHeader o place part bytes header
 at_header None place count part bytes header waits is = record { none = refl; begin = waits.0; kept = short_header part waits.1; read = is }
 at_header (Some h) place count part bytes header waits is = absurd is
+
+pub header_there : (o : Option LineHeader) (place : ℕ) (part bytes : List ℕ) (header : LineHeader) → AtHeader o place part bytes header → IsHeader header
+header_there o place part bytes header s = header_valid bytes header s.read
 
 pub record AtField (o : Option LineHeader) (place count : ℕ) (part bytes : List ℕ) (answer : FieldAnswer) (width : ℕ) : Type 0 where
   pub header : LineHeader

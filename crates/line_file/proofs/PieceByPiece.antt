@@ -1,18 +1,20 @@
 -- What was read of a line or a field, and what is still to be read of it, is the whole.
 use Rattle.std.proofs.Common.{◌≡◌, ℕ, zero, suc, ◌+◌, ◌-◌, ◌*◌, ◌<◌, ◌≤◌, Bool, true, false, List, [], ◌∷◌, ◌++◌, length, take, drop, get_or, refl, sym, ap, ◌∙◌, arith, append_assoc, append-nil}
-use Rattle.std.specs.Prelude.{◌==◌, nat_le, if◌then◌else◌}
-use Rattle.std.proofs.lemmas.List.{drop-drop, drop_more, length-drop}
+use Rattle.std.specs.Prelude.{◌==◌, eqb, nat_le, if◌then◌else◌}
+use Rattle.std.proofs.lemmas.List.{drop-drop, drop_more, length-drop, length-take-le, take_rest}
 use Rattle.std.proofs.lemmas.Bool.{le-leb}
+use Rattle.std.proofs.lemmas.Bool.Decides.{Decides-eqb}
+use Rattle.std.proofs.lemmas.Slice.Eq.{starts_is}
+use Rattle.std.specs.List.{starts_with}
 use Rattle.byteorder.specs.Endian.{big_number}
 use Rattle.tc_files.specs.declared.fault.FileFault.{FileFault}
 use Rattle.tc_files.specs.declared.fault.FileFault.TheVariants as fault
 use Rattle.vitc_reader.specs.Field as answers
-use Rattle.vitc_reader.specs.Runs.{MayBeLine}
-use Rattle.line_file.specs.declared.field.TheConstants.{MAX_LINES, MAX_RUNS}
+use Rattle.line_file.specs.declared.field.TheConstants.{MAX_LINES}
 use Rattle.line_file.specs.declared.header.LineHeader.{LineHeader}
 use Rattle.line_file.specs.declared.header.TheConstants.{HEAD_LENGTH}
 use Rattle.line_file.specs.LineFile.{Front, whole, short, bad, with_first, is_wrong, head_fault, head_at, runs_at, is_run_count, line_at, line_width, line_then, lines_at, lines_width, field_at, field_width}
-use Rattle.line_file.proofs.OwnBytes.{after_line, own_line}
+use Rattle.line_file.proofs.OwnBytes.{after_line, first_whole, own_line}
 
 -- some things, and then the others
 abbrev pub after_first : {A : Type 0} → List A → Front (List A) → Front (List A)
@@ -244,6 +246,98 @@ pub lines_done : (header : LineHeader) (count place : ℕ) (bytes : List ℕ) (d
 lines_done header count place bytes done width reader s all =
     let none : count - done ≡ zero = omega (arith, all) in
     s.read ∙ ap (λ (n : ℕ). after_first s.lines (lines_at n (place + width) (drop width bytes))) none ∙ ap (λ (l : List (List ℕ)). whole l) (append-nil s.lines)
+
+-- ---- a line again
+
+-- where the bytes of a slice begin with those of another
+pub stands_behind : (bytes : List ℕ) (at last : ℕ) (r : Bool) → at ≤ length bytes → last ≤ at
+    → r ≡ starts_with eqb (take (length bytes - at) (drop at bytes)) (take (at - (at - last)) (drop (at - last) bytes)) → r ≡ true
+    → drop at bytes ≡ take last (drop (at - last) bytes) ++ drop last (drop at bytes)
+stands_behind bytes at last r within le is yes_it_does =
+    let size : at - (at - last) ≡ last = omega (arith, le) in
+    let is' : r ≡ starts_with eqb (drop at bytes) (take last (drop (at - last) bytes)) = rw (take_rest bytes at, size) at is in
+    let left = length-drop (at - last) bytes in
+    let long : length (take last (drop (at - last) bytes)) ≡ last = length-take-le last (drop (at - last) bytes) (omega (arith, left, within, le)) in
+    let e = (starts_is Decides-eqb (drop at bytes) (take last (drop (at - last) bytes)) r is').0 yes_it_does in
+    e ∙ ap (λ (n : ℕ). take last (drop (at - last) bytes) ++ drop n (drop at bytes)) long
+
+-- runs that are whole are so at whatever place
+run_anywhere : (count place other high low : ℕ) (rest runs : List ℕ) (b : Bool)
+    → (if b then bad (fault.Run place) else with_first (big_number 2 (high ∷ low ∷ rest)) (runs_at count (place + 2) rest)) ≡ whole runs
+    → ((rs : List ℕ) → runs_at count (place + 2) rest ≡ whole rs → runs_at count (other + 2) rest ≡ whole rs)
+    → (if b then bad (fault.Run other) else with_first (big_number 2 (high ∷ low ∷ rest)) (runs_at count (other + 2) rest)) ≡ whole runs
+run_anywhere count place other high low rest runs true e later = absurd cc
+run_anywhere count place other high low rest runs false e later =
+    let f = first_whole (big_number 2 (high ∷ low ∷ rest)) (runs_at count (place + 2) rest) runs e in
+    rw (later f.0 f.1) (ap (λ (l : List ℕ). whole l) (sym f.2))
+
+runs_anywhere : (count place other : ℕ) (bytes runs : List ℕ) → runs_at count place bytes ≡ whole runs → runs_at count other bytes ≡ whole runs
+runs_anywhere zero place other bytes runs e = e
+runs_anywhere (suc count) place other [] runs e = absurd cc
+runs_anywhere (suc count) place other (high ∷ []) runs e = absurd cc
+runs_anywhere (suc count) place other (high ∷ low ∷ rest) runs e =
+    run_anywhere count place other high low rest runs (big_number 2 (high ∷ low ∷ rest) == 0) e (runs_anywhere count (place + 2) (other + 2) rest)
+
+line_anywhere : (place other : ℕ) (bytes runs : List ℕ) → line_at place bytes ≡ whole runs → line_at other bytes ≡ whole runs
+line_anywhere place other [] runs e = absurd cc
+line_anywhere place other (count ∷ rest) runs e = by_test (is_run_count count) e
+  where
+    by_test : (b : Bool) → (if b then runs_at count (place + 1) rest else bad (fault.RunCount place)) ≡ whole runs
+        → (if b then runs_at count (other + 1) rest else bad (fault.RunCount other)) ≡ whole runs
+    by_test true h = runs_anywhere count (place + 1) (other + 1) rest runs h
+    by_test false h = absurd cc
+
+-- the line before, of so many bytes, is the last that was read
+pub record LastLine (bytes : List ℕ) (width last : ℕ) (lines : List (List ℕ)) : Type 0 where
+  pub before : List (List ℕ)
+  pub runs : List ℕ
+  pub lines_are : lines ≡ before ++ runs ∷ []
+  pub last_is : last ≡ line_width runs
+  pub line : (place : ℕ) → line_at place (drop (width - last) bytes) ≡ whole runs
+
+-- the lines so far, and the line before
+pub record LinesWithLast (header : LineHeader) (count place : ℕ) (bytes : List ℕ) (done width last : ℕ) (reader : answers.Reading) : Type 0 where
+  pub far : LinesSoFar header count place bytes done width reader
+  pub within : last ≤ width
+  pub before : 1 ≤ last → LastLine bytes width last far.lines
+
+pub no_last : (header : LineHeader) (count place : ℕ) (bytes : List ℕ) (reader : answers.Reading) → LinesSoFar header count place bytes 0 1 reader
+    → LinesWithLast header count place bytes 0 1 0 reader
+no_last header count place bytes reader s = record { far = s; within = omega arith; before = λ some. absurd (omega (arith, some)) }
+
+-- one line more, which was read
+pub last_more : (header : LineHeader) (count place : ℕ) (bytes : List ℕ) (done width : ℕ) (reader next : answers.Reading) (runs : List ℕ)
+    → (s : LinesSoFar header count place bytes done width reader) → done < count → line_at (place + width) (drop width bytes) ≡ whole runs
+    → answers.StandsFor next (s.lines ++ runs ∷ []) → next.system ≡ reader.system → next.length ≡ reader.length
+    → LinesWithLast header count place bytes (done + 1) (width + (1 + 2 * length runs)) (1 + 2 * length runs) next
+unfolding lines_more
+last_more header count place bytes done width reader next runs s lt line said system size =
+    let at : width + (1 + 2 * length runs) - (1 + 2 * length runs) ≡ width = omega arith in
+    record {
+      far = lines_more header count place bytes done width reader next runs s lt line said system size;
+      within = omega arith;
+      before = λ some. record {
+        before = s.lines;
+        runs = runs;
+        lines_are = refl;
+        last_is = refl;
+        line = λ other. rw at (line_anywhere (place + width) other (drop width bytes) runs line);
+      };
+    }
+
+-- one line more, which is the line before again
+pub last_again : (header : LineHeader) (count place : ℕ) (bytes : List ℕ) (done width last : ℕ) (reader : answers.Reading)
+    → LinesWithLast header count place bytes done width last reader → done < count → 1 ≤ last
+    → drop width bytes ≡ take last (drop (width - last) bytes) ++ drop last (drop width bytes)
+    → ((lines : List (List ℕ)) (line : List ℕ) → answers.StandsFor reader (lines ++ line ∷ []) → answers.StandsFor reader ((lines ++ line ∷ []) ++ line ∷ []))
+    → LinesWithLast header count place bytes (done + 1) (width + last) last reader
+last_again header count place bytes done width last reader s lt some same again =
+    let l = s.before some in
+    let own = own_line (place + width) (drop (width - last) bytes) l.runs (l.line (place + width)) in
+    let line : line_at (place + width) (drop width bytes) ≡ whole l.runs =
+    ap (line_at (place + width)) same ∙ rw (← l.last_is) at (own.own (drop last (drop width bytes))) in
+    let said = rw (← l.lines_are) at (again l.before l.runs (rw l.lines_are at s.far.said)) in
+    rw (← l.last_is) at (last_more header count place bytes done width reader reader l.runs s.far lt line said refl refl)
 
 -- a field by its number of lines
 pub field_is : (place d : ℕ) (bytes : List ℕ) → 1 ≤ length bytes

@@ -1,8 +1,9 @@
 //! The decoder of a line file. Next: `texts`, with the answer of a field.
-ghost use Rattle.std.specs.Prelude.{◌≡◌, ◌<◌, ◌≤◌, ◌^◌, ◌+◌, ◌++◌, ℕ, List, [], length, Ok, Err, Some, None, IfSome, OnOk, IfErr};
+ghost use Rattle.std.specs.Prelude.{◌≡◌, ◌≢◌, ◌<◌, ◌≤◌, ◌^◌, ◌+◌, ◌++◌, ℕ, List, [], length, Ok, Err, Some, None, IfSome, OnOk, IfErr};
 ghost use Rattle.arrayvec.specs.ArrayVec.{array_vec_len};
 ghost use Rattle.vitc_reader.specs.declared.field.FieldAnswer.{FieldAnswer};
 ghost use Rattle.line_file.specs.KeptFront.{IsPiece};
+ghost use Rattle.line_file.specs.declared.decoder.Piece.TheVariants as pieces;
 ghost use Rattle.line_file.specs.LineFile.{end_fault_of};
 ghost use Rattle.line_file.specs.LineHeader.{IsHeader};
 ghost use Rattle.line_file.specs.StandsFor.{StandsFor, no_decoding, AddsTaken, FitsFields, StopsAt};
@@ -19,6 +20,9 @@ pub const MAX_FIELDS: u32 = 100_000_000;
 
 /// The most bytes of a field: 20 lines of 89 runs.
 pub const FIELD_ROOM: usize = 3_581;
+
+/// The first bytes of a header or a field.
+type Part = ArrayVec<u8, FIELD_ROOM>;
 
 /// What bytes complete.
 #[derive(Clone, Copy, Debug, PartialEq, Eq)]
@@ -54,7 +58,7 @@ pub struct LineDecoder {
     header: Option<LineHeader>,
     place: u64,
     fields: u32,
-    part: ArrayVec<u8, FIELD_ROOM>,
+    part: Part,
 }
 
 impl Model for LineDecoder {
@@ -97,8 +101,13 @@ impl LineDecoder {
         } else {
             room
         };
-        push(&mut self.part, &bytes[..count]);
-        match piece_in(self.header, self.place, self.fields, &self.part) {
+        match take_piece(
+            self.header,
+            self.place,
+            self.fields,
+            &mut self.part,
+            &bytes[..count],
+        ) {
             Piece::Header(header) => {
                 self.header = Some(header);
                 self.place += HEADER_LENGTH as u64;
@@ -115,14 +124,8 @@ impl LineDecoder {
                 }
             }
             Piece::Short => Taken::Nothing(count),
-            Piece::Fault(fault) => {
-                self.part.truncate(before);
-                Taken::Fault(fault)
-            }
-            Piece::Limit => {
-                self.part.truncate(before);
-                Taken::Limit
-            }
+            Piece::Fault(fault) => Taken::Fault(fault),
+            Piece::Limit => Taken::Limit,
         }
     }
 
@@ -137,6 +140,41 @@ impl LineDecoder {
         } else {
             Err(FileFault::Truncated(self.place + self.part.len() as u64))
         }
+    }
+}
+
+/// What stands at the front of the bytes that are kept and of these, behind so many fields. They are kept too where that is less
+/// than a whole piece. Where nothing is kept, no byte of a whole piece is copied.
+fn take_piece(
+    header: Option<LineHeader>,
+    place: u64,
+    fields: u32,
+    part: &mut Part,
+    bytes: &[u8],
+) -> Piece
+    requires header { IfSome header IsHeader }
+    requires place { place < 2 ^ 62 }
+    requires fields { fields ≤ MAX_FIELDS }
+    requires room { array_vec_len part.old + length bytes.now ≤ FIELD_ROOM }
+    ensures piece { IsPiece header place fields (part.old.items ++ bytes.now) result }
+    ensures kept { result ≡ pieces.Short → part.new.items ≡ part.old.items ++ bytes.now }
+    ensures others { result ≢ pieces.Short → part.new.items ≡ part.old.items }
+{
+    let before = part.len();
+    if before == 0 {
+        let piece = piece_in(header, place, fields, bytes);
+        if let Piece::Short = piece {
+            push(part, bytes);
+        }
+        piece
+    } else {
+        push(part, bytes);
+        let piece = piece_in(header, place, fields, part);
+        match piece {
+            Piece::Short => {}
+            _ => part.truncate(before),
+        }
+        piece
     }
 }
 
@@ -163,7 +201,7 @@ fn piece_in(header: Option<LineHeader>, place: u64, fields: u32, bytes: &[u8]) -
 }
 
 /// Appends bytes for which there is room.
-fn push(part: &mut ArrayVec<u8, FIELD_ROOM>, bytes: &[u8])
+fn push(part: &mut Part, bytes: &[u8])
     requires { array_vec_len part.old + length bytes.now ≤ FIELD_ROOM }
     ensures { part.new.items ≡ part.old.items ++ bytes.now }
 {

@@ -1,6 +1,6 @@
 //! A field at the front of bytes. Next: `vitc_reader/src/field.rt` with each of its lines, and then
 //! `decoder`.
-ghost use Rattle.std.specs.Prelude.{◌≡◌, ◌<◌, ◌≤◌, ◌+◌, ◌*◌, ◌^◌, length};
+ghost use Rattle.std.specs.Prelude.{◌≡◌, ◌<◌, ◌≤◌, ◌+◌, ◌-◌, ◌*◌, ◌^◌, ◌++◌, length, take, drop, true};
 ghost use Rattle.vitc_reader.specs.Runs.{MayBeLine};
 ghost use Rattle.line_file.specs.KeptFront.{front_of, IsFoundField};
 ghost use Rattle.line_file.specs.LineFile.{is_run_count, line_at, line_width};
@@ -12,6 +12,7 @@ use crate::header::LineHeader;
 use arrayvec::ArrayVec;
 use byteorder::{BigEndian, ByteOrder};
 use tc_files::FileFault;
+use vitc_reader::laws::a_line_again_changes_nothing;
 use vitc_reader::{FieldAnswer, FieldReader};
 
 /// The most lines of a field.
@@ -47,22 +48,41 @@ pub(crate) fn field_in(header: &LineHeader, place: u64, bytes: &[u8]) -> FoundFi
     if count > MAX_LINES {
         return FoundField::Fault(FileFault::LineCount(place));
     }
+    a_line_again_changes_nothing();
     let mut reader = FieldReader::new(header.system, header.length);
     let mut runs = Runs::new();
     let mut width = 1;
+    // How many bytes the line before has, 0 before the first one.
+    let mut last = 0;
     'lines: for _line in 0..count {
-        match line_in(place + width as u64, &bytes[width..], &mut runs) {
-            Found::Whole => {}
-            Found::Short => return FoundField::Short,
-            Found::Fault(fault) => return FoundField::Fault(fault),
+        if stands_again(bytes, width, last) {
+            // It says again what it said, which changes no answer.
+            width += last;
+        } else {
+            match line_in(place + width as u64, &bytes[width..], &mut runs) {
+                Found::Whole => {}
+                Found::Short => return FoundField::Short,
+                Found::Fault(fault) => return FoundField::Fault(fault),
+            }
+            last = 1 + 2 * runs.len();
+            width += last;
+            reader.line(&runs);
         }
-        width += 1 + 2 * runs.len();
-        reader.line(&runs);
     }
     FoundField::Whole {
         answer: reader.answer(),
         width,
     }
+}
+
+/// Whether the last bytes before this place, so many of them, stand again behind it.
+fn stands_again(bytes: &[u8], at: usize, last: usize) -> bool
+    requires at { at ≤ length bytes.now }
+    requires last { last ≤ at }
+    ensures some { result ≡ true → 1 ≤ last }
+    ensures again { result ≡ true → drop at bytes.now ≡ take last (drop (at - last) bytes.now) ++ drop last (drop at bytes.now) }
+{
+    last > 0 && bytes[at..].starts_with(&bytes[at - last..at])
 }
 
 /// The line with which bytes begin, and its runs.

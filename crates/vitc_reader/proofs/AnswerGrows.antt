@@ -1,12 +1,13 @@
 -- One line more adds its word, if it says one, at the end of the words. So the answer needs no line but the
 -- last one and the answer before it.
-use Rattle.std.proofs.Common.{◌≡◌, ℕ, List, [], ◌∷◌, ◌++◌, Result, Ok, Err, refl, ap, ◌∙◌}
+use Rattle.std.proofs.Common.{◌≡◌, ℕ, List, [], ◌∷◌, ◌++◌, Result, Ok, Err, refl, sym, ap, ◌∙◌}
 use Rattle.std.specs.Prelude.{◌≢◌}
 use Rattle.tc_address.specs.declared.system.System.{System}
 use Rattle.vitc_line.specs.declared.word.VitcWord.{VitcWord}
 use Rattle.vitc_reader.specs.declared.fault.ReadFault.{ReadFault}
-use Rattle.vitc_reader.specs.declared.field.FieldAnswer.TheVariants.{Agreed, Conflict, Nothing}
-use Rattle.vitc_reader.specs.Field.{IsSaid, AreSaid, words_of, AllAre, IsAnswerTo}
+use Rattle.vitc_reader.specs.declared.field.FieldAnswer.{FieldAnswer}
+use Rattle.vitc_reader.specs.declared.field.FieldAnswer.TheVariants.{NoLine, Agreed, Conflict, Nothing}
+use Rattle.vitc_reader.specs.Field.{IsSaid, AreSaid, words_of, AllAre, IsAnswerTo, Reading, StandsFor}
 
 abbrev Said : Type 0
 Said = Result VitcWord ReadFault
@@ -83,3 +84,49 @@ pub conflict_whatever : (before : List Said) (first other : VitcWord) (said : Sa
     → IsAnswerTo (before ++ said ∷ []) (Conflict first other)
 conflict_whatever before first other (Ok word) a = conflict_with before first other word a
 conflict_whatever before first other (Err fault) a = conflict_still before first other fault a
+
+-- ---- the last line again
+
+-- what the last line says is the last that is said
+last_said : (system : System) (n : ℕ) (lines : List (List ℕ)) (line : List ℕ) (said : List Said) → AreSaid system n (lines ++ line ∷ []) said
+    → (before : List Said) × (s : Said) × (said ≡ before ++ s ∷ []) × IsSaid system n line s
+last_said system n [] line [] are = absurd are
+last_said system n [] line (s ∷ []) are = ([], s, refl, are.0)
+last_said system n [] line (s ∷ t ∷ said) are = absurd are.1
+last_said system n (l ∷ lines) line [] are = absurd are
+last_said system n (l ∷ lines) line (t ∷ said) are =
+    let r = last_said system n lines line said are.1 in
+    (t ∷ r.0, r.1, ap (λ (all : List Said). t ∷ all) r.2, r.3)
+
+all_to_last : (first : VitcWord) (words : List VitcWord) (word : VitcWord) → AllAre first (words ++ word ∷ []) → word ≡ first
+all_to_last first [] word all = all.0
+all_to_last first (w ∷ words) word all = all_to_last first words word all.1
+
+-- the last of some words that are all the first one
+last_is_first : (words more : List VitcWord) (word first : VitcWord) → words ++ word ∷ [] ≡ first ∷ more → AllAre first more → word ≡ first
+last_is_first [] more word first e all = cc
+last_is_first (w ∷ words) more word first e all = let rest : more ≡ words ++ word ∷ [] = cc in all_to_last first words word (rw rest at all)
+
+some_word : (words : List VitcWord) (word : VitcWord) → words ++ word ∷ [] ≡ [] → ⊥
+some_word [] word e = absurd cc
+some_word (w ∷ words) word e = absurd cc
+
+-- what is said again changes no answer
+again : (before : List Said) (s : Said) (answer : FieldAnswer) → IsAnswerTo (before ++ s ∷ []) answer → IsAnswerTo ((before ++ s ∷ []) ++ s ∷ []) answer
+again [] s NoLine a = absurd cc
+again (t ∷ before) s NoLine a = absurd cc
+again before (Ok word) (Nothing fault) a = absurd (some_word (words_of before) word (sym (words_with before word) ∙ a.2))
+again before (Err next) (Nothing fault) a = no_word (before ++ Err next ∷ []) fault next a
+again before (Ok word) (Agreed first) a =
+    same_word (before ++ Ok word ∷ []) first word (last_is_first (words_of before) a.0 word first (sym (words_with before word) ∙ a.1) a.2) a
+again before (Err next) (Agreed first) a = agreed_still (before ++ Err next ∷ []) first next a
+again before s (Conflict first other) a = conflict_whatever (before ++ s ∷ []) first other s a
+
+pub line_again : (reader : Reading) (lines : List (List ℕ)) (line : List ℕ) → StandsFor reader (lines ++ line ∷ [])
+    → StandsFor reader ((lines ++ line ∷ []) ++ line ∷ [])
+line_again reader lines line stands =
+    let last = last_said reader.system reader.length lines line stands.0 stands.1 in (
+      stands.0 ++ last.1 ∷ [],
+      AreSaid-last reader.system reader.length (lines ++ line ∷ []) stands.0 line last.1 stands.1 last.3,
+      rw (← last.2) at (again last.0 last.1 reader.answer (rw last.2 at stands.2)),
+    )

@@ -1,9 +1,9 @@
 //! What follows from the definitions alone.
-ghost use Rattle.std.specs.Prelude.{◌≡◌, ◌<◌, ◌^◌, ◌%◌, ℕ, List};
+ghost use Rattle.std.specs.Prelude.{◌≡◌, ◌<◌, ◌^◌, ◌%◌, ◌++◌, ◌∷◌, [], ℕ, List};
 ghost use Rattle.tc_address.specs.declared.system.System.{System};
 ghost use Rattle.vitc_reader.specs.declared.fault.RunFault.{RunFault};
 ghost use Rattle.vitc_reader.specs.declared.field.FieldAnswer.{FieldAnswer};
-ghost use Rattle.vitc_reader.specs.Field.{IsAnswer};
+ghost use Rattle.vitc_reader.specs.Field.{IsAnswer, Reading, StandsFor};
 ghost use Rattle.vitc_reader.specs.Runs.{IsLineLength, IsRunFault, MayBeLine, StandFor};
 ghost use Rattle.vitc_reader.specs.Written.{runs_in};
 
@@ -30,3 +30,9 @@ pub fn lines_have_one_answer()
 {
     spelling_is_exact();
 }
+
+/// A line that stands again behind itself changes no answer.
+pub fn a_line_again_changes_nothing()
+    ensures { (reader : Reading) (lines : List (List ℕ)) (line : List ℕ) → StandsFor reader (lines ++ line ∷ [])
+        → StandsFor reader ((lines ++ line ∷ []) ++ line ∷ []) }
+{}

@@ -1,14 +1,16 @@
-use Rattle.std.proofs.Common.{◌≡◌, ◌+◌, sym, ap, ◌∙◌, drop}
+use Rattle.std.proofs.Common.{◌+◌, sym, ap, ◌∙◌}
 use Rattle.std.proofs.lemmas.List.{take_rest}
 use Rattle.line_file.specs.LineFile.{line_at}
-use Rattle.line_file.proofs.PieceByPiece.{by_lines, no_lines, lines_short, lines_bad, lines_more, some_bytes}
+use Rattle.line_file.proofs.PieceByPiece.{by_lines, no_lines, no_last, lines_short, lines_bad, last_again, last_more, some_bytes}
+use Rattle.line_file.proofs.field.field_in.Goals.{then-stands_again, else-stands_again+in-Whole}
 use Rattle.line_file.proofs.field.field_in.Goals as goal
 
 pub lines-init : goal.lines-init
 lines-init c =
     let bytes = c.args.bytes.now in
-    no_lines c.args.header.now _ c.args.place bytes c.new-reader.result (some_bytes bytes c.is_empty.result c.is_empty.ensures c.if-is_empty.false)
-    c.new-reader.ensures.none c.new-reader.ensures.same.0 c.new-reader.ensures.same.1
+    no_last c.args.header.now _ c.args.place bytes c.new-reader.result
+    (no_lines c.args.header.now _ c.args.place bytes c.new-reader.result (some_bytes bytes c.is_empty.result c.is_empty.ensures c.if-is_empty.false)
+    c.new-reader.ensures.none c.new-reader.ensures.same.0 c.new-reader.ensures.same.1)
 
 -- the next line is not there
 pub returns-in-Short : goal.returns-in-Short
@@ -17,7 +19,7 @@ returns-in-Short c =
     let width = c.lines.width in
     let line = ap (line_at (c.args.place + width)) (sym (take_rest bytes width)) ∙ sym c.in-Short.ensures.front in
     by_lines c.args.place bytes _ (some_bytes bytes c.is_empty.result c.is_empty.ensures c.if-is_empty.false) c.if-count-gt-MAX_LINES.false
-    (lines_short c.args.header.now _ c.args.place bytes c.lines._line width c.lines.reader c.lines.invariant c.lines-test.true line)
+    (lines_short c.args.header.now _ c.args.place bytes c.lines._line width c.lines.reader c.lines.invariant.far c.lines-test.true line)
 
 -- a piece of the next line fails its test
 pub returns-in-Fault : goal.returns-in-Fault
@@ -26,14 +28,20 @@ returns-in-Fault c =
     let width = c.lines.width in
     let line = ap (line_at (c.args.place + width)) (sym (take_rest bytes width)) ∙ sym c.in-Fault.ensures.front in
     by_lines c.args.place bytes _ (some_bytes bytes c.is_empty.result c.is_empty.ensures c.if-is_empty.false) c.if-count-gt-MAX_LINES.false
-    (lines_bad c.args.header.now _ c.args.place bytes c.lines._line width c.lines.reader c.in-Fault.fault c.lines.invariant c.lines-test.true line)
+    (lines_bad c.args.header.now _ c.args.place bytes c.lines._line width c.lines.reader c.in-Fault.fault c.lines.invariant.far c.lines-test.true line)
 
--- one line more
+-- one line more: the one before again, or the next that was read
 pub lines-preserved : goal.lines-preserved
 lines-preserved c =
+    let header = c.args.header.now in
     let bytes = c.args.bytes.now in
     let width = c.lines.width in
-    let line = ap (line_at (c.args.place + width)) (sym (take_rest bytes width)) ∙ sym c.in-Whole.ensures.front in
-    let said = rw c.deref.ensures.0 at (c.line.ensures.next c.lines.invariant.lines c.lines.invariant.said) in
-    rw c.len.ensures.value (lines_more c.args.header.now _ c.args.place bytes c.lines._line width c.lines.reader c.line.new.self c.line_in.new.runs.items
-    c.lines.invariant c.lines-test.true line said c.line.ensures.same.0 c.line.ensures.same.1)
+    elim c.if-stands_again.branch [
+      | then-stands_again w ↦ rw (w.reader-is, w.width-is, w.last-is) (last_again header _ c.args.place bytes c.lines._line width c.lines.last c.lines.reader c.lines.invariant
+          c.lines-test.true (c.stands_again.ensures.some w.if-stands_again.true) (c.stands_again.ensures.again w.if-stands_again.true) (c.a_line_again_changes_nothing.ensures c.lines.reader))
+      | else-stands_again+in-Whole w ↦
+          let line = ap (line_at (c.args.place + width)) (sym (take_rest bytes width)) ∙ sym w.in-Whole.ensures.front in
+          let said = rw w.deref.ensures.0 at (w.line.ensures.next c.lines.invariant.far.lines c.lines.invariant.far.said) in
+          rw (w.reader-is, w.width-is, w.last-is, w.len.ensures.value) (last_more header _ c.args.place bytes c.lines._line width c.lines.reader w.line.new.self w.line_in.new.runs.items
+          c.lines.invariant.far c.lines-test.true line said w.line.ensures.same.0 w.line.ensures.same.1)
+    ]

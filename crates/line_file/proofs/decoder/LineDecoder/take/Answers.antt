@@ -1,14 +1,13 @@
-use Rattle.std.proofs.Common.{◌≡◌, ◌++◌, ◌<◌, ◌≤◌, sym, ◌∙◌, ap, subst, take, length, arith}
+use Rattle.std.proofs.Common.{refl, sym, subst, arith}
 use Rattle.line_file.specs.StandsFor.{Decoding, StandsFor}
-use Rattle.line_file.proofs.DecoderTakes.{at_header, at_field, at_short, at_fault, waits_less, waits_none, header_added, field_added, part_added, fault_there, limit_there}
-use Rattle.line_file.proofs.HeaderBytes.{header_valid}
+use Rattle.line_file.proofs.DecoderTakes.{at_header, header_there, at_field, at_short, at_fault, waits_less, waits_none, header_added, field_added, fault_there, limit_there}
 use Rattle.line_file.proofs.decoder.LineDecoder.take.Goals as goal
 
 -- the header begins with what was kept
 pub overflow_sub-result : goal.overflow_sub-result
 overflow_sub-result c =
     let d = c.self.inside in
-    let s = at_header d.header d.place d.fields d.part.items c.deref.result.now c.in-Header.header c.self.invariant.waits c.in-Header.ensures in
+    let s = at_header d.header d.place d.fields d.part.items _ c.in-Header.header c.self.invariant.waits c.in-Header.ensures.piece in
     let kept = s.kept in
     let before = c.len-before.ensures.value in
     omega (arith, kept, before)
@@ -16,10 +15,10 @@ overflow_sub-result c =
 pub invariant_of-self : goal.invariant_of-self
 invariant_of-self c =
     let d = c.self.inside in
-    let s = at_header d.header d.place d.fields d.part.items c.deref.result.now c.in-Header.header c.self.invariant.waits c.in-Header.ensures in
+    let s = at_header d.header d.place d.fields d.part.items _ c.in-Header.header c.self.invariant.waits c.in-Header.ensures.piece in
     let begin = s.begin in
     rw c.clear.ensures (record {
-      header = header_valid c.deref.result.now c.in-Header.header s.read;
+      header = header_there d.header d.place d.part.items _ c.in-Header.header s;
       waits = tt;
       part = omega arith;
       within = c.self.invariant.within;
@@ -29,8 +28,7 @@ invariant_of-self c =
 pub overflow_add-self-in-Field-2 : goal.overflow_add-self-in-Field-2
 overflow_add-self-in-Field-2 c =
     let d = c.self.inside in
-    let bytes = c.deref.ensures.0 ∙ c.push.ensures in
-    let is = rw bytes at c.in-Field.ensures in
+    let is = c.in-Field.ensures.piece in
     let s = at_field d.header d.place d.fields d.part.items _ c.in-Field.answer c.in-Field.width c.self.invariant.waits is in
     let most = s.most in
     let place = c.self.invariant.bytes in
@@ -40,7 +38,7 @@ overflow_add-self-in-Field-2 c =
 pub overflow_sub-result-in-Field : goal.overflow_sub-result-in-Field
 overflow_sub-result-in-Field c =
     let d = c.self.inside in
-    let is = rw (c.deref.ensures.0 ∙ c.push.ensures) at c.in-Field.ensures in
+    let is = c.in-Field.ensures.piece in
     let s = at_field d.header d.place d.fields d.part.items _ c.in-Field.answer c.in-Field.width c.self.invariant.waits is in
     let kept = s.kept in
     let before = c.len-before.ensures.value in
@@ -49,7 +47,7 @@ overflow_sub-result-in-Field c =
 pub invariant_of-self-in-Field : goal.invariant_of-self-in-Field
 invariant_of-self-in-Field c =
     let d = c.self.inside in
-    let is = rw (c.deref.ensures.0 ∙ c.push.ensures) at c.in-Field.ensures in
+    let is = c.in-Field.ensures.piece in
     let s = at_field d.header d.place d.fields d.part.items _ c.in-Field.answer c.in-Field.width c.self.invariant.waits is in
     let most = s.most in
     let room = s.room in
@@ -65,12 +63,13 @@ invariant_of-self-in-Field c =
 pub invariant_of-self-in-Short : goal.invariant_of-self-in-Short
 invariant_of-self-in-Short c =
     let d = c.self.inside in
-    let is = rw c.deref.ensures.0 at c.in-Short.ensures in
-    let waits = at_short d.header d.place d.fields d.part.items c.push.new.part.items c.self.invariant.waits is in
+    let kept = c.in-Short.ensures.kept refl in
+    let is = rw (← kept) at c.in-Short.ensures.piece in
+    let waits = at_short d.header d.place d.fields d.part.items c.take_piece.new.part.items c.self.invariant.waits is in
     record {
       header = c.self.invariant.header;
       waits = waits;
-      part = waits_less d.header d.place d.fields c.push.new.part.items waits;
+      part = waits_less d.header d.place d.fields c.take_piece.new.part.items waits;
       within = c.self.invariant.within;
       bytes = c.self.invariant.bytes;
     }
@@ -78,14 +77,14 @@ invariant_of-self-in-Short c =
 pub returns-in-Header-clause-takes : goal.returns-in-Header-clause-takes
 returns-in-Header-clause-takes c =
     let d = c.self.inside in
-    let is = rw (c.deref.ensures.0 ∙ c.push.ensures) at c.in-Header.ensures in
+    let is = c.in-Header.ensures.piece in
     let s = at_header d.header d.place d.fields d.part.items _ c.in-Header.header c.self.invariant.waits is in
     rw (← c.self.view_is, c.clear.ensures, c.len-before.ensures.value) (header_added d.header d.place d.fields d.part.items c.args.bytes.now _ c.in-Header.header s)
 
 pub returns-in-Field-clause-takes : goal.returns-in-Field-clause-takes
 returns-in-Field-clause-takes c =
     let d = c.self.inside in
-    let is = rw (c.deref.ensures.0 ∙ c.push.ensures) at c.in-Field.ensures in
+    let is = c.in-Field.ensures.piece in
     let s = at_field d.header d.place d.fields d.part.items _ c.in-Field.answer c.in-Field.width c.self.invariant.waits is in
     rw (← c.self.view_is, c.clear-in-Field.ensures, c.len-before.ensures.value)
     (field_added d.header d.place d.fields d.part.items c.args.bytes.now _ c.in-Field.answer c.in-Field.width s)
@@ -93,7 +92,7 @@ returns-in-Field-clause-takes c =
 pub returns-in-Field-clause-bounds : goal.returns-in-Field-clause-bounds
 returns-in-Field-clause-bounds c =
     let d = c.self.inside in
-    let is = rw (c.deref.ensures.0 ∙ c.push.ensures) at c.in-Field.ensures in
+    let is = c.in-Field.ensures.piece in
     let s = at_field d.header d.place d.fields d.part.items _ c.in-Field.answer c.in-Field.width c.self.invariant.waits is in
     let most = s.most in
     let room = s.room in
@@ -104,11 +103,11 @@ pub returns-in-Fault-clause-stops : goal.returns-in-Fault-clause-stops
 returns-in-Fault-clause-stops c = λ front answers stands.
     let d = c.self.inside in
     let s = subst (λ (x : Decoding). StandsFor x front answers) (sym c.self.view_is) stands in
-    let is = rw (c.deref.ensures.0 ∙ c.push.ensures) at c.in-Fault.ensures in
+    let is = c.in-Fault.ensures.piece in
     fault_there d.header d.place d.fields d.part.items front c.args.bytes.now _ answers c.in-Fault.fault s (at_fault d.header d.place d.fields _ c.in-Fault.fault is)
 
 pub returns-in-Limit-clause-stops : goal.returns-in-Limit-clause-stops
 returns-in-Limit-clause-stops c = λ front answers stands.
     let d = c.self.inside in
     let s = subst (λ (x : Decoding). StandsFor x front answers) (sym c.self.view_is) stands in
-    limit_there d.header d.place d.fields d.part.items front c.args.bytes.now c.deref.result.now answers s c.in-Limit.ensures c.requires
+    limit_there d.header d.place d.fields d.part.items front c.args.bytes.now _ answers s c.in-Limit.ensures.piece c.requires
