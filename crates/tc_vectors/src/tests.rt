@@ -1,6 +1,7 @@
 //! Runs of the program whose status, output and note are known from outside.
 mod chase;
 mod convert;
+mod cuts;
 mod damage;
 mod faults;
 mod frames;
