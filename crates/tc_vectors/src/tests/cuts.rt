@@ -17,23 +17,31 @@ const HEADER_LENGTH: usize = 12;
 
 /// An interval file may end behind its header and behind each interval. At another end its command writes what
 /// it writes where a pull fails behind the same bytes.
-fn end_each_byte(
-    rt: &(impl Abort + AllocGlobal),
-    case: &Case,
-    width: usize,
-) -> Result<(), Fail> {
+fn end_each_byte(rt: &(impl Abort + AllocGlobal), case: &Case, width: usize) -> Result<(), Fail> {
     let whole = case.whole(rt)?;
     for length in 0..ENDS {
         let bytes = case.input.get(..length).ok_or("too few bytes")?;
         let ended = Case::new(rt.alloc(), case.words, bytes)?.trial().ended(rt)?;
         let behind = length.checked_sub(HEADER_LENGTH);
         if behind.is_some_and(|it| it.is_multiple_of(width)) {
-            assert_eq!(rt; ended.status, Status::Done, "of {} and {length} bytes", case.words);
+            assert_eq!(rt;
+                ended.status,
+                Status::Done,
+                "of {} and {length} bytes",
+                case.words
+            );
             assert_eq!(rt; ended.note.as_slice(), b"".as_slice(), "of {}", case.words);
         } else {
             let note = format!(in rt.alloc(); "tc: refused: truncated at byte {length}\n")?;
             let words = case.words;
-            compare(rt, words, &ended, Status::Refused, note.as_bytes(), &whole.output);
+            compare(
+                rt,
+                words,
+                &ended,
+                Status::Refused,
+                note.as_bytes(),
+                &whole.output,
+            );
             let unread = after_one_pull(rt, case, length)?;
             assert_eq!(rt;
                 ended.output.as_slice(),
