@@ -6,7 +6,7 @@ use Rattle.tc_top.specs.OfFrames.{FrameText, along_frames}
 
 -- the messages of the frames, and nothing last
 abbrev pub messages_of_frames : FrameText
-messages_of_frames = record { text = λ header fs. mtc_of fs; last = λ intervals fs. [] }
+messages_of_frames = record { text = λ header fs. mtc_of fs; last = λ intervals fs. []; spent = λ fs. ⊥ }
 
 -- what is written with a limit of invented frames
 abbrev pub time_code : ℕ → Printing

@@ -11,6 +11,8 @@ pub record Meaning : Type 1 where
   pub verdict : List ℕ → Verdict
   -- the fault of an input that ends with these bytes, where they are good
   pub end_fault : List ℕ → Option FileFault
+  -- these bytes pass a limit of the command's own, whatever follows them
+  pub spent : List ℕ → Type 0
   -- what is written of bytes before their end
   pub part : List ℕ → List ℕ → Type 0
   -- what is written of a whole input
@@ -22,6 +24,7 @@ writes text = record {
   reads = false;
   verdict = λ bytes. good;
   end_fault = λ bytes. None;
+  spent = λ bytes. ⊥;
   part = λ bytes written. written ≡ [];
   output = λ bytes written. (bytes ≡ []) × (written ≡ text);
 }

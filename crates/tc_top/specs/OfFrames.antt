@@ -27,11 +27,13 @@ abbrev pub frames_of : ℕ → List ℕ → List Event → List Frame
 frames_of limit intervals events = frames limit (words_heard events) (sum intervals)
 
 -- what a command makes of frames
-pub record FrameText : Type 0 where
+pub record FrameText : Type 1 where
   -- what is written behind the header and these frames, before their end
   pub text : IntervalHeader → List Frame → List ℕ
   -- what is written last, of the intervals and all of their frames
   pub last : List ℕ → List Frame → List ℕ
+  -- these frames pass a limit of the command's own
+  pub spent : List Frame → Type 0
 
 -- before the end: what is made of the frames of the intervals
 pub record IsFlightPart (limit : ℕ) (made : FrameText) (header : IntervalHeader) (intervals written : List ℕ) : Type 0 where
@@ -45,6 +47,12 @@ pub record IsFlightWhole (limit : ℕ) (made : FrameText) (header : IntervalHead
   pub are_events : AreEvents header.system Normal intervals events
   pub are : written ≡ made.text header (frames_of limit intervals events) ++ made.last intervals (frames_of limit intervals events)
 
+-- the frames pass the command's own limit
+pub record IsFlightSpent (limit : ℕ) (made : FrameText) (header : IntervalHeader) (intervals : List ℕ) : Type 0 where
+  pub events : List Event
+  pub are_events : AreEvents header.system Normal intervals events
+  pub spent : made.spent (frames_of limit intervals events)
+
 -- what is written of the frames, with a limit of invented ones
 abbrev pub along_frames : ℕ → FrameText → Printing
-along_frames limit made = record { part = IsFlightPart limit made; whole = IsFlightWhole limit made }
+along_frames limit made = record { spent = IsFlightSpent limit made; part = IsFlightPart limit made; whole = IsFlightWhole limit made }

@@ -1,6 +1,6 @@
 //! The way along an interval file, the same for each command that reads one. Next:
 //! `tc_files/src/interval_file/decoder.rt`, and behind it the engines.
-ghost use Rattle.std.specs.Prelude.{◌≡◌, ℕ, ◌+◌, ◌-◌, ◌%◌, ◌<◌, ◌≤◌, List, [], ◌∷◌, ◌++◌, length, take, drop, OnOk, IfOk, IfErr, IsSome, Err};
+ghost use Rattle.std.specs.Prelude.{◌≡◌, ℕ, true, false, ◌+◌, ◌-◌, ◌%◌, ◌<◌, ◌≤◌, List, [], ◌∷◌, ◌++◌, length, take, drop, OnOk, IfOk, IfErr, IsSome, Err};
 ghost use Rattle.std.specs.declared.option.Option.{Option};
 ghost use Rattle.std.specs.Io.KnownBytes.{Appends};
 ghost use Rattle.biphase.specs.declared.cell.TheConstants.{MAX_INTERVAL};
@@ -102,6 +102,13 @@ pub(crate) trait Behind: Drop {
             → (part : List ℕ) × Printing.part (printing choice) header intervals (written ++ part)
             × AppendsFront (K.written out.old) (K.written out.new) part)) }
         ensures cause { HasOutCause (K.faults out.old) (K.faults out.new) result };
+
+    /// Whether the intervals that it was given pass a limit of the command's own.
+    fn is_spent(&self) -> bool
+        ensures spent { result ≡ true → (choice : Self.Choice) (header : IntervalHeader) (intervals written : List ℕ)
+            → stands self.now choice header intervals written → Printing.spent (printing choice) header intervals }
+        ensures going { result ≡ false → (choice : Self.Choice) (header : IntervalHeader) (intervals written : List ℕ)
+            → stands self.now choice header intervals written → ¬ Printing.spent (printing choice) header intervals };
 
     /// Takes the end of the recording, and writes what stands last.
     fn finish<K: Sink>(&self, out: &mut K) -> Result<(), Stop>

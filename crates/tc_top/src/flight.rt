@@ -38,7 +38,9 @@ use crate::along::Behind;
 use crate::frame_sink::FrameSink;
 use crate::stop::Stop;
 use biphase::{MAX_INTERVAL, Profile};
-use direction_reader::laws::a_reader_gives_the_events_of_its_list;
+use direction_reader::laws::{
+    a_list_has_one_list_of_events, a_reader_gives_the_events_of_its_list,
+};
 use direction_reader::{Brought, DirectionReader, Event, Events, MAX_INTERVALS};
 use flywheel::laws::frames_come_in_order;
 use flywheel::{Flywheel, Frame, HeardWord};
@@ -375,6 +377,13 @@ impl<T: FrameSink> Behind for FlightTo<T> {
 
     fn flush<K: Sink>(&mut self, _out: &mut K) -> Result<(), Stop> {
         Ok(())
+    }
+
+    /// Its frames pass the limit of their sink.
+    #[inline(always)]
+    fn is_spent(&self) -> bool {
+        a_list_has_one_list_of_events();
+        self.sink.is_spent()
     }
 
     fn finish<K: Sink>(&self, out: &mut K) -> Result<(), Stop> {
