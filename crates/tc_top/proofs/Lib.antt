@@ -6,6 +6,7 @@ pub mod CleanCopy
 pub mod CountedEvents
 pub mod CountedLabels
 pub mod Digits
+pub mod FewerFrames
 pub mod FieldsGrow
 pub mod FlightGrows
 pub mod FramesAnew

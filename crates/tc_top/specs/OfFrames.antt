@@ -1,5 +1,5 @@
 -- A command that writes what it makes of the frames of a recording: those of the words heard in it, and those that a flywheel invents between them.
-use Rattle.std.specs.Prelude.{◌≡◌, ℕ, List, [], ◌∷◌, ◌++◌, sum}
+use Rattle.std.specs.Prelude.{◌≡◌, ℕ, ◌<◌, List, [], ◌∷◌, ◌++◌, length, sum, Option, Some, None}
 use Rattle.std.specs.List.{flat_map}
 use Rattle.biphase.specs.declared.profile.Profile.TheVariants.{Normal}
 use Rattle.direction_reader.specs.declared.event.Event.{Event}
@@ -27,13 +27,18 @@ abbrev pub frames_of : ℕ → List ℕ → List Event → List Frame
 frames_of limit intervals events = frames limit (words_heard events) (sum intervals)
 
 -- what a command makes of frames
-pub record FrameText : Type 1 where
+pub record FrameText : Type 0 where
   -- what is written behind the header and these frames, before their end
   pub text : IntervalHeader → List Frame → List ℕ
   -- what is written last, of the intervals and all of their frames
   pub last : List ℕ → List Frame → List ℕ
-  -- these frames pass a limit of the command's own
-  pub spent : List Frame → Type 0
+  -- how many frames it takes at most, where it has a limit
+  pub most : Option ℕ
+
+-- these are more frames than the limit, where there is one
+abbrev pub AreTooMany : Option ℕ → List Frame → Type 0
+AreTooMany None fs = ⊥
+AreTooMany (Some most) fs = most < length fs
 
 -- before the end: what is made of the frames of the intervals
 pub record IsFlightPart (limit : ℕ) (made : FrameText) (header : IntervalHeader) (intervals written : List ℕ) : Type 0 where
@@ -47,11 +52,14 @@ pub record IsFlightWhole (limit : ℕ) (made : FrameText) (header : IntervalHead
   pub are_events : AreEvents header.system Normal intervals events
   pub are : written ≡ made.text header (frames_of limit intervals events) ++ made.last intervals (frames_of limit intervals events)
 
--- the frames pass the command's own limit
+-- too many frames came of a front of the intervals
 pub record IsFlightSpent (limit : ℕ) (made : FrameText) (header : IntervalHeader) (intervals : List ℕ) : Type 0 where
+  pub front : List ℕ
+  pub more : List ℕ
+  pub are_front : intervals ≡ front ++ more
   pub events : List Event
-  pub are_events : AreEvents header.system Normal intervals events
-  pub spent : made.spent (frames_of limit intervals events)
+  pub are_events : AreEvents header.system Normal front events
+  pub too_many : AreTooMany made.most (frames_of limit front events)
 
 -- what is written of the frames, with a limit of invented ones
 abbrev pub along_frames : ℕ → FrameText → Printing

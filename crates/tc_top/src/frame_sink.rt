@@ -7,7 +7,7 @@ ghost use Rattle.tc_files.specs.FrameTexts.{FitsFrameLine};
 ghost use Rattle.tc_io.specs.Sink.{AppendsFront};
 ghost use Rattle.tc_top.specs.Causes.{HasOutCause};
 ghost use Rattle.tc_top.specs.KeptFlight.{CountsAll, FitsFlight, Sends, SendsFront};
-ghost use Rattle.tc_top.specs.OfFrames.{FrameText};
+ghost use Rattle.tc_top.specs.OfFrames.{AreTooMany, FrameText};
 
 use crate::flight::Flight;
 use crate::stop::Stop;
@@ -56,9 +56,9 @@ pub(crate) trait FrameSink: Drop {
     /// Whether the frames that it was given pass a limit of the command's own.
     fn is_spent(&self) -> bool
         ensures spent { result ≡ true → (choice : Self.Choice) (header : IntervalHeader) (frames : List Frame)
-            → given self.now choice header frames → FrameText.spent (made choice) frames }
+            → given self.now choice header frames → AreTooMany (FrameText.most (made choice)) frames }
         ensures going { result ≡ false → (choice : Self.Choice) (header : IntervalHeader) (frames : List Frame)
-            → given self.now choice header frames → ¬ FrameText.spent (made choice) frames };
+            → given self.now choice header frames → ¬ AreTooMany (FrameText.most (made choice)) frames };
 
     /// Writes what stands last. The flight has counted what was given.
     fn finish<K: Sink>(&self, flight: &Flight, out: &mut K) -> Result<(), Stop>
