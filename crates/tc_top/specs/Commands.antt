@@ -20,6 +20,10 @@ use Rattle.tc_top.specs.MtcRead.{along_midi}
 use Rattle.tc_top.specs.PcmLtc.{along_samples}
 use Rattle.tc_top.specs.VitcRead.{along_fields}
 
+-- the jobs with a limit of the command's own
+abbrev pub HasOwnLimit : Job → Type 0
+HasOwnLimit _ = ⊥
+
 abbrev pub meaning_of : Job → Meaning
 meaning_of LtcRead = along_intervals (report Normal)
 meaning_of LtcWorn = along_intervals (report Worn)

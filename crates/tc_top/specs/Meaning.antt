@@ -29,9 +29,15 @@ writes text = record {
   output = λ bytes written. (bytes ≡ []) × (written ≡ text);
 }
 
+-- what the bytes show, where they do not pass a limit of the command's own: that comes before a fault and before the limit of the grammar
+pub record Shows (m : Meaning) (verdict : Verdict) (bytes : List ℕ) : Type 0 where
+  pub is : m.verdict bytes ≡ verdict
+  pub unspent : ¬ m.spent bytes
+
 -- the bytes are an input of the command
 pub record IsInput (m : Meaning) (bytes : List ℕ) : Type 0 where
   pub verdict : m.verdict bytes ≡ good
+  pub unspent : ¬ m.spent bytes
   pub end : m.end_fault bytes ≡ None
 
 -- the command is at its end where nothing is left of its input; one that reads none is at once

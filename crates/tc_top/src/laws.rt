@@ -11,7 +11,9 @@ ghost use Rattle.quarter_frame.specs.Message.{full_of};
 ghost use Rattle.quarter_frame.specs.Runs.{quarters};
 ghost use Rattle.tc_address.specs.Label.{Address};
 ghost use Rattle.tc_words.specs.declared.job.Job.{Job};
-ghost use Rattle.tc_top.specs.Commands.{meaning_of};
+ghost use Rattle.tc_top.specs.declared.status.Status.{Status};
+ghost use Rattle.tc_top.specs.Answer.{HasStatus, status_on};
+ghost use Rattle.tc_top.specs.Commands.{HasOwnLimit, meaning_of};
 ghost use Rattle.tc_words.specs.Stripe.{IsStripe, Striping};
 ghost use Rattle.tc_words.specs.Jam.{IsJamming, Jamming};
 ghost use Rattle.tc_words.specs.ChaseRun.{Chasing, IsChasing};
@@ -58,6 +60,15 @@ pub fn an_input_has_one_output()
     a_list_has_one_list_of_events();
     bytes_have_one_list_of_answers();
 }
+
+/// An input leaves a job one status where no call fails. A limit of the command's own comes first, and
+/// where it has none, the grammar and the limit of the file settle it alone.
+pub fn an_input_has_one_status()
+    ensures one { (job : Job) (input : List ℕ) (a b : Status) → HasStatus (meaning_of job) input a
+        → HasStatus (meaning_of job) input b → a ≡ b }
+    ensures file { (job : Job) (input : List ℕ) (status : Status) → ¬ HasOwnLimit job → HasStatus (meaning_of job) input status
+        → status ≡ status_on (meaning_of job) input }
+{}
 
 /// `mtc-read` reads a thousand million bytes, and no more.
 pub fn mtc_read_has_this_limit()

@@ -2,7 +2,7 @@
 ghost use Rattle.std.specs.Prelude.{◌≡◌, ◌⊎◌, ℕ, List, Some, false, OnOk, IfErr};
 ghost use Rattle.std.specs.Io.KnownBytes.{Appends, Consumes};
 ghost use Rattle.tc_io.specs.Source.{Rose};
-ghost use Rattle.tc_top.specs.Answer.{Exchange, IsAnswer, IsPulled, IsWritten, IsNoted, status_on};
+ghost use Rattle.tc_top.specs.Answer.{Exchange, IsAnswer, IsPulled, IsWritten, IsNoted, HasStatus};
 ghost use Rattle.tc_top.specs.Causes.{SourceCause, OutCause, HasSourceCause, HasOutCause};
 ghost use Rattle.tc_top.specs.Commands.{meaning_of};
 ghost use Rattle.tc_files.specs.Recording.{recording_of};
@@ -79,7 +79,7 @@ pub fn stream<S: Source, K: Sink, N: Sink>(
     // Where no count of faults rises, the job and the whole input leave one status.
     ensures status { (input : List ℕ) → S.left source.old ≡ Some input
         → ¬ Rose (S.faults source.old) (S.faults source.new) → ¬ Rose (K.faults out.old) (K.faults out.new)
-        → result ≡ status_on (meaning_of job.now) input }
+        → HasStatus (meaning_of job.now) input result }
 
     // The lines of `ltc-fly` mark each frame that is invented, and these are within the limit.
     ensures marked { (limit : ℕ) → job.now ≡ Job.LtcFly limit

@@ -10,7 +10,7 @@ ghost use Rattle.tc_address.specs.Label.{Address};
 ghost use Rattle.tc_words.specs.declared.job.Job.{Job};
 ghost use Rattle.tc_words.specs.declared.job.Task.{Task};
 ghost use Rattle.tc_words.specs.Job.{answer_to};
-ghost use Rattle.tc_top.specs.Answer.{Exchange, IsRunAnswer, IsPulled, IsWritten, IsNoted, status_on};
+ghost use Rattle.tc_top.specs.Answer.{Exchange, IsRunAnswer, IsPulled, IsWritten, IsNoted, HasStatus};
 ghost use Rattle.tc_top.specs.Causes.{SourceCause, OutCause};
 ghost use Rattle.tc_top.specs.Chase.{IsTraced, chase_status_on};
 ghost use Rattle.tc_top.specs.Commands.{meaning_of};
@@ -76,7 +76,7 @@ pub fn run<S: Source, K: Sink, N: Sink>(
     ensures status { (job : Job) (input : List ℕ) → answer_to (map string_bytes words.now) ≡ Ok (Task.Stream job)
         → S.left source.old ≡ Some input
         → ¬ Rose (S.faults source.old) (S.faults source.new) → ¬ Rose (K.faults out.old) (K.faults out.new)
-        → (result ≡ status_on (meaning_of job) input) ⊎ (result ≡ Status.Memory) }
+        → HasStatus (meaning_of job) input result ⊎ (result ≡ Status.Memory) }
 
     // The same of a chase.
     ensures chase_status { (label : Address) (input : List ℕ) → answer_to (map string_bytes words.now) ≡ Ok (Task.Chase label)
