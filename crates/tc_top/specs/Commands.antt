@@ -22,6 +22,7 @@ use Rattle.tc_top.specs.VitcRead.{along_fields}
 
 -- the jobs with a limit of the command's own
 abbrev pub HasOwnLimit : Job → Type 0
+HasOwnLimit (LtcChase run) = Unit {0}
 HasOwnLimit _ = ⊥
 
 abbrev pub meaning_of : Job → Meaning
