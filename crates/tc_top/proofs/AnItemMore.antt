@@ -1,6 +1,6 @@
 -- What an item of an interval file does to a command along it: nothing, a header or an interval more leaves it standing, and else this is
 -- why it stops, whatever bytes follow.
-use Rattle.std.proofs.Common.{◌≡◌, ℕ, inl, inr, ◌+◌, ◌-◌, ◌%◌, ◌<◌, ◌≤◌, List, [], ◌∷◌, ◌++◌, length, take, drop, Ok, Err, Bool, true, false, Some, None, refl, sym, ◌∙◌, ap, subst, append_assoc, append-nil, fold, arith, length-append}
+use Rattle.std.proofs.Common.{◌≡◌, ℕ, inl, inr, ◌+◌, ◌-◌, ◌<◌, ◌≤◌, List, [], ◌∷◌, ◌++◌, length, take, drop, Ok, Err, Bool, true, false, Some, None, refl, sym, ◌∙◌, ap, subst, append_assoc, append-nil, fold, arith, length-append}
 use Rattle.std.specs.Prelude.{nat_lt, if◌then◌else◌, IsSome}
 use Rattle.std.proofs.lemmas.List.{take-append-drop}
 use Rattle.std.specs.declared.option.Option.{Option}
@@ -24,9 +24,9 @@ use Rattle.tc_top.specs.declared.stop.Stop.{Stop}
 use Rattle.tc_top.specs.declared.stop.Stop.TheVariants.{Refused, ReadFault, WriteFault, Limit}
 use Rattle.tc_top.specs.Along.{Printing, IsPartOf, IsSpentOf, along_intervals}
 use Rattle.tc_top.specs.Causes.{OutCause}
-use Rattle.tc_top.specs.KeptAlong.{HasHeader, IntervalStops, Printed, Stands, longer, printed_well, stop_at, Halts, IsHalt}
+use Rattle.tc_top.specs.KeptAlong.{HasHeader, IntervalStops, Printed, Stands, longer, stop_at, Halts, IsHalt}
 use Rattle.tc_top.specs.Status.{status_of}
-use Rattle.tc_top.specs.Stops.{IsStop, Stops}
+use Rattle.tc_top.specs.Stops.{Stops}
 use Rattle.tc_top.proofs.AlongTheInput.{cut_at}
 use Rattle.tc_top.proofs.VerdictStays.{good_step, more_bytes, past_stays, refused_stays}
 

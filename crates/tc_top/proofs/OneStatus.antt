@@ -6,7 +6,6 @@ use Rattle.std.proofs.lemmas.Bool.{false≢true}
 use Rattle.std.specs.Io.KnownBytes.{Consumes, IsAtEnd}
 use Rattle.tc_io.specs.Source.{Rose}
 use Rattle.tc_files.specs.declared.fault.FileFault.{FileFault}
-use Rattle.flywheel.specs.declared.frame.Frame.{Frame}
 use Rattle.tc_files.specs.declared.interval_file.header.IntervalHeader.{IntervalHeader}
 use Rattle.tc_files.specs.Recording.{Recording, recording_of}
 use Rattle.tc_files.specs.Verdict.{Verdict, good, refused, past_limit}
@@ -22,13 +21,12 @@ use Rattle.tc_top.specs.Answer.{Exchange, HasStatus, IsAnswer, status_by, status
 use Rattle.tc_top.specs.Causes.{SourceCause, OutCause}
 use Rattle.tc_top.specs.Commands.{HasOwnLimit, meaning_of}
 use Rattle.tc_top.specs.LtcConvert.{conversion}
-use Rattle.tc_top.specs.LtcFly.{lines_of_frames}
-use Rattle.tc_top.specs.LtcJam.{file_of_frames}
-use Rattle.tc_top.specs.LtcMtc.{messages_of_frames}
+use Rattle.tc_top.specs.LtcFly.{flight, lines_of_frames}
+use Rattle.tc_top.specs.LtcJam.{clean_recording, file_of_frames}
+use Rattle.tc_top.specs.LtcMtc.{messages_of_frames, time_code}
 use Rattle.tc_top.specs.LtcPcm.{made_sound}
 use Rattle.tc_top.specs.LtcRead.{report}
 use Rattle.tc_top.specs.Meaning.{Meaning, Shows, IsEnd, IsInput, writes}
-use Rattle.tc_top.specs.OfFrames.{FrameText, along_frames}
 use Rattle.tc_top.specs.MtcRead.{along_midi}
 use Rattle.tc_top.specs.VitcRead.{along_fields}
 use Rattle.line_file.specs.LineFile.{reading_of}
@@ -39,6 +37,7 @@ use Rattle.tc_top.specs.declared.engines.mtc_read.TheConstants.{MAX_BYTES}
 use Rattle.tc_words.specs.Slicing.{Slices}
 use Rattle.tc_top.specs.PcmLtc.{along_samples}
 use Rattle.tc_top.specs.declared.engines.pcm_ltc.TheConstants.{MAX_SAMPLES}
+use Rattle.tc_top.proofs.FewerFrames.{flight_spent_stays}
 use Rattle.tc_top.proofs.MidiLimit.{never_refused, past_within}
 use Rattle.tc_top.proofs.SlicedOn.{never_refused as no_fault_yet, past_within as past_samples}
 use Rattle.tc_top.proofs.VerdictStays.{Grows, past_is_all, recording_grows, refused_is_all}
@@ -141,19 +140,15 @@ writes_settles text = record {
   idle = λ e all. inr ((λ spent. spent), refl);
 }
 
--- the frames of a recording, for a command without a limit on them
-frames_stay : (limit : ℕ) (made : FrameText) → ((fs : List Frame) → ¬ made.spent fs) → SpentStays (along_frames limit made)
-frames_stay limit made never = λ header intervals more spent. absurd (never _ spent.spent)
-
 pub settles : FieldsStay → (job : Job) → Settles (meaning_of job)
 settles stay (LtcLoad run) = writes_settles _
 settles stay (PcmLtc slicing) = samples_settle slicing
 settles stay (LtcPcm size) = along_settles _ (λ header intervals more spent. absurd spent)
 settles stay LtcRead = along_settles _ (λ header intervals more spent. absurd spent)
 settles stay LtcWorn = along_settles _ (λ header intervals more spent. absurd spent)
-settles stay (LtcFly limit) = along_settles _ (frames_stay limit lines_of_frames (λ fs spent. spent))
-settles stay (LtcMtc limit) = along_settles _ (frames_stay limit messages_of_frames (λ fs spent. spent))
-settles stay (LtcJam jam) = along_settles _ (frames_stay jam.limit (file_of_frames jam) (λ fs spent. spent))
+settles stay (LtcFly limit) = along_settles _ (flight_spent_stays limit lines_of_frames)
+settles stay (LtcMtc limit) = along_settles _ (flight_spent_stays limit messages_of_frames)
+settles stay (LtcJam jam) = along_settles _ (flight_spent_stays jam.limit (file_of_frames jam))
 settles stay MtcRead = midi_settles
 settles stay (LtcMake stripe) = writes_settles _
 settles stay (VitcMake stripe) = writes_settles _
@@ -236,15 +231,12 @@ none_passes : (p : Printing) → ((header : IntervalHeader) (intervals : List �
 none_passes p never r None = λ spent. spent
 none_passes p never r (Some header) = never header r.intervals
 
-none_flies : (limit : ℕ) (made : FrameText) → ((fs : List Frame) → ¬ made.spent fs) → (r : Recording) → ¬ IsSpentOf (along_frames limit made) r
-none_flies limit made never r = none_passes (along_frames limit made) (λ header intervals spent. never _ spent.spent) r r.header
-
 unlimited : (job : Job) → ¬ HasOwnLimit job → (input : List ℕ) → ¬ Meaning.spent (meaning_of job) input
 unlimited LtcRead none input = none_passes (report Normal) (λ header intervals spent. spent) (recording_of input) (recording_of input).header
 unlimited LtcWorn none input = none_passes (report Worn) (λ header intervals spent. spent) (recording_of input) (recording_of input).header
-unlimited (LtcFly limit) none input = none_flies limit lines_of_frames (λ fs spent. spent) (recording_of input)
-unlimited (LtcMtc limit) none input = none_flies limit messages_of_frames (λ fs spent. spent) (recording_of input)
-unlimited (LtcJam jam) none input = none_flies jam.limit (file_of_frames jam) (λ fs spent. spent) (recording_of input)
+unlimited (LtcFly limit) none input = none_passes (flight limit) (λ header intervals spent. spent.too_many) (recording_of input) (recording_of input).header
+unlimited (LtcMtc limit) none input = none_passes (time_code limit) (λ header intervals spent. spent.too_many) (recording_of input) (recording_of input).header
+unlimited (LtcJam jam) none input = none_passes (clean_recording jam) (λ header intervals spent. spent.too_many) (recording_of input) (recording_of input).header
 unlimited (LtcConvert version) none input = none_passes (conversion version) (λ header intervals spent. spent) (recording_of input) (recording_of input).header
 unlimited (LtcPcm size) none input = none_passes (made_sound size) (λ header intervals spent. spent) (recording_of input) (recording_of input).header
 unlimited (PcmLtc slicing) none input = λ spent. spent

@@ -230,13 +230,7 @@ impl<B: Behind> Along<B> {
         match stop {
             Stop::WriteFault => stop,
             _ => match self.push_gathered(out) {
-                Ok(()) => {
-                    if self.is_spent() {
-                        Stop::Limit
-                    } else {
-                        stop
-                    }
-                }
+                Ok(()) => { if self.is_spent() { Stop::Limit } else { stop } }
                 Err(fault) => fault,
             },
         }
@@ -404,9 +398,10 @@ impl<B: Behind> Engine for Along<B> {
 
     ghost budget = { λ s. too_many_bytes - s.decoder.taken };
 
-    ghost stands_well = { λ s bytes written settled stands.
-        (record { is = stands.stands.good; unspent = stands.unspent },
-        printed_well B.printing B.stands B.is_settled B.stands_well s.behind s.choice _ written settled stands.stands.printed) };
+    ghost stands_well = { λ s bytes written settled stands. (
+      record { is = stands.stands.good; unspent = stands.unspent },
+      printed_well B.printing B.stands B.is_settled B.stands_well s.behind s.choice _ written settled stands.stands.printed,
+    ) };
 
     fn take<K: Sink>(&mut self, bytes: &[u8], out: &mut K) -> Result<usize, Stop> {
         match self.advance(bytes, out) {

@@ -1,4 +1,3 @@
-use Rattle.tc_files.specs.Recording.{recording_of}
 use Rattle.tc_top.proofs.AlongTheInput.{if_err}
 use Rattle.tc_top.proofs.AnItemMore.{push_stops}
 use Rattle.tc_top.proofs.along.AlongEngine.flush.Goals as goal
