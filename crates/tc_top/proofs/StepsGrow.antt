@@ -176,8 +176,11 @@ one_more : TraceLaws → (most : ℕ) (c : Chasing) (frames : List Frame) (frame
     → (more : List ℕ) × (lines_within most c (frames ++ frame ∷ []) ≡ lines_within most c frames ++ more)
 one_more laws most c frames frame =
     elim (cases_lt (length frames) most) [
-      | inl few ↦ (_, ap (step_lines c.label.count 1) (steps_with laws most c frames frame few)
-          ∙ step_lines-more c.label.count 1 (first_steps most c frames) (next_line (after_frames (begun c) (take most frames)) frame))
+      | inl few ↦ (
+        _,
+        ap (step_lines c.label.count 1) (steps_with laws most c frames frame few)
+            ∙ step_lines-more c.label.count 1 (first_steps most c frames) (next_line (after_frames (begun c) (take most frames)) frame),
+      )
       | inr full ↦ ([], nothing_added most c frames (frame ∷ []) full)
     ]
 

@@ -164,11 +164,7 @@ fn work_on<S: Source, K: Sink>(job: &Job, source: &mut S, out: &mut K) -> Result
         }
         Job::LtcChase { run } => {
             follows_the_code(run);
-            work(
-                &mut Along::<FlightTo<StepLines>>::new(*run),
-                source,
-                out,
-            )
+            work(&mut Along::<FlightTo<StepLines>>::new(*run), source, out)
         }
         Job::VitcRead => work(&mut FieldReport::new(), source, out),
         Job::MtcRead => work(&mut MtcReport::new(), source, out),
