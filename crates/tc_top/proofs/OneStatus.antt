@@ -11,7 +11,7 @@ use Rattle.tc_files.specs.Recording.{Recording, recording_of}
 use Rattle.tc_files.specs.Verdict.{Verdict, good, refused, past_limit}
 use Rattle.biphase.specs.declared.profile.Profile.TheVariants.{Normal, Worn}
 use Rattle.tc_words.specs.declared.job.Job.{Job}
-use Rattle.tc_words.specs.declared.job.Job.TheVariants.{LtcRead, LtcWorn, LtcFly, LtcMtc, LtcJam, MtcRead, Number, LabelOf, LtcMake, LtcConvert, PcmLtc, LtcPcm, LtcLoad, VitcRead, VitcMake}
+use Rattle.tc_words.specs.declared.job.Job.TheVariants.{LtcRead, LtcWorn, LtcFly, LtcMtc, LtcJam, LtcChase, MtcRead, Number, LabelOf, LtcMake, LtcConvert, PcmLtc, LtcPcm, LtcLoad, VitcRead, VitcMake}
 use Rattle.tc_top.specs.declared.status.Status.{Status}
 use Rattle.tc_top.specs.declared.status.Status.TheVariants as status
 use Rattle.tc_top.specs.declared.stop.Stop.{Stop}
@@ -20,6 +20,7 @@ use Rattle.tc_top.specs.Along.{Printing, IsSpentBehind, IsSpentOf, along_interva
 use Rattle.tc_top.specs.Answer.{Exchange, HasStatus, IsAnswer, status_by, status_on, status_at_end}
 use Rattle.tc_top.specs.Causes.{SourceCause, OutCause}
 use Rattle.tc_top.specs.Commands.{HasOwnLimit, meaning_of}
+use Rattle.tc_top.specs.LtcChase.{lines_of_steps}
 use Rattle.tc_top.specs.LtcConvert.{conversion}
 use Rattle.tc_top.specs.LtcFly.{flight, lines_of_frames}
 use Rattle.tc_top.specs.LtcJam.{clean_recording, file_of_frames}
@@ -149,6 +150,7 @@ settles stay LtcWorn = along_settles _ (λ header intervals more spent. absurd s
 settles stay (LtcFly limit) = along_settles _ (flight_spent_stays limit lines_of_frames)
 settles stay (LtcMtc limit) = along_settles _ (flight_spent_stays limit messages_of_frames)
 settles stay (LtcJam jam) = along_settles _ (flight_spent_stays jam.limit (file_of_frames jam))
+settles stay (LtcChase run) = along_settles _ (flight_spent_stays run.limit (lines_of_steps run))
 settles stay MtcRead = midi_settles
 settles stay (LtcMake stripe) = writes_settles _
 settles stay (VitcMake stripe) = writes_settles _
@@ -237,6 +239,7 @@ unlimited LtcWorn none input = none_passes (report Worn) (λ header intervals sp
 unlimited (LtcFly limit) none input = none_passes (flight limit) (λ header intervals spent. spent.too_many) (recording_of input) (recording_of input).header
 unlimited (LtcMtc limit) none input = none_passes (time_code limit) (λ header intervals spent. spent.too_many) (recording_of input) (recording_of input).header
 unlimited (LtcJam jam) none input = none_passes (clean_recording jam) (λ header intervals spent. spent.too_many) (recording_of input) (recording_of input).header
+unlimited (LtcChase run) none input = absurd (none tt)
 unlimited (LtcConvert version) none input = none_passes (conversion version) (λ header intervals spent. spent) (recording_of input) (recording_of input).header
 unlimited (LtcPcm size) none input = none_passes (made_sound size) (λ header intervals spent. spent) (recording_of input) (recording_of input).header
 unlimited (PcmLtc slicing) none input = λ spent. spent

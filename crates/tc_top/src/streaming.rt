@@ -6,7 +6,9 @@ ghost use Rattle.tc_top.specs.Answer.{Exchange, IsAnswer, IsPulled, IsWritten, I
 ghost use Rattle.tc_top.specs.Causes.{SourceCause, OutCause, HasSourceCause, HasOutCause};
 ghost use Rattle.tc_top.specs.Commands.{meaning_of};
 ghost use Rattle.tc_files.specs.Recording.{recording_of};
+ghost use Rattle.tc_words.specs.ChaseRun.{Chasing};
 ghost use Rattle.tc_words.specs.Jam.{Jamming};
+ghost use Rattle.tc_top.specs.LtcChase.{ChasesIfItFollows, FollowsTheCode};
 ghost use Rattle.tc_top.specs.LtcFly.{IsMarked};
 ghost use Rattle.tc_top.specs.LtcJam.{CleansIfItJams, IsClean};
 ghost use Rattle.tc_top.specs.ReadBack.{MakesWhatIsRead};
@@ -20,6 +22,7 @@ ghost use Rattle.biphase.specs.declared.profile.Profile.{Profile};
 use crate::along::Along;
 use crate::engines::jam::{CleanRecording, is_clean};
 use crate::engines::labels::OneLine;
+use crate::engines::ltc_chase::{StepLines, follows_the_code};
 use crate::engines::ltc_convert::Conversion;
 use crate::engines::ltc_fly::FrameLines;
 use crate::engines::ltc_make::Tape;
@@ -91,6 +94,12 @@ pub fn stream<S: Source, K: Sink, N: Sink>(
         × IsPulled (S.left source.old) (S.left source.new) e × IsEnd (meaning_of (Job.LtcJam jam)) e.left
         × IsWritten (K.written out.old) (K.written out.new) e × IsClean jam (recording_of e.pulled) e.written }
 
+    // What `ltc-chase` writes is the trace of a chase over all frames of the input, in which each loss has its cause:
+    // so whole code keeps the lock.
+    ensures chased { (chosen : Chasing) → job.now ≡ Job.LtcChase chosen → result ≡ Status.Done → (e : Exchange)
+        × IsPulled (S.left source.old) (S.left source.new) e × IsEnd (meaning_of (Job.LtcChase chosen)) e.left
+        × IsWritten (K.written out.old) (K.written out.new) e × FollowsTheCode chosen (recording_of e.pulled) e.written }
+
     // Sound that the job makes is sliced into the same intervals.
     ensures sound { SoundsTheIntervals job.now }
 
@@ -131,6 +140,7 @@ fn work_on<S: Source, K: Sink>(job: &Job, source: &mut S, out: &mut K) -> Result
     ensures writes { Meaning.reads (meaning_of job.now) ≡ false → IfErr result (λ stop. stop ≡ Stop.WriteFault) }
     ensures read { MakesWhatIsRead job.now }
     ensures clean { CleansIfItJams job.now }
+    ensures chased { ChasesIfItFollows job.now }
     ensures sound { SoundsTheIntervals job.now }
 {
     match job {
@@ -151,6 +161,10 @@ fn work_on<S: Source, K: Sink>(job: &Job, source: &mut S, out: &mut K) -> Result
                 source,
                 out,
             )
+        }
+        Job::LtcChase { run } => {
+            follows_the_code(run);
+            work(&mut Along::<FlightTo<StepLines>>::new(*run), source, out)
         }
         Job::VitcRead => work(&mut FieldReport::new(), source, out),
         Job::MtcRead => work(&mut MtcReport::new(), source, out),

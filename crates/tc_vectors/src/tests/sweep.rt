@@ -19,12 +19,13 @@ const ROOM: usize = 40_000;
 const MANY: u64 = 1_000;
 
 /// The commands along an interval file.
-pub const ALONG_INTERVALS: [&str; 8] = [
+pub const ALONG_INTERVALS: [&str; 9] = [
     "ltc-read",
     "ltc-worn",
     "ltc-fly 2",
     "ltc-mtc 2",
     "ltc-jam 2 24 48000",
+    "ltc-chase 25 01:00:00:00 2 1 8",
     "ltc-convert 1",
     "ltc-convert 2",
     "ltc-pcm 1000",

@@ -3,7 +3,7 @@ use Rattle.std.proofs.KnownBytes.{Appends-nil, Consumes-nil}
 use Rattle.std.specs.Io.KnownBytes.{Appends, Consumes}
 use Rattle.chase_script.specs.declared.row.ScriptRow.{ScriptRow}
 use Rattle.chase_script.specs.Lock.{KeepsItsLock}
-use Rattle.tc_words.specs.declared.job.Job.TheVariants.{LtcJam, LtcMtc}
+use Rattle.tc_words.specs.declared.job.Job.TheVariants.{LtcChase, LtcJam, LtcMtc}
 use Rattle.tc_words.specs.declared.job.Task.TheVariants.{Stream, Chase}
 use Rattle.tc_top.specs.Answer.{Exchange, HasStatus, IsPulled, IsWritten}
 use Rattle.tc_top.specs.Chase.{IsTraced}
@@ -67,6 +67,13 @@ returns-in-Stream-clause-clean g c = λ jam says done.
     let words = map string_bytes c.args.words.now in
     let own = named words (Stream c.in-Stream.job) (rw (c.in-Ok.is, c.in-Stream.is) at c.read_words.ensures) in
     c.stream.ensures.clean jam (sym (same_job words (LtcJam jam) c.in-Stream.job says own)) done
+
+-- what `ltc-chase` wrote follows the code: the job is the one that the words name
+pub returns-in-Stream-clause-chased : goal.returns-in-Stream-clause-chased
+returns-in-Stream-clause-chased g c = λ chosen says done.
+    let words = map string_bytes c.args.words.now in
+    let own = named words (Stream c.in-Stream.job) (rw (c.in-Ok.is, c.in-Stream.is) at c.read_words.ensures) in
+    c.stream.ensures.chased chosen (sym (same_job words (LtcChase chosen) c.in-Stream.job says own)) done
 
 -- the chase keeps its lock: it begins at the label that the words name
 pub returns-in-Chase-clause-lock : goal.returns-in-Chase-clause-lock
