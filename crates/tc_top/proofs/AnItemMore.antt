@@ -2,7 +2,8 @@
 -- why it stops, whatever bytes follow.
 use Rattle.std.proofs.Common.{◌≡◌, ℕ, ◌+◌, ◌-◌, ◌%◌, ◌<◌, ◌≤◌, List, [], ◌∷◌, ◌++◌, length, take, drop, Ok, Err, Bool, true, false, Some, None, refl, sym, ◌∙◌, ap, subst, append_assoc, append-nil, fold, arith, length-append}
 use Rattle.std.specs.Prelude.{nat_lt, if◌then◌else◌, IsSome}
-use Rattle.std.proofs.lemmas.List.{take-append-drop}
+use Rattle.std.proofs.lemmas.Grind.{common_steps}
+use Rattle.std.proofs.lemmas.List.{take-append-drop, take-take}
 use Rattle.std.specs.declared.option.Option.{Option}
 use Rattle.std.specs.Io.KnownBytes.{Appends}
 use Rattle.std.proofs.KnownBytes.{Appends-nil, Appends-trans}
@@ -25,7 +26,7 @@ use Rattle.tc_top.specs.declared.stop.Stop.TheVariants.{Refused, ReadFault, Writ
 use Rattle.tc_top.specs.Along.{Printing, IsPartOf, along_intervals}
 use Rattle.tc_top.specs.KeptAlong.{HasHeader, IntervalStops, Printed, Stands, longer, printed_well, stop_at, Halts, IsHalt}
 use Rattle.tc_top.specs.Stops.{IsStop, Stops}
-use Rattle.tc_top.proofs.AlongTheInput.{cut_at}
+use Rattle.tc_top.proofs.AlongTheInput.{cut_at, cut_more}
 use Rattle.tc_top.proofs.VerdictStays.{good_step, more_bytes, past_stays, refused_stays}
 
 -- these bytes complete this item behind a front
@@ -351,3 +352,35 @@ pub cut_some : (k n : ℕ) (bytes : List ℕ) → k ≤ length bytes
     → take k bytes ++ (take n (take (length bytes - k) (drop k bytes)) ++ drop n (take (length bytes - k) (drop k bytes))) ≡ bytes
 cut_some k n bytes within =
     ap (λ (l : List ℕ). take k bytes ++ l) (take-append-drop n (take (length bytes - k) (drop k bytes))) ∙ cut_at k bytes within
+
+-- the same, where what stands there is looked at through a window of m bytes
+in_window : (k n m : ℕ) (bytes : List ℕ) → k + m ≤ length bytes → n ≤ m
+    → take n (take (length bytes - k) (drop k bytes)) ≡ take n (take m (drop k bytes))
+in_window k n m bytes within less =
+    take-take n (length bytes - k) (drop k bytes) (omega (arith, within, less)) ∙ sym (take-take n m (drop k bytes) less)
+
+-- what stands in the window is no more than that
+pub within_window : (k n m : ℕ) (bytes : List ℕ) → n ≤ length (take m (drop k bytes)) → n ≤ m
+within_window k n m bytes less = grind (arith, common_steps)
+
+pub cut_window : (k n m : ℕ) (bytes : List ℕ) → k + m ≤ length bytes → n ≤ m
+    → take k bytes ++ take n (take m (drop k bytes)) ≡ take (k + n) bytes
+cut_window k n m bytes within less =
+    subst (λ (l : List ℕ). take k bytes ++ l ≡ take (k + n) bytes) (in_window k n m bytes within less)
+    (cut_more k n bytes (omega (arith, within)) (omega (arith, within, less)))
+
+pub cut_through : (k n m : ℕ) (bytes : List ℕ) → k + m ≤ length bytes → n ≤ m
+    → take k bytes ++ (take n (take m (drop k bytes)) ++ drop n (take (length bytes - k) (drop k bytes))) ≡ bytes
+cut_through k n m bytes within less =
+    subst (λ (l : List ℕ). take k bytes ++ (l ++ drop n (take (length bytes - k) (drop k bytes))) ≡ bytes) (in_window k n m bytes within less)
+    (cut_some k n bytes (omega (arith, within)))
+
+-- within the limit an interval out of range is refused
+pub a_refusal : {B C : Type 0} (p : Printing) (stands : Relation B C)
+    → (decoder next : Progress) (behind : Option B) (count : ℕ) (choice : C) (f : FileFault) (front bytes rest written : List ℕ) → count < MAX_INTERVALS
+    → Stands stands decoder behind count choice front written → Completes front bytes (Fault f) next
+    → IsHalt p stands behind choice (Refused f) (front ++ (bytes ++ rest)) (written ++ [])
+a_refusal p stands decoder next behind count choice f front bytes rest written below s is =
+    let refused : stop_at count f ≡ Refused f = rw (lt-ltb count MAX_INTERVALS below) refl in
+    subst (λ (stop : Stop). IsHalt p stands behind choice stop (front ++ (bytes ++ rest)) (written ++ [])) refused
+    (a_fault p stands decoder next behind count choice f front bytes rest written s is)

@@ -31,7 +31,7 @@ use crate::stop::Stop;
 use biphase::MAX_INTERVAL;
 use direction_reader::MAX_INTERVALS;
 use tc_files::{
-    FileFault, FileVersion, IntervalDecoder, IntervalHeader, Next, Taken, next_interval,
+    FileFault, FileVersion, IntervalDecoder, IntervalHeader, Next, Taken, most_width, next_interval,
 };
 use tc_io::Sink;
 
@@ -242,7 +242,7 @@ impl<B: Behind> Along<B> {
     }
 
     /// Works on the whole intervals at the front of bytes, and answers how many bytes they have: none
-    /// where the header or an interval is half taken.
+    /// where the header or an interval is half taken, or the limit is near. The last few bytes are left.
     fn whole_intervals<K: Sink>(&mut self, bytes: &[u8], out: &mut K) -> Result<usize, Stop>
         requires going { IsGoing B.fits self.old.decoder self.old.behind self.old.intervals }
         ensures going { OnOk result (IsGoing B.fits self.new.decoder self.new.behind self.new.intervals) }
@@ -259,7 +259,8 @@ impl<B: Behind> Along<B> {
         ensures cause { HasOutCause (K.faults out.old) (K.faults out.new) result }
         ensures no_pull { result ≡ Err Stop.ReadFault → ⊥ }
     {
-        if !self.decoder.is_between() {
+        // Near the limit each byte is looked at by itself.
+        if !self.decoder.is_between() || MAX_INTERVALS - self.intervals < bytes.len() as u64 {
             return Ok(0);
         }
         // Each version has a loop of its own.
@@ -269,7 +270,8 @@ impl<B: Behind> Along<B> {
         }
     }
 
-    /// Works on the whole intervals at the front of bytes that begin between two intervals.
+    /// Works on the whole intervals at the front of bytes that begin between two intervals, as long as
+    /// the widest one fits in what is left. So many intervals are within the limit.
     #[inline(always)]
     fn run<K: Sink>(
         &mut self,
@@ -279,6 +281,7 @@ impl<B: Behind> Along<B> {
     ) -> Result<usize, Stop>
         requires between { IsBetween self.old.decoder }
         requires version { self.old.decoder.version ≡ version }
+        requires room { self.old.intervals + length bytes.now ≤ MAX_INTERVALS }
         requires going { IsGoing B.fits self.old.decoder self.old.behind self.old.intervals }
         ensures going { OnOk result (IsGoing B.fits self.new.decoder self.new.behind self.new.intervals) }
         ensures taken { IfOk result (λ count. (count ≤ length bytes.now) × (self.new.decoder.taken ≡ self.old.decoder.taken + count)) }
@@ -295,20 +298,21 @@ impl<B: Behind> Along<B> {
         ensures no_pull { result ≡ Err Stop.ReadFault → ⊥ }
     {
         let first = self.decoder.taken();
+        let widest = most_width(version);
+        let end = bytes.len().saturating_sub(widest - 1);
         let mut at = 0;
-        'run: loop {
-            match next_interval(version, first + at as u64, &bytes[at..]) {
+        'run: while at < end {
+            match next_interval(version, first + at as u64, &bytes[at..at + widest]) {
                 Next::Interval { ticks, width } => {
-                    self.interval(ticks, out)?;
+                    self.within_limit(ticks, out)?;
                     at += width;
                 }
-                Next::Fault(fault) => return Err(self.stop_at(fault)),
-                Next::Short => {
-                    self.decoder.pass_over(at);
-                    return Ok(at);
-                }
+                Next::Fault(fault) => return Err(Stop::Refused(fault)),
+                Next::Short => break 'run,
             }
         }
+        self.decoder.pass_over(at);
+        Ok(at)
     }
 
     /// Works on an interval, of `x` ticks.
@@ -336,6 +340,32 @@ impl<B: Behind> Along<B> {
         if self.intervals == MAX_INTERVALS {
             return Err(Stop::Limit);
         }
+        self.within_limit(x, out)
+    }
+
+    /// Works on an interval, of `x` ticks, that is within the limit.
+    #[inline(always)]
+    fn within_limit<K: Sink>(&mut self, x: u32, out: &mut K) -> Result<(), Stop>
+        requires least { 1 ≤ x }
+        requires most { x ≤ MAX_INTERVAL }
+        requires fits { FitsBehind B.fits self.old.behind self.old.intervals }
+        requires header { IsSome self.old.behind }
+        requires room { self.old.intervals < MAX_INTERVALS }
+        ensures decoder { self.new.decoder ≡ self.old.decoder }
+        ensures choice { self.new.choice ≡ self.old.choice }
+        ensures count { OnOk result ((self.old.intervals < MAX_INTERVALS) × (self.new.intervals ≡ self.old.intervals + 1)) }
+        ensures fits { OnOk result (FitsBehind B.fits self.new.behind self.new.intervals) }
+        ensures header { OnOk result (IsSome self.new.behind) }
+        ensures works { OnOk result ((r : Recording) (written : List ℕ)
+            → Printed B.stands self.old.behind self.old.choice r written
+            → (more : List ℕ) × Appends (K.written out.old) (K.written out.new) more
+            × Printed B.stands self.new.behind self.new.choice (longer r x) (written ++ more)) }
+        ensures stops { IfErr result (λ stop. IntervalStops (B.printing self.old.choice) B.stands self.old.behind self.old.intervals
+            self.old.choice (K.written out.old) (K.written out.new) x stop
+            × (stop ≡ Stop.Limit → self.new.behind ≡ self.old.behind)) }
+        ensures cause { HasOutCause (K.faults out.old) (K.faults out.new) result }
+        ensures no_pull { result ≡ Err Stop.ReadFault → ⊥ }
+    {
         match &mut self.behind {
             Some(behind) => behind.interval(x, out)?,
             None => unreachable!(),

@@ -1,5 +1,6 @@
 use Rattle.std.proofs.Common.{◌≡◌, ◌+◌, ◌-◌, ◌≤◌, take, length}
 use Rattle.std.specs.Prelude.{IsSome}
+use Rattle.direction_reader.specs.declared.reader.TheConstants.{MAX_INTERVALS}
 use Rattle.tc_files.specs.Piece.{AreWhole}
 use Rattle.tc_files.specs.Recording.{FitsBytes}
 use Rattle.tc_top.specs.KeptAlong.{FitsBehind, Stands}
@@ -10,6 +11,7 @@ use Rattle.tc_top.proofs.along.Along.run.Given as goal
 abbrev pub invariant-run : goal.invariant-run
 invariant-run g l = record {
   within : l.at ≤ length l.bytes;
+  room : l.self.intervals + length l.bytes ≤ MAX_INTERVALS + l.at;
   whole : AreWhole l.version l.at;
   decoder : l.self.decoder ≡ l.fn.self.decoder;
   choice : l.self.choice ≡ l.fn.self.choice;
