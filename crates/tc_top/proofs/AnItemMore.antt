@@ -23,7 +23,7 @@ use Rattle.tc_files.specs.Recording.{Recording, Decoding, IsBetween, with_byte, 
 use Rattle.tc_files.specs.Verdict.{Verdict, good, refused, past_limit}
 use Rattle.tc_top.specs.declared.stop.Stop.{Stop}
 use Rattle.tc_top.specs.declared.stop.Stop.TheVariants.{Refused, ReadFault, WriteFault, Limit}
-use Rattle.tc_top.specs.Along.{Printing, IsPartOf, along_intervals}
+use Rattle.tc_top.specs.Along.{Printing, IsPartBehind, IsPartOf, along_intervals}
 use Rattle.tc_top.specs.KeptAlong.{HasHeader, IntervalStops, Printed, Stands, longer, printed_well, stop_at, Halts, IsHalt}
 use Rattle.tc_top.specs.Stops.{IsStop, Stops}
 use Rattle.tc_top.proofs.AlongTheInput.{cut_at, cut_more}
@@ -193,6 +193,22 @@ a_write_fault printing stands decoder next b count choice x old new front bytes 
     let part = why.1 (recording_of front) written s.printed in
     front_of_part (λ due w. IsPartOf (printing choice) (recording_of due) w) old new front bytes rest written part.0
     (subst (λ (r : Recording). IsPartOf (printing choice) r (written ++ part.0)) (sym same) part.1) part.2
+
+-- what the command itself says of it
+pub behind_stops : {B C : Type 0} (printing : C → Printing) (stands : Relation B C) (b : B) (count : ℕ) (choice : C) (x : ℕ)
+    (old new : Option (List ℕ)) → count < MAX_INTERVALS
+    → ((header : IntervalHeader) (intervals written : List ℕ) → stands b choice header intervals written
+    → (part : List ℕ) × Printing.part (printing choice) header (intervals ++ x ∷ []) (written ++ part) × AppendsFront old new part)
+    → IntervalStops (printing choice) stands (Some b) count choice old new x WriteFault
+behind_stops printing stands b count choice x old new below says = (
+  below,
+  λ r written printed.
+      let due = says printed.0 r.intervals written printed.2 in (
+        due.0,
+        subst (λ (h : Option IntervalHeader). IsPartBehind (printing choice) h (r.intervals ++ x ∷ []) (written ++ due.0)) (sym printed.1) due.1,
+        due.2,
+      ),
+)
 
 -- of a header
 pub a_header_fault : {B C : Type 0} (printing : C → Printing) (stands : Relation B C)

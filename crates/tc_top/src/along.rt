@@ -300,23 +300,29 @@ impl<B: Behind> Along<B> {
         let first = self.decoder.taken();
         let widest = most_width(version);
         let end = bytes.len().saturating_sub(widest - 1);
+        let mut intervals = self.intervals;
         let mut at = 0;
+        let Some(behind) = &mut self.behind else {
+            unreachable!();
+        };
         'run: while at < end {
             match next_interval(version, first + at as u64, &bytes[at..at + widest]) {
                 Next::Interval { ticks, width } => {
-                    self.within_limit(ticks, out)?;
+                    behind.interval(ticks, out)?;
+                    intervals += 1;
                     at += width;
                 }
                 Next::Fault(fault) => return Err(Stop::Refused(fault)),
+                // The window holds any interval, so this does not come.
                 Next::Short => break 'run,
             }
         }
         self.decoder.pass_over(at);
+        self.intervals = intervals;
         Ok(at)
     }
 
     /// Works on an interval, of `x` ticks.
-    #[inline(always)]
     fn interval<K: Sink>(&mut self, x: u32, out: &mut K) -> Result<(), Stop>
         requires least { 1 ≤ x }
         requires most { x ≤ MAX_INTERVAL }
@@ -340,32 +346,6 @@ impl<B: Behind> Along<B> {
         if self.intervals == MAX_INTERVALS {
             return Err(Stop::Limit);
         }
-        self.within_limit(x, out)
-    }
-
-    /// Works on an interval, of `x` ticks, that is within the limit.
-    #[inline(always)]
-    fn within_limit<K: Sink>(&mut self, x: u32, out: &mut K) -> Result<(), Stop>
-        requires least { 1 ≤ x }
-        requires most { x ≤ MAX_INTERVAL }
-        requires fits { FitsBehind B.fits self.old.behind self.old.intervals }
-        requires header { IsSome self.old.behind }
-        requires room { self.old.intervals < MAX_INTERVALS }
-        ensures decoder { self.new.decoder ≡ self.old.decoder }
-        ensures choice { self.new.choice ≡ self.old.choice }
-        ensures count { OnOk result ((self.old.intervals < MAX_INTERVALS) × (self.new.intervals ≡ self.old.intervals + 1)) }
-        ensures fits { OnOk result (FitsBehind B.fits self.new.behind self.new.intervals) }
-        ensures header { OnOk result (IsSome self.new.behind) }
-        ensures works { OnOk result ((r : Recording) (written : List ℕ)
-            → Printed B.stands self.old.behind self.old.choice r written
-            → (more : List ℕ) × Appends (K.written out.old) (K.written out.new) more
-            × Printed B.stands self.new.behind self.new.choice (longer r x) (written ++ more)) }
-        ensures stops { IfErr result (λ stop. IntervalStops (B.printing self.old.choice) B.stands self.old.behind self.old.intervals
-            self.old.choice (K.written out.old) (K.written out.new) x stop
-            × (stop ≡ Stop.Limit → self.new.behind ≡ self.old.behind)) }
-        ensures cause { HasOutCause (K.faults out.old) (K.faults out.new) result }
-        ensures no_pull { result ≡ Err Stop.ReadFault → ⊥ }
-    {
         match &mut self.behind {
             Some(behind) => behind.interval(x, out)?,
             None => unreachable!(),
