@@ -1,1 +1,2 @@
+mod EitherWay
 pub mod ShapedIsAChain

@@ -91,11 +91,15 @@ pub(crate) fn is_at_most(ratio: Ratio, a: u32, b: u32) -> bool
     times(ratio.whole, u64::from(a)) <= times(ratio.part, u64::from(b))
 }
 
-/// Tells whether `number` times the difference of `a` and `b` is at most `length`, all in ticks.
+/// Tells whether `number` times the difference of `a` and `b` is at most `length`, all in ticks. Two
+/// comparisons cost less than the difference.
+#[tactic(auto, using(crate::proofs::EitherWay::times_apart))]
 pub(crate) fn is_within(number: u8, a: u64, b: u64, length: u64) -> bool
     requires first { a < 2 ^ 40 }
     requires second { b < 2 ^ 40 }
+    requires third { length < 2 ^ 40 }
     ensures { IsTrue result ↔ IsWithin number a b length }
 {
-    times(number, a.abs_diff(b)) <= length
+    let (first, second) = (times(number, a), times(number, b));
+    second <= first + length && first <= second + length
 }

@@ -34,7 +34,7 @@ pub use interval_file::header::{
     FileVersion, HEAD_LENGTH, HEADER_LENGTH, IntervalHeader, MAGIC, MAX_TICK_RATE, VERSION_ONE,
     VERSION_TWO, interval_header,
 };
-pub use interval_file::piece::{LEAST_LONG, Next, interval_bytes, next_interval};
+pub use interval_file::piece::{LEAST_LONG, Next, interval_bytes, most_width, next_interval};
 pub use texts::event::event_text;
 pub use texts::frame::frame_text;
 pub use texts::line::{Text, push_bytes, push_flag, push_hexadecimal, push_number};

@@ -32,7 +32,7 @@ use crate::stop::Stop;
 use biphase::MAX_INTERVAL;
 use direction_reader::MAX_INTERVALS;
 use tc_files::{
-    FileFault, FileVersion, IntervalDecoder, IntervalHeader, Next, Taken, next_interval,
+    FileFault, FileVersion, IntervalDecoder, IntervalHeader, Next, Taken, most_width, next_interval,
 };
 use tc_io::Sink;
 
@@ -265,7 +265,7 @@ impl<B: Behind> Along<B> {
     }
 
     /// Works on the whole intervals at the front of bytes, and answers how many bytes they have: none
-    /// where the header or an interval is half taken.
+    /// where the header or an interval is half taken, or the limit is near. The last few bytes are left.
     fn whole_intervals<K: Sink>(&mut self, bytes: &[u8], out: &mut K) -> Result<usize, Stop>
         requires going { IsGoing B.fits self.old.decoder self.old.behind self.old.intervals }
         ensures going { OnOk result (IsGoing B.fits self.new.decoder self.new.behind self.new.intervals) }
@@ -282,7 +282,8 @@ impl<B: Behind> Along<B> {
         ensures cause { HasOutCause (K.faults out.old) (K.faults out.new) result }
         ensures no_pull { result ≡ Err Stop.ReadFault → ⊥ }
     {
-        if !self.decoder.is_between() {
+        // Near the limit each byte is looked at by itself.
+        if !self.decoder.is_between() || MAX_INTERVALS - self.intervals < bytes.len() as u64 {
             return Ok(0);
         }
         // Each version has a loop of its own.
@@ -292,7 +293,8 @@ impl<B: Behind> Along<B> {
         }
     }
 
-    /// Works on the whole intervals at the front of bytes that begin between two intervals.
+    /// Works on the whole intervals at the front of bytes that begin between two intervals, as long as
+    /// the widest one fits in what is left. So many intervals are within the limit.
     #[inline(always)]
     fn run<K: Sink>(
         &mut self,
@@ -302,6 +304,7 @@ impl<B: Behind> Along<B> {
     ) -> Result<usize, Stop>
         requires between { IsBetween self.old.decoder }
         requires version { self.old.decoder.version ≡ version }
+        requires room { self.old.intervals + length bytes.now ≤ MAX_INTERVALS }
         requires going { IsGoing B.fits self.old.decoder self.old.behind self.old.intervals }
         ensures going { OnOk result (IsGoing B.fits self.new.decoder self.new.behind self.new.intervals) }
         ensures taken { IfOk result (λ count. (count ≤ length bytes.now) × (self.new.decoder.taken ≡ self.old.decoder.taken + count)) }
@@ -318,24 +321,31 @@ impl<B: Behind> Along<B> {
         ensures no_pull { result ≡ Err Stop.ReadFault → ⊥ }
     {
         let first = self.decoder.taken();
+        let widest = most_width(version);
+        let end = bytes.len().saturating_sub(widest - 1);
+        let mut intervals = self.intervals;
         let mut at = 0;
-        'run: loop {
-            match next_interval(version, first + at as u64, &bytes[at..]) {
+        let Some(behind) = &mut self.behind else {
+            unreachable!();
+        };
+        'run: while at < end {
+            match next_interval(version, first + at as u64, &bytes[at..at + widest]) {
                 Next::Interval { ticks, width } => {
-                    self.interval(ticks, out)?;
+                    behind.interval(ticks, out)?;
+                    intervals += 1;
                     at += width;
                 }
-                Next::Fault(fault) => return Err(self.stop_at(fault)),
-                Next::Short => {
-                    self.decoder.pass_over(at);
-                    return Ok(at);
-                }
+                Next::Fault(fault) => return Err(Stop::Refused(fault)),
+                // The window holds any interval, so this does not come.
+                Next::Short => break 'run,
             }
         }
+        self.decoder.pass_over(at);
+        self.intervals = intervals;
+        Ok(at)
     }
 
     /// Works on an interval, of `x` ticks.
-    #[inline(always)]
     fn interval<K: Sink>(&mut self, x: u32, out: &mut K) -> Result<(), Stop>
         requires least { 1 ≤ x }
         requires most { x ≤ MAX_INTERVAL }

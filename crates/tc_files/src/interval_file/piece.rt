@@ -27,6 +27,17 @@ pub enum Next {
     Fault(FileFault),
 }
 
+/// The most bytes of an interval.
+#[inline(always)]
+pub fn most_width(version: FileVersion) -> usize
+    ensures { result ≡ most_width version }
+{
+    match version {
+        FileVersion::One => 4,
+        FileVersion::Two => 6,
+    }
+}
+
 /// The next interval of bytes, the first of which stands at this place between two intervals. It is
 /// what a decoder that stands there makes of the bytes of the interval, taken one by one.
 #[inline(always)]
