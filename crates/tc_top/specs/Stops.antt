@@ -12,7 +12,7 @@ abbrev pub IsSpentStop : Meaning → List ℕ → List ℕ → Type 0
 IsSpentStop m pulled written = (front : List ℕ) × IsFront front pulled × m.spent front × m.part front written
 
 -- the job stops for this cause at some of the bytes pulled, and this was written for them: where a push failed, a front of what was due for
--- a front of them
+-- a front of them, and at a limit of the command's own the part of a front that passes it
 abbrev pub IsStop : Meaning → Stop → List ℕ → List ℕ → Type 0
 IsStop m (Refused fault) pulled written = Shows m (refused fault) pulled × m.part pulled written
 IsStop m ReadFault pulled written = ⊥
@@ -35,7 +35,7 @@ abbrev pub StopsAtEnd : Meaning → Stop → Option (List ℕ) → Option (List 
 StopsAtEnd m stop old new pulled written = (more : List ℕ) × Appends old new more × IsEndStop m stop pulled (written ++ more)
 
 -- why a job stops along its input, of which this is left: at some of the bytes pulled, or at their end. A pull that failed stops it at
--- neither a fault nor the limit
+-- neither a fault nor a limit
 abbrev pub StopsAlong : Meaning → Stop → Option (List ℕ) → List ℕ → List ℕ → Type 0
 StopsAlong m ReadFault left pulled written = IsTrue m.reads × Shows m good pulled × m.part pulled written
 StopsAlong m (Refused fault) left pulled written =
