@@ -1,13 +1,13 @@
 -- What an item of an interval file does to a command along it: nothing, a header or an interval more leaves it standing, and else this is
 -- why it stops, whatever bytes follow.
-use Rattle.std.proofs.Common.{◌≡◌, ℕ, ◌+◌, ◌-◌, ◌%◌, ◌<◌, ◌≤◌, List, [], ◌∷◌, ◌++◌, length, take, drop, Ok, Err, Bool, true, false, Some, None, refl, sym, ◌∙◌, ap, subst, append_assoc, append-nil, fold, arith, length-append}
-use Rattle.std.specs.Prelude.{nat_lt, if◌then◌else◌, IsSome}
+use Rattle.std.proofs.Common.{◌≡◌, ℕ, ◌+◌, ◌-◌, ◌<◌, ◌≤◌, List, [], ◌∷◌, ◌++◌, length, take, drop, Ok, Err, Bool, true, false, Some, None, refl, sym, ◌∙◌, ap, subst, append_assoc, append-nil, fold, arith, length-append}
+use Rattle.std.specs.Prelude.{nat_lt, if◌then◌else◌}
 use Rattle.std.proofs.lemmas.Grind.{common_steps}
 use Rattle.std.proofs.lemmas.List.{take-append-drop, take-take}
 use Rattle.std.specs.declared.option.Option.{Option}
 use Rattle.std.specs.Io.KnownBytes.{Appends}
 use Rattle.std.proofs.KnownBytes.{Appends-nil, Appends-trans}
-use Rattle.std.proofs.lemmas.Bool.{lt-ltb, le-ltb, false≢true}
+use Rattle.std.proofs.lemmas.Bool.{lt-ltb, le-ltb}
 use Rattle.tc_io.specs.Sink.{AppendsFront, IsFront}
 use Rattle.direction_reader.specs.declared.reader.TheConstants.{MAX_INTERVALS}
 use Rattle.tc_files.specs.declared.fault.FileFault.{FileFault}
@@ -24,8 +24,8 @@ use Rattle.tc_files.specs.Verdict.{Verdict, good, refused, past_limit}
 use Rattle.tc_top.specs.declared.stop.Stop.{Stop}
 use Rattle.tc_top.specs.declared.stop.Stop.TheVariants.{Refused, ReadFault, WriteFault, Limit}
 use Rattle.tc_top.specs.Along.{Printing, IsPartBehind, IsPartOf, along_intervals}
-use Rattle.tc_top.specs.KeptAlong.{HasHeader, IntervalStops, Printed, Stands, longer, printed_well, stop_at, Halts, IsHalt}
-use Rattle.tc_top.specs.Stops.{IsStop, Stops}
+use Rattle.tc_top.specs.KeptAlong.{HasHeader, IntervalStops, Printed, Stands, longer, stop_at, Halts, IsHalt}
+use Rattle.tc_top.specs.Stops.{Stops}
 use Rattle.tc_top.proofs.AlongTheInput.{cut_at, cut_more}
 use Rattle.tc_top.proofs.VerdictStays.{good_step, more_bytes, past_stays, refused_stays}
 
@@ -358,10 +358,6 @@ passed_over d count between = record {
   header = (let late = between.header in omega arith);
   no_part = between.no_part;
 }
-
-pub has_header : {B : Type 0} (behind : Option B) (taken : ℕ) → IsSome behind → 12 ≤ taken → HasHeader behind taken
-has_header None taken some late = absurd (false≢true some)
-has_header (Some b) taken some late = late
 
 -- bytes are those before a place, some that stand there, and the rest
 pub cut_some : (k n : ℕ) (bytes : List ℕ) → k ≤ length bytes

@@ -1,8 +1,8 @@
-use Rattle.std.proofs.Common.{refl, ◌≡◌, ◌+◌, ◌-◌, ◌*◌, ◌++◌, ◌≤◌, ◌<◌, [], take, drop, length, arith, subst, List, ℕ, ◌∙◌, Some}
+use Rattle.std.proofs.Common.{refl, ◌≡◌, ◌+◌, ◌-◌, ◌++◌, ◌≤◌, ◌<◌, [], take, drop, length, arith, subst, List, ℕ, ◌∙◌, Some}
 use Rattle.std.proofs.KnownBytes.{Appends-nil}
 use Rattle.direction_reader.specs.declared.reader.TheConstants.{MAX_INTERVALS}
 use Rattle.tc_files.specs.Progress.{Progress}
-use Rattle.tc_files.specs.Recording.{FitsBytes, recording_of, decoding_of}
+use Rattle.tc_files.specs.Recording.{recording_of, decoding_of}
 use Rattle.tc_top.specs.declared.stop.Stop.TheVariants.{Refused, WriteFault}
 use Rattle.tc_top.specs.Along.{along_intervals}
 use Rattle.tc_top.specs.Stops.{IsStop, Stops}
