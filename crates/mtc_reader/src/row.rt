@@ -77,7 +77,7 @@ impl Row {
         ensures { result ≡ window_event (to_be_bytes w64 self.now.latest) place }
     {
         if may_carry(self.latest) {
-            carried_by(&self.latest.to_be_bytes(), place)
+            carried_by(self.latest, place)
         } else {
             None
         }
@@ -108,15 +108,16 @@ fn may_carry(latest: u64) -> bool
     }
 }
 
-/// What eight quarter frames carry, in the order in which they came.
+/// What eight quarter frames carry, of which the latest stands lowest.
 #[inline(never)]
-fn carried_by(window: &[u8; 8], place: u64) -> Option<MtcEvent>
-    ensures { result ≡ window_event window.now place }
+fn carried_by(latest: u64, place: u64) -> Option<MtcEvent>
+    ensures { result ≡ window_event (to_be_bytes w64 latest) place }
 {
-    if is_in_order(window) {
-        return Some(quarter(Direction::Forward, window, place));
+    let window = latest.to_be_bytes();
+    if is_in_order(&window) {
+        return Some(quarter(Direction::Forward, &window, place));
     }
-    let turned = reversed(window);
+    let turned = reversed(&window);
     if is_in_order(&turned) {
         return Some(quarter(Direction::Backward, &turned, place));
     }

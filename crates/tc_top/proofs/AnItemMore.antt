@@ -2,8 +2,7 @@
 -- why it stops, whatever bytes follow.
 use Rattle.std.proofs.Common.{◌≡◌, ℕ, inl, inr, ◌+◌, ◌-◌, ◌<◌, ◌≤◌, List, [], ◌∷◌, ◌++◌, length, take, drop, Ok, Err, Bool, true, false, Some, None, refl, sym, ◌∙◌, ap, subst, append_assoc, append-nil, fold, arith, length-append}
 use Rattle.std.specs.Prelude.{nat_lt, if◌then◌else◌, IsSome}
-use Rattle.std.proofs.lemmas.Grind.{common_steps}
-use Rattle.std.proofs.lemmas.List.{take-append-drop, take-take}
+use Rattle.std.proofs.lemmas.List.{take-append-drop}
 use Rattle.std.specs.declared.option.Option.{Option}
 use Rattle.std.specs.Io.KnownBytes.{Appends}
 use Rattle.std.proofs.KnownBytes.{Appends-nil, Appends-trans}
@@ -23,12 +22,12 @@ use Rattle.tc_files.specs.Recording.{Recording, Decoding, IsBetween, with_byte, 
 use Rattle.tc_files.specs.Verdict.{Verdict, good, refused, past_limit}
 use Rattle.tc_top.specs.declared.stop.Stop.{Stop}
 use Rattle.tc_top.specs.declared.stop.Stop.TheVariants.{Refused, ReadFault, WriteFault, Limit}
-use Rattle.tc_top.specs.Along.{Printing, IsPartBehind, IsPartOf, IsSpentOf, along_intervals}
+use Rattle.tc_top.specs.Along.{Printing, IsPartOf, IsSpentOf, along_intervals}
 use Rattle.tc_top.specs.Causes.{OutCause}
 use Rattle.tc_top.specs.KeptAlong.{HasHeader, IntervalStops, Printed, Stands, longer, printed_well, stop_at, Halts, IsHalt}
 use Rattle.tc_top.specs.Status.{status_of}
 use Rattle.tc_top.specs.Stops.{IsStop, Stops}
-use Rattle.tc_top.proofs.AlongTheInput.{cut_at, cut_more}
+use Rattle.tc_top.proofs.AlongTheInput.{cut_at}
 use Rattle.tc_top.proofs.VerdictStays.{good_step, more_bytes, past_stays, refused_stays}
 
 -- these bytes complete this item behind a front
@@ -195,22 +194,6 @@ a_write_fault printing stands decoder next b count choice x old new front bytes 
     let part = why.1 (recording_of front) written s.printed in
     front_of_part (λ due w. IsPartOf (printing choice) (recording_of due) w) old new front bytes rest written part.0
     (subst (λ (r : Recording). IsPartOf (printing choice) r (written ++ part.0)) (sym same) part.1) part.2
-
--- what the command itself says of it
-pub behind_stops : {B C : Type 0} (printing : C → Printing) (stands : Relation B C) (b : B) (count : ℕ) (choice : C) (x : ℕ)
-    (old new : Option (List ℕ)) → count < MAX_INTERVALS
-    → ((header : IntervalHeader) (intervals written : List ℕ) → stands b choice header intervals written
-    → (part : List ℕ) × Printing.part (printing choice) header (intervals ++ x ∷ []) (written ++ part) × AppendsFront old new part)
-    → IntervalStops (printing choice) stands (Some b) count choice old new x WriteFault
-behind_stops printing stands b count choice x old new below says = (
-  below,
-  λ r written printed.
-      let due = says printed.0 r.intervals written printed.2 in (
-        due.0,
-        subst (λ (h : Option IntervalHeader). IsPartBehind (printing choice) h (r.intervals ++ x ∷ []) (written ++ due.0)) (sym printed.1) due.1,
-        due.2,
-      ),
-)
 
 -- of a header
 pub a_header_fault : {B C : Type 0} (printing : C → Printing) (stands : Relation B C)
@@ -398,44 +381,8 @@ passed_over d count between = record {
   no_part = between.no_part;
 }
 
-pub has_header : {B : Type 0} (behind : Option B) (taken : ℕ) → IsSome behind → 12 ≤ taken → HasHeader behind taken
-has_header None taken some late = absurd (false≢true some)
-has_header (Some b) taken some late = late
-
 -- bytes are those before a place, some that stand there, and the rest
 pub cut_some : (k n : ℕ) (bytes : List ℕ) → k ≤ length bytes
     → take k bytes ++ (take n (take (length bytes - k) (drop k bytes)) ++ drop n (take (length bytes - k) (drop k bytes))) ≡ bytes
 cut_some k n bytes within =
     ap (λ (l : List ℕ). take k bytes ++ l) (take-append-drop n (take (length bytes - k) (drop k bytes))) ∙ cut_at k bytes within
-
--- the same, where what stands there is looked at through a window of m bytes
-in_window : (k n m : ℕ) (bytes : List ℕ) → k + m ≤ length bytes → n ≤ m
-    → take n (take (length bytes - k) (drop k bytes)) ≡ take n (take m (drop k bytes))
-in_window k n m bytes within less =
-    take-take n (length bytes - k) (drop k bytes) (omega (arith, within, less)) ∙ sym (take-take n m (drop k bytes) less)
-
--- what stands in the window is no more than that
-pub within_window : (k n m : ℕ) (bytes : List ℕ) → n ≤ length (take m (drop k bytes)) → n ≤ m
-within_window k n m bytes less = grind (arith, common_steps)
-
-pub cut_window : (k n m : ℕ) (bytes : List ℕ) → k + m ≤ length bytes → n ≤ m
-    → take k bytes ++ take n (take m (drop k bytes)) ≡ take (k + n) bytes
-cut_window k n m bytes within less =
-    subst (λ (l : List ℕ). take k bytes ++ l ≡ take (k + n) bytes) (in_window k n m bytes within less)
-    (cut_more k n bytes (omega (arith, within)) (omega (arith, within, less)))
-
-pub cut_through : (k n m : ℕ) (bytes : List ℕ) → k + m ≤ length bytes → n ≤ m
-    → take k bytes ++ (take n (take m (drop k bytes)) ++ drop n (take (length bytes - k) (drop k bytes))) ≡ bytes
-cut_through k n m bytes within less =
-    subst (λ (l : List ℕ). take k bytes ++ (l ++ drop n (take (length bytes - k) (drop k bytes))) ≡ bytes) (in_window k n m bytes within less)
-    (cut_some k n bytes (omega (arith, within)))
-
--- within the limit an interval out of range is refused
-pub a_refusal : {B C : Type 0} (p : Printing) (stands : Relation B C)
-    → (decoder next : Progress) (behind : Option B) (count : ℕ) (choice : C) (f : FileFault) (front bytes rest written : List ℕ) → count < MAX_INTERVALS
-    → Stands stands decoder behind count choice front written → Completes front bytes (Fault f) next
-    → IsHalt p stands behind choice (Refused f) (front ++ (bytes ++ rest)) (written ++ [])
-a_refusal p stands decoder next behind count choice f front bytes rest written below s is =
-    let refused : stop_at count f ≡ Refused f = rw (lt-ltb count MAX_INTERVALS below) refl in
-    subst (λ (stop : Stop). IsHalt p stands behind choice stop (front ++ (bytes ++ rest)) (written ++ [])) refused
-    (a_fault p stands decoder next behind count choice f front bytes rest written s is)

@@ -30,6 +30,7 @@ pub mod OneStatus
 pub mod PushedLines
 pub mod PutMore
 pub mod ReportsTheTape
+pub mod RunOfIntervals
 pub mod SentIsRead
 pub mod SlicedAgain
 pub mod SlicedOn

@@ -99,7 +99,8 @@ pub(crate) fn interval_in(version: FileVersion, place: u64, bytes: &[u8]) -> Res
             short => (1, u32::from(short)),
         },
     };
-    if least <= ticks && ticks <= MAX_INTERVAL {
+    // One comparison tests both ends.
+    if ticks.wrapping_sub(least) <= MAX_INTERVAL - least {
         Ok(ticks)
     } else {
         Err(FileFault::Interval(place))

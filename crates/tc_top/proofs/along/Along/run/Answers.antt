@@ -1,14 +1,15 @@
-use Rattle.std.proofs.Common.{refl, ◌≡◌, ◌+◌, ◌-◌, ◌*◌, ◌++◌, ◌≤◌, ◌<◌, [], take, drop, length, arith, subst, List, ℕ, ◌∙◌, Some}
+use Rattle.std.proofs.Common.{refl, ◌≡◌, ◌+◌, ◌-◌, ◌++◌, ◌≤◌, ◌<◌, [], take, drop, length, arith, subst, List, ℕ, ◌∙◌, Some}
 use Rattle.std.proofs.KnownBytes.{Appends-nil}
 use Rattle.direction_reader.specs.declared.reader.TheConstants.{MAX_INTERVALS}
 use Rattle.tc_files.specs.Progress.{Progress}
-use Rattle.tc_files.specs.Recording.{FitsBytes, recording_of, decoding_of}
+use Rattle.tc_files.specs.Recording.{recording_of, decoding_of}
 use Rattle.tc_top.specs.declared.stop.Stop.TheVariants.{Refused, WriteFault}
 use Rattle.tc_top.specs.Along.{along_intervals}
 use Rattle.tc_top.specs.Stops.{IsStop, Stops}
 use Rattle.tc_top.specs.KeptAlong.{Halts, IsHalt, Stands}
 use Rattle.tc_top.proofs.AlongTheInput.{Works, stops_on, works_on, through}
-use Rattle.tc_top.proofs.AnItemMore.{an_interval, a_refusal, a_write_fault, behind_stops, more_whole, by_number, by_bad_number, passed_over, within_window, cut_window, cut_through}
+use Rattle.tc_top.proofs.AnItemMore.{an_interval, a_write_fault, more_whole, by_number, by_bad_number, passed_over}
+use Rattle.tc_top.proofs.RunOfIntervals.{a_refusal, behind_stops, within_window, cut_window, cut_through}
 use Rattle.tc_top.proofs.along.Along.run.Goals as goal
 
 -- the intervals before were worked on, and the output of the next one was not taken
