@@ -139,4 +139,5 @@ def main():
     print(f"{scripts} scripts as the tables say, {losses} losses outside the premises, none in {locked_rows} locked rows within them")
 
 
-main()
+if __name__ == "__main__":
+    main()

@@ -7,16 +7,10 @@
 # TC is the built program (bin/tc), RECORDING an interval file of version 1 (examples/25-worn.ltci) whose intervals are repeated up
 # to 11,745,000, an hour at 25 frames. It builds nothing. The gate does not run it: how long a run takes depends on the machine.
 set -eu
-top=$(cd "$(dirname "$0")/.." && pwd)
-tc=${1:-$top/bin/tc}
+. "$(dirname "$0")/common.sh"
 recording=${2:-$top/examples/25-worn.ltci}
 intervals=11745000
 rounds=7
-header=12
-
-[ -x "$tc" ] || { echo "no program at $tc: run ./build" >&2; exit 2; }
-room=$(mktemp -d)
-trap 'rm -rf "$room"' EXIT
 
 tail -c "+$((header + 1))" "$recording" > "$room/body"
 times=$((4 * intervals / $(stat -c %s "$room/body") + 1))
@@ -28,8 +22,6 @@ for _ in $(seq "$times"); do cat "$room/body"; done | head -c "$((4 * intervals)
 "$tc" ltc-read < "$room/two" | cmp - "$room/report"
 echo "one hour: $(stat -c %s "$room/one") bytes in version 1, $(stat -c %s "$room/two") in version 2; there and back the same bytes, and one report"
 
-# The user time of a command in seconds, with the system's where a command writes.
-user_time() { TIMEFORMAT=%3U; { time "${@:2}" < "$1" > /dev/null; } 2>&1; }
 md5= convert= back= one= two=
 for _ in $(seq "$rounds"); do
     md5+=" $(user_time "$room/one" md5sum)"
@@ -38,16 +30,9 @@ for _ in $(seq "$rounds"); do
     one+=" $(user_time "$room/one" "$tc" ltc-read)"
     two+=" $(user_time "$room/two" "$tc" ltc-read)"
 done
-least() { tr ' ' '\n' <<< "$1" | grep . | sort -n | head -n 1; }
 echo "user seconds, the best of $rounds: md5sum $(least "$md5"), ltc-convert 2 $(least "$convert"), ltc-convert 1 $(least "$back")," \
     "ltc-read of version 1 $(least "$one"), of version 2 $(least "$two")"
 awk -v m="$(least "$md5")" -v c="$(least "$convert")" -v one="$(least "$one")" -v two="$(least "$two")" \
     'BEGIN { printf "ltc-convert 2 is %.2f times md5sum; ltc-read of version 2 is %.2f times version 1\n", c / m, two / one }'
 
-# The greatest resident memory, in KiB.
-resident() { /usr/bin/time -f %M -o "$room/resident" "${@:2}" < "$1" > /dev/null; cat "$room/resident"; }
-if [ -x /usr/bin/time ]; then
-    echo "greatest resident memory: ltc-convert 2 $(resident "$room/one" "$tc" ltc-convert 2) KiB, ltc-read of version 2 $(resident "$room/two" "$tc" ltc-read) KiB"
-else
-    echo "greatest resident memory: not measured, there is no /usr/bin/time"
-fi
+echo "greatest resident memory: ltc-convert 2 $(resident "$room/one" "$tc" ltc-convert 2), ltc-read of version 2 $(resident "$room/two" "$tc" ltc-read)"

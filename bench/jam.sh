@@ -7,18 +7,12 @@
 # TC is the built program (bin/tc). The first RECORDING (examples/25-worn.ltci) is repeated for the hour, and each of them (those in
 # examples/) is jammed and read again. It builds nothing. The gate does not run it: how long a run takes depends on the machine.
 set -eu
-top=$(cd "$(dirname "$0")/.." && pwd)
-tc=${1:-$top/bin/tc}
+. "$(dirname "$0")/common.sh"
 recordings=("${@:2}")
 [ ${#recordings[@]} -gt 0 ] || recordings=("$top"/examples/25-worn.ltci "$top"/examples/25-turn.ltci "$top"/examples/30d-damaged.ltci)
 words=90000
 rounds=7
-header=12
 cell=20
-
-[ -x "$tc" ] || { echo "no program at $tc: run ./build" >&2; exit 2; }
-room=$(mktemp -d)
-trap 'rm -rf "$room"' EXIT
 
 # The words of a copy: way, label, and tick, of which the frame number k has (82 + 80 k) cells.
 for recording in "${recordings[@]}"; do
@@ -32,9 +26,7 @@ for recording in "${recordings[@]}"; do
     done
 done
 
-each=$("$tc" ltc-read < "${recordings[0]}" | awk '$1 == "end" { print $5 }')
-tail -c "+$((header + 1))" "${recordings[0]}" > "$room/body"
-{ head -c "$header" "${recordings[0]}"; for _ in $(seq $((words / each + 1))); do cat "$room/body"; done; } > "$room/hour"
+repeated_recording "${recordings[0]}" $((words / $(words_in "${recordings[0]}") + 1)) > "$room/hour"
 "$tc" ltc-jam 2 "$cell" 48000 < "$room/hour" > "$room/copy"
 echo "an hour: $(stat -c %s "$room/hour") bytes; its copy: $(stat -c %s "$room/copy") bytes; $("$tc" ltc-read < "$room/copy" | tail -n 1)"
 
@@ -47,16 +39,10 @@ for _ in $(seq "$rounds"); do
     time_of "$tc" ltc-read >> "$room/read"
     time_of "$tc" ltc-jam 2 "$cell" 48000 >> "$room/jam"
 done
-least() { sort -n -k "$2,$2" "$1" | awk -v field="$2" 'NR == 1 { print $field }'; }
+least_of() { sort -n -k "$2,$2" "$1" | awk -v field="$2" 'NR == 1 { print $field }'; }
 for field in 1 2; do
-    awk -v read="$(least "$room/read" "$field")" -v jam="$(least "$room/jam" "$field")" -v what="$field" 'BEGIN {
+    awk -v read="$(least_of "$room/read" "$field")" -v jam="$(least_of "$room/jam" "$field")" -v what="$field" 'BEGIN {
         printf "%s: ltc-read %d ms, ltc-jam 2 %d ms = %.2f times\n", what == 1 ? "user" : "user and system", read, jam, jam / read }'
 done
 
-# The greatest resident memory in KiB. GNU time is small itself, so it does not hide the program's.
-if [ -x /usr/bin/time ]; then
-    /usr/bin/time -f %M -o "$room/resident" "$tc" ltc-jam 2 "$cell" 48000 < "$room/hour" > /dev/null
-    echo "greatest resident memory: $(cat "$room/resident") KiB"
-else
-    echo "greatest resident memory: not measured, there is no /usr/bin/time"
-fi
+echo "greatest resident memory: $(resident "$room/hour" "$tc" ltc-jam 2 "$cell" 48000)"

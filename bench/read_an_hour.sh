@@ -7,29 +7,16 @@
 # TC is the built program (bin/tc), RECORDING an interval file (examples/25-worn.ltci) whose intervals are repeated. It builds
 # nothing. The gate does not run it: how long a run takes depends on the machine.
 set -eu
-top=$(cd "$(dirname "$0")/.." && pwd)
-tc=${1:-$top/bin/tc}
+. "$(dirname "$0")/common.sh"
 recording=${2:-$top/examples/25-worn.ltci}
 words=90000
 rounds=5
-header=12
-
-[ -x "$tc" ] || { echo "no program at $tc: run ./build" >&2; exit 2; }
-room=$(mktemp -d)
-trap 'rm -rf "$room"' EXIT
-
-# The recording's header once, and the intervals behind it so many times.
-repeated() { # FILE TIMES
-    head -c "$header" "$1"
-    tail -c "+$((header + 1))" "$1" > "$room/body"
-    for _ in $(seq "$2"); do cat "$room/body"; done
-}
 
 # A word may be lost where two copies meet, so there are more of them than the words want. The file ends with the
 # interval that ends the last word wanted.
-each=$("$tc" ltc-read < "$recording" | awk '$1 == "end" { print $5 }')
+each=$(words_in "$recording")
 [ "$each" -gt 1 ] || { echo "$recording has too few words" >&2; exit 2; }
-repeated "$recording" $((words / (each - 1) + 1)) > "$room/long"
+repeated_recording "$recording" $((words / (each - 1) + 1)) > "$room/long"
 end=$("$tc" ltc-read < "$room/long" | awk -v words="$words" '$1 == "word" && ++n == words { print $11 }')
 python3 - "$room/long" "$end" "$room/hour" "$header" <<'PYTHON'
 import array, itertools, sys
@@ -45,25 +32,16 @@ rm "$room/long"
 
 echo "one hour: $(stat -c %s "$room/hour") bytes; $("$tc" ltc-read < "$room/hour" | tail -n 1)"
 
-# The user time of a command in seconds.
-user_time() { TIMEFORMAT=%3U; { time "$@" < "$room/hour" > /dev/null; } 2>&1; }
 of_tc= of_md5sum=
 for _ in $(seq "$rounds"); do
-    of_tc+=" $(user_time "$tc" ltc-read)"
-    of_md5sum+=" $(user_time md5sum)"
+    of_tc+=" $(user_time "$room/hour" "$tc" ltc-read)"
+    of_md5sum+=" $(user_time "$room/hour" md5sum)"
 done
 echo "user seconds of tc ltc-read:$of_tc"
 echo "user seconds of md5sum:$of_md5sum"
-least() { tr ' ' '\n' | grep . | sort -n | head -n 1; }
-awk -v tc="$(least <<< "$of_tc")" -v md5sum="$(least <<< "$of_md5sum")" \
+awk -v tc="$(least "$of_tc")" -v md5sum="$(least "$of_md5sum")" \
     'BEGIN { printf "the best of each: %s / %s = %.1f times md5sum\n", tc, md5sum, tc / md5sum }'
 
-# The greatest resident memory of a reading, in KiB. GNU time is small itself, so it does not hide the program's.
-resident() { /usr/bin/time -f %M -o "$room/resident" "$tc" ltc-read < "$1" > /dev/null; cat "$room/resident"; }
-if [ -x /usr/bin/time ]; then
-    echo "greatest resident memory, one hour: $(resident "$room/hour") KiB"
-    repeated "$room/hour" 10 > "$room/ten"
-    echo "greatest resident memory, ten hours: $(resident "$room/ten") KiB"
-else
-    echo "greatest resident memory: not measured, there is no /usr/bin/time"
-fi
+echo "greatest resident memory, one hour: $(resident "$room/hour" "$tc" ltc-read)"
+repeated_recording "$room/hour" 10 > "$room/ten"
+echo "greatest resident memory, ten hours: $(resident "$room/ten" "$tc" ltc-read)"

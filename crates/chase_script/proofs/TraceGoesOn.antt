@@ -1,5 +1,6 @@
 -- The lines of a trace come one after another: a row gives its line, and then those of what is left.
-use Rattle.std.proofs.Common.{◌≡◌, ℕ, suc, ◌+◌, ◌<◌, ◌≤◌, List, [], ◌∷◌, ◌++◌, length, map, drop, get_or, Some, None, Bool, false, sym, ◌∙◌, ap, arith, cond, append-nil}
+use Rattle.std.proofs.Common.{◌≡◌, ℕ, suc, ◌+◌, ◌<◌, ◌≤◌, List, [], ◌∷◌, ◌++◌, length, map, drop, get_or, Some, None, Bool, false, sym, ◌∙◌, ap}
+use Rattle.std.proofs.Common.{arith, cond, append-nil}
 use Rattle.std.specs.declared.option.Option.{Option}
 use Rattle.std.specs.List.{count_by}
 use Rattle.std.proofs.Math.Seq.{drop-cons}
@@ -85,4 +86,5 @@ unfolding step_lines trace
 end_of place rows steps losses line ended going none text =
     let n : steps + 0 ≡ steps = omega arith in
     let k : losses + 0 ≡ losses = omega arith in
-    rw (going, none, text) (ap (λ (i : ℕ). step_end_line i (losses + 0)) n ∙ ap (λ (i : ℕ). step_end_line steps i) k ∙ sym (append-nil (step_end_line steps losses)))
+    rw (going, none, text) (ap (λ (i : ℕ). step_end_line i (losses + 0)) n ∙ ap (λ (i : ℕ). step_end_line steps i) k
+        ∙ sym (append-nil (step_end_line steps losses)))

@@ -1,5 +1,5 @@
 //! What follows from the tables of frames, chase and transport alone.
-ghost use Rattle.std.specs.Prelude.{◌≡◌, ◌≢◌, ℕ, ◌≤◌, List, [], ◌∷◌, ◌++◌, slice_get, Some, None, unsigned_abs};
+ghost use Rattle.std.specs.Prelude.{◌≡◌, ◌≢◌, ℕ, ◌≤◌, List, [], ◌∷◌, ◌++◌, length, slice_get, Some, None, unsigned_abs};
 ghost use Rattle.chase_core.specs.declared.report.State.TheVariants as states;
 ghost use Rattle.chase_core.specs.Trace.{Traced};
 ghost use Rattle.flywheel.specs.declared.frame.Frame.{Frame};
@@ -11,8 +11,11 @@ ghost use Rattle.code_chase.specs.Lock.{AreWhole, HasCauseOfLoss, HaveLabels};
 use chase_core::laws::{a_locked_chase_stays_locked, a_trace_has_a_line_for_each_row};
 use tc_address::laws::{a_step_moves_the_number, number_and_label_are_inverse};
 
-/// A frame more adds one line at the end, that of the chase behind the frames before.
+/// A trace has a line for each frame, and a frame more adds one at the end, that of the chase behind the
+/// frames before.
 pub fn a_frame_adds_a_line()
+    ensures lines { (label : Address) (seed bound : ℕ) (frames : List Frame)
+        → length (code_trace label seed bound frames) ≡ length frames }
     ensures none { (label : Address) (seed bound : ℕ) → code_trace label seed bound [] ≡ [] }
     ensures line { (label : Address) (seed bound : ℕ) (frames : List Frame) (frame : Frame)
         → code_trace label seed bound (frames ++ frame ∷ [])

@@ -1,5 +1,6 @@
 -- The k-th invented frame after a word lies k labels after it, so each lies one label after the one before; and a word that joins is the next of them.
-use Rattle.std.proofs.Common.{◌≡◌, ℕ, zero, suc, ◌+◌, Bool, true, false, not, ◌&&◌, cond, ℤ, ◌+ℤ◌, List, [], ◌∷◌, ◌++◌, length, map, Some, None, refl, sym, ◌∙◌, ap, subst, append_assoc, append-nil, arith}
+use Rattle.std.proofs.Common.{◌≡◌, ℕ, zero, suc, ◌+◌, Bool, true, false, not, ◌&&◌, cond, ℤ, ◌+ℤ◌, List, [], ◌∷◌, ◌++◌, length, map, Some, None, refl}
+use Rattle.std.proofs.Common.{sym, ◌∙◌, ap, subst, append_assoc, append-nil, arith}
 use Rattle.std.specs.Prelude.{◌↔◌}
 use Rattle.std.specs.List.{range_with_len}
 use Rattle.std.proofs.lemmas.Int.{ints}
@@ -10,7 +11,8 @@ use Rattle.tc_address.specs.Numbering.{step}
 use Rattle.flywheel.specs.declared.heard.HeardWord.{HeardWord}
 use Rattle.flywheel.specs.declared.frame.Frame.{Frame}
 use Rattle.flywheel.specs.declared.frame.Frame.TheVariants.{Gone}
-use Rattle.flywheel.specs.Frames.{due_steps, frames, frames_after, frames_between, heard_as, invented_after, is_gone, is_joined, is_next, label_after, steps_in, tick_after}
+use Rattle.flywheel.specs.Frames.{due_steps, frames, frames_after, frames_between, heard_as, invented_after, is_gone, is_joined, is_next, label_after}
+use Rattle.flywheel.specs.Frames.{steps_in, tick_after}
 use Rattle.flywheel.specs.GoOn.{Follows, GoOn, Place, goes_on, next_place, place_of}
 use Rattle.flywheel.proofs.BoundedInvention.{due_steps-range}
 
@@ -66,7 +68,8 @@ go_on-between sum limit word tick rest ended on =
     let end = cond (is_gone limit word tick) (Gone (tick_after word (limit + 1)) ∷ []) [] in
     let after : GoOn (Some (place_since word n)) (end ++ rest) = go_on-end word (tick_after word (limit + 1)) n (is_gone limit word tick) rest ended on in
     let from_none : GoOn (Some (place_since word (0 + n))) (end ++ rest) = subst (λ k. GoOn (Some (place_since word k)) (end ++ rest)) (omega arith) after in
-    let all : GoOn (Some (place_since word 0)) (map (invented_after word) (range_with_len 1 n) ++ (end ++ rest)) = go_on-steps sum word 0 n (end ++ rest) from_none in
+    let all : GoOn (Some (place_since word 0)) (map (invented_after word) (range_with_len 1 n) ++ (end ++ rest)) = go_on-steps sum word 0 n
+        (end ++ rest) from_none in
     let steps : GoOn (Some (place_since word 0)) (map (invented_after word) (due_steps limit word tick) ++ (end ++ rest)) =
     subst (λ ks. GoOn (Some (place_since word 0)) (map (invented_after word) ks ++ (end ++ rest))) (sym (due_steps-range limit word tick)) all in
     subst (λ these. GoOn (Some (place_since word 0)) these) (sym (append_assoc (map (invented_after word) (due_steps limit word tick)) end rest)) steps

@@ -1,5 +1,6 @@
 -- What was given so far begins the frames of the words up to the tick, and a later word adds frames at their end.
-use Rattle.std.proofs.Common.{◌≡◌, ℕ, zero, suc, ◌+◌, ◌<◌, ◌≤◌, ◌⊎◌, inl, inr, Bool, true, List, [], ◌∷◌, ◌++◌, map, Option, Some, None, cond, refl, sym, ◌∙◌, ap, append_assoc, append-nil, arith}
+use Rattle.std.proofs.Common.{◌≡◌, ℕ, zero, suc, ◌+◌, ◌<◌, ◌≤◌, ◌⊎◌, inl, inr, Bool, true, List, [], ◌∷◌, ◌++◌, map, Option, Some, None, cond, refl}
+use Rattle.std.proofs.Common.{sym, ◌∙◌, ap, append_assoc, append-nil, arith}
 use Rattle.std.specs.List.{filter, range_with_len}
 use Rattle.std.proofs.lemmas.List.{map-append}
 use Rattle.flywheel.specs.declared.heard.HeardWord.{HeardWord}
@@ -71,7 +72,8 @@ splits (word ∷ more) = elim (splits more) [
   | inr some ↦ inr (word ∷ some.0, some.1, ap (λ (l : List HeardWord). word ∷ l) some.2)
 ]
 
-adds : (limit : ℕ) (words : List HeardWord) (word : HeardWord) → Splits words → Begins (frames limit words word.tick) (frames limit (words ++ word ∷ []) word.tick)
+adds : (limit : ℕ) (words : List HeardWord) (word : HeardWord) → Splits words → Begins (frames limit words word.tick)
+    (frames limit (words ++ word ∷ []) word.tick)
 adds limit words word (inl none) = rw none (frames limit (word ∷ []) word.tick, refl)
 adds limit words word (inr some) = (
   heard_as (is_joined limit some.1 word) word ∷ frames_between limit word word.tick,

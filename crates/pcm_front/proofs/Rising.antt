@@ -1,5 +1,6 @@
 -- Crossings stand in rising places, none of them the first, and their moments rise with them.
-use Rattle.std.proofs.Common.{◌≡◌, ℕ, zero, suc, ◌+◌, ◌-◌, ◌*◌, ◌<◌, ◌≤◌, Bool, true, false, cond, ℤ, List, [], ◌∷◌, length, map, Option, Some, None, refl, ap₂, mul-le-mul_left, mul-suc, one-mul, arith}
+use Rattle.std.proofs.Common.{◌≡◌, ℕ, zero, suc, ◌+◌, ◌-◌, ◌*◌, ◌<◌, ◌≤◌, Bool, true, false, cond, ℤ, List, [], ◌∷◌, length, map, Option, Some, None}
+use Rattle.std.proofs.Common.{refl, ap₂, mul-le-mul_left, mul-suc, one-mul, arith}
 use Rattle.std.specs.List.{filter, range_with_len, All}
 use Rattle.std.proofs.lemmas.List.Elements.{All-cons}
 use Rattle.pcm_front.specs.declared.side.Side.{Side}

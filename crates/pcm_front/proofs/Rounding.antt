@@ -1,5 +1,6 @@
 -- A quotient that is rounded up is the least whole number that is not below it, so a crossing lies within the ticks of its step.
-use Rattle.std.proofs.Common.{◌≡◌, ℕ, zero, suc, ◌+◌, ◌*◌, ◌/◌, ◌%◌, ◌<◌, ◌≤◌, min, Bool, true, false, cond, ℤ, pos, neg_ℤ, ◌≤ℤ◌, int_le, Some, None, refl, suc-mul, zero-mul, mul-le-mul_left, lt_of_mul-lt-mul_right, mul-pos, mod-lt, div-add-mod', arith}
+use Rattle.std.proofs.Common.{◌≡◌, ℕ, zero, suc, ◌+◌, ◌*◌, ◌/◌, ◌%◌, ◌<◌, ◌≤◌, min, Bool, true, false, cond, ℤ, pos, neg_ℤ, ◌≤ℤ◌, int_le, Some, None}
+use Rattle.std.proofs.Common.{refl, suc-mul, zero-mul, mul-le-mul_left, lt_of_mul-lt-mul_right, mul-pos, mod-lt, div-add-mod', arith}
 use Rattle.std.specs.Int.{div_ceil}
 use Rattle.std.proofs.lemmas.Int.{ints}
 use Rattle.pcm_front.specs.declared.side.Side.{Side}

@@ -1,5 +1,6 @@
 -- A slicer that takes bytes sample by sample stands for the whole samples of the bytes so far.
-use Rattle.std.proofs.Common.{◌≡◌, false, is_some, ℕ, zero, suc, ◌+◌, ◌-◌, ◌*◌, ◌≤◌, ℤ, List, [], ◌∷◌, ◌++◌, length, take, drop, Option, None, Some, refl, ap, ap₂, subst, sym, ◌∙◌, append-nil, append_assoc, mul-suc, add-one, zero-add, arith}
+use Rattle.std.proofs.Common.{◌≡◌, false, is_some, ℕ, zero, suc, ◌+◌, ◌-◌, ◌*◌, ◌≤◌, ℤ, List, [], ◌∷◌, ◌++◌, length, take, drop, Option, None, Some}
+use Rattle.std.proofs.Common.{refl, ap, ap₂, subst, sym, ◌∙◌, append-nil, append_assoc, mul-suc, add-one, zero-add, arith}
 use Rattle.std.proofs.Math.Nat.{mul-add}
 use Rattle.std.specs.Option.{option_to_list}
 use Rattle.pcm_front.specs.declared.threshold.Threshold.{Threshold}

@@ -1,5 +1,6 @@
 -- A slicer that stands for some samples stands, after one more, for those with the one at their end, and says what is new in the distances.
-use Rattle.std.proofs.Common.{◌≡◌, ℕ, zero, suc, ◌+◌, ◌-◌, ◌*◌, ◌≤◌, Bool, true, false, cond, max, ℤ, pos, List, [], ◌∷◌, ◌++◌, length, take, Option, Some, None, refl, ap, ap₂, sym, ◌∙◌, append-nil, add-one, mul-suc, arith}
+use Rattle.std.proofs.Common.{◌≡◌, ℕ, zero, suc, ◌+◌, ◌-◌, ◌*◌, ◌≤◌, Bool, true, false, cond, max, ℤ, pos, List, [], ◌∷◌, ◌++◌, length, take, Option}
+use Rattle.std.proofs.Common.{Some, None, refl, ap, ap₂, sym, ◌∙◌, append-nil, add-one, mul-suc, arith}
 use Rattle.std.specs.List.{last_or}
 use Rattle.std.specs.Option.{option_or, option_to_list, option_map}
 use Rattle.std.proofs.lemmas.List.{take_all, get_or_push, length_push, get_or_append_left}

@@ -1,5 +1,6 @@
 -- The frames of words go on step by step: an invented frame, and a word that joins, stands one step after the frame before it.
-use Rattle.std.proofs.Common.{◌≡◌, ℕ, zero, suc, ◌+◌, Bool, true, false, not, ◌&&◌, cond, ℤ, pos, ◌+ℤ◌, List, [], ◌∷◌, ◌++◌, length, map, Option, Some, None, refl, sym, ◌∙◌, ap, subst, append_assoc, append-nil, arith}
+use Rattle.std.proofs.Common.{◌≡◌, ℕ, zero, suc, ◌+◌, Bool, true, false, not, ◌&&◌, cond, ℤ, pos, ◌+ℤ◌, List, [], ◌∷◌, ◌++◌, length, map, Option}
+use Rattle.std.proofs.Common.{Some, None, refl, sym, ◌∙◌, ap, subst, append_assoc, append-nil, arith}
 use Rattle.std.specs.Prelude.{slice_get, ◌↔◌}
 use Rattle.std.specs.Option.{unwrap_or}
 use Rattle.std.specs.List.{range_with_len}
@@ -13,7 +14,8 @@ use Rattle.tc_address.specs.Numbering.{number_of, step}
 use Rattle.flywheel.specs.declared.heard.HeardWord.{HeardWord}
 use Rattle.flywheel.specs.declared.frame.Frame.{Frame}
 use Rattle.flywheel.specs.declared.frame.Frame.TheVariants.{Heard, Invented, Gone}
-use Rattle.flywheel.specs.Frames.{due_steps, frames, frames_after, frames_between, heard_as, invented_after, is_gone, is_joined, is_next, label_after, steps_in, tick_after}
+use Rattle.flywheel.specs.Frames.{due_steps, frames, frames_after, frames_between, heard_as, invented_after, is_gone, is_joined, is_next, label_after}
+use Rattle.flywheel.specs.Frames.{steps_in, tick_after}
 use Rattle.quarter_frame.specs.ReadAgain.{AreLabelled, Placed}
 
 -- what the crates below say
@@ -61,7 +63,8 @@ one_further Backward k = sym (neg_ℤ-+ℤ (pos k) (pos 1))
 
 -- the label of a step more
 pub next_label : Laws → (word : HeardWord) (k : ℕ) → label_after word (k + 1) ≡ step (label_after word k) (steps_in word.direction 1)
-next_label l word k = sym (l.sum word.label (steps_in word.direction k) (steps_in word.direction 1) ∙ ap (λ z. step word.label z) (one_further word.direction k))
+next_label l word k = sym (l.sum word.label (steps_in word.direction k) (steps_in word.direction 1)
+    ∙ ap (λ z. step word.label z) (one_further word.direction k))
 
 no_steps : (direction : Direction) → steps_in direction 0 ≡ pos 0
 no_steps Forward = refl
@@ -95,7 +98,8 @@ go_on_between l limit word tick rest label go =
     let end = end_of (is_gone limit word tick) (tick_after word (limit + 1)) in
     let steps = go_on_invented l word 0 n (end ++ rest) label (subst (λ k. GoOn (Some (after word k)) (end ++ rest)) (omega arith) go) in
     subst (λ fs. GoOn (Some (placed_at word.label word.direction)) fs)
-    (ap (λ ks. map (invented_after word) ks ++ (end ++ rest)) (sym (l.first limit tick word)) ∙ sym (append_assoc (map (invented_after word) (due_steps limit word tick)) end rest))
+    (ap (λ ks. map (invented_after word) ks ++ (end ++ rest)) (sym (l.first limit tick word))
+        ∙ sym (append_assoc (map (invented_after word) (due_steps limit word tick)) end rest))
     (subst (λ a. GoOn (Some (placed_at a word.direction)) (map (invented_after word) (range_with_len 1 n) ++ (end ++ rest))) (first_label l word label) steps)
 
 go_on_end : (since : Placed) (gone : Bool) (tick : ℕ) → GoOn (Some since) (end_of gone tick ++ [])

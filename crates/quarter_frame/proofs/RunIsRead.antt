@@ -1,5 +1,6 @@
 -- The text of a run is a full message and pairs, eight quarter frames each, and maybe half a pair; so it is read pair by pair.
-use Rattle.std.proofs.Common.{◌≡◌, ◌<◌, ◌⊎◌, inl, inr, ℕ, ◌+◌, ◌*◌, ◌%◌, true, false, pos, neg_ℤ, List, [], ◌∷◌, ◌++◌, map, Some, refl, sym, ◌∙◌, ap, subst, append_assoc, append-nil, arith}
+use Rattle.std.proofs.Common.{◌≡◌, ◌<◌, ◌⊎◌, inl, inr, ℕ, ◌+◌, ◌*◌, ◌%◌, true, false, pos, neg_ℤ, List, [], ◌∷◌, ◌++◌, map, Some, refl, sym, ◌∙◌, ap}
+use Rattle.std.proofs.Common.{subst, append_assoc, append-nil, arith}
 use Rattle.std.specs.List.{take_while}
 use Rattle.std.proofs.lemmas.Bool.Decides.{nat_tests}
 use Rattle.std.proofs.lemmas.List.Sums.{take_while-cons}
@@ -27,13 +28,15 @@ pub record ReadsRuns : Type 0 where
   pub forward : (front : List ℕ) (device : ℕ) (first : Address) (labels : List Address) → device < 0x80 → IsLabel first → AreLabels labels
       → map at_no_place (events_in (front ++ (read.full_message device first ++ all_rising labels)))
       ≡ map at_no_place (events_in front) ++ Full first 0 ∷ quarter_events Forward labels
-  pub forward_half : (front : List ℕ) (device : ℕ) (first : Address) (labels : List Address) (half : Address) → device < 0x80 → IsLabel first → AreLabels labels → IsLabel half
+  pub forward_half : (front : List ℕ) (device : ℕ) (first : Address) (labels : List Address) (half : Address) → device < 0x80 → IsLabel first
+      → AreLabels labels → IsLabel half
       → map at_no_place (events_in (front ++ (read.full_message device first ++ (all_rising labels ++ rising_half half))))
       ≡ map at_no_place (events_in front) ++ Full first 0 ∷ quarter_events Forward labels
   pub backward : (front : List ℕ) (device : ℕ) (first : Address) (labels : List Address) → device < 0x80 → IsLabel first → AreLabels labels
       → map at_no_place (events_in (front ++ (read.full_message device first ++ all_falling labels)))
       ≡ map at_no_place (events_in front) ++ Full first 0 ∷ quarter_events Backward labels
-  pub backward_half : (front : List ℕ) (device : ℕ) (first : Address) (labels : List Address) (half : Address) → device < 0x80 → IsLabel first → AreLabels labels → IsLabel half
+  pub backward_half : (front : List ℕ) (device : ℕ) (first : Address) (labels : List Address) (half : Address) → device < 0x80 → IsLabel first
+      → AreLabels labels → IsLabel half
       → map at_no_place (events_in (front ++ (read.full_message device first ++ (all_falling labels ++ falling_half half))))
       ≡ map at_no_place (events_in front) ++ Full first 0 ∷ quarter_events Backward labels
 
@@ -96,10 +99,12 @@ sent_from position (f ∷ more) = four_of f.label f.direction (is_even position)
 run_sent : (position : ℕ) (more : List Frame) → quarters_from position (take_while goes_on more) ≡ sent_from position (all_placed (take_while goes_on more))
 run_sent position [] = refl
 run_sent position (Heard label direction true tick ∷ more) =
-    rw (taken_on (Heard label direction true tick) more refl) (ap (λ (l : List ℕ). four_of label direction (is_even position) ++ l) (run_sent (position + 1) more))
+    rw (taken_on (Heard label direction true tick) more refl) (ap (λ (l : List ℕ). four_of label direction (is_even position) ++ l)
+        (run_sent (position + 1) more))
 run_sent position (Heard label direction false tick ∷ more) = refl
 run_sent position (Invented label direction k tick ∷ more) =
-    rw (taken_on (Invented label direction k tick) more refl) (ap (λ (l : List ℕ). four_of label direction (is_even position) ++ l) (run_sent (position + 1) more))
+    rw (taken_on (Invented label direction k tick) more refl) (ap (λ (l : List ℕ). four_of label direction (is_even position) ++ l)
+        (run_sent (position + 1) more))
 run_sent position (Gone tick ∷ more) = refl
 
 -- two by two
@@ -119,7 +124,8 @@ sent_by_two k [] = refl
 sent_by_two k (a ∷ []) = rw (even_at k) (append-nil (four_of a.label a.direction true))
 sent_by_two k (a ∷ b ∷ more) =
     let next : 2 * k + 1 + 1 ≡ 2 * (k + 1) = omega arith in
-    rw (even_at k, odd_at k, next, sent_by_two (k + 1) more) (sym (append_assoc (four_of a.label a.direction true) (four_of b.label b.direction false) (two_by_two more)))
+    rw (even_at k, odd_at k, next, sent_by_two (k + 1) more) (sym (append_assoc (four_of a.label a.direction true) (four_of b.label b.direction false)
+        (two_by_two more)))
 
 -- ---- neighbours
 

@@ -1,12 +1,12 @@
 -- What an item of an interval file does to a command along it: nothing, a header or an interval more leaves it standing, and else this is
 -- why it stops, whatever bytes follow.
-use Rattle.std.proofs.Common.{◌≡◌, ℕ, ◌+◌, ◌-◌, ◌%◌, ◌<◌, ◌≤◌, List, [], ◌∷◌, ◌++◌, length, take, drop, Ok, Err, Bool, true, false, Some, None, refl, sym, ◌∙◌, ap, subst, append_assoc, append-nil, fold, arith, length-append}
-use Rattle.std.specs.Prelude.{nat_lt, if◌then◌else◌, IsSome}
+use Rattle.std.proofs.Common.{◌≡◌, ℕ, inl, inr, ◌+◌, ◌-◌, ◌<◌, ◌≤◌, List, [], ◌∷◌, ◌++◌, length, take, drop, Ok, Err, Bool, true, false, Some, None, refl, sym, ◌∙◌, ap, subst, append_assoc, append-nil, fold, arith, length-append}
+use Rattle.std.specs.Prelude.{nat_lt, if◌then◌else◌}
 use Rattle.std.proofs.lemmas.List.{take-append-drop}
 use Rattle.std.specs.declared.option.Option.{Option}
 use Rattle.std.specs.Io.KnownBytes.{Appends}
 use Rattle.std.proofs.KnownBytes.{Appends-nil, Appends-trans}
-use Rattle.std.proofs.lemmas.Bool.{lt-ltb, le-ltb, false≢true}
+use Rattle.std.proofs.lemmas.Bool.{lt-ltb, le-ltb}
 use Rattle.tc_io.specs.Sink.{AppendsFront, IsFront}
 use Rattle.direction_reader.specs.declared.reader.TheConstants.{MAX_INTERVALS}
 use Rattle.tc_files.specs.declared.fault.FileFault.{FileFault}
@@ -22,9 +22,11 @@ use Rattle.tc_files.specs.Recording.{Recording, Decoding, IsBetween, with_byte, 
 use Rattle.tc_files.specs.Verdict.{Verdict, good, refused, past_limit}
 use Rattle.tc_top.specs.declared.stop.Stop.{Stop}
 use Rattle.tc_top.specs.declared.stop.Stop.TheVariants.{Refused, ReadFault, WriteFault, Limit}
-use Rattle.tc_top.specs.Along.{Printing, IsPartOf, along_intervals}
-use Rattle.tc_top.specs.KeptAlong.{HasHeader, IntervalStops, Printed, Stands, longer, printed_well, stop_at, Halts, IsHalt}
-use Rattle.tc_top.specs.Stops.{IsStop, Stops}
+use Rattle.tc_top.specs.Along.{Printing, IsPartOf, IsSpentOf, along_intervals}
+use Rattle.tc_top.specs.Causes.{OutCause}
+use Rattle.tc_top.specs.KeptAlong.{HasHeader, IntervalStops, Printed, Stands, longer, stop_at, Halts, IsHalt}
+use Rattle.tc_top.specs.Status.{status_of}
+use Rattle.tc_top.specs.Stops.{Stops}
 use Rattle.tc_top.proofs.AlongTheInput.{cut_at}
 use Rattle.tc_top.proofs.VerdictStays.{good_step, more_bytes, past_stays, refused_stays}
 
@@ -148,7 +150,7 @@ a_limit p stands decoder next behind count choice x front bytes rest written s i
     let past : with_item r (Interval x) ≡ verdict_now r past_limit =
     rw (le-ltb (length r.intervals) MAX_INTERVALS (let counts = s.counts in omega arith)) refl in
     let now = ends_past front bytes rest r (completed front bytes (Interval x) next is s.good ∙ past) in
-    (ap (λ (t : Recording). t.verdict) now, printed_now stands behind choice r _ past_limit written s.printed now)
+    inl (ap (λ (t : Recording). t.verdict) now, printed_now stands behind choice r _ past_limit written s.printed now)
 
 -- a fault
 at_fault : {B C : Type 0} (p : Printing) (stands : Relation B C)
@@ -161,7 +163,7 @@ at_fault p stands behind choice f front bytes rest written true printed e =
     (ap (λ (t : Recording). t.verdict) now, printed_now stands behind choice (recording_of front) _ (refused f) written printed now)
 at_fault p stands behind choice f front bytes rest written false printed e =
     let now = ends_past front bytes rest (recording_of front) e in
-    (ap (λ (t : Recording). t.verdict) now, printed_now stands behind choice (recording_of front) _ past_limit written printed now)
+    inl (ap (λ (t : Recording). t.verdict) now, printed_now stands behind choice (recording_of front) _ past_limit written printed now)
 
 pub a_fault : {B C : Type 0} (p : Printing) (stands : Relation B C)
     → (decoder next : Progress) (behind : Option B) (count : ℕ) (choice : C) (f : FileFault) (front bytes rest written : List ℕ)
@@ -253,46 +255,74 @@ abbrev pub PushesFront : {B C : Type 0} → Printing → Relation B C → C → 
 PushesFront p stands choice before old new = (r : Recording) (written : List ℕ) → Printed stands before choice r written
     → (part : List ℕ) × IsPartOf p r (written ++ part) × AppendsFront old new part
 
--- the part stands where the command stopped
-both_pushed : {B C : Type 0} (p : Printing) (stands : Relation B C) (before after : Option B) (choice : C) (old mid new : Option (List ℕ))
-    (pulled written more : List ℕ) → Appends old mid more → Printed stands before choice (recording_of pulled) (written ++ more)
-    → Pushes stands choice before after mid new
-    → ((w : List ℕ) → Printed stands after choice (recording_of pulled) w → IsPartOf p (recording_of pulled) w)
-    → (all : List ℕ) × Appends old new all × IsPartOf p (recording_of pulled) (written ++ all)
-both_pushed p stands before now choice old mid new pulled written more first printed pushes well =
-    let second = pushes (recording_of pulled) (written ++ more) printed in (
+-- it was pushed behind what was written before
+both_pushed : {B C : Type 0} (stands : Relation B C) (before after : Option B) (choice : C) (old mid new : Option (List ℕ))
+    (r : Recording) (written more : List ℕ) → Appends old mid more → Printed stands before choice r (written ++ more)
+    → Pushes stands choice before after mid new → (all : List ℕ) × Appends old new all × Printed stands after choice r (written ++ all)
+both_pushed stands before now choice old mid new r written more first printed pushes =
+    let second = pushes r (written ++ more) printed in (
       more ++ second.0,
       Appends-trans old mid new more second.0 first second.1,
-      subst (λ (w : List ℕ). IsPartOf p (recording_of pulled) w) (append_assoc written more second.0) (well _ second.2),
+      subst (λ (w : List ℕ). Printed stands now choice r w) (append_assoc written more second.0) second.2,
     )
 
+-- what was written is the part of the output, where nothing is gathered
+abbrev pub PrintsWell : {B C : Type 0} → Printing → Relation B C → C → Option B → Type 0
+PrintsWell p stands choice after = (r : Recording) (written : List ℕ) → Printed stands after choice r written → IsPartOf p r written
+
+-- all bytes are a front of themselves
+all_of : (bytes : List ℕ) → IsFront bytes bytes
+all_of bytes = ([], sym (append-nil bytes))
+
+-- the part stands where the command stopped, within a limit of its own
 pub settled_stop : {B C : Type 0} (p : Printing) (stands : Relation B C) (before after : Option B) (choice : C) (stop : Stop)
     (old mid new : Option (List ℕ)) (pulled written : List ℕ) → (stop ≡ WriteFault → ⊥)
-    → Halts p stands before choice stop old mid pulled written → Pushes stands choice before after mid new
-    → ((w : List ℕ) → Printed stands after choice (recording_of pulled) w → IsPartOf p (recording_of pulled) w)
+    → Halts p stands before choice stop old mid pulled written → Pushes stands choice before after mid new → PrintsWell p stands choice after
+    → ((r : Recording) (w : List ℕ) → Printed stands after choice r w → ¬ IsSpentOf p r)
     → Stops (along_intervals p) stop old new pulled written
-settled_stop p stands before now choice (Refused f) old mid new pulled written other h pushes well =
-    let all = both_pushed p stands before now choice old mid new pulled written h.0 h.1 h.2.1 pushes well in
-    (all.0, all.1, (h.2.0, all.2))
-settled_stop p stands before now choice Limit old mid new pulled written other h pushes well =
-    let all = both_pushed p stands before now choice old mid new pulled written h.0 h.1 h.2.1 pushes well in
-    (all.0, all.1, (h.2.0, all.2))
-settled_stop p stands before now choice WriteFault old mid new pulled written other h pushes well = absurd (other refl)
-settled_stop p stands before now choice ReadFault old mid new pulled written other h pushes well = absurd h.2
+settled_stop p stands before now choice (Refused f) old mid new pulled written other h pushes well within =
+    let all = both_pushed stands before now choice old mid new (recording_of pulled) written h.0 h.1 h.2.1 pushes in
+    (all.0, all.1, (record { is = h.2.0; unspent = within _ _ all.2 }, well _ _ all.2))
+settled_stop p stands before now choice Limit old mid new pulled written other (more, first, inl h) pushes well within =
+    let all = both_pushed stands before now choice old mid new (recording_of pulled) written more first h.1 pushes in
+    (all.0, all.1, inl (record { is = h.0; unspent = within _ _ all.2 }, well _ _ all.2))
+settled_stop p stands before now choice Limit old mid new pulled written other (more, first, inr h) pushes well within =
+    let all = both_pushed stands before now choice old mid new (recording_of h.0) written more first h.3 pushes in
+    (all.0, all.1, inr (h.0, h.1, h.2, well _ _ all.2))
+settled_stop p stands before now choice WriteFault old mid new pulled written other h pushes well within = absurd (other refl)
+settled_stop p stands before now choice ReadFault old mid new pulled written other h pushes well within = absurd h.2
+
+-- and where it passes a limit of its own, that is why it stops
+pub spent_stop : {B C : Type 0} (p : Printing) (stands : Relation B C) (before after : Option B) (choice : C) (stop : Stop)
+    (old mid new : Option (List ℕ)) (pulled written : List ℕ) → (stop ≡ WriteFault → ⊥)
+    → Halts p stands before choice stop old mid pulled written → Pushes stands choice before after mid new → PrintsWell p stands choice after
+    → ((r : Recording) (w : List ℕ) → Printed stands after choice r w → IsSpentOf p r)
+    → Stops (along_intervals p) Limit old new pulled written
+spent_stop p stands before now choice (Refused f) old mid new pulled written other h pushes well past =
+    let all = both_pushed stands before now choice old mid new (recording_of pulled) written h.0 h.1 h.2.1 pushes in
+    (all.0, all.1, inr (pulled, all_of pulled, past _ _ all.2, well _ _ all.2))
+spent_stop p stands before now choice Limit old mid new pulled written other (more, first, inl h) pushes well past =
+    let all = both_pushed stands before now choice old mid new (recording_of pulled) written more first h.1 pushes in
+    (all.0, all.1, inr (pulled, all_of pulled, past _ _ all.2, well _ _ all.2))
+spent_stop p stands before now choice Limit old mid new pulled written other (more, first, inr h) pushes well past =
+    let all = both_pushed stands before now choice old mid new (recording_of h.0) written more first h.3 pushes in
+    (all.0, all.1, inr (h.0, h.1, h.2, well _ _ all.2))
+spent_stop p stands before now choice WriteFault old mid new pulled written other h pushes well past = absurd (other refl)
+spent_stop p stands before now choice ReadFault old mid new pulled written other h pushes well past = absurd h.2
 
 -- where the push fails, a front of the part stands
 front_pushed : {B C : Type 0} (p : Printing) (stands : Relation B C) (before : Option B) (choice : C) (old mid new : Option (List ℕ))
-    (pulled written more : List ℕ) → Appends old mid more → Printed stands before choice (recording_of pulled) (written ++ more)
+    (due pulled written more : List ℕ) → IsFront due pulled → Appends old mid more → Printed stands before choice (recording_of due) (written ++ more)
     → PushesFront p stands choice before mid new → Stops (along_intervals p) WriteFault old new pulled written
-front_pushed p stands before choice old mid new pulled written more first printed pushes =
-    let second = pushes (recording_of pulled) (written ++ more) printed in
+front_pushed p stands before choice old mid new due pulled written more comes first printed pushes =
+    let second = pushes (recording_of due) (written ++ more) printed in
     let f = second.2 in
     let e : (written ++ more) ++ second.0 ≡ (written ++ (more ++ f.0)) ++ f.1.0 =
     ap (λ (l : List ℕ). (written ++ more) ++ l) f.1.1 ∙ sym (append_assoc (written ++ more) f.0 f.1.0)
     ∙ ap (λ (l : List ℕ). l ++ f.1.0) (append_assoc written more f.0) in (
       more ++ f.0,
       Appends-trans old mid new more f.0 first f.2,
-      (pulled, (written ++ more) ++ second.0, ([], sym (append-nil pulled)), second.1, (f.1.0, e)),
+      (due, (written ++ more) ++ second.0, comes, second.1, (f.1.0, e)),
     )
 
 pub unsettled_stop : {B C : Type 0} (p : Printing) (stands : Relation B C) (before : Option B) (choice : C) (stop : Stop)
@@ -300,9 +330,11 @@ pub unsettled_stop : {B C : Type 0} (p : Printing) (stands : Relation B C) (befo
     → Halts p stands before choice stop old mid pulled written → PushesFront p stands choice before mid new
     → Stops (along_intervals p) WriteFault old new pulled written
 unsettled_stop p stands before choice (Refused f) old mid new pulled written other h pushes =
-    front_pushed p stands before choice old mid new pulled written h.0 h.1 h.2.1 pushes
-unsettled_stop p stands before choice Limit old mid new pulled written other h pushes =
-    front_pushed p stands before choice old mid new pulled written h.0 h.1 h.2.1 pushes
+    front_pushed p stands before choice old mid new pulled pulled written h.0 (all_of pulled) h.1 h.2.1 pushes
+unsettled_stop p stands before choice Limit old mid new pulled written other (more, first, inl h) pushes =
+    front_pushed p stands before choice old mid new pulled pulled written more (all_of pulled) first h.1 pushes
+unsettled_stop p stands before choice Limit old mid new pulled written other (more, first, inr h) pushes =
+    front_pushed p stands before choice old mid new h.0 pulled written more h.1 first h.3 pushes
 unsettled_stop p stands before choice WriteFault old mid new pulled written other h pushes = absurd (other refl)
 unsettled_stop p stands before choice ReadFault old mid new pulled written other h pushes = absurd h.2
 
@@ -311,8 +343,15 @@ pub push_stops : {B C : Type 0} (p : Printing) (stands : Relation B C) (behind :
     → Printed stands behind choice (recording_of pulled) written → PushesFront p stands choice behind old new
     → Stops (along_intervals p) WriteFault old new pulled written
 push_stops p stands behind choice old new pulled written printed pushes =
-    front_pushed p stands behind choice old old new pulled written [] (Appends-nil old)
+    front_pushed p stands behind choice old old new pulled pulled written [] (all_of pulled) (Appends-nil old)
     (subst (λ (w : List ℕ). Printed stands behind choice (recording_of pulled) w) (sym (append-nil written)) printed) pushes
+
+-- an output that did not fail stands as before, whatever the command stops for
+pub no_cause : (stop : Stop) (before now : ℕ) → (stop ≡ WriteFault → ⊥) → OutCause (status_of stop) before now → now ≡ before
+no_cause (Refused f) before now other cause = cause
+no_cause Limit before now other cause = cause
+no_cause ReadFault before now other cause = cause
+no_cause WriteFault before now other cause = absurd (other refl)
 
 -- the bytes of an interval, so many
 pub by_number : (decoder : Progress) (front bytes : List ℕ) (width x : ℕ) → decoder ≡ (decoding_of front).progress

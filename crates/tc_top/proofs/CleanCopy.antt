@@ -42,7 +42,7 @@ pub record CleanLaws : Type 1 where
   pub frames : (system : System) (limit : ℕ) (words : List HeardWord) (last : ℕ) → AreHeardOf system words → AreFramesOf system (frames limit words last)
 
 -- the words that are heard are those of the events
-words_are : (system : System) (es : List Event) → AreEventsOf system es → AreHeardOf system (words_heard es)
+pub words_are : (system : System) (es : List Event) → AreEventsOf system es → AreHeardOf system (words_heard es)
 words_are system [] are = tt
 words_are system (Word d w t n ∷ more) are = (are.0, words_are system more are.1)
 words_are system (Refused d f t ∷ more) are = words_are system more are.1

@@ -6,8 +6,10 @@ pub mod CleanCopy
 pub mod CountedEvents
 pub mod CountedLabels
 pub mod Digits
+pub mod FewerFrames
 pub mod FieldsGrow
 pub mod FlightGrows
+pub mod FollowsTheFrames
 pub mod FramesAnew
 pub mod FramesInOrder
 pub mod LabelsHeard
@@ -33,5 +35,6 @@ pub mod SentIsRead
 pub mod SlicedAgain
 pub mod SlicedOn
 pub mod SoundGrows
+pub mod StepsGrow
 pub mod VerdictStays
 pub mod WordsAnswer

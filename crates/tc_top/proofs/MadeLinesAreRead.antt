@@ -137,5 +137,6 @@ made_lines_are_read law s is =
 pub are_input : (s : LineStriping) → AreReadBack s → IsInput along_fields (made_lines s)
 are_input s back = record {
   verdict = ap (λ (r : Reading). r.verdict) back.file;
+  unspent = λ spent. spent;
   end = ap (λ (r : Reading). if r.is_whole then None else Some (fault.Truncated (length (made_lines s)))) back.file;
 }

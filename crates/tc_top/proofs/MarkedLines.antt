@@ -87,6 +87,12 @@ by_write : AreAllMarked → (limit : ℕ) (e : Exchange)
 by_write law limit e (inl is) = less_marked limit e.written is.1 is.4 (part_of law limit is.0 is.1 is.3)
 by_write law limit e (inr is) = less_marked limit e.written is.1.1.0 is.1.1.2 (whole_of law limit e.pulled is.1.1.0 is.1.1.1)
 
+-- a limit
+by_limit : AreAllMarked → (limit : ℕ) (e : Exchange)
+    → StopsAlong (along_intervals (flight limit)) stops.Limit e.left e.pulled e.written → IsMarked limit e.written
+by_limit law limit e (inl is) = part_of law limit e.pulled e.written is.1
+by_limit law limit e (inr is) = part_of law limit is.0 e.written is.3
+
 -- whatever the answer
 pub answer_marked : AreAllMarked → (limit : ℕ) (status : Status) (e : Exchange) → IsAnswer (along_intervals (flight limit)) status e → IsMarked limit e.written
 answer_marked law limit Done e is = whole_of law limit e.pulled e.written is.output
@@ -95,7 +101,7 @@ answer_marked law limit Memory e is = absurd is
 answer_marked law limit Refused e is = by_fault law limit e is.0 is.1.why
 answer_marked law limit ReadFault e is = part_of law limit e.pulled e.written is.why.2
 answer_marked law limit WriteFault e is = by_write law limit e is.why
-answer_marked law limit Limit e is = part_of law limit e.pulled e.written is.why.1
+answer_marked law limit Limit e is = by_limit law limit e is.why
 
 -- and whatever the job, where it is that of the frames
 pub job_marked : AreAllMarked → (job : Job) (limit : ℕ) → job ≡ LtcFly limit → (status : Status) (e : Exchange) → IsAnswer (meaning_of job) status e

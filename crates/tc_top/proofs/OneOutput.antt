@@ -9,9 +9,10 @@ use Rattle.direction_reader.specs.ListEvents.{AreEvents}
 use Rattle.tc_files.specs.declared.interval_file.header.IntervalHeader.{IntervalHeader}
 use Rattle.tc_files.specs.Recording.{recording_of}
 use Rattle.tc_words.specs.declared.job.Job.{Job}
-use Rattle.tc_words.specs.declared.job.Job.TheVariants.{LtcRead, LtcWorn, LtcFly, LtcMtc, LtcJam, MtcRead, Number, LabelOf, LtcMake, LtcConvert, PcmLtc, LtcPcm, LtcLoad, VitcRead, VitcMake}
+use Rattle.tc_words.specs.declared.job.Job.TheVariants.{LtcRead, LtcWorn, LtcFly, LtcMtc, LtcJam, LtcChase, MtcRead, Number, LabelOf, LtcMake, LtcConvert, PcmLtc, LtcPcm, LtcLoad, VitcRead, VitcMake}
 use Rattle.tc_top.specs.Along.{IsPartBehind, IsWholeBehind}
 use Rattle.tc_top.specs.Commands.{meaning_of}
+use Rattle.tc_top.specs.LtcChase.{lines_of_steps}
 use Rattle.tc_top.specs.LtcFly.{lines_of_frames}
 use Rattle.tc_top.specs.LtcJam.{file_of_frames}
 use Rattle.tc_top.specs.LtcMtc.{messages_of_frames}
@@ -101,6 +102,8 @@ one_output law answers_law (PcmLtc slicing) input a b x y = x ∙ sym y
 one_output law answers_law (LtcPcm size) input a b x y = one_sound size (recording_of input).header (recording_of input).intervals a b x y
 one_output law answers_law (LtcJam jam) input a b x y =
     one_flight law jam.limit (file_of_frames jam) (recording_of input).header (recording_of input).intervals a b x y
+one_output law answers_law (LtcChase run) input a b x y =
+    one_flight law run.limit (lines_of_steps run) (recording_of input).header (recording_of input).intervals a b x y
 one_output law answers_law MtcRead input a b x y = x ∙ sym y
 one_output law answers_law (LtcMake stripe) input a b x y = x.1 ∙ sym y.1
 one_output law answers_law (VitcMake stripe) input a b x y = x.1 ∙ sym y.1
@@ -121,6 +124,8 @@ one_part_of law answers_law (PcmLtc slicing) pulled a b x y = x ∙ sym y
 one_part_of law answers_law (LtcPcm size) pulled a b x y = one_sound_part size (recording_of pulled).header (recording_of pulled).intervals a b x y
 one_part_of law answers_law (LtcJam jam) pulled a b x y =
     one_flight_part law jam.limit (file_of_frames jam) (recording_of pulled).header (recording_of pulled).intervals a b x y
+one_part_of law answers_law (LtcChase run) pulled a b x y =
+    one_flight_part law run.limit (lines_of_steps run) (recording_of pulled).header (recording_of pulled).intervals a b x y
 one_part_of law answers_law MtcRead pulled a b x y = x ∙ sym y
 one_part_of law answers_law (LtcMake stripe) pulled a b x y = x ∙ sym y
 one_part_of law answers_law (VitcMake stripe) pulled a b x y = x ∙ sym y

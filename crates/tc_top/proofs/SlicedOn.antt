@@ -1,5 +1,5 @@
 -- A file of sliced sound grows by the intervals of the distance that more samples bring, and past the limit nothing more is taken.
-use Rattle.std.proofs.Common.{◌≡◌, ℕ, ◌+◌, ◌-◌, ◌*◌, ◌/◌, ◌^◌, ◌%◌, ◌==◌, ap₂, get_or, mul-le-mul, ◌<◌, ◌≤◌, Bool, true, false, nat_lt, cond, ℤ, List, [], ◌∷◌, ◌++◌, length, take, drop, Some, None, sym, ◌∙◌, ap, refl, subst, append_assoc, append-nil, arith}
+use Rattle.std.proofs.Common.{◌≡◌, inl, ℕ, ◌+◌, ◌-◌, ◌*◌, ◌/◌, ◌^◌, ◌%◌, ◌==◌, ap₂, get_or, mul-le-mul, ◌<◌, ◌≤◌, Bool, true, false, nat_lt, cond, ℤ, List, [], ◌∷◌, ◌++◌, length, take, drop, Some, None, sym, ◌∙◌, ap, refl, subst, append_assoc, append-nil, arith}
 use Rattle.std.specs.declared.option.Option.{Option}
 use Rattle.std.specs.Option.{option_to_list}
 use Rattle.std.specs.List.{flat_map}
@@ -164,8 +164,8 @@ at_limit s whole written bytes old new slices full some pushed =
     let more = length-append (samples_of whole) (samples_of bytes) in (
       s.gathered.room.items,
       pushed,
-      (
-        is_past MAX_SAMPLES (whole ++ bytes) (rw all (omega (arith, long, full, more, some_samples bytes some))),
+      inl (
+        record { is = is_past MAX_SAMPLES (whole ++ bytes) (rw all (omega (arith, long, full, more, some_samples bytes some))); unspent = λ spent. spent },
         slices.are ∙ ap (sliced s.slicing) (sym (ap (take MAX_SAMPLES) all
             ∙ take-append-le MAX_SAMPLES (samples_of whole) (samples_of bytes) (omega (arith, long, full))
             ∙ take_all MAX_SAMPLES (samples_of whole) (omega (arith, long, full)))),

@@ -6,6 +6,8 @@ use Rattle.tc_files.specs.Recording.{Recording, recording_of, end_fault_of}
 use Rattle.tc_top.specs.Meaning.{Meaning}
 
 pub record Printing : Type 1 where
+  -- the header and these intervals pass a limit of the command's own
+  pub spent : IntervalHeader → List ℕ → Type 0
   -- what is written behind the header and these intervals, before their end
   pub part : IntervalHeader → List ℕ → List ℕ → Type 0
   -- what is written of a whole recording
@@ -27,11 +29,20 @@ IsWholeBehind p (Some header) intervals written = p.whole header intervals writt
 abbrev pub IsWholeOf : Printing → Recording → List ℕ → Type 0
 IsWholeOf p r written = IsWholeBehind p r.header r.intervals written
 
+-- and nothing passes a limit of the command's own before
+abbrev pub IsSpentBehind : Printing → Option IntervalHeader → List ℕ → Type 0
+IsSpentBehind p None intervals = ⊥
+IsSpentBehind p (Some header) intervals = p.spent header intervals
+
+abbrev pub IsSpentOf : Printing → Recording → Type 0
+IsSpentOf p r = IsSpentBehind p r.header r.intervals
+
 abbrev pub along_intervals : Printing → Meaning
 along_intervals p = record {
   reads = true;
   verdict = λ bytes. (recording_of bytes).verdict;
   end_fault = end_fault_of;
+  spent = λ bytes. IsSpentOf p (recording_of bytes);
   part = λ bytes written. IsPartOf p (recording_of bytes) written;
   output = λ bytes written. IsWholeOf p (recording_of bytes) written;
 }

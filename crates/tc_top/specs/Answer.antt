@@ -124,6 +124,10 @@ status_by good end = status_at_end end
 status_by (refused fault) end = Refused
 status_by past_limit end = Limit
 
--- the one status of a job on an input where no call fails
+-- the status of a job on an input that does not pass a limit of the command's own
 abbrev pub status_on : Meaning → List ℕ → Status
 status_on m input = status_by (m.verdict input) (m.end_fault input)
+
+-- the one status of a job on an input where no call fails: a limit of the command's own that is passed comes first
+abbrev pub HasStatus : Meaning → List ℕ → Status → Type 0
+HasStatus m input status = (m.spent input × (status ≡ Limit)) ⊎ ((¬ m.spent input) × (status ≡ status_on m input))

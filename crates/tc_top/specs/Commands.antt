@@ -2,10 +2,11 @@
 use Rattle.biphase.specs.declared.profile.Profile.TheVariants.{Normal, Worn}
 use Rattle.tc_address.specs.Numbering.{number_of}
 use Rattle.tc_words.specs.declared.job.Job.{Job}
-use Rattle.tc_words.specs.declared.job.Job.TheVariants.{LtcRead, LtcWorn, LtcFly, LtcMtc, LtcJam, MtcRead, Number, LabelOf, LtcMake, LtcConvert, PcmLtc, LtcPcm, LtcLoad, VitcRead, VitcMake}
+use Rattle.tc_words.specs.declared.job.Job.TheVariants.{LtcRead, LtcWorn, LtcFly, LtcMtc, LtcJam, LtcChase, MtcRead, Number, LabelOf, LtcMake, LtcConvert, PcmLtc, LtcPcm, LtcLoad, VitcRead, VitcMake}
 use Rattle.tc_top.specs.Along.{along_intervals}
 use Rattle.tc_top.specs.Labels.{number_line, label_line}
 use Rattle.tc_top.specs.Load.{load_text}
+use Rattle.tc_top.specs.LtcChase.{chased_recording}
 use Rattle.tc_top.specs.LtcConvert.{conversion}
 use Rattle.tc_top.specs.LtcFly.{flight}
 use Rattle.tc_top.specs.LtcJam.{clean_recording}
@@ -19,12 +20,18 @@ use Rattle.tc_top.specs.MtcRead.{along_midi}
 use Rattle.tc_top.specs.PcmLtc.{along_samples}
 use Rattle.tc_top.specs.VitcRead.{along_fields}
 
+-- the jobs with a limit of the command's own
+abbrev pub HasOwnLimit : Job → Type 0
+HasOwnLimit (LtcChase run) = Unit {0}
+HasOwnLimit _ = ⊥
+
 abbrev pub meaning_of : Job → Meaning
 meaning_of LtcRead = along_intervals (report Normal)
 meaning_of LtcWorn = along_intervals (report Worn)
 meaning_of (LtcFly limit) = along_intervals (flight limit)
 meaning_of (LtcMtc limit) = along_intervals (time_code limit)
 meaning_of (LtcJam jam) = along_intervals (clean_recording jam)
+meaning_of (LtcChase run) = along_intervals (chased_recording run)
 meaning_of MtcRead = along_midi
 meaning_of (LtcMake stripe) = writes (made stripe)
 meaning_of (LtcLoad run) = writes (load_text run)

@@ -1,8 +1,8 @@
 -- What a command along an interval file keeps. No promise speaks of it.
-use Rattle.std.specs.Prelude.{◌≡◌, ℕ, ◌<◌, ◌≤◌, List, [], ◌∷◌, ◌++◌, length, Option, Some, None, nat_lt, if◌then◌else◌, ⊤, ◌+◌}
+use Rattle.std.specs.Prelude.{◌≡◌, ◌⊎◌, ℕ, ◌<◌, ◌≤◌, List, [], ◌∷◌, ◌++◌, length, Option, Some, None, nat_lt, if◌then◌else◌, ⊤}
 use Rattle.std.proofs.Common.{subst, sym}
 use Rattle.std.specs.Io.KnownBytes.{Appends}
-use Rattle.tc_io.specs.Sink.{AppendsFront}
+use Rattle.tc_io.specs.Sink.{AppendsFront, IsFront}
 use Rattle.direction_reader.specs.declared.reader.TheConstants.{MAX_INTERVALS}
 use Rattle.tc_files.specs.declared.fault.FileFault.{FileFault}
 use Rattle.tc_files.specs.declared.interval_file.header.IntervalHeader.{IntervalHeader}
@@ -12,7 +12,7 @@ use Rattle.tc_files.specs.Recording.{Recording, decoding_of, recording_of, FitsB
 use Rattle.tc_files.specs.Verdict.{good, refused, past_limit}
 use Rattle.tc_top.specs.declared.stop.Stop.{Stop}
 use Rattle.tc_top.specs.declared.stop.Stop.TheVariants.{Refused, ReadFault, WriteFault, Limit}
-use Rattle.tc_top.specs.Along.{Printing, IsPartBehind, IsPartOf, along_intervals}
+use Rattle.tc_top.specs.Along.{Printing, IsPartBehind, IsPartOf, IsSpentOf, along_intervals}
 use Rattle.tc_top.specs.Stops.{IsStop}
 
 -- the header is whole with its last byte
@@ -46,6 +46,12 @@ pub record Stands {B C : Type 0} (stands : B → C → IntervalHeader → List �
   pub counts : count ≡ length (recording_of bytes).intervals
   pub printed : Printed stands behind choice (recording_of bytes) written
 
+-- the same, and the bytes do not pass a limit of the command's own
+pub record StandsWithin {B C : Type 0} (printing : C → Printing) (relation : B → C → IntervalHeader → List ℕ → List ℕ → Type 0)
+    (decoder : Progress) (behind : Option B) (count : ℕ) (choice : C) (bytes written : List ℕ) : Type 0 where
+  pub stands : Stands relation decoder behind count choice bytes written
+  pub unspent : ¬ IsSpentOf (printing choice) (recording_of bytes)
+
 -- the recording with an interval more
 abbrev pub longer : Recording → ℕ → Recording
 longer r x = record { header = r.header; intervals = r.intervals ++ x ∷ []; verdict = r.verdict }
@@ -65,13 +71,20 @@ abbrev pub IsSettled : {B : Type 0} → (B → Type 0) → Option B → Type 0
 IsSettled settled None = ⊤
 IsSettled settled (Some behind) = settled behind
 
+-- a front of the bytes passes a limit of the command's own, and what was written stands for this front
+abbrev pub IsSpentHalt : {B C : Type 0} → Printing → (B → C → IntervalHeader → List ℕ → List ℕ → Type 0) → Option B → C
+    → List ℕ → List ℕ → Type 0
+IsSpentHalt p stands behind choice pulled written = (front : List ℕ) × IsFront front pulled
+    × IsSpentOf p (recording_of front) × Printed stands behind choice (recording_of front) written
+
 -- why a command stops at some of the bytes pulled, where what is gathered behind the header is still to be pushed
 abbrev pub IsHalt : {B C : Type 0} → Printing → (B → C → IntervalHeader → List ℕ → List ℕ → Type 0) → Option B → C
     → Stop → List ℕ → List ℕ → Type 0
 IsHalt p stands behind choice (Refused fault) pulled written =
     ((recording_of pulled).verdict ≡ refused fault) × Printed stands behind choice (recording_of pulled) written
 IsHalt p stands behind choice Limit pulled written =
-    ((recording_of pulled).verdict ≡ past_limit) × Printed stands behind choice (recording_of pulled) written
+    (((recording_of pulled).verdict ≡ past_limit) × Printed stands behind choice (recording_of pulled) written)
+    ⊎ IsSpentHalt p stands behind choice pulled written
 IsHalt p stands behind choice WriteFault pulled written = IsStop (along_intervals p) WriteFault pulled written
 IsHalt p stands behind choice ReadFault pulled written = ⊥
 

@@ -9,7 +9,7 @@ use Rattle.line_file.specs.LineFile.{reading_of}
 use Rattle.line_file.specs.StandsFor as reads
 use Rattle.line_file.specs.StandsFor.{IsTold}
 use Rattle.tc_top.specs.declared.engines.vitc_read.FieldReport.{FieldReport}
-use Rattle.tc_top.specs.Meaning.{Meaning}
+use Rattle.tc_top.specs.Meaning.{Meaning, Shows}
 use Rattle.tc_top.specs.VitcRead.{along_fields, answer_lines, is_agreed, is_conflict, is_nothing}
 
 -- one field more, of its kind
@@ -42,5 +42,5 @@ pub record Stands (r : FieldReport) (bytes written : List ℕ) : Type 0 where
 
 -- what was written is the part of the bytes
 pub stands_well : (r : FieldReport) (bytes written : List ℕ) → Stands r bytes written
-    → (Meaning.verdict along_fields bytes ≡ good) × Meaning.part along_fields bytes written
-stands_well r bytes written s = (s.told.0, (s.answers, s.told.1, s.are))
+    → Shows along_fields good bytes × Meaning.part along_fields bytes written
+stands_well r bytes written s = (record { is = s.told.0; unspent = λ spent. spent }, (s.answers, s.told.1, s.are))

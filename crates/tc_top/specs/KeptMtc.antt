@@ -10,7 +10,7 @@ use Rattle.mtc_reader.specs.StandsFor as reads
 use Rattle.tc_top.specs.declared.engines.mtc_read.MtcReport.{MtcReport}
 use Rattle.tc_top.specs.declared.engines.mtc_read.TheConstants.{MAX_BYTES}
 use Rattle.tc_files.specs.Verdict.{good, past_limit}
-use Rattle.tc_top.specs.Meaning.{Meaning}
+use Rattle.tc_top.specs.Meaning.{Meaning, Shows}
 use Rattle.tc_top.specs.MtcRead.{along_midi, event_lines, is_full, is_quarter, is_refused}
 
 -- one event more of its kind
@@ -36,8 +36,8 @@ pub record Stands (r : MtcReport) (bytes written : List ℕ) : Type 0 where
 
 -- what was written is the part of the bytes
 pub stands_well : (r : MtcReport) (bytes written : List ℕ) → Stands r bytes written
-    → (Meaning.verdict along_midi bytes ≡ good) × Meaning.part along_midi bytes written
+    → Shows along_midi good bytes × Meaning.part along_midi bytes written
 stands_well r bytes written stands = (
-  ap (λ (b : Bool). cond b past_limit good) (le-ltb MAX_BYTES (length bytes) stands.within),
+  record { is = ap (λ (b : Bool). cond b past_limit good) (le-ltb MAX_BYTES (length bytes) stands.within); unspent = λ spent. spent },
   stands.are ∙ ap (λ (l : List ℕ). event_lines (events_in l)) (sym (take_all MAX_BYTES bytes stands.within)),
 )

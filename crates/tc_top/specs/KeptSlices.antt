@@ -11,7 +11,7 @@ use Rattle.tc_files.specs.Verdict.{good, past_limit}
 use Rattle.tc_words.specs.declared.slicing.TheConstants.{MAX_FINENESS}
 use Rattle.tc_top.specs.declared.engines.pcm_ltc.SlicedSound.{SlicedSound}
 use Rattle.tc_top.specs.declared.engines.pcm_ltc.TheConstants.{MAX_SAMPLES}
-use Rattle.tc_top.specs.Meaning.{Meaning}
+use Rattle.tc_top.specs.Meaning.{Meaning, Shows}
 use Rattle.tc_top.specs.PcmLtc.{along_samples, sliced}
 
 -- the slicer is that of the words, and counts the samples
@@ -64,13 +64,13 @@ half_is_none count whole half is =
 
 -- what was written is the part of the bytes, where nothing is gathered
 pub stands_well : (s : SlicedSound) (bytes written : List ℕ) → s.gathered.room.items ≡ [] → Stands s bytes written
-    → (Meaning.verdict (along_samples s.slicing) bytes ≡ good) × Meaning.part (along_samples s.slicing) bytes written
+    → Shows (along_samples s.slicing) good bytes × Meaning.part (along_samples s.slicing) bytes written
 stands_well s bytes written settled stands =
     let slices = stands.slices in
     let same : samples_of bytes ≡ samples_of stands.whole = ap samples_of stands.are ∙ half_is_none s.samples stands.whole s.half slices.count in
     let long : length (samples_of bytes) ≡ s.samples = ap length same ∙ length-samples s.samples stands.whole slices.count in
     let within : length (samples_of bytes) ≤ MAX_SAMPLES = omega (arith, long, slices.within) in (
-      ap (λ (b : Bool). cond b past_limit good) (le-ltb MAX_SAMPLES (length (samples_of bytes)) within),
+      record { is = ap (λ (b : Bool). cond b past_limit good) (le-ltb MAX_SAMPLES (length (samples_of bytes)) within); unspent = λ spent. spent },
       sym (append-nil written) ∙ ap (λ (l : List ℕ). written ++ l) (sym settled) ∙ slices.are
           ∙ ap (sliced s.slicing) (sym same ∙ sym (take_all MAX_SAMPLES (samples_of bytes) within)),
     )

@@ -15,9 +15,11 @@ pub mod KeptFlight
 pub mod KeptLoad
 pub mod KeptMtc
 pub mod KeptSlices
+pub mod KeptSteps
 pub mod KeptSound
 pub mod Labels
 pub mod Load
+pub mod LtcChase
 pub mod LtcConvert
 pub mod LtcFly
 pub mod LtcJam

@@ -16,4 +16,4 @@ IsConverted version header intervals written = written ≡ file_of (in_version v
 
 -- before the end it is the file of the intervals so far
 abbrev pub conversion : FileVersion → Printing
-conversion version = record { part = IsConverted version; whole = IsConverted version }
+conversion version = record { spent = λ header intervals. ⊥; part = IsConverted version; whole = IsConverted version }

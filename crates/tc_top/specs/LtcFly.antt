@@ -35,7 +35,7 @@ last_fly_line intervals fs =
 
 -- the lines of the frames, and the last line
 abbrev pub lines_of_frames : FrameText
-lines_of_frames = record { text = λ header fs. frame_lines fs; last = last_fly_line }
+lines_of_frames = record { text = λ header fs. frame_lines fs; last = last_fly_line; most = None }
 
 -- what is written with a limit of invented frames
 abbrev pub flight : ℕ → Printing

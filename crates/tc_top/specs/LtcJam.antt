@@ -1,5 +1,5 @@
 -- `ltc-jam`: the frames of a recording anew, in cells of one length; and what is read of that.
-use Rattle.std.specs.Prelude.{◌≡◌, ℕ, List, [], Some}
+use Rattle.std.specs.Prelude.{◌≡◌, ℕ, List, [], Some, None}
 use Rattle.biphase.specs.declared.profile.Profile.TheVariants.{Normal}
 use Rattle.biphase.specs.Chain.{flat}
 use Rattle.direction_reader.specs.declared.event.Event.{Event}
@@ -30,7 +30,7 @@ clean_file j header frames = file_of (clean_header j header) (clean_intervals j 
 
 -- this file, and nothing last
 abbrev pub file_of_frames : Jamming → FrameText
-file_of_frames j = record { text = clean_file j; last = λ intervals frames. [] }
+file_of_frames j = record { text = clean_file j; last = λ intervals frames. []; most = None }
 
 -- what is written
 abbrev pub clean_recording : Jamming → Printing

@@ -11,6 +11,7 @@ but_the_last samples = take (length samples - 1) samples
 -- before the end it is the sound of the intervals so far without its last sample, which nothing follows yet
 abbrev pub made_sound : ℕ → Printing
 made_sound size = record {
+  spent = λ header intervals. ⊥;
   part = λ header intervals written. written ≡ bytes_of (but_the_last (sound size intervals));
   whole = λ header intervals written. written ≡ bytes_of (sound size intervals);
 }

@@ -32,4 +32,4 @@ pub record IsReadWhole (profile : Profile) (header : IntervalHeader) (intervals 
 
 -- the report under a tolerance
 abbrev pub report : Profile → Printing
-report profile = record { part = IsReadPart profile; whole = IsReadWhole profile }
+report profile = record { spent = λ header intervals. ⊥; part = IsReadPart profile; whole = IsReadWhole profile }

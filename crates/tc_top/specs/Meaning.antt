@@ -11,6 +11,8 @@ pub record Meaning : Type 1 where
   pub verdict : List ℕ → Verdict
   -- the fault of an input that ends with these bytes, where they are good
   pub end_fault : List ℕ → Option FileFault
+  -- these bytes pass a limit of the command's own, whatever follows them
+  pub spent : List ℕ → Type 0
   -- what is written of bytes before their end
   pub part : List ℕ → List ℕ → Type 0
   -- what is written of a whole input
@@ -22,13 +24,20 @@ writes text = record {
   reads = false;
   verdict = λ bytes. good;
   end_fault = λ bytes. None;
+  spent = λ bytes. ⊥;
   part = λ bytes written. written ≡ [];
   output = λ bytes written. (bytes ≡ []) × (written ≡ text);
 }
 
+-- what the bytes show, where they do not pass a limit of the command's own: that comes before a fault and before the limit of the grammar
+pub record Shows (m : Meaning) (verdict : Verdict) (bytes : List ℕ) : Type 0 where
+  pub is : m.verdict bytes ≡ verdict
+  pub unspent : ¬ m.spent bytes
+
 -- the bytes are an input of the command
 pub record IsInput (m : Meaning) (bytes : List ℕ) : Type 0 where
   pub verdict : m.verdict bytes ≡ good
+  pub unspent : ¬ m.spent bytes
   pub end : m.end_fault bytes ≡ None
 
 -- the command is at its end where nothing is left of its input; one that reads none is at once

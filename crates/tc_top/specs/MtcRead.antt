@@ -53,6 +53,7 @@ along_midi = record {
   reads = true;
   verdict = verdict_within MAX_BYTES;
   end_fault = λ bytes. None;
+  spent = λ bytes. ⊥;
   part = λ bytes written. written ≡ lines_within MAX_BYTES bytes;
   output = λ bytes written. written ≡ mtc_report bytes;
 }

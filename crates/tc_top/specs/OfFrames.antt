@@ -1,5 +1,5 @@
 -- A command that writes what it makes of the frames of a recording: those of the words heard in it, and those that a flywheel invents between them.
-use Rattle.std.specs.Prelude.{◌≡◌, ℕ, List, [], ◌∷◌, ◌++◌, sum}
+use Rattle.std.specs.Prelude.{◌≡◌, ℕ, ◌<◌, List, [], ◌∷◌, ◌++◌, length, sum, Option, Some, None}
 use Rattle.std.specs.List.{flat_map}
 use Rattle.biphase.specs.declared.profile.Profile.TheVariants.{Normal}
 use Rattle.direction_reader.specs.declared.event.Event.{Event}
@@ -32,6 +32,13 @@ pub record FrameText : Type 0 where
   pub text : IntervalHeader → List Frame → List ℕ
   -- what is written last, of the intervals and all of their frames
   pub last : List ℕ → List Frame → List ℕ
+  -- how many frames it takes at most, where it has a limit
+  pub most : Option ℕ
+
+-- these are more frames than the limit, where there is one
+abbrev pub AreTooMany : Option ℕ → List Frame → Type 0
+AreTooMany None fs = ⊥
+AreTooMany (Some most) fs = most < length fs
 
 -- before the end: what is made of the frames of the intervals
 pub record IsFlightPart (limit : ℕ) (made : FrameText) (header : IntervalHeader) (intervals written : List ℕ) : Type 0 where
@@ -45,6 +52,15 @@ pub record IsFlightWhole (limit : ℕ) (made : FrameText) (header : IntervalHead
   pub are_events : AreEvents header.system Normal intervals events
   pub are : written ≡ made.text header (frames_of limit intervals events) ++ made.last intervals (frames_of limit intervals events)
 
+-- too many frames came of a front of the intervals
+pub record IsFlightSpent (limit : ℕ) (made : FrameText) (header : IntervalHeader) (intervals : List ℕ) : Type 0 where
+  pub front : List ℕ
+  pub more : List ℕ
+  pub are_front : intervals ≡ front ++ more
+  pub events : List Event
+  pub are_events : AreEvents header.system Normal front events
+  pub too_many : AreTooMany made.most (frames_of limit front events)
+
 -- what is written of the frames, with a limit of invented ones
 abbrev pub along_frames : ℕ → FrameText → Printing
-along_frames limit made = record { part = IsFlightPart limit made; whole = IsFlightWhole limit made }
+along_frames limit made = record { spent = IsFlightSpent limit made; part = IsFlightPart limit made; whole = IsFlightWhole limit made }

@@ -34,6 +34,7 @@ along_samples s = record {
   reads = true;
   verdict = samples_within MAX_SAMPLES;
   end_fault = odd_fault;
+  spent = λ bytes. ⊥;
   part = λ bytes written. written ≡ sliced s (take MAX_SAMPLES (samples_of bytes));
   output = λ bytes written. written ≡ sliced s (samples_of bytes);
 }

@@ -45,6 +45,7 @@ along_fields = record {
   reads = true;
   verdict = λ bytes. (reading_of bytes).verdict;
   end_fault = λ bytes. end_fault_of bytes;
+  spent = λ bytes. ⊥;
   part = λ bytes written. (answers : List FieldAnswer) × AreAnswersOf (reading_of bytes) answers × (written ≡ answer_lines 0 answers);
   output = λ bytes written. (answers : List FieldAnswer) × AreAnswersOf (reading_of bytes) answers × (written ≡ field_report answers);
 }

@@ -1,6 +1,6 @@
 //! The way along an interval file, the same for each command that reads one. Next:
 //! `tc_files/src/interval_file/decoder.rt`, and behind it the engines.
-ghost use Rattle.std.specs.Prelude.{◌≡◌, ℕ, ◌+◌, ◌-◌, ◌%◌, ◌<◌, ◌≤◌, List, [], ◌∷◌, ◌++◌, length, take, drop, OnOk, IfOk, IfErr, IsSome, Err};
+ghost use Rattle.std.specs.Prelude.{◌≡◌, ℕ, true, false, ◌+◌, ◌-◌, ◌%◌, ◌<◌, ◌≤◌, List, [], ◌∷◌, ◌++◌, length, take, drop, OnOk, IfOk, IfErr, IsSome, Err};
 ghost use Rattle.std.specs.declared.option.Option.{Option};
 ghost use Rattle.std.specs.Io.KnownBytes.{Appends};
 ghost use Rattle.biphase.specs.declared.cell.TheConstants.{MAX_INTERVAL};
@@ -9,7 +9,7 @@ ghost use Rattle.tc_files.specs.declared.interval_file.header.IntervalHeader.{In
 ghost use Rattle.tc_files.specs.IntervalHeader.{IsTickRate};
 ghost use Rattle.tc_files.specs.Recording.{IsBetween, Recording};
 ghost use Rattle.tc_io.specs.Sink.{AppendsFront};
-ghost use Rattle.tc_top.specs.Along.{IsPartOf, Printing, along_intervals};
+ghost use Rattle.tc_top.specs.Along.{IsPartOf, IsSpentOf, Printing, along_intervals};
 ghost use Rattle.tc_top.specs.Causes.{HasOutCause, OutCause};
 ghost use Rattle.tc_top.specs.Status.{status_of};
 ghost use Rattle.tc_top.specs.Stops.{Stops};
@@ -22,6 +22,7 @@ ghost use Rattle.tc_top.specs.KeptAlong.{
   IsSettled,
   Printed,
   Stands,
+  StandsWithin,
   longer,
   stop_at,
 };
@@ -103,6 +104,13 @@ pub(crate) trait Behind: Drop {
             × AppendsFront (K.written out.old) (K.written out.new) part)) }
         ensures cause { HasOutCause (K.faults out.old) (K.faults out.new) result };
 
+    /// Whether the intervals that it was given pass a limit of the command's own.
+    fn is_spent(&self) -> bool
+        ensures spent { result ≡ true → (choice : Self.Choice) (header : IntervalHeader) (intervals written : List ℕ)
+            → stands self.now choice header intervals written → Printing.spent (printing choice) header intervals }
+        ensures going { result ≡ false → (choice : Self.Choice) (header : IntervalHeader) (intervals written : List ℕ)
+            → stands self.now choice header intervals written → ¬ Printing.spent (printing choice) header intervals };
+
     /// Takes the end of the recording, and writes what stands last.
     fn finish<K: Sink>(&self, out: &mut K) -> Result<(), Stop>
         requires fits { (count : ℕ) × (count ≤ MAX_INTERVALS) × fits self.now count }
@@ -133,7 +141,7 @@ impl<B: Behind> Along<B> {
     pub(crate) fn new(choice: B::Choice) -> Along<B>
         ensures choice { result.choice ≡ choice }
         ensures going { IsGoing B.fits result.decoder result.behind result.intervals }
-        ensures stands { Stands B.stands result.decoder result.behind result.intervals result.choice [] [] }
+        ensures stands { StandsWithin B.printing B.stands result.decoder result.behind result.intervals result.choice [] [] }
     {
         Along {
             decoder: IntervalDecoder::new(),
@@ -194,7 +202,22 @@ impl<B: Behind> Along<B> {
         }
     }
 
-    /// Why the command stops, once what is gathered was pushed: the part of the bytes pulled stands.
+    /// Whether the intervals so far pass a limit of the command's own.
+    #[inline(always)]
+    fn is_spent(&self) -> bool
+        ensures spent { result ≡ true → (choice : B.Choice) (r : Recording) (written : List ℕ)
+            → Printed B.stands self.now.behind choice r written → IsSpentOf (B.printing choice) r }
+        ensures going { result ≡ false → (choice : B.Choice) (r : Recording) (written : List ℕ)
+            → Printed B.stands self.now.behind choice r written → ¬ IsSpentOf (B.printing choice) r }
+    {
+        match &self.behind {
+            Some(behind) => behind.is_spent(),
+            None => false,
+        }
+    }
+
+    /// Why the command stops, once what is gathered was pushed: the part of the bytes pulled stands. A
+    /// limit of the command's own comes before a fault of the file and before the file's limit.
     fn stopped<K: Sink>(&mut self, stop: Stop, out: &mut K) -> Stop
         ensures choice { self.new.choice ≡ self.old.choice }
         ensures stops { (before : Option (List ℕ)) (pulled written : List ℕ)
@@ -207,7 +230,7 @@ impl<B: Behind> Along<B> {
         match stop {
             Stop::WriteFault => stop,
             _ => match self.push_gathered(out) {
-                Ok(()) => stop,
+                Ok(()) => { if self.is_spent() { Stop::Limit } else { stop } }
                 Err(fault) => fault,
             },
         }
@@ -369,7 +392,7 @@ impl<B: Behind> Along<B> {
 impl<B: Behind> Engine for Along<B> {
     ghost use Rattle.tc_files.specs.Recording.{too_many_bytes};
     ghost use Rattle.tc_top.specs.Along.{along_intervals};
-    ghost use Rattle.tc_top.specs.KeptAlong.{IsGoing, IsSettled, Stands, printed_well};
+    ghost use Rattle.tc_top.specs.KeptAlong.{IsGoing, IsSettled, StandsWithin, printed_well};
 
     type Choice = B::Choice;
 
@@ -379,18 +402,26 @@ impl<B: Behind> Engine for Along<B> {
 
     ghost is_going = { λ s. IsGoing B.fits s.decoder s.behind s.intervals };
 
-    ghost stands = { λ s bytes written. Stands B.stands s.decoder s.behind s.intervals s.choice bytes written };
+    ghost stands = { λ s bytes written. StandsWithin B.printing B.stands s.decoder s.behind s.intervals s.choice bytes written };
 
     ghost is_settled = { λ s. IsSettled B.is_settled s.behind };
 
     ghost budget = { λ s. too_many_bytes - s.decoder.taken };
 
-    ghost stands_well = { λ s bytes written settled stands.
-        (stands.good, printed_well B.printing B.stands B.is_settled B.stands_well s.behind s.choice _ written settled stands.printed) };
+    ghost stands_well = { λ s bytes written settled stands. (
+      record { is = stands.stands.good; unspent = stands.unspent },
+      printed_well B.printing B.stands B.is_settled B.stands_well s.behind s.choice _ written settled stands.stands.printed,
+    ) };
 
     fn take<K: Sink>(&mut self, bytes: &[u8], out: &mut K) -> Result<usize, Stop> {
         match self.advance(bytes, out) {
-            Ok(count) => Ok(count),
+            Ok(count) => {
+                if self.is_spent() {
+                    Err(self.stopped(Stop::Limit, out))
+                } else {
+                    Ok(count)
+                }
+            }
             Err(stop) => Err(self.stopped(stop, out)),
         }
     }

@@ -3,7 +3,7 @@ ghost use Rattle.std.specs.Prelude.{◌≡◌, ℕ, ◌<◌, ◌≤◌, List, �
 ghost use Rattle.std.specs.Io.KnownBytes.{Appends};
 ghost use Rattle.tc_files.specs.Verdict.{good};
 ghost use Rattle.tc_top.specs.Causes.{HasOutCause};
-ghost use Rattle.tc_top.specs.Meaning.{Meaning, IsInput};
+ghost use Rattle.tc_top.specs.Meaning.{Meaning, Shows, IsInput};
 ghost use Rattle.tc_top.specs.Stops.{Stops, StopsAtEnd};
 
 use crate::stop::Stop;
@@ -32,10 +32,10 @@ pub(crate) trait Engine {
     /// How many bytes it still takes, at most.
     ghost budget: { Self → ℕ };
 
-    /// Bytes that it was given are good, and what it wrote is their part of the output, where nothing
-    /// is gathered.
+    /// Bytes that it was given are good and within the command's own limit, and what it wrote is their
+    /// part of the output, where nothing is gathered.
     ghost stands_well: { (engine : Self) (bytes written : List ℕ) → is_settled engine → stands engine bytes written
-        → (Meaning.verdict (meaning (choice engine)) bytes ≡ good) × Meaning.part (meaning (choice engine)) bytes written };
+        → Shows (meaning (choice engine)) good bytes × Meaning.part (meaning (choice engine)) bytes written };
 
     /// Works on the first of the bytes that were pulled, on one at least, and answers on how many.
     /// What they complete is pushed, or gathered for `flush` where it is no text.

@@ -3,6 +3,7 @@
 pub(crate) mod chase;
 pub(crate) mod jam;
 pub(crate) mod labels;
+pub(crate) mod ltc_chase;
 pub(crate) mod ltc_convert;
 pub(crate) mod ltc_fly;
 pub(crate) mod ltc_load;

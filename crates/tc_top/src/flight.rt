@@ -38,7 +38,9 @@ use crate::along::Behind;
 use crate::frame_sink::FrameSink;
 use crate::stop::Stop;
 use biphase::{MAX_INTERVAL, Profile};
-use direction_reader::laws::a_reader_gives_the_events_of_its_list;
+use direction_reader::laws::{
+    a_list_has_one_list_of_events, a_reader_gives_the_events_of_its_list,
+};
 use direction_reader::{Brought, DirectionReader, Event, Events, MAX_INTERVALS};
 use flywheel::laws::frames_come_in_order;
 use flywheel::{Flywheel, Frame, HeardWord};
@@ -354,6 +356,7 @@ impl<T: FrameSink> Behind for FlightTo<T> {
         header: IntervalHeader,
         out: &mut K,
     ) -> Result<FlightTo<T>, Stop> {
+        a_list_has_one_list_of_events();
         a_reader_gives_the_events_of_its_list();
         let flight = Flight::new(T::limit(choice), &header);
         let sink = T::begin(choice, &header, out)?;
@@ -362,6 +365,7 @@ impl<T: FrameSink> Behind for FlightTo<T> {
 
     #[inline(always)]
     fn interval<K: Sink>(&mut self, x: u32, out: &mut K) -> Result<(), Stop> {
+        a_list_has_one_list_of_events();
         a_reader_gives_the_events_of_its_list();
         frames_come_in_order();
         match self.flight.reader.step(x) {
@@ -375,6 +379,12 @@ impl<T: FrameSink> Behind for FlightTo<T> {
 
     fn flush<K: Sink>(&mut self, _out: &mut K) -> Result<(), Stop> {
         Ok(())
+    }
+
+    /// Its frames pass the limit of their sink.
+    #[inline(always)]
+    fn is_spent(&self) -> bool {
+        self.sink.is_spent()
     }
 
     fn finish<K: Sink>(&self, out: &mut K) -> Result<(), Stop> {

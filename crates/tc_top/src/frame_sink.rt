@@ -1,5 +1,5 @@
 //! What a command makes of the frames of a recording. Next: `flight`, which gives it the frames.
-ghost use Rattle.std.specs.Prelude.{◌≡◌, ℕ, List, [], ◌∷◌, ◌++◌, OnOk, OnErr, IfOk, IfErr};
+ghost use Rattle.std.specs.Prelude.{◌≡◌, ℕ, true, false, List, [], ◌∷◌, ◌++◌, OnOk, OnErr, IfOk, IfErr};
 ghost use Rattle.std.specs.Io.KnownBytes.{Appends};
 ghost use Rattle.flywheel.specs.declared.frame.Frame.{Frame};
 ghost use Rattle.tc_files.specs.declared.interval_file.header.IntervalHeader.{IntervalHeader};
@@ -7,7 +7,7 @@ ghost use Rattle.tc_files.specs.FrameTexts.{FitsFrameLine};
 ghost use Rattle.tc_io.specs.Sink.{AppendsFront};
 ghost use Rattle.tc_top.specs.Causes.{HasOutCause};
 ghost use Rattle.tc_top.specs.KeptFlight.{CountsAll, FitsFlight, Sends, SendsFront};
-ghost use Rattle.tc_top.specs.OfFrames.{FrameText};
+ghost use Rattle.tc_top.specs.OfFrames.{AreTooMany, FrameText};
 
 use crate::flight::Flight;
 use crate::stop::Stop;
@@ -52,6 +52,13 @@ pub(crate) trait FrameSink: Drop {
         ensures front { OnErr result (SendsFront made given self.old (K.written out.old) (K.written out.new) (frame.now ∷ [])) }
         ensures why { IfErr result (λ stop. stop ≡ Stop.WriteFault) }
         ensures cause { HasOutCause (K.faults out.old) (K.faults out.new) result };
+
+    /// Whether the frames that it was given pass a limit of the command's own.
+    fn is_spent(&self) -> bool
+        ensures spent { result ≡ true → (choice : Self.Choice) (header : IntervalHeader) (frames : List Frame)
+            → given self.now choice header frames → AreTooMany (FrameText.most (made choice)) frames }
+        ensures going { result ≡ false → (choice : Self.Choice) (header : IntervalHeader) (frames : List Frame)
+            → given self.now choice header frames → ¬ AreTooMany (FrameText.most (made choice)) frames };
 
     /// Writes what stands last. The flight has counted what was given.
     fn finish<K: Sink>(&self, flight: &Flight, out: &mut K) -> Result<(), Stop>

@@ -11,9 +11,13 @@ ghost use Rattle.quarter_frame.specs.Message.{full_of};
 ghost use Rattle.quarter_frame.specs.Runs.{quarters};
 ghost use Rattle.tc_address.specs.Label.{Address};
 ghost use Rattle.tc_words.specs.declared.job.Job.{Job};
-ghost use Rattle.tc_top.specs.Commands.{meaning_of};
+ghost use Rattle.tc_top.specs.declared.status.Status.{Status};
+ghost use Rattle.tc_top.specs.Answer.{HasStatus, status_on};
+ghost use Rattle.tc_top.specs.Commands.{HasOwnLimit, meaning_of};
 ghost use Rattle.tc_words.specs.Stripe.{IsStripe, Striping};
 ghost use Rattle.tc_words.specs.Jam.{IsJamming, Jamming};
+ghost use Rattle.tc_words.specs.ChaseRun.{Chasing, IsChasing};
+ghost use Rattle.tc_top.specs.LtcChase.{ChasesTheInput};
 ghost use Rattle.tc_top.specs.LtcConvert.{in_version};
 ghost use Rattle.tc_top.specs.LtcJam.{CleansTheInput};
 ghost use Rattle.tc_top.specs.LtcRead.{last_line, lines};
@@ -25,11 +29,14 @@ ghost use Rattle.tc_words.specs.LineStripe.{IsLineStripe, LineStriping};
 ghost use Rattle.vitc_reader.specs.declared.field.FieldAnswer.{FieldAnswer};
 ghost use Rattle.tc_top.specs.declared.chasing.TheConstants.{MAX_SCRIPT};
 ghost use Rattle.tc_top.specs.declared.chance.TheConstants as chance;
+ghost use Rattle.tc_top.specs.declared.engines.ltc_chase.TheConstants.{MAX_FRAMES};
 ghost use Rattle.tc_top.specs.declared.engines.mtc_read.TheConstants.{MAX_BYTES};
 ghost use Rattle.tc_top.specs.declared.engines.pcm_ltc.TheConstants.{MAX_SAMPLES};
 
 use biphase::laws::shaped_cells_are_a_chain;
+use code_chase::laws::{each_loss_has_a_cause, whole_code_keeps_the_lock};
 use direction_reader::laws::{a_list_has_one_list_of_events, played_words_are_read};
+use flywheel::laws::a_frame_that_goes_on_is_the_next;
 use line_file::laws::{
     a_file_is_read_as_it_was_written as line_files_are_read_as_they_were_written,
     bytes_have_one_list_of_answers, runs_of_a_line_fit_the_file,
@@ -54,6 +61,15 @@ pub fn an_input_has_one_output()
     bytes_have_one_list_of_answers();
 }
 
+/// An input leaves a job one status where no call fails. A limit of the command's own comes first, and
+/// where it has none, the grammar and the limit of the file settle it alone.
+pub fn an_input_has_one_status()
+    ensures one { (job : Job) (input : List ℕ) (a b : Status) → HasStatus (meaning_of job) input a
+        → HasStatus (meaning_of job) input b → a ≡ b }
+    ensures file { (job : Job) (input : List ℕ) (status : Status) → ¬ HasOwnLimit job → HasStatus (meaning_of job) input status
+        → status ≡ status_on (meaning_of job) input }
+{}
+
 /// `mtc-read` reads a thousand million bytes, and no more.
 pub fn mtc_read_has_this_limit()
     ensures { MAX_BYTES ≡ 1000000000 }
@@ -62,6 +78,11 @@ pub fn mtc_read_has_this_limit()
 /// `pcm-ltc` takes a thousand million samples, and no more.
 pub fn pcm_ltc_has_this_limit()
     ensures { MAX_SAMPLES ≡ 1000000000 }
+{}
+
+/// `ltc-chase` follows a hundred million frames, and no more.
+pub fn ltc_chase_has_this_limit()
+    ensures { MAX_FRAMES ≡ 100000000 }
 {}
 
 /// A script of `chase` has a mebibyte at most.
@@ -120,6 +141,18 @@ pub fn what_is_jammed_is_read()
     clean_recordings_are_read();
     shaped_cells_are_a_chain();
     what_is_read_has_labels_of_its_system();
+}
+
+/// What `ltc-chase` writes of a whole input is the trace of a chase over all of its frames, in which each loss
+/// has its cause: its frame is gone, or has another count, or was heard and does not join, or the transport
+/// slipped too far in the step before.
+pub fn what_is_chased_follows_the_code()
+    ensures { (c : Chasing) → IsChasing c → ChasesTheInput c }
+{
+    what_is_read_has_labels_of_its_system();
+    a_frame_that_goes_on_is_the_next();
+    each_loss_has_a_cause();
+    whole_code_keeps_the_lock();
 }
 
 /// What `vitc-make` makes is an input of `vitc-read`, and its report is known: each field is agreed with its

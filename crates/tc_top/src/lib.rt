@@ -18,6 +18,8 @@
 //!   these are the tape's own words (`specs/Tape.antt`, clause `truth`).
 //! - What `ltc-jam` writes is a clean recording, from which each frame of the input that was heard or
 //!   invented is read, and nothing else (`specs/LtcJam.antt`, `IsClean`; clause `clean`).
+//! - What `ltc-chase` writes is the trace of a chase over the frames of the recording, in which each loss
+//!   has its cause (`specs/LtcChase.antt`, `FollowsTheCode`; clause `chased`).
 //! - A chase writes nothing before its whole script was read and each row was judged, and its trace keeps
 //!   its lock (`specs/Chase.antt`; clause `lock`).
 //!

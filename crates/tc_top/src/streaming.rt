@@ -2,11 +2,13 @@
 ghost use Rattle.std.specs.Prelude.{◌≡◌, ◌⊎◌, ℕ, List, Some, false, OnOk, IfErr};
 ghost use Rattle.std.specs.Io.KnownBytes.{Appends, Consumes};
 ghost use Rattle.tc_io.specs.Source.{Rose};
-ghost use Rattle.tc_top.specs.Answer.{Exchange, IsAnswer, IsPulled, IsWritten, IsNoted, status_on};
+ghost use Rattle.tc_top.specs.Answer.{Exchange, IsAnswer, IsPulled, IsWritten, IsNoted, HasStatus};
 ghost use Rattle.tc_top.specs.Causes.{SourceCause, OutCause, HasSourceCause, HasOutCause};
 ghost use Rattle.tc_top.specs.Commands.{meaning_of};
 ghost use Rattle.tc_files.specs.Recording.{recording_of};
+ghost use Rattle.tc_words.specs.ChaseRun.{Chasing};
 ghost use Rattle.tc_words.specs.Jam.{Jamming};
+ghost use Rattle.tc_top.specs.LtcChase.{ChasesIfItFollows, FollowsTheCode};
 ghost use Rattle.tc_top.specs.LtcFly.{IsMarked};
 ghost use Rattle.tc_top.specs.LtcJam.{CleansIfItJams, IsClean};
 ghost use Rattle.tc_top.specs.ReadBack.{MakesWhatIsRead};
@@ -20,6 +22,7 @@ ghost use Rattle.biphase.specs.declared.profile.Profile.{Profile};
 use crate::along::Along;
 use crate::engines::jam::{CleanRecording, is_clean};
 use crate::engines::labels::OneLine;
+use crate::engines::ltc_chase::{StepLines, follows_the_code};
 use crate::engines::ltc_convert::Conversion;
 use crate::engines::ltc_fly::FrameLines;
 use crate::engines::ltc_make::Tape;
@@ -76,7 +79,7 @@ pub fn stream<S: Source, K: Sink, N: Sink>(
     // Where no count of faults rises, the job and the whole input leave one status.
     ensures status { (input : List ℕ) → S.left source.old ≡ Some input
         → ¬ Rose (S.faults source.old) (S.faults source.new) → ¬ Rose (K.faults out.old) (K.faults out.new)
-        → result ≡ status_on (meaning_of job.now) input }
+        → HasStatus (meaning_of job.now) input result }
 
     // The lines of `ltc-fly` mark each frame that is invented, and these are within the limit.
     ensures marked { (limit : ℕ) → job.now ≡ Job.LtcFly limit
@@ -90,6 +93,12 @@ pub fn stream<S: Source, K: Sink, N: Sink>(
     ensures clean { (jam : Jamming) → job.now ≡ Job.LtcJam jam → result ≡ Status.Done → (e : Exchange)
         × IsPulled (S.left source.old) (S.left source.new) e × IsEnd (meaning_of (Job.LtcJam jam)) e.left
         × IsWritten (K.written out.old) (K.written out.new) e × IsClean jam (recording_of e.pulled) e.written }
+
+    // What `ltc-chase` writes is the trace of a chase over all frames of the input, in which each loss has its cause:
+    // so whole code keeps the lock.
+    ensures chased { (chosen : Chasing) → job.now ≡ Job.LtcChase chosen → result ≡ Status.Done → (e : Exchange)
+        × IsPulled (S.left source.old) (S.left source.new) e × IsEnd (meaning_of (Job.LtcChase chosen)) e.left
+        × IsWritten (K.written out.old) (K.written out.new) e × FollowsTheCode chosen (recording_of e.pulled) e.written }
 
     // Sound that the job makes is sliced into the same intervals.
     ensures sound { SoundsTheIntervals job.now }
@@ -131,6 +140,7 @@ fn work_on<S: Source, K: Sink>(job: &Job, source: &mut S, out: &mut K) -> Result
     ensures writes { Meaning.reads (meaning_of job.now) ≡ false → IfErr result (λ stop. stop ≡ Stop.WriteFault) }
     ensures read { MakesWhatIsRead job.now }
     ensures clean { CleansIfItJams job.now }
+    ensures chased { ChasesIfItFollows job.now }
     ensures sound { SoundsTheIntervals job.now }
 {
     match job {
@@ -151,6 +161,10 @@ fn work_on<S: Source, K: Sink>(job: &Job, source: &mut S, out: &mut K) -> Result
                 source,
                 out,
             )
+        }
+        Job::LtcChase { run } => {
+            follows_the_code(run);
+            work(&mut Along::<FlightTo<StepLines>>::new(*run), source, out)
         }
         Job::VitcRead => work(&mut FieldReport::new(), source, out),
         Job::MtcRead => work(&mut MtcReport::new(), source, out),

@@ -10,12 +10,14 @@ ghost use Rattle.tc_address.specs.Label.{Address};
 ghost use Rattle.tc_words.specs.declared.job.Job.{Job};
 ghost use Rattle.tc_words.specs.declared.job.Task.{Task};
 ghost use Rattle.tc_words.specs.Job.{answer_to};
-ghost use Rattle.tc_top.specs.Answer.{Exchange, IsRunAnswer, IsPulled, IsWritten, IsNoted, status_on};
+ghost use Rattle.tc_top.specs.Answer.{Exchange, IsRunAnswer, IsPulled, IsWritten, IsNoted, HasStatus};
 ghost use Rattle.tc_top.specs.Causes.{SourceCause, OutCause};
 ghost use Rattle.tc_top.specs.Chase.{IsTraced, chase_status_on};
 ghost use Rattle.tc_top.specs.Commands.{meaning_of};
 ghost use Rattle.tc_files.specs.Recording.{recording_of};
+ghost use Rattle.tc_words.specs.ChaseRun.{Chasing};
 ghost use Rattle.tc_words.specs.Jam.{Jamming};
+ghost use Rattle.tc_top.specs.LtcChase.{FollowsTheCode};
 ghost use Rattle.tc_top.specs.LtcFly.{IsMarked};
 ghost use Rattle.tc_top.specs.LtcJam.{IsClean};
 ghost use Rattle.tc_top.specs.Meaning.{Meaning, IsEnd};
@@ -74,7 +76,7 @@ pub fn run<S: Source, K: Sink, N: Sink>(
     ensures status { (job : Job) (input : List ℕ) → answer_to (map string_bytes words.now) ≡ Ok (Task.Stream job)
         → S.left source.old ≡ Some input
         → ¬ Rose (S.faults source.old) (S.faults source.new) → ¬ Rose (K.faults out.old) (K.faults out.new)
-        → (result ≡ status_on (meaning_of job) input) ⊎ (result ≡ Status.Memory) }
+        → HasStatus (meaning_of job) input result ⊎ (result ≡ Status.Memory) }
 
     // The same of a chase.
     ensures chase_status { (label : Address) (input : List ℕ) → answer_to (map string_bytes words.now) ≡ Ok (Task.Chase label)
@@ -97,6 +99,12 @@ pub fn run<S: Source, K: Sink, N: Sink>(
     ensures clean { (jam : Jamming) → answer_to (map string_bytes words.now) ≡ Ok (Task.Stream (Job.LtcJam jam)) → result ≡ Status.Done
         → (e : Exchange) × IsPulled (S.left source.old) (S.left source.new) e × IsEnd (meaning_of (Job.LtcJam jam)) e.left
         × IsWritten (K.written out.old) (K.written out.new) e × IsClean jam (recording_of e.pulled) e.written }
+
+    // What `ltc-chase` wrote is the trace of a chase over all frames of the input, in which each loss has its cause:
+    // so whole code keeps the lock.
+    ensures chased { (chosen : Chasing) → answer_to (map string_bytes words.now) ≡ Ok (Task.Stream (Job.LtcChase chosen)) → result ≡ Status.Done
+        → (e : Exchange) × IsPulled (S.left source.old) (S.left source.new) e × IsEnd (meaning_of (Job.LtcChase chosen)) e.left
+        × IsWritten (K.written out.old) (K.written out.new) e × FollowsTheCode chosen (recording_of e.pulled) e.written }
 
     // Sound that was made is sliced into the same intervals.
     ensures sound { (job : Job) → answer_to (map string_bytes words.now) ≡ Ok (Task.Stream job) → result ≡ Status.Done → SoundsTheIntervals job }

@@ -1,6 +1,8 @@
 //! Runs of the program whose status, output and note are known from outside.
 mod chase;
+mod code_chase;
 mod convert;
+mod cuts;
 mod damage;
 mod faults;
 mod frames;

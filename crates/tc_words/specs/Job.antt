@@ -10,6 +10,7 @@ use Rattle.tc_words.specs.declared.fault.WordsFault.{WordsFault}
 use Rattle.tc_words.specs.declared.fault.WordsFault.TheVariants.{Dash, Command, CountOfWords, Value}
 use Rattle.biphase.specs.declared.shaper.TheConstants.{MIN_SHAPED, MAX_SHAPED}
 use Rattle.tc_words.specs.declared.stripe.TheConstants.{MAX_TICK_RATE}
+use Rattle.tc_words.specs.ChaseWords.{chased}
 use Rattle.tc_words.specs.Jam.{jamming_of}
 use Rattle.tc_words.specs.Sound.{amplitude_in, following, in_samples, in_ticks}
 use Rattle.tc_words.specs.Tape.{at_one_length, moving, value_or}
@@ -51,6 +52,11 @@ ltc_jam (limit ∷ cell ∷ tick_rate ∷ []) =
     with_value 1 (limit_in limit) (λ n. with_value 2 (between MIN_SHAPED MAX_SHAPED cell) (λ c.
     with_value 3 (between 1 MAX_TICK_RATE tick_rate) (λ r. Ok (jobs.LtcJam (jamming_of n c r)))))
 ltc_jam _ = Err CountOfWords
+
+-- `ltc-chase COUNT LABEL LIMIT SEED BOUND`
+abbrev pub ltc_chase : List Word → Answer
+ltc_chase (count ∷ label ∷ limit ∷ seed ∷ bound ∷ []) = chased count label limit seed bound
+ltc_chase _ = Err CountOfWords
 
 -- `ltc-make COUNT DIRECTION LABEL FRAMES CELL TICK-RATE [TO-CELL STEP]`: without the last two words the cells are of one length
 abbrev pub ltc_make : List Word → Answer
@@ -109,6 +115,7 @@ job_of command values =
     else if bytes_eq command commands.LTC_FLY.now then ltc_fly values
     else if bytes_eq command commands.LTC_MTC.now then ltc_mtc values
     else if bytes_eq command commands.LTC_JAM.now then ltc_jam values
+    else if bytes_eq command commands.LTC_CHASE.now then ltc_chase values
     else if bytes_eq command commands.MTC_READ.now then no_values jobs.MtcRead values
     else if bytes_eq command commands.LTC_MAKE.now then ltc_make values
     else if bytes_eq command commands.LTC_LOAD.now then ltc_load values

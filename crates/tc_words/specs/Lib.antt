@@ -1,3 +1,5 @@
+pub mod ChaseRun
+pub mod ChaseWords
 pub mod Jam
 pub mod Job
 pub mod Slicing

@@ -19,6 +19,9 @@ pub const LTC_MTC: &str = "ltc-mtc";
 /// The word of `Job::LtcJam`.
 pub const LTC_JAM: &str = "ltc-jam";
 
+/// The word of `Job::LtcChase`.
+pub const LTC_CHASE: &str = "ltc-chase";
+
 /// The word of `Job::MtcRead`.
 pub const MTC_READ: &str = "mtc-read";
 

@@ -1,5 +1,6 @@
 //! What the words name. Next: `tc_top`, which does it.
 use crate::amplitude::Amplitude;
+use crate::chase_run::ChaseRun;
 use crate::jam::Jam;
 use crate::line_stripe::LineStripe;
 use crate::load::LoadRun;
@@ -33,6 +34,9 @@ pub enum Job {
     /// `ltc-jam LIMIT CELL TICK-RATE`: reads an interval file, and writes the same frames anew as an interval
     /// file of cells of one length.
     LtcJam { jam: Jam },
+    /// `ltc-chase COUNT LABEL LIMIT SEED BOUND`: reads an interval file, and writes the steps of a chase that
+    /// begins at the label and follows the same frames.
+    LtcChase { run: ChaseRun },
     /// `mtc-read`: reads MIDI bytes, and writes a line for each label of MIDI Time Code in them, and for
     /// each address that is no label.
     MtcRead,

@@ -1,6 +1,7 @@
 //! The words of the commands, letter by letter: what holds the constants of `commands`.
 ghost use Rattle.std.specs.Prelude.{◌≡◌, ◌-◌, ◌^◌, codes};
 ghost use Rattle.tc_words.specs.declared.commands.TheConstants as commands;
+ghost use Rattle.tc_words.specs.declared.chase_run.TheConstants.{MAX_SLIP};
 ghost use Rattle.tc_words.specs.declared.slicing.TheConstants.{MAX_FINENESS, MAX_SIZE};
 ghost use Rattle.tc_words.specs.declared.load.TheConstants.{MAX_WORDS};
 ghost use Rattle.tc_words.specs.declared.stripe.TheConstants.{MAX_FRAMES, MAX_TICK_RATE};
@@ -13,6 +14,7 @@ pub fn each_command_has_its_word()
     ensures ltc_fly { commands.LTC_FLY.now ≡ codes "ltc-fly" }
     ensures ltc_mtc { commands.LTC_MTC.now ≡ codes "ltc-mtc" }
     ensures ltc_jam { commands.LTC_JAM.now ≡ codes "ltc-jam" }
+    ensures ltc_chase { commands.LTC_CHASE.now ≡ codes "ltc-chase" }
     ensures mtc_read { commands.MTC_READ.now ≡ codes "mtc-read" }
     ensures ltc_make { commands.LTC_MAKE.now ≡ codes "ltc-make" }
     ensures ltc_load { commands.LTC_LOAD.now ≡ codes "ltc-load" }
@@ -26,11 +28,13 @@ pub fn each_command_has_its_word()
 {}
 
 /// A run makes a million frames at most, in ticks of a clock of a hundred million a second at most; a
-/// load run reads a hundred thousand words at most. A sample has 64 ticks at most, and a size of 15 bits.
+/// load run reads a hundred thousand words at most. A sample has 64 ticks at most, and a size of 15 bits. A
+/// transport is told to slip by a thousand subframes at most.
 pub fn the_limits_are_these()
     ensures frames { MAX_FRAMES ≡ 1000000 }
     ensures tick_rate { MAX_TICK_RATE ≡ 100000000 }
     ensures fineness { MAX_FINENESS ≡ 64 }
     ensures size { MAX_SIZE ≡ 2 ^ 15 - 1 }
     ensures words { MAX_WORDS ≡ 100000 }
+    ensures slip { MAX_SLIP ≡ 1000 }
 {}

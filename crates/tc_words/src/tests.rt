@@ -37,6 +37,19 @@ fn the_first_fault_is_told(rt: HostRuntime) -> Result<(), Fail> {
         ("ltc-jam 255 8388608 0", WordsFault::Value(2)),
         ("ltc-jam 255 8388607 0", WordsFault::Value(3)),
         ("ltc-jam 0 16 100000001", WordsFault::Value(3)),
+        ("ltc-chase 25 01:00:00:00 2 1", WordsFault::CountOfWords),
+        ("ltc-chase 25 01:00:00:00 2 1 0 0", WordsFault::CountOfWords),
+        ("ltc-chase 29 24:00:00:00 256 x 1001", WordsFault::Value(1)),
+        ("ltc-chase 30d 00:01:00;00 256 x 1001", WordsFault::Value(2)),
+        ("ltc-chase 30d 00:01:00;02 256 x 1001", WordsFault::Value(3)),
+        (
+            "ltc-chase 30d 00:01:00;02 255 18446744073709551616 1001",
+            WordsFault::Value(4),
+        ),
+        (
+            "ltc-chase 24 23:59:59:23 255 18446744073709551615 1001",
+            WordsFault::Value(5),
+        ),
         ("mtc-read x", WordsFault::CountOfWords),
         ("vitc-read 25", WordsFault::CountOfWords),
         ("vitc-make 30 00:00:00:00 1", WordsFault::CountOfWords),
@@ -147,6 +160,7 @@ fn label_text_of(job: &Job) -> Option<[u8; 11]> {
         Job::LtcRead | Job::LtcWorn | Job::LtcFly { .. } | Job::LtcConvert { .. } => None,
         Job::PcmLtc { .. } | Job::LtcPcm { .. } => None,
         Job::LtcJam { .. } | Job::VitcRead => None,
+        Job::LtcChase { run } => Some(text(&run.label())),
         Job::LtcMtc { .. } | Job::MtcRead | Job::LtcLoad { .. } => None,
         Job::LtcMake { stripe } => Some(text(&stripe.label())),
         Job::VitcMake { stripe } => Some(text(&stripe.label())),
@@ -179,6 +193,20 @@ fn jam_in(task: &Task) -> Option<Jam> {
 fn jam_of(job: &Job) -> Option<Jam> {
     match job {
         Job::LtcJam { jam } => Some(*jam),
+        _ => None,
+    }
+}
+
+fn chase_in(task: &Task) -> Option<ChaseRun> {
+    match task {
+        Task::Stream(job) => chase_of(job),
+        Task::Chase { .. } => None,
+    }
+}
+
+fn chase_of(job: &Job) -> Option<ChaseRun> {
+    match job {
+        Job::LtcChase { run } => Some(*run),
         _ => None,
     }
 }
@@ -292,6 +320,26 @@ fn slicings_and_levels_are_read(rt: HostRuntime) -> Result<(), Fail> {
         assert_eq!(rt; jam.cell(), cell, "at {line}");
         assert_eq!(rt; jam.tick_rate(), tick_rate, "at {line}");
     }
+    for (line, limit, seed, bound) in [
+        ("ltc-chase 25 01:00:00:00 0 0 0", 0, 0, 0),
+        (
+            "ltc-chase 30d 00:01:00;02 255 18446744073709551615 1000",
+            255,
+            18_446_744_073_709_551_615,
+            1_000,
+        ),
+    ] {
+        let words = typed(alloc, line)?;
+        let Ok(task) = read_words(alloc, &words) else {
+            return Err("no task".into());
+        };
+        let Some(run) = chase_in(&task) else {
+            return Err("no chase".into());
+        };
+        assert_eq!(rt; run.limit(), limit, "at {line}");
+        assert_eq!(rt; run.seed(), seed, "at {line}");
+        assert_eq!(rt; run.bound(), bound, "at {line}");
+    }
     for (line, size) in [("ltc-pcm 1", 1), ("ltc-pcm 32767", 32_767)] {
         let words = typed(alloc, line)?;
         let Ok(task) = read_words(alloc, &words) else {
@@ -333,6 +381,7 @@ fn labels_are_read(rt: HostRuntime) -> Result<(), Fail> {
         ("number 24 12:34:56:23", *b"12:34:56:23"),
         ("chase 30d 00:01:00;02", *b"00:01:00;02"),
         ("vitc-make 30 23:59:59:29 1 460", *b"23:59:59:29"),
+        ("ltc-chase 24 23:59:59:23 2 1 8", *b"23:59:59:23"),
         (
             "ltc-make 30d backward 00:01:00;02 1000000 800 100000000 400 50",
             *b"00:01:00;02",

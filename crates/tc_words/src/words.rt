@@ -2,8 +2,9 @@
 //! `job`.
 ghost use Rattle.std.specs.Prelude.{◌≡◌, ◌⊎◌, map, position, string_bytes, alloc_error};
 ghost use Rattle.command_words.specs.CommandLine.{begins_with_dash};
-ghost use Rattle.tc_words.specs.Job.{answer_to, without_dashes, job_of, no_values, ltc_fly, ltc_mtc, ltc_jam, number, label_of, ltc_make, ltc_convert, pcm_ltc, ltc_pcm, task_of, chase, ltc_load, vitc_make};
+ghost use Rattle.tc_words.specs.Job.{answer_to, without_dashes, job_of, no_values, ltc_fly, ltc_mtc, ltc_jam, ltc_chase, number, label_of, ltc_make, ltc_convert, pcm_ltc, ltc_pcm, task_of, chase, ltc_load, vitc_make};
 
+use crate::chase_words::chased;
 use crate::commands;
 use crate::fault::WordsFault;
 use crate::jam::Jam;
@@ -88,6 +89,7 @@ fn job_of(command: &str, values: &[&str]) -> Result<Job, WordsFault>
         commands::LTC_FLY => ltc_fly(values),
         commands::LTC_MTC => ltc_mtc(values),
         commands::LTC_JAM => ltc_jam(values),
+        commands::LTC_CHASE => ltc_chase(values),
         commands::MTC_READ => no_values(values, Job::MtcRead),
         commands::LTC_MAKE => ltc_make(values),
         commands::LTC_LOAD => ltc_load(values),
@@ -147,6 +149,16 @@ fn ltc_jam(values: &[&str]) -> Result<Job, WordsFault>
     Ok(Job::LtcJam {
         jam: Jam::new(limit, cell, tick_rate),
     })
+}
+
+// `ltc-chase COUNT LABEL LIMIT SEED BOUND`
+fn ltc_chase(values: &[&str]) -> Result<Job, WordsFault>
+    ensures { result ≡ ltc_chase (map (λ v. v.now) values.now) }
+{
+    match values {
+        [count, label, limit, seed, bound] => chased(count, label, limit, seed, bound),
+        _ => Err(WordsFault::CountOfWords),
+    }
 }
 
 // `ltc-make COUNT DIRECTION LABEL FRAMES CELL TICK-RATE [TO-CELL STEP]`

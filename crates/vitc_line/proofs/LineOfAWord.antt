@@ -24,7 +24,8 @@ unchecked_below law word valid eight =
     0 (unchecked word) valid.label eight (omega arith) (nothing_more (unchecked word)) in
     no_check (unchecked word) rows.width rows.check
 
-pub line_spells : SumHolds → (word : VitcWord) → IsFields word.fields → word.fields.user < 2 ^ 32 → Spells (system_with word.fields.label.count) word (line_of word)
+pub line_spells : SumHolds → (word : VitcWord) → IsFields word.fields → word.fields.user < 2 ^ 32
+    → Spells (system_with word.fields.label.count) word (line_of word)
 unfolding line_of
 line_spells law word valid eight =
     let below = unchecked_below law word valid eight in

@@ -67,6 +67,12 @@ impl FrameSink for CleanRecording {
         push_piece(out, &room)
     }
 
+    /// It has no limit of its own.
+    #[inline(always)]
+    fn is_spent(&self) -> bool {
+        false
+    }
+
     fn finish<K: Sink>(&self, _flight: &Flight, _out: &mut K) -> Result<(), Stop> {
         Ok(())
     }

@@ -120,6 +120,12 @@ impl Behind for Conversion {
         self.push(out)
     }
 
+    /// It has no limit of its own.
+    #[inline(always)]
+    fn is_spent(&self) -> bool {
+        false
+    }
+
     fn finish<K: Sink>(&self, _out: &mut K) -> Result<(), Stop> {
         Ok(())
     }

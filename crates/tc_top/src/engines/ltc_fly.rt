@@ -39,6 +39,12 @@ impl FrameSink for FrameLines {
         push_line(out, &frame_text(frame))
     }
 
+    /// It has no limit of its own.
+    #[inline(always)]
+    fn is_spent(&self) -> bool {
+        false
+    }
+
     fn finish<K: Sink>(&self, flight: &Flight, out: &mut K) -> Result<(), Stop> {
         push_line(out, &flight.end_text())
     }

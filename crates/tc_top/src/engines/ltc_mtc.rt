@@ -48,6 +48,12 @@ impl FrameSink for FrameMessages {
         push_piece(out, &room[..count])
     }
 
+    /// It has no limit of its own.
+    #[inline(always)]
+    fn is_spent(&self) -> bool {
+        false
+    }
+
     fn finish<K: Sink>(&self, _flight: &Flight, _out: &mut K) -> Result<(), Stop> {
         Ok(())
     }

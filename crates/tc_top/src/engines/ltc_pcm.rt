@@ -160,6 +160,12 @@ impl Behind for MadeSound {
         self.gathered.push(out)
     }
 
+    /// It has no limit of its own.
+    #[inline(always)]
+    fn is_spent(&self) -> bool {
+        false
+    }
+
     fn finish<K: Sink>(&self, out: &mut K) -> Result<(), Stop> {
         match self.side {
             Side::High => push_piece(out, &self.above.as_slice()[..2]),

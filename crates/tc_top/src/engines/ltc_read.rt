@@ -207,6 +207,12 @@ impl Behind for Report {
         Ok(())
     }
 
+    /// It has no limit of its own.
+    #[inline(always)]
+    fn is_spent(&self) -> bool {
+        false
+    }
+
     fn finish<K: Sink>(&self, out: &mut K) -> Result<(), Stop> {
         push_line(out, &self.end_text())
     }

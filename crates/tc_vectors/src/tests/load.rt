@@ -16,7 +16,8 @@ fn what_is_made_by_chance_is_read(rt: HostRuntime) -> Result<(), Fail> {
     for (words, line) in [
         (
             "ltc-load 1 1000",
-            "load seed 1 words 1000 read 1000 refused 0 lost 0 first 00:00:00:01 last 00:00:40:00\n",
+            "load seed \
+            1 words 1000 read 1000 refused 0 lost 0 first 00:00:00:01 last 00:00:40:00\n",
         ),
         (
             "ltc-load 2159999 2",
@@ -39,8 +40,8 @@ fn a_full_output_leaves_a_front_of_the_line(rt: HostRuntime) -> Result<(), Fail>
             room,
             ..loading("ltc-load 1 1000")
         };
-        let line =
-            b"load seed 1 words 1000 read 1000 refused 0 lost 0 first 00:00:00:01 last 00:00:40:00\n";
+        let line = b"load seed \
+            1 words 1000 read 1000 refused 0 lost 0 first 00:00:00:01 last 00:00:40:00\n";
         trial.gives(&rt, Status::WriteFault, &line[..room], "tc: write fault\n")?;
     }
     Ok(())

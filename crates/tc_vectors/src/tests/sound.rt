@@ -7,7 +7,7 @@ use tc_address::{Direction, System};
 use tc_top::Status;
 
 /// A header of version 1 at 25 frames and 48000 ticks a second.
-const HEADER: &[u8] = b"LTCI\x01\x19\x00\x00\x00\x00\xbb\x80";
+pub const HEADER: &[u8] = b"LTCI\x01\x19\x00\x00\x00\x00\xbb\x80";
 
 /// It, and the intervals 24, 12 and 12.
 const CODE: &[u8] = b"LTCI\x01\x19\x00\x00\x00\x00\xbb\x80\

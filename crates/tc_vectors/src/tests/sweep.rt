@@ -19,12 +19,13 @@ const ROOM: usize = 40_000;
 const MANY: u64 = 1_000;
 
 /// The commands along an interval file.
-const ALONG_INTERVALS: [&str; 8] = [
+pub const ALONG_INTERVALS: [&str; 9] = [
     "ltc-read",
     "ltc-worn",
     "ltc-fly 2",
     "ltc-mtc 2",
     "ltc-jam 2 24 48000",
+    "ltc-chase 25 01:00:00:00 2 1 8",
     "ltc-convert 1",
     "ltc-convert 2",
     "ltc-pcm 1000",
@@ -41,13 +42,13 @@ const ALONE: [&str; 5] = [
 
 /// A command, and an input that it takes whole.
 #[derive(Drop)]
-struct Case {
-    words: &'static str,
-    input: Vec<u8>,
+pub struct Case {
+    pub words: &'static str,
+    pub input: Vec<u8>,
 }
 
 impl Case {
-    fn new(alloc: Global, words: &'static str, input: &[u8]) -> Result<Case, AllocError> {
+    pub fn new(alloc: Global, words: &'static str, input: &[u8]) -> Result<Case, AllocError> {
         let mut bytes = Vec::new(alloc);
         bytes.extend_from_slice(input)?;
         Ok(Case {
@@ -57,7 +58,7 @@ impl Case {
     }
 
     /// The run in which nothing fails.
-    fn trial(&self) -> Trial {
+    pub fn trial(&self) -> Trial {
         Trial {
             room: ROOM,
             ..Trial::new(self.words, &self.input)
@@ -65,7 +66,7 @@ impl Case {
     }
 
     /// How it ends where nothing fails: it is done.
-    fn whole(&self, rt: &(impl Abort + AllocGlobal)) -> Result<Ended, Fail> {
+    pub fn whole(&self, rt: &(impl Abort + AllocGlobal)) -> Result<Ended, Fail> {
         let ended = self.trial().ended(rt)?;
         assert_eq!(rt; ended.status, Status::Done, "of {}", self.words);
         assert_eq!(rt; ended.note.as_slice(), b"".as_slice(), "of {}", self.words);
@@ -91,7 +92,7 @@ fn reading(rt: &(impl Abort + AllocGlobal)) -> Result<Vec<Case>, Fail> {
 }
 
 /// Forty runs of samples.
-fn cases_sound(alloc: Global) -> Result<Vec<u8>, AllocError> {
+pub fn cases_sound(alloc: Global) -> Result<Vec<u8>, AllocError> {
     let mut bytes = Vec::new(alloc);
     for run in 0..40_u32 {
         let sample: i16 = if run % 2 == 0 { 8_000 } else { -8_000 };
@@ -113,7 +114,7 @@ fn cases(rt: &(impl Abort + AllocGlobal)) -> Result<Vec<Case>, Fail> {
 }
 
 /// Compares how a run ended: its status and note, and its output, which is a front of the whole.
-fn compare(
+pub fn compare(
     rt: &(impl Abort + AllocGlobal),
     words: &str,
     ended: &Ended,
@@ -131,7 +132,7 @@ fn compare(
 }
 
 /// What one pull of so many bytes leaves, where the next one fails.
-fn after_one_pull(
+pub fn after_one_pull(
     rt: &(impl Abort + AllocGlobal),
     case: &Case,
     pulled: usize,

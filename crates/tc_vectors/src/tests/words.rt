@@ -48,14 +48,6 @@ fn words_that_name_no_job_are_refused(rt: HostRuntime) -> Result<(), Fail> {
 }
 
 #[test]
-fn commands_to_come_are_unknown(rt: HostRuntime) -> Result<(), Fail> {
-    for words in ["ltc-chase 25 01:00:00:00 2 1 0"] {
-        unread(words).ends(&rt, Status::Usage, "", "tc: usage: command\n")?;
-    }
-    Ok(())
-}
-
-#[test]
 fn numbers_and_labels_are_written(rt: HostRuntime) -> Result<(), Fail> {
     for (words, line) in [
         ("number 30d 00:01:00;02", "1800\n"),

@@ -6,6 +6,7 @@ use Rattle.tc_top.specs.declared.status.Status.TheVariants as status
 use Rattle.tc_words.specs.declared.job.Job.{Job}
 use Rattle.tc_top.specs.Meaning.{IsEnd}
 use Rattle.tc_top.proofs.CleanCopy.{job_cleans}
+use Rattle.tc_top.proofs.FollowsTheFrames.{job_follows}
 use Rattle.tc_top.proofs.MarkedLines.{job_marked}
 use Rattle.tc_top.proofs.OneStatus.{answer_of, done_is_final, settles, stop_is_final}
 use Rattle.tc_top.proofs.ReportsTheTape.{reports_the_tape}
@@ -76,6 +77,18 @@ returns-in-Ok-clause-clean g c = λ jam is done.
       subst (λ (j : Job). IsEnd (meaning_of j) went.left) is e.4,
       e.3,
       job_cleans c.args.job.now jam is c.in-Ok.ensures.clean e.0 e.1 e.6,
+    )
+
+-- what `ltc-chase` wrote follows the code
+pub returns-in-Ok-clause-chased : goal.returns-in-Ok-clause-chased
+returns-in-Ok-clause-chased g c = λ chosen is done.
+    let e = c.in-Ok.ensures.ends in
+    let went : Exchange = record { pulled = e.0; left = g.S.Source.left c.work_on.new.source; written = e.1; note = [] } in (
+      went,
+      record { bytes = e.2; left = refl },
+      subst (λ (j : Job). IsEnd (meaning_of j) went.left) is e.4,
+      e.3,
+      job_follows c.args.job.now chosen is c.in-Ok.ensures.chased e.0 e.1 e.5.unspent e.6,
     )
 
 -- the lines of frames are marked, at the end and at a stop

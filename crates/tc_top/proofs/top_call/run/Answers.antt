@@ -1,11 +1,11 @@
-use Rattle.std.proofs.Common.{◌≡◌, ℕ, List, [], refl, map, string_bytes, subst, sym}
+use Rattle.std.proofs.Common.{◌≡◌, inl, ℕ, List, [], refl, map, string_bytes, subst, sym}
 use Rattle.std.proofs.KnownBytes.{Appends-nil, Consumes-nil}
 use Rattle.std.specs.Io.KnownBytes.{Appends, Consumes}
 use Rattle.chase_script.specs.declared.row.ScriptRow.{ScriptRow}
 use Rattle.chase_script.specs.Lock.{KeepsItsLock}
-use Rattle.tc_words.specs.declared.job.Job.TheVariants.{LtcJam, LtcMtc}
+use Rattle.tc_words.specs.declared.job.Job.TheVariants.{LtcChase, LtcJam, LtcMtc}
 use Rattle.tc_words.specs.declared.job.Task.TheVariants.{Stream, Chase}
-use Rattle.tc_top.specs.Answer.{Exchange, IsPulled, IsWritten}
+use Rattle.tc_top.specs.Answer.{Exchange, HasStatus, IsPulled, IsWritten}
 use Rattle.tc_top.specs.Chase.{IsTraced}
 use Rattle.tc_top.specs.Commands.{meaning_of}
 use Rattle.tc_top.specs.Meaning.{IsEnd}
@@ -42,6 +42,14 @@ returns-in-Stream-clause-truth g c = λ done job profile says is.
     × IsEnd (meaning_of j) e.left × IsWritten (g.K.Sink.written c.args.out.now) (g.K.Sink.written c.stream.new.out) e
     × ReportsTheTape profile e.pulled e.written) (sym same) told
 
+-- the whole input leaves the status: the job is the one that the words name
+pub returns-in-Stream-clause-status : goal.returns-in-Stream-clause-status
+returns-in-Stream-clause-status g c = λ job input says told no_read no_write.
+    let words = map string_bytes c.args.words.now in
+    let own = named words (Stream c.in-Stream.job) (rw (c.in-Ok.is, c.in-Stream.is) at c.read_words.ensures) in
+    inl (subst (λ j. HasStatus (meaning_of j) input c.stream.result) (sym (same_job words job c.in-Stream.job says own))
+    (c.stream.ensures.status input told no_read no_write))
+
 -- what was sent is read as the frames: the job is the one that the words name
 pub returns-in-Stream-clause-sent : goal.returns-in-Stream-clause-sent
 returns-in-Stream-clause-sent g c = λ done limit says.
@@ -59,6 +67,13 @@ returns-in-Stream-clause-clean g c = λ jam says done.
     let words = map string_bytes c.args.words.now in
     let own = named words (Stream c.in-Stream.job) (rw (c.in-Ok.is, c.in-Stream.is) at c.read_words.ensures) in
     c.stream.ensures.clean jam (sym (same_job words (LtcJam jam) c.in-Stream.job says own)) done
+
+-- what `ltc-chase` wrote follows the code: the job is the one that the words name
+pub returns-in-Stream-clause-chased : goal.returns-in-Stream-clause-chased
+returns-in-Stream-clause-chased g c = λ chosen says done.
+    let words = map string_bytes c.args.words.now in
+    let own = named words (Stream c.in-Stream.job) (rw (c.in-Ok.is, c.in-Stream.is) at c.read_words.ensures) in
+    c.stream.ensures.chased chosen (sym (same_job words (LtcChase chosen) c.in-Stream.job says own)) done
 
 -- the chase keeps its lock: it begins at the label that the words name
 pub returns-in-Chase-clause-lock : goal.returns-in-Chase-clause-lock

@@ -14,7 +14,8 @@ pub returns-in_default-clause-stands : goal.returns-in_default-clause-stands
 returns-in_default-clause-stands c = λ samples stands. (no_bytes c.args.self.now).stands samples stands
 
 pub returns-in_default-clause-none : goal.returns-in_default-clause-none
-returns-in_default-clause-none c = λ samples stands. (no_bytes c.args.self.now).brings samples stands ∙ append-nil (distances c.args.self.now.fineness c.args.self.now.threshold samples)
+returns-in_default-clause-none c = λ samples stands. (no_bytes c.args.self.now).brings samples stands
+    ∙ append-nil (distances c.args.self.now.fineness c.args.self.now.threshold samples)
 
 -- no sample was taken yet
 pub samples-init : goal.samples-init
@@ -58,5 +59,6 @@ samples-preserved c =
 -- the tick and the sample before are those of the last of them
 pub returns-clause-stands : goal.returns-clause-stands
 returns-clause-stands c = λ samples stands.
-    subst (λ (s : SlicerState). StandsFor (record s { tick = c.samples.tick; before = to_z w16 c.samples.before-bits }) (samples ++ samples_of (take c.samples.at c.args.bytes.now)))
+    subst (λ (s : SlicerState). StandsFor (record s { tick = c.samples.tick; before = to_z w16 c.samples.before-bits })
+        (samples ++ samples_of (take c.samples.at c.args.bytes.now)))
     (sym c.self.view_is) (c.samples.invariant.runs.stands samples stands)

@@ -1,4 +1,3 @@
-use Rattle.tc_files.specs.Recording.{recording_of}
 use Rattle.tc_top.proofs.AlongTheInput.{if_err}
 use Rattle.tc_top.proofs.AnItemMore.{push_stops}
 use Rattle.tc_top.proofs.along.AlongEngine.flush.Goals as goal
@@ -8,4 +7,4 @@ pub returns-clause-stops : goal.returns-clause-stops
 returns-clause-stops g c =
     let s = c.args.self.now in
     if_err c.push_gathered.result c.push_gathered.ensures.front (λ stop h bytes written stands.
-    rw h.0 (push_stops (g.B.Behind.printing s.choice) g.B.Behind.stands s.behind s.choice _ _ bytes written stands.printed (h.1 s.choice)))
+    rw h.0 (push_stops (g.B.Behind.printing s.choice) g.B.Behind.stands s.behind s.choice _ _ bytes written stands.stands.printed (h.1 s.choice)))

@@ -4,6 +4,7 @@ use Rattle.tc_address.specs.declared.system.System.{System}
 use Rattle.direction_reader.specs.ListEvents.{AreEvents}
 use Rattle.direction_reader.specs.Tracker.{profile_of}
 use Rattle.tc_top.proofs.AlongTheInput.{through}
+use Rattle.tc_top.proofs.FewerFrames.{no_fronts}
 use Rattle.tc_top.proofs.flight.FlightToBehind.begin.Goals as goal
 
 -- what stands first was written, and there is no frame yet
@@ -12,6 +13,8 @@ returns-clause-begins g c =
     let reader = c.new-flight.result.reader in
     let e = c.new-flight.ensures in
     let law = c.a_reader_gives_the_events_of_its_list.ensures reader [] [] e.reader in
+    let are = subst (λ (p : Profile). AreEvents c.args.header.system p [] []) e.keeps
+    (subst (λ (y : System). AreEvents y (profile_of reader.tracker) [] []) e.system law) in
     let b = c.in_ok-sink.ensures.begins in (
       _,
       b.1,
@@ -21,9 +24,9 @@ returns-clause-begins g c =
         limit_is = e.limit_is ∙ c.limit.ensures;
         events = [];
         reader = e.reader;
-        are_events = subst (λ (p : Profile). AreEvents c.args.header.system p [] []) e.keeps
-            (subst (λ (y : System). AreEvents y (profile_of reader.tracker) [] []) e.system law);
+        are_events = are;
         given = [];
+        fronts = no_fronts c.a_list_has_one_list_of_events.ensures (g.T.FrameSink.limit c.args.choice) c.args.header are;
         wheel = e.wheel;
         sent = b.0;
         are = refl;

@@ -18,7 +18,7 @@ returns-clause-stops g c =
       f.0,
       f.2,
       (
-        record { verdict = (stands_well r bytes written stands).0; end = refl },
+        record { verdict = (stands_well r bytes written stands).0.is; unspent = λ spent. spent; end = refl },
         (
           mtc_report bytes,
           refl,

@@ -1,4 +1,4 @@
-use Rattle.std.proofs.Common.{◌≡◌, ◌++◌, ◌∷◌, ◌∙◌, [], take, length, sym, ap, arith, append-nil}
+use Rattle.std.proofs.Common.{◌≡◌, inl, ◌++◌, ◌∷◌, ◌∙◌, [], take, length, sym, ap, arith, append-nil}
 use Rattle.std.proofs.KnownBytes.{Appends-nil}
 use Rattle.std.proofs.lemmas.List.{length-append}
 use Rattle.mtc_reader.specs.Texts.{event_line}
@@ -17,8 +17,8 @@ returns-then-bytes-eq-MAX_BYTES-clause-stops g c = λ front written stands.
     let full : length front ≡ MAX_BYTES = sym stands.reader.count ∙ sym c.bytes.ensures ∙ c.if-bytes-eq-MAX_BYTES.true in (
       [],
       Appends-nil _,
-      (
-        is_past MAX_BYTES (front ++ bytes) (omega (arith, full, c.requires.some, length-append front bytes)),
+      inl (
+        record { is = is_past MAX_BYTES (front ++ bytes) (omega (arith, full, c.requires.some, length-append front bytes)); unspent = λ spent. spent },
         append-nil written ∙ stands.are ∙ sym (lines_at_limit MAX_BYTES front bytes full),
       ),
     )

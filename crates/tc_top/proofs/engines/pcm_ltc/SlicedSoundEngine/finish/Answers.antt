@@ -21,6 +21,6 @@ returns-in-None-clause-ends g c = λ bytes written stands.
     let long = length-bytes s bytes written stands ∙ ap (λ half. 2 * s.samples + length (option_to_list half)) c.in-None.is in (
       [],
       Appends-nil _,
-      record { verdict = well.0; end = even_end s.samples bytes (omega (arith, long)) },
+      record { verdict = well.0.is; unspent = well.0.unspent; end = even_end s.samples bytes (omega (arith, long)) },
       append-nil written ∙ all_written s bytes written c.requires.settled stands,
     )

@@ -13,7 +13,7 @@ returns-in-Ok-clause-ends g c =
     on_ok c.push_line.result c.push_line.ensures.all (λ pushed bytes written stands. (
       line,
       pushed,
-      record { verdict = stands.told.0; end = c.in-Ok.ensures.ok bytes stands.answers stands.decoder },
+      record { verdict = stands.told.0; unspent = λ spent. spent; end = c.in-Ok.ensures.ok bytes stands.answers stands.decoder },
       (
         stands.answers,
         stands.told.1,
@@ -33,7 +33,7 @@ returns-in-Ok-clause-stops g c =
       f.0,
       f.2,
       (
-        record { verdict = stands.told.0; end = c.in-Ok.ensures.ok bytes stands.answers stands.decoder },
+        record { verdict = stands.told.0; unspent = λ spent. spent; end = c.in-Ok.ensures.ok bytes stands.answers stands.decoder },
         (
           field_report stands.answers,
           (stands.answers, stands.told.1, refl),
@@ -49,4 +49,4 @@ returns-in-Ok-clause-stops g c =
 -- the input may not end there
 pub returns-in-Err-clause-stops : goal.returns-in-Err-clause-stops
 returns-in-Err-clause-stops g c = λ bytes written stands.
-    ([], Appends-nil _, (stands.told.0, c.in-Err.ensures.err bytes stands.answers stands.decoder, (stands.answers, stands.told.1, append-nil written ∙ stands.are)))
+    ([], Appends-nil _, (record { is = stands.told.0; unspent = λ spent. spent }, c.in-Err.ensures.err bytes stands.answers stands.decoder, (stands.answers, stands.told.1, append-nil written ∙ stands.are)))

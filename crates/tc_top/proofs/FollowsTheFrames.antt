@@ -1,0 +1,116 @@
+-- What `ltc-chase` writes of an input is the trace over all of its frames: they go on from one another and have labels, so each loss has its cause.
+use Rattle.std.proofs.Common.{◌≡◌, ◌≢◌, inl, inr, ℕ, zero, suc, ◌<◌, ◌≤◌, List, [], ◌∷◌, ◌++◌, length, Option, Some, None, slice_get, refl, sym, ◌∙◌, ap, subst, append-nil}
+use Rattle.std.specs.Prelude.{sum, unsigned_abs}
+use Rattle.std.proofs.lemmas.Bool.{cases_lt}
+use Rattle.std.proofs.lemmas.List.{take_all}
+use Rattle.biphase.specs.declared.profile.Profile.{Profile}
+use Rattle.biphase.specs.declared.profile.Profile.TheVariants.{Normal}
+use Rattle.chase_core.specs.declared.report.State.TheVariants.{Locked}
+use Rattle.chase_core.specs.Trace.{Traced}
+use Rattle.chase_script.specs.TraceText.{trace_text}
+use Rattle.code_chase.specs.CodeTrace.{code_trace}
+use Rattle.code_chase.specs.Lock.{AreWhole, HasCauseOfLoss, HasLabel, HaveLabels}
+use Rattle.direction_reader.specs.declared.event.Event.{Event}
+use Rattle.direction_reader.specs.ListEvents.{AreEvents}
+use Rattle.flywheel.specs.declared.frame.Frame.{Frame}
+use Rattle.flywheel.specs.declared.frame.Frame.TheVariants.{Heard, Invented, Gone}
+use Rattle.flywheel.specs.declared.heard.HeardWord.{HeardWord}
+use Rattle.flywheel.specs.Frames.{frames}
+use Rattle.flywheel.specs.GoOn.{GoOn}
+use Rattle.ltc_jam.specs.Labels.{AreEventsOf, AreFramesOf, AreHeardOf, IsFrameOf}
+use Rattle.tc_address.specs.declared.system.System.{System}
+use Rattle.tc_address.specs.Label.{Address, IsLabel}
+use Rattle.tc_files.specs.declared.interval_file.header.IntervalHeader.{IntervalHeader}
+use Rattle.tc_files.specs.Recording.{Recording, recording_of}
+use Rattle.tc_words.specs.declared.job.Job.{Job}
+use Rattle.tc_words.specs.declared.job.Job.TheVariants.{LtcChase}
+use Rattle.tc_words.specs.ChaseRun.{Chasing, IsChasing}
+use Rattle.tc_top.specs.declared.engines.ltc_chase.TheConstants.{MAX_FRAMES}
+use Rattle.tc_top.specs.Along.{IsSpentBehind, IsWholeBehind}
+use Rattle.tc_top.specs.Commands.{meaning_of}
+use Rattle.tc_top.specs.LtcChase.{ChasesIfItFollows, ChasesTheInput, FollowsTheCode, LosesWithCause, chased_recording, first_steps, steps_over}
+use Rattle.tc_top.specs.Meaning.{Meaning}
+use Rattle.tc_top.specs.OfFrames.{frames_of, words_heard}
+use Rattle.tc_top.proofs.CleanCopy.{words_are}
+
+-- what the laws of the crates below say
+pub record ChaseLaws : Type 1 where
+  pub events : (system : System) (profile : Profile) (list : List ℕ) (es : List Event) → AreEvents system profile list es → AreEventsOf system es
+  pub labels : (system : System) (limit : ℕ) (words : List HeardWord) (last : ℕ) → AreHeardOf system words → AreFramesOf system (frames limit words last)
+  pub go_on : (limit last : ℕ) (words : List HeardWord) → GoOn None (frames limit words last)
+  pub cause : (label : Address) (seed bound : ℕ) (fs : List Frame) (j : ℕ) (line : Traced) → IsLabel label → HaveLabels fs → GoOn None fs
+      → slice_get (code_trace label seed bound fs) j ≡ Some line → line.report.loss ≢ None → HasCauseOfLoss label seed bound fs j
+  pub no_loss : (label : Address) (seed bound : ℕ) (fs : List Frame) (j : ℕ) (line : Traced) → IsLabel label → HaveLabels fs → GoOn None fs
+      → AreWhole label.count fs → bound ≤ 8 → slice_get (code_trace label seed bound fs) j ≡ Some line → line.report.loss ≡ None
+  pub near : (label : Address) (seed bound : ℕ) (fs : List Frame) (first j : ℕ) (leaves line : Traced) → IsLabel label → HaveLabels fs → GoOn None fs
+      → AreWhole label.count fs → bound ≤ 8 → slice_get (code_trace label seed bound fs) first ≡ Some leaves → leaves.report.state ≡ Locked
+      → first ≤ j → slice_get (code_trace label seed bound fs) j ≡ Some line → (line.report.state ≡ Locked) × (unsigned_abs line.report.error ≤ 40)
+
+-- ---- the labels of frames
+
+label_of : (system : System) (frame : Frame) → IsFrameOf system frame → HasLabel frame
+label_of system (Heard label direction joined tick) is = is.0
+label_of system (Invented label direction step tick) is = is.0
+label_of system (Gone tick) is = tt
+
+first_frame : (a b : Frame) → Some a ≡ Some b → a ≡ b
+first_frame a b e = cc
+
+have_labels : (system : System) (fs : List Frame) → AreFramesOf system fs → (i : ℕ) (frame : Frame) → slice_get fs i ≡ Some frame → HasLabel frame
+have_labels system [] are i frame at = absurd (cc)
+have_labels system (f ∷ fs) are zero frame at = subst (λ (g : Frame). HasLabel g) (first_frame f frame at) (label_of system f are.0)
+have_labels system (f ∷ fs) are (suc i) frame at = have_labels system fs are.1 i frame at
+
+-- ---- the trace of all frames
+
+all_steps : (most : ℕ) (c : Chasing) (fs : List Frame) → length fs ≤ most → first_steps most c fs ≡ steps_over c fs
+all_steps most c fs within = ap (steps_over c) (take_all most fs within)
+
+lock_of : ChaseLaws → (c : Chasing) → IsChasing c → (fs : List Frame) → HaveLabels fs → GoOn None fs → LosesWithCause c fs
+lock_of laws c is fs have on = record {
+  cause = λ j line at loses. laws.cause c.label c.seed c.bound fs j line is.label have on at loses;
+  no_loss = λ whole small j line at. laws.no_loss c.label c.seed c.bound fs j line is.label have on whole small at;
+  near = λ whole small first j leaves line at_first locked least at.
+      laws.near c.label c.seed c.bound fs first j leaves line is.label have on whole small at_first locked least at;
+}
+
+behind : ChaseLaws → (c : Chasing) → IsChasing c → (input : Recording) (header : Option IntervalHeader) (written : List ℕ) → input.header ≡ header
+    → (IsSpentBehind (chased_recording c) header input.intervals → ⊥) → IsWholeBehind (chased_recording c) header input.intervals written
+    → FollowsTheCode c input written
+behind laws c is input None written e unspent whole = absurd whole
+behind laws c is input (Some header) written e unspent whole =
+    let fs = frames_of c.limit input.intervals whole.events in
+    let heard = words_are header.system whole.events (laws.events header.system Normal input.intervals whole.events whole.are_events) in
+    let have = have_labels header.system fs (laws.labels header.system c.limit (words_heard whole.events) (sum input.intervals) heard) in
+    let within : length fs ≤ MAX_FRAMES = elim (cases_lt MAX_FRAMES (length fs)) [
+      | inl many ↦ absurd (unspent (record {
+        front = input.intervals;
+        more = [];
+        are_front = sym (append-nil input.intervals);
+        events = whole.events;
+        are_events = whole.are_events;
+        too_many = many;
+      }))
+      | inr few ↦ few
+    ] in
+    record {
+      header = header;
+      begins = e;
+      events = whole.events;
+      are_events = whole.are_events;
+      within = within;
+      text = whole.are ∙ ap (trace_text c.label.count) (all_steps MAX_FRAMES c fs within);
+      lock = lock_of laws c is fs have (laws.go_on c.limit (sum input.intervals) (words_heard whole.events));
+    }
+
+pub chase_follows : ChaseLaws → (c : Chasing) → IsChasing c → ChasesTheInput c
+chase_follows laws c is = λ input written unspent whole.
+    behind laws c is (recording_of input) (recording_of input).header written refl unspent whole
+
+-- a job that chases
+pub job_follows : (job : Job) (c : Chasing) → job ≡ LtcChase c → ChasesIfItFollows job → (input written : List ℕ)
+    → (Meaning.spent (meaning_of job) input → ⊥) → Meaning.output (meaning_of job) input written → FollowsTheCode c (recording_of input) written
+job_follows job c is follows input written unspent output =
+    subst (λ (o : Job). ChasesIfItFollows o) is follows input written
+    (subst (λ (o : Job). Meaning.spent (meaning_of o) input → ⊥) is unspent)
+    (subst (λ (o : Job). Meaning.output (meaning_of o) input written) is output)

@@ -1,0 +1,9 @@
+use Rattle.tc_top.specs.Commands.{meaning_of}
+use Rattle.tc_top.proofs.OneStatus.{one_status, status_of_file}
+use Rattle.tc_top.proofs.laws.an_input_has_one_status.Goals as goal
+
+pub returns-clause-one : goal.returns-clause-one
+returns-clause-one c = λ job input a b x y. one_status (meaning_of job) input a b x y
+
+pub returns-clause-file : goal.returns-clause-file
+returns-clause-file c = λ job input status none is. status_of_file job input status none is

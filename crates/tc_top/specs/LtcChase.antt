@@ -1,0 +1,76 @@
+-- `ltc-chase`: the steps of a chase over the frames of a recording; and why such a chase loses its lock.
+use Rattle.std.specs.Prelude.{◌≡◌, ◌≢◌, ℕ, ◌≤◌, List, length, take, slice_get, Some, None, unsigned_abs}
+use Rattle.std.specs.List.{count_by}
+use Rattle.biphase.specs.declared.profile.Profile.TheVariants.{Normal}
+use Rattle.chase_core.specs.declared.report.State.TheVariants.{Locked}
+use Rattle.chase_core.specs.Trace.{Traced}
+use Rattle.chase_script.specs.TraceText.{loses, step_end_line, step_lines, trace_text}
+use Rattle.code_chase.specs.CodeTrace.{code_trace}
+use Rattle.code_chase.specs.Lock.{AreWhole, HasCauseOfLoss}
+use Rattle.direction_reader.specs.declared.event.Event.{Event}
+use Rattle.direction_reader.specs.ListEvents.{AreEvents}
+use Rattle.flywheel.specs.declared.frame.Frame.{Frame}
+use Rattle.tc_files.specs.declared.interval_file.header.IntervalHeader.{IntervalHeader}
+use Rattle.tc_files.specs.Recording.{Recording, recording_of}
+use Rattle.tc_words.specs.declared.job.Job.{Job}
+use Rattle.tc_words.specs.declared.job.Job.TheVariants.{LtcChase}
+use Rattle.tc_words.specs.ChaseRun.{Chasing}
+use Rattle.tc_top.specs.declared.engines.ltc_chase.TheConstants.{MAX_FRAMES}
+use Rattle.tc_top.specs.Along.{IsSpentOf, IsWholeOf, Printing}
+use Rattle.tc_top.specs.OfFrames.{FrameText, along_frames, frames_of}
+
+-- the steps of a chase over these frames
+abbrev pub steps_over : Chasing → List Frame → List Traced
+steps_over c frames = code_trace c.label c.seed c.bound frames
+
+-- those of the first frames, so many at most
+abbrev pub first_steps : ℕ → Chasing → List Frame → List Traced
+first_steps most c frames = steps_over c (take most frames)
+
+-- the lines of the first steps, and the line that counts them; further frames pass the limit
+abbrev pub lines_of_steps : Chasing → FrameText
+lines_of_steps c = record {
+  text = λ header frames. step_lines c.label.count 1 (first_steps MAX_FRAMES c frames);
+  last = λ intervals frames. step_end_line (length (first_steps MAX_FRAMES c frames)) (count_by loses (first_steps MAX_FRAMES c frames));
+  most = Some MAX_FRAMES;
+}
+
+-- what is written
+abbrev pub chased_recording : Chasing → Printing
+chased_recording c = along_frames c.limit (lines_of_steps c)
+
+-- ---- why the lock is lost
+
+-- each loss has its cause: the frame of the step is gone, or has another count, or was heard and does not join the one before it, or the
+-- transport slipped by more than 8 subframes in the step before. So where each frame behind the first is invented or joined and has the chase's
+-- count, and the transport slips by at most 8 subframes, no step has a loss, and from the first step that ends Locked on each error is at most half
+-- a frame
+pub record LosesWithCause (c : Chasing) (frames : List Frame) : Type 0 where
+  pub cause : (j : ℕ) (line : Traced) → slice_get (steps_over c frames) j ≡ Some line → line.report.loss ≢ None
+      → HasCauseOfLoss c.label c.seed c.bound frames j
+  pub no_loss : AreWhole c.label.count frames → c.bound ≤ 8 → (j : ℕ) (line : Traced) → slice_get (steps_over c frames) j ≡ Some line
+      → line.report.loss ≡ None
+  pub near : AreWhole c.label.count frames → c.bound ≤ 8 → (first j : ℕ) (leaves line : Traced)
+      → slice_get (steps_over c frames) first ≡ Some leaves → leaves.report.state ≡ Locked
+      → first ≤ j → slice_get (steps_over c frames) j ≡ Some line
+      → (line.report.state ≡ Locked) × (unsigned_abs line.report.error ≤ 40)
+
+-- what was written is the trace of the chase over all frames of the recording, in which each loss has its cause
+pub record FollowsTheCode (c : Chasing) (input : Recording) (written : List ℕ) : Type 0 where
+  pub header : IntervalHeader
+  pub begins : input.header ≡ Some header
+  pub events : List Event
+  pub are_events : AreEvents header.system Normal input.intervals events
+  pub within : length (frames_of c.limit input.intervals events) ≤ MAX_FRAMES
+  pub text : written ≡ trace_text c.label.count (steps_over c (frames_of c.limit input.intervals events))
+  pub lock : LosesWithCause c (frames_of c.limit input.intervals events)
+
+-- what is written of a whole input is
+abbrev pub ChasesTheInput : Chasing → Type 0
+ChasesTheInput c = (input written : List ℕ) → ¬ IsSpentOf (chased_recording c) (recording_of input)
+    → IsWholeOf (chased_recording c) (recording_of input) written → FollowsTheCode c (recording_of input) written
+
+-- what `ltc-chase` writes is
+abbrev pub ChasesIfItFollows : Job → Type 0
+ChasesIfItFollows (LtcChase c) = ChasesTheInput c
+ChasesIfItFollows _ = Unit {0}

@@ -1,0 +1,77 @@
+//! What `ltc-chase` is told: where the chase begins, how many frames are invented in a row, and how the
+//! transport slips. Next: `tc_top/src/engines/ltc_chase.rt`, which makes it.
+ghost use Rattle.std.specs.Prelude.{◌≡◌};
+ghost use Rattle.tc_words.specs.ChaseRun.{IsChasing, chasing_of};
+
+use std::marker::Model;
+use tc_address::Label;
+
+/// How far a transport may be told to slip in a step, in subframes.
+pub const MAX_SLIP: u32 = 1_000;
+
+/// A chase over the frames of a recording, whose transport slips by chance.
+#[derive(Clone, Copy, Debug, PartialEq, Eq)]
+pub struct ChaseRun {
+    label: Label,
+    limit: u8,
+    seed: u64,
+    bound: u32,
+}
+
+impl Model for ChaseRun {
+    ghost use Rattle.tc_words.specs.ChaseRun.{Chasing, IsChasing, chasing_of};
+
+    ghost Value = { Chasing };
+
+    ghost view = { λ c. record { label = c.label; limit = c.limit; seed = c.seed; bound = c.bound } };
+
+    ghost invariant = { λ c. IsChasing (chasing_of c.label c.limit c.seed c.bound) };
+
+    ghost inverse = { λ c. record { label = c.label; limit = c.limit; seed = c.seed; bound = c.bound } };
+}
+
+impl ChaseRun {
+    /// From this label on, with at most so many invented frames in a row, and slips from this seed of at
+    /// most so many subframes.
+    pub(crate) fn new(label: Label, limit: u8, seed: u64, bound: u32) -> ChaseRun
+        requires { IsChasing (chasing_of label limit seed bound) }
+        ensures { result ≡ chasing_of label limit seed bound }
+    {
+        ChaseRun {
+            label,
+            limit,
+            seed,
+            bound,
+        }
+    }
+
+    /// Where the transport begins, with the count of the chase.
+    pub fn label(&self) -> Label
+        ensures value { result ≡ self.now.label }
+        ensures valid { IsChasing self.now }
+    {
+        self.label
+    }
+
+    /// How many frames are invented in a row, at most.
+    pub fn limit(&self) -> u8
+        ensures { result ≡ self.now.limit }
+    {
+        self.limit
+    }
+
+    /// The seed of the slips.
+    pub fn seed(&self) -> u64
+        ensures { result ≡ self.now.seed }
+    {
+        self.seed
+    }
+
+    /// How far the transport slips in a step at most, in subframes: from 0 to `MAX_SLIP`.
+    pub fn bound(&self) -> u32
+        ensures value { result ≡ self.now.bound }
+        ensures valid { IsChasing self.now }
+    {
+        self.bound
+    }
+}

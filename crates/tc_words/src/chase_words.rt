@@ -1,0 +1,29 @@
+//! The values of `ltc-chase`, word by word. Next: `chase_run`, which holds them.
+ghost use Rattle.std.specs.Prelude.{◌≡◌};
+ghost use Rattle.tc_words.specs.ChaseWords.{chased};
+
+use crate::chase_run::{ChaseRun, MAX_SLIP};
+use crate::fault::WordsFault;
+use crate::job::Job;
+use crate::values::{between, count_in, limit_in, number_in, spelled};
+
+/// The job of five words, or their first fault.
+#[tactic(auto, unfolding(crate::specs::ChaseWords::chased))]
+pub(crate) fn chased(
+    count: &str,
+    label: &str,
+    limit: &str,
+    seed: &str,
+    bound: &str,
+) -> Result<Job, WordsFault>
+    ensures { result ≡ chased count.now label.now limit.now seed.now bound.now }
+{
+    let count = count_in(count).ok_or(WordsFault::Value(1))?;
+    let label = spelled(count, label).ok_or(WordsFault::Value(2))?;
+    let limit = limit_in(limit).ok_or(WordsFault::Value(3))?;
+    let seed = number_in(seed).ok_or(WordsFault::Value(4))?;
+    let bound = between(0, MAX_SLIP, bound).ok_or(WordsFault::Value(5))?;
+    Ok(Job::LtcChase {
+        run: ChaseRun::new(label, limit, seed, bound),
+    })
+}
