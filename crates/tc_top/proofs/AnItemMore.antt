@@ -1,12 +1,13 @@
 -- What an item of an interval file does to a command along it: nothing, a header or an interval more leaves it standing, and else this is
 -- why it stops, whatever bytes follow.
-use Rattle.std.proofs.Common.{◌≡◌, ℕ, inl, inr, ◌+◌, ◌-◌, ◌<◌, ◌≤◌, List, [], ◌∷◌, ◌++◌, length, take, drop, Ok, Err, Bool, true, false, Some, None, refl, sym, ◌∙◌, ap, subst, append_assoc, append-nil, fold, arith, length-append}
-use Rattle.std.specs.Prelude.{nat_lt, if◌then◌else◌, IsSome}
+use Rattle.std.proofs.Common.{◌≡◌, ℕ, inl, inr, ◌+◌, ◌-◌, ◌<◌, ◌≤◌, List, [], ◌∷◌, ◌++◌, length, take, drop, Ok, Err, Bool, true, false, Some, None}
+use Rattle.std.proofs.Common.{refl, sym, ◌∙◌, ap, subst, append_assoc, append-nil, fold, arith, length-append}
+use Rattle.std.specs.Prelude.{nat_lt, if◌then◌else◌}
 use Rattle.std.proofs.lemmas.List.{take-append-drop}
 use Rattle.std.specs.declared.option.Option.{Option}
 use Rattle.std.specs.Io.KnownBytes.{Appends}
 use Rattle.std.proofs.KnownBytes.{Appends-nil, Appends-trans}
-use Rattle.std.proofs.lemmas.Bool.{lt-ltb, le-ltb, false≢true}
+use Rattle.std.proofs.lemmas.Bool.{lt-ltb, le-ltb}
 use Rattle.tc_io.specs.Sink.{AppendsFront, IsFront}
 use Rattle.direction_reader.specs.declared.reader.TheConstants.{MAX_INTERVALS}
 use Rattle.tc_files.specs.declared.fault.FileFault.{FileFault}
@@ -24,9 +25,9 @@ use Rattle.tc_top.specs.declared.stop.Stop.{Stop}
 use Rattle.tc_top.specs.declared.stop.Stop.TheVariants.{Refused, ReadFault, WriteFault, Limit}
 use Rattle.tc_top.specs.Along.{Printing, IsPartOf, IsSpentOf, along_intervals}
 use Rattle.tc_top.specs.Causes.{OutCause}
-use Rattle.tc_top.specs.KeptAlong.{HasHeader, IntervalStops, Printed, Stands, longer, printed_well, stop_at, Halts, IsHalt}
+use Rattle.tc_top.specs.KeptAlong.{HasHeader, IntervalStops, Printed, Stands, longer, stop_at, Halts, IsHalt}
 use Rattle.tc_top.specs.Status.{status_of}
-use Rattle.tc_top.specs.Stops.{IsStop, Stops}
+use Rattle.tc_top.specs.Stops.{Stops}
 use Rattle.tc_top.proofs.AlongTheInput.{cut_at}
 use Rattle.tc_top.proofs.VerdictStays.{good_step, more_bytes, past_stays, refused_stays}
 
@@ -221,7 +222,8 @@ pub by_byte : (decoder : Progress) (front : List ℕ) (byte : ℕ) (item : Taken
     → Completes front (byte ∷ []) item (after decoder byte)
 by_byte decoder front byte item same says =
     subst (λ (i : Taken). decoding_of (front ++ byte ∷ []) ≡ record { progress = after decoder byte; recording = with_taken (recording_of front) i }) (sym says)
-    (subst (λ (p : Progress). decoding_of (front ++ byte ∷ []) ≡ record { progress = after p byte; recording = with_taken (recording_of front) (answer p byte) })
+    (subst (λ (p : Progress). decoding_of (front ++ byte ∷ []) ≡ record { progress = after p byte;
+        recording = with_taken (recording_of front) (answer p byte) })
     (sym same) (more_bytes front (byte ∷ [])))
 
 -- why an interval stops the command
@@ -358,14 +360,16 @@ pub by_number : (decoder : Progress) (front bytes : List ℕ) (width x : ℕ) �
     → fold with_byte (decoding_of front) bytes ≡ with_number (decoding_of front) width (Ok x)
     → Completes front bytes (Interval x) (record decoder { taken = decoder.taken + width })
 by_number decoder front bytes width x same is =
-    subst (λ (p : Progress). decoding_of (front ++ bytes) ≡ record { progress = record p { taken = p.taken + width }; recording = with_taken (recording_of front) (Interval x) })
+    subst (λ (p : Progress). decoding_of (front ++ bytes) ≡ record { progress = record p { taken = p.taken + width };
+        recording = with_taken (recording_of front) (Interval x) })
     (sym same) (more_bytes front bytes ∙ is)
 
 pub by_bad_number : (decoder : Progress) (front bytes : List ℕ) (width : ℕ) (f : FileFault) → decoder ≡ (decoding_of front).progress
     → fold with_byte (decoding_of front) bytes ≡ with_number (decoding_of front) width (Err f)
     → Completes front bytes (Fault f) (record decoder { taken = decoder.taken + width; fault = Some f })
 by_bad_number decoder front bytes width f same is =
-    subst (λ (p : Progress). decoding_of (front ++ bytes) ≡ record { progress = record p { taken = p.taken + width; fault = Some f }; recording = with_taken (recording_of front) (Fault f) })
+    subst (λ (p : Progress). decoding_of (front ++ bytes) ≡ record { progress = record p { taken = p.taken + width; fault = Some f };
+        recording = with_taken (recording_of front) (Fault f) })
     (sym same) (more_bytes front bytes ∙ is)
 
 -- whole intervals and more of them are whole intervals
