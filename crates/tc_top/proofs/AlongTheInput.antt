@@ -12,7 +12,7 @@ use Rattle.std.proofs.KnownBytes.{Appends-trans, Appends-nil, Consumes-trans}
 use Rattle.tc_top.specs.Meaning.{Meaning}
 use Rattle.tc_top.specs.declared.stop.Stop.{Stop}
 use Rattle.tc_top.specs.declared.stop.Stop.TheVariants.{Refused, ReadFault, WriteFault, Limit}
-use Rattle.tc_top.specs.Stops.{IsStop, Stops, IsEndStop, StopsAlong}
+use Rattle.tc_top.specs.Stops.{IsStop, IsEndStop, StopsAlong}
 
 -- bytes that were worked on take each state and output to a later state and a longer output
 abbrev pub Works : (List ℕ → List ℕ → Type 0) → (List ℕ → List ℕ → Type 0) → Option (List ℕ) → Option (List ℕ) → List ℕ → Type 0

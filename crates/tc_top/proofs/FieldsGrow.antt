@@ -1,15 +1,13 @@
 -- The lines of fields grow by the line of the field that bytes complete, and the last line counts all of them.
-use Rattle.std.proofs.Common.{◌≡◌, ℕ, ◌+◌, ◌≤◌, List, [], ◌∷◌, ◌++◌, length, take, drop, count_by, Bool, cond, refl, sym, ◌∙◌, ap, ap₂, arith, subst}
+use Rattle.std.proofs.Common.{◌≡◌, ℕ, ◌+◌, List, [], ◌∷◌, ◌++◌, length, count_by, Bool, cond, refl, sym, ◌∙◌, ap, ap₂, arith, subst}
 use Rattle.std.proofs.Common.{append_assoc, append-nil}
 use Rattle.std.specs.declared.option.Option.{Option}
-use Rattle.std.specs.Prelude.{Some, None}
 use Rattle.std.proofs.lemmas.List.{length-append}
 use Rattle.std.proofs.lemmas.List.Sums.{sum_by-append, sum_by-cons}
 use Rattle.vitc_reader.specs.declared.field.FieldAnswer.{FieldAnswer}
 use Rattle.vitc_reader.specs.declared.field.FieldAnswer.TheVariants.{NoLine, Agreed, Conflict, Nothing}
 use Rattle.tc_files.specs.Verdict.{good}
 use Rattle.tc_io.specs.Sink.{AppendsFront}
-use Rattle.line_file.specs.Answers.{AreAnswersOf}
 use Rattle.line_file.specs.LineFile.{reading_of}
 use Rattle.line_file.specs.StandsFor as reads
 use Rattle.line_file.specs.StandsFor.{Decoding, IsTold}

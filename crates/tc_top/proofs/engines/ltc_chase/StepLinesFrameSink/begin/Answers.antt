@@ -1,4 +1,4 @@
-use Rattle.std.proofs.Common.{[], ◌∙◌, ap, ap₂, sym, subst, refl, ℕ, List}
+use Rattle.std.proofs.Common.{◌∙◌, ap, ap₂, sym, subst, refl, ℕ, List}
 use Rattle.std.specs.Io.KnownBytes.{Appends}
 use Rattle.std.proofs.KnownBytes.{Appends-nil}
 use Rattle.code_chase.specs.CodeTrace.{begun_at}

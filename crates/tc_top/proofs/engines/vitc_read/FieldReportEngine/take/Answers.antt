@@ -1,4 +1,4 @@
-use Rattle.std.proofs.Common.{inl, ◌++◌, ◌∙◌, [], take, drop, sym, refl, append-nil}
+use Rattle.std.proofs.Common.{inl, ◌∙◌, [], take, drop, sym, refl, append-nil}
 use Rattle.std.proofs.KnownBytes.{Appends-nil}
 use Rattle.std.proofs.lemmas.List.{take-append-drop}
 use Rattle.line_file.specs.Texts.{field_line}
