@@ -41,8 +41,8 @@ cut_through k n m bytes within less =
 
 -- within the limit an interval out of range is refused
 pub a_refusal : {B C : Type 0} (p : Printing) (stands : Relation B C)
-    → (decoder next : Progress) (behind : Option B) (count : ℕ) (choice : C) (f : FileFault) (front bytes rest written : List ℕ) → count < MAX_INTERVALS
-    → Stands stands decoder behind count choice front written → Completes front bytes (Fault f) next
+    → (decoder next : Progress) (behind : Option B) (count : ℕ) (choice : C) (f : FileFault) (front bytes rest written : List ℕ)
+    → count < MAX_INTERVALS → Stands stands decoder behind count choice front written → Completes front bytes (Fault f) next
     → IsHalt p stands behind choice (Refused f) (front ++ (bytes ++ rest)) (written ++ [])
 a_refusal p stands decoder next behind count choice f front bytes rest written below s is =
     let refused : stop_at count f ≡ Refused f = rw (lt-ltb count MAX_INTERVALS below) refl in
