@@ -1,5 +1,6 @@
 -- A decoder that takes a header, a field or a part of one stands for the bytes with those that it took.
-use Rattle.std.proofs.Common.{false, ◌≡◌, ℕ, zero, suc, ◌+◌, ◌-◌, ◌<◌, ◌≤◌, List, [], ◌∷◌, ◌++◌, Some, None, length, take, drop, refl, sym, ap, ◌∙◌, arith, subst, append_assoc, append-nil, inl, inr}
+use Rattle.std.proofs.Common.{false, ◌≡◌, ℕ, zero, suc, ◌+◌, ◌-◌, ◌<◌, ◌≤◌, List, [], ◌∷◌, ◌++◌, Some, None, length, take, drop, refl, sym, ap, ◌∙◌}
+use Rattle.std.proofs.Common.{arith, subst, append_assoc, append-nil, inl, inr}
 use Rattle.std.specs.declared.option.Option.{Option}
 use Rattle.std.proofs.lemmas.Bool.{cases_lt}
 use Rattle.std.proofs.lemmas.List.{take-append-drop, take-append-le, take-take, length-append, length-take-le, drop_at}
@@ -11,7 +12,8 @@ use Rattle.line_file.specs.declared.decoder.TheConstants.{MAX_FIELDS}
 use Rattle.line_file.specs.declared.header.LineHeader.{LineHeader}
 use Rattle.line_file.specs.declared.header.TheConstants.{HEADER_LENGTH}
 use Rattle.line_file.specs.Answers.{AreAnswers}
-use Rattle.line_file.specs.LineFile.{Front, whole, short, bad, header_at, field_at, field_width, Fields, no_field, with_field, fields_at, Reading, with_fields, behind_header, reading_of, no_header}
+use Rattle.line_file.specs.LineFile.{Front, whole, short, bad, header_at, field_at, field_width, Fields, no_field, with_field, fields_at, Reading}
+use Rattle.line_file.specs.LineFile.{with_fields, behind_header, reading_of, no_header}
 use Rattle.line_file.specs.StandsFor.{decoding_of, reading_behind, Waits, StandsFor, IsTold}
 use Rattle.line_file.proofs.FaultsStay.{field_stays}
 use Rattle.line_file.proofs.FieldByField.{fields_by, fields_behind}
@@ -76,7 +78,8 @@ answered_more header (f ∷ fields) [] lines answer are is = absurd are
 answered_more header (f ∷ fields) (a ∷ answers) lines answer are is = (are.0, answered_more header fields answers lines answer are.1 is)
 
 -- a field
-pub field_taken : (header : LineHeader) (place count : ℕ) (part front chunk piece : List ℕ) (answers : List FieldAnswer) (lines : List (List ℕ)) (answer : FieldAnswer) (bytes : List ℕ)
+pub field_taken : (header : LineHeader) (place count : ℕ) (part front chunk piece : List ℕ) (answers : List FieldAnswer) (lines : List (List ℕ))
+    (answer : FieldAnswer) (bytes : List ℕ)
     → StandsFor (decoding_of (Some header) place count part) front answers → count < MAX_FIELDS → field_at place bytes ≡ whole lines
     → piece ≡ take (field_width lines) bytes → piece ≡ part ++ chunk → IsAnswer header.system header.length lines answer
     → StandsFor (decoding_of (Some header) (place + field_width lines) (count + 1) []) (front ++ chunk) (answers ++ answer ∷ [])
@@ -158,7 +161,8 @@ IsBad (Some header) place count bytes f = (count < MAX_FIELDS) × (field_at plac
 
 -- the bytes with others behind them
 read_on : (header : Option LineHeader) (place count : ℕ) (part front rest : List ℕ) (answers : List FieldAnswer)
-    → (s : StandsFor (decoding_of header place count part) front answers) → reading_of (front ++ rest) ≡ reading_behind header place count s.fields (part ++ rest)
+    → (s : StandsFor (decoding_of header place count part) front answers) → reading_of (front ++ rest)
+        ≡ reading_behind header place count s.fields (part ++ rest)
 read_on header place count part front rest answers s =
     ap reading_of (ap (λ (l : List ℕ). l ++ rest) s.split ∙ append_assoc s.before part rest) ∙ s.follows (part ++ rest)
 
@@ -166,20 +170,24 @@ told_as : (r other : Reading) (verdict : Verdict) (answers : List FieldAnswer) �
 told_as r other verdict answers e told = subst (λ (x : Reading). IsTold x verdict answers) (sym e) told
 
 -- no field is complete with the rest
-none_more : (header : LineHeader) (fields : List (List (List ℕ))) (answers : List FieldAnswer) (verdict : Verdict) (f : Fields) → AreAnswers header fields answers
+none_more : (header : LineHeader) (fields : List (List (List ℕ))) (answers : List FieldAnswer) (verdict : Verdict) (f : Fields)
+    → AreAnswers header fields answers
     → f.verdict ≡ verdict → f.fields ≡ [] → IsTold (with_fields header fields f) verdict answers
 none_more header fields answers verdict f are is none =
-    (is, subst (λ (fs : List (List (List ℕ))). AreAnswers header fs answers) (sym (ap (λ (fs : List (List (List ℕ))). fields ++ fs) none ∙ append-nil fields)) are)
+    (is, subst (λ (fs : List (List (List ℕ))). AreAnswers header fs answers) (sym
+        (ap (λ (fs : List (List (List ℕ))). fields ++ fs) none ∙ append-nil fields)) are)
 
 -- a fault of a field
-field_told : (header : LineHeader) (place count : ℕ) (fields : List (List (List ℕ))) (answers : List FieldAnswer) (bytes more : List ℕ) (f : FileFault) → AreAnswers header fields answers
+field_told : (header : LineHeader) (place count : ℕ) (fields : List (List (List ℕ))) (answers : List FieldAnswer) (bytes more : List ℕ)
+    (f : FileFault) → AreAnswers header fields answers
     → count < MAX_FIELDS → field_at place bytes ≡ bad f → IsTold (reading_behind (Some header) place count fields (bytes ++ more)) (refused f) answers
 field_told header place count fields answers [] more f are room e = absurd cc
 field_told header place count fields answers (byte ∷ rest) more f are room e =
     let left = MAX_FIELDS - (count + 1) in
     let one : MAX_FIELDS - count ≡ suc left = omega (arith, room) in
     let read = fields_by left place (byte ∷ (rest ++ more)) (bad f) (omega arith) (field_stays place (byte ∷ rest) more f e) in
-    rw one (none_more header fields answers (refused f) (fields_at (suc left) place (byte ∷ (rest ++ more))) are (ap (λ (x : Fields). x.verdict) read) (ap (λ (x : Fields). x.fields) read))
+    rw one (none_more header fields answers (refused f) (fields_at (suc left) place (byte ∷ (rest ++ more))) are (ap (λ (x : Fields). x.verdict) read)
+        (ap (λ (x : Fields). x.fields) read))
 
 -- a fault
 pub fault_told : (header : Option LineHeader) (place count : ℕ) (part front chunk more : List ℕ) (answers : List FieldAnswer) (f : FileFault)
@@ -214,7 +222,8 @@ limit_told header place count part front bytes answers s full some =
     told_as _ _ past_limit answers all
     (rw left (past_told header place s.fields answers (part ++ bytes) s.answered (omega (arith, some, length-append part bytes))))
 
-good_told : (header : LineHeader) (place count : ℕ) (fields : List (List (List ℕ))) (answers : List FieldAnswer) (part : List ℕ) → AreAnswers header fields answers
+good_told : (header : LineHeader) (place count : ℕ) (fields : List (List (List ℕ))) (answers : List FieldAnswer) (part : List ℕ)
+    → AreAnswers header fields answers
     → Waits (Some header) place count part → IsTold (reading_behind (Some header) place count fields part) good answers
 unfolding fields_at
 good_told header place count fields answers [] are waits = none_more header fields answers good (fields_at (MAX_FIELDS - count) place []) are refl refl
@@ -223,7 +232,8 @@ good_told header place count fields answers (byte ∷ rest) are waits =
     let room = waits.0 in
     let one : MAX_FIELDS - count ≡ suc left = omega (arith, room) in
     let read = fields_by left place (byte ∷ rest) short (omega arith) waits.1 in
-    rw one (none_more header fields answers good (fields_at (suc left) place (byte ∷ rest)) are (ap (λ (x : Fields). x.verdict) read) (ap (λ (x : Fields). x.fields) read))
+    rw one (none_more header fields answers good (fields_at (suc left) place (byte ∷ rest)) are (ap (λ (x : Fields). x.verdict) read)
+        (ap (λ (x : Fields). x.fields) read))
 
 -- bytes that were taken are good
 pub told_good : (header : Option LineHeader) (place count : ℕ) (part front : List ℕ) (answers : List FieldAnswer)

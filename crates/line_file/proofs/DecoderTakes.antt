@@ -1,5 +1,6 @@
 -- What a decoder takes of the bytes that were pulled, by what stands at the front of those that it kept and these.
-use Rattle.std.proofs.Common.{true, false, ◌≡◌, ℕ, zero, suc, ◌+◌, ◌-◌, ◌<◌, ◌≤◌, Bool, List, [], ◌∷◌, ◌++◌, Some, None, length, take, drop, refl, ap, ◌∙◌, arith, subst}
+use Rattle.std.proofs.Common.{true, false, ◌≡◌, ℕ, zero, suc, ◌+◌, ◌-◌, ◌<◌, ◌≤◌, Bool, List, [], ◌∷◌, ◌++◌, Some, None, length, take, drop, refl, ap}
+use Rattle.std.proofs.Common.{◌∙◌, arith, subst}
 use Rattle.std.specs.Prelude.{is_some, if◌then◌else◌}
 use Rattle.std.specs.declared.option.Option.{Option}
 use Rattle.std.proofs.lemmas.List.{length-append, take-append-drop}
@@ -12,7 +13,8 @@ use Rattle.line_file.specs.declared.decoder.Piece.TheVariants as pieces
 use Rattle.line_file.specs.declared.decoder.TheConstants.{MAX_FIELDS, FIELD_ROOM}
 use Rattle.line_file.specs.declared.header.LineHeader.{LineHeader}
 use Rattle.line_file.specs.KeptFront.{IsPiece}
-use Rattle.line_file.specs.LineFile.{Front, whole, short, header_at, field_at, field_width, Fields, fields_at, Reading, reading_of, behind_header, no_header, end_fault_of}
+use Rattle.line_file.specs.LineFile.{Front, whole, short, header_at, field_at, field_width, Fields, fields_at, Reading, reading_of, behind_header}
+use Rattle.line_file.specs.LineFile.{no_header, end_fault_of}
 use Rattle.line_file.specs.LineHeader.{IsHeader}
 use Rattle.line_file.specs.StandsFor.{decoding_of, Waits, StandsFor, Adds, IsTold}
 use Rattle.line_file.proofs.DecoderMore.{IsBad, part_less, piece_bytes, field_taken, header_taken, part_taken, fault_told, limit_told}
@@ -72,12 +74,14 @@ at_field (Some header) place count part chunk answer width waits is =
       within = omega (arith, within, same);
     }
 
-pub at_short : (o : Option LineHeader) (place count : ℕ) (part bytes : List ℕ) → Waits o place count part → IsPiece o place count bytes pieces.Short → Waits o place count bytes
+pub at_short : (o : Option LineHeader) (place count : ℕ) (part bytes : List ℕ) → Waits o place count part → IsPiece o place count bytes pieces.Short
+    → Waits o place count bytes
 at_short None place count part bytes waits is = (waits.0, is)
 at_short (Some header) place count part [] waits is = tt
 at_short (Some header) place count part (byte ∷ more) waits is = is
 
-pub at_fault : (o : Option LineHeader) (place count : ℕ) (bytes : List ℕ) (f : FileFault) → IsPiece o place count bytes (pieces.Fault f) → IsBad o place count bytes f
+pub at_fault : (o : Option LineHeader) (place count : ℕ) (bytes : List ℕ) (f : FileFault) → IsPiece o place count bytes (pieces.Fault f)
+    → IsBad o place count bytes f
 at_fault None place count bytes f is = is
 at_fault (Some header) place count bytes f is = is
 
@@ -99,9 +103,11 @@ taken_less part bytes c =
     omega (arith, all, less)
   where
     less_taken : (c : ℕ) (bytes : List ℕ) → length (take c bytes) ≤ length bytes
-    less_taken c bytes = let cut = take-append-drop c bytes in let sum = length-append (take c bytes) (drop c bytes) in let same = ap length cut in omega (arith, sum, same)
+    less_taken c bytes = let cut = take-append-drop c bytes in let sum = length-append (take c bytes) (drop c bytes) in let same = ap length cut
+        in omega (arith, sum, same)
 
-pub header_added : (o : Option LineHeader) (place count : ℕ) (part bytes : List ℕ) (c : ℕ) (header : LineHeader) → AtHeader o place part (part ++ take c bytes) header
+pub header_added : (o : Option LineHeader) (place count : ℕ) (part bytes : List ℕ) (c : ℕ) (header : LineHeader)
+    → AtHeader o place part (part ++ take c bytes) header
     → Adds (decoding_of o place count part) (decoding_of (Some header) (place + 12) count []) bytes (12 - length part) []
 header_added o place count part bytes c header s =
     let kept = s.kept in
@@ -114,7 +120,8 @@ header_added o place count part bytes c header s =
       fields = omega arith;
       stands = λ front answers stands.
           let none : StandsFor (decoding_of None place count part) front answers = rw s.none at stands in
-          header_taken header place count part front (take (12 - length part) bytes) (take 12 (part ++ take c bytes)) answers (part ++ take c bytes) none s.read refl
+          header_taken header place count part front (take (12 - length part) bytes) (take 12 (part ++ take c bytes)) answers (part ++ take c bytes)
+              none s.read refl
           (piece_bytes part bytes c 12 (omega (arith, kept)) whole_there);
     }
 
@@ -133,7 +140,8 @@ field_added o place count part bytes c answer width s =
       stands = λ front answers stands.
           let is : StandsFor (decoding_of (Some s.header) place count part) front answers = rw s.some at stands in
           let piece = piece_bytes part bytes c width (omega (arith, kept)) within in
-          let own : take width (part ++ take c bytes) ≡ take (field_width s.lines) (part ++ take c bytes) = ap (λ (n : ℕ). take n (part ++ take c bytes)) s.width_is in
+          let own : take width (part ++ take c bytes) ≡ take (field_width s.lines) (part ++ take c bytes) = ap
+              (λ (n : ℕ). take n (part ++ take c bytes)) s.width_is in
           let taken = field_taken s.header place count part front (take (width - length part) bytes) (take width (part ++ take c bytes)) answers s.lines answer
           (part ++ take c bytes) is s.room s.read own piece s.says in
           rw (s.some, s.width_is) (rw s.width_is at taken);
@@ -160,7 +168,8 @@ part_added o place count part bytes c some within waits =
 -- ---- what ends the reading
 
 pub fault_there : (o : Option LineHeader) (place count : ℕ) (part front bytes : List ℕ) (c : ℕ) (answers : List FieldAnswer) (f : FileFault)
-    → StandsFor (decoding_of o place count part) front answers → IsBad o place count (part ++ take c bytes) f → IsTold (reading_of (front ++ bytes)) (refused f) answers
+    → StandsFor (decoding_of o place count part) front answers → IsBad o place count (part ++ take c bytes) f
+        → IsTold (reading_of (front ++ bytes)) (refused f) answers
 fault_there o place count part front bytes c answers f s is =
     subst (λ (l : List ℕ). IsTold (reading_of (front ++ l)) (refused f) answers) (take-append-drop c bytes)
     (fault_told o place count part front (take c bytes) (drop c bytes) answers f s is)
@@ -173,17 +182,20 @@ limit_there (Some header) place count part front bytes next answers s is some = 
 
 -- ---- the end of the input
 
-ends : (bytes : List ℕ) (r : Reading) (b : Bool) → reading_of bytes ≡ r → r.is_whole ≡ b → end_fault_of bytes ≡ (if b then None else Some (fault.Truncated (length bytes)))
+ends : (bytes : List ℕ) (r : Reading) (b : Bool) → reading_of bytes ≡ r → r.is_whole ≡ b → end_fault_of bytes
+    ≡ (if b then None else Some (fault.Truncated (length bytes)))
 ends bytes r b is say = ap (λ (x : Bool). if x then None else Some (fault.Truncated (length bytes))) (ap (λ (x : Reading). x.is_whole) is ∙ say)
 
-pub end_there : (o : Option LineHeader) (place count : ℕ) (part bytes : List ℕ) (answers : List FieldAnswer) → StandsFor (decoding_of o place count part) bytes answers
+pub end_there : (o : Option LineHeader) (place count : ℕ) (part bytes : List ℕ) (answers : List FieldAnswer)
+    → StandsFor (decoding_of o place count part) bytes answers
     → is_some o ≡ true → length part ≡ 0 → end_fault_of bytes ≡ None
 unfolding fields_at
 end_there None place count part bytes answers s some none = absurd cc
 end_there (Some header) place count [] bytes answers s some none = ends bytes _ true (ap reading_of s.split ∙ s.follows []) refl
 end_there (Some header) place count (byte ∷ more) bytes answers s some none = absurd (omega (arith, none))
 
-truncated : (o : Option LineHeader) (place count : ℕ) (part bytes : List ℕ) (answers : List FieldAnswer) → StandsFor (decoding_of o place count part) bytes answers
+truncated : (o : Option LineHeader) (place count : ℕ) (part bytes : List ℕ) (answers : List FieldAnswer)
+    → StandsFor (decoding_of o place count part) bytes answers
     → end_fault_of bytes ≡ Some (fault.Truncated (length bytes)) → end_fault_of bytes ≡ Some (fault.Truncated (place + length part))
 truncated o place count part bytes answers s e =
     let at = s.place in
@@ -191,7 +203,8 @@ truncated o place count part bytes answers s e =
     let sum = length-append s.before part in
     e ∙ ap (λ (n : ℕ). Some (fault.Truncated n)) (omega (arith, at, all, sum))
 
-pub no_end_there : (o : Option LineHeader) (place count : ℕ) (part bytes : List ℕ) (answers : List FieldAnswer) → StandsFor (decoding_of o place count part) bytes answers
+pub no_end_there : (o : Option LineHeader) (place count : ℕ) (part bytes : List ℕ) (answers : List FieldAnswer)
+    → StandsFor (decoding_of o place count part) bytes answers
     → (is_some o ≡ true → length part ≡ 0 → ⊥) → end_fault_of bytes ≡ Some (fault.Truncated (place + length part))
 no_end_there None place count part bytes answers s not_whole =
     truncated None place count part bytes answers s

@@ -11,7 +11,8 @@ use Rattle.line_file.specs.declared.decoder.TheConstants.{MAX_FIELDS}
 use Rattle.line_file.specs.declared.header.LineHeader.{LineHeader}
 use Rattle.line_file.specs.declared.header.TheConstants.{HEADER_LENGTH}
 use Rattle.line_file.specs.Answers.{AreAnswers, AreAnswersOf}
-use Rattle.line_file.specs.LineFile.{Front, whole, short, bad, header_at, field_at, field_width, Fields, with_field, field_then, fields_at, behind_header, reading_of}
+use Rattle.line_file.specs.LineFile.{Front, whole, short, bad, header_at, field_at, field_width, Fields, with_field, field_then, fields_at}
+use Rattle.line_file.specs.LineFile.{behind_header, reading_of}
 use Rattle.line_file.proofs.FaultsStay.{field_stays}
 use Rattle.line_file.proofs.HeaderBytes.{header_valid, header_more, header_stays, whole_header}
 use Rattle.line_file.proofs.OwnBytes.{own_field, field_more}
@@ -44,7 +45,8 @@ fields_behind left place bytes more lines e =
 
 -- ---- what bytes show, more bytes show
 
-stay_by : (left place : ℕ) (bytes more : List ℕ) (verdict : Verdict) (v : Front (List (List ℕ))) → (verdict ≡ good → ⊥) → 1 ≤ length bytes → field_at place bytes ≡ v
+stay_by : (left place : ℕ) (bytes more : List ℕ) (verdict : Verdict) (v : Front (List (List ℕ))) → (verdict ≡ good → ⊥) → 1 ≤ length bytes
+    → field_at place bytes ≡ v
     → (field_then v (after_field left place bytes)).verdict ≡ verdict
     → ((w : ℕ) → (fields_at left (place + w) (drop w bytes)).verdict ≡ verdict → (fields_at left (place + w) (drop w bytes ++ more)).verdict ≡ verdict)
     → (fields_at (suc left) place (bytes ++ more)).verdict ≡ verdict
@@ -70,7 +72,8 @@ fields_stay (suc left) place (byte ∷ rest) more verdict not_good e =
     stay_by left place (byte ∷ rest) more verdict (field_at place (byte ∷ rest)) not_good (omega arith) refl e
     (λ w. fields_stay left (place + w) (drop w (byte ∷ rest)) more verdict not_good)
 
-reading_by : (bytes more : List ℕ) (verdict : Verdict) (v : Front LineHeader) → (verdict ≡ good → ⊥) → header_at bytes ≡ v → (behind_header v bytes).verdict ≡ verdict
+reading_by : (bytes more : List ℕ) (verdict : Verdict) (v : Front LineHeader) → (verdict ≡ good → ⊥) → header_at bytes ≡ v
+    → (behind_header v bytes).verdict ≡ verdict
     → (reading_of (bytes ++ more)).verdict ≡ verdict
 reading_by bytes more verdict (whole header) not_good is e =
     let least = whole_header bytes header is in
@@ -83,7 +86,8 @@ reading_by bytes more verdict (bad f) not_good is e =
     ap (λ (v : Front LineHeader). (behind_header v (bytes ++ more)).verdict) (header_stays bytes more f is) ∙ e
 
 -- a fault and the limit stay
-pub reading_stays : (bytes more : List ℕ) (verdict : Verdict) → (verdict ≡ good → ⊥) → (reading_of bytes).verdict ≡ verdict → (reading_of (bytes ++ more)).verdict ≡ verdict
+pub reading_stays : (bytes more : List ℕ) (verdict : Verdict) → (verdict ≡ good → ⊥) → (reading_of bytes).verdict ≡ verdict
+    → (reading_of (bytes ++ more)).verdict ≡ verdict
 reading_stays bytes more verdict not_good e = reading_by bytes more verdict (header_at bytes) not_good refl e
 
 pub refused_not_good : (f : FileFault) → refused f ≡ good → ⊥
@@ -96,9 +100,11 @@ past_not_good e = absurd cc
 
 -- what the law of fields says
 abbrev pub OneAnswer : Type 0
-OneAnswer = (system : System) (n : ℕ) (lines : List (List ℕ)) (a b : FieldAnswer) → IsLineLength n → IsAnswer system n lines a → IsAnswer system n lines b → a ≡ b
+OneAnswer = (system : System) (n : ℕ) (lines : List (List ℕ)) (a b : FieldAnswer) → IsLineLength n → IsAnswer system n lines a
+    → IsAnswer system n lines b → a ≡ b
 
-one_list : OneAnswer → (header : LineHeader) (fields : List (List (List ℕ))) (a b : List FieldAnswer) → IsLineLength header.length → AreAnswers header fields a → AreAnswers header fields b
+one_list : OneAnswer → (header : LineHeader) (fields : List (List (List ℕ))) (a b : List FieldAnswer) → IsLineLength header.length
+    → AreAnswers header fields a → AreAnswers header fields b
     → a ≡ b
 one_list law header [] [] [] valid x y = refl
 one_list law header [] [] (b ∷ bs) valid x y = absurd y

@@ -1,5 +1,6 @@
 -- A file that was written is read as its header and its fields: each piece is in its range, so the reading goes on behind it.
-use Rattle.std.proofs.Common.{true, false, ◌≡◌, ℕ, zero, suc, ◌+◌, ◌*◌, ◌%◌, ◌<◌, ◌≤◌, List, [], ◌∷◌, ◌++◌, Some, length, drop, refl, ap, ◌∙◌, arith, append_assoc}
+use Rattle.std.proofs.Common.{true, false, ◌≡◌, ℕ, zero, suc, ◌+◌, ◌*◌, ◌%◌, ◌<◌, ◌≤◌, List, [], ◌∷◌, ◌++◌, Some, length, drop, refl, ap, ◌∙◌, arith}
+use Rattle.std.proofs.Common.{append_assoc}
 use Rattle.std.specs.Prelude.{◌==◌}
 use Rattle.std.specs.List.{flat_map}
 use Rattle.std.proofs.lemmas.Bool.{and_from, eq-eqb, le-leb, ne_eqb}
@@ -13,7 +14,8 @@ use Rattle.line_file.specs.declared.field.TheConstants.{MAX_LINES, MAX_RUNS}
 use Rattle.line_file.specs.declared.header.LineHeader.{LineHeader}
 use Rattle.line_file.specs.declared.header.TheConstants.{HEADER_LENGTH, MIN_LINE_LENGTH, MAX_LINE_LENGTH}
 use Rattle.line_file.specs.Grammar.{line_bytes, field_bytes, file_of, AreRuns, AreLines, AreFields}
-use Rattle.line_file.specs.LineFile.{Front, whole, with_first, runs_at, is_run_count, line_at, line_width, lines_at, lines_width, field_at, field_width, Fields, with_field, fields_at, with_fields, behind_header, header_at, header_with, reading_of}
+use Rattle.line_file.specs.LineFile.{Front, whole, with_first, runs_at, is_run_count, line_at, line_width, lines_at, lines_width, field_at}
+use Rattle.line_file.specs.LineFile.{field_width, Fields, with_field, fields_at, with_fields, behind_header, header_at, header_with, reading_of}
 use Rattle.line_file.specs.LineHeader.{IsHeader, header_bytes}
 use Rattle.tc_address.specs.declared.system.System.{System}
 use Rattle.tc_address.specs.declared.system.System.TheVariants.{F24, F25, F30}
@@ -56,10 +58,12 @@ line_length runs = let h = runs_bytes runs in omega (arith, h)
 
 -- ---- lines
 
-lines_by : (left place : ℕ) (bytes runs : List ℕ) → line_at place bytes ≡ whole runs → lines_at (suc left) place bytes ≡ with_first runs (after_line left place bytes runs)
+lines_by : (left place : ℕ) (bytes runs : List ℕ) → line_at place bytes ≡ whole runs → lines_at (suc left) place bytes
+    ≡ with_first runs (after_line left place bytes runs)
 lines_by left place bytes runs e = rw e refl
 
-lines_read : (place : ℕ) (lines : List (List ℕ)) (more : List ℕ) → AreLines lines → lines_at (length lines) place (flat_map line_bytes lines ++ more) ≡ whole lines
+lines_read : (place : ℕ) (lines : List (List ℕ)) (more : List ℕ) → AreLines lines → lines_at (length lines) place (flat_map line_bytes lines ++ more)
+    ≡ whole lines
 lines_read place [] more are = refl
 lines_read place (runs ∷ lines) more are =
     let one : length (runs ∷ lines) ≡ suc (length lines) = omega arith in
@@ -81,7 +85,8 @@ lines_length (runs ∷ lines) =
 
 -- ---- fields
 
-field_read : (place : ℕ) (lines : List (List ℕ)) (more : List ℕ) → length lines ≤ MAX_LINES → AreLines lines → field_at place (field_bytes lines ++ more) ≡ whole lines
+field_read : (place : ℕ) (lines : List (List ℕ)) (more : List ℕ) → length lines ≤ MAX_LINES → AreLines lines
+    → field_at place (field_bytes lines ++ more) ≡ whole lines
 field_read place lines more few are = rw (le-leb (length lines) MAX_LINES few, lines_read (place + 1) lines more are) refl
 
 field_length : (lines : List (List ℕ)) → length (field_bytes lines) ≡ field_width lines
@@ -90,7 +95,8 @@ field_length lines = let h = lines_length lines in omega (arith, h)
 abbrev whole_fields : List (List (List ℕ)) → Fields
 whole_fields fields = record { fields = fields; verdict = good; is_whole = true }
 
-fields_read : (left place : ℕ) (fields : List (List (List ℕ))) → AreFields fields → length fields ≤ left → fields_at left place (flat_map field_bytes fields) ≡ whole_fields fields
+fields_read : (left place : ℕ) (fields : List (List (List ℕ))) → AreFields fields → length fields ≤ left
+    → fields_at left place (flat_map field_bytes fields) ≡ whole_fields fields
 unfolding fields_at
 fields_read zero place [] are few = refl
 fields_read (suc left) place [] are few = refl
@@ -104,7 +110,8 @@ fields_read (suc left) place (lines ∷ fields) are few =
 
 -- ---- the header
 
-in_range : (system : System) (n length : ℕ) → n ≡ length → IsLineLength length → header_with (Some system) n ≡ whole (record { system = system; length = length })
+in_range : (system : System) (n length : ℕ) → n ≡ length → IsLineLength length → header_with (Some system) n
+    ≡ whole (record { system = system; length = length })
 in_range system n length same range = rw (same, le-leb MIN_LINE_LENGTH length range.0, le-leb length MAX_LINE_LENGTH range.1) refl
 
 four_bytes : (n : ℕ) → IsLineLength n → big_number 4 (big_bytes 4 n) ≡ n

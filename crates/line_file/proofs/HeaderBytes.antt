@@ -1,5 +1,6 @@
 -- A header is read from its own twelve bytes, whatever follows them, and a fault of its bytes stays.
-use Rattle.std.proofs.Common.{◌≡◌, ℕ, zero, suc, ◌+◌, ◌<◌, ◌≤◌, Bool, true, false, List, [], ◌∷◌, ◌++◌, Some, None, length, take, drop, slice_index, refl, ap, ◌∙◌, arith}
+use Rattle.std.proofs.Common.{◌≡◌, ℕ, zero, suc, ◌+◌, ◌<◌, ◌≤◌, Bool, true, false, List, [], ◌∷◌, ◌++◌, Some, None, length, take, drop, slice_index}
+use Rattle.std.proofs.Common.{refl, ap, ◌∙◌, arith}
 use Rattle.std.specs.Prelude.{◌==◌, nat_le, if◌then◌else◌}
 use Rattle.std.specs.declared.option.Option.{Option}
 use Rattle.std.proofs.lemmas.Bool.{and_parts, leb-true}
@@ -71,7 +72,8 @@ never_short : (system : Option System) (n : ℕ) → header_with system n ≡ sh
 never_short None n e = absurd cc
 never_short (Some system) n e = by_range (is_line_length n) e
   where
-    by_range : (b : Bool) → if◌then◌else◌ {A = Front LineHeader} b (whole (record { system = system; length = n })) (bad (fault.LineLength HEAD_LENGTH)) ≡ short → ⊥
+    by_range : (b : Bool) → if◌then◌else◌ {A = Front LineHeader} b (whole (record { system = system; length = n }))
+        (bad (fault.LineLength HEAD_LENGTH)) ≡ short → ⊥
     by_range true e = absurd cc
     by_range false e = absurd cc
 
@@ -105,7 +107,8 @@ same_twelve bytes more least =
     ap (λ (v : Front (Unit {0})). behind_head v (take 12 bytes ++ more)) (head_twelve bytes more least)
     ∙ behind_twelve bytes more (head_at HEAD_LENGTH 0 bytes) least
 
-by_head_whole : (bytes : List ℕ) (header : LineHeader) (v : Front (Unit {0})) → head_at HEAD_LENGTH 0 bytes ≡ v → behind_head v bytes ≡ whole header → 12 ≤ length bytes
+by_head_whole : (bytes : List ℕ) (header : LineHeader) (v : Front (Unit {0})) → head_at HEAD_LENGTH 0 bytes ≡ v → behind_head v bytes ≡ whole header
+    → 12 ≤ length bytes
 by_head_whole bytes header (whole u) is e =
     let first = whole_head HEAD_LENGTH 0 bytes u is in
     let later = whole_length (system_at (slice_index bytes 5)) (drop HEAD_LENGTH bytes) header e in
@@ -168,7 +171,8 @@ in_range : (byte n : ℕ) (o : Option System) (header : LineHeader) → system_a
 in_range byte n None header is e = absurd cc
 in_range byte n (Some system) header is e = by_length (is_line_length n) refl e
   where
-    by_length : (b : Bool) → is_line_length n ≡ b → if◌then◌else◌ {A = Front LineHeader} b (whole (record { system = system; length = n })) (bad (fault.LineLength HEAD_LENGTH)) ≡ whole header → IsHeader header
+    by_length : (b : Bool) → is_line_length n ≡ b → if◌then◌else◌ {A = Front LineHeader} b (whole (record { system = system; length = n }))
+        (bad (fault.LineLength HEAD_LENGTH)) ≡ whole header → IsHeader header
     by_length true within e =
         let parts = and_parts (nat_le MIN_LINE_LENGTH n) (nat_le n MAX_LINE_LENGTH) within in
         let least = leb-true MIN_LINE_LENGTH n parts.0 in

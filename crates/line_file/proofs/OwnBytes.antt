@@ -1,5 +1,6 @@
 -- A line and a field are read from their own bytes, whatever follows them; and the first bytes of one are fewer than the most that it may have.
-use Rattle.std.proofs.Common.{◌≡◌, ℕ, zero, suc, ◌+◌, ◌*◌, ◌%◌, ◌<◌, ◌≤◌, Bool, true, false, List, [], ◌∷◌, ◌++◌, length, take, drop, refl, sym, ap, ◌∙◌, arith, append_assoc}
+use Rattle.std.proofs.Common.{◌≡◌, ℕ, zero, suc, ◌+◌, ◌*◌, ◌%◌, ◌<◌, ◌≤◌, Bool, true, false, List, [], ◌∷◌, ◌++◌, length, take, drop, refl, sym, ap}
+use Rattle.std.proofs.Common.{◌∙◌, arith, append_assoc}
 use Rattle.std.specs.Prelude.{◌==◌, nat_le, if◌then◌else◌}
 use Rattle.std.proofs.lemmas.Bool.{and_parts, eqb-true, leb-true}
 use Rattle.std.proofs.lemmas.List.{take-append-drop, length-take-le, length-drop, drop_at, drop-take, take-take}
@@ -7,7 +8,8 @@ use Rattle.byteorder.specs.Endian.{big_number}
 use Rattle.tc_files.specs.declared.fault.FileFault.TheVariants as fault
 use Rattle.vitc_reader.specs.Runs.{MayBeLine}
 use Rattle.line_file.specs.declared.field.TheConstants.{MAX_LINES, MAX_RUNS}
-use Rattle.line_file.specs.LineFile.{Front, whole, short, bad, with_first, runs_at, is_run_count, line_at, line_width, line_then, lines_at, lines_width, field_at, field_width}
+use Rattle.line_file.specs.LineFile.{Front, whole, short, bad, with_first, runs_at, is_run_count, line_at, line_width, line_then, lines_at}
+use Rattle.line_file.specs.LineFile.{lines_width, field_at, field_width}
 
 -- the things that were read, or none
 abbrev pub items : {A : Type 0} → Front (List A) → List A
@@ -166,7 +168,8 @@ lines_by count place bytes lines short is e later = absurd cc
 lines_by count place bytes lines (bad f) is e later = absurd cc
 
 pub own_lines : (count place : ℕ) (bytes : List ℕ) (lines : List (List ℕ)) → lines_at count place bytes ≡ whole lines → OwnLines count place bytes lines
-own_lines zero place bytes lines e = let none : lines ≡ [] = sym (ap items e) in rw none (record { within = omega arith; most = omega arith; own = λ more. refl })
+own_lines zero place bytes lines e = let none : lines ≡ [] = sym (ap items e) in rw none
+    (record { within = omega arith; most = omega arith; own = λ more. refl })
 own_lines (suc count) place bytes lines e =
     lines_by count place bytes lines (line_at place bytes) refl e (λ w ls. own_lines count (place + w) (drop w bytes) ls)
 

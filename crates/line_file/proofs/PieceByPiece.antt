@@ -1,5 +1,6 @@
 -- What was read of a line or a field, and what is still to be read of it, is the whole.
-use Rattle.std.proofs.Common.{◌≡◌, ℕ, zero, suc, ◌+◌, ◌-◌, ◌*◌, ◌<◌, ◌≤◌, Bool, true, false, List, [], ◌∷◌, ◌++◌, length, take, drop, get_or, refl, sym, ap, ◌∙◌, arith, append_assoc, append-nil}
+use Rattle.std.proofs.Common.{◌≡◌, ℕ, zero, suc, ◌+◌, ◌-◌, ◌*◌, ◌<◌, ◌≤◌, Bool, true, false, List, [], ◌∷◌, ◌++◌, length, take, drop, get_or, refl}
+use Rattle.std.proofs.Common.{sym, ap, ◌∙◌, arith, append_assoc, append-nil}
 use Rattle.std.specs.Prelude.{◌==◌, eqb, nat_le, if◌then◌else◌}
 use Rattle.std.proofs.lemmas.List.{drop-drop, drop_more, length-drop, length-take-le, take_rest}
 use Rattle.std.proofs.lemmas.Bool.{le-leb}
@@ -13,7 +14,8 @@ use Rattle.vitc_reader.specs.Field as answers
 use Rattle.line_file.specs.declared.field.TheConstants.{MAX_LINES}
 use Rattle.line_file.specs.declared.header.LineHeader.{LineHeader}
 use Rattle.line_file.specs.declared.header.TheConstants.{HEAD_LENGTH}
-use Rattle.line_file.specs.LineFile.{Front, whole, short, bad, with_first, is_wrong, head_fault, head_at, runs_at, is_run_count, line_at, line_width, line_then, lines_at, lines_width, field_at, field_width}
+use Rattle.line_file.specs.LineFile.{Front, whole, short, bad, with_first, is_wrong, head_fault, head_at, runs_at, is_run_count, line_at, line_width}
+use Rattle.line_file.specs.LineFile.{line_then, lines_at, lines_width, field_at, field_width}
 use Rattle.line_file.proofs.OwnBytes.{after_line, first_whole, own_line}
 
 -- some things, and then the others
@@ -53,7 +55,8 @@ pub record HeadSoFar (bytes : List ℕ) (place : ℕ) : Type 0 where
 pub no_head : (bytes : List ℕ) → HeadSoFar bytes 0
 no_head bytes = record { within = omega arith; read = refl }
 
-pub head_more : (bytes : List ℕ) (place d : ℕ) → HeadSoFar bytes place → place < HEAD_LENGTH → place < length bytes → is_wrong place (get_or bytes place d) ≡ false
+pub head_more : (bytes : List ℕ) (place d : ℕ) → HeadSoFar bytes place → place < HEAD_LENGTH → place < length bytes
+    → is_wrong place (get_or bytes place d) ≡ false
     → HeadSoFar bytes (place + 1)
 head_more bytes place d s lt there good =
     let step = head_step (HEAD_LENGTH - place) place d bytes (omega (arith, lt)) there in
@@ -63,7 +66,8 @@ head_more bytes place d s lt there good =
       read = s.read ∙ rw (good, left) at step;
     }
 
-pub head_bad : (bytes : List ℕ) (place d : ℕ) → HeadSoFar bytes place → place < HEAD_LENGTH → place < length bytes → is_wrong place (get_or bytes place d) ≡ true
+pub head_bad : (bytes : List ℕ) (place d : ℕ) → HeadSoFar bytes place → place < HEAD_LENGTH → place < length bytes
+    → is_wrong place (get_or bytes place d) ≡ true
     → head_at HEAD_LENGTH 0 bytes ≡ bad (head_fault place)
 head_bad bytes place d s lt there wrong =
     let step = head_step (HEAD_LENGTH - place) place d bytes (omega (arith, lt)) there in
@@ -80,7 +84,8 @@ none_left (b ∷ bytes) zero le = absurd (omega (arith, le))
 none_left (b ∷ bytes) (suc n) le = none_left bytes n (omega (arith, le))
 
 pub head_short : (bytes : List ℕ) (place : ℕ) → HeadSoFar bytes place → place < HEAD_LENGTH → length bytes ≤ place → head_at HEAD_LENGTH 0 bytes ≡ short
-head_short bytes place s lt none = s.read ∙ ap (head_at (HEAD_LENGTH - place) place) (none_left bytes place none) ∙ short_at (HEAD_LENGTH - place) place (omega (arith, lt))
+head_short bytes place s lt none = s.read ∙ ap (head_at (HEAD_LENGTH - place) place) (none_left bytes place none)
+    ∙ short_at (HEAD_LENGTH - place) place (omega (arith, lt))
 
 pub head_done : (bytes : List ℕ) (place : ℕ) → HeadSoFar bytes place → HEAD_LENGTH ≤ place → head_at HEAD_LENGTH 0 bytes ≡ whole tt
 head_done bytes place s done = let none : HEAD_LENGTH - place ≡ zero = omega (arith, done) in s.read ∙ ap (λ (n : ℕ). head_at n place (drop place bytes)) none
@@ -120,7 +125,8 @@ run_step count place bytes done at runs s lt two =
     let on : place + at + 2 ≡ place + (at + 2) = omega arith in
     rw (fewer, on, drop-drop 2 at bytes) at step
 
-pub runs_more : (count place : ℕ) (bytes : List ℕ) (done at : ℕ) (runs : List ℕ) (x : ℕ) → RunsSoFar count place bytes done at runs → done < count → at + 2 ≤ length bytes
+pub runs_more : (count place : ℕ) (bytes : List ℕ) (done at : ℕ) (runs : List ℕ) (x : ℕ) → RunsSoFar count place bytes done at runs → done < count
+    → at + 2 ≤ length bytes
     → x ≡ big_number 2 (drop at bytes) → (x == 0) ≡ false → RunsSoFar count place bytes (done + 1) (at + 2) (runs ++ x ∷ [])
 runs_more count place bytes done at runs x s lt two is some =
     let step = rw (← is, some) at (run_step count place bytes done at runs s lt two) in
@@ -137,7 +143,8 @@ runs_more count place bytes done at runs x s lt two is some =
     length_last [] x = refl
     length_last (y ∷ xs) x = let h = length_last xs x in omega (arith, h)
 
-pub runs_bad : (count place : ℕ) (bytes : List ℕ) (done at : ℕ) (runs : List ℕ) (x : ℕ) → RunsSoFar count place bytes done at runs → done < count → at + 2 ≤ length bytes
+pub runs_bad : (count place : ℕ) (bytes : List ℕ) (done at : ℕ) (runs : List ℕ) (x : ℕ) → RunsSoFar count place bytes done at runs → done < count
+    → at + 2 ≤ length bytes
     → x ≡ big_number 2 (drop at bytes) → (x == 0) ≡ true → runs_at count (place + 1) (drop 1 bytes) ≡ bad (fault.Run (place + at))
 runs_bad count place bytes done at runs x s lt two is none =
     let step = rw (← is, none) at (run_step count place bytes done at runs s lt two) in
@@ -149,7 +156,8 @@ less_than_two (suc left) place [] some two = refl
 less_than_two (suc left) place (high ∷ []) some two = refl
 less_than_two (suc left) place (high ∷ low ∷ more) some two = absurd (omega (arith, two))
 
-pub runs_short : (count place : ℕ) (bytes : List ℕ) (done at : ℕ) (runs : List ℕ) → RunsSoFar count place bytes done at runs → done < count → length bytes < at + 2
+pub runs_short : (count place : ℕ) (bytes : List ℕ) (done at : ℕ) (runs : List ℕ) → RunsSoFar count place bytes done at runs → done < count
+    → length bytes < at + 2
     → runs_at count (place + 1) (drop 1 bytes) ≡ short
 runs_short count place bytes done at runs s lt less =
     let left = length-drop at bytes in
@@ -341,7 +349,8 @@ last_again header count place bytes done width last reader s lt some same again 
 
 -- a field by its number of lines
 pub field_is : (place d : ℕ) (bytes : List ℕ) → 1 ≤ length bytes
-    → field_at place bytes ≡ (if nat_le (get_or bytes 0 d) MAX_LINES then lines_at (get_or bytes 0 d) (place + 1) (drop 1 bytes) else bad (fault.LineCount place))
+    → field_at place bytes ≡ (if nat_le (get_or bytes 0 d) MAX_LINES then lines_at (get_or bytes 0 d) (place + 1) (drop 1 bytes) else bad
+        (fault.LineCount place))
 field_is place d [] some = absurd (omega (arith, some))
 field_is place d (count ∷ more) some = refl
 
@@ -353,7 +362,8 @@ some_bytes (b ∷ bytes) e is not_empty = omega arith
 
 pub by_runs : (place : ℕ) (bytes : List ℕ) (b : Bool) (front : Front (List ℕ)) → 1 ≤ length bytes → b ≡ is_run_count (get_or bytes 0 0) → b ≡ true
     → runs_at (get_or bytes 0 0) (place + 1) (drop 1 bytes) ≡ front → line_at place bytes ≡ front
-by_runs place bytes b front some is good read = let counted : is_run_count (get_or bytes 0 0) ≡ true = sym is ∙ good in line_is place 0 bytes some ∙ rw counted read
+by_runs place bytes b front some is good read = let counted : is_run_count (get_or bytes 0 0) ≡ true = sym is ∙ good in line_is place 0 bytes some
+    ∙ rw counted read
 
 pub by_lines : (place : ℕ) (bytes : List ℕ) (front : Front (List (List ℕ))) → 1 ≤ length bytes → get_or bytes 0 0 ≤ MAX_LINES
     → lines_at (get_or bytes 0 0) (place + 1) (drop 1 bytes) ≡ front → field_at place bytes ≡ front

@@ -74,7 +74,8 @@ fits : (all front here back : ℕ) → all ≡ front + (here + back) → all ≤
 fits all front here back e few = omega (arith, e, few)
 
 -- cells of runs that go on at a fault
-cells_there : (n : ℕ) (before : List ℕ) (run : ℕ) (after cells : List ℕ) → NotTaken n 90 before run → AreCells n (before ++ run ∷ after) cells → total cells ≤ 90 → ⊥
+cells_there : (n : ℕ) (before : List ℕ) (run : ℕ) (after cells : List ℕ) → NotTaken n 90 before run → AreCells n (before ++ run ∷ after) cells
+    → total cells ≤ 90 → ⊥
 cells_there n before run after cells none are few =
     let c = cut n before run after cells are in
     none c.here c.front c.front_read c.here_read
@@ -110,12 +111,14 @@ same_kind n runs (TooLong i) (TooLong j) some a b e = ap (λ (p : ℕ). TooLong 
 same_kind n runs (Run i) (TooLong j) some a b e =
     let first = a.0 in
     let second = b.0 in
-    let s = same_there first.before first.after second.before second.after first.run second.run (sym first.split ∙ second.split) (first.place ∙ e ∙ sym second.place) in
+    let s = same_there first.before first.after second.before second.after first.run second.run (sym first.split ∙ second.split)
+        (first.place ∙ e ∙ sym second.place) in
     absurd (a.1 b.1 (subst (λ (r : ℕ). IsCells n r b.1) (sym s.1) b.2))
 same_kind n runs (TooLong i) (Run j) some a b e =
     let first = a.0 in
     let second = b.0 in
-    let s = same_there first.before first.after second.before second.after first.run second.run (sym first.split ∙ second.split) (first.place ∙ e ∙ sym second.place) in
+    let s = same_there first.before first.after second.before second.after first.run second.run (sym first.split ∙ second.split)
+        (first.place ∙ e ∙ sym second.place) in
     absurd (b.1 a.1 (subst (λ (r : ℕ). IsCells n r a.1) s.1 a.2))
 
 pub one_fault : (n : ℕ) (runs : List ℕ) (f g : RunFault) → 1 ≤ n → IsRunFault n runs f → IsRunFault n runs g → f ≡ g
@@ -166,7 +169,8 @@ one_said one none system n runs (Err (Line f)) (Err (Line g)) some a b =
     let same = only n runs a.0 b.0 some a.1 b.1 in
     ap (λ (x : LineFault). Err (Line x)) (some_same f g (sym a.2 ∙ ap (first_fault system) same ∙ b.2))
 
-all_said : OneWord → NoFault → (system : System) (n : ℕ) (lines : List (List ℕ)) (a b : List Said) → 1 ≤ n → AreSaid system n lines a → AreSaid system n lines b → a ≡ b
+all_said : OneWord → NoFault → (system : System) (n : ℕ) (lines : List (List ℕ)) (a b : List Said) → 1 ≤ n → AreSaid system n lines a
+    → AreSaid system n lines b → a ≡ b
 all_said one none system n [] [] [] some a b = refl
 all_said one none system n [] [] (y ∷ ys) some a b = absurd b
 all_said one none system n [] (x ∷ xs) ys some a b = absurd a
@@ -235,7 +239,8 @@ one_answer_to said (Conflict v o) (Conflict w p) a b =
     let differs : p ≢ v = λ e. b.4 (e ∙ s.0) in
     ap₂ (λ (x y : VitcWord). Conflict x y) s.0 (first_other v o p a.0 b.0 a.1 b.1 a.3 all a.4 differs s.1)
 
-pub one_answer : OneWord → NoFault → (system : System) (n : ℕ) (lines : List (List ℕ)) (a b : FieldAnswer) → 1 ≤ n → IsAnswer system n lines a → IsAnswer system n lines b → a ≡ b
+pub one_answer : OneWord → NoFault → (system : System) (n : ℕ) (lines : List (List ℕ)) (a b : FieldAnswer) → 1 ≤ n → IsAnswer system n lines a
+    → IsAnswer system n lines b → a ≡ b
 one_answer one none system n lines a b some x y =
     let same = all_said one none system n lines x.0 y.0 some x.1 y.1 in
     one_answer_to y.0 a b (subst (λ (said : List Said). IsAnswerTo said a) same x.2) y.2

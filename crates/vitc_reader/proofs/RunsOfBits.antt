@@ -1,5 +1,6 @@
 -- The lowest bits of one level are a run and the rest is less, so the runs of bits are all of them, and stand for the bits.
-use Rattle.std.proofs.Common.{◌≡◌, ℕ, zero, suc, ◌+◌, ◌-◌, ◌*◌, ◌/◌, ◌%◌, ◌^◌, ◌<◌, ◌≤◌, Bool, true, false, not, List, [], ◌∷◌, length, refl, sym, arith, inl, inr}
+use Rattle.std.proofs.Common.{◌≡◌, ℕ, zero, suc, ◌+◌, ◌-◌, ◌*◌, ◌/◌, ◌%◌, ◌^◌, ◌<◌, ◌≤◌, Bool, true, false, not, List, [], ◌∷◌, length, refl, sym}
+use Rattle.std.proofs.Common.{arith, inl, inr}
 use Rattle.std.specs.Prelude.{◌↔◌, ◌==◌, if◌then◌else◌}
 use Rattle.std.proofs.Math.Nat.{pow-le-pow_right}
 use Rattle.std.proofs.lemmas.Bool.{cases_lt, eqb-true, eqb-false}
@@ -93,7 +94,8 @@ by_bits fuel m level bits false is width enough few parity low later =
       low = t.low;
     }
 
-runs_of_bits : (fuel m : ℕ) (level : Bool) (bits : ℕ) → bits < 2 ^ m → m ≤ fuel → m ≤ 90 → (1 ≤ bits → ((bits % 2 ≡ 1) ↔ (level ≡ true))) → (bits ≡ 0 → level ≡ false)
+runs_of_bits : (fuel m : ℕ) (level : Bool) (bits : ℕ) → bits < 2 ^ m → m ≤ fuel → m ≤ 90 → (1 ≤ bits → ((bits % 2 ≡ 1) ↔ (level ≡ true)))
+    → (bits ≡ 0 → level ≡ false)
     → RunsOf level bits m (cells_in fuel level bits)
 unfolding cells_in
 runs_of_bits zero m level bits width enough few parity low =
@@ -104,7 +106,8 @@ runs_of_bits (suc fuel) m level bits width enough few parity low =
     by_bits fuel m level bits (bits == 0) refl width enough few parity low (λ l n b. runs_of_bits fuel n l b)
 
 all_runs : (bits : ℕ) → bits < 2 ^ 90 → bits % 2 ≡ 1 → RunsOf true bits 90 (cells_in 90 true bits)
-all_runs bits width odd = runs_of_bits 90 90 true bits width (omega arith) (omega arith) (λ _. (λ e. refl, λ e. odd)) (λ none. absurd (omega (arith, odd, none)))
+all_runs bits width odd = runs_of_bits 90 90 true bits width (omega arith) (omega arith) (λ _. (λ e. refl, λ e. odd))
+    (λ none. absurd (omega (arith, odd, none)))
 
 runs_number : (n at : ℕ) (cells : List ℕ) → length (runs_from n at cells) ≡ length cells
 runs_number n at [] = refl

@@ -1,5 +1,6 @@
 -- The bits so far, with the last run taken to be high: behind an even number of runs each of them is turned.
-use Rattle.std.proofs.Common.{◌≡◌, ℕ, ◌+◌, ◌-◌, ◌*◌, ◌%◌, ◌^◌, ◌<◌, ◌≤◌, Bool, true, false, not, List, length, get_or, refl, sym, ap, ◌∙◌, subst, arith, Result, Ok, Err, IfOk, IfErr, IsErrAnd}
+use Rattle.std.proofs.Common.{◌≡◌, ℕ, ◌+◌, ◌-◌, ◌*◌, ◌%◌, ◌^◌, ◌<◌, ◌≤◌, Bool, true, false, not, List, length, get_or, refl, sym, ap, ◌∙◌, subst}
+use Rattle.std.proofs.Common.{arith, Result, Ok, Err, IfOk, IfErr, IsErrAnd}
 use Rattle.std.specs.Result.{is_ok}
 use Rattle.std.specs.Prelude.{bit_xor}
 use Rattle.std.proofs.Math.Nat.{pow-le-pow_right}
@@ -117,7 +118,8 @@ passed_on (Ok bits) says to = absurd says
 passed_on (Err fault) says to = to fault says
 
 -- what is said of a success that is told by a test
-pub told_success : {P : ℕ → Type 0} (result : Result ℕ RunFault) (is_read : Bool) → is_read ≡ is_ok result → IfOk result P → is_read ≡ true → (bits : ℕ) × P bits
+pub told_success : {P : ℕ → Type 0} (result : Result ℕ RunFault) (is_read : Bool) → is_read ≡ is_ok result → IfOk result P → is_read ≡ true
+    → (bits : ℕ) × P bits
 told_success (Ok bits) is_read is says yes_it_is = (bits, says)
 told_success (Err fault) is_read is says yes_it_is = absurd cc
 

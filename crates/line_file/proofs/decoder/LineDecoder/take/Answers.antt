@@ -1,6 +1,7 @@
 use Rattle.std.proofs.Common.{refl, sym, subst, arith}
 use Rattle.line_file.specs.StandsFor.{Decoding, StandsFor}
-use Rattle.line_file.proofs.DecoderTakes.{at_header, header_there, at_field, at_short, at_fault, waits_less, waits_none, header_added, field_added, fault_there, limit_there}
+use Rattle.line_file.proofs.DecoderTakes.{at_header, header_there, at_field, at_short, at_fault, waits_less, waits_none, header_added, field_added}
+use Rattle.line_file.proofs.DecoderTakes.{fault_there, limit_there}
 use Rattle.line_file.proofs.decoder.LineDecoder.take.Goals as goal
 
 -- the header begins with what was kept
@@ -79,7 +80,8 @@ returns-in-Header-clause-takes c =
     let d = c.self.inside in
     let is = c.in-Header.ensures.piece in
     let s = at_header d.header d.place d.fields d.part.items _ c.in-Header.header c.self.invariant.waits is in
-    rw (← c.self.view_is, c.clear.ensures, c.len-before.ensures.value) (header_added d.header d.place d.fields d.part.items c.args.bytes.now _ c.in-Header.header s)
+    rw (← c.self.view_is, c.clear.ensures, c.len-before.ensures.value) (header_added d.header d.place d.fields d.part.items c.args.bytes.now _
+        c.in-Header.header s)
 
 pub returns-in-Field-clause-takes : goal.returns-in-Field-clause-takes
 returns-in-Field-clause-takes c =
@@ -104,7 +106,8 @@ returns-in-Fault-clause-stops c = λ front answers stands.
     let d = c.self.inside in
     let s = subst (λ (x : Decoding). StandsFor x front answers) (sym c.self.view_is) stands in
     let is = c.in-Fault.ensures.piece in
-    fault_there d.header d.place d.fields d.part.items front c.args.bytes.now _ answers c.in-Fault.fault s (at_fault d.header d.place d.fields _ c.in-Fault.fault is)
+    fault_there d.header d.place d.fields d.part.items front c.args.bytes.now _ answers c.in-Fault.fault s
+        (at_fault d.header d.place d.fields _ c.in-Fault.fault is)
 
 pub returns-in-Limit-clause-stops : goal.returns-in-Limit-clause-stops
 returns-in-Limit-clause-stops c = λ front answers stands.
