@@ -43,11 +43,10 @@ def slips(seed, bound):
         yield (state >> 33) % (2 * bound + 1) - bound
 
 
-def followed(labels, start, frames, seed, bound):
+def followed(labels, numbers, start, frames, seed, bound):
     """The lines of a chase over frames, with how many losses were seen, each with its cause."""
-    numbers = {label: number for number, label in enumerate(labels)}
     chase = Chase(80 * len(labels), 80 * numbers[start])
-    lines, lost, is_whole, locked, before, slip = [], 0, bound <= 8, False, 0, 0
+    lines, lost, is_whole, locked, before = [], 0, bound <= 8, False, 0
     for i, ((label, motion, goes_on), slip) in enumerate(zip(frames, slips(seed, bound))):
         master = (numbers[label], motion) if label in numbers else None
         stays = i > 0 and master is not None and goes_on and abs(before) <= 8
@@ -68,6 +67,7 @@ def followed(labels, start, frames, seed, bound):
 def main():
     recordings = sys.argv[1:] or sorted(glob.glob(os.path.join(TOP, "examples", "*.ltci")))
     days = {count: labels_of(count) for count in ("24", "25", "30", "30d")}
+    numbers = {count: {label: number for number, label in enumerate(labels)} for count, labels in days.items()}
     runs = 0
     for recording in recordings:
         seen = []
@@ -82,7 +82,7 @@ def main():
                 for seed in SEEDS:
                     for count, start in ((own, first), (own, days[own][-1]), (other, days[other][0])):
                         gone_or_own = [f if count == own else (None, 0, False) for f in frames]
-                        wanted, lost = followed(days[count], start, gone_or_own, seed, bound)
+                        wanted, lost = followed(days[count], numbers[count], start, gone_or_own, seed, bound)
                         ran = run(["ltc-chase", count, start, str(limit), str(seed), str(bound)], recording)
                         assert (ran.returncode, ran.stderr) == (0, b""), (recording, ran.stderr)
                         assert ran.stdout.decode() == wanted, (recording, count, start, limit, seed, bound)

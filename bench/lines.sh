@@ -1,11 +1,12 @@
 #!/usr/bin/env bash
 # How fast `tc vitc-make` makes 10,000 frames of lines, as a multiple of `md5sum` of what it writes; how fast `tc vitc-read` reads
-# these 20,000 fields, as a multiple of `md5sum` of the file; and the greatest resident memory of both.
+# these 20,000 fields, as a multiple of `md5sum` of the file, as they are made, with two equal lines a field, and with the first run
+# of each second line a tick longer, so that each line is read; and the greatest resident memory of both.
 #
 #     bench/lines.sh [TC [LENGTH]]
 #
-# TC is the built program (bin/tc), LENGTH how long a line lasts in ticks (1728). It builds nothing. The gate does not run it: how
-# long a run takes depends on the machine.
+# TC is the built program (bin/tc), LENGTH how long a line lasts in ticks (1728). It wants python3. It builds nothing. The gate does
+# not run it: how long a run takes depends on the machine.
 set -eu
 top=$(cd "$(dirname "$0")/.." && pwd)
 tc=${1:-$top/bin/tc}
@@ -24,24 +25,44 @@ echo "20,000 fields: $(stat -c %s "$room/lines") bytes, all agreed"
 # Twenty times as many fields, for the clock.
 many=(vitc-make 25 19:53:20:00 200000 "$length")
 "$tc" "${many[@]}" > "$room/many"
-user_time() { TIMEFORMAT=%3U; { time "${@:2}" < "$1" > /dev/null; } 2>&1; }
-md5= made= read= many_md5= many_made= many_read=
+
+# The same fields with a tick more in the first run of each second line.
+differing() {
+    python3 -c '
+import sys
+lines = bytearray(sys.stdin.buffer.read())
+at = 12
+while at < len(lines):
+    second = at + 2 + 2 * lines[at + 1]
+    run = int.from_bytes(lines[second + 1 : second + 3], "big") + 1
+    lines[second + 1 : second + 3] = run.to_bytes(2, "big")
+    at = second + 1 + 2 * lines[second]
+sys.stdout.buffer.write(lines)' < "$1"
+}
+differing "$room/lines" > "$room/lines_differ"
+differing "$room/many" > "$room/many_differ"
+"$tc" vitc-read < "$room/lines_differ" | cmp - "$room/report"
+# The user time of so many runs of a command on a file: one run of the smaller file is too short for the clock.
+user_time() { TIMEFORMAT=%3U; { time for _ in $(seq "$2"); do "${@:3}" < "$1" > /dev/null; done; } 2>&1; }
+md5= made= read= differ= many_md5= many_made= many_read= many_differ=
 for _ in $(seq "$rounds"); do
-    md5+=" $(user_time "$room/lines" md5sum)"
-    made+=" $(user_time /dev/null "$tc" "${make[@]}")"
-    read+=" $(user_time "$room/lines" "$tc" vitc-read)"
-    many_md5+=" $(user_time "$room/many" md5sum)"
-    many_made+=" $(user_time /dev/null "$tc" "${many[@]}")"
-    many_read+=" $(user_time "$room/many" "$tc" vitc-read)"
+    md5+=" $(user_time "$room/lines" 20 md5sum)"
+    made+=" $(user_time /dev/null 20 "$tc" "${make[@]}")"
+    read+=" $(user_time "$room/lines" 20 "$tc" vitc-read)"
+    differ+=" $(user_time "$room/lines_differ" 20 "$tc" vitc-read)"
+    many_md5+=" $(user_time "$room/many" 1 md5sum)"
+    many_made+=" $(user_time /dev/null 1 "$tc" "${many[@]}")"
+    many_read+=" $(user_time "$room/many" 1 "$tc" vitc-read)"
+    many_differ+=" $(user_time "$room/many_differ" 1 "$tc" vitc-read)"
 done
 least() { tr ' ' '\n' <<< "$1" | grep . | sort -n | head -n 1; }
 say() {
-    echo "$1, user seconds, the best of $rounds: md5sum $(least "$2"), vitc-make $(least "$3"), vitc-read $(least "$4")"
-    awk -v m="$(least "$2")" -v w="$(least "$3")" -v r="$(least "$4")" \
-        'BEGIN { if (m > 0) printf "  vitc-make is %.2f times md5sum, vitc-read %.2f times\n", w / m, r / m }'
+    echo "$1, user seconds, the best of $rounds: md5sum $(least "$2"), vitc-make $(least "$3"), vitc-read $(least "$4"), of differing lines $(least "$5")"
+    awk -v m="$(least "$2")" -v w="$(least "$3")" -v r="$(least "$4")" -v d="$(least "$5")" \
+        'BEGIN { if (m > 0) printf "  vitc-make is %.2f times md5sum, vitc-read %.2f times, of differing lines %.2f times\n", w / m, r / m, d / m }'
 }
-say "20,000 fields" "$md5" "$made" "$read"
-say "400,000 fields" "$many_md5" "$many_made" "$many_read"
+say "20,000 fields, twenty runs each" "$md5" "$made" "$read" "$differ"
+say "400,000 fields" "$many_md5" "$many_made" "$many_read" "$many_differ"
 
 # The greatest resident memory, in KiB.
 resident() { /usr/bin/time -f %M -o "$room/resident" "${@:2}" < "$1" > /dev/null; cat "$room/resident"; }

@@ -1,6 +1,7 @@
 -- A state that stands for a piece of a chain has the one stretch of the piece: so its cells are a part of the chain, and the piece ends behind the last of
 -- them, or inside the next one.
-use Rattle.std.proofs.Common.{◌≡◌, ◌⊎◌, ℕ, ◌+◌, ◌-◌, ◌<◌, ◌≤◌, List, [], ◌∷◌, ◌++◌, length, drop, get_or, Some, IsSome, All, inl, inr, refl, ap, subst, sym, ◌∙◌, arith, length-append, append_assoc}
+use Rattle.std.proofs.Common.{◌≡◌, ◌⊎◌, ℕ, ◌+◌, ◌-◌, ◌<◌, ◌≤◌, List, [], ◌∷◌, ◌++◌, length, drop, get_or, Some, IsSome, All, inl, inr, refl, ap}
+use Rattle.std.proofs.Common.{subst, sym, ◌∙◌, arith, length-append, append_assoc}
 use Rattle.std.specs.Prelude.{⊤}
 use Rattle.std.proofs.lemmas.Bool.{cases_lt, false≢true}
 use Rattle.std.proofs.lemmas.List.{drop_at, drop_more}

@@ -1,14 +1,14 @@
--- Only a locked chase loses its lock, and one that the step before left locked keeps it where the next row goes on steadily: so a loss needs a row that does not.
-use Rattle.std.proofs.Common.{◌≡◌, ◌≢◌, ℕ, zero, suc, ◌+◌, ◌-◌, ◌*◌, ◌<◌, ◌≤◌, ◌⊎◌, inl, inr, Bool, true, false, nat_le, ℤ, List, [], ◌∷◌, take, Option, Some, None, slice_get, refl, sym, ◌∙◌, ap, subst, arith}
-use Rattle.std.specs.Prelude.{unsigned_abs, IfSome, cond}
+-- Only a locked chase loses its lock, and one that the step before left locked keeps it where the next row goes on steadily: so a loss needs a row
+-- that does not.
+use Rattle.std.proofs.Common.{◌≡◌, ◌≢◌, ℕ, zero, suc, ◌-◌, ◌≤◌, ◌⊎◌, inl, inr, Bool, true, false, nat_le, ℤ, List, [], ◌∷◌}
+use Rattle.std.proofs.Common.{Option, Some, None, slice_get, refl, sym, ◌∙◌, ap, subst, arith}
+use Rattle.std.specs.Prelude.{unsigned_abs}
 use Rattle.std.proofs.lemmas.Bool.Decides.{nat_tests}
 use Rattle.std.proofs.lemmas.Grind.{common_steps}
 use Rattle.std.proofs.lemmas.Int.{ints}
 use Rattle.tc_address.specs.declared.count.Count.{Count}
 use Rattle.tc_address.specs.declared.direction.Direction.{Direction}
 use Rattle.tc_address.specs.Label.{Address, IsLabel}
-use Rattle.tc_address.specs.Numbering.{day_length, number_of}
-use Rattle.transport_model.specs.Move.{day_of}
 use Rattle.chase_core.specs.declared.command.Command.TheVariants.{Play}
 use Rattle.chase_core.specs.declared.command.Master.{Master}
 use Rattle.chase_core.specs.declared.mode.Mode.{Mode}
@@ -16,14 +16,15 @@ use Rattle.chase_core.specs.declared.mode.Mode.TheVariants.{Waiting, Locating, P
 use Rattle.chase_core.specs.declared.report.Loss.{Loss}
 use Rattle.chase_core.specs.declared.report.State.TheVariants as states
 use Rattle.chase_core.specs.Step.{after_command, error_to, located, outcome_of, pulled, state_of}
-use Rattle.chase_core.specs.Trace.{AreRowsOf, GoesOn, IsOnTheDay, IsSteadyFromTo, Loop, Row, Traced, after_row, after_rows, lock_bound, loop_at, outcome_in, starts_at, trace, traced}
+use Rattle.chase_core.specs.Trace.{AreRowsOf, GoesOn, IsOnTheDay, IsSteadyFromTo, Loop, Row, Traced, after_row, after_rows, lock_bound, loop_at}
+use Rattle.chase_core.specs.Trace.{starts_at, trace, traced}
 use Rattle.flywheel.specs.declared.frame.Frame.{Frame}
 use Rattle.flywheel.specs.declared.frame.Frame.TheVariants.{Heard, Invented, Gone}
 use Rattle.flywheel.specs.Frames.{is_same_count}
-use Rattle.flywheel.specs.GoOn.{GoOn, goes_on, place_of}
+use Rattle.flywheel.specs.GoOn.{GoOn, goes_on}
 use Rattle.code_chase.specs.CodeTrace.{code_trace, row_of, rows_of, slip_of}
 use Rattle.code_chase.specs.Lock.{AreWhole, HasCauseOfLoss, HasOtherCount, HaveLabels, IsApart, IsGone, MayLose, SlippedTooFar}
-use Rattle.code_chase.proofs.RowsOfFrames.{DayLaws, HasCount, RowAt, are_rows, command_at, follows_at, other_count, row_at, row_goes_on, same_count}
+use Rattle.code_chase.proofs.RowsOfFrames.{DayLaws, HasCount, are_rows, command_at, follows_at, other_count, row_at, row_goes_on, same_count}
 
 -- a locked chase stays locked: the law of the closed loop
 abbrev pub StaysLocked : Type 0
@@ -201,7 +202,8 @@ whole_slip count bound seed frames i row small here =
     let within : unsigned_abs row.slip ≤ bound = subst (λ (r : Row). unsigned_abs r.slip ≤ bound) (sym at.is) (slip_within bound at.value) in
     omega (arith, within, small)
 
-pub whole_no_loss : (laws : DayLaws) (stays : StaysLocked) (has_line : HasLine) (label : Address) (seed bound : ℕ) (frames : List Frame) (j : ℕ) (line : Traced) →
+pub whole_no_loss : (laws : DayLaws) (stays : StaysLocked) (has_line : HasLine) (label : Address) (seed bound : ℕ) (frames : List Frame) (j : ℕ)
+    (line : Traced) →
     IsLabel label → HaveLabels frames → GoOn None frames → AreWhole label.count frames → bound ≤ 8 →
     slice_get (code_trace label seed bound frames) j ≡ Some line → line.report.loss ≡ None
 whole_no_loss laws stays has_line label seed bound frames j line is have on whole small at =

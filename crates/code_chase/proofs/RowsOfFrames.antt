@@ -1,7 +1,7 @@
 -- The row of a frame has the frame's label as its master, and a frame that goes on is the label after: so the master moves steadily there.
-use Rattle.std.proofs.Common.{◌≡◌, ℕ, zero, suc, ◌+◌, ◌<◌, ◌≤◌, Bool, true, false, ℤ, List, [], ◌∷◌, Option, Some, None, slice_get, refl, sym, ◌∙◌, ap, subst, arith}
+use Rattle.std.proofs.Common.{◌≡◌, ℕ, zero, suc, ◌<◌, ◌≤◌, Bool, true, false, ℤ, List, [], ◌∷◌, Option, Some, None, slice_get, refl, sym, ◌∙◌}
+use Rattle.std.proofs.Common.{ap, subst}
 use Rattle.std.specs.Prelude.{unsigned_abs, IfSome, if◌then◌else◌}
-use Rattle.std.proofs.lemmas.Int.{ints}
 use Rattle.tc_address.specs.declared.count.Count.{Count}
 use Rattle.tc_address.specs.declared.count.Count.TheVariants.{C24, C25, C30, Drop30}
 use Rattle.tc_address.specs.declared.direction.Direction.{Direction}
@@ -11,14 +11,14 @@ use Rattle.tc_address.specs.Label.{Address, IsLabel}
 use Rattle.tc_address.specs.Numbering.{day_length, number_of, step}
 use Rattle.chase_core.specs.declared.command.Command.{Command}
 use Rattle.chase_core.specs.declared.command.Master.{Master}
-use Rattle.chase_core.specs.Trace.{GoesOn, IsRowOf, AreRowsOf, Row, frame_in, next_of}
+use Rattle.chase_core.specs.Trace.{GoesOn, AreRowsOf, Row, frame_in, next_of}
 use Rattle.flywheel.specs.declared.frame.Frame.{Frame}
 use Rattle.flywheel.specs.declared.frame.Frame.TheVariants.{Heard, Invented, Gone}
 use Rattle.flywheel.specs.Frames.{is_same_count, steps_in}
-use Rattle.flywheel.specs.GoOn.{Follows, GoOn, Place, goes_on, next_place, place_of}
+use Rattle.flywheel.specs.GoOn.{Follows, GoOn, Place, goes_on, place_of}
 use Rattle.generator.specs.Draw.{drawn}
 use Rattle.code_chase.specs.CodeTrace.{master_at, master_of, row_of, rows_from, slip_of}
-use Rattle.code_chase.specs.Lock.{HasLabel, HaveLabels}
+use Rattle.code_chase.specs.Lock.{HaveLabels}
 
 -- what is used of the labels of a day, which are laws
 pub record DayLaws : Type 0 where

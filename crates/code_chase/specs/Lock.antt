@@ -1,5 +1,5 @@
 -- Why a chase over recorded code loses its lock, and when it does not.
-use Rattle.std.specs.Prelude.{◌≡◌, ◌≢◌, ℕ, ◌≤◌, ◌⊎◌, false, unsigned_abs, List, Option, Some, None, suc, slice_get, IfSome}
+use Rattle.std.specs.Prelude.{◌≡◌, ◌≢◌, ℕ, ◌≤◌, ◌⊎◌, false, unsigned_abs, List, Some, suc, slice_get, IfSome}
 use Rattle.tc_address.specs.declared.count.Count.{Count}
 use Rattle.tc_address.specs.Label.{Address, IsLabel}
 use Rattle.chase_core.specs.Trace.{Row}

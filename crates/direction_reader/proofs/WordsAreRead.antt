@@ -1,5 +1,6 @@
 -- In cells that have the bits of words, the windows that are words are candidates, and no others are.
-use Rattle.std.proofs.Common.{◌≡◌, ℕ, zero, suc, ◌+◌, ◌-◌, ◌*◌, ◌^◌, ◌<◌, ◌≤◌, Bool, true, false, List, [], ◌∷◌, ◌++◌, length, take, drop, map, Some, None, refl, sym, ap, ap₂, ◌∙◌, subst, append-nil, arith}
+use Rattle.std.proofs.Common.{◌≡◌, ℕ, zero, suc, ◌+◌, ◌-◌, ◌*◌, ◌^◌, ◌<◌, Bool, true, false, List, [], ◌∷◌, ◌++◌, length, take, drop, map}
+use Rattle.std.proofs.Common.{refl, sym, ap, ap₂, ◌∙◌, subst, append-nil, arith}
 use Rattle.std.specs.List.{range_with_len}
 use Rattle.std.proofs.lemmas.List.{take-map, take_at, drop-drop, drop-map, drop_at, length-append, length-map}
 use Rattle.std.proofs.Math.Seq.{take-add}
@@ -15,13 +16,13 @@ use Rattle.tc_address.specs.declared.direction.Direction.TheVariants.{Forward, B
 use Rattle.tc_address.specs.declared.system.System.{System}
 use Rattle.direction_reader.specs.declared.event.Event.{Event}
 use Rattle.direction_reader.specs.declared.event.Event.TheVariants.{Word}
-use Rattle.direction_reader.specs.declared.event.Events.{Events}
 use Rattle.direction_reader.specs.Candidate.{AreEventsOf}
-use Rattle.direction_reader.specs.Events.{event_list, no_events, one_event}
-use Rattle.direction_reader.specs.ListEvents.{CellWindow, duration, number_of, window_at, windows, AreEvents, AreEventsOfWindows}
+use Rattle.direction_reader.specs.Events.{no_events, one_event}
+use Rattle.direction_reader.specs.ListEvents.{duration, number_of, window_at, windows, AreEvents, AreEventsOfWindows}
 use Rattle.direction_reader.specs.Played.{Played, AreSpelled, bits_of_words, events_of_words, in_time, low_bits, played_bits}
 use Rattle.direction_reader.proofs.ChainIsAStretch.{Falls, whole, whole_is}
-use Rattle.direction_reader.proofs.SyncInTime.{WordLaws, Plays, Starts, led, lead_backward, lead_forward, length-low_bits, no_other_way, no_way_forward, number-low_bits, plays, quiet_backward, quiet_forward, starts_with, window_bits}
+use Rattle.direction_reader.proofs.SyncInTime.{WordLaws, Starts, led, lead_backward, lead_forward, length-low_bits, no_other_way}
+use Rattle.direction_reader.proofs.SyncInTime.{no_way_forward, number-low_bits, plays, quiet_backward, quiet_forward, starts_with, window_bits}
 use Rattle.direction_reader.proofs.WindowsGrow.{duration-append}
 
 -- ---- one window

@@ -1,14 +1,14 @@
 -- The due steps are the first ones, so the invented frames after a word count up from 1 to the limit at most.
-use Rattle.std.proofs.Common.{◌≡◌, ℕ, zero, suc, ◌+◌, ◌<◌, ◌≤◌, ◌⊎◌, inl, inr, Bool, true, false, cond, List, [], ◌∷◌, ◌++◌, length, map, Option}
+use Rattle.std.proofs.Common.{◌≡◌, ℕ, zero, suc, ◌+◌, ◌<◌, ◌≤◌, inl, inr, Bool, true, false, cond, List, [], ◌∷◌, ◌++◌, length, map, Option}
 use Rattle.std.proofs.Common.{Some, None, refl, sym, ◌∙◌, ap, subst, append_assoc, append-nil, zero-add, arith}
 use Rattle.std.proofs.Math.Nat.{eq-or-lt_of_le}
-use Rattle.std.specs.List.{flat_map, range_with_len}
+use Rattle.std.specs.List.{range_with_len}
 use Rattle.std.proofs.lemmas.Grind.{flat_map-append}
 use Rattle.std.proofs.lemmas.List.FromFn.{length-range_with_len}
 use Rattle.flywheel.specs.declared.heard.HeardWord.{HeardWord}
 use Rattle.flywheel.specs.declared.frame.Frame.{Frame}
 use Rattle.flywheel.specs.declared.frame.Frame.TheVariants.{Gone}
-use Rattle.flywheel.specs.Frames.{frames, frames_after, frames_between, invented_after, is_due, is_gone, is_joined, due_steps, heard_as, tick_after}
+use Rattle.flywheel.specs.Frames.{frames, frames_after, frames_between, invented_after, is_due, is_gone, due_steps, tick_after}
 use Rattle.flywheel.specs.Marked.{AreMarked, told, words_in, word_of}
 use Rattle.flywheel.proofs.DueInOrder.{is_due-before, not_due-after, due_steps-first}
 

@@ -1,14 +1,13 @@
 -- A frame is due no sooner than those before it, so the due steps up to a limit are the first ones.
-use Rattle.std.proofs.Common.{◌≡◌, ℕ, zero, suc, ◌+◌, ◌-◌, ◌*◌, ◌<◌, ◌≤◌, Bool, true, false, nat_le, cond, List, [], ◌∷◌, ◌++◌, length, map, refl}
-use Rattle.std.proofs.Common.{sym, ◌∙◌, ap, subst, append-nil, arith, ◌/◌, ◌^◌, Option, Some, None, IfSome}
+use Rattle.std.proofs.Common.{◌≡◌, ℕ, zero, suc, ◌+◌, ◌*◌, ◌<◌, ◌≤◌, Bool, true, false, nat_le, [], ◌∷◌, ◌++◌, refl}
+use Rattle.std.proofs.Common.{ap, append-nil, arith, ◌^◌, Option, Some, None, IfSome}
 use Rattle.std.specs.List.{filter, range_with_len}
 use Rattle.std.proofs.lemmas.Bool.Decides.{nat_tests}
 use Rattle.std.proofs.lemmas.Nat.{mul-le}
 use Rattle.flywheel.specs.declared.heard.HeardWord.{HeardWord}
-use Rattle.flywheel.specs.declared.frame.Frame.{Frame}
 use Rattle.flywheel.specs.declared.frame.Frame.TheVariants.{Gone}
-use Rattle.flywheel.specs.Frames.{tick_after, is_due, due_steps, is_gone, invented_after, frames_between}
-use Rattle.flywheel.specs.Wheel.{is_next_due, due_tick, IsFirstDue, IsInRange}
+use Rattle.flywheel.specs.Frames.{tick_after, is_due, due_steps, frames_between}
+use Rattle.flywheel.specs.Wheel.{is_next_due, IsFirstDue}
 use Rattle.flywheel.specs.StandsFor.{first_invented}
 
 -- an earlier step is due wherever a later one is

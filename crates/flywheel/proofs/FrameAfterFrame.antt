@@ -13,7 +13,7 @@ use Rattle.flywheel.specs.declared.frame.Frame.{Frame}
 use Rattle.flywheel.specs.declared.frame.Frame.TheVariants.{Gone}
 use Rattle.flywheel.specs.Frames.{due_steps, frames, frames_after, frames_between, heard_as, invented_after, is_gone, is_joined, is_next, label_after}
 use Rattle.flywheel.specs.Frames.{steps_in, tick_after}
-use Rattle.flywheel.specs.GoOn.{Follows, GoOn, Place, goes_on, next_place, place_of}
+use Rattle.flywheel.specs.GoOn.{GoOn, Place, next_place}
 use Rattle.flywheel.proofs.BoundedInvention.{due_steps-range}
 
 -- that steps add up, and when a word is the next, are laws

@@ -1,13 +1,12 @@
 -- The frames that were given so far are those up to the last word, and as many after it as were due.
-use Rattle.std.proofs.Common.{◌≡◌, ℕ, zero, suc, ◌+◌, ◌<◌, ◌≤◌, ◌⊎◌, inl, inr, Bool, true, false, List, [], ◌∷◌, ◌++◌, length, map, Option, Some}
-use Rattle.std.proofs.Common.{None, refl, sym, ◌∙◌, ap, subst, append_assoc, arith}
-use Rattle.std.specs.List.{range_with_len}
+use Rattle.std.proofs.Common.{◌≡◌, ℕ, ◌+◌, ◌<◌, ◌≤◌, inl, inr, Bool, true, false, List, [], ◌∷◌, ◌++◌, Option, Some}
+use Rattle.std.proofs.Common.{None, refl, sym, ◌∙◌, ap, append_assoc, arith}
 use Rattle.std.proofs.lemmas.List.FromFn.{length-range_with_len, map-range_with_len_more}
 use Rattle.tc_address.specs.Label.{Address}
 use Rattle.flywheel.specs.declared.heard.HeardWord.{HeardWord}
 use Rattle.flywheel.specs.declared.frame.Frame.{Frame}
 use Rattle.flywheel.specs.declared.frame.Frame.TheVariants.{Invented, Gone}
-use Rattle.flywheel.specs.Frames.{label_after, frames, frames_between, invented_after, is_due, is_gone, is_joined, is_next, due_steps, heard_as, tick_after}
+use Rattle.flywheel.specs.Frames.{label_after, frames, frames_between, invented_after, is_due, is_gone, is_joined, is_next, heard_as, tick_after}
 use Rattle.flywheel.specs.Wheel.{Wheel, still, running, has_frame_due, goes_on_with, is_next_due, is_next_of}
 use Rattle.flywheel.specs.StandsFor.{first_invented, HasGivenAfter, HasGivenUp, HasGiven, StandsFor, HasGivenAll}
 use Rattle.flywheel.proofs.DueInOrder.{is_due-before, is_due-later, not_due-after, not_due-own, due_steps-first}

@@ -1,7 +1,6 @@
 -- What one more word adds at the end: what follows the word before up to it, the word, and what follows it.
-use Rattle.std.proofs.Common.{◌≡◌, ℕ, ◌≤◌, List, [], ◌∷◌, ◌++◌, refl, sym, ◌∙◌, ap, subst, append_assoc}
+use Rattle.std.proofs.Common.{◌≡◌, ℕ, ◌≤◌, List, [], ◌∷◌, ◌++◌, refl, append_assoc}
 use Rattle.flywheel.specs.declared.heard.HeardWord.{HeardWord}
-use Rattle.flywheel.specs.declared.frame.Frame.{Frame}
 use Rattle.flywheel.specs.Frames.{frames_between, is_joined, heard_as, frames_after, frames}
 use Rattle.flywheel.proofs.DueInOrder.{frames_between-own}
 

@@ -1,5 +1,5 @@
 -- A decoder that takes a header, a field or a part of one stands for the bytes with those that it took.
-use Rattle.std.proofs.Common.{false, ◌≡◌, ℕ, zero, suc, ◌+◌, ◌-◌, ◌*◌, ◌<◌, ◌≤◌, List, [], ◌∷◌, ◌++◌, Some, None, length, take, drop, refl, sym, ap, ◌∙◌, arith, subst, append_assoc, append-nil, inl, inr}
+use Rattle.std.proofs.Common.{false, ◌≡◌, ℕ, zero, suc, ◌+◌, ◌-◌, ◌<◌, ◌≤◌, List, [], ◌∷◌, ◌++◌, Some, None, length, take, drop, refl, sym, ap, ◌∙◌, arith, subst, append_assoc, append-nil, inl, inr}
 use Rattle.std.specs.declared.option.Option.{Option}
 use Rattle.std.proofs.lemmas.Bool.{cases_lt}
 use Rattle.std.proofs.lemmas.List.{take-append-drop, take-append-le, take-take, length-append, length-take-le, drop_at}
@@ -7,15 +7,15 @@ use Rattle.tc_files.specs.declared.fault.FileFault.{FileFault}
 use Rattle.tc_files.specs.Verdict.{Verdict, good, refused, past_limit}
 use Rattle.vitc_reader.specs.declared.field.FieldAnswer.{FieldAnswer}
 use Rattle.vitc_reader.specs.Field.{IsAnswer}
-use Rattle.line_file.specs.declared.decoder.TheConstants.{MAX_FIELDS, FIELD_ROOM}
+use Rattle.line_file.specs.declared.decoder.TheConstants.{MAX_FIELDS}
 use Rattle.line_file.specs.declared.header.LineHeader.{LineHeader}
 use Rattle.line_file.specs.declared.header.TheConstants.{HEADER_LENGTH}
-use Rattle.line_file.specs.Answers.{AreAnswers, AreAnswersOf}
-use Rattle.line_file.specs.LineFile.{Front, whole, short, bad, header_at, field_at, field_width, Fields, no_field, with_field, field_then, fields_at, Reading, with_fields, behind_header, reading_of, no_header}
-use Rattle.line_file.specs.StandsFor.{Decoding, decoding_of, reading_behind, Waits, AreAnswered, StandsFor, IsTold}
+use Rattle.line_file.specs.Answers.{AreAnswers}
+use Rattle.line_file.specs.LineFile.{Front, whole, short, bad, header_at, field_at, field_width, Fields, no_field, with_field, fields_at, Reading, with_fields, behind_header, reading_of, no_header}
+use Rattle.line_file.specs.StandsFor.{decoding_of, reading_behind, Waits, StandsFor, IsTold}
 use Rattle.line_file.proofs.FaultsStay.{field_stays}
 use Rattle.line_file.proofs.FieldByField.{fields_by, fields_behind}
-use Rattle.line_file.proofs.HeaderBytes.{header_stays, own_header, short_header, whole_header}
+use Rattle.line_file.proofs.HeaderBytes.{header_stays, own_header, whole_header}
 use Rattle.line_file.proofs.OwnBytes.{own_field}
 
 -- ---- what was kept is less than what is whole

@@ -1,23 +1,20 @@
 -- What bytes show of a file, more bytes show too; and behind whole pieces the rest is read as if it began there.
-use Rattle.std.proofs.Common.{ap₂, ◌≡◌, ℕ, zero, suc, ◌+◌, ◌-◌, ◌*◌, ◌<◌, ◌≤◌, Bool, true, false, List, [], ◌∷◌, ◌++◌, Some, None, length, take, drop, refl, sym, ap, ◌∙◌, arith, subst, append_assoc, append-nil, inl, inr}
-use Rattle.std.specs.declared.option.Option.{Option}
-use Rattle.std.proofs.lemmas.Bool.{cases_lt}
-use Rattle.std.proofs.lemmas.List.{take-append-drop, take-append-le, length-take-le, drop_at, drop-append-le}
+use Rattle.std.proofs.Common.{ap₂, ◌≡◌, ℕ, zero, suc, ◌+◌, ◌≤◌, List, [], ◌∷◌, ◌++◌, length, take, drop, refl, sym, ap, ◌∙◌, arith}
+use Rattle.std.proofs.lemmas.List.{length-take-le, drop_at, drop-append-le}
 use Rattle.tc_files.specs.declared.fault.FileFault.{FileFault}
 use Rattle.tc_files.specs.Verdict.{Verdict, good, refused, past_limit}
 use Rattle.vitc_reader.specs.declared.field.FieldAnswer.{FieldAnswer}
 use Rattle.tc_address.specs.declared.system.System.{System}
 use Rattle.vitc_reader.specs.Field.{IsAnswer}
 use Rattle.vitc_reader.specs.Runs.{IsLineLength}
-use Rattle.line_file.specs.declared.decoder.TheConstants.{MAX_FIELDS, FIELD_ROOM}
+use Rattle.line_file.specs.declared.decoder.TheConstants.{MAX_FIELDS}
 use Rattle.line_file.specs.declared.header.LineHeader.{LineHeader}
 use Rattle.line_file.specs.declared.header.TheConstants.{HEADER_LENGTH}
 use Rattle.line_file.specs.Answers.{AreAnswers, AreAnswersOf}
-use Rattle.line_file.specs.LineFile.{Front, whole, short, bad, header_at, field_at, field_width, Fields, no_field, with_field, field_then, fields_at, Reading, with_fields, behind_header, reading_of, no_header}
-use Rattle.line_file.specs.StandsFor.{Decoding, decoding_of, reading_behind, Waits, AreAnswered, StandsFor, IsTold}
+use Rattle.line_file.specs.LineFile.{Front, whole, short, bad, header_at, field_at, field_width, Fields, with_field, field_then, fields_at, behind_header, reading_of}
 use Rattle.line_file.proofs.FaultsStay.{field_stays}
-use Rattle.line_file.proofs.HeaderBytes.{header_valid, header_more, header_stays, own_header, short_header, whole_header}
-use Rattle.line_file.proofs.OwnBytes.{own_field, field_more, short_field}
+use Rattle.line_file.proofs.HeaderBytes.{header_valid, header_more, header_stays, whole_header}
+use Rattle.line_file.proofs.OwnBytes.{own_field, field_more}
 
 -- ---- one field, and those that follow it
 

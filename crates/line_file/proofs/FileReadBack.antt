@@ -1,6 +1,6 @@
 -- A file that was written is read as its header and its fields: each piece is in its range, so the reading goes on behind it.
-use Rattle.std.proofs.Common.{true, false, ◌≡◌, ℕ, zero, suc, ◌+◌, ◌*◌, ◌%◌, ◌<◌, ◌≤◌, ◌^◌, List, [], ◌∷◌, ◌++◌, Some, length, drop, refl, sym, ap, ◌∙◌, arith, append_assoc, append-nil}
-use Rattle.std.specs.Prelude.{◌==◌, ◌&&◌, nat_le}
+use Rattle.std.proofs.Common.{true, false, ◌≡◌, ℕ, zero, suc, ◌+◌, ◌*◌, ◌%◌, ◌<◌, ◌≤◌, List, [], ◌∷◌, ◌++◌, Some, length, drop, refl, ap, ◌∙◌, arith, append_assoc}
+use Rattle.std.specs.Prelude.{◌==◌}
 use Rattle.std.specs.List.{flat_map}
 use Rattle.std.proofs.lemmas.Bool.{and_from, eq-eqb, le-leb, ne_eqb}
 use Rattle.std.proofs.lemmas.List.{drop_at, length-append}
@@ -13,7 +13,7 @@ use Rattle.line_file.specs.declared.field.TheConstants.{MAX_LINES, MAX_RUNS}
 use Rattle.line_file.specs.declared.header.LineHeader.{LineHeader}
 use Rattle.line_file.specs.declared.header.TheConstants.{HEADER_LENGTH, MIN_LINE_LENGTH, MAX_LINE_LENGTH}
 use Rattle.line_file.specs.Grammar.{line_bytes, field_bytes, file_of, AreRuns, AreLines, AreFields}
-use Rattle.line_file.specs.LineFile.{Front, whole, with_first, runs_at, is_run_count, line_at, line_width, line_then, lines_at, lines_width, field_at, field_width, Fields, no_field, with_field, fields_at, Reading, with_fields, behind_header, header_at, header_with, reading_of}
+use Rattle.line_file.specs.LineFile.{Front, whole, with_first, runs_at, is_run_count, line_at, line_width, lines_at, lines_width, field_at, field_width, Fields, with_field, fields_at, with_fields, behind_header, header_at, header_with, reading_of}
 use Rattle.line_file.specs.LineHeader.{IsHeader, header_bytes}
 use Rattle.tc_address.specs.declared.system.System.{System}
 use Rattle.tc_address.specs.declared.system.System.TheVariants.{F24, F25, F30}

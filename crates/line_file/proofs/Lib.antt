@@ -9,3 +9,4 @@ pub mod OwnBytes
 pub mod PieceByPiece
 pub mod Pushed
 pub mod RunsFit
+pub mod RunsInBytes

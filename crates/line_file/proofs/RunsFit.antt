@@ -1,8 +1,8 @@
 -- A run of some cells of a line lasts a tick or more, and fits two bytes.
-use Rattle.std.proofs.Common.{ℕ, ◌+◌, ◌*◌, ◌<◌, ◌≤◌, List, [], ◌∷◌, arith}
+use Rattle.std.proofs.Common.{ℕ, ◌*◌, ◌<◌, ◌≤◌, List, [], ◌∷◌, arith}
 use Rattle.std.specs.Int.{abs_diff}
 use Rattle.std.proofs.lemmas.Nat.{mul-le}
-use Rattle.vitc_reader.specs.Runs.{IsCells, AreCells, IsLineLength, StandFor, total}
+use Rattle.vitc_reader.specs.Runs.{AreCells, IsLineLength, StandFor, total}
 use Rattle.line_file.specs.Grammar.{AreRuns}
 
 -- so many cells of n ticks last n ticks or more, and not more than 90 n

@@ -1,6 +1,7 @@
 -- What the code finds at the front of bytes, as the definitions say it. No promise speaks of it.
-use Rattle.std.specs.Prelude.{◌≡◌, ℕ, ◌<◌, List, Option, Some, None}
+use Rattle.std.specs.Prelude.{◌≡◌, ℕ, ◌*◌, ◌<◌, List, take, drop, slice_index, Option, Some, None}
 use Rattle.vitc_reader.specs.Field.{IsAnswer}
+use Rattle.vitc_reader.specs.Runs.{runs_of_bytes}
 use Rattle.line_file.specs.declared.decoder.Piece.{Piece}
 use Rattle.line_file.specs.declared.decoder.Piece.TheVariants as pieces
 use Rattle.line_file.specs.declared.decoder.TheConstants.{MAX_FIELDS}
@@ -23,6 +24,14 @@ abbrev pub header_front : FoundHeader → Front LineHeader
 header_front (headers.Whole header) = whole header
 header_front headers.Short = short
 header_front (headers.Fault f) = bad f
+
+-- so many runs that stand behind the first byte
+abbrev pub runs_behind : ℕ → List ℕ → List ℕ
+runs_behind count bytes = runs_of_bytes (take (2 * count) (drop 1 bytes))
+
+-- the runs of the line with which bytes begin, where it is whole
+abbrev pub line_of : List ℕ → List ℕ
+line_of bytes = runs_behind (slice_index bytes 0) bytes
 
 -- a field that was found, with its answer
 abbrev pub IsFoundField : LineHeader → ℕ → List ℕ → FoundField → Type 0

@@ -1,5 +1,5 @@
 -- The lines of a report on fields, byte for byte. Their form is this project's own.
-use Rattle.std.specs.Prelude.{ℕ, ◌+◌, List, [], ◌∷◌, ◌++◌, codes, decimal}
+use Rattle.std.specs.Prelude.{ℕ, List, ◌++◌, codes, decimal}
 use Rattle.tc_address.specs.Spelling.{text_of}
 use Rattle.tc_bits.specs.Fault.{name_of}
 use Rattle.tc_files.specs.Line.{flag_digit}

@@ -1,15 +1,14 @@
 //! A field at the front of bytes. Next: `vitc_reader/src/field.rt` with each of its lines, and then
 //! `decoder`.
-ghost use Rattle.std.specs.Prelude.{◌≡◌, ◌<◌, ◌≤◌, ◌+◌, ◌-◌, ◌*◌, ◌^◌, ◌++◌, length, take, drop, true};
-ghost use Rattle.vitc_reader.specs.Runs.{MayBeLine};
-ghost use Rattle.line_file.specs.KeptFront.{front_of, IsFoundField};
-ghost use Rattle.line_file.specs.LineFile.{is_run_count, line_at, line_width};
+ghost use Rattle.std.specs.Prelude.{◌≡◌, ◌<◌, ◌≤◌, ◌+◌, ◌-◌, ◌*◌, ◌^◌, ◌++◌, ◌∷◌, [], ℕ, List, length, take, drop, slice_index, true};
+ghost use Rattle.vitc_reader.specs.Field.{StandsFor};
+ghost use Rattle.line_file.specs.KeptFront.{front_of, line_of, runs_behind, IsFoundField};
+ghost use Rattle.line_file.specs.LineFile.{is_run_count, line_at, runs_at};
 ghost use Rattle.line_file.specs.LineHeader.{IsHeader};
 ghost use Rattle.line_file.specs.declared.found.Found.TheVariants as things;
 
 use crate::found::Found;
 use crate::header::LineHeader;
-use arrayvec::ArrayVec;
 use byteorder::{BigEndian, ByteOrder};
 use tc_files::FileFault;
 use vitc_reader::laws::a_line_again_changes_nothing;
@@ -20,9 +19,6 @@ pub const MAX_LINES: u8 = 20;
 
 /// The most runs of a line.
 pub const MAX_RUNS: u8 = 89;
-
-/// The runs of one line, in ticks.
-type Runs = ArrayVec<u16, 89>;
 
 /// What stands at the front of bytes behind the header.
 #[derive(Clone, Copy, Debug, PartialEq, Eq)]
@@ -50,7 +46,6 @@ pub(crate) fn field_in(header: &LineHeader, place: u64, bytes: &[u8]) -> FoundFi
     }
     a_line_again_changes_nothing();
     let mut reader = FieldReader::new(header.system, header.length);
-    let mut runs = Runs::new();
     let mut width = 1;
     // How many bytes the line before has, 0 before the first one.
     let mut last = 0;
@@ -59,14 +54,13 @@ pub(crate) fn field_in(header: &LineHeader, place: u64, bytes: &[u8]) -> FoundFi
             // It says again what it said, which changes no answer.
             width += last;
         } else {
-            match line_in(place + width as u64, &bytes[width..], &mut runs) {
+            match line_in(place + width as u64, &bytes[width..], &mut reader) {
                 Found::Whole => {}
                 Found::Short => return FoundField::Short,
                 Found::Fault(fault) => return FoundField::Fault(fault),
             }
-            last = 1 + 2 * runs.len();
+            last = line_width(bytes[width]);
             width += last;
-            reader.line(&runs);
         }
     }
     FoundField::Whole {
@@ -85,12 +79,13 @@ fn stands_again(bytes: &[u8], at: usize, last: usize) -> bool
     last > 0 && bytes[at..].starts_with(&bytes[at - last..at])
 }
 
-/// The line with which bytes begin, and its runs.
-fn line_in(place: u64, bytes: &[u8], runs: &mut Runs) -> Found
+/// The line with which bytes begin. Where it is whole the reader takes it.
+fn line_in(place: u64, bytes: &[u8], reader: &mut FieldReader) -> Found
     requires place { place < 2 ^ 63 }
-    ensures front { front_of result runs.new.items ≡ line_at place bytes.now }
-    ensures line { result ≡ things.Whole → MayBeLine runs.new.items }
-    ensures within { result ≡ things.Whole → line_width runs.new.items ≤ length bytes.now }
+    ensures front { front_of result (line_of bytes.now) ≡ line_at place bytes.now }
+    ensures within { result ≡ things.Whole → 1 + 2 * slice_index bytes.now 0 ≤ length bytes.now }
+    ensures same { (reader.new.system ≡ reader.old.system) × (reader.new.length ≡ reader.old.length) }
+    ensures next { result ≡ things.Whole → (lines : List (List ℕ)) → StandsFor reader.old lines → StandsFor reader.new (lines ++ line_of bytes.now ∷ []) }
 {
     if bytes.is_empty() {
         return Found::Short;
@@ -99,20 +94,42 @@ fn line_in(place: u64, bytes: &[u8], runs: &mut Runs) -> Found
     if !is_run_count(count) {
         return Found::Fault(FileFault::RunCount(place));
     }
-    runs.clear();
+    let width = line_width(count);
+    if bytes.len() < width {
+        return tried_runs(place, count, bytes);
+    }
+    if reader.line_of_bytes(&bytes[1..width]) {
+        // Each run is a cell or more, so it lasts a tick or more.
+        return Found::Whole;
+    }
+    tried_runs(place, count, bytes)
+}
+
+/// Whether so many runs, each of a tick or more, stand behind the first byte.
+fn tried_runs(place: u64, count: u8, bytes: &[u8]) -> Found
+    requires place { place < 2 ^ 63 }
+    requires some { 0 < length bytes.now }
+    ensures front { front_of result (runs_behind count bytes.now) ≡ runs_at count (place + 1) (drop 1 bytes.now) }
+    ensures within { result ≡ things.Whole → 1 + 2 * count ≤ length bytes.now }
+{
     let mut at = 1;
     'runs: for _run in 0..count {
         if bytes.len() < at + 2 {
             return Found::Short;
         }
-        let ticks = BigEndian::read_u16(&bytes[at..]);
-        if ticks == 0 {
+        if BigEndian::read_u16(&bytes[at..]) == 0 {
             return Found::Fault(FileFault::Run(place + at as u64));
         }
-        runs.push(ticks);
         at += 2;
     }
     Found::Whole
+}
+
+/// How many bytes a line of so many runs has.
+fn line_width(count: u8) -> usize
+    ensures { result ≡ 1 + 2 * count }
+{
+    1 + 2 * count as usize
 }
 
 /// Whether a line may have so many runs.

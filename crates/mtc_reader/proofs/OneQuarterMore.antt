@@ -9,7 +9,8 @@ use Rattle.mtc_reader.specs.Messages.{messages_in, without_real_time}
 use Rattle.mtc_reader.specs.StandsFor.{Keeps, KeepsRow, StandsFor}
 use Rattle.mtc_reader.proofs.ReadBack.{below, sounds}
 
-seen : (front : List ℕ) (number : ℕ) → number < 0x80 → without_real_time (reverse (front ++ 0xf1 ∷ number ∷ [])) ≡ number ∷ 0xf1 ∷ without_real_time (reverse front)
+seen : (front : List ℕ) (number : ℕ) → number < 0x80 → without_real_time (reverse (front ++ 0xf1 ∷ number ∷ []))
+    ≡ number ∷ 0xf1 ∷ without_real_time (reverse front)
 seen front number small = ap without_real_time (reverse-append front (0xf1 ∷ number ∷ [])) ∙ rw (sounds number small) refl
 
 told : (before : List ℕ) (number : ℕ) → number < 0x80 → messages_in (number ∷ 0xf1 ∷ before) ≡ QuarterFrame number ∷ messages_in before
@@ -23,6 +24,7 @@ pub stands_with_both : (reader next : MtcReader) (front : List ℕ) (number : �
 stands_with_both reader next front number small count message row stands = record {
   count = count ∙ ap (λ n. n + 2) stands.count ∙ sym (length-append front (0xf1 ∷ number ∷ []));
   message = subst (λ (l : List ℕ). Keeps next.message l) (sym (seen front number small)) (message (without_real_time (reverse front)) number small);
-  row = subst (λ (l : List Message). KeepsRow next.row l) (sym (ap messages_in (seen front number small) ∙ told (without_real_time (reverse front)) number small))
+  row = subst (λ (l : List Message). KeepsRow next.row l) (sym (ap messages_in (seen front number small)
+      ∙ told (without_real_time (reverse front)) number small))
       (row (messages_in (without_real_time (reverse front))) stands.row);
 }

@@ -48,7 +48,8 @@ quarter_is piece quarter bits p b is =
 abbrev pub after : ℕ → Current
 after quarter = record { kind = kinds.Quarter; numbers = quarter ∷ [] }
 
-pub quarter_step : (place : ℕ) (current : Current) (messages : List Message) (quarter : ℕ) (more : List ℕ) → is_data quarter ≡ true → is_sounding quarter ≡ true →
+pub quarter_step : (place : ℕ) (current : Current) (messages : List Message) (quarter : ℕ) (more : List ℕ) → is_data quarter ≡ true
+    → is_sounding quarter ≡ true →
     events_along place current messages (0xf1 ∷ quarter ∷ more)
     ≡ events_of (event_of (QuarterFrame quarter) messages (place + 1)) ++ events_along (place + 1 + 1) (after quarter) (QuarterFrame quarter ∷ messages) more
 quarter_step place current messages quarter more is_number is_no_real_time = rw (is_number, is_no_real_time) refl

@@ -1,6 +1,7 @@
 -- A full message and then pairs of frames, eight quarter frames each, are read pair by pair, whatever bytes came before. Between two pairs no eight
 -- quarter frames have their pieces in order.
-use Rattle.std.proofs.Common.{◌≡◌, ◌≢◌, ◌<◌, ◌⊎◌, ℕ, ◌+◌, ◌*◌, ◌/◌, ◌%◌, List, [], ◌∷◌, ◌++◌, length, map, refl, sym, ◌∙◌, ap, subst, append_assoc, append-nil, inl, inr, arith}
+use Rattle.std.proofs.Common.{◌≡◌, ◌≢◌, ◌<◌, ◌⊎◌, ℕ, ◌+◌, ◌*◌, ◌/◌, ◌%◌, List, [], ◌∷◌, ◌++◌, length, map, refl, sym, ◌∙◌, ap, subst, append_assoc}
+use Rattle.std.proofs.Common.{append-nil, inl, inr, arith}
 use Rattle.std.specs.Prelude.{reverse}
 use Rattle.std.proofs.lemmas.Bool.{cond-true}
 use Rattle.std.proofs.lemmas.List.{map-append}
@@ -13,12 +14,14 @@ use Rattle.mtc_reader.proofs.Labels.{label_is}
 use Rattle.mtc_reader.specs.declared.message.Message.{Message}
 use Rattle.mtc_reader.specs.declared.message.Message.TheVariants.{FullMessage, QuarterFrame}
 use Rattle.mtc_reader.specs.Events.{events_in, fault_of, full_address, full_event, quarter_event, latest_eight, piece_of, row_in, window_event}
-use Rattle.mtc_reader.specs.Laws.{all_falling, all_rising, at_no_place, code_of, falling, falling_half, full_message, quarter_events, quarters, rising, rising_half, AreLabels}
+use Rattle.mtc_reader.specs.Laws.{all_falling, all_rising, at_no_place, code_of, falling, falling_half, full_message, quarter_events, quarters}
+use Rattle.mtc_reader.specs.Laws.{rising, rising_half, AreLabels}
 use Rattle.mtc_reader.specs.Messages.{Current, current_in, messages_in, without_real_time}
 use Rattle.mtc_reader.specs.StandsFor.{events_of}
 use Rattle.mtc_reader.proofs.AlongTheBytes.{along, events_after, events_along}
 use Rattle.mtc_reader.proofs.LatestEight.{another_first, another_piece, latest_eight-next}
-use Rattle.mtc_reader.proofs.ReadBack.{address_back, after, below, came, code_below, early, frames_below, full_back, falling_window, IsQuarter, quarter_step, rising_window, row_is, sounds}
+use Rattle.mtc_reader.proofs.ReadBack.{address_back, after, below, came, code_below, early, frames_below, full_back, falling_window, IsQuarter}
+use Rattle.mtc_reader.proofs.ReadBack.{quarter_step, rising_window, row_is, sounds}
 
 -- a row ends with eight quarter frames whose second one has this piece
 pub record Behind (second : ℕ) (messages : List Message) : Type 0 where
@@ -94,13 +97,20 @@ eight_behind place current messages second i j k l m n o p a b c d e f g h more 
     let five = latest_eight-next ((((row ++ a ∷ []) ++ b ∷ []) ++ c ∷ []) ++ d ∷ []) w.e w.f w.g w.h a b c d e four in
     let six = latest_eight-next (((((row ++ a ∷ []) ++ b ∷ []) ++ c ∷ []) ++ d ∷ []) ++ e ∷ []) w.f w.g w.h a b c d e f five in
     let seven = latest_eight-next ((((((row ++ a ∷ []) ++ b ∷ []) ++ c ∷ []) ++ d ∷ []) ++ e ∷ []) ++ f ∷ []) w.g w.h a b c d e f g six in
-    first_quarter place current messages w.a w.b w.c w.d w.e w.f w.g w.h a i second (quarters (b ∷ c ∷ d ∷ e ∷ f ∷ g ∷ h ∷ []) ++ more) qa w.has not_zero not_seven w.is
-    ∙ inner_quarter _ (after a) (came (a ∷ []) ++ messages) w.b w.c w.d w.e w.f w.g w.h a b j (quarters (c ∷ d ∷ e ∷ f ∷ g ∷ h ∷ []) ++ more) qb inner.second.0 inner.second.1 one
-    ∙ inner_quarter _ (after b) (came (b ∷ a ∷ []) ++ messages) w.c w.d w.e w.f w.g w.h a b c k (quarters (d ∷ e ∷ f ∷ g ∷ h ∷ []) ++ more) qc inner.third.0 inner.third.1 two
-    ∙ inner_quarter _ (after c) (came (c ∷ b ∷ a ∷ []) ++ messages) w.d w.e w.f w.g w.h a b c d l (quarters (e ∷ f ∷ g ∷ h ∷ []) ++ more) qd inner.fourth.0 inner.fourth.1 three
-    ∙ inner_quarter _ (after d) (came (d ∷ c ∷ b ∷ a ∷ []) ++ messages) w.e w.f w.g w.h a b c d e m (quarters (f ∷ g ∷ h ∷ []) ++ more) qe inner.fifth.0 inner.fifth.1 four
-    ∙ inner_quarter _ (after e) (came (e ∷ d ∷ c ∷ b ∷ a ∷ []) ++ messages) w.f w.g w.h a b c d e f n (quarters (g ∷ h ∷ []) ++ more) qf inner.sixth.0 inner.sixth.1 five
-    ∙ inner_quarter _ (after f) (came (f ∷ e ∷ d ∷ c ∷ b ∷ a ∷ []) ++ messages) w.g w.h a b c d e f g o (quarters (h ∷ []) ++ more) qg inner.seventh.0 inner.seventh.1 six
+    first_quarter place current messages w.a w.b w.c w.d w.e w.f w.g w.h a i second (quarters (b ∷ c ∷ d ∷ e ∷ f ∷ g ∷ h ∷ []) ++ more) qa w.has
+        not_zero not_seven w.is
+    ∙ inner_quarter _ (after a) (came (a ∷ []) ++ messages) w.b w.c w.d w.e w.f w.g w.h a b j (quarters (c ∷ d ∷ e ∷ f ∷ g ∷ h ∷ []) ++ more) qb
+        inner.second.0 inner.second.1 one
+    ∙ inner_quarter _ (after b) (came (b ∷ a ∷ []) ++ messages) w.c w.d w.e w.f w.g w.h a b c k (quarters (d ∷ e ∷ f ∷ g ∷ h ∷ []) ++ more) qc
+        inner.third.0 inner.third.1 two
+    ∙ inner_quarter _ (after c) (came (c ∷ b ∷ a ∷ []) ++ messages) w.d w.e w.f w.g w.h a b c d l (quarters (e ∷ f ∷ g ∷ h ∷ []) ++ more) qd
+        inner.fourth.0 inner.fourth.1 three
+    ∙ inner_quarter _ (after d) (came (d ∷ c ∷ b ∷ a ∷ []) ++ messages) w.e w.f w.g w.h a b c d e m (quarters (f ∷ g ∷ h ∷ []) ++ more) qe
+        inner.fifth.0 inner.fifth.1 four
+    ∙ inner_quarter _ (after e) (came (e ∷ d ∷ c ∷ b ∷ a ∷ []) ++ messages) w.f w.g w.h a b c d e f n (quarters (g ∷ h ∷ []) ++ more) qf inner.sixth.0
+        inner.sixth.1 five
+    ∙ inner_quarter _ (after f) (came (f ∷ e ∷ d ∷ c ∷ b ∷ a ∷ []) ++ messages) w.g w.h a b c d e f g o (quarters (h ∷ []) ++ more) qg inner.seventh.0
+        inner.seventh.1 six
     ∙ next_quarter _ (after g) (came (g ∷ f ∷ e ∷ d ∷ c ∷ b ∷ a ∷ []) ++ messages) w.h a b c d e f g h p more qh seven
 
 -- ---- after an empty row
@@ -184,31 +194,43 @@ full_along place current messages device a more small l =
       sounds a.frames (omega (arith, frames_below a l)),
     ) refl in
     ap (map at_no_place) (read ∙ ap (λ b. full_event b (on (on (on (on place))) + 1) ∷ later) (full_back a l)
-    ∙ ap (λ event. event ∷ later) (cond-true (is_label a) (Full a (on (on (on (on place))) + 1)) (RefusedFull (fault_of a) (on (on (on (on place))) + 1)) (label_is a l)))
+    ∙ ap (λ event. event ∷ later) (cond-true (is_label a) (Full a (on (on (on (on place))) + 1))
+        (RefusedFull (fault_of a) (on (on (on (on place))) + 1)) (label_is a l)))
 
 -- ---- pairs of a run forward
 
 rising_eight : (place : ℕ) (current : Current) (messages : List Message) (a : Address) (more : List ℕ) → IsLabel a
     → (row_in messages ≡ []) ⊎ Behind 1 messages
     → events_along place current messages (rising a ++ more)
-    ≡ events_of (window_event ((a.frames % 16) ∷ (0x10 + a.frames / 16) ∷ (0x20 + a.seconds % 16) ∷ (0x30 + a.seconds / 16) ∷ (0x40 + a.minutes % 16) ∷ (0x50 + a.minutes / 16) ∷ (0x60 + a.hours % 16) ∷ (0x70 + (a.hours / 16 + 2 * code_of a.count)) ∷ [])
+    ≡ events_of (window_event ((a.frames % 16) ∷ (0x10 + a.frames / 16) ∷ (0x20 + a.seconds % 16) ∷ (0x30 + a.seconds / 16) ∷ (0x40 + a.minutes % 16)
+        ∷ (0x50 + a.minutes / 16) ∷ (0x60 + a.hours % 16) ∷ (0x70 + (a.hours / 16 + 2 * code_of a.count)) ∷ [])
     (on (on (on (on (on (on (on place)))))) + 1))
-    ++ events_along (on (on (on (on (on (on (on (on place)))))))) (after (0x70 + (a.hours / 16 + 2 * code_of a.count))) (came (reverse ((a.frames % 16) ∷ (0x10 + a.frames / 16) ∷ (0x20 + a.seconds % 16) ∷ (0x30 + a.seconds / 16) ∷ (0x40 + a.minutes % 16) ∷ (0x50 + a.minutes / 16) ∷ (0x60 + a.hours % 16) ∷ (0x70 + (a.hours / 16 + 2 * code_of a.count)) ∷ [])) ++ messages) more
+    ++ events_along (on (on (on (on (on (on (on (on place)))))))) (after (0x70 + (a.hours / 16 + 2 * code_of a.count)))
+        (came (reverse ((a.frames % 16) ∷ (0x10 + a.frames / 16) ∷ (0x20 + a.seconds % 16) ∷ (0x30 + a.seconds / 16) ∷ (0x40 + a.minutes % 16) ∷
+        (0x50 + a.minutes / 16) ∷ (0x60 + a.hours % 16) ∷ (0x70 + (a.hours / 16 + 2 * code_of a.count)) ∷ [])) ++ messages) more
 rising_eight place current messages a more l (inl empty) =
     let row = row_is a l in
     eight_first place current messages 0 1 2 3 4 5 6 7
-    (a.frames % 16) (0x10 + a.frames / 16) (0x20 + a.seconds % 16) (0x30 + a.seconds / 16) (0x40 + a.minutes % 16) (0x50 + a.minutes / 16) (0x60 + a.hours % 16) (0x70 + (a.hours / 16 + 2 * code_of a.count))
+    (a.frames % 16) (0x10 + a.frames / 16) (0x20 + a.seconds % 16) (0x30 + a.seconds / 16) (0x40 + a.minutes % 16) (0x50 + a.minutes / 16)
+        (0x60 + a.hours % 16) (0x70 + (a.hours / 16 + 2 * code_of a.count))
     more row.first row.second row.third row.fourth row.fifth row.sixth row.seventh row.eighth empty
 rising_eight place current messages a more l (inr behind) =
     let row = row_is a l in
     eight_behind place current messages 1 0 1 2 3 4 5 6 7
-    (a.frames % 16) (0x10 + a.frames / 16) (0x20 + a.seconds % 16) (0x30 + a.seconds / 16) (0x40 + a.minutes % 16) (0x50 + a.minutes / 16) (0x60 + a.hours % 16) (0x70 + (a.hours / 16 + 2 * code_of a.count))
+    (a.frames % 16) (0x10 + a.frames / 16) (0x20 + a.seconds % 16) (0x30 + a.seconds / 16) (0x40 + a.minutes % 16) (0x50 + a.minutes / 16)
+        (0x60 + a.hours % 16) (0x70 + (a.hours / 16 + 2 * code_of a.count))
     more row.first row.second row.third row.fourth row.fifth row.sixth row.seventh row.eighth
     (λ x. absurd (omega (arith, x))) (λ x. absurd (omega (arith, x)))
-    (record { second = ((λ x. absurd (omega (arith, x))), (λ x. absurd (omega (arith, x)))); third = ((λ x. absurd (omega (arith, x))), (λ x. absurd (omega (arith, x)))); fourth = ((λ x. absurd (omega (arith, x))), (λ x. absurd (omega (arith, x)))); fifth = ((λ x. absurd (omega (arith, x))), (λ x. absurd (omega (arith, x)))); sixth = ((λ x. absurd (omega (arith, x))), (λ x. absurd (omega (arith, x)))); seventh = ((λ x. absurd (omega (arith, x))), (λ x. absurd (omega (arith, x)))) }) behind
+    (record { second = ((λ x. absurd (omega (arith, x))), (λ x. absurd (omega (arith, x))));
+        third = ((λ x. absurd (omega (arith, x))), (λ x. absurd (omega (arith, x))));
+        fourth = ((λ x. absurd (omega (arith, x))), (λ x. absurd (omega (arith, x))));
+        fifth = ((λ x. absurd (omega (arith, x))), (λ x. absurd (omega (arith, x))));
+        sixth = ((λ x. absurd (omega (arith, x))), (λ x. absurd (omega (arith, x))));
+        seventh = ((λ x. absurd (omega (arith, x))), (λ x. absurd (omega (arith, x)))) }) behind
 
 rising_event : (a : Address) (place : ℕ) (more : List MtcEvent) → IsLabel a
-    → map at_no_place (events_of (window_event ((a.frames % 16) ∷ (0x10 + a.frames / 16) ∷ (0x20 + a.seconds % 16) ∷ (0x30 + a.seconds / 16) ∷ (0x40 + a.minutes % 16) ∷ (0x50 + a.minutes / 16) ∷ (0x60 + a.hours % 16) ∷ (0x70 + (a.hours / 16 + 2 * code_of a.count)) ∷ []) place) ++ more)
+    → map at_no_place (events_of (window_event ((a.frames % 16) ∷ (0x10 + a.frames / 16) ∷ (0x20 + a.seconds % 16) ∷ (0x30 + a.seconds / 16) ∷
+        (0x40 + a.minutes % 16) ∷ (0x50 + a.minutes / 16) ∷ (0x60 + a.hours % 16) ∷ (0x70 + (a.hours / 16 + 2 * code_of a.count)) ∷ []) place) ++ more)
     ≡ Quarter Forward a 0 ∷ map at_no_place more
 rising_event a place more l =
     let row = row_is a l in
@@ -218,7 +240,8 @@ rising_event a place more l =
     (cond-true (is_label a) (Quarter Forward a place) (RefusedQuarter Forward (fault_of a) place) (label_is a l))
 
 rising_behind : (a : Address) (messages : List Message) → IsLabel a → (row_in messages ≡ []) ⊎ Behind 1 messages
-    → Behind 1 (came (reverse ((a.frames % 16) ∷ (0x10 + a.frames / 16) ∷ (0x20 + a.seconds % 16) ∷ (0x30 + a.seconds / 16) ∷ (0x40 + a.minutes % 16) ∷ (0x50 + a.minutes / 16) ∷ (0x60 + a.hours % 16) ∷ (0x70 + (a.hours / 16 + 2 * code_of a.count)) ∷ [])) ++ messages)
+    → Behind 1 (came (reverse ((a.frames % 16) ∷ (0x10 + a.frames / 16) ∷ (0x20 + a.seconds % 16) ∷ (0x30 + a.seconds / 16) ∷ (0x40 + a.minutes % 16)
+        ∷ (0x50 + a.minutes / 16) ∷ (0x60 + a.hours % 16) ∷ (0x70 + (a.hours / 16 + 2 * code_of a.count)) ∷ [])) ++ messages)
 rising_behind a messages l ready =
     let row = row_is a l in
     record {
@@ -252,24 +275,35 @@ rising_run (a ∷ labels) tail place current messages are ready none =
 falling_eight : (place : ℕ) (current : Current) (messages : List Message) (a : Address) (more : List ℕ) → IsLabel a
     → (row_in messages ≡ []) ⊎ Behind 6 messages
     → events_along place current messages (falling a ++ more)
-    ≡ events_of (window_event ((0x70 + (a.hours / 16 + 2 * code_of a.count)) ∷ (0x60 + a.hours % 16) ∷ (0x50 + a.minutes / 16) ∷ (0x40 + a.minutes % 16) ∷ (0x30 + a.seconds / 16) ∷ (0x20 + a.seconds % 16) ∷ (0x10 + a.frames / 16) ∷ (a.frames % 16) ∷ [])
+    ≡ events_of (window_event ((0x70 + (a.hours / 16 + 2 * code_of a.count)) ∷ (0x60 + a.hours % 16) ∷ (0x50 + a.minutes / 16) ∷
+        (0x40 + a.minutes % 16) ∷ (0x30 + a.seconds / 16) ∷ (0x20 + a.seconds % 16) ∷ (0x10 + a.frames / 16) ∷ (a.frames % 16) ∷ [])
     (on (on (on (on (on (on (on place)))))) + 1))
-    ++ events_along (on (on (on (on (on (on (on (on place)))))))) (after (a.frames % 16)) (came (reverse ((0x70 + (a.hours / 16 + 2 * code_of a.count)) ∷ (0x60 + a.hours % 16) ∷ (0x50 + a.minutes / 16) ∷ (0x40 + a.minutes % 16) ∷ (0x30 + a.seconds / 16) ∷ (0x20 + a.seconds % 16) ∷ (0x10 + a.frames / 16) ∷ (a.frames % 16) ∷ [])) ++ messages) more
+    ++ events_along (on (on (on (on (on (on (on (on place)))))))) (after (a.frames % 16))
+        (came (reverse ((0x70 + (a.hours / 16 + 2 * code_of a.count)) ∷ (0x60 + a.hours % 16) ∷ (0x50 + a.minutes / 16) ∷ (0x40 + a.minutes % 16) ∷
+        (0x30 + a.seconds / 16) ∷ (0x20 + a.seconds % 16) ∷ (0x10 + a.frames / 16) ∷ (a.frames % 16) ∷ [])) ++ messages) more
 falling_eight place current messages a more l (inl empty) =
     let row = row_is a l in
     eight_first place current messages 7 6 5 4 3 2 1 0
-    (0x70 + (a.hours / 16 + 2 * code_of a.count)) (0x60 + a.hours % 16) (0x50 + a.minutes / 16) (0x40 + a.minutes % 16) (0x30 + a.seconds / 16) (0x20 + a.seconds % 16) (0x10 + a.frames / 16) (a.frames % 16)
+    (0x70 + (a.hours / 16 + 2 * code_of a.count)) (0x60 + a.hours % 16) (0x50 + a.minutes / 16) (0x40 + a.minutes % 16) (0x30 + a.seconds / 16)
+        (0x20 + a.seconds % 16) (0x10 + a.frames / 16) (a.frames % 16)
     more row.eighth row.seventh row.sixth row.fifth row.fourth row.third row.second row.first empty
 falling_eight place current messages a more l (inr behind) =
     let row = row_is a l in
     eight_behind place current messages 6 7 6 5 4 3 2 1 0
-    (0x70 + (a.hours / 16 + 2 * code_of a.count)) (0x60 + a.hours % 16) (0x50 + a.minutes / 16) (0x40 + a.minutes % 16) (0x30 + a.seconds / 16) (0x20 + a.seconds % 16) (0x10 + a.frames / 16) (a.frames % 16)
+    (0x70 + (a.hours / 16 + 2 * code_of a.count)) (0x60 + a.hours % 16) (0x50 + a.minutes / 16) (0x40 + a.minutes % 16) (0x30 + a.seconds / 16)
+        (0x20 + a.seconds % 16) (0x10 + a.frames / 16) (a.frames % 16)
     more row.eighth row.seventh row.sixth row.fifth row.fourth row.third row.second row.first
     (λ x. absurd (omega (arith, x))) (λ x. absurd (omega (arith, x)))
-    (record { second = ((λ x. absurd (omega (arith, x))), (λ x. absurd (omega (arith, x)))); third = ((λ x. absurd (omega (arith, x))), (λ x. absurd (omega (arith, x)))); fourth = ((λ x. absurd (omega (arith, x))), (λ x. absurd (omega (arith, x)))); fifth = ((λ x. absurd (omega (arith, x))), (λ x. absurd (omega (arith, x)))); sixth = ((λ x. absurd (omega (arith, x))), (λ x. absurd (omega (arith, x)))); seventh = ((λ x. absurd (omega (arith, x))), (λ x. absurd (omega (arith, x)))) }) behind
+    (record { second = ((λ x. absurd (omega (arith, x))), (λ x. absurd (omega (arith, x))));
+        third = ((λ x. absurd (omega (arith, x))), (λ x. absurd (omega (arith, x))));
+        fourth = ((λ x. absurd (omega (arith, x))), (λ x. absurd (omega (arith, x))));
+        fifth = ((λ x. absurd (omega (arith, x))), (λ x. absurd (omega (arith, x))));
+        sixth = ((λ x. absurd (omega (arith, x))), (λ x. absurd (omega (arith, x))));
+        seventh = ((λ x. absurd (omega (arith, x))), (λ x. absurd (omega (arith, x)))) }) behind
 
 falling_event : (a : Address) (place : ℕ) (more : List MtcEvent) → IsLabel a
-    → map at_no_place (events_of (window_event ((0x70 + (a.hours / 16 + 2 * code_of a.count)) ∷ (0x60 + a.hours % 16) ∷ (0x50 + a.minutes / 16) ∷ (0x40 + a.minutes % 16) ∷ (0x30 + a.seconds / 16) ∷ (0x20 + a.seconds % 16) ∷ (0x10 + a.frames / 16) ∷ (a.frames % 16) ∷ []) place) ++ more)
+    → map at_no_place (events_of (window_event ((0x70 + (a.hours / 16 + 2 * code_of a.count)) ∷ (0x60 + a.hours % 16) ∷ (0x50 + a.minutes / 16) ∷
+        (0x40 + a.minutes % 16) ∷ (0x30 + a.seconds / 16) ∷ (0x20 + a.seconds % 16) ∷ (0x10 + a.frames / 16) ∷ (a.frames % 16) ∷ []) place) ++ more)
     ≡ Quarter Backward a 0 ∷ map at_no_place more
 falling_event a place more l =
     let row = row_is a l in
@@ -279,7 +313,8 @@ falling_event a place more l =
     (cond-true (is_label a) (Quarter Backward a place) (RefusedQuarter Backward (fault_of a) place) (label_is a l))
 
 falling_behind : (a : Address) (messages : List Message) → IsLabel a → (row_in messages ≡ []) ⊎ Behind 6 messages
-    → Behind 6 (came (reverse ((0x70 + (a.hours / 16 + 2 * code_of a.count)) ∷ (0x60 + a.hours % 16) ∷ (0x50 + a.minutes / 16) ∷ (0x40 + a.minutes % 16) ∷ (0x30 + a.seconds / 16) ∷ (0x20 + a.seconds % 16) ∷ (0x10 + a.frames / 16) ∷ (a.frames % 16) ∷ [])) ++ messages)
+    → Behind 6 (came (reverse ((0x70 + (a.hours / 16 + 2 * code_of a.count)) ∷ (0x60 + a.hours % 16) ∷ (0x50 + a.minutes / 16) ∷
+        (0x40 + a.minutes % 16) ∷ (0x30 + a.seconds / 16) ∷ (0x20 + a.seconds % 16) ∷ (0x10 + a.frames / 16) ∷ (a.frames % 16) ∷ [])) ++ messages)
 falling_behind a messages l ready =
     let row = row_is a l in
     record {
@@ -337,13 +372,17 @@ rising_half_none : (a : Address) → IsLabel a → (place : ℕ) (current : Curr
     → events_along place current messages (rising_half a) ≡ []
 rising_half_none a l place current messages ready =
     let row = row_is a l in
-    half_none 1 0 1 2 3 _ _ _ _ place current messages row.first row.second row.third row.fourth (λ x. absurd (omega (arith, x))) (λ x. absurd (omega (arith, x))) ((λ x. absurd (omega (arith, x))), (λ x. absurd (omega (arith, x)))) ((λ x. absurd (omega (arith, x))), (λ x. absurd (omega (arith, x)))) ((λ x. absurd (omega (arith, x))), (λ x. absurd (omega (arith, x)))) ready
+    half_none 1 0 1 2 3 _ _ _ _ place current messages row.first row.second row.third row.fourth (λ x. absurd (omega (arith, x)))
+        (λ x. absurd (omega (arith, x))) ((λ x. absurd (omega (arith, x))), (λ x. absurd (omega (arith, x))))
+        ((λ x. absurd (omega (arith, x))), (λ x. absurd (omega (arith, x)))) ((λ x. absurd (omega (arith, x))), (λ x. absurd (omega (arith, x)))) ready
 
 falling_half_none : (a : Address) → IsLabel a → (place : ℕ) (current : Current) (messages : List Message) → (row_in messages ≡ []) ⊎ Behind 6 messages
     → events_along place current messages (falling_half a) ≡ []
 falling_half_none a l place current messages ready =
     let row = row_is a l in
-    half_none 6 7 6 5 4 _ _ _ _ place current messages row.eighth row.seventh row.sixth row.fifth (λ x. absurd (omega (arith, x))) (λ x. absurd (omega (arith, x))) ((λ x. absurd (omega (arith, x))), (λ x. absurd (omega (arith, x)))) ((λ x. absurd (omega (arith, x))), (λ x. absurd (omega (arith, x)))) ((λ x. absurd (omega (arith, x))), (λ x. absurd (omega (arith, x)))) ready
+    half_none 6 7 6 5 4 _ _ _ _ place current messages row.eighth row.seventh row.sixth row.fifth (λ x. absurd (omega (arith, x)))
+        (λ x. absurd (omega (arith, x))) ((λ x. absurd (omega (arith, x))), (λ x. absurd (omega (arith, x))))
+        ((λ x. absurd (omega (arith, x))), (λ x. absurd (omega (arith, x)))) ((λ x. absurd (omega (arith, x))), (λ x. absurd (omega (arith, x)))) ready
 
 -- ---- a run after whatever bytes
 

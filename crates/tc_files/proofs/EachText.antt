@@ -1,6 +1,7 @@
 -- Each list of bytes is a file or has a fault: one looks at the first eight bytes, at the tick rate, and at one interval after another, up to the first
 -- that fails.
-use Rattle.std.proofs.Common.{◌≡◌, ◌⊎◌, inl, inr, ℕ, zero, suc, ◌+◌, ◌/◌, ◌%◌, ◌<◌, ◌≤◌, List, [], ◌∷◌, ◌++◌, length, take, drop, slice_index, refl, sym, ◌∙◌, ap, ap₂, subst, arith, Bool, true, false, append_assoc, append-nil}
+use Rattle.std.proofs.Common.{◌≡◌, ◌⊎◌, inl, inr, ℕ, zero, suc, ◌+◌, ◌/◌, ◌%◌, ◌<◌, ◌≤◌, List, [], ◌∷◌, ◌++◌, length, take, drop, slice_index, refl}
+use Rattle.std.proofs.Common.{sym, ◌∙◌, ap, ap₂, subst, arith, Bool, true, false, append_assoc, append-nil}
 use Rattle.std.specs.Prelude.{◌==◌, is_some, if◌then◌else◌}
 use Rattle.std.proofs.lemmas.Bool.{cases_Bool, cases_eq, cases_lt, eqb-true, false≢true, le-ltb, lt-ltb, ne_eqb}
 use Rattle.std.proofs.lemmas.List.{drop-drop, get_or-take, length-drop, length-take, length-take-le, take-append-drop, take-take}
@@ -15,7 +16,8 @@ use Rattle.tc_files.specs.declared.interval_file.header.FileVersion.{FileVersion
 use Rattle.tc_files.specs.declared.interval_file.header.FileVersion.TheVariants.{One, Two}
 use Rattle.tc_files.specs.declared.interval_file.header.IntervalHeader.{IntervalHeader}
 use Rattle.tc_files.specs.declared.interval_file.header.TheConstants.{MAGIC, MAX_TICK_RATE}
-use Rattle.tc_files.specs.Grammar.{AreBytes, AreIntervals, Contents, InRange, IsFirstWrong, IsHeaderFault, IsRestFault, MayStand, Says, faulty, file, file_of, intervals_bytes, may_stand, no_header}
+use Rattle.tc_files.specs.Grammar.{AreBytes, AreIntervals, Contents, InRange, IsFirstWrong, IsHeaderFault, IsRestFault, MayStand, Says, faulty, file}
+use Rattle.tc_files.specs.Grammar.{file_of, intervals_bytes, may_stand, no_header}
 use Rattle.tc_files.specs.IntervalHeader.{IsTickRate, header_bytes, system_at, version_at, version_byte}
 use Rattle.tc_files.specs.Piece.{least_in, number_in, piece_width, spelling}
 use Rattle.tc_files.proofs.FrontInterval.{least, widths}
@@ -211,7 +213,8 @@ spelled_two [] false e long are range = absurd (omega (arith, long))
 spelled_two (a ∷ []) false e long are range = absurd (omega (arith, long))
 spelled_two (a ∷ b ∷ more) false short long are range = spelled_short a b more are.0 are.1.0 short
 
-pub is_spelled : (version : FileVersion) (rest : List ℕ) → piece_width version rest ≤ length rest → AreBytes rest → InRange version rest → IsSpelled version rest
+pub is_spelled : (version : FileVersion) (rest : List ℕ) → piece_width version rest ≤ length rest → AreBytes rest → InRange version rest
+    → IsSpelled version rest
 is_spelled One rest long are range = spelled_one rest long are
 is_spelled Two rest long are range = spelled_two rest (big_number 2 rest == 0) refl long are range.0
 

@@ -1,5 +1,6 @@
 -- The bytes of a file are read as its header and its intervals: the header first, and then one interval after another, within the limit.
-use Rattle.std.proofs.Common.{◌≡◌, ◌⊎◌, inl, inr, ℕ, ◌+◌, ◌<◌, ◌≤◌, List, [], ◌∷◌, ◌++◌, length, take, fold, Some, None, refl, sym, ◌∙◌, ap, subst, arith, append_assoc, append-nil, length-append}
+use Rattle.std.proofs.Common.{◌≡◌, ◌⊎◌, inl, inr, ℕ, ◌+◌, ◌<◌, ◌≤◌, List, [], ◌∷◌, ◌++◌, length, take, fold, Some, None, refl, sym, ◌∙◌, ap, subst}
+use Rattle.std.proofs.Common.{arith, append_assoc, append-nil, length-append}
 use Rattle.std.proofs.lemmas.Bool.{cases_order, le-leb, le-ltb, lt-leb, lt-ltb}
 use Rattle.std.proofs.lemmas.List.{length_push, take-append-le, take_all}
 use Rattle.std.proofs.lemmas.List.Sums.{fold-append}
@@ -20,7 +21,8 @@ use Rattle.tc_files.specs.IntervalFile.{end, fault_in, header_answer}
 use Rattle.tc_files.specs.IntervalHeader.{IsTickRate, header_bytes}
 use Rattle.tc_files.specs.Piece.{spelling}
 use Rattle.tc_files.specs.Progress.{Progress}
-use Rattle.tc_files.specs.Recording.{Decoding, IsBetween, Recording, decoding_of, end_fault_of, fault_at_end, no_decoding, no_recording, recording_of, with_byte, with_taken}
+use Rattle.tc_files.specs.Recording.{Decoding, IsBetween, Recording, decoding_of, end_fault_of, fault_at_end, no_decoding, no_recording, recording_of}
+use Rattle.tc_files.specs.Recording.{with_byte, with_taken}
 use Rattle.tc_files.specs.Verdict.{Verdict, good, past_limit}
 use Rattle.tc_files.specs.WithinLimit.{within_limit}
 use Rattle.tc_files.proofs.ReadBack.{spelling_back}

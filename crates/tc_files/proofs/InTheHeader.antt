@@ -1,6 +1,7 @@
 -- A decoder within the header: each of the first eight bytes that may stand leaves it without a fault, the first one that may not is its fault for good, and
 -- so is a tick rate out of range.
-use Rattle.std.proofs.Common.{◌≡◌, ◌⊎◌, inl, inr, ℕ, ◌+◌, ◌-◌, ◌<◌, ◌≤◌, List, [], ◌∷◌, length, take, drop, fold, slice_index, Some, None, refl, sym, ◌∙◌, ap, ap₂, arith, Bool, true, false}
+use Rattle.std.proofs.Common.{◌≡◌, ◌⊎◌, inl, inr, ℕ, ◌+◌, ◌-◌, ◌<◌, ◌≤◌, List, [], ◌∷◌, length, take, drop, fold, slice_index, Some, None, refl, sym}
+use Rattle.std.proofs.Common.{◌∙◌, ap, ap₂, arith, Bool, true, false}
 use Rattle.std.specs.Prelude.{⊤, nat_le, nat_lt, ◌==◌, ◌&&◌, is_some, if◌then◌else◌}
 use Rattle.std.specs.declared.option.Option.{Option}
 use Rattle.std.proofs.lemmas.Bool.{and_parts, cases_lt, false_from_ne_true, leb-true, le-ltb, lt-leb, lt-ltb, ne_eqb}
@@ -19,7 +20,8 @@ use Rattle.tc_files.specs.Grammar.{EndsInHeader, IsFirstWrong, IsHeaderFault, Is
 use Rattle.tc_files.specs.IntervalFile.{after, answer, end, fault_in, head_answer, header_answer, version_or}
 use Rattle.tc_files.specs.IntervalHeader.{IsTickRate, system_at, version_at}
 use Rattle.tc_files.specs.Progress.{Progress}
-use Rattle.tc_files.specs.Recording.{Decoding, Recording, decoding_of, end_fault_of, fault_at_end, no_decoding, no_recording, recording_of, with_byte, with_item, with_taken}
+use Rattle.tc_files.specs.Recording.{Decoding, Recording, decoding_of, end_fault_of, fault_at_end, no_decoding, no_recording, recording_of, with_byte}
+use Rattle.tc_files.specs.Recording.{with_item, with_taken}
 use Rattle.tc_files.specs.Verdict.{Verdict, good, refused, past_limit}
 use Rattle.tc_files.specs.WithinLimit.{shown}
 

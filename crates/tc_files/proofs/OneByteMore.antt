@@ -1,5 +1,6 @@
 -- The decoder's answer to one byte is what the byte brings to the text: within the header, inside an interval, or behind a fault.
-use Rattle.std.proofs.Common.{◌≡◌, ◌⊎◌, inl, inr, ℕ, ◌+◌, ◌-◌, ◌<◌, ◌≤◌, List, [], ◌∷◌, ◌++◌, length, drop, fold, Some, None, Ok, Err, refl, sym, ◌∙◌, ap, subst, arith, Bool, true, false, append_assoc, append-nil, length-append}
+use Rattle.std.proofs.Common.{◌≡◌, ◌⊎◌, inl, inr, ℕ, ◌+◌, ◌-◌, ◌<◌, ◌≤◌, List, [], ◌∷◌, ◌++◌, length, drop, fold, Some, None, Ok, Err, refl, sym, ◌∙◌}
+use Rattle.std.proofs.Common.{ap, subst, arith, Bool, true, false, append_assoc, append-nil, length-append}
 use Rattle.std.specs.Prelude.{◌↔◌, nat_le, nat_lt, ◌==◌, ◌&&◌, if◌then◌else◌}
 use Rattle.std.specs.declared.option.Option.{Option}
 use Rattle.std.specs.declared.result.Result.{Result}
@@ -18,7 +19,8 @@ use Rattle.tc_files.specs.declared.interval_file.header.FileVersion.{FileVersion
 use Rattle.tc_files.specs.declared.interval_file.header.FileVersion.TheVariants.{One, Two}
 use Rattle.tc_files.specs.declared.interval_file.header.IntervalHeader.{IntervalHeader}
 use Rattle.tc_files.specs.declared.interval_file.header.TheConstants.{MAX_TICK_RATE}
-use Rattle.tc_files.specs.Grammar.{AreBytes, AreIntervals, Contents, EndsInHeader, InRange, IsFaulty, IsFile, IsHeaderFault, Says, fault_of, faulty, file, intervals_bytes, may_stand, no_header}
+use Rattle.tc_files.specs.Grammar.{AreBytes, AreIntervals, Contents, EndsInHeader, InRange, IsFaulty, IsFile, IsHeaderFault, Says, fault_of, faulty}
+use Rattle.tc_files.specs.Grammar.{file, intervals_bytes, may_stand, no_header}
 use Rattle.tc_files.specs.IntervalFile.{after, answer, end, fault_in, header_answer, interval_answer, no_progress, progress_of}
 use Rattle.tc_files.specs.IntervalHeader.{header_bytes}
 use Rattle.tc_files.specs.NextByte.{Brings, end_of_text, header_in, intervals_in, piece_fault_in, staying}

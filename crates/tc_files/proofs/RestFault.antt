@@ -1,5 +1,6 @@
 -- Behind a header and whole intervals: an interval out of range is the fault for good, and bytes that end inside an interval are cut off.
-use Rattle.std.proofs.Common.{◌≡◌, ◌⊎◌, inl, inr, ℕ, ◌+◌, ◌<◌, ◌≤◌, List, [], ◌∷◌, ◌++◌, length, take, drop, fold, Some, Err, refl, sym, ◌∙◌, ap, subst, arith, Bool, true, false, append_assoc, append-nil, length-append}
+use Rattle.std.proofs.Common.{◌≡◌, ◌⊎◌, inl, inr, ℕ, ◌+◌, ◌<◌, ◌≤◌, List, [], ◌∷◌, ◌++◌, length, take, drop, fold, Some, Err, refl, sym, ◌∙◌, ap}
+use Rattle.std.proofs.Common.{subst, arith, Bool, true, false, append_assoc, append-nil, length-append}
 use Rattle.std.specs.Prelude.{nat_le, ◌==◌, ◌&&◌, if◌then◌else◌}
 use Rattle.std.specs.declared.option.Option.{Option}
 use Rattle.std.specs.declared.result.Result.{Result}
@@ -19,7 +20,8 @@ use Rattle.tc_files.specs.declared.interval_file.header.IntervalHeader.{Interval
 use Rattle.tc_files.specs.Grammar.{InRange, IsFaulty, IsRestFault}
 use Rattle.tc_files.specs.IntervalFile.{end}
 use Rattle.tc_files.specs.Piece.{interval_in, least_in, number_in, piece_width}
-use Rattle.tc_files.specs.Recording.{Decoding, Recording, decoding_of, end_fault_of, fault_at_end, no_decoding, recording_of, with_byte, with_number, with_taken}
+use Rattle.tc_files.specs.Recording.{Decoding, Recording, decoding_of, end_fault_of, fault_at_end, no_decoding, recording_of, with_byte, with_number}
+use Rattle.tc_files.specs.Recording.{with_taken}
 use Rattle.tc_files.specs.Verdict.{good, refused, past_limit}
 use Rattle.tc_files.specs.WithinLimit.{shown, whole_in, within_limit}
 use Rattle.tc_files.proofs.FileReadBack.{IsGood, file_good, past, plain, so_far, within}

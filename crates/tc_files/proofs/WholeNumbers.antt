@@ -1,5 +1,6 @@
 -- The bytes of an interval behind a whole one are the next one: all but the last complete nothing, and the last completes the interval.
-use Rattle.std.proofs.Common.{◌≡◌, ℕ, ◌+◌, ◌-◌, ◌≤◌, List, [], ◌∷◌, ◌++◌, length, take, fold, None, Ok, Err, refl, sym, ◌∙◌, ap, subst, arith, Bool, true, false}
+use Rattle.std.proofs.Common.{◌≡◌, ℕ, ◌+◌, ◌-◌, ◌≤◌, List, [], ◌∷◌, ◌++◌, length, take, fold, None, Ok, Err, refl, sym, ◌∙◌, ap, subst, arith, Bool}
+use Rattle.std.proofs.Common.{true, false}
 use Rattle.std.specs.Prelude.{nat_le, ◌==◌, if◌then◌else◌}
 use Rattle.std.specs.declared.option.Option.{Option}
 use Rattle.std.specs.declared.result.Result.{Result}
@@ -188,7 +189,8 @@ next t Two system r (a ∷ b ∷ more) late long = by_zero (big_number 2 (a ∷ 
 pub is_between : (d : Decoding) → IsBetween d.progress → d ≡ at d.progress.taken d.progress.version d.progress.system [] d.recording
 is_between d between =
     let p = d.progress in
-    ap (λ (f : Option FileFault). record { progress = record { taken = p.taken; version = p.version; system = p.system; part = p.part; fault = f }; recording = d.recording })
+    ap (λ (f : Option FileFault). record { progress = record { taken = p.taken; version = p.version; system = p.system; part = p.part; fault = f };
+        recording = d.recording })
     between.no_fault
     ∙ ap (λ (q : List ℕ). at p.taken p.version p.system q d.recording) between.no_part
 

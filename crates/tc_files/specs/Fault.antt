@@ -2,7 +2,8 @@
 use Rattle.std.specs.Prelude.{ℕ, List}
 use Rattle.tc_files.specs.declared.names.TheConstants as names
 use Rattle.tc_files.specs.declared.fault.FileFault.{FileFault}
-use Rattle.tc_files.specs.declared.fault.FileFault.TheVariants.{Magic, Version, System, Reserved, TickRate, LineLength, Interval, LineCount, RunCount, Run, Truncated}
+use Rattle.tc_files.specs.declared.fault.FileFault.TheVariants.{Magic, Version, System, Reserved, TickRate, LineLength, Interval, LineCount, RunCount}
+use Rattle.tc_files.specs.declared.fault.FileFault.TheVariants.{Run, Truncated}
 
 -- the name that notes print
 abbrev pub name_of : FileFault → List ℕ

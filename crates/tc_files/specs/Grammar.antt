@@ -1,12 +1,14 @@
 -- The interval file as a whole text: a header, and then the bytes of each interval, one after another. And what any list of bytes says: it is a file, or
 -- it has a first fault. Its pieces are the first eight bytes one by one, the tick rate, and each interval. The first whole piece that may not stand is the
 -- fault; where there is none, and the bytes end before byte 12 or inside an interval, the text is truncated.
-use Rattle.std.specs.Prelude.{◌≡◌, ⊤, ◌≤◌, ◌<◌, ℕ, ◌+◌, List, [], ◌∷◌, ◌++◌, length, take, drop, slice_index, Bool, true, false, Option, Some, None, is_some, nat_lt, ◌==◌, if◌then◌else◌}
+use Rattle.std.specs.Prelude.{◌≡◌, ⊤, ◌≤◌, ◌<◌, ℕ, ◌+◌, List, [], ◌∷◌, ◌++◌, length, take, drop, slice_index, Bool, true, false, Option, Some, None}
+use Rattle.std.specs.Prelude.{is_some, nat_lt, ◌==◌, if◌then◌else◌}
 use Rattle.std.specs.List.{flat_map}
 use Rattle.byteorder.specs.Endian.{big_number}
 use Rattle.biphase.specs.declared.cell.TheConstants.{MAX_INTERVAL}
 use Rattle.tc_files.specs.declared.fault.FileFault.{FileFault}
-use Rattle.tc_files.specs.declared.fault.FileFault.TheVariants.{Magic, Version, System, Reserved, TickRate, Interval, Truncated, LineLength, LineCount, RunCount, Run}
+use Rattle.tc_files.specs.declared.fault.FileFault.TheVariants.{Magic, Version, System, Reserved, TickRate, Interval, Truncated, LineLength}
+use Rattle.tc_files.specs.declared.fault.FileFault.TheVariants.{LineCount, RunCount, Run}
 use Rattle.tc_files.specs.declared.interval_file.header.FileVersion.{FileVersion}
 use Rattle.tc_files.specs.declared.interval_file.header.IntervalHeader.{IntervalHeader}
 use Rattle.tc_files.specs.declared.interval_file.header.TheConstants.{MAGIC, HEADER_LENGTH, HEAD_LENGTH}

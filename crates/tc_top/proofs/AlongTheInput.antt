@@ -1,5 +1,6 @@
 -- What was pushed for some bytes and then for those after them was pushed for all of them, in order.
-use Rattle.std.proofs.Common.{◌≡◌, ℕ, ◌+◌, ◌-◌, ◌<◌, ◌≤◌, List, [], ◌∷◌, ◌++◌, length, take, drop, get_or, arith, subst, append_assoc, append-nil, refl, inl, inr, sym, ◌∙◌, ap}
+use Rattle.std.proofs.Common.{◌≡◌, ℕ, ◌+◌, ◌-◌, ◌<◌, ◌≤◌, List, [], ◌∷◌, ◌++◌, length, take, drop, get_or, arith, subst, append_assoc, append-nil}
+use Rattle.std.proofs.Common.{refl, inl, inr, sym, ◌∙◌, ap}
 use Rattle.std.specs.Prelude.{OnOk, OnErr, IfErr, Ok, Err, Some, None}
 use Rattle.std.specs.Result.{IsErrAnd}
 use Rattle.std.specs.declared.result.Result.{Result}
@@ -11,7 +12,7 @@ use Rattle.std.proofs.KnownBytes.{Appends-trans, Appends-nil, Consumes-trans}
 use Rattle.tc_top.specs.Meaning.{Meaning}
 use Rattle.tc_top.specs.declared.stop.Stop.{Stop}
 use Rattle.tc_top.specs.declared.stop.Stop.TheVariants.{Refused, ReadFault, WriteFault, Limit}
-use Rattle.tc_top.specs.Stops.{IsStop, Stops, IsEndStop, StopsAlong}
+use Rattle.tc_top.specs.Stops.{IsStop, IsEndStop, StopsAlong}
 
 -- bytes that were worked on take each state and output to a later state and a longer output
 abbrev pub Works : (List ℕ → List ℕ → Type 0) → (List ℕ → List ℕ → Type 0) → Option (List ℕ) → Option (List ℕ) → List ℕ → Type 0
@@ -32,7 +33,8 @@ stops_on is start mid old between new bytes more first second = λ front output 
     let s = second (front ++ bytes) (output ++ f.0) f.2 in
     let joined : (front ++ bytes) ++ more ≡ front ++ (bytes ++ more) = append_assoc front bytes more in
     let pushed : (output ++ f.0) ++ s.0 ≡ output ++ (f.0 ++ s.0) = append_assoc output f.0 s.0 in
-    (f.0 ++ s.0, Appends-trans old between new f.0 s.0 f.1 s.1, subst (λ (w : List ℕ). is (front ++ (bytes ++ more)) w) pushed (subst (λ (b : List ℕ). is b ((output ++ f.0) ++ s.0)) joined s.2))
+    (f.0 ++ s.0, Appends-trans old between new f.0 s.0 f.1 s.1, subst (λ (w : List ℕ). is (front ++ (bytes ++ more)) w) pushed
+        (subst (λ (b : List ℕ). is b ((output ++ f.0) ++ s.0)) joined s.2))
 
 -- what was worked on first, and then
 pub works_on : (start mid after : List ℕ → List ℕ → Type 0) (old between new : Option (List ℕ)) (bytes more : List ℕ)
@@ -42,7 +44,8 @@ works_on start mid after old between new bytes more first second = λ front outp
     let s = second (front ++ bytes) (output ++ f.0) f.2 in
     let joined : (front ++ bytes) ++ more ≡ front ++ (bytes ++ more) = append_assoc front bytes more in
     let pushed : (output ++ f.0) ++ s.0 ≡ output ++ (f.0 ++ s.0) = append_assoc output f.0 s.0 in
-    (f.0 ++ s.0, Appends-trans old between new f.0 s.0 f.1 s.1, subst (λ (w : List ℕ). after (front ++ (bytes ++ more)) w) pushed (subst (λ (b : List ℕ). after b ((output ++ f.0) ++ s.0)) joined s.2))
+    (f.0 ++ s.0, Appends-trans old between new f.0 s.0 f.1 s.1, subst (λ (w : List ℕ). after (front ++ (bytes ++ more)) w) pushed
+        (subst (λ (b : List ℕ). after b ((output ++ f.0) ++ s.0)) joined s.2))
 
 -- nothing was worked on yet
 pub works_nothing : (start : List ℕ → List ℕ → Type 0) (out : Option (List ℕ)) → Works start start out out []

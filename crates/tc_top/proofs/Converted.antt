@@ -11,10 +11,12 @@ use Rattle.tc_top.specs.KeptConversion.{Stands}
 use Rattle.tc_top.specs.LtcConvert.{in_version, IsConverted}
 
 -- one interval more
-pub longer_file : (header : IntervalHeader) (intervals : List ℕ) (x : ℕ) → file_of header (intervals ++ x ∷ []) ≡ file_of header intervals ++ spelling header.version x
+pub longer_file : (header : IntervalHeader) (intervals : List ℕ) (x : ℕ) → file_of header (intervals ++ x ∷ []) ≡ file_of header intervals
+    ++ spelling header.version x
 longer_file header intervals x =
     ap (λ (l : List ℕ). header_bytes header ++ l)
-    (flat_map-append (spelling header.version) intervals (x ∷ []) ∙ ap (λ (l : List ℕ). intervals_bytes header.version intervals ++ l) (append-nil (spelling header.version x)))
+    (flat_map-append (spelling header.version) intervals (x ∷ []) ∙ ap (λ (l : List ℕ). intervals_bytes header.version intervals ++ l)
+        (append-nil (spelling header.version x)))
     ∙ sym (append_assoc (header_bytes header) (intervals_bytes header.version intervals) (spelling header.version x))
 
 -- all that is due with one interval more
@@ -26,6 +28,7 @@ all_due c version header intervals written x s =
     ∙ ap (λ (l : List ℕ). l ++ spelling version x) s.are ∙ sym (longer_file (in_version version header) intervals x)
 
 -- the part that is due with it
-pub part_due : (c : Conversion) (version : FileVersion) (header : IntervalHeader) (intervals written : List ℕ) (x : ℕ) → Stands c version header intervals written
+pub part_due : (c : Conversion) (version : FileVersion) (header : IntervalHeader) (intervals written : List ℕ) (x : ℕ)
+    → Stands c version header intervals written
     → IsConverted version header (intervals ++ x ∷ []) (written ++ (c.room.items ++ spelling c.version x))
 part_due c version header intervals written x s = all_due c version header intervals written x s

@@ -1,14 +1,13 @@
 -- The lines of fields grow by the line of the field that bytes complete, and the last line counts all of them.
-use Rattle.std.proofs.Common.{◌≡◌, ℕ, ◌+◌, ◌≤◌, List, [], ◌∷◌, ◌++◌, length, take, drop, count_by, Bool, cond, refl, sym, ◌∙◌, ap, ap₂, arith, subst, append_assoc, append-nil}
+use Rattle.std.proofs.Common.{◌≡◌, ℕ, ◌+◌, List, [], ◌∷◌, ◌++◌, length, count_by, Bool, cond, refl, sym, ◌∙◌, ap, ap₂, arith, subst}
+use Rattle.std.proofs.Common.{append_assoc, append-nil}
 use Rattle.std.specs.declared.option.Option.{Option}
-use Rattle.std.specs.Prelude.{Some, None}
 use Rattle.std.proofs.lemmas.List.{length-append}
 use Rattle.std.proofs.lemmas.List.Sums.{sum_by-append, sum_by-cons}
 use Rattle.vitc_reader.specs.declared.field.FieldAnswer.{FieldAnswer}
 use Rattle.vitc_reader.specs.declared.field.FieldAnswer.TheVariants.{NoLine, Agreed, Conflict, Nothing}
 use Rattle.tc_files.specs.Verdict.{good}
 use Rattle.tc_io.specs.Sink.{AppendsFront}
-use Rattle.line_file.specs.Answers.{AreAnswersOf}
 use Rattle.line_file.specs.LineFile.{reading_of}
 use Rattle.line_file.specs.StandsFor as reads
 use Rattle.line_file.specs.StandsFor.{Decoding, IsTold}
@@ -56,7 +55,8 @@ same_answers d bytes answers s = subst (λ (told : List FieldAnswer). reads.Stan
 
 -- bytes that complete no field
 pub none_more : TellsTheFile → (r next : FieldReport) (front written taken : List ℕ) → (s : Stands r front written)
-    → reads.StandsFor next.decoder (front ++ taken) (s.answers ++ []) → next ≡ record r { decoder = next.decoder } → Stands next (front ++ taken) (written ++ [])
+    → reads.StandsFor next.decoder (front ++ taken) (s.answers ++ []) → next ≡ record r { decoder = next.decoder }
+        → Stands next (front ++ taken) (written ++ [])
 none_more law r next front written taken s reads_on same =
     let is = same_answers next.decoder (front ++ taken) s.answers reads_on in
     record {
@@ -80,14 +80,18 @@ pub record Counts (before after : FieldReport) (answer : FieldAnswer) : Type 0 w
 pub one_counted : (before mid after : FieldReport) (answer : FieldAnswer) → mid ≡ record before { decoder = mid.decoder } → after ≡ counted answer mid
     → Counts before after answer
 one_counted before mid after answer same is =
-    by_kind answer (ap (λ (x : FieldReport). x.fields) same) (ap (λ (x : FieldReport). x.agreed) same) (ap (λ (x : FieldReport). x.conflict) same) (ap (λ (x : FieldReport). x.nothing) same) is
+    by_kind answer (ap (λ (x : FieldReport). x.fields) same) (ap (λ (x : FieldReport). x.agreed) same) (ap (λ (x : FieldReport). x.conflict) same)
+        (ap (λ (x : FieldReport). x.nothing) same) is
   where
     by_kind : (answer : FieldAnswer) → mid.fields ≡ before.fields → mid.agreed ≡ before.agreed → mid.conflict ≡ before.conflict → mid.nothing ≡ before.nothing
         → after ≡ counted answer mid → Counts before after answer
-    by_kind (Agreed word) f a k n e = rw e (record { fields = omega (arith, f); agreed = omega (arith, a); conflict = omega (arith, k); nothing = omega (arith, n) })
-    by_kind (Conflict word other) f a k n e = rw e (record { fields = omega (arith, f); agreed = omega (arith, a); conflict = omega (arith, k); nothing = omega (arith, n) })
+    by_kind (Agreed word) f a k n e = rw e (record { fields = omega (arith, f); agreed = omega (arith, a); conflict = omega (arith, k);
+        nothing = omega (arith, n) })
+    by_kind (Conflict word other) f a k n e = rw e (record { fields = omega (arith, f); agreed = omega (arith, a); conflict = omega (arith, k);
+        nothing = omega (arith, n) })
     by_kind NoLine f a k n e = rw e (record { fields = omega (arith, f); agreed = omega (arith, a); conflict = omega (arith, k); nothing = omega (arith, n) })
-    by_kind (Nothing fault) f a k n e = rw e (record { fields = omega (arith, f); agreed = omega (arith, a); conflict = omega (arith, k); nothing = omega (arith, n) })
+    by_kind (Nothing fault) f a k n e = rw e (record { fields = omega (arith, f); agreed = omega (arith, a); conflict = omega (arith, k);
+        nothing = omega (arith, n) })
 
 count_now : (kind : FieldAnswer → Bool) (before after : ℕ) (answers : List FieldAnswer) (answer : FieldAnswer) → before ≡ count_by kind answers
     → after ≡ before + cond (kind answer) 1 0 → after ≡ count_by kind (answers ++ answer ∷ [])
@@ -112,7 +116,8 @@ one_more law r next front written taken answer s reads_on counts =
     }
 
 -- a front of the line of a field was written
-pub one_more_part : TellsTheFile → (r : FieldReport) (d : Decoding) (front written bytes taken behind : List ℕ) (answer : FieldAnswer) (old new : Option (List ℕ)) → (s : Stands r front written)
+pub one_more_part : TellsTheFile → (r : FieldReport) (d : Decoding) (front written bytes taken behind : List ℕ) (answer : FieldAnswer)
+    (old new : Option (List ℕ)) → (s : Stands r front written)
     → reads.StandsFor d (front ++ taken) (s.answers ++ answer ∷ []) → bytes ≡ taken ++ behind → AppendsFront old new (field_line r.fields answer)
     → Stops along_fields stops.WriteFault old new (front ++ bytes) written
 one_more_part law r d front written bytes taken behind answer old new s reads_on split f = (
@@ -135,7 +140,8 @@ one_more_part law r d front written bytes taken behind answer old new s reads_on
 pub last_line_is : (r : FieldReport) (bytes written line : List ℕ) → (s : Stands r bytes written) → line ≡ field_end_line r.fields r.agreed r.conflict r.nothing
     → line ≡ last_field_line s.answers
 last_line_is r bytes written line s is =
-    is ∙ ap (λ (n : ℕ). field_end_line n r.agreed r.conflict r.nothing) s.fields ∙ ap (λ (n : ℕ). field_end_line (length s.answers) n r.conflict r.nothing) s.agreed
+    is ∙ ap (λ (n : ℕ). field_end_line n r.agreed r.conflict r.nothing) s.fields
+        ∙ ap (λ (n : ℕ). field_end_line (length s.answers) n r.conflict r.nothing) s.agreed
     ∙ ap (λ (n : ℕ). field_end_line (length s.answers) (count_by is_agreed s.answers) n r.nothing) s.conflict
     ∙ ap (λ (n : ℕ). field_end_line (length s.answers) (count_by is_agreed s.answers) (count_by is_conflict s.answers) n) s.nothing
 

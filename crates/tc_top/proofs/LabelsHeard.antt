@@ -42,12 +42,16 @@ of_window : (system : System) (bits end length : ℕ) (events : Events) → AreE
 of_window system bits end length events are =
     elim (cases_eq (number_in places.SYNC bits) places.SYNC_PATTERN) [
       | inl forward ↦ elim (cases_eq (number_in places.SYNC (reversed_bits bits)) places.SYNC_PATTERN) [
-        | inl backward ↦ both (listed events.first) (listed events.second) (one system _ bits end length events.first (are.forward forward)) (one system _ (reversed_bits bits) end length events.second (are.both forward backward))
-        | inr no_backward ↦ both (listed events.first) (listed events.second) (one system _ bits end length events.first (are.forward forward)) (none events.second (are.one forward no_backward))
+        | inl backward ↦ both (listed events.first) (listed events.second) (one system _ bits end length events.first (are.forward forward))
+            (one system _ (reversed_bits bits) end length events.second (are.both forward backward))
+        | inr no_backward ↦ both (listed events.first) (listed events.second) (one system _ bits end length events.first (are.forward forward))
+            (none events.second (are.one forward no_backward))
       ]
       | inr no_forward ↦ elim (cases_eq (number_in places.SYNC (reversed_bits bits)) places.SYNC_PATTERN) [
-        | inl backward ↦ (let e = are.backward backward no_forward in both (listed events.first) (listed events.second) (one system _ (reversed_bits bits) end length events.first e.0) (none events.second e.1))
-        | inr no_backward ↦ (let e = are.none no_forward no_backward in both (listed events.first) (listed events.second) (none events.first e.0) (none events.second e.1))
+        | inl backward ↦ (let e = are.backward backward no_forward in both (listed events.first) (listed events.second)
+            (one system _ (reversed_bits bits) end length events.first e.0) (none events.second e.1))
+        | inr no_backward ↦ (let e = are.none no_forward no_backward in both (listed events.first) (listed events.second) (none events.first e.0)
+            (none events.second e.1))
       ]
     ]
 

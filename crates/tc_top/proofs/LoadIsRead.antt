@@ -1,6 +1,7 @@
 -- What a load run makes is read: its cells are a chain, each near the one before and its halves near each other, and their bits are those of the lock and of
 -- the words.
-use Rattle.std.proofs.Common.{◌≡◌, ℕ, zero, suc, ◌+◌, ◌^◌, ◌<◌, Bool, true, false, List, [], ◌∷◌, ◌++◌, length, take, drop, refl, sym, ◌∙◌, ap₂, subst, arith, count_by, cond}
+use Rattle.std.proofs.Common.{◌≡◌, ℕ, zero, suc, ◌+◌, ◌^◌, ◌<◌, Bool, true, false, List, [], ◌∷◌, ◌++◌, length, take, drop, refl, sym, ◌∙◌, ap₂}
+use Rattle.std.proofs.Common.{subst, arith, count_by, cond}
 use Rattle.std.specs.Prelude.{pos}
 use Rattle.std.proofs.lemmas.List.{map-append}
 use Rattle.std.proofs.lemmas.List.Sums.{sum_by-cons}
@@ -24,7 +25,8 @@ use Rattle.tc_address.specs.Numbering.{step}
 use Rattle.tc_bits.specs.Fields.{IsFields}
 use Rattle.tc_words.specs.Load.{Loading}
 use Rattle.tc_top.specs.declared.chance.Chance.{Chance}
-use Rattle.tc_top.specs.Load.{IsAllRead, IsChance, begun, behind, cell_of, cells_by, first_label, load_cells, load_word, load_words, lock, next_bits, one_cell, one_draw, word_cells_by, words_by}
+use Rattle.tc_top.specs.Load.{IsAllRead, IsChance, begun, behind, cell_of, cells_by, first_label, load_cells, load_word, load_words, lock, next_bits}
+use Rattle.tc_top.specs.Load.{one_cell, one_draw, word_cells_by, words_by}
 use Rattle.tc_top.proofs.MadeIsRead.{StepsAreValid, WordsAreRead}
 
 -- what the law of words says

@@ -1,5 +1,6 @@
 -- A line file that is made is read back: each field has a label, a word with one line, and runs that stand for its bits.
-use Rattle.std.proofs.Common.{◌≡◌, ℕ, zero, suc, ◌+◌, ◌*◌, ◌%◌, ◌^◌, ◌<◌, ◌≤◌, Bool, true, false, List, [], ◌∷◌, ◌++◌, Ok, Some, None, length, refl, sym, ap, subst, lit<, lit≤, arith}
+use Rattle.std.proofs.Common.{◌≡◌, ℕ, zero, suc, ◌+◌, ◌*◌, ◌%◌, ◌^◌, ◌<◌, ◌≤◌, Bool, true, false, List, [], ◌∷◌, Ok, Some, None, length, refl}
+use Rattle.std.proofs.Common.{sym, ap, subst, lit<, lit≤, arith}
 use Rattle.std.specs.Prelude.{pos, map, if◌then◌else◌}
 use Rattle.std.specs.List.{flat_map, range_with_len}
 use Rattle.line_file.specs.declared.decoder.TheConstants.{MAX_FIELDS}
@@ -24,7 +25,8 @@ use Rattle.vitc_reader.specs.declared.field.FieldAnswer.TheVariants.{Agreed}
 use Rattle.vitc_reader.specs.Field.{IsAnswer, IsSaid}
 use Rattle.vitc_reader.specs.Runs.{IsLineLength, MayBeLine, StandFor}
 use Rattle.vitc_reader.specs.Written.{runs_in}
-use Rattle.tc_top.specs.MadeLines.{field_lines, field_word, made_fields, made_line_header, made_lines, made_words, whole_reading, words_from, words_of_frame, AreReadBack}
+use Rattle.tc_top.specs.MadeLines.{field_lines, field_word, made_fields, made_line_header, made_lines, made_words, whole_reading, words_from}
+use Rattle.tc_top.specs.MadeLines.{words_of_frame, AreReadBack}
 use Rattle.tc_top.specs.Meaning.{IsInput}
 use Rattle.tc_top.specs.VitcRead.{along_fields}
 use Rattle.tc_top.proofs.MadeIsRead.{StepsAreValid}

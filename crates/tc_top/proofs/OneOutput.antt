@@ -9,7 +9,8 @@ use Rattle.direction_reader.specs.ListEvents.{AreEvents}
 use Rattle.tc_files.specs.declared.interval_file.header.IntervalHeader.{IntervalHeader}
 use Rattle.tc_files.specs.Recording.{recording_of}
 use Rattle.tc_words.specs.declared.job.Job.{Job}
-use Rattle.tc_words.specs.declared.job.Job.TheVariants.{LtcRead, LtcWorn, LtcFly, LtcMtc, LtcJam, LtcChase, MtcRead, Number, LabelOf, LtcMake, LtcConvert, PcmLtc, LtcPcm, LtcLoad, VitcRead, VitcMake}
+use Rattle.tc_words.specs.declared.job.Job.TheVariants.{LtcRead, LtcWorn, LtcFly, LtcMtc, LtcJam, LtcChase, MtcRead, Number, LabelOf, LtcMake}
+use Rattle.tc_words.specs.declared.job.Job.TheVariants.{LtcConvert, PcmLtc, LtcPcm, LtcLoad, VitcRead, VitcMake}
 use Rattle.tc_top.specs.Along.{IsPartBehind, IsWholeBehind}
 use Rattle.tc_top.specs.Commands.{meaning_of}
 use Rattle.tc_top.specs.LtcChase.{lines_of_steps}
@@ -94,7 +95,8 @@ pub one_output : OneListOfEvents → OneListOfAnswers → (job : Job) (input a b
     → Meaning.output (meaning_of job) input b → a ≡ b
 one_output law answers_law LtcRead input a b x y = one_whole law _ (recording_of input).header (recording_of input).intervals a b x y
 one_output law answers_law LtcWorn input a b x y = one_whole law _ (recording_of input).header (recording_of input).intervals a b x y
-one_output law answers_law (LtcFly limit) input a b x y = one_flight law limit lines_of_frames (recording_of input).header (recording_of input).intervals a b x y
+one_output law answers_law (LtcFly limit) input a b x y = one_flight law limit lines_of_frames (recording_of input).header
+    (recording_of input).intervals a b x y
 one_output law answers_law (LtcMtc limit) input a b x y =
     one_flight law limit messages_of_frames (recording_of input).header (recording_of input).intervals a b x y
 one_output law answers_law (LtcLoad run) input a b x y = x.1 ∙ sym y.1
@@ -116,7 +118,8 @@ pub one_part_of : OneListOfEvents → OneListOfAnswers → (job : Job) (pulled a
     → Meaning.part (meaning_of job) pulled b → a ≡ b
 one_part_of law answers_law LtcRead pulled a b x y = one_part law _ (recording_of pulled).header (recording_of pulled).intervals a b x y
 one_part_of law answers_law LtcWorn pulled a b x y = one_part law _ (recording_of pulled).header (recording_of pulled).intervals a b x y
-one_part_of law answers_law (LtcFly limit) pulled a b x y = one_flight_part law limit lines_of_frames (recording_of pulled).header (recording_of pulled).intervals a b x y
+one_part_of law answers_law (LtcFly limit) pulled a b x y = one_flight_part law limit lines_of_frames (recording_of pulled).header
+    (recording_of pulled).intervals a b x y
 one_part_of law answers_law (LtcMtc limit) pulled a b x y =
     one_flight_part law limit messages_of_frames (recording_of pulled).header (recording_of pulled).intervals a b x y
 one_part_of law answers_law (LtcLoad run) pulled a b x y = x ∙ sym y
@@ -129,7 +132,8 @@ one_part_of law answers_law (LtcChase run) pulled a b x y =
 one_part_of law answers_law MtcRead pulled a b x y = x ∙ sym y
 one_part_of law answers_law (LtcMake stripe) pulled a b x y = x ∙ sym y
 one_part_of law answers_law (VitcMake stripe) pulled a b x y = x ∙ sym y
-one_part_of law answers_law (LtcConvert version) pulled a b x y = one_conversion_part version (recording_of pulled).header (recording_of pulled).intervals a b x y
+one_part_of law answers_law (LtcConvert version) pulled a b x y = one_conversion_part version (recording_of pulled).header
+    (recording_of pulled).intervals a b x y
 one_part_of law answers_law VitcRead pulled a b x y = one_field_part answers_law pulled a b x y
 one_part_of law answers_law (Number label) pulled a b x y = x ∙ sym y
 one_part_of law answers_law (LabelOf label) pulled a b x y = x ∙ sym y

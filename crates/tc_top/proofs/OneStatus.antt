@@ -11,7 +11,8 @@ use Rattle.tc_files.specs.Recording.{Recording, recording_of}
 use Rattle.tc_files.specs.Verdict.{Verdict, good, refused, past_limit}
 use Rattle.biphase.specs.declared.profile.Profile.TheVariants.{Normal, Worn}
 use Rattle.tc_words.specs.declared.job.Job.{Job}
-use Rattle.tc_words.specs.declared.job.Job.TheVariants.{LtcRead, LtcWorn, LtcFly, LtcMtc, LtcJam, LtcChase, MtcRead, Number, LabelOf, LtcMake, LtcConvert, PcmLtc, LtcPcm, LtcLoad, VitcRead, VitcMake}
+use Rattle.tc_words.specs.declared.job.Job.TheVariants.{LtcRead, LtcWorn, LtcFly, LtcMtc, LtcJam, LtcChase, MtcRead, Number, LabelOf, LtcMake}
+use Rattle.tc_words.specs.declared.job.Job.TheVariants.{LtcConvert, PcmLtc, LtcPcm, LtcLoad, VitcRead, VitcMake}
 use Rattle.tc_top.specs.declared.status.Status.{Status}
 use Rattle.tc_top.specs.declared.status.Status.TheVariants as status
 use Rattle.tc_top.specs.declared.stop.Stop.{Stop}
@@ -238,7 +239,8 @@ unlimited LtcRead none input = none_passes (report Normal) (λ header intervals 
 unlimited LtcWorn none input = none_passes (report Worn) (λ header intervals spent. spent) (recording_of input) (recording_of input).header
 unlimited (LtcFly limit) none input = none_passes (flight limit) (λ header intervals spent. spent.too_many) (recording_of input) (recording_of input).header
 unlimited (LtcMtc limit) none input = none_passes (time_code limit) (λ header intervals spent. spent.too_many) (recording_of input) (recording_of input).header
-unlimited (LtcJam jam) none input = none_passes (clean_recording jam) (λ header intervals spent. spent.too_many) (recording_of input) (recording_of input).header
+unlimited (LtcJam jam) none input = none_passes (clean_recording jam) (λ header intervals spent. spent.too_many) (recording_of input)
+    (recording_of input).header
 unlimited (LtcChase run) none input = absurd (none tt)
 unlimited (LtcConvert version) none input = none_passes (conversion version) (λ header intervals spent. spent) (recording_of input) (recording_of input).header
 unlimited (LtcPcm size) none input = none_passes (made_sound size) (λ header intervals spent. spent) (recording_of input) (recording_of input).header

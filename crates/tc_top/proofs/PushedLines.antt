@@ -18,7 +18,8 @@ front_of_more a b first more f =
     (f.0, (f.1.0 ++ more, e), f.2)
 
 -- the first line and a front of the second
-pub front_of_second : (a b c : Option (List ℕ)) (first second : List ℕ) → Appends a b first → AppendsFront b c second → AppendsFront a c (first ++ (second ++ []))
+pub front_of_second : (a b c : Option (List ℕ)) (first second : List ℕ) → Appends a b first → AppendsFront b c second
+    → AppendsFront a c (first ++ (second ++ []))
 front_of_second a b c first second pushed f =
     let e : first ++ (second ++ []) ≡ (first ++ f.0) ++ f.1.0 =
     ap (λ (l : List ℕ). first ++ l) (append-nil second ∙ f.1.1) ∙ sym (append_assoc first f.0 f.1.0) in

@@ -62,6 +62,7 @@ one_piece count =
     ∙ flat_map-append (spelling One) (replicate count greatest) (greatest ∷ [])
 
 -- and the rest
-pub last_piece : (whole rest : ℕ) → intervals_bytes One (replicate whole greatest ++ rest ∷ []) ≡ intervals_bytes One (replicate whole greatest) ++ spelling One rest
+pub last_piece : (whole rest : ℕ) → intervals_bytes One (replicate whole greatest ++ rest ∷ []) ≡ intervals_bytes One (replicate whole greatest)
+    ++ spelling One rest
 last_piece whole rest =
     flat_map-append (spelling One) (replicate whole greatest) (rest ∷ [])

@@ -12,7 +12,7 @@ use Rattle.tc_words.specs.declared.job.Job.{Job}
 use Rattle.tc_words.specs.declared.job.Job.TheVariants.{LtcRead, LtcWorn}
 use Rattle.tc_top.specs.Along.{IsWholeBehind}
 use Rattle.tc_top.specs.Commands.{meaning_of}
-use Rattle.tc_top.specs.LtcRead.{report, IsReadWhole}
+use Rattle.tc_top.specs.LtcRead.{report}
 use Rattle.tc_top.specs.Meaning.{Meaning}
 use Rattle.tc_top.specs.Tape.{IsReport, ReportsTheTape}
 

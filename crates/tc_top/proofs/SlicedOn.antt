@@ -1,5 +1,6 @@
 -- A file of sliced sound grows by the intervals of the distance that more samples bring, and past the limit nothing more is taken.
-use Rattle.std.proofs.Common.{◌≡◌, inl, ℕ, ◌+◌, ◌-◌, ◌*◌, ◌/◌, ◌^◌, ◌%◌, ◌==◌, ap₂, get_or, mul-le-mul, ◌<◌, ◌≤◌, Bool, true, false, nat_lt, cond, ℤ, List, [], ◌∷◌, ◌++◌, length, take, drop, Some, None, sym, ◌∙◌, ap, refl, subst, append_assoc, append-nil, arith}
+use Rattle.std.proofs.Common.{◌≡◌, inl, ℕ, ◌+◌, ◌-◌, ◌*◌, ◌/◌, ◌^◌, ◌%◌, ◌==◌, ap₂, get_or, mul-le-mul, ◌<◌, ◌≤◌, Bool, true, false, nat_lt, cond, ℤ}
+use Rattle.std.proofs.Common.{List, [], ◌∷◌, ◌++◌, length, take, drop, Some, None, sym, ◌∙◌, ap, refl, subst, append_assoc, append-nil, arith}
 use Rattle.std.specs.declared.option.Option.{Option}
 use Rattle.std.specs.Option.{option_to_list}
 use Rattle.std.specs.List.{flat_map}
@@ -207,7 +208,8 @@ length-bytes s bytes written stands =
     ap length stands.are ∙ length-append stands.whole (option_to_list s.half) ∙ ap (λ (n : ℕ). n + length (option_to_list s.half)) stands.slices.count
 
 -- all of it was written, where nothing is gathered
-pub all_written : (s : SlicedSound) (bytes written : List ℕ) → s.gathered.room.items ≡ [] → Stands s bytes written → written ≡ sliced s.slicing (samples_of bytes)
+pub all_written : (s : SlicedSound) (bytes written : List ℕ) → s.gathered.room.items ≡ [] → Stands s bytes written → written
+    ≡ sliced s.slicing (samples_of bytes)
 all_written s bytes written settled stands =
     sym (append-nil written) ∙ ap (λ (l : List ℕ). written ++ l) (sym settled) ∙ stands.slices.are
     ∙ ap (sliced s.slicing) (sym (ap samples_of stands.are ∙ half_is_none s.samples stands.whole s.half stands.slices.count))

@@ -2,7 +2,8 @@
 use Rattle.biphase.specs.declared.profile.Profile.TheVariants.{Normal, Worn}
 use Rattle.tc_address.specs.Numbering.{number_of}
 use Rattle.tc_words.specs.declared.job.Job.{Job}
-use Rattle.tc_words.specs.declared.job.Job.TheVariants.{LtcRead, LtcWorn, LtcFly, LtcMtc, LtcJam, LtcChase, MtcRead, Number, LabelOf, LtcMake, LtcConvert, PcmLtc, LtcPcm, LtcLoad, VitcRead, VitcMake}
+use Rattle.tc_words.specs.declared.job.Job.TheVariants.{LtcRead, LtcWorn, LtcFly, LtcMtc, LtcJam, LtcChase, MtcRead, Number, LabelOf, LtcMake}
+use Rattle.tc_words.specs.declared.job.Job.TheVariants.{LtcConvert, PcmLtc, LtcPcm, LtcLoad, VitcRead, VitcMake}
 use Rattle.tc_top.specs.Along.{along_intervals}
 use Rattle.tc_top.specs.Labels.{number_line, label_line}
 use Rattle.tc_top.specs.Load.{load_text}

@@ -1,6 +1,7 @@
 -- The load run: a recording of words in cells whose length changes by chance, what is read of it, and the line that says so. The generator is this
 -- project's own: the value of a draw is its new state.
-use Rattle.std.specs.Prelude.{◌≡◌, ℕ, zero, suc, ◌+◌, ◌-◌, ◌*◌, ◌/◌, ◌%◌, ◌^◌, ◌≤◌, min, max, pos, Bool, true, false, List, [], ◌∷◌, ◌++◌, length, take, drop, codes, decimal, count_by, Option, Some, None, slice_get}
+use Rattle.std.specs.Prelude.{◌≡◌, ℕ, zero, suc, ◌+◌, ◌-◌, ◌*◌, ◌/◌, ◌%◌, ◌^◌, ◌≤◌, min, max, pos, Bool, true, false, List, [], ◌∷◌, ◌++◌, length}
+use Rattle.std.specs.Prelude.{take, drop, codes, decimal, count_by, Option, Some, None, slice_get}
 use Rattle.std.specs.List.{last_or}
 use Rattle.std.specs.Option.{unwrap_or}
 use Rattle.biphase.specs.declared.cell.Cell.{Cell}

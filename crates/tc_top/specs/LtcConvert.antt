@@ -1,6 +1,5 @@
 -- `ltc-convert`: a recording in another version of the interval file, or in the same.
-use Rattle.std.specs.Prelude.{◌≡◌, ℕ, List, ◌++◌}
-use Rattle.std.specs.List.{flat_map}
+use Rattle.std.specs.Prelude.{◌≡◌, ℕ, List}
 use Rattle.tc_files.specs.declared.interval_file.header.FileVersion.{FileVersion}
 use Rattle.tc_files.specs.declared.interval_file.header.IntervalHeader.{IntervalHeader}
 use Rattle.tc_files.specs.Grammar.{file_of}

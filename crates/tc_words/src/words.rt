@@ -2,7 +2,8 @@
 //! `job`.
 ghost use Rattle.std.specs.Prelude.{◌≡◌, ◌⊎◌, map, position, string_bytes, alloc_error};
 ghost use Rattle.command_words.specs.CommandLine.{begins_with_dash};
-ghost use Rattle.tc_words.specs.Job.{answer_to, without_dashes, job_of, no_values, ltc_fly, ltc_mtc, ltc_jam, ltc_chase, number, label_of, ltc_make, ltc_convert, pcm_ltc, ltc_pcm, task_of, chase, ltc_load, vitc_make};
+ghost use Rattle.tc_words.specs.Job.{answer_to, without_dashes, job_of, no_values, ltc_fly, ltc_mtc, ltc_jam, ltc_chase, number, label_of, ltc_make};
+ghost use Rattle.tc_words.specs.Job.{ltc_convert, pcm_ltc, ltc_pcm, task_of, chase, ltc_load, vitc_make};
 
 use crate::chase_words::chased;
 use crate::commands;

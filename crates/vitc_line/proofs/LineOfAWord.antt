@@ -3,7 +3,6 @@ use Rattle.std.proofs.Common.{◌≡◌, ℕ, ◌+◌, ◌*◌, ◌/◌, ◌%◌
 use Rattle.tc_address.specs.Count.{system_with}
 use Rattle.tc_bits.specs.Fields.{IsFields}
 use Rattle.tc_bits.specs.Row.{SumHolds}
-use Rattle.vitc_line.specs.declared.places.TheConstants as places
 use Rattle.vitc_line.specs.declared.word.VitcWord.{VitcWord}
 use Rattle.vitc_line.specs.Spelled.{unchecked, check_sum, line_of}
 use Rattle.vitc_line.specs.Spelling.{Spells}

@@ -5,7 +5,10 @@ pub mod LevelOfARun
 pub mod OneAnswer
 pub mod ReadSoFar
 pub mod RunsOfBits
+pub mod RunsOfBytes
 pub mod SameWord
+pub mod TableOfOnes
 pub mod TurnedSoFar
 pub mod WholeCells
 pub mod WrittenSoFar
+pub mod XorOfOnes

@@ -1,14 +1,13 @@
 -- The lowest bits of one level are a run and the rest is less, so the runs of bits are all of them, and stand for the bits.
-use Rattle.std.proofs.Common.{◌≡◌, ℕ, zero, suc, ◌+◌, ◌-◌, ◌*◌, ◌/◌, ◌%◌, ◌^◌, ◌<◌, ◌≤◌, Bool, true, false, not, List, [], ◌∷◌, length, refl, sym, ap, ◌∙◌, arith, inl, inr}
+use Rattle.std.proofs.Common.{◌≡◌, ℕ, zero, suc, ◌+◌, ◌-◌, ◌*◌, ◌/◌, ◌%◌, ◌^◌, ◌<◌, ◌≤◌, Bool, true, false, not, List, [], ◌∷◌, length, refl, sym, arith, inl, inr}
 use Rattle.std.specs.Prelude.{◌↔◌, ◌==◌, if◌then◌else◌}
-use Rattle.std.specs.Int.{trailing_zeros, trailing_ones, w128}
 use Rattle.std.proofs.Math.Nat.{pow-le-pow_right}
 use Rattle.std.proofs.lemmas.Bool.{cases_lt, eqb-true, eqb-false}
-use Rattle.std.proofs.lemmas.Nat.{pow-add, pow_pos, shr_split, mul-le}
-use Rattle.vitc_reader.specs.Runs.{IsLineLength, MayBeLine, StandFor, HaveCells, bits_of, bits_of_run, runs_from, total}
+use Rattle.std.proofs.lemmas.Nat.{pow-add, shr_split, mul-le}
+use Rattle.vitc_reader.specs.Runs.{MayBeLine, StandFor, HaveCells, bits_of, bits_of_run, runs_from, total}
 use Rattle.vitc_reader.specs.Written.{run_length, cells_in, runs_in}
 use Rattle.vitc_reader.proofs.BitsOfCells.{level_after, odd_runs}
-use Rattle.vitc_reader.proofs.LevelOfARun.{Level, ones_level, zeros_level, not_odd}
+use Rattle.vitc_reader.proofs.LevelOfARun.{ones_level, zeros_level, not_odd}
 use Rattle.vitc_reader.proofs.WrittenSoFar.{runs_are_cells}
 
 -- a run at the bottom of bits, and the level of what stands above it

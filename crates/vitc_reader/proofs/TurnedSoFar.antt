@@ -1,9 +1,16 @@
 -- The bits so far, with the last run taken to be high: behind an even number of runs each of them is turned.
-use Rattle.std.proofs.Common.{◌≡◌, ℕ, ◌+◌, ◌-◌, ◌*◌, ◌%◌, ◌^◌, ◌<◌, ◌≤◌, Bool, true, false, not, List, length, get_or, refl, sym, ap, ◌∙◌, subst, lit<, arith}
+use Rattle.std.proofs.Common.{◌≡◌, ℕ, ◌+◌, ◌-◌, ◌*◌, ◌%◌, ◌^◌, ◌<◌, ◌≤◌, Bool, true, false, not, List, length, get_or, refl, sym, ap, ◌∙◌, subst, arith, Result, Ok, Err, IfOk, IfErr, IsErrAnd}
+use Rattle.std.specs.Result.{is_ok}
+use Rattle.std.specs.Prelude.{bit_xor}
 use Rattle.std.proofs.Math.Nat.{pow-le-pow_right}
-use Rattle.std.proofs.lemmas.Nat.{pow-add, pow_pos, shl_whole}
-use Rattle.vitc_reader.specs.Runs.{bits_of_run, IsCells, StandFor}
-use Rattle.vitc_reader.proofs.ReadSoFar.{ReadSoFar, bits_below, none_read, read_more, stands}
+use Rattle.std.proofs.lemmas.Nat.{pow-add, pow_pos}
+use Rattle.vitc_reader.specs.declared.fault.RunFault.{RunFault}
+use Rattle.vitc_reader.specs.declared.fault.RunFault.TheVariants.{Run, TooLong}
+use Rattle.vitc_reader.specs.declared.reading.Turned.{Turned}
+use Rattle.vitc_reader.specs.KeptLine.{IsTurnedBy, IsRefusedAt}
+use Rattle.vitc_reader.specs.Runs.{bits_of_run, IsCells, IsRunFault, StandFor}
+use Rattle.vitc_reader.proofs.XorOfOnes.{xor_ones}
+use Rattle.vitc_reader.proofs.ReadSoFar.{ReadSoFar, bits_below, no_cells, none_read, read_more, run_fault, stands, too_long, too_many}
 
 abbrev pub turned : Bool → ℕ → ℕ → ℕ
 turned true cells value = 2 ^ cells - 1 - value
@@ -79,10 +86,43 @@ turned_stands n runs i bits cells t end odd =
 
 -- ---- ones
 
-pub one_shifted : (cells : ℕ) → cells ≤ 90 → 1 * 2 ^ cells % 2 ^ 128 ≡ 2 ^ cells
-one_shifted cells few = let whole = shl_whole 1 1 cells 128 (lit< tt) (omega (arith, few)) in omega (arith, whole)
-
 pub within_ones : (bits cells more : ℕ) → bits < 2 ^ cells → bits ≤ 2 ^ (cells + more) - 1
 within_ones bits cells more small =
     let far : 2 ^ cells ≤ 2 ^ (cells + more) = pow-le-pow_right {n = 2} (omega arith) {i = cells} {j = cells + more} (omega arith) in
     omega (arith, small, far)
+
+-- ---- one run more, as the code takes it or refuses it
+
+pub turned_by : (n : ℕ) (runs : List ℕ) (i run : ℕ) (line next : Turned) → TurnedSoFar n runs i line.bits line.cells → i < length runs → run ≡ get_or runs i 0
+    → IsTurnedBy n line run next → TurnedSoFar n runs (i + 1) next.bits next.cells
+turned_by n runs i run line next t lt is by =
+    let few : line.cells + by.0 ≤ 90 = rw by.2 at by.3 in
+    rw (by.4, by.2) (turn_more n runs i line.bits line.cells by.0 t lt (rw is at by.1) few)
+
+pub refused_at : (n : ℕ) (runs : List ℕ) (i run : ℕ) (line : Turned) (fault : RunFault) → TurnedSoFar n runs i line.bits line.cells → i < length runs
+    → run ≡ get_or runs i 0 → IsRefusedAt n line run i fault → IsRunFault n runs fault
+refused_at n runs i run line (Run j) t lt is no_run = rw no_run.0 (run_fault n runs i t.value line.cells t.is_high t.so_far lt (rw is at no_run.1))
+refused_at n runs i run line (TooLong j) t lt is too_far =
+    rw too_far.0 (too_long n runs i t.value line.cells too_far.1 t.is_high t.so_far lt (rw is at too_far.2) too_far.3)
+
+pub not_read : (n : ℕ) (runs : List ℕ) (i run : ℕ) (line : Turned) (fault : RunFault) (bits : ℕ) → 1 ≤ n → TurnedSoFar n runs i line.bits line.cells
+    → i < length runs → run ≡ get_or runs i 0 → IsRefusedAt n line run i fault → StandFor n runs bits → ⊥
+not_read n runs i run line (Run j) bits some t lt is no_run stand = no_cells n runs i bits lt (rw is at no_run.1) stand
+not_read n runs i run line (TooLong j) bits some t lt is too_far stand =
+    too_many n runs i t.value line.cells too_far.1 bits t.is_high some t.so_far lt (rw is at too_far.2) too_far.3 stand
+
+-- a fault that is passed on
+pub passed_on : {P Q : RunFault → Type 0} (result : Result ℕ RunFault) → IsErrAnd result P → ((fault : RunFault) → P fault → Q fault) → IfErr result Q
+passed_on (Ok bits) says to = absurd says
+passed_on (Err fault) says to = to fault says
+
+-- what is said of a success that is told by a test
+pub told_success : {P : ℕ → Type 0} (result : Result ℕ RunFault) (is_read : Bool) → is_read ≡ is_ok result → IfOk result P → is_read ≡ true → (bits : ℕ) × P bits
+told_success (Ok bits) is_read is says yes_it_is = (bits, says)
+told_success (Err fault) is_read is says yes_it_is = absurd cc
+
+pub turned_bits : (bits cells more ones : ℕ) → bits < 2 ^ cells → ones ≡ 2 ^ (cells + more) - 1 → bit_xor bits ones ≡ 2 ^ (cells + more) - 1 - bits
+turned_bits bits cells more ones small is =
+    let some = pow_pos (cells + more) in
+    let within = within_ones bits cells more small in
+    rw is (xor_ones (cells + more) bits (omega (arith, some, within)))

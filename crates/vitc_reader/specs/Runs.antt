@@ -13,6 +13,11 @@ IsLineLength n = (460 ≤ n) × (n ≤ 65535)
 abbrev pub MayBeLine : List ℕ → Type 0
 MayBeLine runs = (length runs % 2 ≡ 1) × (length runs ≤ 89)
 
+-- runs that stand in bytes: two each, the most significant first
+abbrev pub runs_of_bytes : List ℕ → List ℕ
+runs_of_bytes (high ∷ low ∷ more) = (high * 256 + low) ∷ runs_of_bytes more
+runs_of_bytes _ = []
+
 -- on a line of n ticks a run of r ticks is k cells, to a quarter of a cell
 abbrev pub IsCells : ℕ → ℕ → ℕ → Type 0
 IsCells n r k = (1 ≤ k) × (4 * abs_diff (115 * r) (k * n) ≤ n)

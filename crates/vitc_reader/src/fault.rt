@@ -1,4 +1,4 @@
-//! Why a line says nothing. Next: `reading`.
+//! Why a line says nothing. Next: `ones`.
 
 use thiserror::Error;
 use vitc_line::LineFault;

@@ -1,14 +1,14 @@
 //! What the lines of a field say together.
 
-ghost use Rattle.std.specs.Prelude.{◌≡◌, ◌↔◌, ◌++◌, ◌∷◌, [], ℕ, List, Result, Ok, Err, true};
+ghost use Rattle.std.specs.Prelude.{◌≡◌, ◌<◌, ◌^◌, ◌↔◌, ◌++◌, ◌∷◌, [], ℕ, List, Result, Ok, Err, IfOk, IfErr, true};
 ghost use Rattle.vitc_line.specs.Places.{HasLines};
 ghost use Rattle.vitc_line.specs.declared.word.VitcWord.{VitcWord};
 ghost use Rattle.vitc_reader.specs.declared.fault.ReadFault.{ReadFault};
-ghost use Rattle.vitc_reader.specs.Runs.{IsLineLength, MayBeLine};
+ghost use Rattle.vitc_reader.specs.Runs.{IsLineLength, IsRunFault, MayBeLine, StandFor, runs_of_bytes};
 ghost use Rattle.vitc_reader.specs.Field.{IsSaid, IsAnswerTo, IsAnswer, StandsFor};
 
-use crate::fault::ReadFault;
-use crate::reading::read_runs;
+use crate::fault::{ReadFault, RunFault};
+use crate::reading::{factor_of, read_bytes, read_runs};
 use std::marker::Model;
 use tc_address::System;
 use vitc_line::{VitcWord, decode};
@@ -54,14 +54,13 @@ impl FieldAnswer {
     }
 }
 
-/// What the line says, or its first fault.
-fn say(system: System, length: u32, runs: &[u16]) -> Result<VitcWord, ReadFault>
+/// What the bits of a line say, or why it has none.
+fn say(system: System, read: Result<u128, RunFault>) -> Result<VitcWord, ReadFault>
     requires system { HasLines system }
-    requires length { IsLineLength length }
-    requires runs { MayBeLine runs.now }
-    ensures { IsSaid system length runs.now result }
+    requires width { IfOk read (λ bits. bits < 2 ^ 90) }
+    ensures { (n : ℕ) (runs : List ℕ) → IfOk read (StandFor n runs) → IfErr read (IsRunFault n runs) → IsSaid system n runs result }
 {
-    match read_runs(length, runs) {
+    match read {
         Ok(bits) => match decode(system, bits) {
             Ok(word) => Ok(word),
             Err(fault) => Err(ReadFault::Line(fault)),
@@ -75,11 +74,14 @@ fn say(system: System, length: u32, runs: &[u16]) -> Result<VitcWord, ReadFault>
 pub struct FieldReader {
     system: System,
     length: u32,
+    factor: u64,
     answer: FieldAnswer,
 }
 
 impl Model for FieldReader {
+    ghost use Rattle.std.specs.Prelude.{◌≡◌, ◌≤◌, ◌^◌, refl};
     ghost use Rattle.vitc_line.specs.Places.{HasLines};
+    ghost use Rattle.vitc_reader.specs.KeptLine.{factor_on};
     ghost use Rattle.vitc_reader.specs.Runs.{IsLineLength};
     ghost use Rattle.vitc_reader.specs.Field.{Reading};
 
@@ -87,9 +89,11 @@ impl Model for FieldReader {
 
     ghost view = { λ r. record { system = r.system; length = r.length; answer = r.answer } };
 
-    ghost invariant = { λ r. HasLines r.system × IsLineLength r.length };
+    ghost invariant = { λ r. HasLines r.system × IsLineLength r.length × (r.factor ≡ factor_on r.length) × (r.factor ≤ 2 ^ 54) };
 
-    ghost inverse = { λ v. record { system = v.system; length = v.length; answer = v.answer } };
+    ghost inverse = { λ v. record { system = v.system; length = v.length; factor = factor_on v.length; answer = v.answer } };
+
+    ghost inverse_ok = { λ r h. rw (← h.2) refl };
 }
 
 impl FieldReader {
@@ -104,6 +108,7 @@ impl FieldReader {
         FieldReader {
             system,
             length,
+            factor: factor_of(length),
             answer: FieldAnswer::NoLine,
         }
     }
@@ -114,8 +119,23 @@ impl FieldReader {
         ensures same { (self.new.system ≡ self.old.system) × (self.new.length ≡ self.old.length) }
         ensures next { (lines : List (List ℕ)) → StandsFor self.old lines → StandsFor self.new (lines ++ runs.now ∷ []) }
     {
-        let said = say(self.system, self.length, runs);
+        let said = say(self.system, read_runs(self.length, runs));
         self.answer = self.answer.with(said);
+    }
+
+    /// Takes the next line of the field, as `line` does, where each run stands as two bytes, the most
+    /// significant first. It tells whether the runs stand for bits.
+    pub fn line_of_bytes(&mut self, bytes: &[u8]) -> bool
+        requires { MayBeLine (runs_of_bytes bytes.now) }
+        ensures same { (self.new.system ≡ self.old.system) × (self.new.length ≡ self.old.length) }
+        ensures next { (lines : List (List ℕ)) → StandsFor self.old lines → StandsFor self.new (lines ++ runs_of_bytes bytes.now ∷ []) }
+        ensures reads { result ≡ true → IsLineLength self.old.length × ((bits : ℕ) × StandFor self.old.length (runs_of_bytes bytes.now) bits) }
+    {
+        let read = read_bytes(self.length, self.factor, bytes);
+        let is_read = read.is_ok();
+        let said = say(self.system, read);
+        self.answer = self.answer.with(said);
+        is_read
     }
 
     /// What the lines so far say together.

@@ -9,16 +9,18 @@
 //!   run is within a quarter of a cell of a whole number of cells, and there are 90 at most. Else it names
 //!   the first run that can't be taken (`IsRunFault`).
 //! - `runs_of` writes the runs of some bits, and they stand for these bits, at every length of a line.
-//! - A `FieldReader` that was fed some lines answers for all of them (`specs/Field.antt`, `StandsFor`,
-//!   `IsAnswer`): agreed, in conflict, or nothing, with the fault of the first line.
+//! - A `FieldReader` that was fed some lines, as their runs or as the bytes in which these stand, answers for
+//!   all of them (`specs/Field.antt`, `StandsFor`, `IsAnswer`): agreed, in conflict, or nothing, with the
+//!   fault of the first line.
 //!
-//! Read `fault`, `reading`, `writing` and `field`, in this order, and the files of specs/ beside them.
+//! Read `fault`, `ones`, `reading`, `writing` and `field`, in this order, and the files of specs/ beside them.
 //! `vitc_line` says what the bits of a line spell. Nothing here allocates or fails in any other way.
 #![tactic(auto)]
 
 mod fault;
 mod field;
 pub mod laws;
+mod ones;
 mod reading;
 mod writing;
 

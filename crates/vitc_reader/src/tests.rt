@@ -316,6 +316,24 @@ fn answers_of_fields(rt: HostRuntime) -> Result<(), Fail> {
     Ok(())
 }
 
+/// `ZERO` as bytes.
+const ZERO_IN_BYTES: &[u8] = &[
+    0, 4, 0, 36, 0, 4, 0, 36, 0, 4, 0, 36, 0, 4, 0, 36, 0, 4, 0, 36, 0, 4, 0, 36, 0, 4, 0, 36, 0,
+    4, 0, 36, 0, 4, 0, 28, 0, 4,
+];
+
+#[test]
+fn lines_in_bytes(rt: HostRuntime) -> Result<(), Fail> {
+    let mut reader = FieldReader::new(System::F30, 460);
+    assert!(rt; !reader.line_of_bytes(&[1, 108]));
+    let too_long = ReadFault::Runs(RunFault::TooLong(0));
+    assert_eq!(rt; reader.answer(), FieldAnswer::Nothing(too_long));
+    assert!(rt; reader.line_of_bytes(ZERO_IN_BYTES));
+    assert_eq!(rt; reader.answer(), FieldAnswer::Agreed(word_of(FIRST)?));
+    assert!(rt; !reader.line_of_bytes(&[0, 0]));
+    Ok(())
+}
+
 #[test]
 fn the_runs_of_a_line(rt: HostRuntime) {
     let mut runs = [7; 90];

@@ -1,7 +1,9 @@
-use Rattle.std.proofs.Common.{◌+◌, sym, ap, ◌∙◌}
+use Rattle.std.proofs.Common.{◌≡◌, ◌+◌, ◌*◌, length, drop, refl, sym, ap, ◌∙◌}
 use Rattle.std.proofs.lemmas.List.{take_rest}
-use Rattle.line_file.specs.LineFile.{line_at}
+use Rattle.line_file.specs.KeptFront.{line_of}
+use Rattle.line_file.specs.LineFile.{line_at, whole}
 use Rattle.line_file.proofs.PieceByPiece.{by_lines, no_lines, no_last, lines_short, lines_bad, last_again, last_more, some_bytes}
+use Rattle.line_file.proofs.RunsInBytes.{line_count}
 use Rattle.line_file.proofs.field.field_in.Goals.{then-stands_again, else-stands_again+in-Whole}
 use Rattle.line_file.proofs.field.field_in.Goals as goal
 
@@ -40,8 +42,13 @@ lines-preserved c =
       | then-stands_again w ↦ rw (w.reader-is, w.width-is, w.last-is) (last_again header _ c.args.place bytes c.lines._line width c.lines.last c.lines.reader c.lines.invariant
           c.lines-test.true (c.stands_again.ensures.some w.if-stands_again.true) (c.stands_again.ensures.again w.if-stands_again.true) (c.a_line_again_changes_nothing.ensures c.lines.reader))
       | else-stands_again+in-Whole w ↦
-          let line = ap (line_at (c.args.place + width)) (sym (take_rest bytes width)) ∙ sym w.in-Whole.ensures.front in
-          let said = rw w.deref.ensures.0 at (w.line.ensures.next c.lines.invariant.far.lines c.lines.invariant.far.said) in
-          rw (w.reader-is, w.width-is, w.last-is, w.len.ensures.value) (last_more header _ c.args.place bytes c.lines._line width c.lines.reader w.line.new.self w.line_in.new.runs.items
-          c.lines.invariant.far c.lines-test.true line said w.line.ensures.same.0 w.line.ensures.same.1)
+          let rest = drop width bytes in
+          let runs = line_of rest in
+          let line : line_at (c.args.place + width) rest ≡ whole runs =
+          rw (take_rest bytes width) at (sym w.in-Whole.ensures.front) in
+          let said = rw (take_rest bytes width) at (w.in-Whole.ensures.next refl c.lines.invariant.far.lines c.lines.invariant.far.said) in
+          let count = line_count (c.args.place + width) width bytes runs line in
+          let last : w.line_width-last.result ≡ 1 + 2 * length runs = w.line_width-last.ensures ∙ ap (λ n. 1 + 2 * n) (sym count) in
+          rw (w.reader-is, w.width-is, w.last-is, last) (last_more header _ c.args.place bytes c.lines._line width c.lines.reader w.line_in.new.reader runs
+          c.lines.invariant.far c.lines-test.true line said w.line_in.ensures.same.0 w.line_in.ensures.same.1)
     ]

@@ -1,4 +1,4 @@
-use Rattle.std.proofs.Common.{◌≤◌, arith}
+use Rattle.std.proofs.Common.{arith}
 use Rattle.vitc_reader.proofs.OneAnswer.{one_answer}
 use Rattle.vitc_reader.proofs.laws.lines_have_one_answer.Goals as goal
 

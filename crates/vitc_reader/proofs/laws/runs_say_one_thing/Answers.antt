@@ -1,4 +1,4 @@
-use Rattle.std.proofs.Common.{◌≤◌, arith}
+use Rattle.std.proofs.Common.{arith}
 use Rattle.vitc_reader.proofs.OneAnswer.{no_fault, one_fault}
 use Rattle.vitc_reader.proofs.ReadSoFar.{only}
 use Rattle.vitc_reader.proofs.laws.runs_say_one_thing.Goals as goal

@@ -1,4 +1,4 @@
-use Rattle.std.proofs.Common.{◌≡◌, ◌∷◌, List, Bool, ◌∙◌}
+use Rattle.std.proofs.Common.{◌∙◌}
 use Rattle.biphase.proofs.ShapedIsAChain.{shaped_cons}
 use Rattle.biphase.proofs.shaper.Shaper.next_cell.Goals as goal
 

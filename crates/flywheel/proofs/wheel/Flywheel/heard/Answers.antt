@@ -1,4 +1,4 @@
-use Rattle.std.proofs.Common.{sym, ◌∙◌, ap}
+use Rattle.std.proofs.Common.{◌∙◌, ap}
 use Rattle.flywheel.specs.Wheel.{Wheel, running}
 use Rattle.flywheel.proofs.GivenSoFar.{after_heard}
 use Rattle.flywheel.proofs.wheel.Flywheel.heard.Goals as goal

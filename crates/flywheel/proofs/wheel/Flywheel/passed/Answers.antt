@@ -1,5 +1,5 @@
 use Rattle.std.proofs.Common.{◌≡◌, ◌+◌, ◌<◌, ◌≤◌, true, subst, sym, ◌∙◌, arith}
-use Rattle.flywheel.specs.Wheel.{Wheel, wheel_of, has_frame_due}
+use Rattle.flywheel.specs.Wheel.{wheel_of, has_frame_due}
 use Rattle.flywheel.specs.StandsFor.{StandsFor}
 use Rattle.flywheel.proofs.GivenSoFar.{after_invented, after_gone, frame_is}
 use Rattle.flywheel.proofs.wheel.Flywheel.passed.Goals as goal

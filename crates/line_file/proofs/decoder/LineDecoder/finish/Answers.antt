@@ -1,4 +1,4 @@
-use Rattle.std.proofs.Common.{◌≡◌, sym, ◌∙◌, ap, subst, length, true, false}
+use Rattle.std.proofs.Common.{sym, ◌∙◌, subst, length}
 use Rattle.std.proofs.lemmas.Bool.{eqb-true, eqb-false, both_ways}
 use Rattle.line_file.specs.StandsFor.{Decoding, StandsFor}
 use Rattle.line_file.proofs.DecoderTakes.{end_there, no_end_there}

@@ -1,4 +1,4 @@
-use Rattle.std.proofs.Common.{◌++◌, [], ◌∷◌, List, ℕ, take, drop, length, subst}
+use Rattle.std.proofs.Common.{◌++◌, [], List, ℕ, take, drop, subst}
 use Rattle.tc_top.specs.KeptAlong.{Halts, IsHalt, Stands}
 use Rattle.tc_top.proofs.AlongTheInput.{Works, through, first_and_rest, first_only, stops_on, works_on}
 use Rattle.tc_top.proofs.along.Along.advance.Goals as goal

@@ -81,7 +81,8 @@ returns-in-Fault-clause-stops g c = λ front written stands.
       Appends-nil _,
       a_refusal p g.B.Behind.stands virtual _ (Some c.run.behind) c.run.intervals s.choice c.in-Fault.fault f (take width window) rest w room then
           (by_bad_number virtual f (take width window) width c.in-Fault.fault then.progress
-          (makes.2 (decoding_of f) (rw (← then.progress) between) (rw (← then.progress) c.requires.version) (rw (← then.progress, c.taken-first.ensures) refl))),
+          (makes.2 (decoding_of f) (rw (← then.progress) between) (rw (← then.progress) c.requires.version)
+              (rw (← then.progress, c.taken-first.ensures) refl))),
     ))
     front written stands)
 
@@ -127,11 +128,13 @@ run-preserved g c =
           let more = e.works s.choice header (recording_of f).intervals w then.printed.2 in (
             more.0,
             more.1,
-            subst (λ (n : ℕ). Stands g.B.Behind.stands (record s.decoder { taken = n }) (Some c.interval.new.self) (count + 1) s.choice (f ++ take width window) (w ++ more.0)) sum
+            subst (λ (n : ℕ). Stands g.B.Behind.stands (record s.decoder { taken = n }) (Some c.interval.new.self) (count + 1) s.choice
+                (f ++ take width window) (w ++ more.0)) sum
                 (an_interval g.B.Behind.stands virtual (record virtual { taken = virtual.taken + width }) (Some c.run.behind) (Some c.interval.new.self)
                 count (count + 1) s.choice c.in-Interval.ticks f (take width window) w (w ++ more.0) then
                 (by_number virtual f (take width window) width c.in-Interval.ticks then.progress
-                (makes.5 (decoding_of f) (rw (← then.progress) between) (rw (← then.progress) c.requires.version) (rw (← then.progress, c.taken-first.ensures) refl)))
+                (makes.5 (decoding_of f) (rw (← then.progress) between) (rw (← then.progress) c.requires.version)
+                    (rw (← then.progress, c.taken-first.ensures) refl)))
                 room refl (header, then.printed.1, more.2)),
           )));
       same = e.cause ∙ i.same;

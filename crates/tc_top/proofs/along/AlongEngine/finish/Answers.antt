@@ -19,7 +19,8 @@ returns-in-Err-clause-stops g c = λ bytes written stands.
       (
         record { is = stands.stands.good; unspent = stands.unspent },
         subst (λ (p : Progress). fault_at_end (end p) ≡ Some c.in-Err.fault) stands.stands.progress (ap fault_at_end (sym c.in-Err.ensures.answers)),
-        rw (append-nil written) (printed_well g.B.Behind.printing g.B.Behind.stands g.B.Behind.is_settled g.B.Behind.stands_well s.behind s.choice (recording_of bytes) written c.requires.settled stands.stands.printed),
+        rw (append-nil written) (printed_well g.B.Behind.printing g.B.Behind.stands g.B.Behind.is_settled g.B.Behind.stands_well s.behind s.choice
+            (recording_of bytes) written c.requires.settled stands.stands.printed),
       ),
     )
 

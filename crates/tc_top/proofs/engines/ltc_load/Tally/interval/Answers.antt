@@ -27,5 +27,6 @@ returns-in_default-clause-reads c = λ intervals read.
       profile = rw c.count.ensures.reader (takes.profile ∙ read.profile);
       events = read.events ++ event_list told.0;
       stands = rw c.count.ensures.reader (c.step.ensures.stands intervals read.events told.0 read.stands told.1);
-      counts = told.2 ∙ ap (λ (n : Counts). fold with_event n (event_list told.0)) read.counts ∙ sym (fold-append with_event no_counts read.events (event_list told.0));
+      counts = told.2 ∙ ap (λ (n : Counts). fold with_event n (event_list told.0)) read.counts
+          ∙ sym (fold-append with_event no_counts read.events (event_list told.0));
     }

@@ -1,5 +1,4 @@
 use Rattle.std.proofs.Common.{◌≡◌, ◌∙◌, ◌+◌, ◌-◌, ◌++◌, false, true, ap, arith}
-use Rattle.std.specs.Prelude.{pos}
 use Rattle.line_file.specs.Grammar.{field_bytes}
 use Rattle.tc_address.specs.Label.{Address, IsLabel}
 use Rattle.tc_top.specs.KeptLines.{Lining, frame_bytes}

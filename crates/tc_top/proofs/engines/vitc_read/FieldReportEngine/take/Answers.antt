@@ -1,4 +1,4 @@
-use Rattle.std.proofs.Common.{inl, ◌++◌, ◌∙◌, [], take, drop, sym, refl, append-nil}
+use Rattle.std.proofs.Common.{inl, ◌∙◌, [], take, drop, sym, refl, append-nil}
 use Rattle.std.proofs.KnownBytes.{Appends-nil}
 use Rattle.std.proofs.lemmas.List.{take-append-drop}
 use Rattle.line_file.specs.Texts.{field_line}
@@ -25,7 +25,8 @@ returns-in_ok-print-in-Field-clause-works g c = λ front written stands.
     let reads_on = c.in-Field.ensures.takes.stands front stands.answers stands.decoder in (
       field_line r.fields c.in-Field.answer,
       c.in_ok-print-in-Field.ensures.all,
-      printed c.a_decoder_tells_the_file.ensures r mid c.print.new.self front written taken c.in-Field.answer stands reads_on refl c.in_ok-print-in-Field.ensures.counted,
+      printed c.a_decoder_tells_the_file.ensures r mid c.print.new.self front written taken c.in-Field.answer stands reads_on refl
+          c.in_ok-print-in-Field.ensures.counted,
     )
 
 -- its line was not taken
@@ -37,7 +38,8 @@ returns-in_err-print-in-Field-clause-stops g c =
     let why = c.in_err-print-in-Field.ensures.why in
     through c.from_residual.result c.from_residual.ensures.1 (λ stop same front written stands.
     let reads_on = c.in-Field.ensures.takes.stands front stands.answers stands.decoder in
-    rw (same, why) (one_more_part c.a_decoder_tells_the_file.ensures r c.take.new.self front written bytes (take count bytes) (drop count bytes) c.in-Field.answer _ _ stands
+    rw (same, why) (one_more_part c.a_decoder_tells_the_file.ensures r c.take.new.self front written bytes (take count bytes) (drop count bytes)
+        c.in-Field.answer _ _ stands
     reads_on (sym (take-append-drop count bytes)) c.in_err-print-in-Field.ensures.front))
 
 -- the bytes have a fault
