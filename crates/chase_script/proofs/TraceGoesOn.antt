@@ -87,4 +87,4 @@ end_of place rows steps losses line ended going none text =
     let n : steps + 0 ≡ steps = omega arith in
     let k : losses + 0 ≡ losses = omega arith in
     rw (going, none, text) (ap (λ (i : ℕ). step_end_line i (losses + 0)) n ∙ ap (λ (i : ℕ). step_end_line steps i) k
-        ∙ sym (append-nil (step_end_line steps losses)))
+    ∙ sym (append-nil (step_end_line steps losses)))

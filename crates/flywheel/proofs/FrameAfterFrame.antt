@@ -69,7 +69,7 @@ go_on-between sum limit word tick rest ended on =
     let after : GoOn (Some (place_since word n)) (end ++ rest) = go_on-end word (tick_after word (limit + 1)) n (is_gone limit word tick) rest ended on in
     let from_none : GoOn (Some (place_since word (0 + n))) (end ++ rest) = subst (λ k. GoOn (Some (place_since word k)) (end ++ rest)) (omega arith) after in
     let all : GoOn (Some (place_since word 0)) (map (invented_after word) (range_with_len 1 n) ++ (end ++ rest)) = go_on-steps sum word 0 n
-        (end ++ rest) from_none in
+    (end ++ rest) from_none in
     let steps : GoOn (Some (place_since word 0)) (map (invented_after word) (due_steps limit word tick) ++ (end ++ rest)) =
     subst (λ ks. GoOn (Some (place_since word 0)) (map (invented_after word) ks ++ (end ++ rest))) (sym (due_steps-range limit word tick)) all in
     subst (λ these. GoOn (Some (place_since word 0)) these) (sym (append_assoc (map (invented_after word) (due_steps limit word tick)) end rest)) steps

@@ -162,7 +162,7 @@ IsBad (Some header) place count bytes f = (count < MAX_FIELDS) × (field_at plac
 -- the bytes with others behind them
 read_on : (header : Option LineHeader) (place count : ℕ) (part front rest : List ℕ) (answers : List FieldAnswer)
     → (s : StandsFor (decoding_of header place count part) front answers) → reading_of (front ++ rest)
-        ≡ reading_behind header place count s.fields (part ++ rest)
+    ≡ reading_behind header place count s.fields (part ++ rest)
 read_on header place count part front rest answers s =
     ap reading_of (ap (λ (l : List ℕ). l ++ rest) s.split ∙ append_assoc s.before part rest) ∙ s.follows (part ++ rest)
 
@@ -173,9 +173,11 @@ told_as r other verdict answers e told = subst (λ (x : Reading). IsTold x verdi
 none_more : (header : LineHeader) (fields : List (List (List ℕ))) (answers : List FieldAnswer) (verdict : Verdict) (f : Fields)
     → AreAnswers header fields answers
     → f.verdict ≡ verdict → f.fields ≡ [] → IsTold (with_fields header fields f) verdict answers
-none_more header fields answers verdict f are is none =
-    (is, subst (λ (fs : List (List (List ℕ))). AreAnswers header fs answers) (sym
-        (ap (λ (fs : List (List (List ℕ))). fields ++ fs) none ∙ append-nil fields)) are)
+none_more header fields answers verdict f are is none = (
+  is,
+  subst (λ (fs : List (List (List ℕ))). AreAnswers header fs answers) (sym
+      (ap (λ (fs : List (List (List ℕ))). fields ++ fs) none ∙ append-nil fields)) are,
+)
 
 -- a fault of a field
 field_told : (header : LineHeader) (place count : ℕ) (fields : List (List (List ℕ))) (answers : List FieldAnswer) (bytes more : List ℕ)
@@ -187,7 +189,7 @@ field_told header place count fields answers (byte ∷ rest) more f are room e =
     let one : MAX_FIELDS - count ≡ suc left = omega (arith, room) in
     let read = fields_by left place (byte ∷ (rest ++ more)) (bad f) (omega arith) (field_stays place (byte ∷ rest) more f e) in
     rw one (none_more header fields answers (refused f) (fields_at (suc left) place (byte ∷ (rest ++ more))) are (ap (λ (x : Fields). x.verdict) read)
-        (ap (λ (x : Fields). x.fields) read))
+    (ap (λ (x : Fields). x.fields) read))
 
 -- a fault
 pub fault_told : (header : Option LineHeader) (place count : ℕ) (part front chunk more : List ℕ) (answers : List FieldAnswer) (f : FileFault)
@@ -233,7 +235,7 @@ good_told header place count fields answers (byte ∷ rest) are waits =
     let one : MAX_FIELDS - count ≡ suc left = omega (arith, room) in
     let read = fields_by left place (byte ∷ rest) short (omega arith) waits.1 in
     rw one (none_more header fields answers good (fields_at (suc left) place (byte ∷ rest)) are (ap (λ (x : Fields). x.verdict) read)
-        (ap (λ (x : Fields). x.fields) read))
+    (ap (λ (x : Fields). x.fields) read))
 
 -- bytes that were taken are good
 pub told_good : (header : Option LineHeader) (place count : ℕ) (part front : List ℕ) (answers : List FieldAnswer)

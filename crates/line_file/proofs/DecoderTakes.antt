@@ -121,7 +121,7 @@ header_added o place count part bytes c header s =
       stands = λ front answers stands.
           let none : StandsFor (decoding_of None place count part) front answers = rw s.none at stands in
           header_taken header place count part front (take (12 - length part) bytes) (take 12 (part ++ take c bytes)) answers (part ++ take c bytes)
-              none s.read refl
+          none s.read refl
           (piece_bytes part bytes c 12 (omega (arith, kept)) whole_there);
     }
 
@@ -141,7 +141,7 @@ field_added o place count part bytes c answer width s =
           let is : StandsFor (decoding_of (Some s.header) place count part) front answers = rw s.some at stands in
           let piece = piece_bytes part bytes c width (omega (arith, kept)) within in
           let own : take width (part ++ take c bytes) ≡ take (field_width s.lines) (part ++ take c bytes) = ap
-              (λ (n : ℕ). take n (part ++ take c bytes)) s.width_is in
+          (λ (n : ℕ). take n (part ++ take c bytes)) s.width_is in
           let taken = field_taken s.header place count part front (take (width - length part) bytes) (take width (part ++ take c bytes)) answers s.lines answer
           (part ++ take c bytes) is s.room s.read own piece s.says in
           rw (s.some, s.width_is) (rw s.width_is at taken);
@@ -169,7 +169,7 @@ part_added o place count part bytes c some within waits =
 
 pub fault_there : (o : Option LineHeader) (place count : ℕ) (part front bytes : List ℕ) (c : ℕ) (answers : List FieldAnswer) (f : FileFault)
     → StandsFor (decoding_of o place count part) front answers → IsBad o place count (part ++ take c bytes) f
-        → IsTold (reading_of (front ++ bytes)) (refused f) answers
+    → IsTold (reading_of (front ++ bytes)) (refused f) answers
 fault_there o place count part front bytes c answers f s is =
     subst (λ (l : List ℕ). IsTold (reading_of (front ++ l)) (refused f) answers) (take-append-drop c bytes)
     (fault_told o place count part front (take c bytes) (drop c bytes) answers f s is)

@@ -350,7 +350,7 @@ last_again header count place bytes done width last reader s lt some same again 
 -- a field by its number of lines
 pub field_is : (place d : ℕ) (bytes : List ℕ) → 1 ≤ length bytes
     → field_at place bytes ≡ (if nat_le (get_or bytes 0 d) MAX_LINES then lines_at (get_or bytes 0 d) (place + 1) (drop 1 bytes) else bad
-        (fault.LineCount place))
+    (fault.LineCount place))
 field_is place d [] some = absurd (omega (arith, some))
 field_is place d (count ∷ more) some = refl
 

@@ -98,19 +98,19 @@ eight_behind place current messages second i j k l m n o p a b c d e f g h more 
     let six = latest_eight-next (((((row ++ a ∷ []) ++ b ∷ []) ++ c ∷ []) ++ d ∷ []) ++ e ∷ []) w.f w.g w.h a b c d e f five in
     let seven = latest_eight-next ((((((row ++ a ∷ []) ++ b ∷ []) ++ c ∷ []) ++ d ∷ []) ++ e ∷ []) ++ f ∷ []) w.g w.h a b c d e f g six in
     first_quarter place current messages w.a w.b w.c w.d w.e w.f w.g w.h a i second (quarters (b ∷ c ∷ d ∷ e ∷ f ∷ g ∷ h ∷ []) ++ more) qa w.has
-        not_zero not_seven w.is
+    not_zero not_seven w.is
     ∙ inner_quarter _ (after a) (came (a ∷ []) ++ messages) w.b w.c w.d w.e w.f w.g w.h a b j (quarters (c ∷ d ∷ e ∷ f ∷ g ∷ h ∷ []) ++ more) qb
-        inner.second.0 inner.second.1 one
+    inner.second.0 inner.second.1 one
     ∙ inner_quarter _ (after b) (came (b ∷ a ∷ []) ++ messages) w.c w.d w.e w.f w.g w.h a b c k (quarters (d ∷ e ∷ f ∷ g ∷ h ∷ []) ++ more) qc
-        inner.third.0 inner.third.1 two
+    inner.third.0 inner.third.1 two
     ∙ inner_quarter _ (after c) (came (c ∷ b ∷ a ∷ []) ++ messages) w.d w.e w.f w.g w.h a b c d l (quarters (e ∷ f ∷ g ∷ h ∷ []) ++ more) qd
-        inner.fourth.0 inner.fourth.1 three
+    inner.fourth.0 inner.fourth.1 three
     ∙ inner_quarter _ (after d) (came (d ∷ c ∷ b ∷ a ∷ []) ++ messages) w.e w.f w.g w.h a b c d e m (quarters (f ∷ g ∷ h ∷ []) ++ more) qe
-        inner.fifth.0 inner.fifth.1 four
+    inner.fifth.0 inner.fifth.1 four
     ∙ inner_quarter _ (after e) (came (e ∷ d ∷ c ∷ b ∷ a ∷ []) ++ messages) w.f w.g w.h a b c d e f n (quarters (g ∷ h ∷ []) ++ more) qf inner.sixth.0
-        inner.sixth.1 five
+    inner.sixth.1 five
     ∙ inner_quarter _ (after f) (came (f ∷ e ∷ d ∷ c ∷ b ∷ a ∷ []) ++ messages) w.g w.h a b c d e f g o (quarters (h ∷ []) ++ more) qg inner.seventh.0
-        inner.seventh.1 six
+    inner.seventh.1 six
     ∙ next_quarter _ (after g) (came (g ∷ f ∷ e ∷ d ∷ c ∷ b ∷ a ∷ []) ++ messages) w.h a b c d e f g h p more qh seven
 
 -- ---- after an empty row
@@ -195,7 +195,7 @@ full_along place current messages device a more small l =
     ) refl in
     ap (map at_no_place) (read ∙ ap (λ b. full_event b (on (on (on (on place))) + 1) ∷ later) (full_back a l)
     ∙ ap (λ event. event ∷ later) (cond-true (is_label a) (Full a (on (on (on (on place))) + 1))
-        (RefusedFull (fault_of a) (on (on (on (on place))) + 1)) (label_is a l)))
+    (RefusedFull (fault_of a) (on (on (on (on place))) + 1)) (label_is a l)))
 
 -- ---- pairs of a run forward
 
@@ -203,34 +203,36 @@ rising_eight : (place : ℕ) (current : Current) (messages : List Message) (a : 
     → (row_in messages ≡ []) ⊎ Behind 1 messages
     → events_along place current messages (rising a ++ more)
     ≡ events_of (window_event ((a.frames % 16) ∷ (0x10 + a.frames / 16) ∷ (0x20 + a.seconds % 16) ∷ (0x30 + a.seconds / 16) ∷ (0x40 + a.minutes % 16)
-        ∷ (0x50 + a.minutes / 16) ∷ (0x60 + a.hours % 16) ∷ (0x70 + (a.hours / 16 + 2 * code_of a.count)) ∷ [])
+    ∷ (0x50 + a.minutes / 16) ∷ (0x60 + a.hours % 16) ∷ (0x70 + (a.hours / 16 + 2 * code_of a.count)) ∷ [])
     (on (on (on (on (on (on (on place)))))) + 1))
     ++ events_along (on (on (on (on (on (on (on (on place)))))))) (after (0x70 + (a.hours / 16 + 2 * code_of a.count)))
-        (came (reverse ((a.frames % 16) ∷ (0x10 + a.frames / 16) ∷ (0x20 + a.seconds % 16) ∷ (0x30 + a.seconds / 16) ∷ (0x40 + a.minutes % 16) ∷
-        (0x50 + a.minutes / 16) ∷ (0x60 + a.hours % 16) ∷ (0x70 + (a.hours / 16 + 2 * code_of a.count)) ∷ [])) ++ messages) more
+    (came (reverse ((a.frames % 16) ∷ (0x10 + a.frames / 16) ∷ (0x20 + a.seconds % 16) ∷ (0x30 + a.seconds / 16) ∷ (0x40 + a.minutes % 16) ∷
+    (0x50 + a.minutes / 16) ∷ (0x60 + a.hours % 16) ∷ (0x70 + (a.hours / 16 + 2 * code_of a.count)) ∷ [])) ++ messages) more
 rising_eight place current messages a more l (inl empty) =
     let row = row_is a l in
     eight_first place current messages 0 1 2 3 4 5 6 7
     (a.frames % 16) (0x10 + a.frames / 16) (0x20 + a.seconds % 16) (0x30 + a.seconds / 16) (0x40 + a.minutes % 16) (0x50 + a.minutes / 16)
-        (0x60 + a.hours % 16) (0x70 + (a.hours / 16 + 2 * code_of a.count))
+    (0x60 + a.hours % 16) (0x70 + (a.hours / 16 + 2 * code_of a.count))
     more row.first row.second row.third row.fourth row.fifth row.sixth row.seventh row.eighth empty
 rising_eight place current messages a more l (inr behind) =
     let row = row_is a l in
     eight_behind place current messages 1 0 1 2 3 4 5 6 7
     (a.frames % 16) (0x10 + a.frames / 16) (0x20 + a.seconds % 16) (0x30 + a.seconds / 16) (0x40 + a.minutes % 16) (0x50 + a.minutes / 16)
-        (0x60 + a.hours % 16) (0x70 + (a.hours / 16 + 2 * code_of a.count))
+    (0x60 + a.hours % 16) (0x70 + (a.hours / 16 + 2 * code_of a.count))
     more row.first row.second row.third row.fourth row.fifth row.sixth row.seventh row.eighth
     (λ x. absurd (omega (arith, x))) (λ x. absurd (omega (arith, x)))
-    (record { second = ((λ x. absurd (omega (arith, x))), (λ x. absurd (omega (arith, x))));
-        third = ((λ x. absurd (omega (arith, x))), (λ x. absurd (omega (arith, x))));
-        fourth = ((λ x. absurd (omega (arith, x))), (λ x. absurd (omega (arith, x))));
-        fifth = ((λ x. absurd (omega (arith, x))), (λ x. absurd (omega (arith, x))));
-        sixth = ((λ x. absurd (omega (arith, x))), (λ x. absurd (omega (arith, x))));
-        seventh = ((λ x. absurd (omega (arith, x))), (λ x. absurd (omega (arith, x)))) }) behind
+    (record {
+      second = ((λ x. absurd (omega (arith, x))), (λ x. absurd (omega (arith, x))));
+      third = ((λ x. absurd (omega (arith, x))), (λ x. absurd (omega (arith, x))));
+      fourth = ((λ x. absurd (omega (arith, x))), (λ x. absurd (omega (arith, x))));
+      fifth = ((λ x. absurd (omega (arith, x))), (λ x. absurd (omega (arith, x))));
+      sixth = ((λ x. absurd (omega (arith, x))), (λ x. absurd (omega (arith, x))));
+      seventh = ((λ x. absurd (omega (arith, x))), (λ x. absurd (omega (arith, x))));
+    }) behind
 
 rising_event : (a : Address) (place : ℕ) (more : List MtcEvent) → IsLabel a
     → map at_no_place (events_of (window_event ((a.frames % 16) ∷ (0x10 + a.frames / 16) ∷ (0x20 + a.seconds % 16) ∷ (0x30 + a.seconds / 16) ∷
-        (0x40 + a.minutes % 16) ∷ (0x50 + a.minutes / 16) ∷ (0x60 + a.hours % 16) ∷ (0x70 + (a.hours / 16 + 2 * code_of a.count)) ∷ []) place) ++ more)
+    (0x40 + a.minutes % 16) ∷ (0x50 + a.minutes / 16) ∷ (0x60 + a.hours % 16) ∷ (0x70 + (a.hours / 16 + 2 * code_of a.count)) ∷ []) place) ++ more)
     ≡ Quarter Forward a 0 ∷ map at_no_place more
 rising_event a place more l =
     let row = row_is a l in
@@ -241,7 +243,7 @@ rising_event a place more l =
 
 rising_behind : (a : Address) (messages : List Message) → IsLabel a → (row_in messages ≡ []) ⊎ Behind 1 messages
     → Behind 1 (came (reverse ((a.frames % 16) ∷ (0x10 + a.frames / 16) ∷ (0x20 + a.seconds % 16) ∷ (0x30 + a.seconds / 16) ∷ (0x40 + a.minutes % 16)
-        ∷ (0x50 + a.minutes / 16) ∷ (0x60 + a.hours % 16) ∷ (0x70 + (a.hours / 16 + 2 * code_of a.count)) ∷ [])) ++ messages)
+    ∷ (0x50 + a.minutes / 16) ∷ (0x60 + a.hours % 16) ∷ (0x70 + (a.hours / 16 + 2 * code_of a.count)) ∷ [])) ++ messages)
 rising_behind a messages l ready =
     let row = row_is a l in
     record {
@@ -276,34 +278,36 @@ falling_eight : (place : ℕ) (current : Current) (messages : List Message) (a :
     → (row_in messages ≡ []) ⊎ Behind 6 messages
     → events_along place current messages (falling a ++ more)
     ≡ events_of (window_event ((0x70 + (a.hours / 16 + 2 * code_of a.count)) ∷ (0x60 + a.hours % 16) ∷ (0x50 + a.minutes / 16) ∷
-        (0x40 + a.minutes % 16) ∷ (0x30 + a.seconds / 16) ∷ (0x20 + a.seconds % 16) ∷ (0x10 + a.frames / 16) ∷ (a.frames % 16) ∷ [])
+    (0x40 + a.minutes % 16) ∷ (0x30 + a.seconds / 16) ∷ (0x20 + a.seconds % 16) ∷ (0x10 + a.frames / 16) ∷ (a.frames % 16) ∷ [])
     (on (on (on (on (on (on (on place)))))) + 1))
     ++ events_along (on (on (on (on (on (on (on (on place)))))))) (after (a.frames % 16))
-        (came (reverse ((0x70 + (a.hours / 16 + 2 * code_of a.count)) ∷ (0x60 + a.hours % 16) ∷ (0x50 + a.minutes / 16) ∷ (0x40 + a.minutes % 16) ∷
-        (0x30 + a.seconds / 16) ∷ (0x20 + a.seconds % 16) ∷ (0x10 + a.frames / 16) ∷ (a.frames % 16) ∷ [])) ++ messages) more
+    (came (reverse ((0x70 + (a.hours / 16 + 2 * code_of a.count)) ∷ (0x60 + a.hours % 16) ∷ (0x50 + a.minutes / 16) ∷ (0x40 + a.minutes % 16) ∷
+    (0x30 + a.seconds / 16) ∷ (0x20 + a.seconds % 16) ∷ (0x10 + a.frames / 16) ∷ (a.frames % 16) ∷ [])) ++ messages) more
 falling_eight place current messages a more l (inl empty) =
     let row = row_is a l in
     eight_first place current messages 7 6 5 4 3 2 1 0
     (0x70 + (a.hours / 16 + 2 * code_of a.count)) (0x60 + a.hours % 16) (0x50 + a.minutes / 16) (0x40 + a.minutes % 16) (0x30 + a.seconds / 16)
-        (0x20 + a.seconds % 16) (0x10 + a.frames / 16) (a.frames % 16)
+    (0x20 + a.seconds % 16) (0x10 + a.frames / 16) (a.frames % 16)
     more row.eighth row.seventh row.sixth row.fifth row.fourth row.third row.second row.first empty
 falling_eight place current messages a more l (inr behind) =
     let row = row_is a l in
     eight_behind place current messages 6 7 6 5 4 3 2 1 0
     (0x70 + (a.hours / 16 + 2 * code_of a.count)) (0x60 + a.hours % 16) (0x50 + a.minutes / 16) (0x40 + a.minutes % 16) (0x30 + a.seconds / 16)
-        (0x20 + a.seconds % 16) (0x10 + a.frames / 16) (a.frames % 16)
+    (0x20 + a.seconds % 16) (0x10 + a.frames / 16) (a.frames % 16)
     more row.eighth row.seventh row.sixth row.fifth row.fourth row.third row.second row.first
     (λ x. absurd (omega (arith, x))) (λ x. absurd (omega (arith, x)))
-    (record { second = ((λ x. absurd (omega (arith, x))), (λ x. absurd (omega (arith, x))));
-        third = ((λ x. absurd (omega (arith, x))), (λ x. absurd (omega (arith, x))));
-        fourth = ((λ x. absurd (omega (arith, x))), (λ x. absurd (omega (arith, x))));
-        fifth = ((λ x. absurd (omega (arith, x))), (λ x. absurd (omega (arith, x))));
-        sixth = ((λ x. absurd (omega (arith, x))), (λ x. absurd (omega (arith, x))));
-        seventh = ((λ x. absurd (omega (arith, x))), (λ x. absurd (omega (arith, x)))) }) behind
+    (record {
+      second = ((λ x. absurd (omega (arith, x))), (λ x. absurd (omega (arith, x))));
+      third = ((λ x. absurd (omega (arith, x))), (λ x. absurd (omega (arith, x))));
+      fourth = ((λ x. absurd (omega (arith, x))), (λ x. absurd (omega (arith, x))));
+      fifth = ((λ x. absurd (omega (arith, x))), (λ x. absurd (omega (arith, x))));
+      sixth = ((λ x. absurd (omega (arith, x))), (λ x. absurd (omega (arith, x))));
+      seventh = ((λ x. absurd (omega (arith, x))), (λ x. absurd (omega (arith, x))));
+    }) behind
 
 falling_event : (a : Address) (place : ℕ) (more : List MtcEvent) → IsLabel a
     → map at_no_place (events_of (window_event ((0x70 + (a.hours / 16 + 2 * code_of a.count)) ∷ (0x60 + a.hours % 16) ∷ (0x50 + a.minutes / 16) ∷
-        (0x40 + a.minutes % 16) ∷ (0x30 + a.seconds / 16) ∷ (0x20 + a.seconds % 16) ∷ (0x10 + a.frames / 16) ∷ (a.frames % 16) ∷ []) place) ++ more)
+    (0x40 + a.minutes % 16) ∷ (0x30 + a.seconds / 16) ∷ (0x20 + a.seconds % 16) ∷ (0x10 + a.frames / 16) ∷ (a.frames % 16) ∷ []) place) ++ more)
     ≡ Quarter Backward a 0 ∷ map at_no_place more
 falling_event a place more l =
     let row = row_is a l in
@@ -314,7 +318,7 @@ falling_event a place more l =
 
 falling_behind : (a : Address) (messages : List Message) → IsLabel a → (row_in messages ≡ []) ⊎ Behind 6 messages
     → Behind 6 (came (reverse ((0x70 + (a.hours / 16 + 2 * code_of a.count)) ∷ (0x60 + a.hours % 16) ∷ (0x50 + a.minutes / 16) ∷
-        (0x40 + a.minutes % 16) ∷ (0x30 + a.seconds / 16) ∷ (0x20 + a.seconds % 16) ∷ (0x10 + a.frames / 16) ∷ (a.frames % 16) ∷ [])) ++ messages)
+    (0x40 + a.minutes % 16) ∷ (0x30 + a.seconds / 16) ∷ (0x20 + a.seconds % 16) ∷ (0x10 + a.frames / 16) ∷ (a.frames % 16) ∷ [])) ++ messages)
 falling_behind a messages l ready =
     let row = row_is a l in
     record {
@@ -373,16 +377,16 @@ rising_half_none : (a : Address) → IsLabel a → (place : ℕ) (current : Curr
 rising_half_none a l place current messages ready =
     let row = row_is a l in
     half_none 1 0 1 2 3 _ _ _ _ place current messages row.first row.second row.third row.fourth (λ x. absurd (omega (arith, x)))
-        (λ x. absurd (omega (arith, x))) ((λ x. absurd (omega (arith, x))), (λ x. absurd (omega (arith, x))))
-        ((λ x. absurd (omega (arith, x))), (λ x. absurd (omega (arith, x)))) ((λ x. absurd (omega (arith, x))), (λ x. absurd (omega (arith, x)))) ready
+    (λ x. absurd (omega (arith, x))) ((λ x. absurd (omega (arith, x))), (λ x. absurd (omega (arith, x))))
+    ((λ x. absurd (omega (arith, x))), (λ x. absurd (omega (arith, x)))) ((λ x. absurd (omega (arith, x))), (λ x. absurd (omega (arith, x)))) ready
 
 falling_half_none : (a : Address) → IsLabel a → (place : ℕ) (current : Current) (messages : List Message) → (row_in messages ≡ []) ⊎ Behind 6 messages
     → events_along place current messages (falling_half a) ≡ []
 falling_half_none a l place current messages ready =
     let row = row_is a l in
     half_none 6 7 6 5 4 _ _ _ _ place current messages row.eighth row.seventh row.sixth row.fifth (λ x. absurd (omega (arith, x)))
-        (λ x. absurd (omega (arith, x))) ((λ x. absurd (omega (arith, x))), (λ x. absurd (omega (arith, x))))
-        ((λ x. absurd (omega (arith, x))), (λ x. absurd (omega (arith, x)))) ((λ x. absurd (omega (arith, x))), (λ x. absurd (omega (arith, x)))) ready
+    (λ x. absurd (omega (arith, x))) ((λ x. absurd (omega (arith, x))), (λ x. absurd (omega (arith, x))))
+    ((λ x. absurd (omega (arith, x))), (λ x. absurd (omega (arith, x)))) ((λ x. absurd (omega (arith, x))), (λ x. absurd (omega (arith, x)))) ready
 
 -- ---- a run after whatever bytes
 

@@ -99,7 +99,7 @@ go_on_between l limit word tick rest label go =
     let steps = go_on_invented l word 0 n (end ++ rest) label (subst (λ k. GoOn (Some (after word k)) (end ++ rest)) (omega arith) go) in
     subst (λ fs. GoOn (Some (placed_at word.label word.direction)) fs)
     (ap (λ ks. map (invented_after word) ks ++ (end ++ rest)) (sym (l.first limit tick word))
-        ∙ sym (append_assoc (map (invented_after word) (due_steps limit word tick)) end rest))
+    ∙ sym (append_assoc (map (invented_after word) (due_steps limit word tick)) end rest))
     (subst (λ a. GoOn (Some (placed_at a word.direction)) (map (invented_after word) (range_with_len 1 n) ++ (end ++ rest))) (first_label l word label) steps)
 
 go_on_end : (since : Placed) (gone : Bool) (tick : ℕ) → GoOn (Some since) (end_of gone tick ++ [])

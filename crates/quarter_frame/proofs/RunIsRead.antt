@@ -100,11 +100,11 @@ run_sent : (position : ℕ) (more : List Frame) → quarters_from position (take
 run_sent position [] = refl
 run_sent position (Heard label direction true tick ∷ more) =
     rw (taken_on (Heard label direction true tick) more refl) (ap (λ (l : List ℕ). four_of label direction (is_even position) ++ l)
-        (run_sent (position + 1) more))
+    (run_sent (position + 1) more))
 run_sent position (Heard label direction false tick ∷ more) = refl
 run_sent position (Invented label direction k tick ∷ more) =
     rw (taken_on (Invented label direction k tick) more refl) (ap (λ (l : List ℕ). four_of label direction (is_even position) ++ l)
-        (run_sent (position + 1) more))
+    (run_sent (position + 1) more))
 run_sent position (Gone tick ∷ more) = refl
 
 -- two by two
@@ -125,7 +125,7 @@ sent_by_two k (a ∷ []) = rw (even_at k) (append-nil (four_of a.label a.directi
 sent_by_two k (a ∷ b ∷ more) =
     let next : 2 * k + 1 + 1 ≡ 2 * (k + 1) = omega arith in
     rw (even_at k, odd_at k, next, sent_by_two (k + 1) more) (sym (append_assoc (four_of a.label a.direction true) (four_of b.label b.direction false)
-        (two_by_two more)))
+    (two_by_two more)))
 
 -- ---- neighbours
 

@@ -189,8 +189,10 @@ next t Two system r (a ∷ b ∷ more) late long = by_zero (big_number 2 (a ∷ 
 pub is_between : (d : Decoding) → IsBetween d.progress → d ≡ at d.progress.taken d.progress.version d.progress.system [] d.recording
 is_between d between =
     let p = d.progress in
-    ap (λ (f : Option FileFault). record { progress = record { taken = p.taken; version = p.version; system = p.system; part = p.part; fault = f };
-        recording = d.recording })
+    ap (λ (f : Option FileFault). record {
+      progress = record { taken = p.taken; version = p.version; system = p.system; part = p.part; fault = f };
+      recording = d.recording;
+    })
     between.no_fault
     ∙ ap (λ (q : List ℕ). at p.taken p.version p.system q d.recording) between.no_part
 

@@ -32,9 +32,12 @@ stops_on is start mid old between new bytes more first second = λ front output 
     let f = first front output stands in
     let s = second (front ++ bytes) (output ++ f.0) f.2 in
     let joined : (front ++ bytes) ++ more ≡ front ++ (bytes ++ more) = append_assoc front bytes more in
-    let pushed : (output ++ f.0) ++ s.0 ≡ output ++ (f.0 ++ s.0) = append_assoc output f.0 s.0 in
-    (f.0 ++ s.0, Appends-trans old between new f.0 s.0 f.1 s.1, subst (λ (w : List ℕ). is (front ++ (bytes ++ more)) w) pushed
-        (subst (λ (b : List ℕ). is b ((output ++ f.0) ++ s.0)) joined s.2))
+    let pushed : (output ++ f.0) ++ s.0 ≡ output ++ (f.0 ++ s.0) = append_assoc output f.0 s.0 in (
+      f.0 ++ s.0,
+      Appends-trans old between new f.0 s.0 f.1 s.1,
+      subst (λ (w : List ℕ). is (front ++ (bytes ++ more)) w) pushed
+          (subst (λ (b : List ℕ). is b ((output ++ f.0) ++ s.0)) joined s.2),
+    )
 
 -- what was worked on first, and then
 pub works_on : (start mid after : List ℕ → List ℕ → Type 0) (old between new : Option (List ℕ)) (bytes more : List ℕ)
@@ -43,9 +46,12 @@ works_on start mid after old between new bytes more first second = λ front outp
     let f = first front output stands in
     let s = second (front ++ bytes) (output ++ f.0) f.2 in
     let joined : (front ++ bytes) ++ more ≡ front ++ (bytes ++ more) = append_assoc front bytes more in
-    let pushed : (output ++ f.0) ++ s.0 ≡ output ++ (f.0 ++ s.0) = append_assoc output f.0 s.0 in
-    (f.0 ++ s.0, Appends-trans old between new f.0 s.0 f.1 s.1, subst (λ (w : List ℕ). after (front ++ (bytes ++ more)) w) pushed
-        (subst (λ (b : List ℕ). after b ((output ++ f.0) ++ s.0)) joined s.2))
+    let pushed : (output ++ f.0) ++ s.0 ≡ output ++ (f.0 ++ s.0) = append_assoc output f.0 s.0 in (
+      f.0 ++ s.0,
+      Appends-trans old between new f.0 s.0 f.1 s.1,
+      subst (λ (w : List ℕ). after (front ++ (bytes ++ more)) w) pushed
+          (subst (λ (b : List ℕ). after b ((output ++ f.0) ++ s.0)) joined s.2),
+    )
 
 -- nothing was worked on yet
 pub works_nothing : (start : List ℕ → List ℕ → Type 0) (out : Option (List ℕ)) → Works start start out out []

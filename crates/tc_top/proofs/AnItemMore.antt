@@ -222,8 +222,10 @@ pub by_byte : (decoder : Progress) (front : List ℕ) (byte : ℕ) (item : Taken
     → Completes front (byte ∷ []) item (after decoder byte)
 by_byte decoder front byte item same says =
     subst (λ (i : Taken). decoding_of (front ++ byte ∷ []) ≡ record { progress = after decoder byte; recording = with_taken (recording_of front) i }) (sym says)
-    (subst (λ (p : Progress). decoding_of (front ++ byte ∷ []) ≡ record { progress = after p byte;
-        recording = with_taken (recording_of front) (answer p byte) })
+    (subst (λ (p : Progress). decoding_of (front ++ byte ∷ []) ≡ record {
+      progress = after p byte;
+      recording = with_taken (recording_of front) (answer p byte);
+    })
     (sym same) (more_bytes front (byte ∷ [])))
 
 -- why an interval stops the command
@@ -360,16 +362,20 @@ pub by_number : (decoder : Progress) (front bytes : List ℕ) (width x : ℕ) �
     → fold with_byte (decoding_of front) bytes ≡ with_number (decoding_of front) width (Ok x)
     → Completes front bytes (Interval x) (record decoder { taken = decoder.taken + width })
 by_number decoder front bytes width x same is =
-    subst (λ (p : Progress). decoding_of (front ++ bytes) ≡ record { progress = record p { taken = p.taken + width };
-        recording = with_taken (recording_of front) (Interval x) })
+    subst (λ (p : Progress). decoding_of (front ++ bytes) ≡ record {
+      progress = record p { taken = p.taken + width };
+      recording = with_taken (recording_of front) (Interval x);
+    })
     (sym same) (more_bytes front bytes ∙ is)
 
 pub by_bad_number : (decoder : Progress) (front bytes : List ℕ) (width : ℕ) (f : FileFault) → decoder ≡ (decoding_of front).progress
     → fold with_byte (decoding_of front) bytes ≡ with_number (decoding_of front) width (Err f)
     → Completes front bytes (Fault f) (record decoder { taken = decoder.taken + width; fault = Some f })
 by_bad_number decoder front bytes width f same is =
-    subst (λ (p : Progress). decoding_of (front ++ bytes) ≡ record { progress = record p { taken = p.taken + width; fault = Some f };
-        recording = with_taken (recording_of front) (Fault f) })
+    subst (λ (p : Progress). decoding_of (front ++ bytes) ≡ record {
+      progress = record p { taken = p.taken + width; fault = Some f };
+      recording = with_taken (recording_of front) (Fault f);
+    })
     (sym same) (more_bytes front bytes ∙ is)
 
 -- whole intervals and more of them are whole intervals

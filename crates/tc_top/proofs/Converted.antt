@@ -16,7 +16,7 @@ pub longer_file : (header : IntervalHeader) (intervals : List ℕ) (x : ℕ) →
 longer_file header intervals x =
     ap (λ (l : List ℕ). header_bytes header ++ l)
     (flat_map-append (spelling header.version) intervals (x ∷ []) ∙ ap (λ (l : List ℕ). intervals_bytes header.version intervals ++ l)
-        (append-nil (spelling header.version x)))
+    (append-nil (spelling header.version x)))
     ∙ sym (append_assoc (header_bytes header) (intervals_bytes header.version intervals) (spelling header.version x))
 
 -- all that is due with one interval more

@@ -17,7 +17,7 @@ pub words-all_counted : (events : List Event) (r : Report) → (all_counted even
 words-all_counted [] r = omega arith
 words-all_counted (Word d w t l ∷ more) r = let rest = words-all_counted more (counted (Word d w t l) r) in
     let one : count_by is_word (Word d w t l ∷ more) ≡ 1 + count_by is_word more = sum_by-cons (λ (e : Event). cond (is_word e) 1 0) (Word d w t l)
-        more in omega arith
+    more in omega arith
 words-all_counted (Refused d f t ∷ more) r = words-all_counted more (counted (Refused d f t) r)
 words-all_counted (Lost p t ∷ more) r = words-all_counted more (counted (Lost p t) r)
 
@@ -26,7 +26,7 @@ refused-all_counted [] r = omega arith
 refused-all_counted (Word d w t l ∷ more) r = refused-all_counted more (counted (Word d w t l) r)
 refused-all_counted (Refused d f t ∷ more) r = let rest = refused-all_counted more (counted (Refused d f t) r) in
     let one : count_by is_refused (Refused d f t ∷ more) ≡ 1 + count_by is_refused more = sum_by-cons (λ (e : Event). cond (is_refused e) 1 0)
-        (Refused d f t) more in omega arith
+    (Refused d f t) more in omega arith
 refused-all_counted (Lost p t ∷ more) r = refused-all_counted more (counted (Lost p t) r)
 
 pub lost-all_counted : (events : List Event) (r : Report) → (all_counted events r).lost ≡ r.lost + count_by is_lost events

@@ -56,7 +56,7 @@ same_answers d bytes answers s = subst (λ (told : List FieldAnswer). reads.Stan
 -- bytes that complete no field
 pub none_more : TellsTheFile → (r next : FieldReport) (front written taken : List ℕ) → (s : Stands r front written)
     → reads.StandsFor next.decoder (front ++ taken) (s.answers ++ []) → next ≡ record r { decoder = next.decoder }
-        → Stands next (front ++ taken) (written ++ [])
+    → Stands next (front ++ taken) (written ++ [])
 none_more law r next front written taken s reads_on same =
     let is = same_answers next.decoder (front ++ taken) s.answers reads_on in
     record {
@@ -81,17 +81,29 @@ pub one_counted : (before mid after : FieldReport) (answer : FieldAnswer) → mi
     → Counts before after answer
 one_counted before mid after answer same is =
     by_kind answer (ap (λ (x : FieldReport). x.fields) same) (ap (λ (x : FieldReport). x.agreed) same) (ap (λ (x : FieldReport). x.conflict) same)
-        (ap (λ (x : FieldReport). x.nothing) same) is
+    (ap (λ (x : FieldReport). x.nothing) same) is
   where
     by_kind : (answer : FieldAnswer) → mid.fields ≡ before.fields → mid.agreed ≡ before.agreed → mid.conflict ≡ before.conflict → mid.nothing ≡ before.nothing
         → after ≡ counted answer mid → Counts before after answer
-    by_kind (Agreed word) f a k n e = rw e (record { fields = omega (arith, f); agreed = omega (arith, a); conflict = omega (arith, k);
-        nothing = omega (arith, n) })
-    by_kind (Conflict word other) f a k n e = rw e (record { fields = omega (arith, f); agreed = omega (arith, a); conflict = omega (arith, k);
-        nothing = omega (arith, n) })
+    by_kind (Agreed word) f a k n e = rw e (record {
+      fields = omega (arith, f);
+      agreed = omega (arith, a);
+      conflict = omega (arith, k);
+      nothing = omega (arith, n);
+    })
+    by_kind (Conflict word other) f a k n e = rw e (record {
+      fields = omega (arith, f);
+      agreed = omega (arith, a);
+      conflict = omega (arith, k);
+      nothing = omega (arith, n);
+    })
     by_kind NoLine f a k n e = rw e (record { fields = omega (arith, f); agreed = omega (arith, a); conflict = omega (arith, k); nothing = omega (arith, n) })
-    by_kind (Nothing fault) f a k n e = rw e (record { fields = omega (arith, f); agreed = omega (arith, a); conflict = omega (arith, k);
-        nothing = omega (arith, n) })
+    by_kind (Nothing fault) f a k n e = rw e (record {
+      fields = omega (arith, f);
+      agreed = omega (arith, a);
+      conflict = omega (arith, k);
+      nothing = omega (arith, n);
+    })
 
 count_now : (kind : FieldAnswer → Bool) (before after : ℕ) (answers : List FieldAnswer) (answer : FieldAnswer) → before ≡ count_by kind answers
     → after ≡ before + cond (kind answer) 1 0 → after ≡ count_by kind (answers ++ answer ∷ [])
@@ -141,7 +153,7 @@ pub last_line_is : (r : FieldReport) (bytes written line : List ℕ) → (s : St
     → line ≡ last_field_line s.answers
 last_line_is r bytes written line s is =
     is ∙ ap (λ (n : ℕ). field_end_line n r.agreed r.conflict r.nothing) s.fields
-        ∙ ap (λ (n : ℕ). field_end_line (length s.answers) n r.conflict r.nothing) s.agreed
+    ∙ ap (λ (n : ℕ). field_end_line (length s.answers) n r.conflict r.nothing) s.agreed
     ∙ ap (λ (n : ℕ). field_end_line (length s.answers) (count_by is_agreed s.answers) n r.nothing) s.conflict
     ∙ ap (λ (n : ℕ). field_end_line (length s.answers) (count_by is_agreed s.answers) (count_by is_conflict s.answers) n) s.nothing
 

@@ -75,7 +75,7 @@ pub flown : {S C : Type 0} (limit : C → ℕ) (made : C → FrameText) (has : G
     (intervals written : List ℕ) (x : ℕ) (own : Events) (more : List Frame) (old new : Option (List ℕ))
     → Stands limit made has f sink choice header intervals written → Takes f.reader x next.reader → Reads f.reader next.reader x own → TheEvents
     → OneListOfEvents → next.wheel.limit ≡ f.wheel.limit → GivesDueAll f.wheel next.wheel next.reader.tick (words_heard (event_list own)) more
-        → Counts f next more
+    → Counts f next more
     → Sends made has sink after old new more
     → (bytes : List ℕ) × Appends old new bytes × Stands limit made has next after choice header (intervals ++ x ∷ []) (written ++ bytes)
 flown limit made has f next sink after choice header intervals written x own more old new s takes grows law one same gives counts sends =

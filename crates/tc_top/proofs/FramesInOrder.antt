@@ -31,14 +31,23 @@ one_of kind frame = omega (arith, sum_by-cons (λ (f : Frame). cond (kind f) 1 0
 pub one_counted : (before mid after : Flight) (frame : Frame) → mid.heard ≡ before.heard → mid.invented ≡ before.invented → mid.gone ≡ before.gone
     → after ≡ counted frame mid → Counts before after (frame ∷ [])
 one_counted before mid after (Heard l d j t) h i g e =
-    rw e (record { heard = omega (arith, h, one_of is_heard (Heard l d j t)); invented = omega (arith, i, one_of is_invented (Heard l d j t));
-        gone = omega (arith, g, one_of is_end (Heard l d j t)) })
+    rw e (record {
+      heard = omega (arith, h, one_of is_heard (Heard l d j t));
+      invented = omega (arith, i, one_of is_invented (Heard l d j t));
+      gone = omega (arith, g, one_of is_end (Heard l d j t));
+    })
 one_counted before mid after (Invented l d s t) h i g e =
-    rw e (record { heard = omega (arith, h, one_of is_heard (Invented l d s t)); invented = omega (arith, i, one_of is_invented (Invented l d s t));
-        gone = omega (arith, g, one_of is_end (Invented l d s t)) })
+    rw e (record {
+      heard = omega (arith, h, one_of is_heard (Invented l d s t));
+      invented = omega (arith, i, one_of is_invented (Invented l d s t));
+      gone = omega (arith, g, one_of is_end (Invented l d s t));
+    })
 one_counted before mid after (Gone t) h i g e =
-    rw e (record { heard = omega (arith, h, one_of is_heard (Gone t)); invented = omega (arith, i, one_of is_invented (Gone t));
-        gone = omega (arith, g, one_of is_end (Gone t)) })
+    rw e (record {
+      heard = omega (arith, h, one_of is_heard (Gone t));
+      invented = omega (arith, i, one_of is_invented (Gone t));
+      gone = omega (arith, g, one_of is_end (Gone t));
+    })
 
 pub none_counted : (f : Flight) → Counts f f []
 none_counted f = record { heard = omega arith; invented = omega arith; gone = omega arith }
@@ -168,7 +177,7 @@ pub both_later : AWordAddsFrames → (limit : ℕ) (words : List HeardWord) (tic
     → Comes limit (words ++ words_heard (listed first ++ listed second)) tick front
 both_later law limit words tick front n first second one two comes =
     let later = comes_later law limit (words ++ words_heard (listed first)) tick front n second two
-        (comes_later law limit words tick front n first one comes) in
+    (comes_later law limit words tick front n first one comes) in
     subst (λ (l : List HeardWord). Comes limit (words ++ l) tick front) (sym (words_of_both first second))
     (subst (λ (l : List HeardWord). Comes limit l tick front) (append_assoc words (words_heard (listed first)) (words_heard (listed second))) later)
 

@@ -32,17 +32,29 @@ one_of kind event = omega (arith, sum_by-cons (λ (e : MtcEvent). cond (kind e) 
 pub one_counted : (before mid after : MtcReport) (event : MtcEvent) → mid.full ≡ before.full → mid.quarter ≡ before.quarter → mid.refused ≡ before.refused
     → after ≡ counted event mid → Counts before after (event ∷ [])
 one_counted before mid after (Full l p) f q r e =
-    rw e (record { full = omega (arith, f, one_of is_full (Full l p)); quarter = omega (arith, q, one_of is_quarter (Full l p));
-        refused = omega (arith, r, one_of is_refused (Full l p)) })
+    rw e (record {
+      full = omega (arith, f, one_of is_full (Full l p));
+      quarter = omega (arith, q, one_of is_quarter (Full l p));
+      refused = omega (arith, r, one_of is_refused (Full l p));
+    })
 one_counted before mid after (Quarter d l p) f q r e =
-    rw e (record { full = omega (arith, f, one_of is_full (Quarter d l p)); quarter = omega (arith, q, one_of is_quarter (Quarter d l p));
-        refused = omega (arith, r, one_of is_refused (Quarter d l p)) })
+    rw e (record {
+      full = omega (arith, f, one_of is_full (Quarter d l p));
+      quarter = omega (arith, q, one_of is_quarter (Quarter d l p));
+      refused = omega (arith, r, one_of is_refused (Quarter d l p));
+    })
 one_counted before mid after (RefusedFull l p) f q r e =
-    rw e (record { full = omega (arith, f, one_of is_full (RefusedFull l p)); quarter = omega (arith, q, one_of is_quarter (RefusedFull l p));
-        refused = omega (arith, r, one_of is_refused (RefusedFull l p)) })
+    rw e (record {
+      full = omega (arith, f, one_of is_full (RefusedFull l p));
+      quarter = omega (arith, q, one_of is_quarter (RefusedFull l p));
+      refused = omega (arith, r, one_of is_refused (RefusedFull l p));
+    })
 one_counted before mid after (RefusedQuarter d l p) f q r e =
-    rw e (record { full = omega (arith, f, one_of is_full (RefusedQuarter d l p));
-        quarter = omega (arith, q, one_of is_quarter (RefusedQuarter d l p)); refused = omega (arith, r, one_of is_refused (RefusedQuarter d l p)) })
+    rw e (record {
+      full = omega (arith, f, one_of is_full (RefusedQuarter d l p));
+      quarter = omega (arith, q, one_of is_quarter (RefusedQuarter d l p));
+      refused = omega (arith, r, one_of is_refused (RefusedQuarter d l p));
+    })
 
 pub none_counted : (before after : MtcReport) → after.full ≡ before.full → after.quarter ≡ before.quarter → after.refused ≡ before.refused
     → Counts before after []

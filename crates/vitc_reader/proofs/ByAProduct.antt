@@ -177,7 +177,7 @@ pub half_fits : (n m : ℕ) → n ≤ 65535 → m ≡ (2 ^ 43 / (4 * n) + 1) * 2
 half_fits n m most is few =
     let a : (2 ^ 43 / (4 * n) + 1) * (4 * n) ≤ 2 ^ 43 + 4 * n =
     let low = div-mul-le_self (2 ^ 43) (4 * n) in let e : (2 ^ 43 / (4 * n) + 1) * (4 * n) ≡ 2 ^ 43 / (4 * n) * (4 * n) + 4 * n = grind arith
-        in omega (arith, low, e) in
+    in omega (arith, low, e) in
     let b : m * (4 * n) ≡ (2 ^ 43 / (4 * n) + 1) * (4 * n) * 2 ^ 21 = ap (λ (y : ℕ). y * (4 * n)) is ∙ turned_round (2 ^ 43 / (4 * n) + 1) (2 ^ 21) (4 * n) in
     let c : 2 * ((2 * n + 1) * m) ≡ m * (4 * n) + 2 * m = grind arith in
     omega (arith, a, b, c, few, most)

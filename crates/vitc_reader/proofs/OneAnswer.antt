@@ -112,13 +112,13 @@ same_kind n runs (Run i) (TooLong j) some a b e =
     let first = a.0 in
     let second = b.0 in
     let s = same_there first.before first.after second.before second.after first.run second.run (sym first.split ∙ second.split)
-        (first.place ∙ e ∙ sym second.place) in
+    (first.place ∙ e ∙ sym second.place) in
     absurd (a.1 b.1 (subst (λ (r : ℕ). IsCells n r b.1) (sym s.1) b.2))
 same_kind n runs (TooLong i) (Run j) some a b e =
     let first = a.0 in
     let second = b.0 in
     let s = same_there first.before first.after second.before second.after first.run second.run (sym first.split ∙ second.split)
-        (first.place ∙ e ∙ sym second.place) in
+    (first.place ∙ e ∙ sym second.place) in
     absurd (b.1 a.1 (subst (λ (r : ℕ). IsCells n r a.1) s.1 a.2))
 
 pub one_fault : (n : ℕ) (runs : List ℕ) (f g : RunFault) → 1 ≤ n → IsRunFault n runs f → IsRunFault n runs g → f ≡ g

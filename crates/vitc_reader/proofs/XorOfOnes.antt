@@ -21,4 +21,4 @@ xor_ones k n below =
     let some = pow_pos k in
     same_from_bits_below k (bit_xor n (2 ^ k - 1)) (2 ^ k - 1 - n) (xor_lt k n (2 ^ k - 1) below (omega (arith, some))) (omega (arith, some)) (λ i lt.
     bit_at_xor n (2 ^ k - 1) i ∙ ap (λ d. (bit_at n i + d) % 2) (bit_at_ones k i lt) ∙ one_of_two (bit_at n i) (bit_at-lt n i)
-        ∙ sym (turned_bit k n i below lt))
+    ∙ sym (turned_bit k n i below lt))

@@ -42,7 +42,7 @@ lines-preserved c =
       | then-stands_again w ↦ rw (w.reader-is, w.width-is, w.last-is) (last_again header _ c.args.place bytes c.lines._line width c.lines.last
           c.lines.reader c.lines.invariant
           c.lines-test.true (c.stands_again.ensures.some w.if-stands_again.true) (c.stands_again.ensures.again w.if-stands_again.true)
-              (c.a_line_again_changes_nothing.ensures c.lines.reader))
+          (c.a_line_again_changes_nothing.ensures c.lines.reader))
       | else-stands_again+in-Whole w ↦
           let rest = drop width bytes in
           let runs = line_of rest in

@@ -22,5 +22,6 @@ returns-clause-items c =
       c.user.ensures.value,
       c.text.ensures,
       c.label.ensures.value,
-    ) (seven c.args.line.now.items (text_of w.fields.label) (codes " user ") (user_text w.fields.user) (codes " flags ") (flags_text w.fields.flags) (codes " mark ")
+    ) (seven c.args.line.now.items (text_of w.fields.label) (codes " user ") (user_text w.fields.user)
+    (codes " flags ") (flags_text w.fields.flags) (codes " mark ")
     (flag_digit w.field_mark))

@@ -16,7 +16,7 @@ returns-in-Quarter c =
     let second : c.push_bytes-in-Quarter.new.line.items ≡ c.push_quarter.new.line.items ++ label =
     c.push_bytes-in-Quarter.ensures.items ∙ ap (λ l. c.push_quarter.new.line.items ++ l) c.text-in-Quarter.ensures in
     rw c.in-Quarter.is (three_pushes old _ _ _ words label place c.push_quarter.ensures.items second c.push_place-in-Quarter.ensures
-        ∙ ap (λ l. old ++ l) (simp append_assoc))
+    ∙ ap (λ l. old ++ l) (simp append_assoc))
 
 pub returns-in-RefusedFull : goal.returns-in-RefusedFull
 returns-in-RefusedFull c = rw (

@@ -10,7 +10,7 @@ returns-in_err-push_piece-clause-front g c =
     let given = c.pieces.invariant.given in
     at_err c.from_residual.result
     (front_of_piece _ _ _ _ given.0 _ c.give.new.room.items _ given.2 c.give.ensures.given given.1
-        (rw c.as_slice.ensures.value at c.in_err-push_piece.ensures.front))
+    (rw c.as_slice.ensures.value at c.in_err-push_piece.ensures.front))
 
 -- the piece was pushed
 pub pieces-preserved : goal.pieces-preserved

@@ -81,7 +81,7 @@ returns-in-Header-clause-takes c =
     let is = c.in-Header.ensures.piece in
     let s = at_header d.header d.place d.fields d.part.items _ c.in-Header.header c.self.invariant.waits is in
     rw (← c.self.view_is, c.clear.ensures, c.len-before.ensures.value) (header_added d.header d.place d.fields d.part.items c.args.bytes.now _
-        c.in-Header.header s)
+    c.in-Header.header s)
 
 pub returns-in-Field-clause-takes : goal.returns-in-Field-clause-takes
 returns-in-Field-clause-takes c =
@@ -107,7 +107,7 @@ returns-in-Fault-clause-stops c = λ front answers stands.
     let s = subst (λ (x : Decoding). StandsFor x front answers) (sym c.self.view_is) stands in
     let is = c.in-Fault.ensures.piece in
     fault_there d.header d.place d.fields d.part.items front c.args.bytes.now _ answers c.in-Fault.fault s
-        (at_fault d.header d.place d.fields _ c.in-Fault.fault is)
+    (at_fault d.header d.place d.fields _ c.in-Fault.fault is)
 
 pub returns-in-Limit-clause-stops : goal.returns-in-Limit-clause-stops
 returns-in-Limit-clause-stops c = λ front answers stands.

@@ -20,7 +20,7 @@ returns-clause-stands c =
     let rest = subst (λ l. RunsTo c.still-still.new.self c.sample_by_sample-more.new.self (take n l) distance) (take_rest c.args.bytes.now c.still-still.result)
     (record { stands = m.stands; brings = m.distances }) in
     (runs_then c.args.self.now c.still-still.new.self c.sample_by_sample-more.new.self c.still-still.result n s.tick.0 c.args.bytes.now distance
-        s.tick.1 s.within
+    s.tick.1 s.within
     s.fineness s.threshold s.stands s.none rest).stands
 
 pub returns-clause-distances : goal.returns-clause-distances
@@ -32,5 +32,5 @@ returns-clause-distances c =
     let rest = subst (λ l. RunsTo c.still-still.new.self c.sample_by_sample-more.new.self (take n l) distance) (take_rest c.args.bytes.now c.still-still.result)
     (record { stands = m.stands; brings = m.distances }) in
     (runs_then c.args.self.now c.still-still.new.self c.sample_by_sample-more.new.self c.still-still.result n s.tick.0 c.args.bytes.now distance
-        s.tick.1 s.within
+    s.tick.1 s.within
     s.fineness s.threshold s.stands s.none rest).brings

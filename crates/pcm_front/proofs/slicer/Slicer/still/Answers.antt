@@ -60,5 +60,5 @@ samples-preserved c =
 pub returns-clause-stands : goal.returns-clause-stands
 returns-clause-stands c = λ samples stands.
     subst (λ (s : SlicerState). StandsFor (record s { tick = c.samples.tick; before = to_z w16 c.samples.before-bits })
-        (samples ++ samples_of (take c.samples.at c.args.bytes.now)))
+    (samples ++ samples_of (take c.samples.at c.args.bytes.now)))
     (sym c.self.view_is) (c.samples.invariant.runs.stands samples stands)

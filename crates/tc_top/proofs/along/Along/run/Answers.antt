@@ -82,7 +82,7 @@ returns-in-Fault-clause-stops g c = λ front written stands.
       a_refusal p g.B.Behind.stands virtual _ (Some c.run.behind) c.run.intervals s.choice c.in-Fault.fault f (take width window) rest w room then
           (by_bad_number virtual f (take width window) width c.in-Fault.fault then.progress
           (makes.2 (decoding_of f) (rw (← then.progress) between) (rw (← then.progress) c.requires.version)
-              (rw (← then.progress, c.taken-first.ensures) refl))),
+          (rw (← then.progress, c.taken-first.ensures) refl))),
     ))
     front written stands)
 
@@ -134,7 +134,7 @@ run-preserved g c =
                 count (count + 1) s.choice c.in-Interval.ticks f (take width window) w (w ++ more.0) then
                 (by_number virtual f (take width window) width c.in-Interval.ticks then.progress
                 (makes.5 (decoding_of f) (rw (← then.progress) between) (rw (← then.progress) c.requires.version)
-                    (rw (← then.progress, c.taken-first.ensures) refl)))
+                (rw (← then.progress, c.taken-first.ensures) refl)))
                 room refl (header, then.printed.1, more.2)),
           )));
       same = e.cause ∙ i.same;

@@ -22,8 +22,11 @@ returns-clause-stops g c =
         (
           mtc_report bytes,
           refl,
-          (f.1.0, ap (λ (l : List ℕ). l ++ last_mtc_line bytes (events_in bytes)) (sym stands.are)
-              ∙ ap (λ (l : List ℕ). written ++ l) (sym last ∙ f.1.1) ∙ sym (append_assoc written f.0 f.1.0)),
+          (
+            f.1.0,
+            ap (λ (l : List ℕ). l ++ last_mtc_line bytes (events_in bytes)) (sym stands.are)
+                ∙ ap (λ (l : List ℕ). written ++ l) (sym last ∙ f.1.1) ∙ sym (append_assoc written f.0 f.1.0),
+          ),
         ),
       ),
     ))

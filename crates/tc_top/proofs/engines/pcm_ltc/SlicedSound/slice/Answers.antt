@@ -38,7 +38,7 @@ returns-in_err-spell-clause-stops g c =
     (grows s next c.args.bytes.now c.within.result.now count e.tick.0 c.run-count.result.1 c.within.ensures.front e.within e.tick.1 refl refl going.within
     going.fineness going.threshold e.stands e.distances)
     (subst (λ b. AppendsFront (g.K.Sink.written c.args.out.now) (g.K.Sink.written c.spell.new.out) (s.gathered.room.items ++ b))
-        (sym (due_is c.run-count.result.1 c.in-Some.distance c.in-Some.is)) c.in_err-spell.ensures.front)))
+    (sym (due_is c.run-count.result.1 c.in-Some.distance c.in-Some.is)) c.in_err-spell.ensures.front)))
 
 -- they were
 pub returns-in_ok-spell-clause-works : goal.returns-in_ok-spell-clause-works

@@ -48,6 +48,12 @@ returns-in-Ok-clause-stops g c =
 
 -- the input may not end there
 pub returns-in-Err-clause-stops : goal.returns-in-Err-clause-stops
-returns-in-Err-clause-stops g c = λ bytes written stands.
-    ([], Appends-nil _, (record { is = stands.told.0; unspent = λ spent. spent }, c.in-Err.ensures.err bytes stands.answers stands.decoder,
-        (stands.answers, stands.told.1, append-nil written ∙ stands.are)))
+returns-in-Err-clause-stops g c = λ bytes written stands. (
+  [],
+  Appends-nil _,
+  (
+    record { is = stands.told.0; unspent = λ spent. spent },
+    c.in-Err.ensures.err bytes stands.answers stands.decoder,
+    (stands.answers, stands.told.1, append-nil written ∙ stands.are),
+  ),
+)

@@ -39,7 +39,7 @@ returns-in_err-print-in-Field-clause-stops g c =
     through c.from_residual.result c.from_residual.ensures.1 (λ stop same front written stands.
     let reads_on = c.in-Field.ensures.takes.stands front stands.answers stands.decoder in
     rw (same, why) (one_more_part c.a_decoder_tells_the_file.ensures r c.take.new.self front written bytes (take count bytes) (drop count bytes)
-        c.in-Field.answer _ _ stands
+    c.in-Field.answer _ _ stands
     reads_on (sym (take-append-drop count bytes)) c.in_err-print-in-Field.ensures.front))
 
 -- the bytes have a fault
