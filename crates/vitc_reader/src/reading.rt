@@ -103,7 +103,8 @@ pub fn read_runs(length: u32, runs: &[u16]) -> Result<u128, RunFault>
     Ok(line.bits)
 }
 
-/// The same of runs that stand as two bytes each, the most significant first.
+/// The same of runs that stand as two bytes each, the most significant first. Alone it has the registers that its loop wants.
+#[inline(never)]
 pub(crate) fn read_bytes(length: u32, factor: u64, bytes: &[u8]) -> Result<u128, RunFault>
     requires length { IsLineLength length }
     requires factor { factor ≡ factor_on length }
