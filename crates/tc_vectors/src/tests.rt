@@ -1,6 +1,5 @@
 //! Runs of the program whose status, output and note are known from outside.
 mod chase;
-mod code_chase;
 mod convert;
 mod cuts;
 mod damage;
@@ -12,6 +11,7 @@ mod made;
 mod made_lines;
 mod midi;
 mod reading;
+mod recorded_code;
 mod recording;
 mod sound;
 mod sweep;
