@@ -8,13 +8,9 @@
 # TC is the built program (bin/tc), LENGTH how long a line lasts in ticks (1728). It wants python3. It builds nothing. The gate does
 # not run it: how long a run takes depends on the machine.
 set -eu
-top=$(cd "$(dirname "$0")/.." && pwd)
-tc=${1:-$top/bin/tc}
+. "$(dirname "$0")/common.sh"
 length=${2:-1728}
 rounds=9
-[ -x "$tc" ] || { echo "no program at $tc: run ./build" >&2; exit 2; }
-room=$(mktemp -d)
-trap 'rm -rf "$room"' EXIT
 
 make=(vitc-make 25 19:53:20:00 10000 "$length")
 "$tc" "${make[@]}" > "$room/lines"
@@ -42,20 +38,17 @@ sys.stdout.buffer.write(lines)' < "$1"
 differing "$room/lines" > "$room/lines_differ"
 differing "$room/many" > "$room/many_differ"
 "$tc" vitc-read < "$room/lines_differ" | cmp - "$room/report"
-# The user time of so many runs of a command on a file: one run of the smaller file is too short for the clock.
-user_time() { TIMEFORMAT=%3U; { time for _ in $(seq "$2"); do "${@:3}" < "$1" > /dev/null; done; } 2>&1; }
 md5= made= read= differ= many_md5= many_made= many_read= many_differ=
 for _ in $(seq "$rounds"); do
-    md5+=" $(user_time "$room/lines" 20 md5sum)"
-    made+=" $(user_time /dev/null 20 "$tc" "${make[@]}")"
-    read+=" $(user_time "$room/lines" 20 "$tc" vitc-read)"
-    differ+=" $(user_time "$room/lines_differ" 20 "$tc" vitc-read)"
-    many_md5+=" $(user_time "$room/many" 1 md5sum)"
-    many_made+=" $(user_time /dev/null 1 "$tc" "${many[@]}")"
-    many_read+=" $(user_time "$room/many" 1 "$tc" vitc-read)"
-    many_differ+=" $(user_time "$room/many_differ" 1 "$tc" vitc-read)"
+    md5+=" $(runs_time 20 "$room/lines" md5sum)"
+    made+=" $(runs_time 20 /dev/null "$tc" "${make[@]}")"
+    read+=" $(runs_time 20 "$room/lines" "$tc" vitc-read)"
+    differ+=" $(runs_time 20 "$room/lines_differ" "$tc" vitc-read)"
+    many_md5+=" $(runs_time 1 "$room/many" md5sum)"
+    many_made+=" $(runs_time 1 /dev/null "$tc" "${many[@]}")"
+    many_read+=" $(runs_time 1 "$room/many" "$tc" vitc-read)"
+    many_differ+=" $(runs_time 1 "$room/many_differ" "$tc" vitc-read)"
 done
-least() { tr ' ' '\n' <<< "$1" | grep . | sort -n | head -n 1; }
 say() {
     echo "$1, user seconds, the best of $rounds: md5sum $(least "$2"), vitc-make $(least "$3"), vitc-read $(least "$4"), of differing lines $(least "$5")"
     awk -v m="$(least "$2")" -v w="$(least "$3")" -v r="$(least "$4")" -v d="$(least "$5")" \
@@ -64,10 +57,4 @@ say() {
 say "20,000 fields, twenty runs each" "$md5" "$made" "$read" "$differ"
 say "400,000 fields" "$many_md5" "$many_made" "$many_read" "$many_differ"
 
-# The greatest resident memory, in KiB.
-resident() { /usr/bin/time -f %M -o "$room/resident" "${@:2}" < "$1" > /dev/null; cat "$room/resident"; }
-if [ -x /usr/bin/time ]; then
-    echo "greatest resident memory: vitc-make $(resident /dev/null "$tc" "${many[@]}") KiB, vitc-read $(resident "$room/many" "$tc" vitc-read) KiB"
-else
-    echo "greatest resident memory: not measured, there is no /usr/bin/time"
-fi
+echo "greatest resident memory: vitc-make $(resident /dev/null "$tc" "${many[@]}"), vitc-read $(resident "$room/many" "$tc" vitc-read)"
