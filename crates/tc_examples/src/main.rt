@@ -16,7 +16,7 @@ struct Example {
 }
 
 /// The examples, in the order of the lesson.
-const EXAMPLES: [Example; 7] = [
+const EXAMPLES: [Example; 9] = [
     Example {
         line: "ltc-read",
         input: "25-worn.ltci",
@@ -38,12 +38,20 @@ const EXAMPLES: [Example; 7] = [
         input: "30d-damaged.ltci",
     },
     Example {
+        line: "ltc-chase 30d 12:09:57;00 2 1 8",
+        input: "30d-damaged.ltci",
+    },
+    Example {
         line: "mtc-read",
         input: "30d-damaged.mtc",
     },
     Example {
         line: "vitc-read",
         input: "30-damaged.vitl",
+    },
+    Example {
+        line: "chase 25 00:00:06:00",
+        input: "25-follow.csv",
     },
 ];
 
