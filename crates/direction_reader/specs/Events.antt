@@ -1,5 +1,5 @@
 -- What one interval brought, in order, and the kinds of event.
-use Rattle.std.specs.Prelude.{List, [], ◌∷◌, ◌++◌, Option, Some, None, Bool, true, false}
+use Rattle.std.specs.Prelude.{ℕ, List, [], ◌∷◌, ◌++◌, Option, Some, None, Bool, true, false}
 use Rattle.direction_reader.specs.declared.event.Event.{Event}
 use Rattle.direction_reader.specs.declared.event.Event.TheVariants.{Word, Refused, Lost}
 use Rattle.direction_reader.specs.declared.event.Events.{Events}
@@ -17,6 +17,12 @@ listed (Some event) = event ∷ []
 
 abbrev pub event_list : Events → List Event
 event_list events = listed events.first ++ listed events.second
+
+-- the tick of an event: where a window ends, or the interval at which a stretch breaks
+abbrev pub tick_of : Event → ℕ
+tick_of (Word direction word tick length) = tick
+tick_of (Refused direction fault tick) = tick
+tick_of (Lost interval tick) = tick
 
 -- the event is a word
 abbrev pub is_word : Event → Bool
