@@ -11,7 +11,6 @@ set -eu
 recordings=("${@:2}")
 [ ${#recordings[@]} -gt 0 ] || recordings=("$top"/examples/25-worn.ltci "$top"/examples/25-turn.ltci "$top"/examples/30d-damaged.ltci)
 words=90000
-rounds=7
 cell=20
 
 # The words of a copy: way, label, and tick, of which the frame number k has (82 + 80 k) cells.
@@ -30,19 +29,5 @@ repeated_recording "${recordings[0]}" $((words / $(words_in "${recordings[0]}") 
 "$tc" ltc-jam 2 "$cell" 48000 < "$room/hour" > "$room/copy"
 echo "an hour: $(stat -c %s "$room/hour") bytes; its copy: $(stat -c %s "$room/copy") bytes; $("$tc" ltc-read < "$room/copy" | tail -n 1)"
 
-# User and system time of a command that writes to a file, in milliseconds; the two commands take turns.
-time_of() { # COMMAND..
-    local TIMEFORMAT='%3U %3S'
-    { time "$@" < "$room/hour" > "$room/written"; } 2>&1 | awk '{ print int(1000 * $1 + 0.5), int(1000 * ($1 + $2) + 0.5) }'
-}
-for _ in $(seq "$rounds"); do
-    time_of "$tc" ltc-read >> "$room/read"
-    time_of "$tc" ltc-jam 2 "$cell" 48000 >> "$room/jam"
-done
-least_of() { sort -n -k "$2,$2" "$1" | awk -v field="$2" 'NR == 1 { print $field }'; }
-for field in 1 2; do
-    awk -v read="$(least_of "$room/read" "$field")" -v jam="$(least_of "$room/jam" "$field")" -v what="$field" 'BEGIN {
-        printf "%s: ltc-read %d ms, ltc-jam 2 %d ms = %.2f times\n", what == 1 ? "user" : "user and system", read, jam, jam / read }'
-done
-
+beside_ltc_read "$room/hour" 'ltc-jam 2' "$tc" ltc-jam 2 "$cell" 48000
 echo "greatest resident memory: $(resident "$room/hour" "$tc" ltc-jam 2 "$cell" 48000)"

@@ -21,14 +21,24 @@ longer_file header intervals x =
 
 -- all that is due with one interval more
 all_due : (c : Conversion) (version : FileVersion) (header : IntervalHeader) (intervals written : List ℕ) (x : ℕ) → Stands c version header intervals written
-    → written ++ (c.room.items ++ spelling c.version x) ≡ file_of (in_version version header) (intervals ++ x ∷ [])
+    → written ++ (c.gathered.room.items ++ spelling c.version x) ≡ file_of (in_version version header) (intervals ++ x ∷ [])
 all_due c version header intervals written x s =
-    sym (append_assoc written c.room.items (spelling c.version x))
-    ∙ ap (λ (v : FileVersion). (written ++ c.room.items) ++ spelling v x) s.keeps
+    sym (append_assoc written c.gathered.room.items (spelling c.version x))
+    ∙ ap (λ (v : FileVersion). (written ++ c.gathered.room.items) ++ spelling v x) s.keeps
     ∙ ap (λ (l : List ℕ). l ++ spelling version x) s.are ∙ sym (longer_file (in_version version header) intervals x)
 
 -- the part that is due with it
 pub part_due : (c : Conversion) (version : FileVersion) (header : IntervalHeader) (intervals written : List ℕ) (x : ℕ)
     → Stands c version header intervals written
-    → IsConverted version header (intervals ++ x ∷ []) (written ++ (c.room.items ++ spelling c.version x))
+    → IsConverted version header (intervals ++ x ∷ []) (written ++ (c.gathered.room.items ++ spelling c.version x))
 part_due c version header intervals written x s = all_due c version header intervals written x s
+
+-- the interval was put behind what is gathered
+pub put_behind : (c next : Conversion) (version : FileVersion) (header : IntervalHeader) (intervals written bytes more : List ℕ) (x : ℕ)
+    → Stands c version header intervals written → next.version ≡ c.version → bytes ≡ spelling c.version x
+    → c.gathered.room.items ++ bytes ≡ more ++ next.gathered.room.items → Stands next version header (intervals ++ x ∷ []) (written ++ more)
+put_behind c next version header intervals written bytes more x s same is put = record {
+  keeps = same ∙ s.keeps;
+  are = append_assoc written more next.gathered.room.items ∙ ap (λ (l : List ℕ). written ++ l) (sym put)
+      ∙ ap (λ (l : List ℕ). written ++ (c.gathered.room.items ++ l)) is ∙ all_due c version header intervals written x s;
+}

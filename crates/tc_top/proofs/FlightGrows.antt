@@ -26,9 +26,7 @@ use Rattle.tc_top.specs.declared.flight.Flight.{Flight}
 use Rattle.tc_top.specs.KeptFlight.{Comes, Counts, CountsAll, GivesDue, GivesDueAll, GivesDueAllFirst, GivesDueFirst, Sends, SendsFront, Stands}
 use Rattle.tc_top.specs.LtcFly.{is_end, is_heard, is_invented}
 use Rattle.tc_top.specs.OfFrames.{FrameText, IsFlightPart, IsFlightWhole, frames_of, heard_in, words_heard}
-use Rattle.tc_top.proofs.FewerFrames.{fronts_grow}
 use Rattle.tc_top.proofs.FramesInOrder.{Given}
-use Rattle.tc_top.proofs.OneOutput.{OneListOfEvents}
 
 -- what a reader stands for are the events of its intervals
 abbrev pub TheEvents : Type 0
@@ -74,19 +72,17 @@ count_of_more kind fs more = sum_by-append (λ (f : Frame). cond (kind f) 1 0) f
 pub flown : {S C : Type 0} (limit : C → ℕ) (made : C → FrameText) (has : Given S C) (f next : Flight) (sink after : S) (choice : C) (header : IntervalHeader)
     (intervals written : List ℕ) (x : ℕ) (own : Events) (more : List Frame) (old new : Option (List ℕ))
     → Stands limit made has f sink choice header intervals written → Takes f.reader x next.reader → Reads f.reader next.reader x own → TheEvents
-    → OneListOfEvents → next.wheel.limit ≡ f.wheel.limit → GivesDueAll f.wheel next.wheel next.reader.tick (words_heard (event_list own)) more
+    → next.wheel.limit ≡ f.wheel.limit → GivesDueAll f.wheel next.wheel next.reader.tick (words_heard (event_list own)) more
     → Counts f next more
     → Sends made has sink after old new more
     → (bytes : List ℕ) × Appends old new bytes × Stands limit made has next after choice header (intervals ++ x ∷ []) (written ++ bytes)
-flown limit made has f next sink after choice header intervals written x own more old new s takes grows law one same gives counts sends =
+flown limit made has f next sink after choice header intervals written x own more old new s takes grows law same gives counts sends =
     let reader = grows intervals s.events s.reader in
     let given = gives (words_heard s.events) (sum intervals) s.given s.wheel.0 (later f.reader next.reader intervals s.events x s.reader takes) in
     let limit_is : next.wheel.limit ≡ limit choice = same ∙ s.limit_is in
     let are_events = events_now header.system f.reader next.reader intervals s.events x own s.system s.keeps s.reader takes grows law in
     let wheel = subst (λ (ws : List HeardWord). flies.HasGivenAll next.wheel ws (sum (intervals ++ x ∷ [])) (s.given ++ more)) (sym (words_now s.events own))
     (subst (λ (t : ℕ). flies.HasGivenAll next.wheel (words_heard s.events ++ words_heard (event_list own)) t (s.given ++ more)) reader.sum_is given) in
-    let all : frames_of (limit choice) (intervals ++ x ∷ []) (s.events ++ event_list own) ≡ s.given ++ more =
-    ap (λ (n : ℕ). frames n (words_heard (s.events ++ event_list own)) (sum (intervals ++ x ∷ []))) (sym limit_is) ∙ wheel.1 in
     let sent = sends choice header s.given s.sent in (
       sent.1.0,
       sent.1.2,
@@ -98,7 +94,6 @@ flown limit made has f next sink after choice header intervals written x own mor
         reader = reader;
         are_events = are_events;
         given = s.given ++ more;
-        fronts = fronts_grow one (limit choice) header intervals x (s.events ++ event_list own) s.given more s.fronts are_events all;
         wheel = wheel;
         sent = sent.0;
         are = ap (λ (l : List ℕ). l ++ sent.1.0) s.are ∙ sym sent.1.1;

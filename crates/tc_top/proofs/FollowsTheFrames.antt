@@ -1,14 +1,12 @@
 -- What `ltc-chase` writes of an input is the trace over all of its frames: they go on from one another and have labels, so each loss has its cause.
-use Rattle.std.proofs.Common.{◌≡◌, ◌≢◌, inl, inr, ℕ, zero, suc, ◌≤◌, List, [], ◌∷◌, length, Option, Some, None, slice_get, refl, sym, ◌∙◌}
+use Rattle.std.proofs.Common.{◌≡◌, ◌≢◌, inl, inr, ℕ, zero, suc, ◌≤◌, List, [], ◌∷◌, length, take, Option, Some, None, slice_get, refl, sym, ◌∙◌}
 use Rattle.std.proofs.Common.{ap, subst, append-nil}
 use Rattle.std.specs.Prelude.{sum, unsigned_abs}
 use Rattle.std.proofs.lemmas.Bool.{cases_lt}
-use Rattle.std.proofs.lemmas.List.{take_all}
 use Rattle.biphase.specs.declared.profile.Profile.{Profile}
 use Rattle.biphase.specs.declared.profile.Profile.TheVariants.{Normal}
 use Rattle.chase_core.specs.declared.report.State.TheVariants.{Locked}
 use Rattle.chase_core.specs.Trace.{Traced}
-use Rattle.chase_script.specs.TraceText.{trace_text}
 use Rattle.code_chase.specs.CodeTrace.{code_trace}
 use Rattle.code_chase.specs.Lock.{AreWhole, HasCauseOfLoss, HasLabel, HaveLabels}
 use Rattle.direction_reader.specs.declared.event.Event.{Event}
@@ -17,7 +15,7 @@ use Rattle.flywheel.specs.declared.frame.Frame.{Frame}
 use Rattle.flywheel.specs.declared.frame.Frame.TheVariants.{Heard, Invented, Gone}
 use Rattle.flywheel.specs.declared.heard.HeardWord.{HeardWord}
 use Rattle.flywheel.specs.Frames.{frames}
-use Rattle.flywheel.specs.GoOn.{GoOn}
+use Rattle.flywheel.specs.GoOn.{GoOn, Place, place_of}
 use Rattle.ltc_jam.specs.Labels.{AreEventsOf, AreFramesOf, AreHeardOf, IsFrameOf}
 use Rattle.tc_address.specs.declared.system.System.{System}
 use Rattle.tc_address.specs.Label.{Address, IsLabel}
@@ -29,7 +27,7 @@ use Rattle.tc_words.specs.ChaseRun.{Chasing, IsChasing}
 use Rattle.tc_top.specs.declared.engines.ltc_chase.TheConstants.{MAX_FRAMES}
 use Rattle.tc_top.specs.Along.{IsSpentBehind, IsWholeBehind}
 use Rattle.tc_top.specs.Commands.{meaning_of}
-use Rattle.tc_top.specs.LtcChase.{ChasesIfItFollows, ChasesTheInput, FollowsTheCode, LosesWithCause, chased_recording, first_steps, steps_over}
+use Rattle.tc_top.specs.LtcChase.{ChasesIfItFollows, ChasesTheInput, FollowsTheCode, LosesWithCause, chased_recording}
 use Rattle.tc_top.specs.Meaning.{Meaning}
 use Rattle.tc_top.specs.OfFrames.{frames_of, words_heard}
 use Rattle.tc_top.proofs.CleanCopy.{words_are}
@@ -62,10 +60,19 @@ have_labels system [] are i frame at = absurd (cc)
 have_labels system (f ∷ fs) are zero frame at = subst (λ (g : Frame). HasLabel g) (first_frame f frame at) (label_of system f are.0)
 have_labels system (f ∷ fs) are (suc i) frame at = have_labels system fs are.1 i frame at
 
--- ---- the trace of all frames
+-- ---- the first of them
 
-all_steps : (most : ℕ) (c : Chasing) (fs : List Frame) → length fs ≤ most → first_steps most c fs ≡ steps_over c fs
-all_steps most c fs within = ap (steps_over c) (take_all most fs within)
+frames_of_first : (system : System) (n : ℕ) (fs : List Frame) → AreFramesOf system fs → AreFramesOf system (take n fs)
+frames_of_first system zero fs are = tt
+frames_of_first system (suc n) [] are = tt
+frames_of_first system (suc n) (f ∷ fs) are = (are.0, frames_of_first system n fs are.1)
+
+first_go_on : (before : Option Place) (n : ℕ) (fs : List Frame) → GoOn before fs → GoOn before (take n fs)
+first_go_on before zero fs on = tt
+first_go_on before (suc n) [] on = tt
+first_go_on before (suc n) (f ∷ fs) on = (on.0, first_go_on (place_of f) n fs on.1)
+
+-- ---- the trace
 
 lock_of : ChaseLaws → (c : Chasing) → IsChasing c → (fs : List Frame) → HaveLabels fs → GoOn None fs → LosesWithCause c fs
 lock_of laws c is fs have on = record {
@@ -76,42 +83,34 @@ lock_of laws c is fs have on = record {
 }
 
 behind : ChaseLaws → (c : Chasing) → IsChasing c → (input : Recording) (header : Option IntervalHeader) (written : List ℕ) → input.header ≡ header
-    → (IsSpentBehind (chased_recording c) header input.intervals → ⊥) → IsWholeBehind (chased_recording c) header input.intervals written
-    → FollowsTheCode c input written
-behind laws c is input None written e unspent whole = absurd whole
-behind laws c is input (Some header) written e unspent whole =
+    → IsWholeBehind (chased_recording c) header input.intervals written → FollowsTheCode c input written
+behind laws c is input None written e whole = absurd whole
+behind laws c is input (Some header) written e whole =
     let fs = frames_of c.limit input.intervals whole.events in
+    let first = take MAX_FRAMES fs in
     let heard = words_are header.system whole.events (laws.events header.system Normal input.intervals whole.events whole.are_events) in
-    let have = have_labels header.system fs (laws.labels header.system c.limit (words_heard whole.events) (sum input.intervals) heard) in
-    let within : length fs ≤ MAX_FRAMES = elim (cases_lt MAX_FRAMES (length fs)) [
-      | inl many ↦ absurd (unspent (record {
-        front = input.intervals;
-        more = [];
-        are_front = sym (append-nil input.intervals);
-        events = whole.events;
-        are_events = whole.are_events;
-        too_many = many;
-      }))
-      | inr few ↦ few
-    ] in
+    let labels = laws.labels header.system c.limit (words_heard whole.events) (sum input.intervals) heard in
+    let on = laws.go_on c.limit (sum input.intervals) (words_heard whole.events) in
     record {
       header = header;
       begins = e;
       events = whole.events;
       are_events = whole.are_events;
-      within = within;
-      text = whole.are ∙ ap (trace_text c.label.count) (all_steps MAX_FRAMES c fs within);
-      lock = lock_of laws c is fs have (laws.go_on c.limit (sum input.intervals) (words_heard whole.events));
+      all = λ unspent. elim (cases_lt MAX_FRAMES (length fs)) [
+        | inl many ↦ absurd (unspent (subst (λ (h : Option IntervalHeader). IsSpentBehind (chased_recording c) h input.intervals) (sym e)
+        (record { events = whole.events; are_events = whole.are_events; too_many = many })))
+        | inr few ↦ few
+      ];
+      text = whole.are;
+      lock = lock_of laws c is first (have_labels header.system first (frames_of_first header.system MAX_FRAMES fs labels)) (first_go_on None MAX_FRAMES fs on);
     }
 
 pub chase_follows : ChaseLaws → (c : Chasing) → IsChasing c → ChasesTheInput c
-chase_follows laws c is = λ input written unspent whole.
-    behind laws c is (recording_of input) (recording_of input).header written refl unspent whole
+chase_follows laws c is = λ input written whole. behind laws c is (recording_of input) (recording_of input).header written refl whole
 
 -- a job that chases
 pub job_follows : (job : Job) (c : Chasing) → job ≡ LtcChase c → ChasesIfItFollows job → (input written : List ℕ)
-    → (Meaning.spent (meaning_of job) input → ⊥) → Meaning.output (meaning_of job) input written → FollowsTheCode c (recording_of input) written
-job_follows job c is follows input written unspent output =
+    → Meaning.output (meaning_of job) input written → FollowsTheCode c (recording_of input) written
+job_follows job c is follows input written output =
     subst (λ (o : Job). ChasesIfItFollows o) is follows input written
-    (subst (λ (o : Job). Meaning.spent (meaning_of o) input → ⊥) is unspent)
     (subst (λ (o : Job). Meaning.output (meaning_of o) input written) is output)

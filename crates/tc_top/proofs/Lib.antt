@@ -11,7 +11,9 @@ pub mod FieldsGrow
 pub mod FlightGrows
 pub mod FollowsTheFrames
 pub mod FramesAnew
+pub mod FramesFirst
 pub mod FramesInOrder
+pub mod FrontOfOutput
 pub mod LabelsHeard
 pub mod LinesGrow
 pub mod LinesOfFrames
@@ -38,3 +40,4 @@ pub mod SoundGrows
 pub mod StepsGrow
 pub mod VerdictStays
 pub mod WordsAnswer
+pub mod WrittenFirst

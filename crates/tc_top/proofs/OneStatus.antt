@@ -39,7 +39,6 @@ use Rattle.tc_top.specs.declared.engines.mtc_read.TheConstants.{MAX_BYTES}
 use Rattle.tc_words.specs.Slicing.{Slices}
 use Rattle.tc_top.specs.PcmLtc.{along_samples}
 use Rattle.tc_top.specs.declared.engines.pcm_ltc.TheConstants.{MAX_SAMPLES}
-use Rattle.tc_top.proofs.FewerFrames.{flight_spent_stays}
 use Rattle.tc_top.proofs.MidiLimit.{never_refused, past_within}
 use Rattle.tc_top.proofs.SlicedOn.{never_refused as no_fault_yet, past_within as past_samples}
 use Rattle.tc_top.proofs.VerdictStays.{Grows, past_is_all, recording_grows, refused_is_all}
@@ -65,25 +64,16 @@ pub record Settles (m : Meaning) : Type 0 where
   pub ends : (bytes : List ℕ) (f : FileFault) → m.end_fault bytes ≡ Some f → IsTrue m.reads
   pub idle : m.reads ≡ false → (all : List ℕ) → HasStatus m all status.Done
 
--- what passes a limit of the command's own does so with more intervals
-abbrev pub SpentStays : Printing → Type 0
-SpentStays p = (header : IntervalHeader) (intervals more : List ℕ) → p.spent header intervals → p.spent header (intervals ++ more)
-
-spent_by : (p : Printing) → SpentStays p → (a b : Recording) → Grows a b → (header : Option IntervalHeader) → a.header ≡ header
-    → IsSpentBehind p header a.intervals → IsSpentOf p b
-spent_by p stays a b grows None is spent = absurd spent
-spent_by p stays a b grows (Some header) is spent =
-    let g = grows header is in
-    subst (λ (h : Option IntervalHeader). IsSpentBehind p h b.intervals) (sym g.0)
-    (subst (λ (xs : List ℕ). p.spent header xs) (sym g.1.1) (stays header a.intervals g.1.0 spent))
+-- what passes a limit of the command's own does so with more bytes
+abbrev pub SpentStays : Meaning → Type 0
+SpentStays m = (front rest : List ℕ) → m.spent front → m.spent (front ++ rest)
 
 -- an interval file
-along_settles : (p : Printing) → SpentStays p → Settles (along_intervals p)
+along_settles : (p : Printing) → SpentStays (along_intervals p) → Settles (along_intervals p)
 along_settles p stays = record {
   fault = λ front rest f e. ap (λ (r : Recording). r.verdict) (refused_is_all front rest f e) ∙ e;
   limit = λ front rest e. ap (λ (r : Recording). r.verdict) (past_is_all front rest e) ∙ e;
-  spent = λ front rest spent.
-      spent_by p stays (recording_of front) (recording_of (front ++ rest)) (recording_grows front rest) (recording_of front).header refl spent;
+  spent = stays;
   fault_unspent = λ front rest f e spent. subst (λ (r : Recording). IsSpentOf p r) (refused_is_all front rest f e) spent;
   limit_unspent = λ front rest e spent. subst (λ (r : Recording). IsSpentOf p r) (past_is_all front rest e) spent;
   ends = λ bytes f e. refl;
@@ -142,23 +132,23 @@ writes_settles text = record {
   idle = λ e all. inr ((λ spent. spent), refl);
 }
 
-pub settles : FieldsStay → (job : Job) → Settles (meaning_of job)
-settles stay (LtcLoad run) = writes_settles _
-settles stay (PcmLtc slicing) = samples_settle slicing
-settles stay (LtcPcm size) = along_settles _ (λ header intervals more spent. absurd spent)
-settles stay LtcRead = along_settles _ (λ header intervals more spent. absurd spent)
-settles stay LtcWorn = along_settles _ (λ header intervals more spent. absurd spent)
-settles stay (LtcFly limit) = along_settles _ (flight_spent_stays limit lines_of_frames)
-settles stay (LtcMtc limit) = along_settles _ (flight_spent_stays limit messages_of_frames)
-settles stay (LtcJam jam) = along_settles _ (flight_spent_stays jam.limit (file_of_frames jam))
-settles stay (LtcChase run) = along_settles _ (flight_spent_stays run.limit (lines_of_steps run))
-settles stay MtcRead = midi_settles
-settles stay (LtcMake stripe) = writes_settles _
-settles stay (VitcMake stripe) = writes_settles _
-settles stay (LtcConvert version) = along_settles _ (λ header intervals more spent. absurd spent)
-settles stay VitcRead = fields_settle stay
-settles stay (Number label) = writes_settles _
-settles stay (LabelOf label) = writes_settles _
+pub settles : FieldsStay → ((job : Job) → SpentStays (meaning_of job)) → (job : Job) → Settles (meaning_of job)
+settles stay spent LtcRead = along_settles _ (spent LtcRead)
+settles stay spent LtcWorn = along_settles _ (spent LtcWorn)
+settles stay spent (LtcFly limit) = along_settles _ (spent (LtcFly limit))
+settles stay spent (LtcMtc limit) = along_settles _ (spent (LtcMtc limit))
+settles stay spent (LtcJam jam) = along_settles _ (spent (LtcJam jam))
+settles stay spent (LtcChase run) = along_settles _ (spent (LtcChase run))
+settles stay spent (LtcConvert version) = along_settles _ (spent (LtcConvert version))
+settles stay spent (LtcPcm size) = along_settles _ (spent (LtcPcm size))
+settles stay spent (PcmLtc slicing) = samples_settle slicing
+settles stay spent MtcRead = midi_settles
+settles stay spent VitcRead = fields_settle stay
+settles stay spent (LtcMake stripe) = writes_settles _
+settles stay spent (VitcMake stripe) = writes_settles _
+settles stay spent (LtcLoad run) = writes_settles _
+settles stay spent (Number label) = writes_settles _
+settles stay spent (LabelOf label) = writes_settles _
 
 -- ---- the status of the whole input
 
@@ -234,7 +224,7 @@ none_passes : (p : Printing) → ((header : IntervalHeader) (intervals : List �
 none_passes p never r None = λ spent. spent
 none_passes p never r (Some header) = never header r.intervals
 
-unlimited : (job : Job) → ¬ HasOwnLimit job → (input : List ℕ) → ¬ Meaning.spent (meaning_of job) input
+pub unlimited : (job : Job) → ¬ HasOwnLimit job → (input : List ℕ) → ¬ Meaning.spent (meaning_of job) input
 unlimited LtcRead none input = none_passes (report Normal) (λ header intervals spent. spent) (recording_of input) (recording_of input).header
 unlimited LtcWorn none input = none_passes (report Worn) (λ header intervals spent. spent) (recording_of input) (recording_of input).header
 unlimited (LtcFly limit) none input = none_passes (flight limit) (λ header intervals spent. spent.too_many) (recording_of input) (recording_of input).header

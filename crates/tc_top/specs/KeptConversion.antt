@@ -10,9 +10,9 @@ use Rattle.tc_top.specs.LtcConvert.{in_version, IsConverted}
 -- what was written, and then what is gathered, are the file of the intervals
 pub record Stands (c : Conversion) (version : FileVersion) (header : IntervalHeader) (intervals written : List ℕ) : Type 0 where
   pub keeps : c.version ≡ version
-  pub are : written ++ c.room.items ≡ file_of (in_version version header) intervals
+  pub are : written ++ c.gathered.room.items ≡ file_of (in_version version header) intervals
 
-pub stands_well : (c : Conversion) (version : FileVersion) (header : IntervalHeader) (intervals written : List ℕ) → c.room.items ≡ []
+pub stands_well : (c : Conversion) (version : FileVersion) (header : IntervalHeader) (intervals written : List ℕ) → c.gathered.room.items ≡ []
     → Stands c version header intervals written → IsConverted version header intervals written
 stands_well c version header intervals written settled stands =
     sym (append-nil written) ∙ ap (λ (l : List ℕ). written ++ l) (sym settled) ∙ stands.are

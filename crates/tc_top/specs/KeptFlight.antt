@@ -117,11 +117,6 @@ pub record CountsAll (f : Flight) (intervals : List ℕ) (given : List Frame) : 
   pub invented : f.invented ≡ count_by is_invented given
   pub gone : f.gone ≡ count_by is_end given
 
--- no front of the intervals has more frames than these
-abbrev pub FrontsHaveFewer : ℕ → IntervalHeader → List ℕ → List Frame → Type 0
-FrontsHaveFewer limit header intervals given = (front more : List ℕ) (events : List Event) → intervals ≡ front ++ more
-    → AreEvents header.system Normal front events → length (frames_of limit front events) ≤ length given
-
 -- it was given these intervals behind this header, and sent the frames of their words
 pub record Stands {S C : Type 0} (limit : C → ℕ) (made : C → FrameText) (has_given : S → C → IntervalHeader → List Frame → Type 0)
     (f : Flight) (sink : S) (choice : C) (header : IntervalHeader) (intervals written : List ℕ) : Type 0 where
@@ -132,7 +127,6 @@ pub record Stands {S C : Type 0} (limit : C → ℕ) (made : C → FrameText) (h
   pub reader : reads.StandsFor f.reader intervals events
   pub are_events : AreEvents header.system Normal intervals events
   pub given : List Frame
-  pub fronts : FrontsHaveFewer (limit choice) header intervals given
   pub wheel : flies.HasGivenAll f.wheel (words_heard events) (sum intervals) given
   pub sent : has_given sink choice header given
   pub are : written ≡ (made choice).text header given

@@ -2,6 +2,7 @@ pub mod Along
 pub mod Answer
 pub mod Causes
 pub mod Chase
+pub mod ComesFirst
 pub mod Commands
 pub mod KeptAlong
 pub mod KeptConversion

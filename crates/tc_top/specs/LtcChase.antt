@@ -55,20 +55,20 @@ pub record LosesWithCause (c : Chasing) (frames : List Frame) : Type 0 where
       → first ≤ j → slice_get (steps_over c frames) j ≡ Some line
       → (line.report.state ≡ Locked) × (unsigned_abs line.report.error ≤ 40)
 
--- what was written is the trace of the chase over all frames of the recording, in which each loss has its cause
+-- what was written is the trace of the chase over the frames of the recording, in which each loss has its cause: over all of them, where they are
+-- within the limit, and else over the first
 pub record FollowsTheCode (c : Chasing) (input : Recording) (written : List ℕ) : Type 0 where
   pub header : IntervalHeader
   pub begins : input.header ≡ Some header
   pub events : List Event
   pub are_events : AreEvents header.system Normal input.intervals events
-  pub within : length (frames_of c.limit input.intervals events) ≤ MAX_FRAMES
-  pub text : written ≡ trace_text c.label.count (steps_over c (frames_of c.limit input.intervals events))
-  pub lock : LosesWithCause c (frames_of c.limit input.intervals events)
+  pub all : ¬ IsSpentOf (chased_recording c) input → length (frames_of c.limit input.intervals events) ≤ MAX_FRAMES
+  pub text : written ≡ trace_text c.label.count (first_steps MAX_FRAMES c (frames_of c.limit input.intervals events))
+  pub lock : LosesWithCause c (take MAX_FRAMES (frames_of c.limit input.intervals events))
 
 -- what is written of a whole input is
 abbrev pub ChasesTheInput : Chasing → Type 0
-ChasesTheInput c = (input written : List ℕ) → ¬ IsSpentOf (chased_recording c) (recording_of input)
-    → IsWholeOf (chased_recording c) (recording_of input) written → FollowsTheCode c (recording_of input) written
+ChasesTheInput c = (input written : List ℕ) → IsWholeOf (chased_recording c) (recording_of input) written → FollowsTheCode c (recording_of input) written
 
 -- what `ltc-chase` writes is
 abbrev pub ChasesIfItFollows : Job → Type 0

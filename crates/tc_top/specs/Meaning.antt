@@ -1,5 +1,5 @@
 -- What a command takes and what it writes.
-use Rattle.std.specs.Prelude.{◌≡◌, ℕ, Bool, false, IsTrue, List, [], Option, None}
+use Rattle.std.specs.Prelude.{◌≡◌, ℕ, Bool, false, IsTrue, if◌then◌else◌, List, [], Option, None}
 use Rattle.std.specs.Io.KnownBytes.{IsAtEnd}
 use Rattle.tc_files.specs.declared.fault.FileFault.{FileFault}
 use Rattle.tc_files.specs.Verdict.{Verdict, good}
@@ -39,6 +39,10 @@ pub record IsInput (m : Meaning) (bytes : List ℕ) : Type 0 where
   pub verdict : m.verdict bytes ≡ good
   pub unspent : ¬ m.spent bytes
   pub end : m.end_fault bytes ≡ None
+
+-- the output of a whole input; a command that reads none has one output
+abbrev pub IsOutput : Meaning → List ℕ → List ℕ → Type 0
+IsOutput m input whole = m.output (if m.reads then input else []) whole
 
 -- the command is at its end where nothing is left of its input; one that reads none is at once
 abbrev pub IsEnd : Meaning → Option (List ℕ) → Type 0

@@ -52,14 +52,11 @@ pub record IsFlightWhole (limit : ℕ) (made : FrameText) (header : IntervalHead
   pub are_events : AreEvents header.system Normal intervals events
   pub are : written ≡ made.text header (frames_of limit intervals events) ++ made.last intervals (frames_of limit intervals events)
 
--- too many frames came of a front of the intervals
+-- the frames of the intervals are too many
 pub record IsFlightSpent (limit : ℕ) (made : FrameText) (header : IntervalHeader) (intervals : List ℕ) : Type 0 where
-  pub front : List ℕ
-  pub more : List ℕ
-  pub are_front : intervals ≡ front ++ more
   pub events : List Event
-  pub are_events : AreEvents header.system Normal front events
-  pub too_many : AreTooMany made.most (frames_of limit front events)
+  pub are_events : AreEvents header.system Normal intervals events
+  pub too_many : AreTooMany made.most (frames_of limit intervals events)
 
 -- what is written of the frames, with a limit of invented ones
 abbrev pub along_frames : ℕ → FrameText → Printing

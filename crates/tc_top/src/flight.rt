@@ -356,7 +356,6 @@ impl<T: FrameSink> Behind for FlightTo<T> {
         header: IntervalHeader,
         out: &mut K,
     ) -> Result<FlightTo<T>, Stop> {
-        a_list_has_one_list_of_events();
         a_reader_gives_the_events_of_its_list();
         let flight = Flight::new(T::limit(choice), &header);
         let sink = T::begin(choice, &header, out)?;
@@ -365,7 +364,6 @@ impl<T: FrameSink> Behind for FlightTo<T> {
 
     #[inline(always)]
     fn interval<K: Sink>(&mut self, x: u32, out: &mut K) -> Result<(), Stop> {
-        a_list_has_one_list_of_events();
         a_reader_gives_the_events_of_its_list();
         frames_come_in_order();
         match self.flight.reader.step(x) {
@@ -384,6 +382,7 @@ impl<T: FrameSink> Behind for FlightTo<T> {
     /// Its frames pass the limit of their sink.
     #[inline(always)]
     fn is_spent(&self) -> bool {
+        a_list_has_one_list_of_events();
         self.sink.is_spent()
     }
 

@@ -13,6 +13,7 @@ ghost use Rattle.tc_address.specs.Label.{Address};
 ghost use Rattle.tc_words.specs.declared.job.Job.{Job};
 ghost use Rattle.tc_top.specs.declared.status.Status.{Status};
 ghost use Rattle.tc_top.specs.Answer.{HasStatus, status_on};
+ghost use Rattle.tc_top.specs.ComesFirst.{ComesFirst};
 ghost use Rattle.tc_top.specs.Commands.{HasOwnLimit, meaning_of};
 ghost use Rattle.tc_words.specs.Stripe.{IsStripe, Striping};
 ghost use Rattle.tc_words.specs.Jam.{IsJamming, Jamming};
@@ -34,17 +35,23 @@ ghost use Rattle.tc_top.specs.declared.engines.mtc_read.TheConstants.{MAX_BYTES}
 ghost use Rattle.tc_top.specs.declared.engines.pcm_ltc.TheConstants.{MAX_SAMPLES};
 
 use biphase::laws::shaped_cells_are_a_chain;
-use code_chase::laws::{each_loss_has_a_cause, whole_code_keeps_the_lock};
-use direction_reader::laws::{a_list_has_one_list_of_events, played_words_are_read};
-use flywheel::laws::a_frame_that_goes_on_is_the_next;
+use code_chase::laws::{a_frame_adds_a_line, each_loss_has_a_cause, whole_code_keeps_the_lock};
+use direction_reader::laws::{
+    a_list_has_one_list_of_events, each_list_has_events, events_of_a_front_come_first,
+    played_words_are_read,
+};
+use flywheel::laws::{a_frame_that_goes_on_is_the_next, frames_of_a_front_come_first};
 use line_file::laws::{
     a_file_is_read_as_it_was_written as line_files_are_read_as_they_were_written,
-    bytes_have_one_list_of_answers, runs_of_a_line_fit_the_file,
+    answers_of_a_front_come_first, bytes_have_one_list_of_answers, runs_of_a_line_fit_the_file,
 };
 use ltc_jam::laws::{
-    cells_of_one_length_are_shaped, clean_recordings_are_read, steps_lead_to_labels,
+    a_clean_recording_is_written_frame_by_frame, cells_of_one_length_are_shaped, clean_recordings_are_read, steps_lead_to_labels,
     what_is_read_has_labels_of_its_system, words_of_labels_are_spelled,
 };
+use mtc_reader::laws::earlier_events_stay;
+use pcm_front::laws::distances_of_a_front_come_first;
+use quarter_frame::laws::messages_of_a_front_come_first;
 use tc_files::laws::{a_file_is_read_as_it_was_written, bytes_are_read_as_the_text_says};
 use vitc_line::laws::each_word_has_its_line;
 use vitc_reader::laws::each_line_has_its_runs;
@@ -59,6 +66,24 @@ pub fn an_input_has_one_output()
 {
     a_list_has_one_list_of_events();
     bytes_have_one_list_of_answers();
+}
+
+/// What a job has written of some bytes comes first, whatever bytes follow: in what is written of more
+/// bytes, and in the output of an input that begins with them. Where a limit of the command's own is
+/// passed, it stays so, and nothing more is written.
+pub fn what_is_written_comes_first()
+    ensures { (job : Job) → ComesFirst (meaning_of job) }
+{
+    a_list_has_one_list_of_events();
+    each_list_has_events();
+    events_of_a_front_come_first();
+    frames_of_a_front_come_first();
+    messages_of_a_front_come_first();
+    a_clean_recording_is_written_frame_by_frame();
+    a_frame_adds_a_line();
+    earlier_events_stay();
+    distances_of_a_front_come_first();
+    answers_of_a_front_come_first();
 }
 
 /// An input leaves a job one status where no call fails. A limit of the command's own comes first, and
@@ -143,8 +168,8 @@ pub fn what_is_jammed_is_read()
     what_is_read_has_labels_of_its_system();
 }
 
-/// What `ltc-chase` writes of a whole input is the trace of a chase over all of its frames, in which each loss
-/// has its cause: its frame is gone, or has another count, or was heard and does not join, or the transport
+/// What `ltc-chase` writes of a whole input is the trace of a chase over its frames, or over the first of them,
+/// where there are more than its limit; and each loss in it has its cause: its frame is gone, or has another count, or was heard and does not join, or the transport
 /// slipped too far in the step before.
 pub fn what_is_chased_follows_the_code()
     ensures { (c : Chasing) → IsChasing c → ChasesTheInput c }

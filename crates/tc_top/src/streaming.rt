@@ -1,6 +1,7 @@
 //! A job along its input. Next: `intake`.
 ghost use Rattle.std.specs.Prelude.{◌≡◌, ◌⊎◌, ℕ, List, Some, false, OnOk, IfErr};
 ghost use Rattle.std.specs.Io.KnownBytes.{Appends, Consumes};
+ghost use Rattle.tc_io.specs.Sink.{IsFront};
 ghost use Rattle.tc_io.specs.Source.{Rose};
 ghost use Rattle.tc_top.specs.Answer.{Exchange, IsAnswer, IsPulled, IsWritten, IsNoted, HasStatus};
 ghost use Rattle.tc_top.specs.Causes.{SourceCause, OutCause, HasSourceCause, HasOutCause};
@@ -12,7 +13,7 @@ ghost use Rattle.tc_top.specs.LtcChase.{ChasesIfItFollows, FollowsTheCode};
 ghost use Rattle.tc_top.specs.LtcFly.{IsMarked};
 ghost use Rattle.tc_top.specs.LtcJam.{CleansIfItJams, IsClean};
 ghost use Rattle.tc_top.specs.ReadBack.{MakesWhatIsRead};
-ghost use Rattle.tc_top.specs.Meaning.{Meaning, IsInput, IsEnd};
+ghost use Rattle.tc_top.specs.Meaning.{Meaning, IsInput, IsEnd, IsOutput};
 ghost use Rattle.tc_top.specs.SentAgain.{SendsTheFrames};
 ghost use Rattle.tc_top.specs.SoundAgain.{SoundsTheIntervals};
 ghost use Rattle.tc_top.specs.Stops.{StopsAlong};
@@ -35,6 +36,7 @@ use crate::engines::vitc_make::LineTape;
 use crate::engines::vitc_read::FieldReport;
 use crate::flight::FlightTo;
 use crate::intake::work;
+use crate::laws::{an_input_has_one_output, what_is_written_comes_first};
 use crate::making::make;
 use crate::notes::{push_note, stop_note};
 use crate::status::Status;
@@ -81,6 +83,10 @@ pub fn stream<S: Source, K: Sink, N: Sink>(
         → ¬ Rose (S.faults source.old) (S.faults source.new) → ¬ Rose (K.faults out.old) (K.faults out.new)
         → HasStatus (meaning_of job.now) input result }
 
+    // Whatever the status, what was written is a front of the output of the whole input.
+    ensures first { (input whole : List ℕ) → S.left source.old ≡ Some input → IsOutput (meaning_of job.now) input whole
+        → (written : List ℕ) × Appends (K.written out.old) (K.written out.new) written × IsFront written whole }
+
     // The lines of `ltc-fly` mark each frame that is invented, and these are within the limit.
     ensures marked { (limit : ℕ) → job.now ≡ Job.LtcFly limit
         → (written : List ℕ) × Appends (K.written out.old) (K.written out.new) written × IsMarked limit written }
@@ -98,7 +104,7 @@ pub fn stream<S: Source, K: Sink, N: Sink>(
     // so whole code keeps the lock.
     ensures chased { (chosen : Chasing) → job.now ≡ Job.LtcChase chosen → result ≡ Status.Done → (e : Exchange)
         × IsPulled (S.left source.old) (S.left source.new) e × IsEnd (meaning_of (Job.LtcChase chosen)) e.left
-        × IsWritten (K.written out.old) (K.written out.new) e × FollowsTheCode chosen (recording_of e.pulled) e.written }
+        × IsInput (meaning_of (Job.LtcChase chosen)) e.pulled × IsWritten (K.written out.old) (K.written out.new) e × FollowsTheCode chosen (recording_of e.pulled) e.written }
 
     // Sound that the job makes is sliced into the same intervals.
     ensures sound { SoundsTheIntervals job.now }
@@ -114,6 +120,8 @@ pub fn stream<S: Source, K: Sink, N: Sink>(
     events_mirror_the_tape();
     what_bytes_show_stays();
     what_is_sent_is_read_back();
+    an_input_has_one_output();
+    what_is_written_comes_first();
     match work_on(job, source, out) {
         Ok(()) => Status::Done,
         Err(stop) => {

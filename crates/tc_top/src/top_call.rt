@@ -2,6 +2,7 @@
 ghost use Rattle.std.specs.Prelude.{◌≡◌, ◌⊎◌, ℕ, List, map, string_bytes, Some, false, Ok, Err};
 ghost use Rattle.biphase.specs.declared.profile.Profile.{Profile};
 ghost use Rattle.std.specs.Io.KnownBytes.{Appends, Consumes};
+ghost use Rattle.tc_io.specs.Sink.{IsFront};
 ghost use Rattle.tc_io.specs.Source.{Rose};
 ghost use Rattle.tc_words.specs.declared.fault.WordsFault.{WordsFault};
 ghost use Rattle.chase_script.specs.declared.row.ScriptRow.{ScriptRow};
@@ -20,7 +21,7 @@ ghost use Rattle.tc_words.specs.Jam.{Jamming};
 ghost use Rattle.tc_top.specs.LtcChase.{FollowsTheCode};
 ghost use Rattle.tc_top.specs.LtcFly.{IsMarked};
 ghost use Rattle.tc_top.specs.LtcJam.{IsClean};
-ghost use Rattle.tc_top.specs.Meaning.{Meaning, IsEnd};
+ghost use Rattle.tc_top.specs.Meaning.{Meaning, IsEnd, IsInput, IsOutput};
 ghost use Rattle.tc_top.specs.SentAgain.{SendsTheFrames};
 ghost use Rattle.tc_top.specs.SoundAgain.{SoundsTheIntervals};
 ghost use Rattle.tc_top.specs.Tape.{IsReport, ReportsTheTape};
@@ -84,6 +85,11 @@ pub fn run<S: Source, K: Sink, N: Sink>(
         → ¬ Rose (S.faults source.old) (S.faults source.new) → ¬ Rose (K.faults out.old) (K.faults out.new)
         → (result ≡ chase_status_on label input) ⊎ (result ≡ Status.Memory) }
 
+    // Whatever the status, what was written is a front of the output of the whole input.
+    ensures first { (job : Job) (input whole : List ℕ) → answer_to (map string_bytes words.now) ≡ Ok (Task.Stream job)
+        → S.left source.old ≡ Some input → IsOutput (meaning_of job) input whole
+        → (written : List ℕ) × Appends (K.written out.old) (K.written out.new) written × IsFront written whole }
+
     // A chase keeps its lock in the trace whose lines were written.
     ensures lock { (label : Address) → answer_to (map string_bytes words.now) ≡ Ok (Task.Chase label) → result ≡ Status.Done
         → (pulled written : List ℕ) × (rows : List ScriptRow) × Consumes (S.left source.old) (S.left source.new) pulled
@@ -104,7 +110,7 @@ pub fn run<S: Source, K: Sink, N: Sink>(
     // so whole code keeps the lock.
     ensures chased { (chosen : Chasing) → answer_to (map string_bytes words.now) ≡ Ok (Task.Stream (Job.LtcChase chosen)) → result ≡ Status.Done
         → (e : Exchange) × IsPulled (S.left source.old) (S.left source.new) e × IsEnd (meaning_of (Job.LtcChase chosen)) e.left
-        × IsWritten (K.written out.old) (K.written out.new) e × FollowsTheCode chosen (recording_of e.pulled) e.written }
+        × IsInput (meaning_of (Job.LtcChase chosen)) e.pulled × IsWritten (K.written out.old) (K.written out.new) e × FollowsTheCode chosen (recording_of e.pulled) e.written }
 
     // Sound that was made is sliced into the same intervals.
     ensures sound { (job : Job) → answer_to (map string_bytes words.now) ≡ Ok (Task.Stream job) → result ≡ Status.Done → SoundsTheIntervals job }

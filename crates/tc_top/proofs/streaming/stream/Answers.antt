@@ -1,12 +1,14 @@
 use Rattle.std.proofs.Common.{[], refl, subst}
 use Rattle.std.proofs.KnownBytes.{Appends-nil}
 use Rattle.tc_top.specs.Answer.{Exchange}
+use Rattle.tc_top.specs.ComesFirst.{ComesFirst}
 use Rattle.tc_top.specs.Commands.{meaning_of}
 use Rattle.tc_top.specs.declared.status.Status.TheVariants as status
 use Rattle.tc_words.specs.declared.job.Job.{Job}
-use Rattle.tc_top.specs.Meaning.{IsEnd}
+use Rattle.tc_top.specs.Meaning.{IsEnd, IsInput}
 use Rattle.tc_top.proofs.CleanCopy.{job_cleans}
 use Rattle.tc_top.proofs.FollowsTheFrames.{job_follows}
+use Rattle.tc_top.proofs.FrontOfOutput.{OutputLaws, first_at_end, first_at_stop}
 use Rattle.tc_top.proofs.MarkedLines.{job_marked}
 use Rattle.tc_top.proofs.OneStatus.{answer_of, done_is_final, settles, stop_is_final}
 use Rattle.tc_top.proofs.ReportsTheTape.{reports_the_tape}
@@ -44,14 +46,14 @@ returns-in-Ok-clause-status g c = λ input told no_read no_write.
     done_is_final (meaning_of c.args.job.now) (settles (record {
       fault = c.what_bytes_show_stays.ensures.fault;
       limit = c.what_bytes_show_stays.ensures.limit;
-    }) c.args.job.now) _ input e.0 (rw told at e.2) e.4 e.5
+    }) (λ job. ComesFirst.stays (c.what_is_written_comes_first.ensures job)) c.args.job.now) _ input e.0 (rw told at e.2) e.4 e.5
 
 -- a stop among some bytes is that of the whole input
 pub returns-in-Err-clause-status : goal.returns-in-Err-clause-status
 returns-in-Err-clause-status g c = λ input told no_read no_write.
     let e = c.in-Err.ensures.stops in
     rw c.of_stop.ensures (stop_is_final (meaning_of c.args.job.now) (settles (record
-    { fault = c.what_bytes_show_stays.ensures.fault; limit = c.what_bytes_show_stays.ensures.limit }) c.args.job.now) c.in-Err.stop _ input e.0 e.1 _ _ _ _
+    { fault = c.what_bytes_show_stays.ensures.fault; limit = c.what_bytes_show_stays.ensures.limit }) (λ job. ComesFirst.stays (c.what_is_written_comes_first.ensures job)) c.args.job.now) c.in-Err.stop _ input e.0 e.1 _ _ _ _
     (rw told at e.2) e.4 c.in-Err.ensures.source c.in-Err.ensures.out no_read no_write)
 
 -- what was written tells the tape
@@ -91,8 +93,9 @@ returns-in-Ok-clause-chased g c = λ chosen is done.
       went,
       record { bytes = e.2; left = refl },
       subst (λ (j : Job). IsEnd (meaning_of j) went.left) is e.4,
+      subst (λ (j : Job). IsInput (meaning_of j) went.pulled) is e.5,
       e.3,
-      job_follows c.args.job.now chosen is c.in-Ok.ensures.chased e.0 e.1 e.5.unspent e.6,
+      job_follows c.args.job.now chosen is c.in-Ok.ensures.chased e.0 e.1 e.6,
     )
 
 -- the lines of frames are marked, at the end and at a stop
@@ -117,3 +120,20 @@ returns-in-Ok-clause-sent g c = λ _ limit is.
       e.3,
       sends_the_frames c.what_is_sent_is_read_back.ensures.events c.args.job.now limit e.0 e.1 is e.6,
     )
+
+-- what was written is the output of the whole input, and at a stop a front of it
+pub returns-in-Ok-clause-first : goal.returns-in-Ok-clause-first
+returns-in-Ok-clause-first g c = λ input whole told output.
+    let e = c.in-Ok.ensures.ends in
+    let job = c.args.job.now in
+    let laws : OutputLaws (meaning_of job) =
+    record { first = c.what_is_written_comes_first.ensures job; one = c.an_input_has_one_output.ensures.output job } in
+    (e.1, e.3, first_at_end job laws input e.0 _ e.1 whole (rw told at e.2) e.4 e.6 output)
+
+pub returns-in-Err-clause-first : goal.returns-in-Err-clause-first
+returns-in-Err-clause-first g c = λ input whole told output.
+    let e = c.in-Err.ensures.stops in
+    let job = c.args.job.now in
+    let laws : OutputLaws (meaning_of job) =
+    record { first = c.what_is_written_comes_first.ensures job; one = c.an_input_has_one_output.ensures.output job } in
+    (e.1, e.3, first_at_stop job laws c.in-Err.stop _ input e.0 e.1 whole (rw told at e.2) e.4 output)

@@ -8,7 +8,7 @@ use Rattle.tc_words.specs.declared.job.Task.TheVariants.{Stream, Chase}
 use Rattle.tc_top.specs.Answer.{Exchange, HasStatus, IsPulled, IsWritten}
 use Rattle.tc_top.specs.Chase.{IsTraced}
 use Rattle.tc_top.specs.Commands.{meaning_of}
-use Rattle.tc_top.specs.Meaning.{IsEnd}
+use Rattle.tc_top.specs.Meaning.{IsEnd, IsOutput}
 use Rattle.tc_top.specs.SentAgain.{SendsTheFrames}
 use Rattle.tc_top.specs.Tape.{IsReport, ReportsTheTape}
 use Rattle.tc_top.proofs.MarkedLines.{nothing_marked}
@@ -85,3 +85,14 @@ returns-in-Chase-clause-lock g c = λ label says done.
     × Consumes (g.S.Source.left c.args.source.now) (g.S.Source.left c.chase.new.source) pulled
     × Appends (g.K.Sink.written c.args.out.now) (g.K.Sink.written c.chase.new.out) written
     × IsTraced l (g.S.Source.left c.chase.new.source) pulled written rows × KeepsItsLock l rows) (sym same) (c.chase.ensures.lock done)
+
+-- a front of the output was written: the job is the one that the words name
+pub returns-in-Err-clause-first : goal.returns-in-Err-clause-first
+returns-in-Err-clause-first g c = λ job input whole says told output. ([], Appends-nil _, (whole, refl))
+
+pub returns-in-Stream-clause-first : goal.returns-in-Stream-clause-first
+returns-in-Stream-clause-first g c = λ job input whole says told output.
+    let words = map string_bytes c.args.words.now in
+    let own = named words (Stream c.in-Stream.job) (rw (c.in-Ok.is, c.in-Stream.is) at c.read_words.ensures) in
+    c.stream.ensures.first input whole told
+    (subst (λ j. IsOutput (meaning_of j) input whole) (same_job words job c.in-Stream.job says own) output)

@@ -4,7 +4,6 @@ use Rattle.tc_address.specs.declared.system.System.{System}
 use Rattle.direction_reader.specs.ListEvents.{AreEvents}
 use Rattle.direction_reader.specs.Tracker.{profile_of}
 use Rattle.tc_top.proofs.AlongTheInput.{through}
-use Rattle.tc_top.proofs.FewerFrames.{no_fronts}
 use Rattle.tc_top.proofs.flight.FlightToBehind.begin.Goals as goal
 
 -- what stands first was written, and there is no frame yet
@@ -26,7 +25,6 @@ returns-clause-begins g c =
         reader = e.reader;
         are_events = are;
         given = [];
-        fronts = no_fronts c.a_list_has_one_list_of_events.ensures (g.T.FrameSink.limit c.args.choice) c.args.header are;
         wheel = e.wheel;
         sent = b.0;
         are = refl;

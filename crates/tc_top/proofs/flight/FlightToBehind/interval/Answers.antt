@@ -18,7 +18,7 @@ returns-in-Nothing-clause-works g c =
     no_events h.0 _ _ stands
     (subst (λ (r : Reading). Takes f.reader c.args.x r) (sym reader) c.step.ensures.next)
     (subst (λ (r : Reading). Reads f.reader r c.args.x no_events) (sym reader) (λ xs es st. c.in-Nothing.ensures.stands xs es no_events st refl))
-    c.a_reader_gives_the_events_of_its_list.ensures c.a_list_has_one_list_of_events.ensures c.give_due.ensures.limit
+    c.a_reader_gives_the_events_of_its_list.ensures c.give_due.ensures.limit
     (subst (λ (t : ℕ). GivesDueAll f.wheel next.wheel t [] h.0) (c.tick-tick.ensures.value ∙ ap (λ (r : Reading). r.tick) (sym reader))
     (due_alone f.wheel next.wheel c.tick-tick.result h.0 h.3))
     (record { heard = h.1.heard; invented = h.1.invented; gone = h.1.gone }) h.2)
@@ -62,7 +62,7 @@ returns-in_default-clause-works g c =
     h.0 h.1 _ _ stands
     (subst (λ (r : Reading). Takes f.reader c.args.x r) (sym reader) c.step.ensures.next)
     (subst (λ (r : Reading). Reads f.reader r c.args.x h.0) (sym reader) (λ xs es st. c.step.ensures.stands xs es h.0 st h.2))
-    c.a_reader_gives_the_events_of_its_list.ensures c.a_list_has_one_list_of_events.ensures c.hear_all.ensures.limit
+    c.a_reader_gives_the_events_of_its_list.ensures c.hear_all.ensures.limit
     (subst (λ (t : ℕ). GivesDueAll f.wheel next.wheel t (words_heard (event_list h.0)) h.1) (ap (λ (r : Reading). r.tick) (sym reader)) h.5)
     (record { heard = h.3.heard; invented = h.3.invented; gone = h.3.gone }) h.4)
 

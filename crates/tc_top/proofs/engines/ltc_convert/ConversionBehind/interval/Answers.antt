@@ -1,19 +1,30 @@
-use Rattle.std.proofs.Common.{◌++◌}
+use Rattle.std.proofs.Common.{◌++◌, refl}
+use Rattle.std.proofs.lemmas.List.{take_append_exact}
 use Rattle.tc_files.specs.Piece.{spelling}
-use Rattle.tc_top.proofs.AlongTheInput.{through}
-use Rattle.tc_top.proofs.Converted.{part_due}
+use Rattle.tc_top.proofs.AlongTheInput.{err_both, if_err, on_ok}
+use Rattle.tc_top.proofs.Converted.{part_due, put_behind}
 use Rattle.tc_top.proofs.PushedLines.{front_of_more}
 use Rattle.tc_top.proofs.engines.ltc_convert.ConversionBehind.interval.Goals as goal
 
--- a front of what was gathered was pushed
-pub returns-in_err-make_room-clause-front : goal.returns-in_err-make_room-clause-front
-returns-in_err-make_room-clause-front g c =
+-- the interval was put behind what is gathered
+pub returns-clause-works : goal.returns-clause-works
+returns-clause-works g c =
     let s = c.args.self.now in
-    through c.from_residual.result c.from_residual.ensures.1 (λ stop same. (
-      rw same c.in_err-make_room.ensures.why,
+    on_ok c.put.result c.put.ensures.all (λ h version header intervals written stands. (
+      h.0,
+      h.1,
+      put_behind s (record s { gathered = c.put.new.self }) version header intervals written _ h.0 c.args.x stands refl ? h.2,
+    ))
+
+-- a front of what was gathered was pushed
+pub returns-clause-front : goal.returns-clause-front
+returns-clause-front g c =
+    let s = c.args.self.now in
+    if_err c.put.result (err_both _ _ c.put.result c.put.ensures.why c.put.ensures.front) (λ stop h. (
+      h.0,
       (λ version header intervals written stands. (
-        s.room.items ++ spelling s.version c.args.x,
+        s.gathered.room.items ++ spelling s.version c.args.x,
         part_due s version header intervals written c.args.x stands,
-        front_of_more _ _ s.room.items (spelling s.version c.args.x) c.in_err-make_room.ensures.front,
+        front_of_more _ _ s.gathered.room.items (spelling s.version c.args.x) h.1,
       )),
     ))
