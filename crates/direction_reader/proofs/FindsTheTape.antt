@@ -207,7 +207,7 @@ sum_at l xs rest lock same =
     )
 
 -- and up to a later place it is no less
-sum_later : (l : List ℕ) (i j : ℕ) → i ≤ j → sum (take i l) ≤ sum (take j l)
+pub sum_later : (l : List ℕ) (i j : ℕ) → i ≤ j → sum (take i l) ≤ sum (take j l)
 sum_later l zero j less = omega arith
 sum_later l (suc i) zero less = absurd (omega arith)
 sum_later [] (suc i) (suc j) less = omega arith
@@ -220,7 +220,7 @@ sum_later (x ∷ l) (suc i) (suc j) less =
     )
 
 -- a break does not stand before the end of the cells
-break_behind : (profile : Profile) (c after : ℕ) (rest : List ℕ) (place : Option ℕ) (p : ℕ) → IsBreak profile c after rest place
+pub break_behind : (profile : Profile) (c after : ℕ) (rest : List ℕ) (place : Option ℕ) (p : ℕ) → IsBreak profile c after rest place
     → place ≡ Some p → after ≤ p
 break_behind profile c after [] place p is some = absurd cc
 break_behind profile c after (x ∷ []) place p is some = elim (half_or_not profile c x) [

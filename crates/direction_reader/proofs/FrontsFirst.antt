@@ -57,7 +57,7 @@ events_of_windows exact system (w ∷ ws) vs es fs (own, rest, is, others, join)
 not_empty : (x : ℕ) (more rest xs : List ℕ) → xs ≡ (x ∷ more) ++ rest → 0 < length xs
 not_empty x more rest xs is = rw is (omega arith)
 
-lock_inside : (profile : Profile) (l : List ℕ) (s : Stretch) → IsStretch profile l s → s.lock < length l
+pub lock_inside : (profile : Profile) (l : List ℕ) (s : Stretch) → IsStretch profile l s → s.lock < length l
 lock_inside profile l s is =
     let first = is.chain.first in
     let front = is.chain.front in
@@ -82,7 +82,7 @@ break_inside profile c after n (x ∷ y ∷ rest) place count is = elim (half_or
   | inr no_half ↦ is_place n after place (is.1 no_half) (omega arith)
 ]
 
-stretch_inside : (profile : Profile) (l : List ℕ) (s : Stretch) → IsStretch profile l s → IsInside (length l) s
+pub stretch_inside : (profile : Profile) (l : List ℕ) (s : Stretch) → IsStretch profile l s → IsInside (length l) s
 stretch_inside profile l s is =
     let lock = lock_inside profile l s is in
     record {
@@ -111,7 +111,7 @@ open_first exact system l more s t es fs within open_yet go (own, are, join) (ow
     subst (λ e. Begins e fs) (sym is) (mine.0 ++ last, join' ∙ ap (λ e. e ++ last) mine.1 ∙ append_assoc own mine.0 last)
 
 -- a broken stretch
-broken_same : IsExact → (system : System) (l more : List ℕ) (s t : Stretch) (es fs : List Event) → IsInside (length l) s → t ≡ s
+pub broken_same : IsExact → (system : System) (l more : List ℕ) (s t : Stretch) (es fs : List Event) → IsInside (length l) s → t ≡ s
     → AreEventsOfStretch system l s es → AreEventsOfStretch system (l ++ more) t fs → fs ≡ es
 broken_same exact system l more s t es fs inside same are too =
     let stays = stretch_stays system l more s es inside are in

@@ -7,6 +7,7 @@ pub mod EventsJoin
 pub mod Examples
 pub mod FindsTheTape
 pub mod FrontsFirst
+pub mod LaterEvents
 pub mod MirroredEvents
 pub mod MirroredWindows
 pub mod OneList

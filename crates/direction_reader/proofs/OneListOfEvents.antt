@@ -15,7 +15,7 @@ abbrev pub HasOneList : Type 0
 HasOneList = (profile : Profile) (intervals : List ℕ) (stretches others : List Stretch) → AreStretches profile intervals stretches
     → AreStretches profile intervals others → stretches ≡ others
 
-of_windows : IsExact → (system : System) (ws : List CellWindow) (es fs : List Event) → AreEventsOfWindows system ws es
+pub of_windows : IsExact → (system : System) (ws : List CellWindow) (es fs : List Event) → AreEventsOfWindows system ws es
     → AreEventsOfWindows system ws fs → es ≡ fs
 of_windows exact system [] es fs are too = are ∙ sym too
 of_windows exact system (w ∷ more) es fs (own, rest, is, others, join) (own', rest', is', others', join') =

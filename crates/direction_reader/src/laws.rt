@@ -1,5 +1,5 @@
 //! What follows from the definitions alone, and the numbers that code and definitions share.
-ghost use Rattle.std.specs.Prelude.{◌≡◌, ℕ, ◌*◌, ◌^◌, ◌<◌, List, [], ◌∷◌, ◌++◌, reverse, false, true, drop, take};
+ghost use Rattle.std.specs.Prelude.{◌≡◌, ℕ, ◌*◌, ◌^◌, ◌<◌, ◌≤◌, List, [], ◌∷◌, ◌++◌, reverse, false, true, drop, take, sum, All};
 ghost use Rattle.biphase.specs.declared.cell.Cell.{Cell};
 ghost use Rattle.biphase.specs.Chain.{bits, flat, IsChain};
 ghost use Rattle.biphase.specs.declared.profile.Profile.{Profile};
@@ -13,6 +13,7 @@ ghost use Rattle.direction_reader.specs.declared.reader.TheConstants.{MAX_INTERV
 ghost use Rattle.direction_reader.specs.declared.window.TheConstants.{WINDOW_BITS};
 ghost use Rattle.direction_reader.specs.Brings.{greatest_cell};
 ghost use Rattle.direction_reader.specs.Candidate.{AreEventsOf};
+ghost use Rattle.direction_reader.specs.Events.{tick_of};
 ghost use Rattle.direction_reader.specs.Mirror.{MirrorsTheTape};
 ghost use Rattle.direction_reader.specs.ListEvents.{duration, AreEvents};
 ghost use Rattle.direction_reader.specs.Played.{Played, AreSpelled, bits_of_words, events_of_words};
@@ -85,12 +86,17 @@ pub fn a_list_has_one_list_of_events()
     a_list_has_one_list_of_stretches();
 }
 
-/// Where more intervals follow, the events that were there come first, and others follow.
+/// Where more intervals follow, the events that were there come first, and those that follow have
+/// later ticks, or the tick at which the first intervals end.
 pub fn events_of_a_front_come_first()
-    ensures { (system : System) (profile : Profile) (front more : List ℕ)
+    ensures first { (system : System) (profile : Profile) (front more : List ℕ)
         (events all : List Event) → AreEvents system profile front events
         → AreEvents system profile (front ++ more) all
         → (rest : List Event) × (all ≡ events ++ rest) }
+    ensures later { (system : System) (profile : Profile) (front more : List ℕ)
+        (events rest : List Event) → AreEvents system profile front events
+        → AreEvents system profile (front ++ more) (events ++ rest)
+        → All (λ event. sum front ≤ tick_of event) rest }
 {
     spelling_is_exact();
     stretches_go_on();

@@ -26,7 +26,7 @@ filter-begins p a (suc n) (suc m) h held =
     (more.0, rw (held a (omega arith) (omega arith)) (ap (λ (rest : List ℕ). a ∷ rest) more.1))
 
 -- the invented frames that were given come first after their word
-after_word : (limit : ℕ) (word : HeardWord) (n tick : ℕ) → n ≤ limit → ((k : ℕ) → 1 ≤ k → k ≤ n → is_due word k tick ≡ true)
+pub after_word : (limit : ℕ) (word : HeardWord) (n tick : ℕ) → n ≤ limit → ((k : ℕ) → 1 ≤ k → k ≤ n → is_due word k tick ≡ true)
     → Begins (first_invented word n) (frames_between limit word tick)
 after_word limit word n tick within held =
     let steps = filter-begins (λ k. is_due word k tick) 1 n limit within (λ k l u. held k l (omega arith)) in

@@ -3,4 +3,5 @@ pub mod DueInOrder
 mod FrameAfterFrame
 pub mod GivenComeFirst
 pub mod GivenSoFar
+mod LaterTicks
 pub mod PairsOfWords

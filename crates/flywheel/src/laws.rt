@@ -1,5 +1,5 @@
 //! What follows from the definition of frames alone.
-ghost use Rattle.std.specs.Prelude.{◌≡◌, ℕ, ◌≤◌, ◌+◌, ◌↔◌, true, List, [], ◌∷◌, ◌++◌, map, length, None};
+ghost use Rattle.std.specs.Prelude.{◌≡◌, ℕ, ◌≤◌, ◌+◌, ◌↔◌, true, List, [], ◌∷◌, ◌++◌, map, length, None, All};
 ghost use Rattle.std.specs.List.{filter, range_with_len};
 ghost use Rattle.tc_address.specs.Label.{Address};
 ghost use Rattle.flywheel.specs.declared.heard.HeardWord.{HeardWord};
@@ -48,4 +48,11 @@ pub fn frames_come_in_order()
         → StandsFor wheel words tick given → (rest : List Frame) × (frames wheel.limit words tick ≡ given ++ rest) }
     ensures word { (limit : ℕ) (words : List HeardWord) (word : HeardWord)
         → (rest : List Frame) × (frames limit (words ++ word ∷ []) word.tick ≡ frames limit words word.tick ++ rest) }
+{}
+
+/// Where the words of some ticks are followed by words that are heard at the tick or later, the frames
+/// up to that tick come first.
+pub fn frames_of_a_front_come_first()
+    ensures { (limit tick last : ℕ) (words more : List HeardWord) → tick ≤ last → All (λ word. tick ≤ word.tick) more
+        → (rest : List Frame) × (frames limit (words ++ more) last ≡ frames limit words tick ++ rest) }
 {}

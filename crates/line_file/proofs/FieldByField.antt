@@ -28,7 +28,7 @@ unfolding fields_at
 fields_by left place [] v some is = absurd (omega (arith, some))
 fields_by left place (byte ∷ more) v some is = rw is refl
 
-some_bytes : (place : ℕ) (bytes : List ℕ) (lines : List (List ℕ)) → field_at place bytes ≡ whole lines → 1 ≤ length bytes
+pub some_bytes : (place : ℕ) (bytes : List ℕ) (lines : List (List ℕ)) → field_at place bytes ≡ whole lines → 1 ≤ length bytes
 some_bytes place [] lines e = absurd cc
 some_bytes place (byte ∷ more) lines e = omega arith
 

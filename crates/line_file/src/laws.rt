@@ -51,6 +51,14 @@ pub fn bytes_have_one_list_of_answers()
     lines_have_one_answer();
 }
 
+/// The answers of the fields of some bytes come first, whatever bytes follow.
+pub fn answers_of_a_front_come_first()
+    ensures { (bytes more : List ℕ) (answers all : List FieldAnswer) → AreAnswersOf (reading_of bytes) answers
+        → AreAnswersOf (reading_of (bytes ++ more)) all → (rest : List FieldAnswer) × (all ≡ answers ++ rest) }
+{
+    lines_have_one_answer();
+}
+
 /// The file of a header and fields is read as that header and these fields, and the input may end there.
 pub fn a_file_is_read_as_it_was_written()
     ensures { (header : LineHeader) (fields : List (List (List ℕ))) → IsHeader header → AreFields fields → length fields ≤ decoder.MAX_FIELDS

@@ -1,6 +1,7 @@
 pub mod Sides
 mod Examples
 pub mod OneMore
+pub mod DistancesStay
 pub mod Rounding
 pub mod StandsStill
 pub mod Rising

@@ -44,6 +44,12 @@ pub fn moments_rise()
         → All (λ distance. 1 ≤ distance) (distances fineness threshold samples) }
 {}
 
+/// The distances of some samples come first, whatever samples follow.
+pub fn distances_of_a_front_come_first()
+    ensures { (fineness : ℕ) (threshold : Threshold) (front more : List ℤ)
+        → (rest : List ℕ) × (distances fineness threshold (front ++ more) ≡ distances fineness threshold front ++ rest) }
+{}
+
 /// With one tick a sample, moments are the places of the crossings.
 pub fn whole_samples_are_places()
     ensures moments { (threshold : Threshold) (samples : List ℤ)

@@ -3,3 +3,4 @@ pub mod TwoParts
 pub mod GoesOn
 pub mod RunIsRead
 pub mod RunsAreRead
+mod FramesStandFirst

@@ -57,3 +57,8 @@ pub fn what_is_sent_is_read_back()
     steps_add_up();
     number_and_label_are_inverse();
 }
+
+/// What is sent of some frames comes first, whatever frames follow.
+pub fn messages_of_a_front_come_first()
+    ensures { (frames more : List Frame) → (rest : List ℕ) × (mtc_of (frames ++ more) ≡ mtc_of frames ++ rest) }
+{}

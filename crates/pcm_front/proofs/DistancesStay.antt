@@ -1,0 +1,35 @@
+-- The moments of some samples stay where samples follow, and the later ones stand behind them; so do their distances.
+use Rattle.std.proofs.Common.{◌≡◌, ℕ, ◌-◌, cond, ℤ, List, [], ◌∷◌, ◌++◌, length, refl, ap, sym, ◌∙◌, append_assoc, append-nil}
+use Rattle.pcm_front.specs.declared.threshold.Threshold.{Threshold}
+use Rattle.pcm_front.specs.Crossing.{is_crossing, moment, moments}
+use Rattle.pcm_front.specs.Distance.{gaps, gaps_after, distances}
+use Rattle.pcm_front.proofs.OneMore.{moments-more}
+
+moments-stay : (f : ℕ) (threshold : Threshold) (xs more : List ℤ) →
+    (rest : List ℕ) × (moments f threshold (xs ++ more) ≡ moments f threshold xs ++ rest)
+moments-stay f threshold xs [] = ([], ap (moments f threshold) (append-nil xs) ∙ sym (append-nil (moments f threshold xs)))
+moments-stay f threshold xs (s ∷ more) =
+    let front : List ℤ = xs ++ s ∷ [] in
+    let new : List ℕ = cond (is_crossing threshold front (length xs)) (moment f threshold front (length xs) ∷ []) [] in
+    let later = moments-stay f threshold front more in (
+      new ++ later.0,
+      ap (moments f threshold) (sym (append_assoc xs (s ∷ []) more))
+          ∙ later.1
+          ∙ ap (λ ms. ms ++ later.0) (moments-more f threshold xs s)
+          ∙ append_assoc (moments f threshold xs) new later.0,
+    )
+
+gaps_after-stay : (x : ℕ) (ms more : List ℕ) → (rest : List ℕ) × (gaps_after x (ms ++ more) ≡ gaps_after x ms ++ rest)
+gaps_after-stay x [] more = (gaps_after x more, refl)
+gaps_after-stay x (y ∷ ms) more = let later = gaps_after-stay y ms more in (later.0, ap (λ ds. (y - x) ∷ ds) later.1)
+
+gaps-stay : (ms more : List ℕ) → (rest : List ℕ) × (gaps (ms ++ more) ≡ gaps ms ++ rest)
+gaps-stay [] more = (gaps more, refl)
+gaps-stay (x ∷ ms) more = gaps_after-stay x ms more
+
+pub distances-stay : (f : ℕ) (threshold : Threshold) (xs more : List ℤ) →
+    (rest : List ℕ) × (distances f threshold (xs ++ more) ≡ distances f threshold xs ++ rest)
+distances-stay f threshold xs more =
+    let later = moments-stay f threshold xs more in
+    let ds = gaps-stay (moments f threshold xs) later.0 in
+    (ds.0, ap gaps later.1 ∙ ds.1)
