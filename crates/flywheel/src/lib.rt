@@ -14,6 +14,7 @@
 //!   (`specs/StandsFor.antt`, clause `stands`).
 //! - Between two heard frames, and after the last, stand at most `limit` invented ones, with the steps
 //!   1, 2 and so on, and the heard frames are exactly the words (`laws`; `specs/Marked.antt`).
+//! - The frames up to a tick come first, whatever words are heard at it or later (`laws`).
 //!
 //! Read `heard`, `frame` and `wheel`, in this order, and `specs/Frames.antt` and `StandsFor.antt`
 //! beside them. `quarter_frame` makes MIDI bytes of the frames. Nothing here allocates or fails.

@@ -11,7 +11,8 @@
 //! - A `LineDecoder` that was given bytes in whatever pieces has answered the fields of these bytes
 //!   (`specs/StandsFor.antt`, `StandsFor`; `specs/Answers.antt`, `AreAnswersOf`), and tells a fault or the
 //!   limit exactly where they have it.
-//! - A fault and the limit stay, whatever bytes follow, and bytes have one list of answers (`laws`).
+//! - A fault and the limit stay, whatever bytes follow. Bytes have one list of answers, and those of some
+//!   bytes come first, whatever bytes follow (`laws`).
 //! - `line_header` writes the twelve bytes of a header, and they are read back.
 //! - `field_text` and `field_end_text` give the lines of a report byte for byte (`specs/Texts.antt`).
 //!

@@ -11,7 +11,7 @@
 //! What this crate promises:
 //! - `Slicer::sample` gives exactly the distances of the crossings of the samples so far
 //!   (`specs/Distance.antt`, `distances`), without keeping the samples (`specs/StandsFor.antt`, clause
-//!   `stands`).
+//!   `stands`). They come first, whatever samples follow (`laws`).
 //! - `Slicer::run` takes the whole samples of bytes (`specs/Samples.antt`, `samples_of`), up to one that
 //!   brings a distance.
 //! - `pieces` writes a distance as intervals of at most `MAX_INTERVAL` (`specs/Distance.antt`,

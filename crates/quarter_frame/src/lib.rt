@@ -12,7 +12,8 @@
 //! - `quarter` and `full` give exactly the messages of a label (`specs/Message.antt`, `quarter_of` and
 //!   `full_of`).
 //! - What `QuarterWriter::frame` writes of one frame after another is the MIDI Time Code of the frames
-//!   (`specs/Runs.antt`, `mtc_of`), without keeping them (`specs/StandsFor.antt`, clause `stands`).
+//!   (`specs/Runs.antt`, `mtc_of`), without keeping them (`specs/StandsFor.antt`, clause `stands`). It
+//!   comes first, whatever frames follow (`laws`).
 //! - Eight quarter frames of a pair carry its earlier label in either direction, and what is sent of the
 //!   frames of words is read by mtc_reader as these frames (`specs/ReadAgain.antt`, `read_of`; `laws`).
 //!
