@@ -10,6 +10,11 @@ use Rattle.tc_top.specs.declared.engines.ltc_convert.Conversion.{Conversion}
 use Rattle.tc_top.specs.KeptConversion.{Stands}
 use Rattle.tc_top.specs.LtcConvert.{in_version, IsConverted}
 
+-- before the first interval it is the header
+pub header_gathered : (version : FileVersion) (header : IntervalHeader) (items bytes : List ℕ) → items ≡ bytes
+    → bytes ≡ header_bytes (in_version version header) → items ≡ file_of (in_version version header) []
+header_gathered version header items bytes same is = same ∙ is ∙ sym (append-nil (header_bytes (in_version version header)))
+
 -- one interval more
 pub longer_file : (header : IntervalHeader) (intervals : List ℕ) (x : ℕ) → file_of header (intervals ++ x ∷ []) ≡ file_of header intervals
     ++ spelling header.version x

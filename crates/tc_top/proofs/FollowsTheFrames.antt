@@ -1,6 +1,6 @@
 -- What `ltc-chase` writes of an input is the trace over all of its frames: they go on from one another and have labels, so each loss has its cause.
-use Rattle.std.proofs.Common.{◌≡◌, ◌≢◌, inl, inr, ℕ, zero, suc, ◌≤◌, List, [], ◌∷◌, length, take, Option, Some, None, slice_get, refl, sym, ◌∙◌}
-use Rattle.std.proofs.Common.{ap, subst, append-nil}
+use Rattle.std.proofs.Common.{◌≡◌, ◌≢◌, inl, inr, ℕ, zero, suc, ◌≤◌, List, [], ◌∷◌, length, take, Option, Some, None, slice_get, refl, sym}
+use Rattle.std.proofs.Common.{subst}
 use Rattle.std.specs.Prelude.{sum, unsigned_abs}
 use Rattle.std.proofs.lemmas.Bool.{cases_lt}
 use Rattle.biphase.specs.declared.profile.Profile.{Profile}
@@ -98,7 +98,7 @@ behind laws c is input (Some header) written e whole =
       are_events = whole.are_events;
       all = λ unspent. elim (cases_lt MAX_FRAMES (length fs)) [
         | inl many ↦ absurd (unspent (subst (λ (h : Option IntervalHeader). IsSpentBehind (chased_recording c) h input.intervals) (sym e)
-        (record { events = whole.events; are_events = whole.are_events; too_many = many })))
+            (record { events = whole.events; are_events = whole.are_events; too_many = many })))
         | inr few ↦ few
       ];
       text = whole.are;

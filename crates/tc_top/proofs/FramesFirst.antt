@@ -1,18 +1,17 @@
 -- What is made of the frames of some intervals comes first, whatever intervals follow: later words are heard later, so the frames up to the end of
 -- those intervals come first, and each sink of frames only adds to what it wrote.
-use Rattle.std.proofs.Common.{◌≡◌, ℕ, ◌+◌, ◌-◌, ◌<◌, ◌≤◌, List, [], ◌∷◌, ◌++◌, length, take, drop, Option, Some, None, refl, sym, ◌∙◌, ap, subst, arith}
+use Rattle.std.proofs.Common.{◌≡◌, ℕ, zero, suc, ◌+◌, ◌<◌, ◌≤◌, List, [], ◌∷◌, ◌++◌, length, take, refl, sym, ◌∙◌, ap, subst, arith}
 use Rattle.std.proofs.Common.{append_assoc, append-nil}
 use Rattle.std.specs.Prelude.{sum, All}
 use Rattle.std.specs.List.{flat_map}
 use Rattle.std.proofs.lemmas.Grind.{flat_map-append}
-use Rattle.std.proofs.lemmas.List.{length-append, take-append-drop, take-append-le, take_all}
+use Rattle.std.proofs.lemmas.List.{take-append-le, take_all}
 use Rattle.std.proofs.lemmas.List.Elements.{All-append, All-cons, All-head, All-nil, All-tail}
 use Rattle.std.proofs.lemmas.List.Sums.{sum_by-append}
 use Rattle.biphase.specs.declared.profile.Profile.{Profile}
 use Rattle.biphase.specs.declared.profile.Profile.TheVariants.{Normal}
 use Rattle.chase_core.specs.Trace.{Traced}
 use Rattle.chase_script.specs.TraceText.{step_line, step_lines}
-use Rattle.code_chase.specs.CodeTrace.{code_trace}
 use Rattle.direction_reader.specs.declared.event.Event.{Event}
 use Rattle.direction_reader.specs.declared.event.Event.TheVariants.{Word, Refused, Lost}
 use Rattle.direction_reader.specs.Events.{tick_of}
@@ -108,12 +107,12 @@ steps_added laws c fs (frame ∷ more) =
     let joined : fs ++ frame ∷ more ≡ (fs ++ frame ∷ []) ++ more = sym (append_assoc fs (frame ∷ []) more) in
     (_, ap (steps_over c) joined ∙ rest.1 ∙ ap (λ l. l ++ rest.0) first ∙ append_assoc (steps_over c fs) _ rest.0)
 
-lines_added : (count : Count) (step : ℕ) (lines more : List Traced) → (rest : List ℕ) × (step_lines count step (lines ++ more) ≡ step_lines count step lines ++ rest)
+lines_added : (count : Count) (step : ℕ) (lines more : List Traced)
+    → (rest : List ℕ) × (step_lines count step (lines ++ more) ≡ step_lines count step lines ++ rest)
 unfolding step_lines
 lines_added count step [] more = (step_lines count step more, refl)
 lines_added count step (line ∷ lines) more =
-    let rest = lines_added count (step + 1) lines more in
-    (
+    let rest = lines_added count (step + 1) lines more in (
       rest.0,
       ap (λ l. step_line count step line ++ l) rest.1 ∙ sym (append_assoc (step_line count step line) (step_lines count (step + 1) lines) rest.0),
     )

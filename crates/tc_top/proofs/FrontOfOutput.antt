@@ -1,22 +1,18 @@
 -- Whatever stops a job, what was written is a front of the output of the whole input; and where a limit of the command's own is passed, nothing more
 -- is written.
-use Rattle.std.proofs.Common.{◌≡◌, ℕ, ◌<◌, Bool, true, false, List, [], ◌++◌, length, Option, Some, None, refl, sym, ◌∙◌, ap, subst, absurd, inl, inr, arith}
-use Rattle.std.proofs.Common.{append_assoc, append-nil, length-append}
+use Rattle.std.proofs.Common.{◌≡◌, ℕ, Bool, true, false, List, [], ◌++◌, Option, Some, None, refl, sym, ◌∙◌, ap, subst, inl, inr}
+use Rattle.std.proofs.Common.{append_assoc, append-nil}
 use Rattle.std.specs.Prelude.{if◌then◌else◌}
 use Rattle.std.proofs.lemmas.Bool.{false≢true}
 use Rattle.std.specs.Io.KnownBytes.{Consumes}
 use Rattle.biphase.specs.declared.profile.Profile.TheVariants.{Normal}
-use Rattle.direction_reader.specs.declared.event.Event.{Event}
-use Rattle.direction_reader.specs.ListEvents.{AreEvents}
-use Rattle.tc_address.specs.declared.system.System.{System}
 use Rattle.tc_files.specs.declared.interval_file.header.IntervalHeader.{IntervalHeader}
 use Rattle.tc_files.specs.Recording.{Recording, recording_of}
 use Rattle.tc_io.specs.Sink.{IsFront}
 use Rattle.tc_words.specs.ChaseRun.{Chasing}
 use Rattle.tc_words.specs.declared.job.Job.{Job}
-use Rattle.tc_words.specs.declared.job.Job.TheVariants.{LtcRead, LtcWorn, LtcFly, LtcMtc, LtcJam, LtcChase, MtcRead, Number, LabelOf, LtcMake}
-use Rattle.tc_words.specs.declared.job.Job.TheVariants.{LtcConvert, PcmLtc, LtcPcm, LtcLoad, VitcRead, VitcMake}
-use Rattle.tc_top.specs.declared.engines.ltc_chase.TheConstants.{MAX_FRAMES}
+use Rattle.tc_words.specs.declared.job.Job.TheVariants.{LtcChase, Number, LabelOf, LtcMake}
+use Rattle.tc_words.specs.declared.job.Job.TheVariants.{LtcLoad, VitcMake}
 use Rattle.tc_top.specs.declared.stop.Stop.{Stop}
 use Rattle.tc_top.specs.declared.stop.Stop.TheVariants as stops
 use Rattle.tc_top.specs.Along.{IsPartBehind, IsPartOf, IsSpentBehind, IsSpentOf, Printing}
@@ -78,8 +74,8 @@ part_first m laws own true e input bytes more a whole is part output = laws.firs
 part_first m laws own false e input bytes more a whole is part output = own.part e bytes a whole part output
 
 -- the output of an input that was read to its end
-output_is : (m : Meaning) → OutputLaws m → WritesAlone m → (reads : Bool) → m.reads ≡ reads → (input pulled : List ℕ) (left : Option (List ℕ)) (a whole : List ℕ)
-    → Consumes (Some input) left pulled → IsEnd m left → m.output pulled a → m.output (if reads then input else []) whole → a ≡ whole
+output_is : (m : Meaning) → OutputLaws m → WritesAlone m → (reads : Bool) → m.reads ≡ reads → (input pulled : List ℕ) (left : Option (List ℕ))
+    (a whole : List ℕ) → Consumes (Some input) left pulled → IsEnd m left → m.output pulled a → m.output (if reads then input else []) whole → a ≡ whole
 output_is m laws own true e input pulled left a whole consumed end here output =
     laws.one pulled a whole here (subst (λ l. m.output l whole) (all_at_end input pulled left consumed (end e)) output)
 output_is m laws own false e input pulled left a whole consumed end here output = own.output e pulled a whole here output
@@ -160,10 +156,12 @@ steps_behind laws one run before after grows (Some header) a b is spent part all
     part.are ∙ ap (λ es. text (own es)) same ∙ sym (no_step_more run header (own spent.events) more.0 spent.too_many)
     ∙ ap text (sym more.1) ∙ sym too.are
 
-nothing_behind : FrontLaws → OneListOfEvents → (job : Job) (front more a b : List ℕ) → Meaning.spent (meaning_of job) front → Meaning.part (meaning_of job) front a
+nothing_behind : FrontLaws → OneListOfEvents → (job : Job) (front more a b : List ℕ) → Meaning.spent (meaning_of job) front
+    → Meaning.part (meaning_of job) front a
     → Meaning.part (meaning_of job) (front ++ more) b → a ≡ b
 nothing_behind laws one (LtcChase run) front more a b spent part all =
-    steps_behind laws one run (recording_of front) (recording_of (front ++ more)) (recording_grows front more) (recording_of front).header a b refl spent part all
+    steps_behind laws one run (recording_of front) (recording_of (front ++ more)) (recording_grows front more) (recording_of front).header a b refl
+    spent part all
 nothing_behind laws one job front more a b spent part all = absurd (unlimited job (λ none. none) front spent)
 
 pub comes_first : FrontLaws → EachListHasEvents → OneListOfEvents → (job : Job) → ComesFirst (meaning_of job)

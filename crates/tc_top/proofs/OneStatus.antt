@@ -21,11 +21,10 @@ use Rattle.tc_top.specs.Along.{Printing, IsSpentBehind, IsSpentOf, along_interva
 use Rattle.tc_top.specs.Answer.{Exchange, HasStatus, IsAnswer, status_by, status_on, status_at_end}
 use Rattle.tc_top.specs.Causes.{SourceCause, OutCause}
 use Rattle.tc_top.specs.Commands.{HasOwnLimit, meaning_of}
-use Rattle.tc_top.specs.LtcChase.{lines_of_steps}
 use Rattle.tc_top.specs.LtcConvert.{conversion}
-use Rattle.tc_top.specs.LtcFly.{flight, lines_of_frames}
-use Rattle.tc_top.specs.LtcJam.{clean_recording, file_of_frames}
-use Rattle.tc_top.specs.LtcMtc.{messages_of_frames, time_code}
+use Rattle.tc_top.specs.LtcFly.{flight}
+use Rattle.tc_top.specs.LtcJam.{clean_recording}
+use Rattle.tc_top.specs.LtcMtc.{time_code}
 use Rattle.tc_top.specs.LtcPcm.{made_sound}
 use Rattle.tc_top.specs.LtcRead.{report}
 use Rattle.tc_top.specs.Meaning.{Meaning, Shows, IsEnd, IsInput, writes}
@@ -41,7 +40,7 @@ use Rattle.tc_top.specs.PcmLtc.{along_samples}
 use Rattle.tc_top.specs.declared.engines.pcm_ltc.TheConstants.{MAX_SAMPLES}
 use Rattle.tc_top.proofs.MidiLimit.{never_refused, past_within}
 use Rattle.tc_top.proofs.SlicedOn.{never_refused as no_fault_yet, past_within as past_samples}
-use Rattle.tc_top.proofs.VerdictStays.{Grows, past_is_all, recording_grows, refused_is_all}
+use Rattle.tc_top.proofs.VerdictStays.{past_is_all, refused_is_all}
 
 -- ---- a job that stopped answers so
 

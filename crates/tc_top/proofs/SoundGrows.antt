@@ -59,7 +59,7 @@ before_the_end size xs = ap but_the_last (sound_is size xs) ∙ but_the_last_is 
 pub bytes_of-append : (a b : List ℤ) → bytes_of (a ++ b) ≡ bytes_of a ++ bytes_of b
 bytes_of-append a b = flat_map-append sample_bytes a b
 
-one_run : (size : ℕ) (xs : List ℕ) (x : ℕ) → bytes_of (but_the_last (sound size (xs ++ x ∷ [])))
+pub one_run : (size : ℕ) (xs : List ℕ) (x : ℕ) → bytes_of (but_the_last (sound size (xs ++ x ∷ [])))
     ≡ bytes_of (but_the_last (sound size xs)) ++ bytes_of (replicate x (last_sample size High xs))
 one_run size xs x =
     ap bytes_of (before_the_end size (xs ++ x ∷ []) ∙ ap (λ (l : List ℤ). upward Low (pos size) ∷ l) (longer_runs size High xs x))

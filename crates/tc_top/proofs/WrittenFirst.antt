@@ -1,16 +1,15 @@
 -- What a job has written of some bytes comes first in what it writes of more bytes, and of a whole input that begins with them.
-use Rattle.std.proofs.Common.{◌≡◌, ℕ, ◌+◌, ◌-◌, ◌<◌, ◌≤◌, Bool, true, false, ℤ, List, [], ◌∷◌, ◌++◌, length, take, drop, Option, Some, None, refl, sym, ◌∙◌}
-use Rattle.std.proofs.Common.{ap, subst, absurd, append_assoc, append-nil, arith}
+use Rattle.std.proofs.Common.{◌≡◌, ℕ, ◌+◌, ℤ, List, [], ◌∷◌, ◌++◌, take, drop, Option, Some, None, refl, sym, ◌∙◌}
+use Rattle.std.proofs.Common.{ap, subst, append_assoc, append-nil}
 use Rattle.std.specs.List.{flat_map}
-use Rattle.std.proofs.lemmas.Bool.{false≢true}
 use Rattle.std.proofs.lemmas.Grind.{flat_map-append}
 use Rattle.std.proofs.lemmas.List.{take-append-drop}
 use Rattle.biphase.specs.declared.profile.Profile.{Profile}
 use Rattle.biphase.specs.declared.profile.Profile.TheVariants.{Normal, Worn}
-use Rattle.direction_reader.specs.declared.event.Event.{Event}
 use Rattle.flywheel.specs.declared.frame.Frame.{Frame}
 use Rattle.line_file.specs.Answers.{AreAnswersOf}
 use Rattle.line_file.specs.LineFile.{reading_of}
+use Rattle.line_file.specs.Texts.{field_line}
 use Rattle.mtc_reader.specs.declared.event.MtcEvent.{MtcEvent}
 use Rattle.mtc_reader.specs.Events.{events_in}
 use Rattle.mtc_reader.specs.Texts.{event_line as mtc_line}
@@ -20,7 +19,6 @@ use Rattle.pcm_front.specs.Samples.{bytes_of, sample_in, samples_of}
 use Rattle.pcm_front.specs.Sound.{sound}
 use Rattle.quarter_frame.specs.Runs.{mtc_of}
 use Rattle.tc_files.specs.declared.interval_file.header.FileVersion.{FileVersion}
-use Rattle.tc_files.specs.declared.interval_file.header.FileVersion.TheVariants.{One}
 use Rattle.tc_files.specs.declared.interval_file.header.IntervalHeader.{IntervalHeader}
 use Rattle.tc_files.specs.Grammar.{file_of, intervals_bytes}
 use Rattle.tc_files.specs.IntervalHeader.{header_bytes}
@@ -28,7 +26,6 @@ use Rattle.tc_files.specs.Piece.{spelling}
 use Rattle.tc_files.specs.Recording.{Recording, recording_of}
 use Rattle.tc_files.specs.Texts.{event_line}
 use Rattle.tc_io.specs.Sink.{IsFront}
-use Rattle.tc_words.specs.ChaseRun.{Chasing}
 use Rattle.tc_words.specs.Slicing.{Slices}
 use Rattle.tc_words.specs.declared.job.Job.{Job}
 use Rattle.tc_words.specs.declared.job.Job.TheVariants.{LtcRead, LtcWorn, LtcFly, LtcMtc, LtcJam, LtcChase, MtcRead, Number, LabelOf, LtcMake}
@@ -166,8 +163,7 @@ runs_first size xs [] =
     ([], ap (λ l. bytes_of (but_the_last (sound size l))) (append-nil xs) ∙ sym (append-nil (bytes_of (but_the_last (sound size xs)))))
 runs_first size xs (x ∷ more) =
     let rest = runs_first size (xs ++ x ∷ []) more in
-    let joined : xs ++ x ∷ more ≡ (xs ++ x ∷ []) ++ more = sym (append_assoc xs (x ∷ []) more) in
-    (
+    let joined : xs ++ x ∷ more ≡ (xs ++ x ∷ []) ++ more = sym (append_assoc xs (x ∷ []) more) in (
       _,
       ap (λ l. bytes_of (but_the_last (sound size l))) joined ∙ rest.1 ∙ ap (λ l. l ++ rest.0) (one_run size xs x)
           ∙ append_assoc (bytes_of (but_the_last (sound size xs))) _ rest.0,
@@ -220,8 +216,7 @@ sliced_first : FrontLaws → (s : Slices) (front more : List ℤ) → IsFront (s
 sliced_first laws s front more =
     let gaps = laws.distances s.fineness s.threshold front more in
     let before = distances s.fineness s.threshold front in
-    let file = file_first (sliced_header s) (flat_map pieces_of before) (flat_map pieces_of gaps.0) in
-    (
+    let file = file_first (sliced_header s) (flat_map pieces_of before) (flat_map pieces_of gaps.0) in (
       file.0,
       ap (λ ds. file_of (sliced_header s) (flat_map pieces_of ds)) gaps.1
           ∙ ap (λ xs. file_of (sliced_header s) xs) (flat_map-append pieces_of before gaps.0) ∙ file.1,
@@ -252,7 +247,8 @@ field_lines_first : (field : ℕ) (answers more : List FieldAnswer) → (rest : 
 field_lines_first field [] more = (answer_lines field more, refl)
 field_lines_first field (answer ∷ answers) more =
     let rest = field_lines_first (field + 1) answers more in
-    (rest.0, ap (λ l. _ ++ l) rest.1 ∙ sym (append_assoc _ (answer_lines (field + 1) answers) rest.0))
+    let own = field_line field answer in
+    (rest.0, ap (λ l. own ++ l) rest.1 ∙ sym (append_assoc own (answer_lines (field + 1) answers) rest.0))
 
 fields_first : FrontLaws → WritesFirst along_fields
 fields_first laws = record {

@@ -18,7 +18,7 @@ use Rattle.tc_files.specs.declared.interval_file.header.IntervalHeader.{Interval
 use Rattle.tc_top.specs.declared.flight.Flight.{Flight}
 use Rattle.tc_io.specs.Sink.{AppendsFront}
 use Rattle.tc_top.specs.LtcFly.{is_end, is_heard, is_invented}
-use Rattle.tc_top.specs.OfFrames.{FrameText, IsFlightPart, frames_of, words_heard}
+use Rattle.tc_top.specs.OfFrames.{FrameText, IsFlightPart, words_heard}
 
 -- one frame more of its kind
 abbrev pub counted : Frame → Flight → Flight

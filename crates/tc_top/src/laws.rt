@@ -46,8 +46,9 @@ use line_file::laws::{
     answers_of_a_front_come_first, bytes_have_one_list_of_answers, runs_of_a_line_fit_the_file,
 };
 use ltc_jam::laws::{
-    a_clean_recording_is_written_frame_by_frame, cells_of_one_length_are_shaped, clean_recordings_are_read, steps_lead_to_labels,
-    what_is_read_has_labels_of_its_system, words_of_labels_are_spelled,
+    a_clean_recording_is_written_frame_by_frame, cells_of_one_length_are_shaped,
+    clean_recordings_are_read, steps_lead_to_labels, what_is_read_has_labels_of_its_system,
+    words_of_labels_are_spelled,
 };
 use mtc_reader::laws::earlier_events_stay;
 use pcm_front::laws::distances_of_a_front_come_first;
@@ -168,9 +169,9 @@ pub fn what_is_jammed_is_read()
     what_is_read_has_labels_of_its_system();
 }
 
-/// What `ltc-chase` writes of a whole input is the trace of a chase over its frames, or over the first of them,
-/// where there are more than its limit; and each loss in it has its cause: its frame is gone, or has another count, or was heard and does not join, or the transport
-/// slipped too far in the step before.
+/// What `ltc-chase` writes of a whole input is the trace of a chase over its frames, or over the first of
+/// them, where there are more than its limit; and each loss in it has its cause: its frame is gone, or has
+/// another count, or was heard and does not join, or the transport slipped too far in the step before.
 pub fn what_is_chased_follows_the_code()
     ensures { (c : Chasing) → IsChasing c → ChasesTheInput c }
 {

@@ -104,7 +104,8 @@ pub fn stream<S: Source, K: Sink, N: Sink>(
     // so whole code keeps the lock.
     ensures chased { (chosen : Chasing) → job.now ≡ Job.LtcChase chosen → result ≡ Status.Done → (e : Exchange)
         × IsPulled (S.left source.old) (S.left source.new) e × IsEnd (meaning_of (Job.LtcChase chosen)) e.left
-        × IsInput (meaning_of (Job.LtcChase chosen)) e.pulled × IsWritten (K.written out.old) (K.written out.new) e × FollowsTheCode chosen (recording_of e.pulled) e.written }
+        × IsInput (meaning_of (Job.LtcChase chosen)) e.pulled × IsWritten (K.written out.old) (K.written out.new) e
+        × FollowsTheCode chosen (recording_of e.pulled) e.written }
 
     // Sound that the job makes is sliced into the same intervals.
     ensures sound { SoundsTheIntervals job.now }

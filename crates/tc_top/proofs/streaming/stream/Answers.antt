@@ -43,17 +43,19 @@ returns-in-Err-clause-answer g c =
 pub returns-in-Ok-clause-status : goal.returns-in-Ok-clause-status
 returns-in-Ok-clause-status g c = λ input told no_read no_write.
     let e = c.in-Ok.ensures.ends in
-    done_is_final (meaning_of c.args.job.now) (settles (record {
-      fault = c.what_bytes_show_stays.ensures.fault;
-      limit = c.what_bytes_show_stays.ensures.limit;
-    }) (λ job. ComesFirst.stays (c.what_is_written_comes_first.ensures job)) c.args.job.now) _ input e.0 (rw told at e.2) e.4 e.5
+    let stay = c.what_bytes_show_stays.ensures in
+    let laws = settles (record { fault = stay.fault; limit = stay.limit }) (λ job. ComesFirst.stays (c.what_is_written_comes_first.ensures job))
+    c.args.job.now in
+    done_is_final (meaning_of c.args.job.now) laws _ input e.0 (rw told at e.2) e.4 e.5
 
 -- a stop among some bytes is that of the whole input
 pub returns-in-Err-clause-status : goal.returns-in-Err-clause-status
 returns-in-Err-clause-status g c = λ input told no_read no_write.
     let e = c.in-Err.ensures.stops in
-    rw c.of_stop.ensures (stop_is_final (meaning_of c.args.job.now) (settles (record
-    { fault = c.what_bytes_show_stays.ensures.fault; limit = c.what_bytes_show_stays.ensures.limit }) (λ job. ComesFirst.stays (c.what_is_written_comes_first.ensures job)) c.args.job.now) c.in-Err.stop _ input e.0 e.1 _ _ _ _
+    let stay = c.what_bytes_show_stays.ensures in
+    let laws = settles (record { fault = stay.fault; limit = stay.limit }) (λ job. ComesFirst.stays (c.what_is_written_comes_first.ensures job))
+    c.args.job.now in
+    rw c.of_stop.ensures (stop_is_final (meaning_of c.args.job.now) laws c.in-Err.stop _ input e.0 e.1 _ _ _ _
     (rw told at e.2) e.4 c.in-Err.ensures.source c.in-Err.ensures.out no_read no_write)
 
 -- what was written tells the tape

@@ -18,3 +18,11 @@ returns-in-LtcLoad-clause-stops g c = rw (c.in-LtcLoad.is, ← c.load.ensures.li
 -- a front of the line file was written
 pub returns-in-VitcMake-clause-stops : goal.returns-in-VitcMake-clause-stops
 returns-in-VitcMake-clause-stops g c = rw (c.in-VitcMake.is, ← c.new-in-VitcMake.ensures.rest) c.make-in-VitcMake.ensures.stops
+
+-- the clean recording was written
+pub returns-in-LtcJam-clause-ends : goal.returns-in-LtcJam-clause-ends
+returns-in-LtcJam-clause-ends g c = rw (c.in-LtcJam.is, ← c.new-in-LtcJam.ensures.choice) c.work-in-LtcJam.ensures.ends
+
+-- the lines of the chase were written
+pub returns-in-LtcChase-clause-ends : goal.returns-in-LtcChase-clause-ends
+returns-in-LtcChase-clause-ends g c = rw (c.in-LtcChase.is, ← c.new-in-LtcChase.ensures.choice) c.work-in-LtcChase.ensures.ends

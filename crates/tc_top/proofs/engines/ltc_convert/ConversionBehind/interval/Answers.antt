@@ -1,5 +1,5 @@
-use Rattle.std.proofs.Common.{◌++◌, refl}
-use Rattle.std.proofs.lemmas.List.{take_append_exact}
+use Rattle.std.proofs.Common.{◌≡◌, ℕ, List, [], ◌∷◌, ◌++◌, length, take, drop, ap, refl, ◌∙◌}
+use Rattle.std.proofs.Math.Seq.{take-append_seam}
 use Rattle.tc_files.specs.Piece.{spelling}
 use Rattle.tc_top.proofs.AlongTheInput.{err_both, if_err, on_ok}
 use Rattle.tc_top.proofs.Converted.{part_due, put_behind}
@@ -10,10 +10,16 @@ use Rattle.tc_top.proofs.engines.ltc_convert.ConversionBehind.interval.Goals as 
 pub returns-clause-works : goal.returns-clause-works
 returns-clause-works g c =
     let s = c.args.self.now in
+    let own = spelling s.version c.args.x in
+    let room = c.interval_bytes-count.new.room in
+    let is : take c.interval_bytes-count.result room ≡ own =
+    ap (λ n. take n room) c.interval_bytes-count.ensures.length ∙ ap (λ (l : List ℕ). take (length own) l) c.interval_bytes-count.ensures.bytes
+    ∙ take-append_seam own (drop (length own) (0 ∷ 0 ∷ 0 ∷ 0 ∷ 0 ∷ 0 ∷ [])) in
     on_ok c.put.result c.put.ensures.all (λ h version header intervals written stands. (
       h.0,
       h.1,
-      put_behind s (record s { gathered = c.put.new.self }) version header intervals written _ h.0 c.args.x stands refl ? h.2,
+      put_behind s (record s { gathered = c.put.new.self }) version header intervals written (take c.interval_bytes-count.result room) h.0 c.args.x
+          stands refl is h.2,
     ))
 
 -- a front of what was gathered was pushed
