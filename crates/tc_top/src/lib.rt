@@ -11,6 +11,8 @@
 //! - A read fault and a write fault come only where a count of faults rose (`specs/Causes.antt`), and
 //!   the words and the whole input leave one status where none rose, want of memory aside (clause
 //!   `status`).
+//! - Whatever the status, what was written is a front of the output of the whole input
+//!   (`specs/ComesFirst.antt`; clause `first`).
 //! - The note is the one line of the status (`specs/Notes.antt`). A failing sink of notes changes no
 //!   status.
 //! - What `ltc-read` and `ltc-worn` print are the lines of the events of the file's intervals, each
