@@ -1,17 +1,16 @@
 -- A word has one spelling: only the polarity correction is left to choose, and the balance chooses it.
-use Rattle.std.proofs.Common.{◌≡◌, ℕ, zero, suc, ◌+◌, ◌*◌, ◌/◌, ◌%◌, ◌^◌, ◌<◌, Bool, true, false, refl, sym, lit<, arith}
+use Rattle.std.proofs.Common.{◌≡◌, ℕ, zero, suc, ◌+◌, ◌*◌, ◌/◌, ◌%◌, ◌^◌, ◌<◌, Bool, true, false, refl, arith}
 use Rattle.std.specs.Prelude.{◌↔◌, IsTrue}
-use Rattle.std.proofs.lemmas.Nat.{mod_below}
 use Rattle.tc_address.specs.declared.system.System.{System}
-use Rattle.tc_address.specs.declared.system.System.TheVariants.{F24, F25, F30}
-use Rattle.tc_bits.specs.Register.{number_in}
+use Rattle.tc_bits.specs.Register.{field}
 use Rattle.tc_bits.specs.Row.{OnlySumHolds}
+use Rattle.tc_bits.specs.Spelling.{AreExact}
 use Rattle.ltc_word.specs.declared.word.LtcWord.{LtcWord}
 use Rattle.ltc_word.specs.Balance.{IsBalanced}
-use Rattle.ltc_word.specs.Places.{polarity_place}
+use Rattle.ltc_word.specs.Places.{polarity_bit}
 use Rattle.ltc_word.specs.Spelling.{Spells}
 use Rattle.ltc_word.proofs.OneBitMore.{balance_turns}
-use Rattle.ltc_word.proofs.RowOfAWord.{base_sum, whole_sum, SpellsRows, rows_sum}
+use Rattle.ltc_word.proofs.RowOfAWord.{is_sum}
 
 -- the balance can't be that of both
 opposed : (told : Bool) (P Q : Type 0) → (IsTrue told ↔ P) → (IsTrue told ↔ Q) → (P → Q → ⊥) → ((P → ⊥) → Q) → ⊥
@@ -36,43 +35,13 @@ by_balance told a b place (suc (suc da)) db wa wb ea eb e p q = absurd (omega ar
 by_balance told a b place zero (suc (suc db)) wa wb ea eb e p q = absurd (omega arith)
 by_balance told a b place (suc zero) (suc (suc db)) wa wb ea eb e p q = absurd (omega arith)
 
-one_wide : (system : System) → (polarity_place system).width ≡ 1
-one_wide F24 = refl
-one_wide F25 = refl
-one_wide F30 = refl
-
-rows_of : (system : System) (word : LtcWord) (bits : ℕ) → Spells system word bits
-    → SpellsRows system word.fields.label word.fields.flags word.fields.user (number_in (polarity_place system) bits) bits
-rows_of system word bits s = record {
-  width = s.width;
-  address = s.address;
-  flags = s.flags;
-  user_bits = s.user;
-  sync = s.sync;
-  correction = refl;
-}
-
--- what stands at the polarity correction, as a bit
-correction_is : (system : System) (bits : ℕ) → number_in (polarity_place system) bits ≡ bits / 2 ^ (polarity_place system).first % 2
-correction_is system bits = rw (one_wide system) refl
-
-sum_with : OnlySumHolds → (system : System) (word : LtcWord) (bits : ℕ) → Spells system word bits
-    → bits ≡ whole_sum system word.fields.label word.fields.flags word.fields.user (number_in (polarity_place system) bits)
-sum_with law system word bits s =
-    let bit = correction_is system bits in
-    let low = mod_below (bits / 2 ^ (polarity_place system).first) 2 (lit< tt) in
-    rows_sum law system word.fields.label word.fields.flags word.fields.user (number_in (polarity_place system) bits) bits
-    s.valid.label (rw bit low) (rows_of system word bits s)
-
-differ_there : (base weight a b da db : ℕ) → a ≡ base + da * weight → b ≡ base + db * weight → a + db * weight ≡ b + da * weight
-differ_there base weight a b da db x y = omega (arith, x, y)
+differ_there : (rest weight a b da db : ℕ) → a ≡ da * weight + rest → b ≡ db * weight + rest → a + db * weight ≡ b + da * weight
+differ_there rest weight a b da db x y = omega (arith, x, y)
 
 -- a word has one spelling
-pub one_spelling : OnlySumHolds → (system : System) (word : LtcWord) (a b : ℕ) → Spells system word a → Spells system word b → a ≡ b
-one_spelling law system word a b p q =
-    let first = (polarity_place system).first in
-    by_balance word.balanced a b first (number_in (polarity_place system) a) (number_in (polarity_place system) b) p.width q.width
-    (sym (correction_is system a)) (sym (correction_is system b))
-    (differ_there (base_sum system word.fields.label word.fields.flags word.fields.user) (2 ^ first) a b _ _
-    (sum_with law system word a p) (sum_with law system word b q))
+pub one_spelling : OnlySumHolds → AreExact → (system : System) (word : LtcWord) (a b : ℕ) → Spells system word a → Spells system word b → a ≡ b
+one_spelling law exact system word a b p q =
+    let first = polarity_bit system in
+    by_balance word.balanced a b first (field a first 1) (field b first 1) p.width q.width refl refl
+    (differ_there _ (2 ^ first) a b _ _ (is_sum law exact system word a p) (is_sum law exact system word b q))
     p.balance q.balance

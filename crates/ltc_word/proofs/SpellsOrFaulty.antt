@@ -11,12 +11,14 @@ use Rattle.tc_address.specs.Count.{rate_of, system_with}
 use Rattle.tc_bits.specs.declared.fault.FieldFault.{FieldFault}
 use Rattle.tc_bits.specs.declared.raw.RawFields.{RawFields}
 use Rattle.tc_bits.specs.Fault.{conditions, first_field_fault}
+use Rattle.tc_bits.specs.Reading.{raw_in}
+use Rattle.tc_bits.specs.Spelling.{AreExact}
 use Rattle.tc_bits.specs.Fields.{Contents, contents, agrees, count_in, address_of, Says}
 use Rattle.ltc_word.specs.declared.word.LtcWord.{LtcWord}
 use Rattle.ltc_word.specs.declared.word.WordFault.TheVariants.{Field}
 use Rattle.ltc_word.specs.Balance.{zeros}
 use Rattle.ltc_word.specs.Fault.{first_fault}
-use Rattle.ltc_word.specs.Reading.{raw_in}
+use Rattle.ltc_word.specs.Places.{table_of}
 use Rattle.ltc_word.specs.Reversal.{EndsInSync}
 use Rattle.ltc_word.specs.Spelling.{Spells}
 use Rattle.ltc_word.proofs.NoBitDiffers.{none_from_right}
@@ -113,7 +115,7 @@ faultless_says system raw none =
 
 -- the word that the bits say
 abbrev word_in : System → ℕ → LtcWord
-word_in system bits = word_with (said_by system (raw_in system bits)) (zeros bits % 2 == 0)
+word_in system bits = word_with (said_by system (raw_in (table_of system) bits)) (zeros bits % 2 == 0)
 
 told : (n : ℕ) → (IsTrue (n == 0) ↔ (n ≡ 0))
 told n = (eqb-true n 0, eq-eqb n 0)
@@ -123,11 +125,11 @@ abbrev pub SpellsOrIsFaulty : System → ℕ → Type 0
 SpellsOrIsFaulty system bits =
     ((word : LtcWord) × Spells system word bits) ⊎ ((fault : FieldFault) × (first_fault system bits ≡ Some (Field fault)))
 
-by_fault : (system : System) (bits : ℕ) → bits < 2 ^ 80 → EndsInSync bits → (fault : Option FieldFault)
-    → first_field_fault system (raw_in system bits) ≡ fault → SpellsOrIsFaulty system bits
-by_fault system bits width sync None is =
-    inl (word_in system bits, spelled system (word_in system bits) bits width sync (faultless_says system (raw_in system bits) is) (told (zeros bits % 2)))
-by_fault system bits width sync (Some fault) is = inr (fault, rw (none_from_right bits sync, is) refl)
+by_fault : AreExact → (system : System) (bits : ℕ) → bits < 2 ^ 80 → EndsInSync bits → (fault : Option FieldFault)
+    → first_field_fault system (raw_in (table_of system) bits) ≡ fault → SpellsOrIsFaulty system bits
+by_fault exact system bits width sync None is =
+    inl (word_in system bits, spelled exact system (word_in system bits) bits width sync (faultless_says system (raw_in (table_of system) bits) is) (told (zeros bits % 2)))
+by_fault exact system bits width sync (Some fault) is = inr (fault, rw (none_from_right bits sync, is) refl)
 
-pub word_or_fault : (system : System) (bits : ℕ) → bits < 2 ^ 80 → EndsInSync bits → SpellsOrIsFaulty system bits
-word_or_fault system bits width sync = by_fault system bits width sync (first_field_fault system (raw_in system bits)) refl
+pub word_or_fault : AreExact → (system : System) (bits : ℕ) → bits < 2 ^ 80 → EndsInSync bits → SpellsOrIsFaulty system bits
+word_or_fault exact system bits width sync = by_fault exact system bits width sync (first_field_fault system (raw_in (table_of system) bits)) refl

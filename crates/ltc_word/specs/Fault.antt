@@ -7,10 +7,11 @@ use Rattle.std.specs.Int.{bit_at}
 use Rattle.tc_address.specs.declared.system.System.{System}
 use Rattle.tc_bits.specs.declared.fault.FieldFault.{FieldFault}
 use Rattle.tc_bits.specs.Fault.{first_field_fault}
+use Rattle.tc_bits.specs.Reading.{raw_in}
 use Rattle.ltc_word.specs.declared.places.TheConstants as places
 use Rattle.ltc_word.specs.declared.word.WordFault.{WordFault}
 use Rattle.ltc_word.specs.declared.word.WordFault.TheVariants.{Sync, Field}
-use Rattle.ltc_word.specs.Reading.{raw_in}
+use Rattle.ltc_word.specs.Places.{table_of}
 
 -- a bit of the sync word is another than the pattern's
 abbrev pub differs : ℕ → ℕ → Bool
@@ -27,7 +28,7 @@ sync_first None fault = option_map (λ f. Field f) fault
 
 -- the first fault
 abbrev pub first_fault : System → ℕ → Option WordFault
-first_fault system bits = sync_first (wrong_sync_bit bits) (first_field_fault system (raw_in system bits))
+first_fault system bits = sync_first (wrong_sync_bit bits) (first_field_fault system (raw_in (table_of system) bits))
 
 -- the fault is not the sync word's
 abbrev pub IsOfFields : WordFault → Type 0

@@ -16,7 +16,7 @@ ghost use Rattle.ltc_word.specs.Spelling.{Spells, word_with, flags};
 ghost use Rattle.ltc_word.specs.Fault.{first_fault};
 ghost use Rattle.ltc_word.specs.Reversal.{EndsInSync, reversed_bits, HasTwelveOnes};
 
-use tc_bits::laws::a_row_is_its_sum;
+use tc_bits::laws::{a_row_is_its_sum, digits_are_exact, fields_are_exact};
 
 /// Each of the 80 bits belongs to exactly one place, in each system.
 pub fn each_bit_has_one_place()
@@ -33,6 +33,8 @@ pub fn spelling_is_exact()
     ensures no_fault { (system : System) (word : LtcWord) (bits : ℕ) → Spells system word bits → first_fault system bits ≡ None }
 {
     a_row_is_its_sum();
+    digits_are_exact();
+    fields_are_exact();
 }
 
 /// Each word has a spelling: its numbers by the weights of their places, with the polarity correction.
@@ -41,6 +43,7 @@ pub fn each_word_has_its_spelling()
         → Spells (system_with word.fields.label.count) word (spelling_of word) }
 {
     a_row_is_its_sum();
+    fields_are_exact();
 }
 
 /// Bits that end in the sync word spell a word, or their fields have a first fault.
@@ -48,7 +51,9 @@ pub fn bits_in_sync_spell_a_word_or_have_a_fault()
     ensures { (system : System) (bits : ℕ) → bits < 2 ^ 80 → EndsInSync bits
         → ((word : LtcWord) × Spells system word bits)
         ⊎ ((fault : FieldFault) × (first_fault system bits ≡ Some (Field fault))) }
-{}
+{
+    fields_are_exact();
+}
 
 /// Twelve ones in a row stand in a word only in its sync word, at the bits 66 to 77. In two words
 /// that follow each other they stand only in the two sync words.
@@ -71,7 +76,9 @@ pub fn words_of_round_labels()
     ensures zero_at_25 { Spells F25 (word_with C25 0 0 0 0 (flags false false false false false) 0 true) 0xbffc0800000000000000 }
     ensures unbalanced { Spells F30 (word_with C30 0 0 0 0 (flags false false false false false) 0 false) 0xbffc0000000000000000 }
     ensures one_hour { Spells F30 (word_with Drop30 1 0 0 0 (flags true false false false false) 0 true) 0xbffc0001000008000400 }
-{}
+{
+    fields_are_exact();
+}
 
 /// 19:47:58:23 with the user bits `fce0ba6d`: 16 different digits, one in each place of the table,
 /// worked out from it by hand. In the three words of a system no two flags are set alike, nor
@@ -84,4 +91,6 @@ pub fn words_worked_out_by_hand()
     ensures first_at_30 { Spells F30 (word_with Drop30 19 47 58 23 (flags true false true false false) 0xfce0ba6d true) 0xbffcf1c9ec07bda866d3 }
     ensures second_at_30 { Spells F30 (word_with C30 19 47 58 23 (flags false true false true false) 0xfce0ba6d false) 0xbffcf5c9e407b5a86ad3 }
     ensures third_at_30 { Spells F30 (word_with Drop30 19 47 58 23 (flags true true false false true) 0xfce0ba6d true) 0xbffcf9c9e407b5a86ed3 }
-{}
+{
+    fields_are_exact();
+}

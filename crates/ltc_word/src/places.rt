@@ -1,134 +1,45 @@
 //! Where each field stands in the 80 bits of a word (SMPTE 12M, the table of the linear time code
-//! word). Bit 0 is the first in time, and each field has its least significant bit first.
+//! word). Bit 0 is the first in time, and each field has its least significant bit first. Next: `word`.
 
-ghost use Rattle.std.specs.Prelude.{◌≡◌};
-ghost use Rattle.ltc_word.specs.Places.{polarity_place, group_flag_zero_place, group_flag_two_place};
+ghost use Rattle.std.specs.Prelude.{◌≡◌, ◌^◌, ◌<◌};
+ghost use Rattle.ltc_word.specs.Places.{group_flag_two_bit, group_flag_zero_bit, polarity_bit, table_of};
 
 use tc_address::System;
-use tc_bits::Place;
+use tc_bits::{Place, Table};
 
-/// The frame units, a decimal digit.
-pub const FRAME_UNITS: Place = Place { first: 0, width: 4 };
-
-/// User group 1.
-pub const USER_GROUP_ONE: Place = Place { first: 4, width: 4 };
-
-/// The frame tens, from 0 to 2.
-pub const FRAME_TENS: Place = Place { first: 8, width: 2 };
-
-/// The drop-frame flag.
-pub const DROP_FRAME: Place = Place {
-    first: 10,
-    width: 1,
-};
-
-/// The colour-frame flag.
-pub const COLOUR_FRAME: Place = Place {
-    first: 11,
-    width: 1,
-};
-
-/// User group 2.
-pub const USER_GROUP_TWO: Place = Place {
-    first: 12,
-    width: 4,
-};
-
-/// The units of the seconds, a decimal digit.
-pub const SECOND_UNITS: Place = Place {
-    first: 16,
-    width: 4,
-};
-
-/// User group 3.
-pub const USER_GROUP_THREE: Place = Place {
-    first: 20,
-    width: 4,
-};
-
-/// The tens of the seconds, from 0 to 5.
-pub const SECOND_TENS: Place = Place {
-    first: 24,
-    width: 3,
+/// The first bit of each field, at 24 and 30 frames.
+pub const TABLE: Table = Table {
+    frame_units: 0,
+    user_one: 4,
+    frame_tens: 8,
+    drop_frame: 10,
+    colour_frame: 11,
+    user_two: 12,
+    second_units: 16,
+    user_three: 20,
+    second_tens: 24,
+    user_four: 28,
+    minute_units: 32,
+    user_five: 36,
+    minute_tens: 40,
+    group_flag_zero: 43,
+    user_six: 44,
+    hour_units: 48,
+    user_seven: 52,
+    hour_tens: 56,
+    group_flag_one: 58,
+    group_flag_two: 59,
+    user_eight: 60,
 };
 
 /// The polarity correction at 24 and 30 frames, binary group flag 0 at 25.
-pub const BIT_27: Place = Place {
-    first: 27,
-    width: 1,
-};
-
-/// User group 4.
-pub const USER_GROUP_FOUR: Place = Place {
-    first: 28,
-    width: 4,
-};
-
-/// The units of the minutes, a decimal digit.
-pub const MINUTE_UNITS: Place = Place {
-    first: 32,
-    width: 4,
-};
-
-/// User group 5.
-pub const USER_GROUP_FIVE: Place = Place {
-    first: 36,
-    width: 4,
-};
-
-/// The tens of the minutes, from 0 to 5.
-pub const MINUTE_TENS: Place = Place {
-    first: 40,
-    width: 3,
-};
+pub const BIT_27: u32 = 27;
 
 /// Binary group flag 0 at 24 and 30 frames, binary group flag 2 at 25.
-pub const BIT_43: Place = Place {
-    first: 43,
-    width: 1,
-};
-
-/// User group 6.
-pub const USER_GROUP_SIX: Place = Place {
-    first: 44,
-    width: 4,
-};
-
-/// The units of the hours, a decimal digit.
-pub const HOUR_UNITS: Place = Place {
-    first: 48,
-    width: 4,
-};
-
-/// User group 7.
-pub const USER_GROUP_SEVEN: Place = Place {
-    first: 52,
-    width: 4,
-};
-
-/// The tens of the hours, from 0 to 2.
-pub const HOUR_TENS: Place = Place {
-    first: 56,
-    width: 2,
-};
-
-/// Binary group flag 1.
-pub const GROUP_FLAG_ONE: Place = Place {
-    first: 58,
-    width: 1,
-};
+pub const BIT_43: u32 = 43;
 
 /// Binary group flag 2 at 24 and 30 frames, the polarity correction at 25.
-pub const BIT_59: Place = Place {
-    first: 59,
-    width: 1,
-};
-
-/// User group 8.
-pub const USER_GROUP_EIGHT: Place = Place {
-    first: 60,
-    width: 4,
-};
+pub const BIT_59: u32 = 59;
 
 /// The sync word.
 pub const SYNC: Place = Place {
@@ -139,19 +50,20 @@ pub const SYNC: Place = Place {
 /// The sync word as a number, bit 64 the least significant: in time `0 0 1 1 1 1 1 1 1 1 1 1 1 1 0 1`.
 pub const SYNC_PATTERN: u32 = 0xbffc;
 
-/// Where the polarity correction stands.
-pub(crate) fn polarity(system: System) -> Place
-    ensures { result ≡ polarity_place system }
+/// The polarity correction, set in its place.
+pub(crate) fn correction(system: System) -> u128
+    ensures within { result < 2 ^ 80 }
+    ensures value { result ≡ 2 ^ polarity_bit system }
 {
     match system {
-        System::F24 | System::F30 => BIT_27,
-        System::F25 => BIT_59,
+        System::F24 | System::F30 => 1 << BIT_27,
+        System::F25 => 1 << BIT_59,
     }
 }
 
 /// Where binary group flag 0 stands.
-pub(crate) fn group_flag_zero(system: System) -> Place
-    ensures { result ≡ group_flag_zero_place system }
+fn group_flag_zero(system: System) -> u32
+    ensures { result ≡ group_flag_zero_bit system }
 {
     match system {
         System::F24 | System::F30 => BIT_43,
@@ -160,11 +72,18 @@ pub(crate) fn group_flag_zero(system: System) -> Place
 }
 
 /// Where binary group flag 2 stands.
-pub(crate) fn group_flag_two(system: System) -> Place
-    ensures { result ≡ group_flag_two_place system }
+fn group_flag_two(system: System) -> u32
+    ensures { result ≡ group_flag_two_bit system }
 {
     match system {
         System::F24 | System::F30 => BIT_59,
         System::F25 => BIT_43,
     }
+}
+
+/// The first bit of each field in the system.
+pub(crate) fn table(system: System) -> Table
+    ensures { result ≡ table_of system }
+{
+    TABLE.with_group_flags(group_flag_zero(system), group_flag_two(system))
 }

@@ -11,7 +11,7 @@ use Rattle.tc_bits.specs.Register.{field, Replaces}
 pub joined_below : (j k high low : ℕ) → high < 2 ^ j → low < 2 ^ k → high * 2 ^ k + low < 2 ^ (j + k)
 joined_below j k high low h l = omega (arith, mul-add-lt high (2 ^ k) low (2 ^ j) h l, pow-add 2 j k)
 
-pow_bound : (n j k : ℕ) → j ≤ k → n < 2 ^ j → n < 2 ^ k
+pub pow_bound : (n j k : ℕ) → j ≤ k → n < 2 ^ j → n < 2 ^ k
 pow_bound n j k le h = omega (arith, pow-le-pow_right {n = 2} (omega arith) le)
 
 -- what stands above the field has the bits that are left
@@ -61,7 +61,7 @@ stays_with bits first width value rest sum h some fits =
 pub stays : (bits first width value : ℕ) → bits < 2 ^ 128 → 1 ≤ width → first + width ≤ 128 → value < 2 ^ width → Stays bits first width value
 stays bits first width value h some within fits = stays_with bits first width value (128 - (first + width)) (omega arith) h some fits
 
-bit_of_low : (n k i : ℕ) → i < k → bit_at n i ≡ bit_at (n % 2 ^ k) i
+pub bit_of_low : (n k i : ℕ) → i < k → bit_at n i ≡ bit_at (n % 2 ^ k) i
 bit_of_low n k i lt = let h = bit_at_cat_low (n / 2 ^ k) k (n % 2 ^ k) i lt in rw (shr_split n k) at h
 
 bit_of_high : (n k i : ℕ) → k ≤ i → bit_at n i ≡ bit_at (n / 2 ^ k) (i - k)
@@ -77,7 +77,7 @@ other_bits old new first width value i r (inl lt) =
 other_bits old new first width value i r (inr le) =
     bit_of_high new (first + width) i le ∙ ap (λ (n : ℕ). bit_at n (i - (first + width))) r.above ∙ sym (bit_of_high old (first + width) i le)
 
-parts_of : (n first width : ℕ) → n ≡ (n / 2 ^ (first + width) * 2 ^ width + field n first width) * 2 ^ first + n % 2 ^ first
+pub parts_of : (n first width : ℕ) → n ≡ (n / 2 ^ (first + width) * 2 ^ width + field n first width) * 2 ^ first + n % 2 ^ first
 parts_of n first width =
     let outer = shr_split n first in
     let inner : n / 2 ^ (first + width) * 2 ^ width + field n first width ≡ n / 2 ^ first = rw (← shr-shr n first width) (shr_split (n / 2 ^ first) width) in

@@ -1,2 +1,3 @@
 pub mod AroundAField
+pub mod FieldsOfATable
 pub mod SideBySide

@@ -1,7 +1,10 @@
 pub mod Fault
 pub mod Fields
+pub mod Reading
 pub mod Register
 pub mod Row
+pub mod Spelling
+pub mod Table
 pub mod UserBits
 -- what the public clauses cite of the crate below
 pub use Rattle.tc_address.specs.Count

@@ -1,7 +1,21 @@
--- A register as a row: places side by side, each with the number that stands in it.
-use Rattle.std.specs.Prelude.{◌≡◌, ℕ, ◌+◌, ◌*◌, ◌^◌, ◌<◌, List, [], ◌∷◌}
+-- A register as a row: places that share out its bits, each with the number that stands in it.
+use Rattle.std.specs.Prelude.{◌≡◌, ℕ, ◌+◌, ◌*◌, ◌^◌, ◌<◌, Bool, true, ◌&&◌, ◌==◌, nat_le, nat_lt}
+use Rattle.std.specs.Prelude.{List, [], ◌∷◌, map, count_by}
+use Rattle.std.specs.List.{list_all, range_with_len}
 use Rattle.tc_bits.specs.declared.place.Place.{Place}
 use Rattle.tc_bits.specs.Register.{number_in}
+
+-- the bit belongs to the place
+abbrev pub is_in : ℕ → Place → Bool
+is_in bit place = nat_le place.first bit && nat_lt bit (place.first + place.width)
+
+-- each of the lowest bits, so many of them, belongs to exactly one of the places
+abbrev pub are_shared_out : ℕ → List Place → Bool
+are_shared_out count places = list_all (λ bit. count_by (is_in bit) places == 1) (range_with_len 0 count)
+
+-- each place has a bit, and no bit behind these
+abbrev pub are_within : ℕ → List Place → Bool
+are_within count places = list_all (λ place. nat_le 1 place.width && nat_le (place.first + place.width) count) places
 
 -- a place, and the number that belongs there
 pub record Entry : Type 0 where
@@ -11,12 +25,14 @@ pub record Entry : Type 0 where
 abbrev pub entry : Place → ℕ → Entry
 entry place number = record { place = place; number = number }
 
--- from bit `first` up to bit `end` each place begins where the one before it ends, and each number
--- fits its place
-abbrev pub FillsFrom : ℕ → List Entry → ℕ → Type 0
-FillsFrom first [] end = first ≡ end
-FillsFrom first (e ∷ row) end =
-    (e.place.first ≡ first) × (e.number < 2 ^ e.place.width) × FillsFrom (first + e.place.width) row end
+-- the places of a row, in its order
+abbrev pub places_of : List Entry → List Place
+places_of row = map (λ e. e.place) row
+
+-- each number fits its place
+abbrev pub Fit : List Entry → Type 0
+Fit [] = Unit {0}
+Fit (e ∷ row) = (e.number < 2 ^ e.place.width) × Fit row
 
 -- the register has each number in its place
 abbrev pub Holds : List Entry → ℕ → Type 0
@@ -28,10 +44,17 @@ abbrev pub sum_of : List Entry → ℕ
 sum_of [] = 0
 sum_of (e ∷ row) = e.number * 2 ^ e.place.first + sum_of row
 
--- the sum of a row that fills the bits up to `end` has each number in its place
+-- the places of the row share out so many bits, and its numbers fit them
+pub record IsRow (count : ℕ) (row : List Entry) : Type 0 where
+  pub shared : are_shared_out count (places_of row) ≡ true
+  pub within : are_within count (places_of row) ≡ true
+  pub fit : Fit row
+
+-- the sum of a row has each number in its place
 abbrev pub SumHolds : Type 0
-SumHolds = (row : List Entry) (end : ℕ) → FillsFrom 0 row end → Holds row (sum_of row) × (sum_of row < 2 ^ end)
+SumHolds = (count : ℕ) (row : List Entry) → IsRow count row → Holds row (sum_of row) × (sum_of row < 2 ^ count)
 
 -- and no other register of so many bits has
 abbrev pub OnlySumHolds : Type 0
-OnlySumHolds = (row : List Entry) (end bits : ℕ) → FillsFrom 0 row end → bits < 2 ^ end → Holds row bits → bits ≡ sum_of row
+OnlySumHolds = (count : ℕ) (row : List Entry) (bits : ℕ) → IsRow count row → bits < 2 ^ count → Holds row bits
+    → bits ≡ sum_of row

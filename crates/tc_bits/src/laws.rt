@@ -6,6 +6,7 @@ ghost use Rattle.tc_address.specs.declared.system.System.{System};
 ghost use Rattle.tc_bits.specs.declared.raw.RawFields.{RawFields};
 ghost use Rattle.tc_bits.specs.Register.{Replaces};
 ghost use Rattle.tc_bits.specs.Row.{SumHolds, OnlySumHolds};
+ghost use Rattle.tc_bits.specs.Spelling.{AreExact};
 ghost use Rattle.tc_bits.specs.UserBits.{group};
 ghost use Rattle.tc_bits.specs.Fields.{Contents, Says};
 ghost use Rattle.tc_bits.specs.Fault.{first_field_fault};
@@ -17,11 +18,16 @@ pub fn replacing_is_exact()
     ensures one { (old a b first width value : ℕ) → Replaces old a first width value → Replaces old b first width value → a ≡ b }
 {}
 
-/// Numbers that fit their places, side by side in a row, stand each in its place of their sum by
-/// weights, and of no other register of so many bits.
+/// Numbers that fit places which share out the bits of a register stand each in its place of their sum
+/// by weights, and of no other register of so many bits.
 pub fn a_row_is_its_sum()
     ensures holds { SumHolds }
     ensures only { OnlySumHolds }
+{}
+
+/// In a table's places fields are spelled exactly where the digits say them, and their numbers fit.
+pub fn fields_are_exact()
+    ensures { AreExact }
 {}
 
 /// The eight groups are the user bits.

@@ -5,19 +5,24 @@
 //! and frames. Beside it stand five flag bits and eight user groups of four bits each.
 //!
 //! What this crate promises:
+//! - A `Table` says where each field stands in a register. `fields_at` gives the fields that stand there
+//!   exactly where their digits say an address of the system (`specs/Reading.antt`, `raw_in`, and
+//!   `specs/Fields.antt`, `Says`), and else their first fault, in the order of `FieldFault`
+//!   (`specs/Fault.antt`, `first_field_fault`). `field_bits` writes them there (`specs/Table.antt`,
+//!   `row_of`).
+//! - Where places share out the bits of a register, numbers that fit them stand each in its place of
+//!   their sum by weights, and of no other register (`specs/Row.antt`; the law `a_row_is_its_sum`). So a
+//!   word of any table that shares its bits out has one spelling.
+//! - What stands in the places of a table and what its digits say is the same (`specs/Spelling.antt`,
+//!   `AreExact`; the law `fields_are_exact`).
 //! - `get_field` and `put_field` read and write some neighbouring bits of a register, and leave all
 //!   others (`specs/Register.antt`, `Replaces`).
-//! - Numbers that fit their places, side by side, stand each in its place of their sum, and of no other
-//!   register (`specs/Row.antt`; the law `a_row_is_its_sum`). So a word of a table has one spelling.
-//! - `check_fields` gives the fields exactly where the digits say an address of the system
-//!   (`specs/Fields.antt`, `Says`), and else their first fault, in the order of `FieldFault`
-//!   (`specs/Fault.antt`, `first_field_fault`). `raw_of` gives the digits back.
 //! - Fields of 30 frames have the drop-frame flag exactly where their count is drop-frame.
 //!
-//! Read `place` and `register`, then `user_bits`, `flags`, `fields`, `raw`, `fault` with its `names`,
-//! and `checking`, with the files of specs/ beside them. `ltc_word` and `vitc_line` read and write these
-//! fields in their places. `direction_reader`, `tc_files` and `tc_top` take them from there. Nothing here
-//! allocates or fails in any other way.
+//! Read `place` and `register`, then `user_bits`, `flags`, `fields`, `table`, `reading`, `raw`, `fault`
+//! with its `names`, `checking` and `writing`, with the files of specs/ beside them. `ltc_word` and
+//! `vitc_line` bring their tables. `direction_reader`, `tc_files` and `tc_top` take the fields from there.
+//! Nothing here allocates or fails in any other way.
 #![tactic(auto)]
 
 mod checking;
@@ -28,8 +33,11 @@ pub mod laws;
 pub mod names;
 mod place;
 mod raw;
+mod reading;
 mod register;
+mod table;
 mod user_bits;
+mod writing;
 
 pub use checking::check_fields;
 pub use fault::FieldFault;
@@ -37,8 +45,11 @@ pub use fields::{DropFlag, Fields};
 pub use flags::Flags;
 pub use place::Place;
 pub use raw::{RawFields, raw_of};
+pub use reading::{fields_at, is_set_at};
 pub use register::{get_field, put_field};
+pub use table::Table;
 pub use user_bits::UserBits;
+pub use writing::field_bits;
 
 #[cfg(test)]
 mod tests;

@@ -1,7 +1,7 @@
-//! Where a field stands in a register of bits.
+//! Where a field stands in a register of bits. Next: `register`.
 
 ghost use Rattle.std.specs.Prelude.{◌≡◌, ◌*◌, ◌^◌, ◌<◌};
-ghost use Rattle.tc_bits.specs.Register.{IsPlace, number_in, is_set};
+ghost use Rattle.tc_bits.specs.Register.{IsPlace, number_in};
 
 use crate::register::get_field;
 
@@ -21,14 +21,6 @@ impl Place {
         ensures { result ≡ number_in self bits }
     {
         get_field(bits, self.first, self.width)
-    }
-
-    /// Whether this place, of one bit, is set in the register.
-    pub fn is_set_in(self, bits: u128) -> bool
-        requires { IsPlace self }
-        ensures { result ≡ is_set self bits }
-    {
-        self.number_in(bits) == 1
     }
 
     /// The register that holds the number in this place, and zeros elsewhere.

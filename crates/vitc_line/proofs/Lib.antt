@@ -1,5 +1,4 @@
 pub mod CheckBehind
-pub mod FieldsSaid
 pub mod FoldedCheck
 pub mod LineOfAWord
 pub mod OneSpelling

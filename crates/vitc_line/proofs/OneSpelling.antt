@@ -3,7 +3,6 @@ use Rattle.std.proofs.Common.{◌≡◌, ℕ, ◌+◌, ◌*◌, ◌/◌, ◌%◌
 use Rattle.std.specs.Int.{bit_at}
 use Rattle.std.proofs.lemmas.Nat.{mod_below}
 use Rattle.std.proofs.lemmas.Bool.{eqb-true, eq-eqb}
-use Rattle.std.proofs.lemmas.Grind.{common_steps}
 use Rattle.tc_address.specs.declared.system.System.{System}
 use Rattle.tc_address.specs.declared.count.Count.{Count}
 use Rattle.tc_address.specs.Count.{system_with, rate_of}
@@ -11,21 +10,21 @@ use Rattle.tc_address.specs.Label.{address, is_dropped}
 use Rattle.tc_bits.specs.declared.raw.RawFields.{RawFields}
 use Rattle.tc_bits.specs.declared.flags.Flags.{Flags}
 use Rattle.tc_bits.specs.Register.{number_in, is_set}
-use Rattle.tc_bits.specs.Row.{SumHolds, OnlySumHolds}
+use Rattle.tc_bits.specs.Row.{OnlySumHolds}
+use Rattle.tc_bits.specs.Reading.{raw_in}
+use Rattle.tc_bits.specs.Spelling.{AreExact}
+use Rattle.tc_bits.specs.Table.{place}
 use Rattle.tc_bits.specs.Fault.{first_field_fault}
-use Rattle.tc_bits.specs.Fields.{Contents, contents, agrees, digits_of, Says, IsFields}
+use Rattle.tc_bits.specs.Fields.{Contents, contents, agrees, digits_of, Says}
 use Rattle.vitc_line.specs.declared.places.TheConstants as places
 use Rattle.vitc_line.specs.declared.word.VitcWord.{VitcWord}
 use Rattle.vitc_line.specs.CheckBits.{bits_of_residue, residue, is_wrong_residue, wrong_residue}
 use Rattle.vitc_line.specs.Fault.{is_wrong_pair, wrong_sync_pair, first_fault}
-use Rattle.vitc_line.specs.Places.{sync_pair_place, field_mark_place}
-use Rattle.vitc_line.specs.Reading.{raw_in, flags_in, user_in}
-use Rattle.vitc_line.specs.Spelled.{base_sum}
+use Rattle.vitc_line.specs.Places.{field_mark_bit, sync_pair_place, table_of}
 use Rattle.vitc_line.specs.Spelling.{Spells}
 use Rattle.vitc_line.proofs.CheckBehind.{one_check}
 use Rattle.vitc_line.proofs.FoldedCheck.{each_residue, sum_at, residue_is_parity}
-use Rattle.vitc_line.proofs.FieldsSaid.{user_spelled, user_read, address_spelled, flags_spelled, same_raw, flags_read}
-use Rattle.vitc_line.proofs.RowOfALine.{whole_sum, SpellsRows, spells_rows, rows_sum}
+use Rattle.vitc_line.proofs.RowOfALine.{is_sum}
 use Rattle.vitc_line.proofs.Searches.{find_none, none_found, not_false}
 
 -- no sync pair is wrong exactly where each is the bits 1 and 0
@@ -66,109 +65,70 @@ abbrev pub word_of : Contents → Bool → VitcWord
 word_of fields mark = record { fields = fields; field_mark = mark }
 
 -- the fields that the bits say are spelled by them
-pub spelled : (system : System) (word : VitcWord) (bits : ℕ) → bits < 2 ^ 90 → wrong_sync_pair bits ≡ None → wrong_residue bits ≡ None
-    → Says system (raw_in system bits) word.fields → is_set (field_mark_place system) bits ≡ word.field_mark → Spells system word bits
-spelled system word bits width pairs check says mark = record {
-  width = width;
-  valid = says.valid;
-  count = says.count;
-  address = address_spelled system bits word.fields says.digits;
-  flags = flags_spelled system bits word.fields.flags (ap (λ (raw : RawFields). raw.flags) says.digits);
-  user = user_spelled word.fields.user bits (ap (λ (raw : RawFields). raw.user) says.digits);
-  mark = mark;
-  sync_pairs = pairs_from_none bits pairs;
-  check = check_from_none bits check;
-}
+pub spelled : AreExact → (system : System) (word : VitcWord) (bits : ℕ) → bits < 2 ^ 90 → wrong_sync_pair bits ≡ None → wrong_residue bits ≡ None
+    → Says system (raw_in (table_of system) bits) word.fields → is_set (place (field_mark_bit system) 1) bits ≡ word.field_mark → Spells system word bits
+spelled exact system word bits width pairs check says mark =
+    let f = exact.said system (table_of system) word.fields bits says in
+    record {
+      width = width;
+      valid = says.valid;
+      count = says.count;
+      address = f.address;
+      flags = f.flags;
+      user = f.user;
+      mark = mark;
+      sync_pairs = pairs_from_none bits pairs;
+      check = check_from_none bits check;
+    }
 
 -- a word that the bits spell is what they say
-pub says : (system : System) (word : VitcWord) (bits : ℕ) → Spells system word bits → Says system (raw_in system bits) word.fields
-says system word bits s =
-    let a = s.address in
-    record {
-      valid = s.valid;
-      count = s.count;
-      digits = same_raw _ _ _ _ _ _ _ _ word.fields.flags word.fields.user _ _ _ _ _ _ _ _ (flags_in system bits) (user_in bits)
-          (sym a.frame_units) (sym a.frame_tens) (sym a.second_units) (sym a.second_tens)
-          (sym a.minute_units) (sym a.minute_tens) (sym a.hour_units) (sym a.hour_tens)
-          (flags_read system word.fields.flags bits s.flags) (user_read word.fields.user bits s.user);
-    }
+pub says : AreExact → (system : System) (word : VitcWord) (bits : ℕ) → Spells system word bits → Says system (raw_in (table_of system) bits) word.fields
+says exact system word bits s =
+    exact.says system (table_of system) word.fields bits s.valid s.count (record { address = s.address; flags = s.flags; user = s.user })
 
 -- one word has these fields and this mark
 pub same_word : (fields : Contents) (mark : Bool) (word : VitcWord) → fields ≡ word.fields → mark ≡ word.field_mark → word_of fields mark ≡ word
 same_word fields mark word e b = ap₂ word_of e b
 
-same_fields : (system : System) (raw : RawFields) (a b : Contents) → Says system raw a → Says system raw b → a ≡ b
-same_fields system raw a b p q = grind (arith, common_steps)
-
-faultless : (system : System) (raw : RawFields) (c : Contents) → Says system raw c → first_field_fault system raw ≡ None
-faultless system raw c p = grind (arith, common_steps)
-
 -- the bits spell one word
-pub one_word : (system : System) (a b : VitcWord) (bits : ℕ) → Spells system a bits → Spells system b bits → a ≡ b
-one_word system a b bits p q =
+pub one_word : AreExact → ((system : System) (raw : RawFields) (a b : Contents) → Says system raw a → Says system raw b → a ≡ b)
+    → (system : System) (a b : VitcWord) (bits : ℕ) → Spells system a bits → Spells system b bits → a ≡ b
+one_word exact one system a b bits p q =
     same_word a.fields a.field_mark b
-    (same_fields system (raw_in system bits) a.fields b.fields (says system a bits p) (says system b bits q))
+    (one system (raw_in (table_of system) bits) a.fields b.fields (says exact system a bits p) (says exact system b bits q))
     (sym p.mark ∙ q.mark)
 
 -- a word that is spelled has no fault
-pub no_fault : (system : System) (word : VitcWord) (bits : ℕ) → Spells system word bits → first_fault system bits ≡ None
-no_fault system word bits s =
-    rw (none_from_pairs bits s.sync_pairs, none_from_check bits s.check, faultless system (raw_in system bits) word.fields (says system word bits s)) refl
+pub no_fault : AreExact → ((system : System) (raw : RawFields) (c : Contents) → Says system raw c → first_field_fault system raw ≡ None)
+    → (system : System) (word : VitcWord) (bits : ℕ) → Spells system word bits → first_fault system bits ≡ None
+no_fault exact none system word bits s =
+    rw (
+      none_from_pairs bits s.sync_pairs,
+      none_from_check bits s.check,
+      none system (raw_in (table_of system) bits) word.fields (says exact system word bits s),
+    ) refl
 
-rows_of : (system : System) (word : VitcWord) (bits : ℕ) → Spells system word bits
-    → SpellsRows system word.fields.label word.fields.flags word.fields.user word.field_mark (number_in places.CHECK bits) bits
-rows_of system word bits s = record {
-  width = s.width;
-  address = s.address;
-  flags = s.flags;
-  user_bits = s.user;
-  mark = s.mark;
-  sync_pairs = s.sync_pairs;
-  check = refl;
-}
+no_check : (rest a : ℕ) → a < 2 ^ 90 → a ≡ a / 2 ^ 82 % 2 ^ 8 * 2 ^ 82 + rest → rest < 2 ^ 82
+no_check rest a width e = omega (arith, width, e)
 
-check_below : (bits : ℕ) → number_in places.CHECK bits < 2 ^ 8
-check_below bits = mod_below (bits / 2 ^ 82) (2 ^ 8) (lit< tt)
-
--- what stands before the check is below it
-base_below : (bits base : ℕ) → bits < 2 ^ 90 → bits ≡ base + bits / 2 ^ 82 % 2 ^ 8 * 2 ^ 82 → base < 2 ^ 82
-base_below bits base width e = omega arith
-
-checked_alike : (a b base ca cb : ℕ) → base < 2 ^ 82 → ca < 2 ^ 8 → cb < 2 ^ 8 → a ≡ base + ca * 2 ^ 82 → b ≡ base + cb * 2 ^ 82
+checked_alike : (a b rest ca cb : ℕ) → rest < 2 ^ 82 → ca < 2 ^ 8 → cb < 2 ^ 8 → a ≡ ca * 2 ^ 82 + rest → b ≡ cb * 2 ^ 82 + rest
     → ((r : ℕ) → r < 8 → residue r a ≡ 0) → ((r : ℕ) → r < 8 → residue r b ≡ 0) → a ≡ b
-checked_alike a b base ca cb below wa wb ea eb ha hb =
-    let same : ca ≡ cb = one_check base ca cb below wa wb (λ r lt. rw (← ea) (ha r lt)) (λ r lt. rw (← eb) (hb r lt)) in
-    ea ∙ ap (λ (check : ℕ). base + check * 2 ^ 82) same ∙ sym eb
+checked_alike a b rest ca cb below wa wb ea eb ha hb =
+    let ea' : a ≡ rest + ca * 2 ^ 82 = omega (arith, ea) in
+    let eb' : b ≡ rest + cb * 2 ^ 82 = omega (arith, eb) in
+    let same : ca ≡ cb = one_check rest ca cb below wa wb (λ r lt. rw (← ea') (ha r lt)) (λ r lt. rw (← eb') (hb r lt)) in
+    ea ∙ ap (λ (check : ℕ). check * 2 ^ 82 + rest) same ∙ sym eb
+
+alike : (a b rest : ℕ) → a < 2 ^ 90 → a ≡ number_in places.CHECK a * 2 ^ 82 + rest → b ≡ number_in places.CHECK b * 2 ^ 82 + rest
+    → ((r : ℕ) → r < 8 → residue r a ≡ 0) → ((r : ℕ) → r < 8 → residue r b ≡ 0) → a ≡ b
+alike a b rest width ea eb ha hb =
+    checked_alike a b rest (number_in places.CHECK a) (number_in places.CHECK b) (no_check rest a width ea)
+    (mod_below (a / 2 ^ 82) (2 ^ 8) (lit< tt)) (mod_below (b / 2 ^ 82) (2 ^ 8) (lit< tt)) ea eb ha hb
 
 -- a word has one spelling
-pub one_spelling : OnlySumHolds → (system : System) (word : VitcWord) (a b : ℕ) → Spells system word a → Spells system word b → a ≡ b
-one_spelling law system word a b p q =
-    let base = base_sum system word.fields.label word.fields.flags word.fields.user word.field_mark in
-    let ea : a ≡ base + number_in places.CHECK a * 2 ^ 82 =
-    rows_sum law system word.fields.label word.fields.flags word.fields.user word.field_mark a p.valid.label (rows_of system word a p) in
-    let eb : b ≡ base + number_in places.CHECK b * 2 ^ 82 =
-    rows_sum law system word.fields.label word.fields.flags word.fields.user word.field_mark b q.valid.label (rows_of system word b q) in
-    checked_alike a b base (number_in places.CHECK a) (number_in places.CHECK b) (base_below a base p.width ea)
-    (check_below a) (check_below b) ea eb p.check q.check
-
--- the sum of the weights with a check that holds spells the word
-pub spells_sum : SumHolds → (word : VitcWord) (check bits : ℕ) → IsFields word.fields → word.fields.user < 2 ^ 32 → check < 2 ^ 8
-    → bits ≡ whole_sum (system_with word.fields.label.count) word.fields.label word.fields.flags word.fields.user word.field_mark check
-    → ((r : ℕ) → r < 8 → residue r bits ≡ 0) → Spells (system_with word.fields.label.count) word bits
-spells_sum law word check bits valid eight low sum holds =
-    let rows = spells_rows law (system_with word.fields.label.count) word.fields.label word.fields.flags word.fields.user word.field_mark
-    check bits valid.label eight low sum in
-    record {
-      width = rows.width;
-      valid = valid;
-      count = refl;
-      address = rows.address;
-      flags = rows.flags;
-      user = rows.user_bits;
-      mark = rows.mark;
-      sync_pairs = rows.sync_pairs;
-      check = holds;
-    }
+pub one_spelling : OnlySumHolds → AreExact → (system : System) (word : VitcWord) (a b : ℕ) → Spells system word a → Spells system word b → a ≡ b
+one_spelling law exact system word a b p q =
+    alike a b _ p.width (is_sum law exact system word a p) (is_sum law exact system word b q) p.check q.check
 
 -- the parts of a word and its digits, each compared
 pub said : {system : System} {count : Count} {hours minutes seconds frames : ℕ} {flags : Flags} {user : ℕ} {raw : RawFields}

@@ -6,12 +6,12 @@ use Rattle.std.specs.List.{range_with_len}
 use Rattle.tc_address.specs.declared.system.System.{System}
 use Rattle.tc_bits.specs.declared.fault.FieldFault.{FieldFault}
 use Rattle.tc_bits.specs.Fault.{first_field_fault}
+use Rattle.tc_bits.specs.Reading.{raw_in}
 use Rattle.tc_bits.specs.Register.{number_in}
 use Rattle.vitc_line.specs.declared.word.LineFault.{LineFault}
 use Rattle.vitc_line.specs.declared.word.LineFault.TheVariants.{SyncPair, Check, Field}
-use Rattle.vitc_line.specs.Places.{sync_pair_place}
+use Rattle.vitc_line.specs.Places.{sync_pair_place, table_of}
 use Rattle.vitc_line.specs.CheckBits.{wrong_residue}
-use Rattle.vitc_line.specs.Reading.{raw_in}
 
 -- a sync pair is not the bit 1 and then the bit 0
 abbrev pub is_wrong_pair : ℕ → ℕ → Bool
@@ -29,4 +29,5 @@ in_order None None fault = option_map (λ f. Field f) fault
 
 -- the first fault
 abbrev pub first_fault : System → ℕ → Option LineFault
-first_fault system bits = in_order (wrong_sync_pair bits) (wrong_residue bits) (first_field_fault system (raw_in system bits))
+first_fault system bits =
+    in_order (wrong_sync_pair bits) (wrong_residue bits) (first_field_fault system (raw_in (table_of system) bits))

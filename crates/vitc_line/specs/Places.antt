@@ -1,10 +1,13 @@
 -- Where the fields stand that have another place in each system (SMPTE 12M, the table of the vertical
 -- interval time code), where the sync pairs stand, and all places of a system.
-use Rattle.std.specs.Prelude.{ℕ, ◌+◌, ◌*◌, Bool, ◌&&◌, ◌==◌, nat_le, nat_lt, List, ◌∷◌, map, count_by}
-use Rattle.std.specs.List.{list_all, range_with_len}
+use Rattle.std.specs.Prelude.{ℕ, ◌*◌, Bool, List, ◌∷◌, ◌++◌, map}
+use Rattle.std.specs.List.{range_with_len}
 use Rattle.tc_address.specs.declared.system.System.{System}
 use Rattle.tc_address.specs.declared.system.System.TheVariants.{F24, F25, F30}
 use Rattle.tc_bits.specs.declared.place.Place.{Place}
+use Rattle.tc_bits.specs.declared.table.Table.{Table}
+use Rattle.tc_bits.specs.Row as row
+use Rattle.tc_bits.specs.Table.{place, places_in, with_group_flags}
 use Rattle.vitc_line.specs.declared.places.TheConstants as places
 
 -- pictures of 25 or 30 frames have lines with time code
@@ -18,38 +21,32 @@ abbrev pub sync_pair_place : ℕ → Place
 sync_pair_place pair = record { first = 10 * pair; width = 2 }
 
 -- the field mark
-abbrev pub field_mark_place : System → Place
-field_mark_place F24 = places.BIT_35
-field_mark_place F25 = places.BIT_75
-field_mark_place F30 = places.BIT_35
+abbrev pub field_mark_bit : System → ℕ
+field_mark_bit F24 = places.BIT_35
+field_mark_bit F25 = places.BIT_75
+field_mark_bit F30 = places.BIT_35
 
 -- binary group flag 0
-abbrev pub group_flag_zero_place : System → Place
-group_flag_zero_place F24 = places.BIT_55
-group_flag_zero_place F25 = places.BIT_35
-group_flag_zero_place F30 = places.BIT_55
+abbrev pub group_flag_zero_bit : System → ℕ
+group_flag_zero_bit F24 = places.BIT_55
+group_flag_zero_bit F25 = places.BIT_35
+group_flag_zero_bit F30 = places.BIT_55
 
 -- binary group flag 2
-abbrev pub group_flag_two_place : System → Place
-group_flag_two_place F24 = places.BIT_75
-group_flag_two_place F25 = places.BIT_55
-group_flag_two_place F30 = places.BIT_75
+abbrev pub group_flag_two_bit : System → ℕ
+group_flag_two_bit F24 = places.BIT_75
+group_flag_two_bit F25 = places.BIT_55
+group_flag_two_bit F30 = places.BIT_75
+
+-- the table of a system
+abbrev pub table_of : System → Table
+table_of system = with_group_flags places.TABLE (group_flag_zero_bit system) (group_flag_two_bit system)
 
 -- all places of a system
 abbrev pub places_of : System → List Place
 places_of system =
-    places.FRAME_UNITS ∷ places.FRAME_TENS ∷ places.SECOND_UNITS ∷ places.SECOND_TENS
-    ∷ places.MINUTE_UNITS ∷ places.MINUTE_TENS ∷ places.HOUR_UNITS ∷ places.HOUR_TENS
-    ∷ places.DROP_FRAME ∷ places.COLOUR_FRAME ∷ group_flag_zero_place system ∷ places.GROUP_FLAG_ONE
-    ∷ group_flag_two_place system ∷ field_mark_place system
-    ∷ places.USER_GROUP_ONE ∷ places.USER_GROUP_TWO ∷ places.USER_GROUP_THREE ∷ places.USER_GROUP_FOUR
-    ∷ places.USER_GROUP_FIVE ∷ places.USER_GROUP_SIX ∷ places.USER_GROUP_SEVEN ∷ places.USER_GROUP_EIGHT
-    ∷ places.CHECK ∷ map sync_pair_place (range_with_len 0 9)
-
--- the bit belongs to the place
-abbrev pub is_in : ℕ → Place → Bool
-is_in bit place = nat_le place.first bit && nat_lt bit (place.first + place.width)
+    places.CHECK ∷ place (field_mark_bit system) 1 ∷ map sync_pair_place (range_with_len 0 9) ++ places_in (table_of system)
 
 -- each of the 90 bits belongs to exactly one of the places
 abbrev pub are_shared_out : List Place → Bool
-are_shared_out table = list_all (λ bit. count_by (is_in bit) table == 1) (range_with_len 0 90)
+are_shared_out places = row.are_shared_out 90 places

@@ -12,7 +12,7 @@ ghost use Rattle.vitc_line.specs.Spelled.{line_of};
 ghost use Rattle.vitc_line.specs.Spelling.{Spells, word_with, flags};
 ghost use Rattle.vitc_line.specs.Fault.{first_fault};
 
-use tc_bits::laws::a_row_is_its_sum;
+use tc_bits::laws::{a_row_is_its_sum, digits_are_exact, fields_are_exact};
 
 /// Each of the 90 bits belongs to exactly one place, in each system.
 pub fn each_bit_has_one_place()
@@ -28,6 +28,8 @@ pub fn spelling_is_exact()
     ensures no_fault { (system : System) (word : VitcWord) (bits : ℕ) → Spells system word bits → first_fault system bits ≡ None }
 {
     a_row_is_its_sum();
+    digits_are_exact();
+    fields_are_exact();
 }
 
 /// A word that has lines is spelled by one: the sum of its numbers by their weights, with the check.
@@ -37,6 +39,7 @@ pub fn each_word_has_its_line()
     ensures odd { (word : VitcWord) → IsFields word.fields → word.fields.user < 2 ^ 32 → line_of word % 2 ≡ 1 }
 {
     a_row_is_its_sum();
+    fields_are_exact();
 }
 
 /// Lines that spell a label of nothing but zeros: the ones are those of the sync pairs, of the field
@@ -45,7 +48,9 @@ pub fn lines_of_a_round_label()
     ensures zero_at_30 { Spells F30 (word_with C30 0 0 0 0 (flags false false false false false) 0 false) 0x10100401004010040100401 }
     ensures second_field_at_30 { Spells F30 (word_with C30 0 0 0 0 (flags false false false false false) 0 true) 0x10900401004010840100401 }
     ensures second_field_at_25 { Spells F25 (word_with C25 0 0 0 0 (flags false false false false false) 0 true) 0x10908401004010040100401 }
-{}
+{
+    fields_are_exact();
+}
 
 /// 19:47:58:23 with the user bits `fce0ba6d`: 16 different digits, one in each place of the table,
 /// worked out from it by hand. In the three lines of a system no two of the flags and the mark are set
@@ -57,4 +62,6 @@ pub fn lines_worked_out_by_hand()
     ensures first_at_30 { Spells F30 (word_with Drop30 19 47 58 23 (flags true false true false false) 0xfce0ba6d true) 0x2edf1725ec41dbd6a16674d }
     ensures second_at_30 { Spells F30 (word_with C30 19 47 58 23 (flags false true false true false) 0xfce0ba6d true) 0x2a9f5725e441dbd6a16a74d }
     ensures third_at_30 { Spells F30 (word_with Drop30 19 47 58 23 (flags true true false false true) 0xfce0ba6d false) 0x2edf9725e441db56a16e74d }
-{}
+{
+    fields_are_exact();
+}

@@ -3,140 +3,49 @@
 
 ghost use Rattle.std.specs.Prelude.{◌≡◌, ◌<◌};
 ghost use Rattle.vitc_line.specs.Places.{
+  field_mark_bit,
+  group_flag_two_bit,
+  group_flag_zero_bit,
   sync_pair_place,
-  field_mark_place,
-  group_flag_zero_place,
-  group_flag_two_place,
+  table_of,
 };
 
 use tc_address::System;
-use tc_bits::Place;
+use tc_bits::{Place, Table};
 
-/// The frame units, a decimal digit.
-pub const FRAME_UNITS: Place = Place { first: 2, width: 4 };
-
-/// User group 1.
-pub const USER_GROUP_ONE: Place = Place { first: 6, width: 4 };
-
-/// The frame tens, from 0 to 2.
-pub const FRAME_TENS: Place = Place {
-    first: 12,
-    width: 2,
-};
-
-/// The drop-frame flag.
-pub const DROP_FRAME: Place = Place {
-    first: 14,
-    width: 1,
-};
-
-/// The colour-frame flag.
-pub const COLOUR_FRAME: Place = Place {
-    first: 15,
-    width: 1,
-};
-
-/// User group 2.
-pub const USER_GROUP_TWO: Place = Place {
-    first: 16,
-    width: 4,
-};
-
-/// The units of the seconds, a decimal digit.
-pub const SECOND_UNITS: Place = Place {
-    first: 22,
-    width: 4,
-};
-
-/// User group 3.
-pub const USER_GROUP_THREE: Place = Place {
-    first: 26,
-    width: 4,
-};
-
-/// The tens of the seconds, from 0 to 5.
-pub const SECOND_TENS: Place = Place {
-    first: 32,
-    width: 3,
+/// The first bit of each field, at 30 frames.
+pub const TABLE: Table = Table {
+    frame_units: 2,
+    user_one: 6,
+    frame_tens: 12,
+    drop_frame: 14,
+    colour_frame: 15,
+    user_two: 16,
+    second_units: 22,
+    user_three: 26,
+    second_tens: 32,
+    user_four: 36,
+    minute_units: 42,
+    user_five: 46,
+    minute_tens: 52,
+    group_flag_zero: 55,
+    user_six: 56,
+    hour_units: 62,
+    user_seven: 66,
+    hour_tens: 72,
+    group_flag_one: 74,
+    group_flag_two: 75,
+    user_eight: 76,
 };
 
 /// The field mark at 30 frames, binary group flag 0 at 25.
-pub const BIT_35: Place = Place {
-    first: 35,
-    width: 1,
-};
-
-/// User group 4.
-pub const USER_GROUP_FOUR: Place = Place {
-    first: 36,
-    width: 4,
-};
-
-/// The units of the minutes, a decimal digit.
-pub const MINUTE_UNITS: Place = Place {
-    first: 42,
-    width: 4,
-};
-
-/// User group 5.
-pub const USER_GROUP_FIVE: Place = Place {
-    first: 46,
-    width: 4,
-};
-
-/// The tens of the minutes, from 0 to 5.
-pub const MINUTE_TENS: Place = Place {
-    first: 52,
-    width: 3,
-};
+pub const BIT_35: u32 = 35;
 
 /// Binary group flag 0 at 30 frames, binary group flag 2 at 25.
-pub const BIT_55: Place = Place {
-    first: 55,
-    width: 1,
-};
-
-/// User group 6.
-pub const USER_GROUP_SIX: Place = Place {
-    first: 56,
-    width: 4,
-};
-
-/// The units of the hours, a decimal digit.
-pub const HOUR_UNITS: Place = Place {
-    first: 62,
-    width: 4,
-};
-
-/// User group 7.
-pub const USER_GROUP_SEVEN: Place = Place {
-    first: 66,
-    width: 4,
-};
-
-/// The tens of the hours, from 0 to 2.
-pub const HOUR_TENS: Place = Place {
-    first: 72,
-    width: 2,
-};
-
-/// Binary group flag 1.
-pub const GROUP_FLAG_ONE: Place = Place {
-    first: 74,
-    width: 1,
-};
+pub const BIT_55: u32 = 55;
 
 /// Binary group flag 2 at 30 frames, the field mark at 25.
-pub const BIT_75: Place = Place {
-    first: 75,
-    width: 1,
-};
-
-/// User group 8.
-pub const USER_GROUP_EIGHT: Place = Place {
-    first: 76,
-    width: 4,
-};
+pub const BIT_75: u32 = 75;
 
 /// The check, bit 82 the least significant.
 pub const CHECK: Place = Place {
@@ -165,8 +74,9 @@ pub(crate) fn sync_pair(number: u32) -> Place
 }
 
 /// Where the field mark stands.
-pub(crate) fn field_mark(system: System) -> Place
-    ensures { result ≡ field_mark_place system }
+pub(crate) fn field_mark(system: System) -> u32
+    ensures within { result < 80 }
+    ensures value { result ≡ field_mark_bit system }
 {
     match system {
         System::F24 | System::F30 => BIT_35,
@@ -175,8 +85,8 @@ pub(crate) fn field_mark(system: System) -> Place
 }
 
 /// Where binary group flag 0 stands.
-pub(crate) fn group_flag_zero(system: System) -> Place
-    ensures { result ≡ group_flag_zero_place system }
+fn group_flag_zero(system: System) -> u32
+    ensures { result ≡ group_flag_zero_bit system }
 {
     match system {
         System::F24 | System::F30 => BIT_55,
@@ -185,11 +95,18 @@ pub(crate) fn group_flag_zero(system: System) -> Place
 }
 
 /// Where binary group flag 2 stands.
-pub(crate) fn group_flag_two(system: System) -> Place
-    ensures { result ≡ group_flag_two_place system }
+fn group_flag_two(system: System) -> u32
+    ensures { result ≡ group_flag_two_bit system }
 {
     match system {
         System::F24 | System::F30 => BIT_75,
         System::F25 => BIT_55,
     }
+}
+
+/// The first bit of each field in the system.
+pub(crate) fn table(system: System) -> Table
+    ensures { result ≡ table_of system }
+{
+    TABLE.with_group_flags(group_flag_zero(system), group_flag_two(system))
 }

@@ -1,0 +1,5 @@
+use Rattle.tc_bits.proofs.FieldsOfATable.{are_exact}
+use Rattle.tc_bits.proofs.laws.fields_are_exact.Goals as goal
+
+pub returns : goal.returns
+returns c = are_exact

@@ -1,0 +1,44 @@
+-- What stands in the places of a table: digits, flags and user bits, whether or not they are an address.
+use Rattle.std.specs.Prelude.{ℕ, ◌+◌, ◌*◌, ◌^◌}
+use Rattle.tc_bits.specs.declared.flags.Flags.{Flags}
+use Rattle.tc_bits.specs.declared.raw.RawFields.{RawFields}
+use Rattle.tc_bits.specs.declared.table.Table.{Table}
+use Rattle.tc_bits.specs.Register.{field, is_set}
+use Rattle.tc_bits.specs.Table.{place}
+
+-- the flags that stand in the bits
+abbrev pub flags_in : Table → ℕ → Flags
+flags_in t bits = record {
+  bit10 = is_set (place t.drop_frame 1) bits;
+  colour = is_set (place t.colour_frame 1) bits;
+  bgf0 = is_set (place t.group_flag_zero 1) bits;
+  bgf1 = is_set (place t.group_flag_one 1) bits;
+  bgf2 = is_set (place t.group_flag_two 1) bits;
+}
+
+-- the user bits that stand in the bits, group 1 least significant
+abbrev pub user_in : Table → ℕ → ℕ
+user_in t bits =
+    field bits t.user_one 4
+    + field bits t.user_two 4 * 2 ^ 4
+    + field bits t.user_three 4 * 2 ^ 8
+    + field bits t.user_four 4 * 2 ^ 12
+    + field bits t.user_five 4 * 2 ^ 16
+    + field bits t.user_six 4 * 2 ^ 20
+    + field bits t.user_seven 4 * 2 ^ 24
+    + field bits t.user_eight 4 * 2 ^ 28
+
+-- the digits, flags and user bits that stand in the bits
+abbrev pub raw_in : Table → ℕ → RawFields
+raw_in t bits = record {
+  frame_units = field bits t.frame_units 4;
+  frame_tens = field bits t.frame_tens 2;
+  second_units = field bits t.second_units 4;
+  second_tens = field bits t.second_tens 3;
+  minute_units = field bits t.minute_units 4;
+  minute_tens = field bits t.minute_tens 3;
+  hour_units = field bits t.hour_units 4;
+  hour_tens = field bits t.hour_tens 2;
+  flags = flags_in t bits;
+  user = user_in t bits;
+}
