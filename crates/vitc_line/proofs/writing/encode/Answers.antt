@@ -1,4 +1,4 @@
-use Rattle.std.proofs.Common.{◌≡◌, ◌+◌, ◌*◌, ◌<◌, ◌^◌, ℕ, ap, ◌∙◌}
+use Rattle.std.proofs.Common.{◌≡◌, ◌+◌, ◌*◌, ◌^◌, ℕ, ap, ◌∙◌}
 use Rattle.tc_address.specs.Count.{system_with}
 use Rattle.vitc_line.proofs.LineOfAWord.{made_of, unchecked_below, with_check}
 use Rattle.vitc_line.proofs.RowOfALine.{spells_with, table_is}
