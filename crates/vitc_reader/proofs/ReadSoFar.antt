@@ -18,9 +18,6 @@ pub record ReadSoFar (n : ℕ) (runs : List ℕ) (i bits cells : ℕ) (is_high :
   pub value : bits ≡ bits_of true list
   pub level : is_high ≡ level_after true list
 
-pub none_read : (n : ℕ) (runs : List ℕ) → ReadSoFar n runs 0 0 0 true
-none_read n runs = record { list = []; read = tt; all = refl; few = omega arith; value = refl; level = refl }
-
 pub read_more : (n : ℕ) (runs : List ℕ) (i bits cells more : ℕ) (is_high : Bool) → ReadSoFar n runs i bits cells is_high → i < length runs
     → IsCells n (get_or runs i 0) more → cells + more ≤ 90
     → ReadSoFar n runs (i + 1) (bits + bits_of_run is_high more * 2 ^ cells) (cells + more) (not is_high)

@@ -11,7 +11,7 @@ use Rattle.vitc_reader.specs.declared.reading.Turned.{Turned}
 use Rattle.vitc_reader.specs.KeptLine.{IsTurnedBy, IsRefusedAt}
 use Rattle.vitc_reader.specs.Runs.{bits_of_run, IsCells, IsRunFault, StandFor}
 use Rattle.vitc_reader.proofs.XorOfOnes.{xor_ones}
-use Rattle.vitc_reader.proofs.ReadSoFar.{ReadSoFar, bits_below, no_cells, none_read, read_more, run_fault, stands, too_long, too_many}
+use Rattle.vitc_reader.proofs.ReadSoFar.{ReadSoFar, bits_below, no_cells, read_more, run_fault, stands, too_long, too_many}
 
 abbrev pub turned : Bool → ℕ → ℕ → ℕ
 turned true cells value = 2 ^ cells - 1 - value
@@ -29,9 +29,6 @@ pub record TurnedSoFar (n : ℕ) (runs : List ℕ) (i bits cells : ℕ) : Type 0
   pub next : IsNext is_high i
   pub within : i ≤ length runs
   pub turned : bits ≡ turned is_high cells value
-
-pub none_turned : (n : ℕ) (runs : List ℕ) → TurnedSoFar n runs 0 0 0
-none_turned n runs = record { value = 0; is_high = true; so_far = none_read n runs; next = refl; within = omega arith; turned = refl }
 
 is_next : (level : Bool) (i : ℕ) → IsNext level i → IsNext (not level) (i + 1)
 is_next true i e = omega (arith, e)

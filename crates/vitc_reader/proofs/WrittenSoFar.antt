@@ -59,23 +59,6 @@ pub record WrittenSoFar (n bits : ℕ) (old runs : List ℕ) (rest cell number :
   pub last : rest ≡ 0 → is_high ≡ false
   pub left : list ++ cells_in (90 - number) is_high rest ≡ cells_in 90 true bits
 
-pub none_written : (n bits : ℕ) (runs : List ℕ) → bits % 2 ≡ 1 → length runs ≡ 90 → WrittenSoFar n bits runs runs bits 0 0 true
-none_written n bits runs odd size = record {
-  list = [];
-  have = tt;
-  all = refl;
-  count = refl;
-  within = omega arith;
-  value = omega arith;
-  level = refl;
-  front = refl;
-  back = refl;
-  size = size;
-  next = λ some. (λ e. refl, λ e. odd);
-  last = λ none. absurd (omega (arith, odd, none));
-  left = refl;
-}
-
 -- bits that are left are within the line
 pub cells_left : (n bits : ℕ) (old runs : List ℕ) (rest cell number k : ℕ) (is_high : Bool) → WrittenSoFar n bits old runs rest cell number is_high
     → bits < 2 ^ 90 → 1 ≤ k → 2 ^ (k - 1) ≤ rest → cell + k ≤ 90
@@ -102,13 +85,6 @@ value_with : (bits list rest high low cell k run : ℕ) → bits ≡ list + rest
 value_with bits list rest high low cell k run e split same =
     let p = pow-add 2 cell k in
     rw (e, ← split, same, p) (grind arith)
-
-parity_left : (m : ℕ) → (m % 2 ≡ 1 → ⊥) → m % 2 ≡ 0
-parity_left m h = grind arith
-
-not_true_is_false : (b : Bool) → (b ≡ true → ⊥) → b ≡ false
-not_true_is_false true h = absurd (h refl)
-not_true_is_false false h = refl
 
 turned : (m : ℕ) (b : Bool) → ((m % 2 ≡ 1) ↔ (b ≡ false)) → ((m % 2 ≡ 1) ↔ (not b ≡ true))
 turned m true h = (λ e. let f : true ≡ false = h.0 e in absurd cc, λ e. absurd cc)
