@@ -7,15 +7,6 @@ use Rattle.tc_address.specs.declared.count.Count.{Count}
 use Rattle.chase_script.specs.declared.column.Column.TheVariants as columns
 use Rattle.chase_script.specs.Script.{Field, row_in, row_of_fields}
 
-pub wrong_number : (count : Count) (fields : List Field) → length fields ≢ 5 → row_in count fields ≡ Err columns.Fields
-wrong_number count [] other = refl
-wrong_number count (a ∷ []) other = refl
-wrong_number count (a ∷ b ∷ []) other = refl
-wrong_number count (a ∷ b ∷ c ∷ []) other = refl
-wrong_number count (a ∷ b ∷ c ∷ d ∷ []) other = refl
-wrong_number count (a ∷ b ∷ c ∷ d ∷ e ∷ []) other = absurd (other refl)
-wrong_number count (a ∷ b ∷ c ∷ d ∷ e ∷ f ∷ more) other = refl
-
 -- what is at a place, or something else
 abbrev or_else : Field → Option Field → Field
 or_else other None = other

@@ -1,24 +1,21 @@
 //! The lines of a trace. Next: `trace_lines`.
 ghost use Rattle.std.specs.Prelude.{◌≡◌, ◌+◌, ◌<◌, ◌≤◌, ◌++◌};
-ghost use Rattle.std.specs.Fmt.{signed_decimal};
 ghost use Rattle.arrayvec.specs.ArrayVec.{array_vec_len};
 ghost use Rattle.transport_model.specs.Move.{day_of};
 ghost use Rattle.chase_script.specs.TraceText.{state_name, loss_name, position_text, step_line, step_end_line};
 
 use chase_core::{Loss, Report, State};
-use itoa::Buffer;
+use line_text::{Text, push_any_number, push_bytes, push_signed};
 use tc_address::{Count, label_at, text};
-use tc_files::{Text, push_bytes, push_number};
 
 /// The line of a step, counted from 1, after which the transport stands at this position.
-#[tactic(auto, using(crate::proofs::Digits::digits_of_any))]
 pub fn step_text(step: u64, report: &Report, count: Count, position: u32) -> Text
     requires { position < day_of count }
     ensures { result.items ≡ step_line count step (record { report = report.now; position = position }) }
 {
     let mut line = Text::new();
     push_bytes(&mut line, b"step ");
-    push_number(&mut line, step);
+    push_any_number(&mut line, step);
     push_bytes(&mut line, b" ");
     push_bytes(&mut line, state_name(report.state).as_bytes());
     push_bytes(&mut line, b" error ");
@@ -34,15 +31,14 @@ pub fn step_text(step: u64, report: &Report, count: Count, position: u32) -> Tex
 }
 
 /// The last line: how many steps there were, and how many of them lost the lock.
-#[tactic(auto, using(crate::proofs::Digits::digits_of_any))]
 pub fn step_end_text(steps: u64, losses: u64) -> Text
     ensures { result.items ≡ step_end_line steps losses }
 {
     let mut line = Text::new();
     push_bytes(&mut line, b"end steps ");
-    push_number(&mut line, steps);
+    push_any_number(&mut line, steps);
     push_bytes(&mut line, b" losses ");
-    push_number(&mut line, losses);
+    push_any_number(&mut line, losses);
     push_bytes(&mut line, b"\n");
     line
 }
@@ -66,16 +62,6 @@ fn loss_name(loss: Option<Loss>) -> &'static str
         Some(Loss::NoCode) => "no-code",
         Some(Loss::Window(_)) => "window",
     }
-}
-
-/// Appends a number of subframes in decimal digits, behind a `-` where it is below 0.
-fn push_signed(line: &mut Text, number: i32)
-    requires { array_vec_len line.old + 11 ≤ 128 }
-    ensures items { line.new.items ≡ line.old.items ++ signed_decimal number }
-    ensures len { array_vec_len line.new ≤ array_vec_len line.old + 11 }
-{
-    let mut digits = Buffer::new();
-    push_bytes(line, digits.format(number).as_bytes());
 }
 
 /// Appends a position: the label that it lies in, and the subframes behind the label's beginning.

@@ -15,9 +15,9 @@ use chase_core::laws::{
     a_locked_chase_stays_locked, a_trace_has_a_line_for_each_row, pulling_ends,
 };
 use chase_core::{ClosedLoop, Loss, Report};
+use line_text::Text;
 use std::marker::Model;
 use tc_address::{Count, Label};
-use tc_files::Text;
 
 /// A trace, of which some lines are still to be given.
 #[derive(Drop)]

@@ -137,21 +137,6 @@ header_taken header place count part front chunk piece answers bytes s read own 
       answered = rw s.answered.1 tt;
     }
 
--- a part of either
-pub part_taken : (header : Option LineHeader) (place count : ℕ) (part front chunk : List ℕ) (answers : List FieldAnswer)
-    → StandsFor (decoding_of header place count part) front answers → Waits header place count (part ++ chunk)
-    → StandsFor (decoding_of header place count (part ++ chunk)) (front ++ chunk) (answers ++ [])
-part_taken header place count part front chunk answers s waits = record {
-  before = s.before;
-  fields = s.fields;
-  split = ap (λ (l : List ℕ). l ++ chunk) s.split ∙ append_assoc s.before part chunk;
-  place = s.place;
-  count = s.count;
-  waits = waits;
-  follows = s.follows;
-  answered = rw (append-nil answers) s.answered;
-}
-
 -- ---- what is told
 
 -- a piece of the bytes fails its test

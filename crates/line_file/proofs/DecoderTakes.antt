@@ -17,7 +17,7 @@ use Rattle.line_file.specs.LineFile.{Front, whole, short, header_at, field_at, f
 use Rattle.line_file.specs.LineFile.{no_header, end_fault_of}
 use Rattle.line_file.specs.LineHeader.{IsHeader}
 use Rattle.line_file.specs.StandsFor.{decoding_of, Waits, StandsFor, Adds, IsTold}
-use Rattle.line_file.proofs.DecoderMore.{IsBad, part_less, piece_bytes, field_taken, header_taken, part_taken, fault_told, limit_told}
+use Rattle.line_file.proofs.DecoderMore.{IsBad, part_less, piece_bytes, field_taken, header_taken, fault_told, limit_told}
 use Rattle.line_file.proofs.FieldByField.{fields_by}
 use Rattle.line_file.proofs.HeaderBytes.{header_valid, short_header, whole_header}
 use Rattle.line_file.proofs.OwnBytes.{own_field, short_field}
@@ -146,24 +146,6 @@ field_added o place count part bytes c answer width s =
           (part ++ take c bytes) is s.room s.read own piece s.says in
           rw (s.some, s.width_is) (rw s.width_is at taken);
     }
-
-pub part_added : (o : Option LineHeader) (place count : ℕ) (part bytes : List ℕ) (c : ℕ) → 1 ≤ c → c ≤ length bytes → Waits o place count (part ++ take c bytes)
-    → Adds (decoding_of o place count part) (decoding_of o place count (part ++ take c bytes)) bytes c []
-part_added o place count part bytes c some within waits =
-    let size = length-take-le' c bytes within in
-    let all = length-append part (take c bytes) in
-    record {
-      some = some;
-      within = within;
-      taken = omega (arith, size, all);
-      fields = omega arith;
-      stands = λ front answers stands. part_taken o place count part front (take c bytes) answers stands waits;
-    }
-  where
-    length-take-le' : (c : ℕ) (bytes : List ℕ) → c ≤ length bytes → length (take c bytes) ≡ c
-    length-take-le' zero bytes le = refl
-    length-take-le' (suc c) [] le = absurd (omega (arith, le))
-    length-take-le' (suc c) (b ∷ bytes) le = let h = length-take-le' c bytes (omega (arith, le)) in omega (arith, h)
 
 -- ---- what ends the reading
 

@@ -1,7 +1,6 @@
 pub mod AnswersStay
 pub mod DecoderMore
 pub mod DecoderTakes
-pub mod Digits
 pub mod FaultsStay
 pub mod FieldByField
 pub mod FileReadBack

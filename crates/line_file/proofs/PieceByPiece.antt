@@ -52,9 +52,6 @@ pub record HeadSoFar (bytes : List ℕ) (place : ℕ) : Type 0 where
   pub within : place ≤ length bytes
   pub read : head_at HEAD_LENGTH 0 bytes ≡ head_at (HEAD_LENGTH - place) place (drop place bytes)
 
-pub no_head : (bytes : List ℕ) → HeadSoFar bytes 0
-no_head bytes = record { within = omega arith; read = refl }
-
 pub head_more : (bytes : List ℕ) (place d : ℕ) → HeadSoFar bytes place → place < HEAD_LENGTH → place < length bytes
     → is_wrong place (get_or bytes place d) ≡ false
     → HeadSoFar bytes (place + 1)
@@ -73,22 +70,11 @@ head_bad bytes place d s lt there wrong =
     let step = head_step (HEAD_LENGTH - place) place d bytes (omega (arith, lt)) there in
     s.read ∙ rw wrong at step
 
-short_at : (left place : ℕ) → 1 ≤ left → head_at left place [] ≡ short
-short_at zero place some = absurd (omega (arith, some))
-short_at (suc left) place some = refl
-
 none_left : (bytes : List ℕ) (n : ℕ) → length bytes ≤ n → drop n bytes ≡ []
 none_left [] zero le = refl
 none_left [] (suc n) le = refl
 none_left (b ∷ bytes) zero le = absurd (omega (arith, le))
 none_left (b ∷ bytes) (suc n) le = none_left bytes n (omega (arith, le))
-
-pub head_short : (bytes : List ℕ) (place : ℕ) → HeadSoFar bytes place → place < HEAD_LENGTH → length bytes ≤ place → head_at HEAD_LENGTH 0 bytes ≡ short
-head_short bytes place s lt none = s.read ∙ ap (head_at (HEAD_LENGTH - place) place) (none_left bytes place none)
-    ∙ short_at (HEAD_LENGTH - place) place (omega (arith, lt))
-
-pub head_done : (bytes : List ℕ) (place : ℕ) → HeadSoFar bytes place → HEAD_LENGTH ≤ place → head_at HEAD_LENGTH 0 bytes ≡ whole tt
-head_done bytes place s done = let none : HEAD_LENGTH - place ≡ zero = omega (arith, done) in s.read ∙ ap (λ (n : ℕ). head_at n place (drop place bytes)) none
 
 -- ---- the runs of a line
 
@@ -105,14 +91,6 @@ pub record RunsSoFar (count place : ℕ) (bytes : List ℕ) (done at : ℕ) (run
   pub number : length runs ≡ done
   pub at_is : at ≡ 1 + 2 * done
   pub within : at ≤ length bytes
-
-pub no_runs : (count place : ℕ) (bytes : List ℕ) → 1 ≤ length bytes → RunsSoFar count place bytes 0 1 []
-no_runs count place bytes some = record {
-  read = rw (none_taken count) (after_none (runs_at count (place + 1) (drop 1 bytes)));
-  number = refl;
-  at_is = refl;
-  within = some;
-}
 
 run_step : (count place : ℕ) (bytes : List ℕ) (done at : ℕ) (runs : List ℕ) → RunsSoFar count place bytes done at runs → done < count → at + 2 ≤ length bytes
     → runs_at (count - done) (place + at) (drop at bytes)
@@ -162,12 +140,6 @@ pub runs_short : (count place : ℕ) (bytes : List ℕ) (done at : ℕ) (runs : 
 runs_short count place bytes done at runs s lt less =
     let left = length-drop at bytes in
     s.read ∙ ap (after_first runs) (less_than_two (count - done) (place + at) (drop at bytes) (omega (arith, lt)) (omega (arith, left, less)))
-
-pub runs_done : (count place : ℕ) (bytes : List ℕ) (done at : ℕ) (runs : List ℕ) → RunsSoFar count place bytes done at runs → count ≤ done
-    → runs_at count (place + 1) (drop 1 bytes) ≡ whole runs
-runs_done count place bytes done at runs s all =
-    let none : count - done ≡ zero = omega (arith, all) in
-    s.read ∙ ap (λ (n : ℕ). after_first runs (runs_at n (place + at) (drop at bytes))) none ∙ ap (λ (l : List ℕ). whole l) (append-nil runs)
 
 -- a line by its number of runs
 pub line_is : (place d : ℕ) (bytes : List ℕ) → 1 ≤ length bytes
@@ -248,12 +220,6 @@ pub lines_bad : (header : LineHeader) (count place : ℕ) (bytes : List ℕ) (do
     → lines_at count (place + 1) (drop 1 bytes) ≡ bad f
 lines_bad header count place bytes done width reader f s lt line =
     s.read ∙ ap (after_first s.lines) (line_step (count - done) (place + width) (drop width bytes) (bad f) (omega (arith, lt)) line)
-
-pub lines_done : (header : LineHeader) (count place : ℕ) (bytes : List ℕ) (done width : ℕ) (reader : answers.Reading)
-    → (s : LinesSoFar header count place bytes done width reader) → count ≤ done → lines_at count (place + 1) (drop 1 bytes) ≡ whole s.lines
-lines_done header count place bytes done width reader s all =
-    let none : count - done ≡ zero = omega (arith, all) in
-    s.read ∙ ap (λ (n : ℕ). after_first s.lines (lines_at n (place + width) (drop width bytes))) none ∙ ap (λ (l : List (List ℕ)). whole l) (append-nil s.lines)
 
 -- ---- a line again
 

@@ -2,8 +2,7 @@
 use Rattle.std.specs.Prelude.{ℕ, List, ◌++◌, codes, decimal}
 use Rattle.tc_address.specs.Spelling.{text_of}
 use Rattle.tc_bits.specs.Fault.{name_of}
-use Rattle.tc_files.specs.Line.{flag_digit}
-use Rattle.tc_files.specs.Texts.{flags_text, user_text}
+use Rattle.line_text.specs.Line.{flag_digit, flags_text, user_text}
 use Rattle.vitc_line.specs.declared.word.LineFault.{LineFault}
 use Rattle.vitc_line.specs.declared.word.LineFault.TheVariants.{SyncPair, Check, Field}
 use Rattle.vitc_line.specs.declared.word.VitcWord.{VitcWord}

@@ -16,15 +16,6 @@ use Rattle.mtc_reader.specs.StandsFor.{padded}
 length-latest_eight : (row : List ℕ) → length (latest_eight row) ≡ length row - (length row - 8)
 length-latest_eight row = length-drop (length row - 8) row
 
--- the row is shorter than a window
-pub latest_eight-room : (row : List ℕ) (quarter : ℕ) → length (latest_eight row) < 8 → latest_eight row ++ quarter ∷ [] ≡ latest_eight (row ++ quarter ∷ [])
-latest_eight-room row quarter room =
-    let short : length row < 8 = omega (arith, length-latest_eight row, room) in
-    let longer : length (row ++ quarter ∷ []) ≡ length row + 1 = length-append row (quarter ∷ []) in
-    let none : length row - 8 ≡ 0 = omega (arith, short) in
-    let still : length (row ++ quarter ∷ []) - 8 ≡ 0 = omega (arith, short, longer) in
-    rw (none, still) refl
-
 -- the row has a window
 pub latest_eight-full : (row : List ℕ) (quarter : ℕ) → length (latest_eight row) ≡ 8 →
     remove (latest_eight row) 0 ++ quarter ∷ [] ≡ latest_eight (row ++ quarter ∷ [])

@@ -1,5 +1,4 @@
 pub mod AlongTheBytes
-pub mod Digits
 pub mod Examples
 pub mod LatestEight
 pub mod PlacesOnly

@@ -1,16 +1,11 @@
 -- The lines of a report on MIDI bytes, byte for byte. Their form is this project's own.
 use Rattle.std.specs.Prelude.{ℕ, List, ◌++◌, codes, decimal}
-use Rattle.tc_address.specs.declared.direction.Direction.{Direction}
-use Rattle.tc_address.specs.declared.direction.Direction.TheVariants.{Forward, Backward}
 use Rattle.tc_address.specs.declared.label.LabelFault.{LabelFault}
 use Rattle.tc_address.specs.declared.label.LabelFault.TheVariants as faults
 use Rattle.tc_address.specs.Spelling.{text_of}
+use Rattle.line_text.specs.Line.{direction_name}
 use Rattle.mtc_reader.specs.declared.event.MtcEvent.{MtcEvent}
 use Rattle.mtc_reader.specs.declared.event.MtcEvent.TheVariants.{Full, Quarter, RefusedFull, RefusedQuarter}
-
-abbrev pub direction_name : Direction → List ℕ
-direction_name Forward = codes "forward"
-direction_name Backward = codes "backward"
 
 abbrev pub fault_name : LabelFault → List ℕ
 fault_name faults.Hours = codes "hours"

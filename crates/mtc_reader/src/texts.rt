@@ -1,45 +1,12 @@
 //! The lines of a report.
-ghost use Rattle.std.specs.Prelude.{◌≡◌, ◌+◌, ◌≤◌, ◌++◌, length, decimal, codes};
+ghost use Rattle.std.specs.Prelude.{◌≡◌, ◌+◌, ◌≤◌, ◌++◌, codes};
 ghost use Rattle.arrayvec.specs.ArrayVec.{array_vec_len};
-ghost use Rattle.mtc_reader.specs.Texts.{direction_name, fault_name, at_byte, event_line, end_line};
+ghost use Rattle.line_text.specs.Line.{direction_name};
+ghost use Rattle.mtc_reader.specs.Texts.{fault_name, at_byte, event_line, end_line};
 
 use crate::event::MtcEvent;
-use arrayvec::ArrayVec;
-use itoa::Buffer;
+use line_text::{Text, direction_name, push_any_number, push_bytes};
 use tc_address::{Direction, LabelFault, text};
-
-/// One line of a report, with its newline.
-pub type Text = ArrayVec<u8, 128>;
-
-/// Appends bytes.
-fn push_bytes(line: &mut Text, bytes: &[u8])
-    requires { array_vec_len line.old + length bytes.now ≤ 128 }
-    ensures items { line.new.items ≡ line.old.items ++ bytes.now }
-    ensures len { array_vec_len line.new ≡ array_vec_len line.old + length bytes.now }
-{
-    let _fits = line.try_extend_from_slice(bytes);
-}
-
-/// Appends a number in decimal digits, without leading zeros: 20 of them at most.
-#[tactic(auto, using(crate::proofs::Digits::digits_of_count))]
-fn push_number(line: &mut Text, number: u64)
-    requires { array_vec_len line.old + 20 ≤ 128 }
-    ensures items { line.new.items ≡ line.old.items ++ decimal number }
-    ensures len { array_vec_len line.new ≤ array_vec_len line.old + 20 }
-{
-    let mut digits = Buffer::new();
-    push_bytes(line, digits.format(number).as_bytes());
-}
-
-/// The name of a direction in a line.
-fn direction_name(direction: Direction) -> &'static str
-    ensures { result.now ≡ direction_name direction }
-{
-    match direction {
-        Direction::Forward => "forward",
-        Direction::Backward => "backward",
-    }
-}
 
 /// The name of a fault in a line.
 fn fault_name(fault: LabelFault) -> &'static str
@@ -72,7 +39,7 @@ fn push_place(line: &mut Text, place: u64)
     ensures { line.new.items ≡ line.old.items ++ at_byte place }
 {
     push_bytes(line, b" byte ");
-    push_number(line, place);
+    push_any_number(line, place);
     push_bytes(line, b"\n");
 }
 
@@ -131,13 +98,13 @@ pub fn mtc_end_text(bytes: u64, full: u64, quarter: u64, refused: u64) -> Text
 {
     let mut line = Text::new();
     push_bytes(&mut line, b"end bytes ");
-    push_number(&mut line, bytes);
+    push_any_number(&mut line, bytes);
     push_bytes(&mut line, b" full ");
-    push_number(&mut line, full);
+    push_any_number(&mut line, full);
     push_bytes(&mut line, b" quarter ");
-    push_number(&mut line, quarter);
+    push_any_number(&mut line, quarter);
     push_bytes(&mut line, b" refused ");
-    push_number(&mut line, refused);
+    push_any_number(&mut line, refused);
     push_bytes(&mut line, b"\n");
     line
 }

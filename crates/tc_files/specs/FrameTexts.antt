@@ -3,8 +3,7 @@ use Rattle.std.specs.Prelude.{ℕ, ◌<◌, ◌^◌, List, ◌++◌, codes, deci
 use Rattle.tc_address.specs.Spelling.{text_of}
 use Rattle.flywheel.specs.declared.frame.Frame.{Frame}
 use Rattle.flywheel.specs.declared.frame.Frame.TheVariants.{Heard, Invented, Gone}
-use Rattle.tc_files.specs.Line.{flag_digit}
-use Rattle.tc_files.specs.Texts.{direction_name}
+use Rattle.line_text.specs.Line.{direction_name, flag_digit}
 
 -- the line of a frame
 abbrev pub frame_line : Frame → List ℕ

@@ -3,7 +3,6 @@ pub mod FrameTexts
 pub mod Grammar
 pub mod IntervalFile
 pub mod IntervalHeader
-pub mod Line
 pub mod Next
 pub mod NextByte
 pub mod Piece

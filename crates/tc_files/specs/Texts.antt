@@ -1,31 +1,15 @@
 -- The lines of a reading, byte for byte.
 use Rattle.std.specs.Prelude.{ℕ, ◌*◌, ◌/◌, ◌<◌, ◌≤◌, ◌^◌, List, ◌++◌, codes, decimal}
-use Rattle.std.specs.Int.{w32, to_be_bytes}
-use Rattle.hex.specs.Hex.{encode_lower}
 use Rattle.tc_address.specs.declared.direction.Direction.{Direction}
-use Rattle.tc_address.specs.declared.direction.Direction.TheVariants.{Forward, Backward}
 use Rattle.tc_address.specs.Count.{rate_of}
 use Rattle.tc_address.specs.Spelling.{text_of}
-use Rattle.tc_bits.specs.declared.flags.Flags.{Flags}
 use Rattle.tc_bits.specs.Fault.{name_of}
 use Rattle.tc_bits.specs.declared.fault.FieldFault.{FieldFault}
 use Rattle.ltc_word.specs.declared.word.LtcWord.{LtcWord}
 use Rattle.direction_reader.specs.declared.event.Event.{Event}
 use Rattle.direction_reader.specs.declared.event.Event.TheVariants.{Word, Refused, Lost}
 use Rattle.tc_files.specs.declared.interval_file.header.IntervalHeader.{IntervalHeader}
-use Rattle.tc_files.specs.Line.{flag_digit}
-
-abbrev pub direction_name : Direction → List ℕ
-direction_name Forward = codes "forward"
-direction_name Backward = codes "backward"
-
--- drop-frame flag, colour-frame flag, and binary group flags 0, 1 and 2
-abbrev pub flags_text : Flags → List ℕ
-flags_text f = flag_digit f.bit10 ++ flag_digit f.colour ++ flag_digit f.bgf0 ++ flag_digit f.bgf1 ++ flag_digit f.bgf2
-
--- eight hexadecimal digits, user group 8 first
-abbrev pub user_text : ℕ → List ℕ
-user_text user = encode_lower (to_be_bytes w32 user)
+use Rattle.line_text.specs.Line.{direction_name, flag_digit, flags_text, user_text}
 
 -- thousandths of nominal, rounded down: at nominal speed a word lasts a frame of the system
 abbrev pub speed_of : IntervalHeader → ℕ → ℕ

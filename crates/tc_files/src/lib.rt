@@ -18,8 +18,8 @@
 //! - `event_text` and `read_end_text` give their lines byte for byte (`specs/Texts.antt`), and
 //!   `interval_header` the twelve bytes of a header.
 //!
-//! Read `interval_file`, its `header` and its `decoder`, and then `texts`: `line`, `event` and
-//! `summary`. `tc_top` stands on this crate. Nothing here allocates.
+//! Read `interval_file`, its `header` and its `decoder`, and then `texts`: `event`, `frame` and
+//! `summary`. The lines are made of the pieces of `line_text`. `tc_top` stands on this crate. Nothing here allocates.
 #![tactic(auto)]
 
 mod fault;
@@ -37,7 +37,6 @@ pub use interval_file::header::{
 pub use interval_file::piece::{LEAST_LONG, Next, interval_bytes, most_width, next_interval};
 pub use texts::event::event_text;
 pub use texts::frame::frame_text;
-pub use texts::line::{Text, push_bytes, push_flag, push_hexadecimal, push_number};
 pub use texts::summary::{fly_end_text, read_end_text};
 
 #[cfg(test)]

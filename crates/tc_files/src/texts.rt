@@ -1,5 +1,4 @@
 //! The lines of the reports.
 pub mod event;
 pub mod frame;
-pub mod line;
 pub mod summary;

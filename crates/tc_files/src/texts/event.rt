@@ -1,24 +1,24 @@
 //! The line of an event. Next: `summary`.
-ghost use Rattle.std.specs.Prelude.{◌≡◌, ◌<◌, ◌≤◌, ◌+◌, ◌^◌, ◌++◌};
-ghost use Rattle.arrayvec.specs.ArrayVec.{array_vec_len};
+ghost use Rattle.std.specs.Prelude.{◌≡◌, ◌<◌, ◌≤◌, ◌^◌};
 ghost use Rattle.tc_files.specs.IntervalHeader.{IsTickRate};
 ghost use Rattle.tc_files.specs.Texts.{
   event_line,
   word_line,
   refused_line,
   lost_line,
-  direction_name,
   speed_of,
-  flags_text,
   FitsLine,
 };
 
 use crate::interval_file::header::IntervalHeader;
-use crate::texts::line::{Text, push_bytes, push_flag, push_hexadecimal, push_number};
 use direction_reader::Event;
+use line_text::{
+    Text, direction_name, push_bytes, push_count, push_flag, push_flags, push_hexadecimal,
+    push_ticks,
+};
 use ltc_word::LtcWord;
 use tc_address::{Direction, System, rate, text};
-use tc_bits::{FieldFault, Flags};
+use tc_bits::FieldFault;
 
 /// The line of an event, for a recording with this header.
 pub fn event_text(event: &Event, header: &IntervalHeader) -> Text
@@ -42,7 +42,6 @@ pub fn event_text(event: &Event, header: &IntervalHeader) -> Text
     }
 }
 
-#[tactic(auto, using(crate::proofs::Digits::digits_of_length, crate::proofs::Digits::digits_of_speed, crate::proofs::Digits::digits_of_tick))]
 fn word_text(
     direction: Direction,
     word: &LtcWord,
@@ -68,16 +67,15 @@ fn word_text(
     push_bytes(&mut line, b" balance ");
     push_flag(&mut line, word.balanced);
     push_bytes(&mut line, b" tick ");
-    push_number(&mut line, tick);
+    push_ticks(&mut line, tick);
     push_bytes(&mut line, b" length ");
-    push_number(&mut line, length);
+    push_count(&mut line, length);
     push_bytes(&mut line, b" speed ");
-    push_number(&mut line, speed(header, length));
+    push_count(&mut line, speed(header, length));
     push_bytes(&mut line, b"\n");
     line
 }
 
-#[tactic(auto, using(crate::proofs::Digits::digits_of_tick))]
 fn refused_text(direction: Direction, fault: FieldFault, tick: u64) -> Text
     requires { tick < 2 ^ 60 }
     ensures { result.items ≡ refused_line direction fault tick }
@@ -88,12 +86,11 @@ fn refused_text(direction: Direction, fault: FieldFault, tick: u64) -> Text
     push_bytes(&mut line, b" ");
     push_bytes(&mut line, fault.name().as_bytes());
     push_bytes(&mut line, b" tick ");
-    push_number(&mut line, tick);
+    push_ticks(&mut line, tick);
     push_bytes(&mut line, b"\n");
     line
 }
 
-#[tactic(auto, using(crate::proofs::Digits::digits_of_count, crate::proofs::Digits::digits_of_tick))]
 fn lost_text(interval: u64, tick: u64) -> Text
     requires interval { interval < 2 ^ 40 }
     requires tick { tick < 2 ^ 60 }
@@ -101,21 +98,11 @@ fn lost_text(interval: u64, tick: u64) -> Text
 {
     let mut line = Text::new();
     push_bytes(&mut line, b"lost interval ");
-    push_number(&mut line, interval);
+    push_count(&mut line, interval);
     push_bytes(&mut line, b" tick ");
-    push_number(&mut line, tick);
+    push_ticks(&mut line, tick);
     push_bytes(&mut line, b"\n");
     line
-}
-
-/// The name of a direction in a line.
-pub(crate) fn direction_name(direction: Direction) -> &'static str
-    ensures { result.now ≡ direction_name direction }
-{
-    match direction {
-        Direction::Forward => "forward",
-        Direction::Backward => "backward",
-    }
 }
 
 /// The speed of a word in thousandths of nominal, rounded down: a word of nominal speed lasts one
@@ -128,17 +115,4 @@ fn speed(header: &IntervalHeader, length: u64) -> u64
     ensures short { result < 2 ^ 37 }
 {
     1000 * u64::from(header.tick_rate) / (u64::from(rate(header.system)) * length)
-}
-
-/// Appends the five flag bits: drop-frame, colour-frame, and binary group flags 0, 1 and 2.
-fn push_flags(line: &mut Text, flags: Flags)
-    requires { array_vec_len line.old + 5 ≤ 128 }
-    ensures items { line.new.items ≡ line.old.items ++ flags_text flags }
-    ensures len { array_vec_len line.new ≡ array_vec_len line.old + 5 }
-{
-    push_flag(line, flags.bit10);
-    push_flag(line, flags.colour);
-    push_flag(line, flags.bgf0);
-    push_flag(line, flags.bgf1);
-    push_flag(line, flags.bgf2);
 }

@@ -3,9 +3,8 @@ ghost use Rattle.std.specs.Prelude.{◌≡◌, ◌<◌, ◌^◌};
 ghost use Rattle.tc_files.specs.FrameTexts.{frame_line, FitsFrameLine};
 ghost use Rattle.flywheel.specs.declared.frame.Frame.{Frame};
 
-use crate::texts::event::direction_name;
-use crate::texts::line::{Text, push_bytes, push_flag, push_number};
 use flywheel::Frame;
+use line_text::{Text, direction_name, push_bytes, push_count, push_flag, push_ticks};
 use tc_address::{Direction, Label, text};
 
 /// The line of a frame that was heard or invented, or of the end of invention.
@@ -30,7 +29,6 @@ pub fn frame_text(frame: &Frame) -> Text
     }
 }
 
-#[tactic(auto, using(crate::proofs::Digits::digits_of_tick))]
 fn heard_text(label: &Label, direction: Direction, joined: bool, tick: u64) -> Text
     requires { tick < 2 ^ 60 }
     ensures { result.items ≡ frame_line (Frame.Heard label.now direction joined tick) }
@@ -43,12 +41,11 @@ fn heard_text(label: &Label, direction: Direction, joined: bool, tick: u64) -> T
     push_bytes(&mut line, b" joined ");
     push_flag(&mut line, joined);
     push_bytes(&mut line, b" tick ");
-    push_number(&mut line, tick);
+    push_ticks(&mut line, tick);
     push_bytes(&mut line, b"\n");
     line
 }
 
-#[tactic(auto, using(crate::proofs::Digits::digits_of_length, crate::proofs::Digits::digits_of_tick))]
 fn invented_text(label: &Label, direction: Direction, step: u32, tick: u64) -> Text
     requires { tick < 2 ^ 60 }
     ensures { result.items ≡ frame_line (Frame.Invented label.now direction step tick) }
@@ -59,21 +56,20 @@ fn invented_text(label: &Label, direction: Direction, step: u32, tick: u64) -> T
     push_bytes(&mut line, b" ");
     push_bytes(&mut line, &text(label));
     push_bytes(&mut line, b" step ");
-    push_number(&mut line, u64::from(step));
+    push_count(&mut line, u64::from(step));
     push_bytes(&mut line, b" tick ");
-    push_number(&mut line, tick);
+    push_ticks(&mut line, tick);
     push_bytes(&mut line, b"\n");
     line
 }
 
-#[tactic(auto, using(crate::proofs::Digits::digits_of_tick))]
 fn gone_text(tick: u64) -> Text
     requires { tick < 2 ^ 60 }
     ensures { result.items ≡ frame_line (Frame.Gone tick) }
 {
     let mut line = Text::new();
     push_bytes(&mut line, b"gone tick ");
-    push_number(&mut line, tick);
+    push_ticks(&mut line, tick);
     push_bytes(&mut line, b"\n");
     line
 }

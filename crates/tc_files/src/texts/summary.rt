@@ -3,11 +3,10 @@ ghost use Rattle.std.specs.Prelude.{◌≡◌, ◌<◌, ◌^◌};
 ghost use Rattle.tc_files.specs.FrameTexts.{fly_end_line};
 ghost use Rattle.tc_files.specs.Texts.{read_end_line};
 
-use crate::texts::line::{Text, push_bytes, push_number};
+use line_text::{Text, push_bytes, push_count, push_ticks};
 
 /// The last line of a reading: the numbers of intervals, of words, of refused words and of breaks,
 /// and the sum of the intervals in ticks.
-#[tactic(auto, using(crate::proofs::Digits::digits_of_count, crate::proofs::Digits::digits_of_tick))]
 pub fn read_end_text(intervals: u64, words: u64, refused: u64, lost: u64, ticks: u64) -> Text
     requires intervals { intervals < 2 ^ 40 }
     requires words { words < 2 ^ 40 }
@@ -18,22 +17,21 @@ pub fn read_end_text(intervals: u64, words: u64, refused: u64, lost: u64, ticks:
 {
     let mut line = Text::new();
     push_bytes(&mut line, b"end intervals ");
-    push_number(&mut line, intervals);
+    push_count(&mut line, intervals);
     push_bytes(&mut line, b" words ");
-    push_number(&mut line, words);
+    push_count(&mut line, words);
     push_bytes(&mut line, b" refused ");
-    push_number(&mut line, refused);
+    push_count(&mut line, refused);
     push_bytes(&mut line, b" lost ");
-    push_number(&mut line, lost);
+    push_count(&mut line, lost);
     push_bytes(&mut line, b" ticks ");
-    push_number(&mut line, ticks);
+    push_ticks(&mut line, ticks);
     push_bytes(&mut line, b"\n");
     line
 }
 
 /// The last line of the frames of a recording: the numbers of intervals, of heard and of invented
 /// frames and of ends of invention, and the sum of the intervals in ticks.
-#[tactic(auto, using(crate::proofs::Digits::digits_of_count, crate::proofs::Digits::digits_of_tick))]
 pub fn fly_end_text(intervals: u64, heard: u64, invented: u64, gone: u64, ticks: u64) -> Text
     requires intervals { intervals < 2 ^ 40 }
     requires heard { heard < 2 ^ 40 }
@@ -44,15 +42,15 @@ pub fn fly_end_text(intervals: u64, heard: u64, invented: u64, gone: u64, ticks:
 {
     let mut line = Text::new();
     push_bytes(&mut line, b"end intervals ");
-    push_number(&mut line, intervals);
+    push_count(&mut line, intervals);
     push_bytes(&mut line, b" heard ");
-    push_number(&mut line, heard);
+    push_count(&mut line, heard);
     push_bytes(&mut line, b" invented ");
-    push_number(&mut line, invented);
+    push_count(&mut line, invented);
     push_bytes(&mut line, b" gone ");
-    push_number(&mut line, gone);
+    push_count(&mut line, gone);
     push_bytes(&mut line, b" ticks ");
-    push_number(&mut line, ticks);
+    push_ticks(&mut line, ticks);
     push_bytes(&mut line, b"\n");
     line
 }

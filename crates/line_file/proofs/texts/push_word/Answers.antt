@@ -1,7 +1,6 @@
 use Rattle.std.specs.Prelude.{codes}
 use Rattle.tc_address.specs.Spelling.{text_of}
-use Rattle.tc_files.specs.Line.{flag_digit}
-use Rattle.tc_files.specs.Texts.{flags_text, user_text}
+use Rattle.line_text.specs.Line.{flag_digit, flags_text, user_text}
 use Rattle.line_file.proofs.Pushed.{seven}
 use Rattle.line_file.proofs.texts.push_word.Goals as goal
 

@@ -1,0 +1,23 @@
+-- What the lines of reports are made of, byte for byte. Their form is this project's own.
+use Rattle.std.specs.Prelude.{List, ℕ, Bool, ◌++◌, codes, if◌then◌else◌}
+use Rattle.std.specs.Int.{w32, to_be_bytes}
+use Rattle.hex.specs.Hex.{encode_lower}
+use Rattle.tc_address.specs.declared.direction.Direction.{Direction}
+use Rattle.tc_address.specs.declared.direction.Direction.TheVariants.{Forward, Backward}
+use Rattle.tc_bits.specs.declared.flags.Flags.{Flags}
+
+-- a truth value
+abbrev pub flag_digit : Bool → List ℕ
+flag_digit flag = if flag then codes "1" else codes "0"
+
+-- drop-frame flag, colour-frame flag, and binary group flags 0, 1 and 2
+abbrev pub flags_text : Flags → List ℕ
+flags_text f = flag_digit f.bit10 ++ flag_digit f.colour ++ flag_digit f.bgf0 ++ flag_digit f.bgf1 ++ flag_digit f.bgf2
+
+-- the user bits: eight hexadecimal digits, user group 8 first
+abbrev pub user_text : ℕ → List ℕ
+user_text user = encode_lower (to_be_bytes w32 user)
+
+abbrev pub direction_name : Direction → List ℕ
+direction_name Forward = codes "forward"
+direction_name Backward = codes "backward"

@@ -1,0 +1,72 @@
+//! The numbers of a line. Next: `named`.
+ghost use Rattle.std.specs.Prelude.{◌≡◌, ◌+◌, ◌≤◌, ◌<◌, ◌^◌, ◌++◌, length, decimal};
+ghost use Rattle.std.specs.Fmt.{signed_decimal};
+ghost use Rattle.std.specs.Int.{w32, to_be_bytes};
+ghost use Rattle.arrayvec.specs.ArrayVec.{array_vec_len};
+ghost use Rattle.hex.specs.Hex.{encode_lower};
+
+use crate::line::{Text, push_bytes};
+use itoa::Buffer;
+
+/// Appends a number in decimal digits, without leading zeros.
+pub fn push_number(text: &mut Text, number: u64)
+    requires { array_vec_len text.old + length (decimal number) ≤ 128 }
+    ensures items { text.new.items ≡ text.old.items ++ decimal number }
+    ensures len { array_vec_len text.new ≡ array_vec_len text.old + length (decimal number) }
+{
+    let mut digits = Buffer::new();
+    push_bytes(text, digits.format(number).as_bytes());
+}
+
+/// Appends a count, a number below 2 to the 40th, in decimal digits: 13 at most.
+#[tactic(auto, using(crate::proofs::Digits::digits_of_count))]
+pub fn push_count(text: &mut Text, number: u64)
+    requires room { array_vec_len text.old + 13 ≤ 128 }
+    requires count { number < 2 ^ 40 }
+    ensures items { text.new.items ≡ text.old.items ++ decimal number }
+    ensures len { array_vec_len text.new ≤ array_vec_len text.old + 13 }
+{
+    push_number(text, number);
+}
+
+/// Appends ticks, a number below 2 to the 60th, in decimal digits: 19 at most.
+#[tactic(auto, using(crate::proofs::Digits::digits_of_ticks))]
+pub fn push_ticks(text: &mut Text, number: u64)
+    requires room { array_vec_len text.old + 19 ≤ 128 }
+    requires ticks { number < 2 ^ 60 }
+    ensures items { text.new.items ≡ text.old.items ++ decimal number }
+    ensures len { array_vec_len text.new ≤ array_vec_len text.old + 19 }
+{
+    push_number(text, number);
+}
+
+/// Appends any number in decimal digits: 20 at most.
+#[tactic(auto, using(crate::proofs::Digits::digits_of_any))]
+pub fn push_any_number(text: &mut Text, number: u64)
+    requires { array_vec_len text.old + 20 ≤ 128 }
+    ensures items { text.new.items ≡ text.old.items ++ decimal number }
+    ensures len { array_vec_len text.new ≤ array_vec_len text.old + 20 }
+{
+    push_number(text, number);
+}
+
+/// Appends a number in decimal digits, behind a `-` where it is below 0: 11 bytes at most.
+pub fn push_signed(text: &mut Text, number: i32)
+    requires { array_vec_len text.old + 11 ≤ 128 }
+    ensures items { text.new.items ≡ text.old.items ++ signed_decimal number }
+    ensures len { array_vec_len text.new ≤ array_vec_len text.old + 11 }
+{
+    let mut digits = Buffer::new();
+    push_bytes(text, digits.format(number).as_bytes());
+}
+
+/// Appends a number as eight hexadecimal digits in lower case, the highest first.
+pub fn push_hexadecimal(text: &mut Text, number: u32)
+    requires { array_vec_len text.old + 8 ≤ 128 }
+    ensures items { text.new.items ≡ text.old.items ++ encode_lower (to_be_bytes w32 number) }
+    ensures len { array_vec_len text.new ≡ array_vec_len text.old + 8 }
+{
+    let mut digits = [0; 8];
+    let _fits = hex::encode_to_slice(number.to_be_bytes(), &mut digits);
+    push_bytes(text, &digits);
+}
