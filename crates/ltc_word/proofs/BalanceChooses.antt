@@ -25,21 +25,26 @@ one_more told a b place wa wb clear e p q =
     let turns = balance_turns a place (rw e at wb) clear in
     opposed told (IsBalanced a) (IsBalanced (a + 2 ^ place)) p (rw e at q) turns.0 turns.1
 
-by_balance : (told : Bool) (a b place da db : ℕ) → a < 2 ^ 80 → b < 2 ^ 80 → a / 2 ^ place % 2 ≡ da → b / 2 ^ place % 2 ≡ db
+by_balance : (told : Bool) (a b place da db : ℕ) → a < 2 ^ 80 → b < 2 ^ 80 → a / 2 ^ place % 2 ≡ da
+    → b / 2 ^ place % 2 ≡ db
     → a + db * 2 ^ place ≡ b + da * 2 ^ place → (IsTrue told ↔ IsBalanced a) → (IsTrue told ↔ IsBalanced b) → a ≡ b
 by_balance told a b place zero zero wa wb ea eb e p q = omega arith
-by_balance told a b place zero (suc zero) wa wb ea eb e p q = absurd (one_more told a b place wa wb ea (omega arith) p q)
-by_balance told a b place (suc zero) zero wa wb ea eb e p q = absurd (one_more told b a place wb wa eb (omega arith) q p)
+by_balance told a b place zero (suc zero) wa wb ea eb e p q =
+    absurd (one_more told a b place wa wb ea (omega arith) p q)
+by_balance told a b place (suc zero) zero wa wb ea eb e p q =
+    absurd (one_more told b a place wb wa eb (omega arith) q p)
 by_balance told a b place (suc zero) (suc zero) wa wb ea eb e p q = omega arith
 by_balance told a b place (suc (suc da)) db wa wb ea eb e p q = absurd (omega arith)
 by_balance told a b place zero (suc (suc db)) wa wb ea eb e p q = absurd (omega arith)
 by_balance told a b place (suc zero) (suc (suc db)) wa wb ea eb e p q = absurd (omega arith)
 
-differ_there : (rest weight a b da db : ℕ) → a ≡ da * weight + rest → b ≡ db * weight + rest → a + db * weight ≡ b + da * weight
+differ_there : (rest weight a b da db : ℕ) → a ≡ da * weight + rest → b ≡ db * weight + rest
+    → a + db * weight ≡ b + da * weight
 differ_there rest weight a b da db x y = omega (arith, x, y)
 
 -- a word has one spelling
-pub one_spelling : OnlySumHolds → AreExact → (system : System) (word : LtcWord) (a b : ℕ) → Spells system word a → Spells system word b → a ≡ b
+pub one_spelling : OnlySumHolds → AreExact → (system : System) (word : LtcWord) (a b : ℕ) → Spells system word a
+    → Spells system word b → a ≡ b
 one_spelling law exact system word a b p q =
     let first = polarity_bit system in
     by_balance word.balanced a b first (field a first 1) (field b first 1) p.width q.width refl refl

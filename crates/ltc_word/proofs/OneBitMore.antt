@@ -41,7 +41,8 @@ ones_of_set n place clear =
     let even : half * 2 ≡ high = omega arith in
     let parts : high * 2 ^ place + low ≡ n = shr_split n place in
     let more : (high + 1) * 2 ^ place + low ≡ n + 2 ^ place = grind arith in
-    let more_ones : count_ones (n + 2 ^ place) ≡ count_ones (high + 1) + count_ones low = rw more at (ones_cat place (high + 1) low below) in
+    let more_ones : count_ones (n + 2 ^ place) ≡ count_ones (high + 1) + count_ones low = rw more at
+    (ones_cat place (high + 1) low below) in
     let without : count_ones n ≡ count_ones high + count_ones low = rw parts at (ones_cat place high low below) in
     let one : count_ones (high + 1) ≡ count_ones high + 1 = rw even at (ones_of_even half) in
     omega arith
@@ -54,7 +55,8 @@ balance_turns n place width clear =
     let more = ones_of_set n place clear in
     (λ p q. omega arith, λ p. omega arith)
 
-other_truth : (a b : Bool) (P Q : Type 0) → beq a b ≡ false → (IsTrue a ↔ P) → (P → Q → ⊥) → ((P → ⊥) → Q) → (IsTrue b ↔ Q)
+other_truth : (a b : Bool) (P Q : Type 0) → beq a b ≡ false → (IsTrue a ↔ P) → (P → Q → ⊥) → ((P → ⊥) → Q)
+    → (IsTrue b ↔ Q)
 other_truth true true P Q e p apart either = absurd cc
 other_truth true false P Q e p apart either = (λ t. absurd cc, λ q. absurd (apart (p.0 refl) q))
 other_truth false true P Q e p apart either = (λ t. either (λ h. let t : false ≡ true = p.1 h in absurd cc), λ q. refl)
@@ -67,22 +69,28 @@ same_truth false true P e p = absurd cc
 same_truth false false P e p = p
 
 -- what is made of the fields and the sync word is the word with no correction
-pub made_of : (word : LtcWord) (system : System) (t : Table) (sync fields : ℕ) → system ≡ system_with word.fields.label.count → t ≡ table_of system
-    → sync ≡ places.SYNC_PATTERN * 2 ^ places.SYNC.first → fields ≡ sum_of (row_of t word.fields) → sync + fields ≡ bits_with word 0
+pub made_of : (word : LtcWord) (system : System) (t : Table) (sync fields : ℕ)
+    → system ≡ system_with word.fields.label.count → t ≡ table_of system
+    → sync ≡ places.SYNC_PATTERN * 2 ^ places.SYNC.first → fields ≡ sum_of (row_of t word.fields)
+    → sync + fields ≡ bits_with word 0
 made_of word system t sync fields system_is table_is sync_is fields_are =
     rw (sync_is, fields_are, table_is, system_is) (omega arith)
 
 -- the bits have the balance of the word already
-pub spells_as_is : SumHolds → AreExact → (word : LtcWord) (bits : ℕ) (answer : Bool) → IsFields word.fields → word.fields.user < 2 ^ 32
+pub spells_as_is : SumHolds → AreExact → (word : LtcWord) (bits : ℕ) (answer : Bool) → IsFields word.fields
+    → word.fields.user < 2 ^ 32
     → bits ≡ bits_with word 0 → (IsTrue answer ↔ IsBalanced bits) → beq answer word.balanced ≡ true
     → Spells (system_with word.fields.label.count) word bits
 spells_as_is law exact word bits answer valid eight sum told same =
-    spells_with law exact word 0 bits valid eight (lit< tt) sum (same_truth answer word.balanced (IsBalanced bits) same told)
+    spells_with law exact word 0 bits valid eight (lit< tt) sum
+    (same_truth answer word.balanced (IsBalanced bits) same told)
 
 -- the correction gives them the balance of the word
-pub spells_corrected : SumHolds → AreExact → (word : LtcWord) (plain bits : ℕ) (answer : Bool) → IsFields word.fields → word.fields.user < 2 ^ 32
+pub spells_corrected : SumHolds → AreExact → (word : LtcWord) (plain bits : ℕ) (answer : Bool) → IsFields word.fields
+    → word.fields.user < 2 ^ 32
     → plain ≡ bits_with word 0 → bits ≡ plain + 2 ^ polarity_bit (system_with word.fields.label.count)
-    → (IsTrue answer ↔ IsBalanced plain) → beq answer word.balanced ≡ false → Spells (system_with word.fields.label.count) word bits
+    → (IsTrue answer ↔ IsBalanced plain) → beq answer word.balanced ≡ false
+    → Spells (system_with word.fields.label.count) word bits
 spells_corrected law exact word plain bits answer valid eight sum more told other =
     let first = polarity_bit (system_with word.fields.label.count) in
     let before = rw (← sum) at (stands law exact word 0 valid (lit< tt)) in
@@ -90,7 +98,8 @@ spells_corrected law exact word plain bits answer valid eight sum more told othe
     let is : plain + 2 ^ first ≡ bits_with word 1 = omega (arith, sum) in
     let turns = balance_turns plain first (rw is after.1) before.0.0 in
     spells_with law exact word 1 bits valid eight (lit< tt) (more ∙ is)
-    (rw more (other_truth answer word.balanced (IsBalanced plain) (IsBalanced (plain + 2 ^ first)) other told turns.0 turns.1))
+    (rw more (other_truth answer word.balanced (IsBalanced plain) (IsBalanced (plain + 2 ^ first)) other told turns.0
+    turns.1))
 
 -- ---- the spelling
 
@@ -100,9 +109,11 @@ even_tells n = (λ t. eqb-true n 0 t, λ e. eq-eqb n 0 e)
 spelled_by : SumHolds → AreExact → (word : LtcWord) → IsFields word.fields → word.fields.user < 2 ^ 32
     → (same : Bool) → beq (zeros (bits_with word 0) % 2 == 0) word.balanced ≡ same
     → Spells (system_with word.fields.label.count) word (cond same (bits_with word 0) (bits_with word 1))
-spelled_by law exact word valid eight true told = spells_as_is law exact word (bits_with word 0) _ valid eight refl (even_tells _) told
+spelled_by law exact word valid eight true told =
+    spells_as_is law exact word (bits_with word 0) _ valid eight refl (even_tells _) told
 spelled_by law exact word valid eight false told =
-    spells_corrected law exact word (bits_with word 0) (bits_with word 1) _ valid eight refl (omega arith) (even_tells _) told
+    spells_corrected law exact word (bits_with word 0) (bits_with word 1) _ valid eight refl (omega arith)
+    (even_tells _) told
 
 -- each word has its spelling
 pub spelled : SumHolds → AreExact → (word : LtcWord) → IsFields word.fields → word.fields.user < 2 ^ 32

@@ -21,8 +21,10 @@ use Rattle.ltc_word.specs.Spelling.{Spells}
 use Rattle.ltc_word.proofs.NoBitDiffers.{none_from_right}
 
 -- the fields that the bits say are spelled by them
-pub spelled : AreExact → (system : System) (word : LtcWord) (bits : ℕ) → bits < 2 ^ 80 → number_in places.SYNC bits ≡ places.SYNC_PATTERN
-    → Says system (raw_in (table_of system) bits) word.fields → (IsTrue word.balanced ↔ IsBalanced bits) → Spells system word bits
+pub spelled : AreExact → (system : System) (word : LtcWord) (bits : ℕ) → bits < 2 ^ 80
+    → number_in places.SYNC bits ≡ places.SYNC_PATTERN
+    → Says system (raw_in (table_of system) bits) word.fields → (IsTrue word.balanced ↔ IsBalanced bits)
+    → Spells system word bits
 spelled exact system word bits width sync says balance =
     let f = exact.said system (table_of system) word.fields bits says in
     record {
@@ -37,9 +39,11 @@ spelled exact system word bits width sync says balance =
     }
 
 -- a word that the bits spell is what they say
-pub says : AreExact → (system : System) (word : LtcWord) (bits : ℕ) → Spells system word bits → Says system (raw_in (table_of system) bits) word.fields
+pub says : AreExact → (system : System) (word : LtcWord) (bits : ℕ) → Spells system word bits
+    → Says system (raw_in (table_of system) bits) word.fields
 says exact system word bits s =
-    exact.says system (table_of system) word.fields bits s.valid s.count (record { address = s.address; flags = s.flags; user = s.user })
+    exact.says system (table_of system) word.fields bits s.valid s.count
+    (record { address = s.address; flags = s.flags; user = s.user })
 
 -- a truth value that tells a fact is the only one
 pub same_truth : (P : Type 0) (a b : Bool) → (IsTrue a ↔ P) → (IsTrue b ↔ P) → a ≡ b
@@ -52,27 +56,37 @@ abbrev pub word_with : Contents → Bool → LtcWord
 word_with fields balanced = record { fields = fields; balanced = balanced }
 
 -- one word has these fields and this balance
-pub same_word : (fields : Contents) (balanced : Bool) (word : LtcWord) → fields ≡ word.fields → balanced ≡ word.balanced → word_with fields balanced ≡ word
+pub same_word : (fields : Contents) (balanced : Bool) (word : LtcWord) → fields ≡ word.fields
+    → balanced ≡ word.balanced → word_with fields balanced ≡ word
 same_word fields balanced word e b = ap₂ word_with e b
 
 -- the bits spell one word
-pub one_word : AreExact → ((system : System) (raw : RawFields) (a b : Contents) → Says system raw a → Says system raw b → a ≡ b)
+pub one_word : AreExact → ((system : System) (raw : RawFields) (a b : Contents) → Says system raw a
+    → Says system raw b → a ≡ b)
     → (system : System) (a b : LtcWord) (bits : ℕ) → Spells system a bits → Spells system b bits → a ≡ b
 one_word exact one system a b bits p q =
     same_word a.fields a.balanced b
-    (one system (raw_in (table_of system) bits) a.fields b.fields (says exact system a bits p) (says exact system b bits q))
+    (one system (raw_in (table_of system) bits) a.fields b.fields (says exact system a bits p)
+    (says exact system b bits q))
     (same_truth (IsBalanced bits) a.balanced b.balanced p.balance q.balance)
 
 -- a word that is spelled has no fault
-pub no_fault : AreExact → ((system : System) (raw : RawFields) (c : Contents) → Says system raw c → first_field_fault system raw ≡ None)
+pub no_fault : AreExact → ((system : System) (raw : RawFields) (c : Contents) → Says system raw c
+    → first_field_fault system raw ≡ None)
     → (system : System) (word : LtcWord) (bits : ℕ) → Spells system word bits → first_fault system bits ≡ None
 no_fault exact none system word bits s =
-    rw (none_from_right bits s.sync, none system (raw_in (table_of system) bits) word.fields (says exact system word bits s)) refl
+    rw (
+      none_from_right bits s.sync,
+      none system (raw_in (table_of system) bits) word.fields
+          (says exact system word bits s),
+    ) refl
 
 -- the parts of a word and its digits, each compared
 pub said : {system : System} {count : Count} {hours minutes seconds frames : ℕ} {flags : Flags} {user : ℕ} {raw : RawFields}
-    → hours < 24 → minutes < 60 → seconds < 60 → frames < rate_of (system_with count) → is_dropped (address count hours minutes seconds frames) ≡ false
-    → agrees count flags.bit10 ≡ true → system_with count ≡ system → digits_of (contents (address count hours minutes seconds frames) flags user) ≡ raw
+    → hours < 24 → minutes < 60 → seconds < 60 → frames < rate_of (system_with count)
+    → is_dropped (address count hours minutes seconds frames) ≡ false
+    → agrees count flags.bit10 ≡ true → system_with count ≡ system
+    → digits_of (contents (address count hours minutes seconds frames) flags user) ≡ raw
     → Says system raw (contents (address count hours minutes seconds frames) flags user)
 said h m s f counted flag count digits = record {
   valid = record { label = record { hours = h; minutes = m; seconds = s; frames = f; counted = counted }; flag = flag };

@@ -28,10 +28,14 @@ rate_within F25 = omega arith
 rate_within F30 = omega arith
 
 -- the numbers of a word fill the 80 bits
-row_is : AreExact → (system : System) (c : Contents) (polarity : ℕ) → IsLabel c.label → polarity < 2 → IsRow 80 (row_with system c polarity)
-row_is law F24 c polarity label low = record { shared = refl; within = refl; fit = (low, (lit< tt, law.fit (table_of F24) c label)) }
-row_is law F25 c polarity label low = record { shared = refl; within = refl; fit = (low, (lit< tt, law.fit (table_of F25) c label)) }
-row_is law F30 c polarity label low = record { shared = refl; within = refl; fit = (low, (lit< tt, law.fit (table_of F30) c label)) }
+row_is : AreExact → (system : System) (c : Contents) (polarity : ℕ) → IsLabel c.label → polarity < 2
+    → IsRow 80 (row_with system c polarity)
+row_is law F24 c polarity label low =
+    record { shared = refl; within = refl; fit = (low, (lit< tt, law.fit (table_of F24) c label)) }
+row_is law F25 c polarity label low =
+    record { shared = refl; within = refl; fit = (low, (lit< tt, law.fit (table_of F25) c label)) }
+row_is law F30 c polarity label low =
+    record { shared = refl; within = refl; fit = (low, (lit< tt, law.fit (table_of F30) c label)) }
 
 -- the sum of a word's numbers has each of them in its place
 pub stands : SumHolds → AreExact → (word : LtcWord) (polarity : ℕ) → IsFields word.fields → polarity < 2
@@ -41,8 +45,10 @@ stands law exact word polarity valid low =
     (row_is exact (system_with word.fields.label.count) word.fields polarity valid.label low)
 
 -- so it spells the word where the balance is right
-pub spells_with : SumHolds → AreExact → (word : LtcWord) (polarity bits : ℕ) → IsFields word.fields → word.fields.user < 2 ^ 32 → polarity < 2
-    → bits ≡ bits_with word polarity → (IsTrue word.balanced ↔ IsBalanced bits) → Spells (system_with word.fields.label.count) word bits
+pub spells_with : SumHolds → AreExact → (word : LtcWord) (polarity bits : ℕ) → IsFields word.fields
+    → word.fields.user < 2 ^ 32 → polarity < 2
+    → bits ≡ bits_with word polarity → (IsTrue word.balanced ↔ IsBalanced bits)
+    → Spells (system_with word.fields.label.count) word bits
 spells_with law exact word polarity bits valid eight low sum balance =
     let s = rw (← sum) at (stands law exact word polarity valid low) in
     let f = exact.held (table_of (system_with word.fields.label.count)) word.fields bits eight s.0.1.1 in
@@ -63,5 +69,11 @@ pub is_sum : OnlySumHolds → AreExact → (system : System) (word : LtcWord) (b
 is_sum law exact system word bits s =
     let low : field bits (polarity_bit system) 1 < 2 = mod_below (bits / 2 ^ polarity_bit system) (2 ^ 1) (lit< tt) in
     law 80 (row_with system word.fields (field bits (polarity_bit system) 1)) bits
-    (row_is exact system word.fields (field bits (polarity_bit system) 1) s.valid.label low) s.width
-    (refl, (s.sync, exact.holds (table_of system) word.fields bits (record { address = s.address; flags = s.flags; user = s.user })))
+    (row_is exact system word.fields (field bits (polarity_bit system) 1) s.valid.label low) s.width (
+      refl,
+      (
+        s.sync,
+        exact.holds (table_of system) word.fields bits
+            (record { address = s.address; flags = s.flags; user = s.user }),
+      ),
+    )

@@ -90,10 +90,13 @@ below_sixteen bits first = mod_below (bits / 2 ^ first) (2 ^ 4) (lit< tt)
 
 user_spelled : (t : Table) (user bits : ℕ) → user ≡ user_in t bits → SpellsUserBits t user bits
 user_spelled t user bits e =
-    let s = groups_of_sum (field bits t.user_one 4) (field bits t.user_two 4) (field bits t.user_three 4) (field bits t.user_four 4)
+    let s = groups_of_sum (field bits t.user_one 4) (field bits t.user_two 4) (field bits t.user_three 4)
+    (field bits t.user_four 4)
     (field bits t.user_five 4) (field bits t.user_six 4) (field bits t.user_seven 4) (field bits t.user_eight 4)
-    (below_sixteen bits t.user_one) (below_sixteen bits t.user_two) (below_sixteen bits t.user_three) (below_sixteen bits t.user_four)
-    (below_sixteen bits t.user_five) (below_sixteen bits t.user_six) (below_sixteen bits t.user_seven) (below_sixteen bits t.user_eight) in
+    (below_sixteen bits t.user_one) (below_sixteen bits t.user_two) (below_sixteen bits t.user_three)
+    (below_sixteen bits t.user_four)
+    (below_sixteen bits t.user_five) (below_sixteen bits t.user_six) (below_sixteen bits t.user_seven)
+    (below_sixteen bits t.user_eight) in
     let s' = rw (← e) at s in
     record {
       one = s'.one;
@@ -109,9 +112,20 @@ user_spelled t user bits e =
 
 user_read : (t : Table) (user bits : ℕ) → SpellsUserBits t user bits → user ≡ user_in t bits
 user_read t user bits s =
-    sum_of_groups (field bits t.user_one 4) (field bits t.user_two 4) (field bits t.user_three 4) (field bits t.user_four 4)
+    sum_of_groups (field bits t.user_one 4) (field bits t.user_two 4) (field bits t.user_three 4)
+    (field bits t.user_four 4)
     (field bits t.user_five 4) (field bits t.user_six 4) (field bits t.user_seven 4) (field bits t.user_eight 4) user
-    (record { one = s.one; two = s.two; three = s.three; four = s.four; five = s.five; six = s.six; seven = s.seven; eight = s.eight; no_more = s.no_more })
+    (record {
+      one = s.one;
+      two = s.two;
+      three = s.three;
+      four = s.four;
+      five = s.five;
+      six = s.six;
+      seven = s.seven;
+      eight = s.eight;
+      no_more = s.no_more;
+    })
 
 -- ---- digits that say some fields spell them, and the other way round
 
@@ -143,7 +157,8 @@ said system t c bits says =
 abbrev flags_with : Bool → Bool → Bool → Bool → Bool → Flags
 flags_with p q r s t = record { bit10 = p; colour = q; bgf0 = r; bgf1 = s; bgf2 = t }
 
-same_flags : (p q r s t p' q' r' s' t' : Bool) → p ≡ p' → q ≡ q' → r ≡ r' → s ≡ s' → t ≡ t' → flags_with p q r s t ≡ flags_with p' q' r' s' t'
+same_flags : (p q r s t p' q' r' s' t' : Bool) → p ≡ p' → q ≡ q' → r ≡ r' → s ≡ s' → t ≡ t'
+    → flags_with p q r s t ≡ flags_with p' q' r' s' t'
 same_flags p q r s t p' q' r' s' t' hp hq hr hs ht = cc
 
 abbrev raw_with : ℕ → ℕ → ℕ → ℕ → ℕ → ℕ → ℕ → ℕ → Flags → ℕ → RawFields
@@ -190,27 +205,63 @@ flag_read bits first true e = rw e refl
 flag_read bits first false e = rw e refl
 
 held : (t : Table) (c : Contents) (bits : ℕ) → c.user < 2 ^ 32 → Holds (row_of t c) bits → SpellsFields t c bits
-held t c bits eight
-    (fu, (ft, (su, (st, (mu, (mt, (hu, (ht, (drop, (colour, (zero, (one, (two, (u1, (u2, (u3, (u4, (u5, (u6, (u7, (u8, end))))))))))))))))))))) = record {
-      address = record {
-        frame_units = fu;
-        frame_tens = ft;
-        second_units = su;
-        second_tens = st;
-        minute_units = mu;
-        minute_tens = mt;
-        hour_units = hu;
-        hour_tens = ht;
-      };
-      flags = record {
-        drop_frame = flag_read bits t.drop_frame c.flags.bit10 drop;
-        colour_frame = flag_read bits t.colour_frame c.flags.colour colour;
-        group_flag_zero = flag_read bits t.group_flag_zero c.flags.bgf0 zero;
-        group_flag_one = flag_read bits t.group_flag_one c.flags.bgf1 one;
-        group_flag_two = flag_read bits t.group_flag_two c.flags.bgf2 two;
-      };
-      user = record { one = u1; two = u2; three = u3; four = u4; five = u5; six = u6; seven = u7; eight = u8; no_more = eight };
-    }
+held t c bits eight (
+  fu,
+  (
+    ft,
+    (
+      su,
+      (
+        st,
+        (
+          mu,
+          (
+            mt,
+            (
+              hu,
+              (
+                ht,
+                (
+                  drop,
+                  (colour, (zero, (one, (two, (u1, (u2, (u3, (u4, (u5, (u6, (u7, (u8, end)))))))))))),
+                ),
+              ),
+            ),
+          ),
+        ),
+      ),
+    ),
+  ),
+) = record {
+  address = record {
+    frame_units = fu;
+    frame_tens = ft;
+    second_units = su;
+    second_tens = st;
+    minute_units = mu;
+    minute_tens = mt;
+    hour_units = hu;
+    hour_tens = ht;
+  };
+  flags = record {
+    drop_frame = flag_read bits t.drop_frame c.flags.bit10 drop;
+    colour_frame = flag_read bits t.colour_frame c.flags.colour colour;
+    group_flag_zero = flag_read bits t.group_flag_zero c.flags.bgf0 zero;
+    group_flag_one = flag_read bits t.group_flag_one c.flags.bgf1 one;
+    group_flag_two = flag_read bits t.group_flag_two c.flags.bgf2 two;
+  };
+  user = record {
+    one = u1;
+    two = u2;
+    three = u3;
+    four = u4;
+    five = u5;
+    six = u6;
+    seven = u7;
+    eight = u8;
+    no_more = eight;
+  };
+}
 
 flag_held : (bits first : ℕ) (flag : Bool) → is_set (place first 1) bits ≡ flag → field bits first 1 ≡ digit flag
 flag_held bits first true e = eqb-true (field bits first 1) 1 e
@@ -229,10 +280,13 @@ holds t c bits s =
     let u = s.user in
     also a.frame_units (also a.frame_tens (also a.second_units (also a.second_tens
     (also a.minute_units (also a.minute_tens (also a.hour_units (also a.hour_tens
-    (also (flag_held bits t.drop_frame c.flags.bit10 f.drop_frame) (also (flag_held bits t.colour_frame c.flags.colour f.colour_frame)
-    (also (flag_held bits t.group_flag_zero c.flags.bgf0 f.group_flag_zero) (also (flag_held bits t.group_flag_one c.flags.bgf1 f.group_flag_one)
+    (also (flag_held bits t.drop_frame c.flags.bit10 f.drop_frame)
+    (also (flag_held bits t.colour_frame c.flags.colour f.colour_frame)
+    (also (flag_held bits t.group_flag_zero c.flags.bgf0 f.group_flag_zero)
+    (also (flag_held bits t.group_flag_one c.flags.bgf1 f.group_flag_one)
     (also (flag_held bits t.group_flag_two c.flags.bgf2 f.group_flag_two)
-    (also u.one (also u.two (also u.three (also u.four (also u.five (also u.six (also u.seven (also u.eight tt))))))))))))))))))))
+    (also u.one (also u.two (also u.three (also u.four
+    (also u.five (also u.six (also u.seven (also u.eight tt))))))))))))))))))))
 
 digit_below : (flag : Bool) → digit flag < 2
 digit_below true = lit< tt
@@ -256,10 +310,22 @@ fit t c label =
     let u = c.user in
     also (omega arith) (also (omega arith) (also (omega arith) (also (omega arith)
     (also (omega arith) (also (omega arith) (also (omega arith) (also (omega arith)
-    (also (digit_below c.flags.bit10) (also (digit_below c.flags.colour) (also (digit_below c.flags.bgf0) (also (digit_below c.flags.bgf1)
+    (also (digit_below c.flags.bit10) (also (digit_below c.flags.colour)
+    (also (digit_below c.flags.bgf0) (also (digit_below c.flags.bgf1)
     (also (digit_below c.flags.bgf2)
     (also (group_below 1 u) (also (group_below 2 u) (also (group_below 3 u) (also (group_below 4 u)
-    (also (group_below 5 u) (also (group_below 6 u) (also (group_below 7 u) (also (group_below 8 u) tt))))))))))))))))))))
+    (also (group_below 5 u) (also (group_below 6 u) (also (group_below 7 u)
+    (also (group_below 8 u) tt))))))))))))))))))))
 
 pub are_exact : AreExact
-are_exact = record { said = said; says = says; held = held; holds = holds; fit = fit; flag_read = flag_read; flag_held = flag_held }
+are_exact =
+    record {
+      said = said;
+      says = says;
+      held = held;
+      holds = holds;
+      fit = fit;
+      flag_read = flag_read;
+      flag_held =
+          flag_held;
+    }

@@ -19,10 +19,12 @@ no_check : (base : ℕ) → base < 2 ^ 90 → base / 2 ^ 82 % 2 ^ 8 ≡ 0 → ba
 no_check base width none = omega (arith, width, none)
 
 -- what is made of the fields, the mark and the sync pairs is the line with no check
-pub made_of : (word : VitcWord) (system : System) (t : Table) (mark fields : ℕ) → system ≡ system_with word.fields.label.count → t ≡ table_of system
+pub made_of : (word : VitcWord) (system : System) (t : Table) (mark fields : ℕ)
+    → system ≡ system_with word.fields.label.count → t ≡ table_of system
     → mark ≡ digit word.field_mark * 2 ^ field_mark_bit system → fields ≡ sum_of (row_of t word.fields)
     → mark + places.ALL_SYNC_PAIRS + fields ≡ bits_with word 0
-made_of word system t mark fields system_is table_is mark_is fields_are = rw (mark_is, fields_are, table_is, system_is) (omega arith)
+made_of word system t mark fields system_is table_is mark_is fields_are =
+    rw (mark_is, fields_are, table_is, system_is) (omega arith)
 
 -- the numbers stand before the check
 pub unchecked_below : SumHolds → AreExact → (word : VitcWord) → IsFields word.fields → bits_with word 0 < 2 ^ 82
@@ -39,11 +41,14 @@ unfolding line_of
 line_spells law exact word valid eight =
     let plain = bits_with word 0 in
     let made = rw (with_check word (check_sum plain)) at (check_made plain (unchecked_below law exact word valid)) in
-    spells_with law exact word (check_sum plain) (bits_with word (check_sum plain)) valid eight (check_less plain) refl made
+    spells_with law exact word (check_sum plain) (bits_with word (check_sum plain)) valid eight (check_less plain)
+    refl made
 
 odd_by : (bits : ℕ) → bits / 2 ^ 0 % 2 ^ 2 ≡ 1 → bits % 2 ≡ 1
 odd_by bits e = omega (arith, e)
 
 -- the first bit is that of the first sync pair
-pub line_odd : SumHolds → AreExact → (word : VitcWord) → IsFields word.fields → word.fields.user < 2 ^ 32 → line_of word % 2 ≡ 1
-line_odd law exact word valid eight = odd_by (line_of word) ((line_spells law exact word valid eight).sync_pairs 0 (omega arith))
+pub line_odd : SumHolds → AreExact → (word : VitcWord) → IsFields word.fields → word.fields.user < 2 ^ 32
+    → line_of word % 2 ≡ 1
+line_odd law exact word valid eight =
+    odd_by (line_of word) ((line_spells law exact word valid eight).sync_pairs 0 (omega arith))

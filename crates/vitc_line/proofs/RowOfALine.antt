@@ -29,13 +29,16 @@ digit_below false = lit< tt
 also : {Held Rest : Type 0} → Held → Rest → Held × Rest
 also held rest = (held, rest)
 
-fits : (system : System) (c : Contents) (mark : Bool) (check : ℕ) → check < 2 ^ 8 → Fit (row_of (table_of system) c) → Fit (row_with system c mark check)
+fits : (system : System) (c : Contents) (mark : Bool) (check : ℕ) → check < 2 ^ 8 → Fit (row_of (table_of system) c)
+    → Fit (row_with system c mark check)
 fits system c mark check low rest =
-    also low (also (digit_below mark) (also (lit< tt) (also (lit< tt) (also (lit< tt) (also (lit< tt) (also (lit< tt) (also (lit< tt)
+    also low (also (digit_below mark) (also (lit< tt) (also (lit< tt)
+    (also (lit< tt) (also (lit< tt) (also (lit< tt) (also (lit< tt)
     (also (lit< tt) (also (lit< tt) (also (lit< tt) rest))))))))))
 
 -- the numbers of a line fill the 90 bits
-row_is : AreExact → (system : System) (c : Contents) (mark : Bool) (check : ℕ) → IsLabel c.label → check < 2 ^ 8 → IsRow 90 (row_with system c mark check)
+row_is : AreExact → (system : System) (c : Contents) (mark : Bool) (check : ℕ) → IsLabel c.label → check < 2 ^ 8
+    → IsRow 90 (row_with system c mark check)
 row_is exact F24 c mark check label low =
     record { shared = refl; within = refl; fit = fits F24 c mark check low (exact.fit (table_of F24) c label) }
 row_is exact F25 c mark check label low =
@@ -62,9 +65,11 @@ each_pair P a b c d e f g h k (suc (suc (suc (suc (suc (suc (suc zero))))))) lt 
 each_pair P a b c d e f g h k (suc (suc (suc (suc (suc (suc (suc (suc zero)))))))) lt = k
 each_pair P a b c d e f g h k (suc (suc (suc (suc (suc (suc (suc (suc (suc pair))))))))) lt = absurd (omega arith)
 
-spelled_by : AreExact → (word : VitcWord) (check bits : ℕ) → IsFields word.fields → word.fields.user < 2 ^ 32 → bits < 2 ^ 90
+spelled_by : AreExact → (word : VitcWord) (check bits : ℕ) → IsFields word.fields → word.fields.user < 2 ^ 32
+    → bits < 2 ^ 90
     → ((r : ℕ) → r < 8 → residue r bits ≡ 0)
-    → Holds (row_with (system_with word.fields.label.count) word.fields word.field_mark check) bits → Spells (system_with word.fields.label.count) word bits
+    → Holds (row_with (system_with word.fields.label.count) word.fields word.field_mark check) bits
+    → Spells (system_with word.fields.label.count) word bits
 spelled_by exact word check bits valid eight width holds (number, (mark, (s0, (s1, (s2, (s3, (s4, (s5, (s6, (s7, (s8, rest))))))))))) =
     let system = system_with word.fields.label.count in
     let f = exact.held (table_of system) word.fields bits eight rest in
@@ -81,8 +86,10 @@ spelled_by exact word check bits valid eight width holds (number, (mark, (s0, (s
     }
 
 -- so it spells the word where the check holds
-pub spells_with : SumHolds → AreExact → (word : VitcWord) (check bits : ℕ) → IsFields word.fields → word.fields.user < 2 ^ 32 → check < 2 ^ 8
-    → bits ≡ bits_with word check → ((r : ℕ) → r < 8 → residue r bits ≡ 0) → Spells (system_with word.fields.label.count) word bits
+pub spells_with : SumHolds → AreExact → (word : VitcWord) (check bits : ℕ) → IsFields word.fields
+    → word.fields.user < 2 ^ 32 → check < 2 ^ 8
+    → bits ≡ bits_with word check → ((r : ℕ) → r < 8 → residue r bits ≡ 0)
+    → Spells (system_with word.fields.label.count) word bits
 spells_with law exact word check bits valid eight low sum holds =
     let s = rw (← sum) at (stands law exact word check valid low) in
     spelled_by exact word check bits valid eight s.1 holds s.0
@@ -95,14 +102,17 @@ held : AreExact → (system : System) (word : VitcWord) (bits : ℕ) → Spells 
 held exact system word bits s =
     let pair = s.sync_pairs in
     also refl (also (exact.flag_held bits (field_mark_bit system) word.field_mark s.mark)
-    (also (pair 0 (lit< tt)) (also (pair 1 (lit< tt)) (also (pair 2 (lit< tt)) (also (pair 3 (lit< tt)) (also (pair 4 (lit< tt))
+    (also (pair 0 (lit< tt)) (also (pair 1 (lit< tt)) (also (pair 2 (lit< tt))
+    (also (pair 3 (lit< tt)) (also (pair 4 (lit< tt))
     (also (pair 5 (lit< tt)) (also (pair 6 (lit< tt)) (also (pair 7 (lit< tt)) (also (pair 8 (lit< tt))
-    (exact.holds (table_of system) word.fields bits (record { address = s.address; flags = s.flags; user = s.user }))))))))))))
+    (exact.holds (table_of system) word.fields bits (record
+    { address = s.address; flags = s.flags; user = s.user }))))))))))))
 
 -- and bits that spell a word are the sum
 pub is_sum : OnlySumHolds → AreExact → (system : System) (word : VitcWord) (bits : ℕ) → Spells system word bits
     → bits ≡ sum_of (row_with system word.fields word.field_mark (number_in places.CHECK bits))
 is_sum law exact system word bits s =
     law 90 (row_with system word.fields word.field_mark (number_in places.CHECK bits)) bits
-    (row_is exact system word.fields word.field_mark (number_in places.CHECK bits) s.valid.label (check_below bits)) s.width
+    (row_is exact system word.fields word.field_mark (number_in places.CHECK bits) s.valid.label (check_below bits))
+    s.width
     (held exact system word bits s)
