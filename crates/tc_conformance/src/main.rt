@@ -5,8 +5,8 @@
 //! each pull and each push failing in turn, with outputs and notes that are full at each length, and with inputs
 //! that end early. `data/wrong.tsv` has cases with a wrong expectation, each of which has to be told as wrong.
 //!
-//! Read `case`, `sweeps` and then `cell`. The program prints a line for each case and a last line of counts for each table.
-//! It has no contracts of its own: what is proved is that it is safe and ends.
+//! Read `case`, `sweeps` and then `cell`. The program prints a line for each case, and a last line of counts for
+//! each table. It has no contracts of its own: what is proved is that it is safe and ends.
 #![tactic(auto)]
 
 mod case;
