@@ -1,0 +1,261 @@
+//! The decoder of a sound file. Next: `tests`, with files of other programs.
+ghost use Rattle.std.specs.Prelude.{◌≡◌, ◌≤◌, ◌<◌, ◌*◌, ◌^◌, ◌++◌, ◌+◌, ℕ, ℤ, List, [], length, take, Some, None, OnOk, IfErr};
+ghost use Rattle.wave_file.specs.Format.{samples_at, IsTakenFor};
+ghost use Rattle.wave_file.specs.Stage.{HasBytes, IsWaiting};
+ghost use Rattle.wave_file.specs.StandsFor.{no_decoding, AddsBlocks, AddsTaken, StandsFor, StopsAt, may_end_before};
+ghost use Rattle.wave_file.specs.Wave.{end_fault_of};
+
+use crate::chunk::{Extent, Notes};
+use crate::fault::WaveFault;
+use crate::format::WaveFormat;
+use crate::sample::sample_in;
+use crate::stage::{MAX_BYTES, Stage, Step, behind, data_stage, passed, step_over, width_of};
+use arrayvec::ArrayVec;
+use std::marker::Model;
+
+/// The most bytes of a piece: a block of 64 samples of 32 bits.
+pub const PIECE_ROOM: usize = 256;
+
+/// The first bytes of a piece.
+type Part = ArrayVec<u8, PIECE_ROOM>;
+
+/// What bytes complete.
+#[derive(Clone, Copy, Debug, PartialEq, Eq)]
+pub enum Taken {
+    /// So many bytes, and no sample.
+    Nothing(usize),
+    /// So many bytes, behind which the data begin.
+    Begin { count: usize, format: WaveFormat },
+    /// So many bytes, and with the last of them a sample of the track.
+    Sample { count: usize, sample: i16 },
+    /// The first fault of the bytes so far.
+    Fault(WaveFault),
+    /// One sample or one byte too many.
+    Limit,
+}
+
+/// Decodes a sound file piece by piece, and keeps less than one piece of it.
+#[derive(Drop)]
+pub struct WaveDecoder {
+    track: u32,
+    notes: Notes,
+    place: u64,
+    stage: Stage,
+    part: Part,
+}
+
+impl Model for WaveDecoder {
+    ghost use Rattle.wave_file.specs.StandsFor.{Decoding, IsDecoding, decoding_of};
+
+    ghost Value = { Decoding };
+
+    ghost view = { λ d. decoding_of d.track d.notes d.place d.stage d.part.items };
+
+    ghost invariant = { λ d. IsDecoding (decoding_of d.track d.notes d.place d.stage d.part.items) };
+}
+
+impl WaveDecoder {
+    /// A decoder of a track, from 1 to 64, that stands before the first byte.
+    pub fn new(track: u32) -> WaveDecoder
+        requires least { 1 ≤ track }
+        requires most { track ≤ 64 }
+        ensures value { result ≡ no_decoding track }
+        ensures stands { StandsFor result [] [] }
+    {
+        WaveDecoder {
+            track,
+            notes: Notes {
+                is_long: false,
+                format: None,
+                data_size: None,
+            },
+            place: 0,
+            stage: Stage::Riff,
+            part: ArrayVec::new(),
+        }
+    }
+
+    /// Takes some of the bytes, from the first on: up to the end of a piece, or all. A fault and the limit
+    /// leave the decoder as it was.
+    pub fn take(&mut self, bytes: &[u8]) -> Taken
+        requires { 0 < length bytes.now }
+        ensures takes { AddsTaken self.old self.new bytes.now result }
+        ensures stops { (front : List ℕ) (samples : List ℤ) → StandsFor self.old front samples
+            → StopsAt self.old (front ++ bytes.now) samples result }
+    {
+        let room = MAX_BYTES - (self.place + self.part.len() as u64);
+        if room == 0 {
+            return Taken::Limit;
+        }
+        let length = if room < bytes.len() as u64 {
+            room as usize
+        } else {
+            bytes.len()
+        };
+        if let Some((count, stage)) = passed(&self.stage, length) {
+            self.stage = stage;
+            self.place += count as u64;
+            return Taken::Nothing(count);
+        }
+        let width = width_of(&self.stage);
+        let before = self.part.len();
+        let want = width - before;
+        if length < want {
+            push(&mut self.part, &bytes[..length]);
+            return Taken::Nothing(length);
+        }
+        push(&mut self.part, &bytes[..want]);
+        match step_over(self.track, &self.notes, &self.stage, self.place, &self.part) {
+            Step::Next { notes, stage } => {
+                self.notes = notes;
+                self.stage = stage;
+                self.place += width as u64;
+                self.part.clear();
+                Taken::Nothing(want)
+            }
+            Step::Begin { format, stage } => {
+                self.stage = stage;
+                self.place += width as u64;
+                self.part.clear();
+                Taken::Begin {
+                    count: want,
+                    format,
+                }
+            }
+            Step::Sample { sample, stage } => {
+                self.stage = stage;
+                self.place += width as u64;
+                self.part.clear();
+                Taken::Sample {
+                    count: want,
+                    sample,
+                }
+            }
+            Step::Fault(fault) => {
+                self.part.truncate(before);
+                Taken::Fault(fault)
+            }
+            Step::Limit => {
+                self.part.truncate(before);
+                Taken::Limit
+            }
+        }
+    }
+
+    /// Takes whole blocks at the front of the bytes, where the next bytes are blocks of data, and puts
+    /// their samples into the room from its front on. Answers how many bytes and how many samples these
+    /// are: none where a block is cut, where data have not begun or have ended, or at a limit.
+    pub fn samples(&mut self, bytes: &[u8], room: &mut [i16]) -> (usize, usize)
+        ensures bytes { result.0 ≤ length bytes.now }
+        ensures samples { result.1 ≤ length room.new }
+        ensures room { length room.new ≡ length room.old }
+        ensures adds { AddsBlocks self.old self.new bytes.now result.0 (take result.1 room.new) }
+    {
+        let Stage::Data {
+            format,
+            extent,
+            room: left,
+        } = self.stage
+        else {
+            return (0, 0);
+        };
+        if !self.part.is_empty() {
+            return (0, 0);
+        }
+        let block = usize::from(format.block);
+        let inside = bytes_inside(extent, MAX_BYTES - self.place, bytes.len());
+        let count = least(inside / block, room.len(), left);
+        read_blocks(
+            &format,
+            self.track,
+            &bytes[..count * block],
+            &mut room[..count],
+        );
+        let length = count * block;
+        self.stage = data_stage(format, behind(extent, length as u64), left - count as u64);
+        self.place += length as u64;
+        (length, count)
+    }
+
+    /// The end of the input: the fault where it may not end here.
+    pub fn finish(&self) -> Result<(), WaveFault>
+        ensures ok { OnOk result ((bytes : List ℕ) (samples : List ℤ) → StandsFor self.now bytes samples
+            → end_fault_of self.now.track bytes ≡ None) }
+        ensures err { IfErr result (λ fault. (bytes : List ℕ) (samples : List ℤ) → StandsFor self.now bytes samples
+            → end_fault_of self.now.track bytes ≡ Some fault) }
+    {
+        if self.part.is_empty() && may_end(&self.stage) {
+            Ok(())
+        } else {
+            Err(WaveFault::Truncated(self.place + self.part.len() as u64))
+        }
+    }
+}
+
+/// Whether the input may end before bytes of a stage.
+fn may_end(stage: &Stage) -> bool
+    ensures { result ≡ may_end_before stage.now }
+{
+    match *stage {
+        Stage::Tail { left, .. } => left == 0,
+        Stage::Data {
+            extent: Extent::Open,
+            ..
+        } => true,
+        _ => false,
+    }
+}
+
+/// How many of so many bytes are data and within the limit.
+fn bytes_inside(extent: Extent, room: u64, length: usize) -> usize
+    ensures length { result ≤ length }
+    ensures room { result ≤ room }
+    ensures inside { HasBytes result extent }
+{
+    let within = if room < length as u64 {
+        room as usize
+    } else {
+        length
+    };
+    match extent {
+        Extent::Announced(left) if left < within as u64 => left as usize,
+        _ => within,
+    }
+}
+
+/// The least of these numbers.
+fn least(blocks: usize, places: usize, left: u64) -> usize
+    ensures blocks { result ≤ blocks }
+    ensures places { result ≤ places }
+    ensures left { result ≤ left }
+{
+    let most = if blocks < places { blocks } else { places };
+    if left < most as u64 {
+        left as usize
+    } else {
+        most
+    }
+}
+
+/// Puts the samples of a track in blocks into places, of which there are as many.
+fn read_blocks(format: &WaveFormat, track: u32, blocks: &[u8], places: &mut [i16])
+    requires taken { IsTakenFor track format.now }
+    requires blocks { length blocks.now ≡ length places.old * format.now.block }
+    ensures { places.new ≡ samples_at format.now track (length places.old) blocks.now }
+{
+    let block = usize::from(format.block);
+    let mut at = 0;
+    'blocks: for place in 0..places.len() {
+        let next = at + block;
+        places[place] = sample_in(format, track, &blocks[at..next]);
+        at = next;
+    }
+}
+
+/// Appends bytes for which there is room.
+fn push(part: &mut Part, bytes: &[u8])
+    requires { length part.old.items + length bytes.now ≤ PIECE_ROOM }
+    ensures { part.new.items ≡ part.old.items ++ bytes.now }
+{
+    let _fits = part.try_extend_from_slice(bytes);
+}
