@@ -1,8 +1,9 @@
 -- The chunks of a sound file: what their letters and sizes say (EBU Tech 3285; ITU-R BS.2088 for sizes of 64 bits).
-use Rattle.std.specs.Prelude.{ℕ, zero, suc, Bool, true, false, not, ◌&&◌, ◌||◌, ◌==◌, nat_le, nat_lt, if◌then◌else◌, Option, Some, None, Result, Ok, Err}
+use Rattle.std.specs.Prelude.{⊤, ◌≤◌, ℕ, zero, suc, Bool, true, false, not, ◌&&◌, ◌||◌, ◌==◌, nat_le, nat_lt, if◌then◌else◌, Option, Some, None, Result, Ok, Err, IfSome}
 use Rattle.wave_file.specs.declared.fault.WaveFault.{WaveFault}
 use Rattle.wave_file.specs.declared.fault.WaveFault.TheVariants as fault
 use Rattle.wave_file.specs.declared.format.WaveFormat.{WaveFormat}
+use Rattle.wave_file.specs.Format.{IsTakenFor}
 use Rattle.wave_file.specs.declared.chunk.Chunk.{Chunk}
 use Rattle.wave_file.specs.declared.chunk.Chunk.TheVariants as chunk
 use Rattle.wave_file.specs.declared.chunk.Extent.{Extent}
@@ -55,3 +56,16 @@ chunk_of notes place letters size =
     else if letters == FORMAT then (if nat_lt size 16 then Err (fault.Format place) else Ok (chunk.Format size))
     else if (letters == SIZES) && notes.is_long then (if nat_lt size 16 then Err (fault.Ds64 place) else Ok (chunk.Sizes size))
     else Ok (chunk.Other size)
+
+-- ---- what is known of a chunk
+
+-- the formats in notes are taken
+abbrev pub IsNoted : ℕ → Notes → Type 0
+IsNoted track notes = IfSome notes.format (λ format. IsTakenFor track format)
+
+-- the chunk is long enough, and its format is taken
+abbrev pub IsChunkFor : ℕ → Chunk → Type 0
+IsChunkFor track (chunk.Format size) = 16 ≤ size
+IsChunkFor track (chunk.Sizes size) = 16 ≤ size
+IsChunkFor track (chunk.Data format extent) = IsTakenFor track format
+IsChunkFor track (chunk.Other size) = ⊤

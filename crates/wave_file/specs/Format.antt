@@ -65,6 +65,8 @@ pub record IsTakenFor (track : ℕ) (format : WaveFormat) : Type 0 where
   pub bits_most : format.bits ≤ 32
   pub whole : format.bits ≡ 8 * (format.bits / 8)
   pub block : format.block ≡ format.tracks * (format.bits / 8)
+  pub some : 1 ≤ format.block
+  pub room : format.block ≤ 256
 
 -- ---- the samples
 

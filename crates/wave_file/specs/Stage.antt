@@ -69,15 +69,11 @@ abbrev pub data_stage : WaveFormat → Extent → ℕ → Stage
 data_stage format (extent.Announced left) room = if nat_lt left format.block then Tail format left else Data format (extent.Announced left) room
 data_stage format extent.Open room = Data format extent.Open room
 
--- the formats in notes are taken
-abbrev pub IsNoted : ℕ → Notes → Type 0
-IsNoted track notes = IfSome notes.format (λ format. IsTakenFor track format)
-
 -- what is kept of a stage, and the place where its piece may begin
 abbrev pub IsStage : ℕ → ℕ → Stage → Type 0
 IsStage track place Riff = place ≡ 0
 IsStage track place (Wave is_long) = place ≡ 4
-IsStage track place (Chunk skip) = skip ≤ 2 ^ 32
+IsStage track place (Chunk skip) = ⊤
 IsStage track place (Format size) = 16 ≤ size
 IsStage track place (Sizes size) = 16 ≤ size
 IsStage track place (Data format extent room) = IsTakenFor track format × HasBlock format extent × (room ≤ MAX_SAMPLES)

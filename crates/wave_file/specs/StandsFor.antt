@@ -7,8 +7,8 @@ use Rattle.wave_file.specs.declared.format.WaveFormat.{WaveFormat}
 use Rattle.wave_file.specs.declared.stage.Stage.{Stage}
 use Rattle.wave_file.specs.declared.stage.Stage.TheVariants.{Riff, Data, Tail}
 use Rattle.wave_file.specs.declared.stage.TheConstants.{MAX_BYTES}
-use Rattle.wave_file.specs.Chunk.{no_notes}
-use Rattle.wave_file.specs.Stage.{at, format_at_stage, width_of, IsNoted, IsStage}
+use Rattle.wave_file.specs.Chunk.{no_notes, IsNoted}
+use Rattle.wave_file.specs.Stage.{at, format_at_stage, width_of, IsStage}
 use Rattle.wave_file.specs.Step.{with_samples}
 use Rattle.wave_file.specs.Wave.{Reading, Verdict, file_at, reading_of, refused, past_limit}
 use Rattle.std.specs.Prelude.{true, false, ◌==◌}

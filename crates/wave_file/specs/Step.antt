@@ -7,8 +7,8 @@ use Rattle.wave_file.specs.declared.stage.Stage.{Stage}
 use Rattle.wave_file.specs.declared.stage.Stage.TheVariants as stage
 use Rattle.wave_file.specs.declared.stage.Step.{Step}
 use Rattle.wave_file.specs.declared.stage.Step.TheVariants.{Next, Begin, Sample, Fault, Limit}
-use Rattle.wave_file.specs.Chunk.{no_notes}
-use Rattle.wave_file.specs.Stage.{at, format_at_stage, width_of, IsNoted, IsStage}
+use Rattle.wave_file.specs.Chunk.{no_notes, IsNoted}
+use Rattle.wave_file.specs.Stage.{at, format_at_stage, width_of, IsStage}
 use Rattle.wave_file.specs.Wave.{Reading, bad, past_limit}
 
 -- behind other samples

@@ -86,12 +86,12 @@ format_at track notes place size next bytes =
 abbrev pub sizes_at : Notes → (Notes → Reading) → List ℕ → Reading
 sizes_at notes next bytes = piece 16 (λ body rest. next (record notes { data_size = Some (little_number 8 (drop 8 body)) })) bytes
 
--- a chunk whose bytes stand at a place, and what comes behind it
-abbrev pub chunk_at : ℕ → Notes → ℕ → Chunk → (Notes → Reading) → List ℕ → Reading
-chunk_at track notes place (chunk.Format size) next bytes = format_at track notes place size next bytes
-chunk_at track notes place (chunk.Sizes size) next bytes = sizes_at notes next bytes
+-- a chunk whose bytes stand at a place, and what comes behind its bytes
+abbrev pub chunk_at : ℕ → Notes → ℕ → Chunk → (ℕ → Notes → Reading) → List ℕ → Reading
+chunk_at track notes place (chunk.Format size) next bytes = format_at track notes place size (next size) bytes
+chunk_at track notes place (chunk.Sizes size) next bytes = sizes_at notes (next size) bytes
 chunk_at track notes place (chunk.Data format extent) next bytes = data_at track format extent MAX_SAMPLES bytes
-chunk_at track notes place (chunk.Other size) next bytes = next notes
+chunk_at track notes place (chunk.Other size) next bytes = next size notes
 
 -- the bytes of a chunk with the one of padding that makes their number even
 abbrev pub padded : ℕ → ℕ
@@ -101,9 +101,8 @@ padded size = size + size % 2
 unfoldable pub chunks_at : ℕ → ℕ → Notes → ℕ → List ℕ → Reading
 chunks_at track (suc skip) notes place (byte ∷ more) = chunks_at track skip notes (place + 1) more
 chunks_at track zero notes place (a ∷ b ∷ c ∷ d ∷ e ∷ f ∷ g ∷ h ∷ more) =
-    let size = little_number 4 (e ∷ f ∷ g ∷ h ∷ []) in
-    taken (chunk_of notes place (big_number 4 (a ∷ b ∷ c ∷ d ∷ [])) size)
-    (λ chunk. chunk_at track notes (place + 8) chunk (λ notes. chunks_at track (padded size) notes (place + 8) more) more)
+    taken (chunk_of notes place (big_number 4 (a ∷ b ∷ c ∷ d ∷ [])) (little_number 4 (e ∷ f ∷ g ∷ h ∷ [])))
+    (λ chunk. chunk_at track notes (place + 8) chunk (λ size notes. chunks_at track (padded size) notes (place + 8) more) more)
 chunks_at track skip notes place bytes = unfinished
 
 -- ---- the file

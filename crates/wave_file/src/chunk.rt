@@ -1,7 +1,6 @@
 //! What the letters and the size of a chunk begin. Next: `stage`.
-ghost use Rattle.std.specs.Prelude.{◌≡◌, ◌≤◌, ◌<◌, ◌^◌, IfOk};
-ghost use Rattle.wave_file.specs.Format.{IsTakenFor};
-ghost use Rattle.wave_file.specs.Chunk.{chunk_of, data_in, extent_of, form_of, is_open_size};
+ghost use Rattle.std.specs.Prelude.{◌≡◌, ℕ, IfOk};
+ghost use Rattle.wave_file.specs.Chunk.{chunk_of, data_in, extent_of, form_of, is_open_size, IsChunkFor, IsNoted};
 
 use crate::fault::WaveFault;
 use crate::format::{MIN_FORMAT_LENGTH, WaveFormat};
@@ -103,7 +102,8 @@ fn extent_of(notes: &Notes, size: u32) -> Option<Extent>
 
 /// Data of this size, behind these chunks.
 fn data_in(notes: &Notes, place: u64, size: u32) -> Result<Chunk, WaveFault>
-    ensures { result ≡ data_in notes.now place size }
+    ensures value { result ≡ data_in notes.now place size }
+    ensures chunk { (track : ℕ) → IsNoted track notes.now → IfOk result (λ chunk. IsChunkFor track chunk) }
 {
     match extent_of(notes, size) {
         None => Err(WaveFault::Ds64(place)),
@@ -122,6 +122,7 @@ pub(crate) fn chunk_of(
     size: u32,
 ) -> Result<Chunk, WaveFault>
     ensures value { result ≡ chunk_of notes.now place letters size }
+    ensures chunk { (track : ℕ) → IsNoted track notes.now → IfOk result (λ chunk. IsChunkFor track chunk) }
 {
     if letters == DATA {
         data_in(notes, place, size)

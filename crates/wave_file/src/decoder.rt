@@ -87,11 +87,7 @@ impl WaveDecoder {
         if room == 0 {
             return Taken::Limit;
         }
-        let length = if room < bytes.len() as u64 {
-            room as usize
-        } else {
-            bytes.len()
-        };
+        let length = within(room, bytes.len());
         if let Some((count, stage)) = passed(&self.stage, length) {
             self.stage = stage;
             self.place += count as u64;
@@ -206,6 +202,21 @@ fn may_end(stage: &Stage) -> bool
     }
 }
 
+/// So many bytes, and no more than there is room for.
+fn within(room: u64, length: usize) -> usize
+    requires room { 1 ≤ room }
+    requires length { 1 ≤ length }
+    ensures some { 1 ≤ result }
+    ensures room { result ≤ room }
+    ensures length { result ≤ length }
+{
+    if room < length as u64 {
+        room as usize
+    } else {
+        length
+    }
+}
+
 /// How many of so many bytes are data and within the limit.
 fn bytes_inside(extent: Extent, room: u64, length: usize) -> usize
     ensures length { result ≤ length }
@@ -245,7 +256,7 @@ fn read_blocks(format: &WaveFormat, track: u32, blocks: &[u8], places: &mut [i16
 {
     let block = usize::from(format.block);
     let mut at = 0;
-    'blocks: for place in 0..places.len() {
+    'each: for place in 0..places.len() {
         let next = at + block;
         places[place] = sample_in(format, track, &blocks[at..next]);
         at = next;

@@ -1,11 +1,12 @@
 //! How far a decoder has come, and what a whole piece brings. Next: `decoder`.
-ghost use Rattle.std.specs.Prelude.{◌≡◌, ℕ, ◌≤◌, ◌<◌, ◌^◌, length, None, IfSome};
+ghost use Rattle.std.specs.Prelude.{◌≡◌, ℕ, ◌≤◌, ◌<◌, ◌^◌, length, drop, None, IfSome};
 ghost use Rattle.wave_file.specs.Format.{IsTakenFor};
-ghost use Rattle.wave_file.specs.Stage.{data_stage, extent_behind, width_of, HasBlock, HasBytes, IsNoted, IsPassed, IsStage, IsWaiting};
+ghost use Rattle.wave_file.specs.Stage.{data_stage, extent_behind, width_of, HasBlock, HasBytes, IsPassed, IsStage, IsWaiting};
 ghost use Rattle.wave_file.specs.Step.{IsStep};
 ghost use Rattle.wave_file.specs.declared.stage.Stage.TheVariants as stages;
+ghost use Rattle.byteorder.specs.Endian.{little_number};
 ghost use Rattle.wave_file.specs.Wave.{judged_width, padded};
-ghost use Rattle.wave_file.specs.Chunk.{no_notes};
+ghost use Rattle.wave_file.specs.Chunk.{no_notes, IsNoted};
 ghost use Rattle.wave_file.specs.declared.chunk.Notes.{Notes};
 
 use crate::chunk::{Chunk, Extent, Notes, SIZES_LENGTH, WAVE, chunk_of, form_of};
@@ -205,8 +206,7 @@ fn behind_head(notes: &Notes, place: u64, piece: &[u8]) -> Step
     requires piece { length piece.now ≡ 8 }
     ensures { (track : ℕ) → IsNoted track notes.now → IsStep track notes.now place (stages.Chunk 0) piece.now result }
 {
-    let size = LittleEndian::read_u32(&piece[4..]);
-    match chunk_of(notes, place, BigEndian::read_u32(piece), size) {
+    match chunk_of(notes, place, BigEndian::read_u32(piece), size_in(piece)) {
         Err(fault) => Step::Fault(fault),
         Ok(Chunk::Data { format, extent }) => Step::Begin {
             format,
@@ -260,7 +260,7 @@ fn behind_sizes(notes: &Notes, size: u32, piece: &[u8]) -> Step
         notes: Notes {
             is_long: notes.is_long,
             format: notes.format,
-            data_size: Some(LittleEndian::read_u64(&piece[8..])),
+            data_size: Some(long_size_in(piece)),
         },
         stage: Stage::Chunk {
             skip: padded(size) - 16,
@@ -283,6 +283,22 @@ fn behind_block(track: u32, format: &WaveFormat, extent: Extent, room: u64, bloc
         sample: sample_in(format, track, block),
         stage: data_stage(*format, behind(extent, u64::from(format.block)), room - 1),
     }
+}
+
+/// The size of a chunk, behind its letters.
+fn size_in(head: &[u8]) -> u32
+    requires { 8 ≤ length head.now }
+    ensures { result ≡ little_number 4 (drop 4 head.now) }
+{
+    LittleEndian::read_u32(&head[4..])
+}
+
+/// The size of data of 64 bits, in a chunk of sizes.
+fn long_size_in(body: &[u8]) -> u64
+    requires { 16 ≤ length body.now }
+    ensures { result ≡ little_number 8 (drop 8 body.now) }
+{
+    LittleEndian::read_u64(&body[8..])
 }
 
 /// How far data go behind so many of their bytes.

@@ -1,0 +1,60 @@
+use Rattle.std.proofs.Common.{◌≡◌, ◌≤◌, ◌+◌, ◌-◌, ◌*◌, ◌++◌, ℕ, List, length, take, drop, refl, sym, arith, rules, ap, subst, ◌∙◌, true, false}
+use Rattle.wave_file.specs.StandsFor.{Decoding, StandsFor}
+use Rattle.wave_file.proofs.Decoding.{next_added, part_added, passed_added, blocks_added, told_taken, ends_taken, told_piece, told_limit, told_bad, told_past}
+use Rattle.wave_file.proofs.decoder.WaveDecoder.take.Goals as goal
+
+pub returns-then-room-eq0-clause-stops : goal.returns-then-room-eq0-clause-stops
+returns-then-room-eq0-clause-stops c = λ front samples stands more.
+    let d = c.self.inside in
+    let s = subst (λ (x : Decoding). StandsFor x front samples) (sym c.self.view_is) stands in
+    let none = c.if-room-eq0.true in
+    let size = c.len.ensures.value in
+    let within = c.self.invariant.within in
+    rw (← c.self.view_is) (told_limit d.track d.notes d.place d.stage d.part.items c.args.bytes.now front more samples
+    c.self.invariant.stage c.self.invariant.part (omega (arith, none, size, within)) c.requires s)
+
+pub invariant_of-self : goal.invariant_of-self
+invariant_of-self c =
+    let p = c.in-Some.ensures.passed in
+    let alone = p.alone in
+    let part = c.self.invariant.part in
+    let wait = p.wait in
+    let count = p.within in
+    let room = c.within-length.ensures.room in
+    let size = c.len.ensures.value in
+    record {
+      least = c.self.invariant.least;
+      most = c.self.invariant.most;
+      notes = c.self.invariant.notes;
+      stage = p.stays c.self.inside.track c.self.inside.place c.self.invariant.stage;
+      part = omega (arith, alone, part, wait);
+      within = omega (arith, count, room, size);
+    }
+
+pub returns-in-Some-clause-takes : goal.returns-in-Some-clause-takes
+returns-in-Some-clause-takes c =
+    let d = c.self.inside in
+    let p = c.in-Some.ensures.passed in
+    rw (← c.self.view_is) (passed_added d.track d.notes d.place d.stage c.in-Some.stage d.part.items c.args.bytes.now
+    c.within-length.result c.in-Some.count p c.within-length.ensures.length c.self.invariant.part, p.format)
+
+pub returns-then-length-want-clause-takes : goal.returns-then-length-want-clause-takes
+returns-then-length-want-clause-takes c =
+    let d = c.self.inside in
+    rw (← c.self.view_is, c.push.ensures) (part_added d.track d.notes d.place d.stage d.part.items c.args.bytes.now c.within-length.result
+    c.within-length.ensures.some c.within-length.ensures.length, refl)
+
+pub returns-in-Next-clause-takes : goal.returns-in-Next-clause-takes
+returns-in-Next-clause-takes c = ?
+
+pub returns-in-Begin-clause-takes : goal.returns-in-Begin-clause-takes
+returns-in-Begin-clause-takes c = ?
+
+pub returns-in-Sample-clause-takes : goal.returns-in-Sample-clause-takes
+returns-in-Sample-clause-takes c = ?
+
+pub returns-in-Fault-clause-stops : goal.returns-in-Fault-clause-stops
+returns-in-Fault-clause-stops c = ?
+
+pub returns-in-Limit-clause-stops : goal.returns-in-Limit-clause-stops
+returns-in-Limit-clause-stops c = ?
