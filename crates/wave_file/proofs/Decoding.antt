@@ -241,7 +241,7 @@ waiting track notes place (Data format (Announced left) room) part is less =
 pub within_file : (track : ℕ) (bytes : List ℕ) → length bytes ≤ MAX_BYTES → reading_of track bytes ≡ file_at track bytes
 within_file track bytes within = cond-true (nat_le (length bytes) MAX_BYTES) (file_at track bytes) _ (le-leb (length bytes) MAX_BYTES within)
 
-front_length : (track : ℕ) (notes : Notes) (place : ℕ) (stage : Stage) (part front : List ℕ) (samples : List ℤ)
+pub front_length : (track : ℕ) (notes : Notes) (place : ℕ) (stage : Stage) (part front : List ℕ) (samples : List ℤ)
     → StandsFor (decoding_of track notes place stage part) front samples → length front ≡ place + length part
 front_length track notes place stage part front samples s =
     let sum = length-append s.before part in

@@ -38,3 +38,11 @@ IsStep track notes place stage piece (Sample sample next) =
     Leads track notes place stage piece (sample ∷ []) notes next × (format_at_stage next ≡ format_at_stage stage)
 IsStep track notes place stage piece (Fault f) = (format_at_stage stage ≡ None) × ((more : List ℕ) → at track notes place stage (piece ++ more) ≡ bad f)
 IsStep track notes place stage piece Limit = (more : List ℕ) → IsPast stage (at track notes place stage (piece ++ more))
+
+-- what is kept behind a step: where the reading ends, what was kept before it
+abbrev pub IsLeft : Step → List ℕ → List ℕ → Type 0
+IsLeft (Fault f) old new = new ≡ old
+IsLeft Limit old new = new ≡ old
+IsLeft (Next notes stage) old new = new ≡ []
+IsLeft (Begin format stage) old new = new ≡ []
+IsLeft (Sample sample stage) old new = new ≡ []

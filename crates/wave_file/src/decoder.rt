@@ -1,7 +1,9 @@
 //! The decoder of a sound file. Next: `tests`, with files of other programs.
 ghost use Rattle.std.specs.Prelude.{◌≡◌, ◌≤◌, ◌<◌, ◌*◌, ◌^◌, ◌++◌, ◌+◌, ℕ, ℤ, List, [], length, take, Some, None, OnOk, IfErr};
 ghost use Rattle.wave_file.specs.Format.{samples_at, IsTakenFor};
-ghost use Rattle.wave_file.specs.Stage.{HasBytes, IsWaiting};
+ghost use Rattle.wave_file.specs.Chunk.{IsNoted};
+ghost use Rattle.wave_file.specs.Stage.{width_of, HasBytes, IsStage, IsWaiting};
+ghost use Rattle.wave_file.specs.Step.{IsLeft, IsStep};
 ghost use Rattle.wave_file.specs.StandsFor.{no_decoding, AddsBlocks, AddsTaken, StandsFor, StopsAt, may_end_before};
 ghost use Rattle.wave_file.specs.Wave.{end_fault_of};
 
@@ -100,19 +102,24 @@ impl WaveDecoder {
             push(&mut self.part, &bytes[..length]);
             return Taken::Nothing(length);
         }
-        push(&mut self.part, &bytes[..want]);
-        match step_over(self.track, &self.notes, &self.stage, self.place, &self.part) {
+        let (notes, stage) = (self.notes, self.stage);
+        match step_with(
+            self.track,
+            &notes,
+            &stage,
+            self.place,
+            &mut self.part,
+            &bytes[..want],
+        ) {
             Step::Next { notes, stage } => {
                 self.notes = notes;
                 self.stage = stage;
                 self.place += width as u64;
-                self.part.clear();
                 Taken::Nothing(want)
             }
             Step::Begin { format, stage } => {
                 self.stage = stage;
                 self.place += width as u64;
-                self.part.clear();
                 Taken::Begin {
                     count: want,
                     format,
@@ -121,20 +128,13 @@ impl WaveDecoder {
             Step::Sample { sample, stage } => {
                 self.stage = stage;
                 self.place += width as u64;
-                self.part.clear();
                 Taken::Sample {
                     count: want,
                     sample,
                 }
             }
-            Step::Fault(fault) => {
-                self.part.truncate(before);
-                Taken::Fault(fault)
-            }
-            Step::Limit => {
-                self.part.truncate(before);
-                Taken::Limit
-            }
+            Step::Fault(fault) => Taken::Fault(fault),
+            Step::Limit => Taken::Limit,
         }
     }
 
@@ -186,6 +186,35 @@ impl WaveDecoder {
             Err(WaveFault::Truncated(self.place + self.part.len() as u64))
         }
     }
+}
+
+/// What a piece brings, the first bytes of which were kept. Where the reading ends, they are kept on.
+fn step_with(
+    track: u32,
+    notes: &Notes,
+    stage: &Stage,
+    place: u64,
+    part: &mut Part,
+    bytes: &[u8],
+) -> Step
+    requires track { 1 ≤ track }
+    requires notes { IsNoted track notes.now }
+    requires stage { IsStage track place stage.now }
+    requires waiting { IsWaiting stage.now }
+    requires place { place < 2 ^ 62 }
+    requires piece { length part.old.items + length bytes.now ≡ width_of stage.now }
+    requires room { width_of stage.now ≤ PIECE_ROOM }
+    ensures step { IsStep track notes.now place stage.now (part.old.items ++ bytes.now) result }
+    ensures left { IsLeft result part.old.items part.new.items }
+{
+    let before = part.len();
+    push(part, bytes);
+    let step = step_over(track, notes, stage, place, part);
+    match step {
+        Step::Fault(_) | Step::Limit => part.truncate(before),
+        _ => part.clear(),
+    }
+    step
 }
 
 /// Whether the input may end before bytes of a stage.

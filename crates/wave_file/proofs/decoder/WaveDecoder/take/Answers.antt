@@ -1,7 +1,11 @@
-use Rattle.std.proofs.Common.{◌≡◌, ◌≤◌, ◌+◌, ◌-◌, ◌*◌, ◌++◌, ℕ, List, length, take, drop, refl, sym, arith, rules, ap, subst, ◌∙◌, true, false}
+use Rattle.std.proofs.Common.{◌≡◌, ◌≤◌, ◌<◌, ◌+◌, ◌-◌, ◌*◌, ◌/◌, ◌++◌, ◌∷◌, [], ℕ, List, Some, None, length, take, drop, refl, sym, arith, rules, ap, subst, ◌∙◌, true, false}
+use Rattle.std.proofs.Common.{SFits, w16}
+use Rattle.std.specs.Prelude.{ℤ}
 use Rattle.wave_file.specs.StandsFor.{Decoding, StandsFor}
 use Rattle.wave_file.proofs.Decoding.{next_added, part_added, passed_added, blocks_added, told_taken, ends_taken, told_piece, told_limit, told_bad, told_past}
 use Rattle.wave_file.proofs.decoder.WaveDecoder.take.Goals as goal
+use Rattle.std.proofs.lemmas.Int.{to_z-of_z}
+use Rattle.wave_file.specs.Wave.{refused, past_limit}
 
 pub returns-then-room-eq0-clause-stops : goal.returns-then-room-eq0-clause-stops
 returns-then-room-eq0-clause-stops c = λ front samples stands more.
@@ -45,16 +49,80 @@ returns-then-length-want-clause-takes c =
     c.within-length.ensures.some c.within-length.ensures.length, refl)
 
 pub returns-in-Next-clause-takes : goal.returns-in-Next-clause-takes
-returns-in-Next-clause-takes c = ?
+returns-in-Next-clause-takes c =
+    let d = c.self.inside in
+    let want = c.width_of-width.result - c.len-before.result in
+    let size = c.len-before.ensures.value in
+    let part = c.self.invariant.part in
+    let width = c.width_of-width.ensures in
+    let there = c.if-length-want.false in
+    let all = c.within-length.ensures.length in
+    let st = c.in-Next.ensures.step in
+    rw (← c.self.view_is, c.in-Next.ensures.left) (next_added d.track d.notes c.in-Next.notes d.place d.stage c.in-Next.stage d.part.items c.args.bytes.now
+    want c.width_of-width.result [] (omega (arith, size, part, width)) (omega (arith, size, part, width)) (omega (arith, there, all)) st.0,
+    st.2 ∙ sym st.1)
 
 pub returns-in-Begin-clause-takes : goal.returns-in-Begin-clause-takes
-returns-in-Begin-clause-takes c = ?
+returns-in-Begin-clause-takes c =
+    let d = c.self.inside in
+    let want = c.width_of-width.result - c.len-before.result in
+    let size = c.len-before.ensures.value in
+    let part = c.self.invariant.part in
+    let width = c.width_of-width.ensures in
+    let there = c.if-length-want.false in
+    let all = c.within-length.ensures.length in
+    let st = c.in-Begin.ensures.step in
+    rw (← c.self.view_is, c.in-Begin.ensures.left) (next_added d.track d.notes d.notes d.place d.stage c.in-Begin.stage d.part.items c.args.bytes.now
+    want c.width_of-width.result [] (omega (arith, size, part, width)) (omega (arith, size, part, width)) (omega (arith, there, all)) st.0,
+    st.1, st.2)
 
 pub returns-in-Sample-clause-takes : goal.returns-in-Sample-clause-takes
-returns-in-Sample-clause-takes c = ?
+returns-in-Sample-clause-takes c =
+    let d = c.self.inside in
+    let want = c.width_of-width.result - c.len-before.result in
+    let size = c.len-before.ensures.value in
+    let part = c.self.invariant.part in
+    let width = c.width_of-width.ensures in
+    let there = c.if-length-want.false in
+    let all = c.within-length.ensures.length in
+    let fits : SFits w16 c.in-Sample.sample = search rules in
+    let st = c.in-Sample.ensures.step in
+    rw (← c.self.view_is, c.in-Sample.ensures.left, to_z-of_z w16 c.in-Sample.sample fits) (next_added d.track d.notes d.notes d.place d.stage c.in-Sample.stage d.part.items c.args.bytes.now
+    want c.width_of-width.result (c.in-Sample.sample ∷ []) (omega (arith, size, part, width)) (omega (arith, size, part, width)) (omega (arith, there, all)) st.0,
+    st.1)
 
 pub returns-in-Fault-clause-stops : goal.returns-in-Fault-clause-stops
-returns-in-Fault-clause-stops c = ?
+returns-in-Fault-clause-stops c = λ front samples stands more.
+    let d = c.self.inside in
+    let want = c.width_of-width.result - c.len-before.result in
+    let size = c.len-before.ensures.value in
+    let part = c.self.invariant.part in
+    let width = c.width_of-width.ensures in
+    let there = c.if-length-want.false in
+    let all = c.within-length.ensures.length in
+    let room = c.within-length.ensures.room in
+    let len = c.len.ensures.value in
+    let within = c.self.invariant.within in
+    let s = subst (λ (x : Decoding). StandsFor x front samples) (sym c.self.view_is) stands in
+    let st = c.in-Fault.ensures.step in
+    rw (← c.self.view_is) (told_piece d.track d.notes d.place d.stage d.part.items c.args.bytes.now front more want samples (refused c.in-Fault.fault)
+    (omega (arith, there, all)) (omega (arith, there, room, len, within)) refl
+    (told_bad d.track d.notes d.place d.stage (d.part.items ++ take want c.args.bytes.now) c.in-Fault.fault st.0 st.1) s)
 
 pub returns-in-Limit-clause-stops : goal.returns-in-Limit-clause-stops
-returns-in-Limit-clause-stops c = ?
+returns-in-Limit-clause-stops c = λ front samples stands more.
+    let d = c.self.inside in
+    let want = c.width_of-width.result - c.len-before.result in
+    let size = c.len-before.ensures.value in
+    let part = c.self.invariant.part in
+    let width = c.width_of-width.ensures in
+    let there = c.if-length-want.false in
+    let all = c.within-length.ensures.length in
+    let room = c.within-length.ensures.room in
+    let len = c.len.ensures.value in
+    let within = c.self.invariant.within in
+    let s = subst (λ (x : Decoding). StandsFor x front samples) (sym c.self.view_is) stands in
+    let st = c.in-Limit.ensures.step in
+    rw (← c.self.view_is) (told_piece d.track d.notes d.place d.stage d.part.items c.args.bytes.now front more want samples past_limit
+    (omega (arith, there, all)) (omega (arith, there, room, len, within)) refl
+    (told_past d.track d.notes d.place d.stage (d.part.items ++ take want c.args.bytes.now) st) s)
