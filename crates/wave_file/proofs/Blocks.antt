@@ -1,7 +1,7 @@
 -- A whole block at the front of data gives its sample, and leaves the data behind it. So does a run of blocks, block by block.
-use Rattle.std.proofs.Common.{true, false, ◌≡◌, ℕ, zero, suc, ◌+◌, ◌-◌, ◌*◌, ◌/◌, ◌%◌, ◌<◌, ◌≤◌, min, Bool, List, [], ◌∷◌, ◌++◌, Option, Some, None, length, take, drop}
+use Rattle.std.proofs.Common.{true, false, ◌≡◌, ℕ, zero, suc, ◌+◌, ◌-◌, ◌*◌, ◌/◌, ◌%◌, ◌<◌, ◌≤◌, min, Bool, List, [], ◌∷◌, ◌++◌, Option, Some, length, take, drop}
 use Rattle.std.proofs.Common.{refl, ap, ◌∙◌, arith, subst, sym, append_assoc}
-use Rattle.std.specs.Prelude.{nat_le, nat_lt, ◌==◌, if◌then◌else◌, ℤ}
+use Rattle.std.specs.Prelude.{nat_lt, ◌==◌, if◌then◌else◌, ℤ}
 use Rattle.std.proofs.lemmas.Bool.{le-leb, lt-leb, ltb-true, ltb-false}
 use Rattle.std.proofs.lemmas.Nat.{div_below}
 use Rattle.std.proofs.lemmas.List.{length-append, take-append-drop, length-take-le, drop-drop}
@@ -15,9 +15,9 @@ use Rattle.wave_file.specs.declared.stage.Stage.{Stage}
 use Rattle.wave_file.specs.declared.stage.Stage.TheVariants.{Data, Tail}
 use Rattle.wave_file.specs.declared.stage.TheConstants.{MAX_SAMPLES}
 use Rattle.wave_file.specs.Format.{sample_in, samples_at, IsTakenFor}
-use Rattle.wave_file.specs.Stage.{at, data_stage, extent_behind, format_at_stage, tail_at, width_of, HasBytes, IsStage}
+use Rattle.wave_file.specs.Stage.{at, data_stage, extent_behind, format_at_stage, width_of, HasBytes, IsStage}
 use Rattle.wave_file.specs.Step.{with_samples, IsPast}
-use Rattle.wave_file.specs.Wave.{Reading, Verdict, good, past_limit, blocks_inside, bytes_inside, data_at, may_end_at}
+use Rattle.wave_file.specs.Wave.{Reading, Verdict, good, past_limit, bytes_inside, data_at, may_end_at}
 use Rattle.wave_file.proofs.Pieces.{nat_le_same}
 
 same_reading : (f : Option WaveFormat) (s t : List ℤ) (v w : Verdict) (m n : Bool) → s ≡ t → v ≡ w → m ≡ n
@@ -51,7 +51,7 @@ block_more track format extent room block more len some has least =
     let w = format.block in
     let inner = bytes_inside (extent_behind extent w) more / w in
     let count : bytes_inside extent (block ++ more) / w ≡ inner + 1 =
-        ap (λ (n : ℕ). n / w) (inside_more extent w block more len has) ∙ add-div_left (bytes_inside (extent_behind extent w) more) some in
+    ap (λ (n : ℕ). n / w) (inside_more extent w block more len has) ∙ add-div_left (bytes_inside (extent_behind extent w) more) some in
     let most : min room (bytes_inside extent (block ++ more) / w) ≡ suc (min (room - 1) inner) = omega (arith, count, least) in
     let front : take w (block ++ more) ≡ block = subst (λ (n : ℕ). take n (block ++ more) ≡ block) len (take-append_seam block more) in
     let behind : drop w (block ++ more) ≡ more = subst (λ (n : ℕ). drop n (block ++ more) ≡ more) len (drop-append_seam block more) in
@@ -108,7 +108,7 @@ block_past track format extent block more len some has =
     let w = format.block in
     let inner = bytes_inside (extent_behind extent w) more / w in
     let count : bytes_inside extent (block ++ more) / w ≡ inner + 1 =
-        ap (λ (n : ℕ). n / w) (inside_more extent w block more len has) ∙ add-div_left (bytes_inside (extent_behind extent w) more) some in
+    ap (λ (n : ℕ). n / w) (inside_more extent w block more len has) ∙ add-div_left (bytes_inside (extent_behind extent w) more) some in
     let none : min 0 (bytes_inside extent (block ++ more) / w) ≡ 0 = omega arith in
     record {
       verdict = ap (λ (b : Bool). if b then good else past_limit) (lt-leb (bytes_inside extent (block ++ more) / w) 0 (omega (arith, count)));
@@ -154,9 +154,11 @@ blocks_more track format (suc k) extent room blocks more len some has least =
     has_one : (extent : Extent) (w k : ℕ) → HasBytes (suc k * w) extent → HasBytes w extent
     has_one (Announced n) w k has = let one = suc-mul k w in omega (arith, has, one)
     has_one Open w k has = tt
+
     has_more : (extent : Extent) (w k : ℕ) → HasBytes (suc k * w) extent → HasBytes (k * w) (extent_behind extent w)
     has_more (Announced n) w k has = let one = suc-mul k w in omega (arith, has, one)
     has_more Open w k has = tt
+
     behind_more : (extent : Extent) (w k : ℕ) → extent_behind (extent_behind extent w) (k * w) ≡ extent_behind extent (suc k * w)
     behind_more (Announced n) w k = let one = suc-mul k w in ap Announced (omega (arith, one))
     behind_more Open w k = refl
@@ -172,6 +174,6 @@ samples_more format track (suc k) bytes =
     let w = format.block in
     let next : suc k + 1 ≡ suc (k + 1) = omega arith in
     let behind : drop (k * w) (drop w bytes) ≡ drop (suc k * w) bytes =
-        drop-drop (k * w) w bytes ∙ ap (λ (n : ℕ). drop n bytes) (let one = suc-mul k w in omega (arith, one)) in
+    drop-drop (k * w) w bytes ∙ ap (λ (n : ℕ). drop n bytes) (let one = suc-mul k w in omega (arith, one)) in
     rw next (ap (λ (l : List ℤ). sample_in format track (take w bytes) ∷ l) (samples_more format track k (drop w bytes)
     ∙ ap (λ (l : List ℕ). samples_at format track k (drop w bytes) ++ sample_in format track (take w l) ∷ []) behind))

@@ -1,7 +1,7 @@
 -- What a decoder takes is a piece more, a part of one, or bytes that are passed over: each time the bytes that follow say the same.
 use Rattle.std.proofs.Common.{true, false, ◌≡◌, ℕ, zero, suc, ◌+◌, ◌-◌, ◌*◌, ◌<◌, ◌≤◌, Bool, List, [], ◌∷◌, ◌++◌, Option, Some, None, length, take, drop, refl, ap}
 use Rattle.std.proofs.Common.{◌∙◌, arith, subst, sym, append_assoc}
-use Rattle.std.specs.Prelude.{nat_le, ◌==◌, ◌&&◌, ◌/◌, ◌%◌, min, if◌then◌else◌, ℤ}
+use Rattle.std.specs.Prelude.{nat_le, ◌==◌, ◌&&◌, ◌/◌, min, if◌then◌else◌, ℤ}
 use Rattle.std.proofs.lemmas.Bool.{and_right, cond_both, cond-false, cond-true, le-leb, lt-leb, ne_eqb}
 use Rattle.std.proofs.lemmas.Nat.{div_below}
 use Rattle.std.proofs.Math.Nat.{mod-eq_of_lt}
@@ -21,7 +21,7 @@ use Rattle.wave_file.specs.declared.fault.WaveFault.TheVariants as fault
 use Rattle.wave_file.specs.Chunk.{form_of, no_notes}
 use Rattle.wave_file.specs.Format.{format_in, samples_at}
 use Rattle.wave_file.specs.Stage.{at, data_stage, extent_behind, format_at_stage, width_of, HasBytes, IsPassed, IsStage}
-use Rattle.wave_file.specs.StandsFor.{Decoding, decoding_of, Adds, AddsBlocks, IsTold, StandsFor, may_end_before}
+use Rattle.wave_file.specs.StandsFor.{decoding_of, Adds, AddsBlocks, IsTold, StandsFor, may_end_before}
 use Rattle.wave_file.specs.Step.{with_samples, IsPast, Leads}
 use Rattle.wave_file.specs.Wave.{Reading, Verdict, good, refused, past_limit, bad, and_more, chunks_at, file_at, behind_form, judged_width, padded, piece, reading_of, taken, unfinished}
 use Rattle.wave_file.proofs.Blocks.{at_data, blocks_more, none_inside}
@@ -120,11 +120,11 @@ passed_added track notes place stage next [] bytes most count p within less =
       track = refl;
       stands = λ front samples s.
           let moved : (n : ℕ) → place + length (take count bytes) ≡ n
-              → StandsFor (decoding_of track notes n next []) (front ++ take count bytes) (samples ++ []) =
-              λ n is. subst (λ (n : ℕ). StandsFor (decoding_of track notes n next []) (front ++ take count bytes) (samples ++ [])) is
-              (stands_behind track notes notes place stage next [] (take count bytes) (take count bytes) front samples [] refl
-              (λ rest. p.passes track notes place (take count bytes) rest size
-              ∙ ap (λ (n : ℕ). at track notes (place + n) next rest) (sym size)) s) in
+          → StandsFor (decoding_of track notes n next []) (front ++ take count bytes) (samples ++ []) =
+          λ n is. subst (λ (n : ℕ). StandsFor (decoding_of track notes n next []) (front ++ take count bytes) (samples ++ [])) is
+          (stands_behind track notes notes place stage next [] (take count bytes) (take count bytes) front samples [] refl
+          (λ rest. p.passes track notes place (take count bytes) rest size
+          ∙ ap (λ (n : ℕ). at track notes (place + n) next rest) (sym size)) s) in
           moved (place + count) (ap (λ (n : ℕ). place + n) size);
     }
 
@@ -288,7 +288,7 @@ told_within track front rest format samples v within stays says =
     let left = MAX_BYTES - length front in
     let limit : MAX_BYTES ≡ length front + left = omega (arith, within) in
     let cut : take MAX_BYTES (front ++ rest) ≡ front ++ take left rest =
-        ap (λ (n : ℕ). take n (front ++ rest)) limit ∙ take-append-add front rest left in
+    ap (λ (n : ℕ). take n (front ++ rest)) limit ∙ take-append-add front rest left in
     let t = subst (λ (l : List ℕ). IsTold (file_at track l) format samples v) (sym cut) (says (take left rest)) in
     record { format_is = t.format_is; samples_are = t.samples_are; verdict_is = ap and_more t.verdict_is ∙ stays })
 
@@ -305,14 +305,14 @@ told_piece track notes place stage part bytes front rest want samples v within l
     let sum = length-append front chunk in
     let chunk_is = taken_length want bytes within in
     let all : (front ++ bytes) ++ rest ≡ (front ++ chunk) ++ (behind ++ rest) =
-        ap (λ (l : List ℕ). (front ++ l) ++ rest) (sym (take-append-drop want bytes))
-        ∙ ap (λ (l : List ℕ). l ++ rest) (sym (append_assoc front chunk behind)) ∙ append_assoc (front ++ chunk) behind rest in
+    ap (λ (l : List ℕ). (front ++ l) ++ rest) (sym (take-append-drop want bytes))
+    ∙ ap (λ (l : List ℕ). l ++ rest) (sym (append_assoc front chunk behind)) ∙ append_assoc (front ++ chunk) behind rest in
     subst (λ (l : List ℕ). IsTold (reading_of track l) (format_at_stage stage) samples v) (sym all)
     (told_within track (front ++ chunk) (behind ++ rest) (format_at_stage stage) samples v (omega (arith, size, sum, chunk_is, limit)) stays
     (λ more.
     let front_is : (front ++ chunk) ++ more ≡ s.before ++ ((part ++ chunk) ++ more) =
-        ap (λ (l : List ℕ). (l ++ chunk) ++ more) s.split ∙ ap (λ (l : List ℕ). l ++ more) (append_assoc s.before part chunk)
-        ∙ append_assoc s.before (part ++ chunk) more in
+    ap (λ (l : List ℕ). (l ++ chunk) ++ more) s.split ∙ ap (λ (l : List ℕ). l ++ more) (append_assoc s.before part chunk)
+    ∙ append_assoc s.before (part ++ chunk) more in
     told_behind samples _ _ (format_at_stage stage) v
     (ap (λ (l : List ℕ). file_at track l) front_is ∙ s.follows ((part ++ chunk) ++ more)) (says more)))
 
@@ -328,9 +328,9 @@ told_limit track notes place stage part bytes front rest samples is less limit s
     let sum = length-append front (bytes ++ rest) in
     let more = length-append bytes rest in
     let over : nat_le (length (front ++ (bytes ++ rest))) MAX_BYTES ≡ false =
-        lt-leb (length (front ++ (bytes ++ rest))) MAX_BYTES (omega (arith, sum, more, full, some)) in
+    lt-leb (length (front ++ (bytes ++ rest))) MAX_BYTES (omega (arith, sum, more, full, some)) in
     let cut : take MAX_BYTES (front ++ (bytes ++ rest)) ≡ front =
-        ap (λ (n : ℕ). take n (front ++ (bytes ++ rest))) (sym full) ∙ take-append_seam front (bytes ++ rest) in
+    ap (λ (n : ℕ). take n (front ++ (bytes ++ rest))) (sym full) ∙ take-append_seam front (bytes ++ rest) in
     let t = told_taken track notes place stage part front samples is less s in
     subst (λ (l : List ℕ). IsTold (reading_of track l) (format_at_stage stage) samples past_limit) (sym all)
     (rw (over, cut) (record { format_is = t.format_is; samples_are = t.samples_are; verdict_is = ap and_more t.verdict_is }))

@@ -1,7 +1,7 @@
 -- A piece that is whole is judged by itself, whatever stands behind it; and bytes that are passed over change nothing but the place.
-use Rattle.std.proofs.Common.{true, false, ◌≡◌, ℕ, zero, suc, ◌+◌, ◌-◌, ◌<◌, ◌≤◌, ◌⊎◌, inl, inr, Bool, List, [], ◌∷◌, ◌++◌, Option, Some, None, length, take, drop, refl, ap}
+use Rattle.std.proofs.Common.{true, ◌≡◌, ℕ, zero, suc, ◌+◌, ◌-◌, ◌<◌, ◌≤◌, ◌⊎◌, inl, inr, Bool, List, [], ◌∷◌, ◌++◌, Some, length, take, drop, refl, ap}
 use Rattle.std.proofs.Common.{◌∙◌, arith, subst, sym}
-use Rattle.std.specs.Prelude.{nat_le, nat_lt, ◌==◌, if◌then◌else◌, Result, Ok, Err, ℤ}
+use Rattle.std.specs.Prelude.{nat_le, ◌==◌, Result, Ok, Err}
 use Rattle.std.proofs.lemmas.Bool.{cases_lt, cond_both, le-leb, lt-leb, ne_eqb}
 use Rattle.std.proofs.lemmas.List.{length-append}
 use Rattle.std.proofs.Math.Seq.{take-append_seam, drop-append_seam}
@@ -74,7 +74,7 @@ pub format_brings : (track : ℕ) (notes : Notes) (place size : ℕ) (p more : L
     ≡ chunks_at track (padded size - length p) (record notes { format = Some format }) (place + length p) more
 format_brings track notes place size p more format len is =
     let judged = λ (r : Result WaveFormat WaveFault). taken r
-        (λ format. chunks_at track (padded size) (record notes { format = Some format }) place (p ++ more)) in
+    (λ format. chunks_at track (padded size) (record notes { format = Some format }) place (p ++ more)) in
     piece_whole (judged_width size) (λ body rest. judged (format_in track place body)) p more len ∙ ap judged is
     ∙ chunks_skip track _ p more (padded size) (padded size - length p) place (omega (arith, len))
 
@@ -83,7 +83,7 @@ pub format_refuses : (track : ℕ) (notes : Notes) (place size : ℕ) (p more : 
     → format_at track notes place size (λ notes. chunks_at track (padded size) notes place (p ++ more)) (p ++ more) ≡ bad f
 format_refuses track notes place size p more f len is =
     let judged = λ (r : Result WaveFormat WaveFault). taken r
-        (λ format. chunks_at track (padded size) (record notes { format = Some format }) place (p ++ more)) in
+    (λ format. chunks_at track (padded size) (record notes { format = Some format }) place (p ++ more)) in
     piece_whole (judged_width size) (λ body rest. judged (format_in track place body)) p more len ∙ ap judged is
 
 -- the first bytes of a chunk of sizes, and its others

@@ -1,6 +1,6 @@
 -- A format chunk without a fault gives a format that is taken: of 8, 16, 24 or 32 bits, and so of whole bytes.
-use Rattle.std.proofs.Common.{true, false, ◌≡◌, ℕ, ◌+◌, ◌*◌, ◌/◌, ◌≤◌, ◌⊎◌, inl, inr, Bool, not, ◌&&◌, ◌||◌, Option, Some, None, refl, arith}
-use Rattle.std.specs.Prelude.{nat_le, nat_lt, ◌==◌, if◌then◌else◌}
+use Rattle.std.proofs.Common.{true, false, ◌≡◌, ℕ, ◌*◌, ◌/◌, ◌≤◌, inl, inr, Bool, not, Some, None, refl, arith}
+use Rattle.std.specs.Prelude.{nat_lt, ◌==◌, if◌then◌else◌}
 use Rattle.std.proofs.lemmas.Bool.{and_parts, or_cases, leb-true, ltb-false, eqb-true}
 use Rattle.std.proofs.lemmas.Nat.{mul-le}
 use Rattle.wave_file.specs.declared.fault.WaveFault.{WaveFault}
@@ -42,12 +42,15 @@ sized tracks bits block size e = elim (or_cases (bits == 8) _ size) [
     at_eight : bits ≡ 8 → Sized tracks bits block
     at_eight b = let p : 8 * block ≡ tracks * 8 = rw b at e in
         rw b (record { least = omega arith; most = omega arith; whole = refl; block_is = omega (arith, p) })
+
     at_sixteen : bits ≡ 16 → Sized tracks bits block
     at_sixteen b = let p : 8 * block ≡ tracks * 16 = rw b at e in
         rw b (record { least = omega arith; most = omega arith; whole = refl; block_is = omega (arith, p) })
+
     at_twenty_four : bits ≡ 24 → Sized tracks bits block
     at_twenty_four b = let p : 8 * block ≡ tracks * 24 = rw b at e in
         rw b (record { least = omega arith; most = omega arith; whole = refl; block_is = omega (arith, p) })
+
     at_thirty_two : bits ≡ 32 → Sized tracks bits block
     at_thirty_two b = let p : 8 * block ≡ tracks * 32 = rw b at e in
         rw b (record { least = omega arith; most = omega arith; whole = refl; block_is = omega (arith, p) })
@@ -62,7 +65,7 @@ between tracks bits block a b c d e =
 pub taken_for : (track place : ℕ) (pcm : Bool) (f : WaveFormat) → 1 ≤ track → field_fault track place pcm f ≡ None → IsTakenFor track f
 taken_for track place pcm f first none =
     let p = passes pcm (is_track_count f.tracks) (is_rate f.rate) (8 * f.block == f.tracks * f.bits) (is_sample_size f.bits) (nat_lt f.tracks track)
-        _ _ _ _ _ _ none in
+    _ _ _ _ _ _ none in
     let tracks = and_parts _ _ p.tracks in
     let rate = and_parts _ _ p.rate in
     let same = eqb-true (8 * f.block) (f.tracks * f.bits) p.block in

@@ -1,5 +1,5 @@
 -- How far a decoder has come, and what the bytes that follow say. No promise but the decoder's clauses speaks of it.
-use Rattle.std.specs.Prelude.{◌≡◌, ⊤, ◌≤◌, ◌<◌, ◌^◌, ℕ, zero, suc, ◌+◌, ◌-◌, ◌==◌, min, List, [], ◌∷◌, ◌++◌, length, Option, Some, None, IfSome, nat_lt, nat_le}
+use Rattle.std.specs.Prelude.{◌≡◌, ⊤, ◌≤◌, ℕ, ◌+◌, ◌-◌, ◌==◌, List, [], ◌++◌, length, Option, Some, None, nat_lt, nat_le}
 use Rattle.std.specs.Prelude.{if◌then◌else◌}
 use Rattle.wave_file.specs.declared.format.WaveFormat.{WaveFormat}
 use Rattle.wave_file.specs.declared.chunk.Extent.{Extent}

@@ -1,5 +1,5 @@
 -- Which bytes a decoder of a sound file stands for. No promise but its clauses speaks of it.
-use Rattle.std.specs.Prelude.{◌≡◌, ⊤, ◌≤◌, ◌<◌, ℕ, ◌+◌, ◌*◌, ℤ, Bool, List, [], ◌∷◌, ◌++◌, length, take, Option, Some, None, IfSome}
+use Rattle.std.specs.Prelude.{◌≡◌, ⊤, ◌≤◌, ◌<◌, ℕ, ◌+◌, ℤ, Bool, List, [], ◌∷◌, ◌++◌, length, take, Option, Some, None}
 use Rattle.wave_file.specs.declared.chunk.Notes.{Notes}
 use Rattle.wave_file.specs.declared.decoder.Taken.{Taken}
 use Rattle.wave_file.specs.declared.decoder.Taken.TheVariants.{Nothing, Begin, Sample, Fault, Limit}

@@ -1,13 +1,10 @@
 -- What a whole piece brings to what the bytes say. No promise speaks of it.
 use Rattle.std.specs.Prelude.{◌≡◌, ◌≤◌, ℕ, ◌+◌, ℤ, List, [], ◌∷◌, ◌++◌, length, None, Some}
-use Rattle.wave_file.specs.declared.chunk.Extent.{Extent}
 use Rattle.wave_file.specs.declared.chunk.Notes.{Notes}
-use Rattle.wave_file.specs.declared.format.WaveFormat.{WaveFormat}
 use Rattle.wave_file.specs.declared.stage.Stage.{Stage}
-use Rattle.wave_file.specs.declared.stage.Stage.TheVariants as stage
 use Rattle.wave_file.specs.declared.stage.Step.{Step}
 use Rattle.wave_file.specs.declared.stage.Step.TheVariants.{Next, Begin, Sample, Fault, Limit}
-use Rattle.wave_file.specs.Chunk.{no_notes, IsNoted}
+use Rattle.wave_file.specs.Chunk.{IsNoted}
 use Rattle.wave_file.specs.Stage.{at, format_at_stage, width_of, IsStage}
 use Rattle.wave_file.specs.Wave.{Reading, bad, past_limit}
 

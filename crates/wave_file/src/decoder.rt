@@ -1,5 +1,6 @@
 //! The decoder of a sound file. Next: `tests`, with files of other programs.
-ghost use Rattle.std.specs.Prelude.{◌≡◌, ◌≤◌, ◌<◌, ◌*◌, ◌^◌, ◌++◌, ◌+◌, ℕ, ℤ, List, [], length, take, Some, None, OnOk, IfErr};
+ghost use Rattle.std.specs.Prelude.{◌≡◌, ◌≤◌, ◌<◌, ◌*◌, ◌^◌, ◌++◌, ◌+◌, ℕ};
+ghost use Rattle.std.specs.Prelude.{ℤ, List, [], length, take, Some, None, OnOk, IfErr};
 ghost use Rattle.wave_file.specs.Format.{samples_at, IsTakenFor};
 ghost use Rattle.wave_file.specs.Chunk.{IsNoted};
 ghost use Rattle.wave_file.specs.Stage.{width_of, HasBytes, IsStage, IsWaiting};

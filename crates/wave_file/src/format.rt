@@ -1,6 +1,7 @@
 //! The format of a sound file: its tracks, its rate, and the size of its samples. Next: `sample`.
 ghost use Rattle.std.specs.Prelude.{◌≡◌, ◌≤◌, ◌^◌, ◌<◌, ◌+◌, IfOk, length};
-ghost use Rattle.wave_file.specs.Format.{field_fault, format_in, format_of, is_pcm, is_sample_size, is_track_count, is_rate, IsTakenFor};
+ghost use Rattle.wave_file.specs.Format.{field_fault, format_in, format_of, is_pcm};
+ghost use Rattle.wave_file.specs.Format.{is_sample_size, is_track_count, is_rate, IsTakenFor};
 
 use crate::fault::WaveFault;
 use byteorder::{ByteOrder, LittleEndian};

@@ -1,7 +1,8 @@
 //! How far a decoder has come, and what a whole piece brings. Next: `decoder`.
 ghost use Rattle.std.specs.Prelude.{◌≡◌, ℕ, ◌≤◌, ◌<◌, ◌^◌, length, drop, None, IfSome};
 ghost use Rattle.wave_file.specs.Format.{IsTakenFor};
-ghost use Rattle.wave_file.specs.Stage.{data_stage, extent_behind, width_of, HasBlock, HasBytes, IsPassed, IsStage, IsWaiting};
+ghost use Rattle.wave_file.specs.Stage.{data_stage, extent_behind, width_of, HasBlock};
+ghost use Rattle.wave_file.specs.Stage.{HasBytes, IsPassed, IsStage, IsWaiting};
 ghost use Rattle.wave_file.specs.Step.{IsStep};
 ghost use Rattle.wave_file.specs.declared.stage.Stage.TheVariants as stages;
 ghost use Rattle.byteorder.specs.Endian.{little_number};
@@ -274,7 +275,8 @@ fn behind_block(track: u32, format: &WaveFormat, extent: Extent, room: u64, bloc
     requires extent { HasBlock format.now extent }
     requires room { room ≤ MAX_SAMPLES }
     requires block { length block.now ≡ format.now.block }
-    ensures { (notes : Notes) (place : ℕ) → IsStep track notes place (stages.Data format.now extent room) block.now result }
+    ensures { (notes : Notes) (place : ℕ)
+        → IsStep track notes place (stages.Data format.now extent room) block.now result }
 {
     if room == 0 {
         return Step::Limit;

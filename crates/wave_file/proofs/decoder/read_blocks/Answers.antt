@@ -46,8 +46,8 @@ each-preserved c =
     let fits : SFits w16 c.sample_in.result = search rules in
     let cut : c.each.at + c.from-block.result - c.each.at ≡ w = omega (arith, block) in
     let is : c.sample_in.result ≡ sample_in format c.args.track (take w (drop (place * w) blocks)) =
-        c.sample_in.ensures ∙ ap (λ (n : ℕ). sample_in format c.args.track (take n (drop c.each.at blocks))) cut
-        ∙ ap (λ (n : ℕ). sample_in format c.args.track (take w (drop n blocks))) at_is in
+    c.sample_in.ensures ∙ ap (λ (n : ℕ). sample_in format c.args.track (take n (drop c.each.at blocks))) cut
+    ∙ ap (λ (n : ℕ). sample_in format c.args.track (take w (drop n blocks))) at_is in
     let next = suc-mul place w in
     let one : (place + 1) * w ≡ place * w + w = ap (λ (n : ℕ). n * w) (omega arith) ∙ next in
     rw (to_z-of_z w16 c.sample_in.result fits) (record {

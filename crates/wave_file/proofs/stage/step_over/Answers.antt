@@ -1,11 +1,4 @@
-use Rattle.std.proofs.Common.{◌≡◌, ◌+◌, ◌-◌, ℕ, List, drop, length, refl, sym, arith, ap, ◌∙◌, Some}
-use Rattle.std.specs.Prelude.{Ok, Err}
-use Rattle.byteorder.specs.Endian.{big_number, little_number}
-use Rattle.wave_file.specs.declared.chunk.Chunk.TheVariants as chunk
-use Rattle.wave_file.specs.Chunk.{chunk_of}
-use Rattle.wave_file.specs.Wave.{chunks_at, padded}
-use Rattle.wave_file.proofs.Blocks.{block_more, block_past, at_data, data_kept}
-use Rattle.wave_file.proofs.Pieces.{head_brings, format_brings, format_refuses, sizes_bring, chunk_wait, chunk_passed, tail_passed}
+use Rattle.std.proofs.Common.{◌≡◌}
 use Rattle.wave_file.proofs.stage.step_over.Goals as goal
 
 pub returns-in-Riff : goal.returns-in-Riff

@@ -1,8 +1,6 @@
-use Rattle.std.proofs.Common.{◌≡◌, ◌≤◌, ◌<◌, ◌+◌, ◌-◌, ◌*◌, ◌/◌, ◌++◌, ◌∷◌, [], ℕ, List, Some, None, length, take, drop, refl, sym, arith, rules, ap, subst, ◌∙◌, true, false}
-use Rattle.std.proofs.Common.{SFits, w16}
-use Rattle.std.specs.Prelude.{ℤ}
+use Rattle.std.proofs.Common.{ℕ, Some, None, length, sym, ap, subst, ◌∙◌}
 use Rattle.wave_file.specs.StandsFor.{Decoding, StandsFor}
-use Rattle.wave_file.proofs.Decoding.{next_added, part_added, passed_added, blocks_added, told_taken, ends_taken, told_piece, told_limit, told_bad, told_past}
+use Rattle.wave_file.proofs.Decoding.{ends_taken}
 use Rattle.wave_file.proofs.decoder.WaveDecoder.finish.Goals as goal
 use Rattle.std.proofs.lemmas.Bool.{and_from, and_left, and_right}
 use Rattle.std.specs.Prelude.{Bool, if◌then◌else◌}

@@ -1,8 +1,6 @@
-use Rattle.std.proofs.Common.{◌≡◌, ◌≤◌, ◌<◌, ◌+◌, ◌-◌, ◌*◌, ◌/◌, ◌++◌, ◌∷◌, [], ℕ, List, Some, None, length, take, drop, refl, sym, arith, rules, ap, subst, ◌∙◌, true, false}
-use Rattle.std.proofs.Common.{SFits, w16}
+use Rattle.std.proofs.Common.{◌≡◌, ◌≤◌, ◌-◌, ◌*◌, ◌/◌, ◌++◌, ◌∷◌, [], ℕ, List, length, take, drop, refl, sym, arith, subst, ◌∙◌}
 use Rattle.std.specs.Prelude.{ℤ}
-use Rattle.wave_file.specs.StandsFor.{Decoding, StandsFor}
-use Rattle.wave_file.proofs.Decoding.{next_added, part_added, passed_added, blocks_added, told_taken, ends_taken, told_piece, told_limit, told_bad, told_past}
+use Rattle.wave_file.proofs.Decoding.{blocks_added}
 use Rattle.wave_file.proofs.decoder.WaveDecoder.samples.Goals as goal
 use Rattle.std.proofs.lemmas.Bool.{eqb-true}
 use Rattle.std.proofs.lemmas.List.{length-take-le}
@@ -45,7 +43,7 @@ returns-clause-adds c =
     let inside = c.bytes_inside-inside.ensures.length in
     let left = is.2 in
     let k = data_kept d.track d.place format (extent_behind extent (count * format.block)) (c.in-Data.left - count) is.0
-        (omega (arith, left)) in
+    (omega (arith, left)) in
     rw (← c.self.view_is, none, c.in-Data.is, c.data_stage-self-inside.ensures, c.behind.ensures, put, c.read_blocks.ensures, size, c.from-block.ensures)
     (blocks_added d.track d.notes d.place format extent c.in-Data.left count c.args.bytes.now
     (omega (arith, few, inside)) is.0.some (has_less extent _ _ few c.bytes_inside-inside.ensures.inside) c.least-count.ensures.left k.format_is)

@@ -1,8 +1,7 @@
-use Rattle.std.proofs.Common.{◌≡◌, ◌≤◌, ◌<◌, ◌+◌, ◌-◌, ◌*◌, ◌/◌, ◌++◌, ◌∷◌, [], ℕ, List, Some, None, length, take, drop, refl, sym, arith, rules, ap, subst, ◌∙◌, true, false}
+use Rattle.std.proofs.Common.{◌-◌, ◌++◌, ◌∷◌, [], take, refl, sym, arith, rules, subst, ◌∙◌}
 use Rattle.std.proofs.Common.{SFits, w16}
-use Rattle.std.specs.Prelude.{ℤ}
 use Rattle.wave_file.specs.StandsFor.{Decoding, StandsFor}
-use Rattle.wave_file.proofs.Decoding.{next_added, part_added, passed_added, blocks_added, told_taken, ends_taken, told_piece, told_limit, told_bad, told_past}
+use Rattle.wave_file.proofs.Decoding.{next_added, part_added, passed_added, told_piece, told_limit, told_bad, told_past}
 use Rattle.wave_file.proofs.decoder.WaveDecoder.take.Goals as goal
 use Rattle.std.proofs.lemmas.Int.{to_z-of_z}
 use Rattle.wave_file.specs.Wave.{refused, past_limit}
@@ -39,14 +38,20 @@ pub returns-in-Some-clause-takes : goal.returns-in-Some-clause-takes
 returns-in-Some-clause-takes c =
     let d = c.self.inside in
     let p = c.in-Some.ensures.passed in
-    rw (← c.self.view_is) (passed_added d.track d.notes d.place d.stage c.in-Some.stage d.part.items c.args.bytes.now
-    c.within-length.result c.in-Some.count p c.within-length.ensures.length c.self.invariant.part, p.format)
+    rw (← c.self.view_is) (
+      passed_added d.track d.notes d.place d.stage c.in-Some.stage d.part.items c.args.bytes.now
+          c.within-length.result c.in-Some.count p c.within-length.ensures.length c.self.invariant.part,
+      p.format,
+    )
 
 pub returns-then-length-want-clause-takes : goal.returns-then-length-want-clause-takes
 returns-then-length-want-clause-takes c =
     let d = c.self.inside in
-    rw (← c.self.view_is, c.push.ensures) (part_added d.track d.notes d.place d.stage d.part.items c.args.bytes.now c.within-length.result
-    c.within-length.ensures.some c.within-length.ensures.length, refl)
+    rw (← c.self.view_is, c.push.ensures) (
+      part_added d.track d.notes d.place d.stage d.part.items c.args.bytes.now c.within-length.result
+          c.within-length.ensures.some c.within-length.ensures.length,
+      refl,
+    )
 
 pub returns-in-Next-clause-takes : goal.returns-in-Next-clause-takes
 returns-in-Next-clause-takes c =
@@ -58,9 +63,11 @@ returns-in-Next-clause-takes c =
     let there = c.if-length-want.false in
     let all = c.within-length.ensures.length in
     let st = c.in-Next.ensures.step in
-    rw (← c.self.view_is, c.in-Next.ensures.left) (next_added d.track d.notes c.in-Next.notes d.place d.stage c.in-Next.stage d.part.items c.args.bytes.now
-    want c.width_of-width.result [] (omega (arith, size, part, width)) (omega (arith, size, part, width)) (omega (arith, there, all)) st.0,
-    st.2 ∙ sym st.1)
+    rw (← c.self.view_is, c.in-Next.ensures.left) (
+      next_added d.track d.notes c.in-Next.notes d.place d.stage c.in-Next.stage d.part.items c.args.bytes.now
+          want c.width_of-width.result [] (omega (arith, size, part, width)) (omega (arith, size, part, width)) (omega (arith, there, all)) st.0,
+      st.2 ∙ sym st.1,
+    )
 
 pub returns-in-Begin-clause-takes : goal.returns-in-Begin-clause-takes
 returns-in-Begin-clause-takes c =
@@ -72,9 +79,12 @@ returns-in-Begin-clause-takes c =
     let there = c.if-length-want.false in
     let all = c.within-length.ensures.length in
     let st = c.in-Begin.ensures.step in
-    rw (← c.self.view_is, c.in-Begin.ensures.left) (next_added d.track d.notes d.notes d.place d.stage c.in-Begin.stage d.part.items c.args.bytes.now
-    want c.width_of-width.result [] (omega (arith, size, part, width)) (omega (arith, size, part, width)) (omega (arith, there, all)) st.0,
-    st.1, st.2)
+    rw (← c.self.view_is, c.in-Begin.ensures.left) (
+      next_added d.track d.notes d.notes d.place d.stage c.in-Begin.stage d.part.items c.args.bytes.now
+          want c.width_of-width.result [] (omega (arith, size, part, width)) (omega (arith, size, part, width)) (omega (arith, there, all)) st.0,
+      st.1,
+      st.2,
+    )
 
 pub returns-in-Sample-clause-takes : goal.returns-in-Sample-clause-takes
 returns-in-Sample-clause-takes c =
@@ -87,9 +97,11 @@ returns-in-Sample-clause-takes c =
     let all = c.within-length.ensures.length in
     let fits : SFits w16 c.in-Sample.sample = search rules in
     let st = c.in-Sample.ensures.step in
-    rw (← c.self.view_is, c.in-Sample.ensures.left, to_z-of_z w16 c.in-Sample.sample fits) (next_added d.track d.notes d.notes d.place d.stage c.in-Sample.stage d.part.items c.args.bytes.now
-    want c.width_of-width.result (c.in-Sample.sample ∷ []) (omega (arith, size, part, width)) (omega (arith, size, part, width)) (omega (arith, there, all)) st.0,
-    st.1)
+    rw (← c.self.view_is, c.in-Sample.ensures.left, to_z-of_z w16 c.in-Sample.sample fits) (
+      next_added d.track d.notes d.notes d.place d.stage c.in-Sample.stage d.part.items c.args.bytes.now
+          want c.width_of-width.result (c.in-Sample.sample ∷ []) (omega (arith, size, part, width)) (omega (arith, size, part, width)) (omega (arith, there, all)) st.0,
+      st.1,
+    )
 
 pub returns-in-Fault-clause-stops : goal.returns-in-Fault-clause-stops
 returns-in-Fault-clause-stops c = λ front samples stands more.
