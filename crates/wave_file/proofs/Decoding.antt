@@ -1,7 +1,7 @@
 -- What a decoder takes is a piece more, a part of one, or bytes that are passed over: each time the bytes that follow say the same.
 use Rattle.std.proofs.Common.{true, false, ◌≡◌, ℕ, zero, suc, ◌+◌, ◌-◌, ◌*◌, ◌<◌, ◌≤◌, Bool, List, [], ◌∷◌, ◌++◌, Option, Some, None, length, take, drop, refl, ap}
 use Rattle.std.proofs.Common.{◌∙◌, arith, subst, sym, append_assoc}
-use Rattle.std.specs.Prelude.{nat_le, ◌==◌, ◌&&◌, ◌/◌, min, if◌then◌else◌, ℤ}
+use Rattle.std.specs.Prelude.{IfSome, nat_le, ◌==◌, ◌&&◌, ◌/◌, min, if◌then◌else◌, ℤ}
 use Rattle.std.proofs.lemmas.Bool.{and_right, cond_both, cond-false, cond-true, le-leb, lt-leb, ne_eqb}
 use Rattle.std.proofs.lemmas.Nat.{div_below}
 use Rattle.std.proofs.Math.Nat.{mod-eq_of_lt}
@@ -19,7 +19,7 @@ use Rattle.byteorder.specs.Endian.{big_number, little_number}
 use Rattle.wave_file.specs.declared.chunk.TheConstants.{WAVE}
 use Rattle.wave_file.specs.declared.fault.WaveFault.TheVariants as fault
 use Rattle.wave_file.specs.Chunk.{form_of, no_notes}
-use Rattle.wave_file.specs.Format.{format_in, samples_at}
+use Rattle.wave_file.specs.Format.{format_in, samples_at, IsTakenFor}
 use Rattle.wave_file.specs.Stage.{at, data_stage, extent_behind, format_at_stage, width_of, HasBytes, IsPassed, IsStage}
 use Rattle.wave_file.specs.StandsFor.{decoding_of, Adds, AddsBlocks, IsTold, StandsFor, may_end_before}
 use Rattle.wave_file.specs.Step.{with_samples, IsPast, Leads}
@@ -236,6 +236,16 @@ waiting track notes place (Data format (Announced left) room) part is less =
     }
 
 -- ---- what is told
+
+-- the format of data that have begun is taken
+pub stage_taken : (track place : ℕ) (stage : Stage) → IsStage track place stage → IfSome (format_at_stage stage) (λ format. IsTakenFor track format)
+stage_taken track place Riff is = tt
+stage_taken track place (Wave is_long) is = tt
+stage_taken track place (Chunk skip) is = tt
+stage_taken track place (Format size) is = tt
+stage_taken track place (Sizes size) is = tt
+stage_taken track place (Data format extent room) is = is.0
+stage_taken track place (Tail format left) is = is
 
 -- within the limit the bytes say what their file says
 pub within_file : (track : ℕ) (bytes : List ℕ) → length bytes ≤ MAX_BYTES → reading_of track bytes ≡ file_at track bytes

@@ -1,12 +1,13 @@
 //! The decoder of a sound file. Next: `tests`, with files of other programs.
 ghost use Rattle.std.specs.Prelude.{◌≡◌, ◌≤◌, ◌<◌, ◌*◌, ◌^◌, ◌++◌, ◌+◌, ℕ};
-ghost use Rattle.std.specs.Prelude.{ℤ, List, [], length, take, Some, None, OnOk, IfErr};
+ghost use Rattle.std.specs.Prelude.{ℤ, List, [], length, take, Some, None, OnOk, IfErr, IfSome};
 ghost use Rattle.wave_file.specs.Format.{samples_at, IsTakenFor};
 ghost use Rattle.wave_file.specs.Chunk.{IsNoted};
-ghost use Rattle.wave_file.specs.Stage.{width_of, HasBytes, IsStage, IsWaiting};
+ghost use Rattle.wave_file.specs.Stage.{format_at_stage, width_of, HasBytes, IsStage, IsWaiting};
 ghost use Rattle.wave_file.specs.Step.{IsLeft, IsStep};
-ghost use Rattle.wave_file.specs.StandsFor.{no_decoding, AddsBlocks, AddsTaken, StandsFor, StopsAt, may_end_before};
-ghost use Rattle.wave_file.specs.Wave.{end_fault_of};
+ghost use Rattle.wave_file.specs.StandsFor.{bytes_taken, format_in_decoding, may_end_before, no_decoding, AddsBlocks, AddsTaken};
+ghost use Rattle.wave_file.specs.StandsFor.{IsTold, StandsFor, StopsAt};
+ghost use Rattle.wave_file.specs.Wave.{end_fault_of, good, reading_of};
 
 use crate::chunk::{Extent, Notes};
 use crate::fault::WaveFault;
@@ -174,6 +175,18 @@ impl WaveDecoder {
         (length, count)
     }
 
+    /// The format, where the data have begun. What was taken is good, and the samples that were given are
+    /// those of its bytes.
+    pub fn format(&self) -> Option<WaveFormat>
+        ensures value { result ≡ format_in_decoding self.now }
+        ensures taken { IfSome result (λ format. IsTakenFor self.now.track format) }
+        ensures within { bytes_taken self.now ≤ MAX_BYTES }
+        ensures told { (bytes : List ℕ) (samples : List ℤ) → StandsFor self.now bytes samples
+            → IsTold (reading_of self.now.track bytes) result samples good }
+    {
+        format_at(&self.stage)
+    }
+
     /// The end of the input: the fault where it may not end here.
     pub fn finish(&self) -> Result<(), WaveFault>
         ensures ok { OnOk result ((bytes : List ℕ) (samples : List ℤ) → StandsFor self.now bytes samples
@@ -216,6 +229,17 @@ fn step_with(
         _ => part.clear(),
     }
     step
+}
+
+/// The format, where the data have begun.
+fn format_at(stage: &Stage) -> Option<WaveFormat>
+    ensures { result ≡ format_at_stage stage.now }
+{
+    match *stage {
+        Stage::Data { format, .. } => Some(format),
+        Stage::Tail { format, .. } => Some(format),
+        _ => None,
+    }
 }
 
 /// Whether the input may end before bytes of a stage.

@@ -12,7 +12,9 @@
 //! - A `WaveDecoder` that was given bytes in whatever pieces has given the samples of these bytes, and
 //!   tells a fault or the limit exactly where they have it (`specs/StandsFor.antt`, `StandsFor` and
 //!   `StopsAt`). `WaveDecoder::samples` takes a whole run of blocks, by the same definition.
-//! - What a decoder gave is what the bytes say, and the fault of bytes stays, whatever follows (`laws`).
+//!   A fault and the limit are told for all bytes that begin with these.
+//! - Bytes that a decoder took are good, and their format and samples are those that it gave
+//!   (`WaveDecoder::format`, clause `told`; `laws`).
 //!
 //! Read `fault`, `format`, `sample`, `chunk`, `stage` and `decoder`, in this order, and `specs/Wave.antt`
 //! beside them. Nothing here allocates.
