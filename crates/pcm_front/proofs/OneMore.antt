@@ -7,8 +7,8 @@ use Rattle.std.proofs.lemmas.List.{take-append-le, get_or_append_left, length_pu
 use Rattle.std.proofs.lemmas.List.Elements.{filter-append}
 use Rattle.pcm_front.specs.declared.side.Side.{Side}
 use Rattle.pcm_front.specs.declared.threshold.Threshold.{Threshold}
-use Rattle.pcm_front.specs.declared.threshold.Threshold.TheVariants.{Fixed, Follow}
-use Rattle.pcm_front.specs.Level.{level_of, half_height, threshold_at}
+use Rattle.pcm_front.specs.declared.threshold.Threshold.TheVariants.{Fixed, Follow, Deep}
+use Rattle.pcm_front.specs.Level.{level_of, half_height, quarter_height, threshold_at}
 use Rattle.pcm_front.specs.Side.{sample_at, side_at, side_after, differs}
 use Rattle.pcm_front.specs.Crossing.{is_crossing, tick_to, moment, moments}
 use Rattle.pcm_front.specs.Distance.{gaps, gaps_after}
@@ -18,6 +18,7 @@ threshold_at-front : (threshold : Threshold) (xs ys : List ℤ) (i : ℕ) → i 
     threshold_at threshold (xs ++ ys) i ≡ threshold_at threshold xs i
 threshold_at-front (Fixed t) xs ys i h = refl
 threshold_at-front (Follow t) xs ys i h = ap (λ front. max t (half_height (level_of front))) (take-append-le (i + 1) xs ys (omega arith))
+threshold_at-front (Deep t) xs ys i h = ap (λ front. max t (quarter_height (level_of front))) (take-append-le (i + 1) xs ys (omega arith))
 
 sample_at-front : (xs ys : List ℤ) (i : ℕ) → i < length xs → sample_at (xs ++ ys) i ≡ sample_at xs i
 sample_at-front xs ys i h = get_or_append_left xs ys (pos 0) i h

@@ -7,8 +7,8 @@ use Rattle.std.proofs.lemmas.List.{take_all, get_or_push, length_push, get_or_ap
 use Rattle.std.proofs.lemmas.List.Sums.{fold_push}
 use Rattle.pcm_front.specs.declared.level.Level.{Level}
 use Rattle.pcm_front.specs.declared.threshold.Threshold.{Threshold}
-use Rattle.pcm_front.specs.declared.threshold.Threshold.TheVariants.{Fixed, Follow}
-use Rattle.pcm_front.specs.Level.{silent, level_after, level_of, half_height, next_level, threshold_by, threshold_at}
+use Rattle.pcm_front.specs.declared.threshold.Threshold.TheVariants.{Fixed, Follow, Deep}
+use Rattle.pcm_front.specs.Level.{silent, level_after, level_of, half_height, quarter_height, next_level, threshold_by, threshold_at}
 use Rattle.pcm_front.specs.Side.{side_of, side_at, side_after, differs}
 use Rattle.pcm_front.specs.Crossing.{is_crossing, tick_to, tick_at, moment, moments}
 use Rattle.pcm_front.specs.Distance.{gaps, distances}
@@ -21,6 +21,7 @@ level-more : (threshold : Threshold) (level : Level) (xs : List ℤ) (s : ℤ) �
     IsLevelFor threshold (next_level threshold level s) (xs ++ s ∷ [])
 level-more (Fixed t) level xs s is = tt
 level-more (Follow t) level xs s is = rw is (sym (fold_push level_after silent xs s))
+level-more (Deep t) level xs s is = rw is (sym (fold_push level_after silent xs s))
 
 -- so does the threshold
 threshold-now : (threshold : Threshold) (level : Level) (xs : List ℤ) (s : ℤ) → IsLevelFor threshold level xs →
@@ -30,6 +31,10 @@ threshold-now (Follow t) level xs s is =
     let all : take (length xs + 1) (xs ++ s ∷ []) ≡ xs ++ s ∷ [] = take_all (length xs + 1) (xs ++ s ∷ []) (omega (arith, length_push xs s)) in
     let now : level_after level s ≡ level_of (xs ++ s ∷ []) = rw is (sym (fold_push level_after silent xs s)) in
     ap (λ l. max t (half_height l)) (now ∙ ap level_of (sym all))
+threshold-now (Deep t) level xs s is =
+    let all : take (length xs + 1) (xs ++ s ∷ []) ≡ xs ++ s ∷ [] = take_all (length xs + 1) (xs ++ s ∷ []) (omega (arith, length_push xs s)) in
+    let now : level_after level s ≡ level_of (xs ++ s ∷ []) = rw is (sym (fold_push level_after silent xs s)) in
+    ap (λ l. max t (quarter_height l)) (now ∙ ap level_of (sym all))
 
 side-now : (threshold : Threshold) (level : Level) (xs : List ℤ) (s : ℤ) → IsLevelFor threshold level xs →
     side_of (threshold_by threshold (next_level threshold level s)) s ≡ side_at threshold (xs ++ s ∷ []) (length xs)

@@ -4,7 +4,7 @@ use Rattle.std.specs.List.{fold}
 use Rattle.std.specs.Int.{div_ceil}
 use Rattle.pcm_front.specs.declared.level.Level.{Level}
 use Rattle.pcm_front.specs.declared.threshold.Threshold.{Threshold}
-use Rattle.pcm_front.specs.declared.threshold.Threshold.TheVariants.{Fixed, Follow}
+use Rattle.pcm_front.specs.declared.threshold.Threshold.TheVariants.{Fixed, Follow, Deep}
 
 -- no sound yet
 abbrev pub silent : Level
@@ -30,15 +30,21 @@ level_of samples = fold level_after silent samples
 abbrev pub half_height : Level → ℕ
 half_height level = (level.peak - level.sum / 1_024) / 2
 
+-- a quarter of it
+abbrev pub quarter_height : Level → ℕ
+quarter_height level = (level.peak - level.sum / 1_024) / 4
+
 -- the threshold at a level of the sound: one that follows is never below its least
 abbrev pub threshold_by : Threshold → Level → ℕ
 threshold_by (Fixed threshold) level = threshold
 threshold_by (Follow least) level = max least (half_height level)
+threshold_by (Deep least) level = max least (quarter_height level)
 
 -- the level that is kept after a sample: only a threshold that follows has one
 abbrev pub next_level : Threshold → Level → ℤ → Level
 next_level (Fixed threshold) level sample = level
 next_level (Follow least) level sample = level_after level sample
+next_level (Deep least) level sample = level_after level sample
 
 -- the threshold at the sample in a place: by the level of the samples up to this one
 abbrev pub threshold_at : Threshold → List ℤ → ℕ → ℕ

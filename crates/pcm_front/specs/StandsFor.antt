@@ -4,7 +4,7 @@ use Rattle.std.specs.List.{last_or}
 use Rattle.std.specs.Option.{option_map}
 use Rattle.pcm_front.specs.declared.level.Level.{Level}
 use Rattle.pcm_front.specs.declared.threshold.Threshold.{Threshold}
-use Rattle.pcm_front.specs.declared.threshold.Threshold.TheVariants.{Fixed, Follow}
+use Rattle.pcm_front.specs.declared.threshold.Threshold.TheVariants.{Fixed, Follow, Deep}
 use Rattle.pcm_front.specs.Level.{level_of}
 use Rattle.pcm_front.specs.Side.{sample_at, side_after}
 use Rattle.pcm_front.specs.Crossing.{moments}
@@ -14,6 +14,7 @@ use Rattle.pcm_front.specs.State.{SlicerState}
 abbrev pub IsLevelFor : Threshold → Level → List ℤ → Type 0
 IsLevelFor (Fixed threshold) level samples = Unit {0}
 IsLevelFor (Follow least) level samples = level ≡ level_of samples
+IsLevelFor (Deep least) level samples = level ≡ level_of samples
 
 -- the slicer answers as one that was given these samples
 pub record StandsFor (slicer : SlicerState) (samples : List ℤ) : Type 0 where

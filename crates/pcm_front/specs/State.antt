@@ -4,7 +4,7 @@ use Rattle.std.specs.Option.{option_or}
 use Rattle.pcm_front.specs.declared.level.Level.{Level}
 use Rattle.pcm_front.specs.declared.side.Side.{Side}
 use Rattle.pcm_front.specs.declared.threshold.Threshold.{Threshold}
-use Rattle.pcm_front.specs.declared.threshold.Threshold.TheVariants.{Fixed, Follow}
+use Rattle.pcm_front.specs.declared.threshold.Threshold.TheVariants.{Fixed, Follow, Deep}
 use Rattle.pcm_front.specs.Level.{silent, next_level, threshold_by, IsInRange}
 use Rattle.pcm_front.specs.Side.{side_of, differs}
 use Rattle.pcm_front.specs.Crossing.{tick_to}
@@ -39,6 +39,7 @@ fresh fineness threshold = state_of fineness threshold 0 (pos 0) silent None Non
 abbrev pub IsThreshold : Threshold → Type 0
 IsThreshold (Fixed threshold) = (1 ≤ threshold) × (threshold ≤ 32_767)
 IsThreshold (Follow least) = (1 ≤ least) × (least ≤ 32_767)
+IsThreshold (Deep least) = (1 ≤ least) × (least ≤ 32_767)
 
 -- what a slicer keeps is in its range
 pub record IsKept (state : SlicerState) : Type 0 where

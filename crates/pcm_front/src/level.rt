@@ -1,6 +1,6 @@
 //! The level of the sound. Next: `side`.
 ghost use Rattle.std.specs.Prelude.{◌≡◌, ◌≤◌, ◌<◌, ◌^◌, unsigned_abs};
-ghost use Rattle.pcm_front.specs.Level.{silent, level_after, half_height, IsInRange};
+ghost use Rattle.pcm_front.specs.Level.{silent, level_after, half_height, quarter_height, IsInRange};
 
 /// How loud the sound is: its peak, and the sum of some thousand sizes.
 #[derive(Clone, Copy, Debug, PartialEq, Eq)]
@@ -45,5 +45,14 @@ impl Level {
         ensures most { result ≤ 16_384 }
     {
         self.peak.saturating_sub(self.sum / 1_024) / 2
+    }
+
+    /// A quarter of it.
+    pub(crate) fn quarter_height(self) -> u32
+        requires { IsInRange self }
+        ensures value { result ≡ quarter_height self }
+        ensures most { result ≤ 8_192 }
+    {
+        self.peak.saturating_sub(self.sum / 1_024) / 4
     }
 }

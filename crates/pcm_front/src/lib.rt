@@ -5,8 +5,8 @@
 //! neighbouring crossings are the intervals of the recording. With a fineness of one they are counted
 //! in whole samples. A finer slicer places each crossing on the straight line from sample to sample,
 //! in so many ticks a sample, which keeps the shape of cells that have few samples. A threshold is
-//! fixed, or follows the level of the sound. The finer form and the threshold that follows are this
-//! project's own.
+//! fixed, or follows the level of the sound, at a half or a quarter of its height. The finer form and
+//! the thresholds that follow are this project's own.
 //!
 //! What this crate promises:
 //! - `Slicer::sample` gives exactly the distances of the crossings of the samples so far

@@ -12,6 +12,8 @@ pub enum Threshold {
     Fixed(u32),
     /// At half of what the peak of the sound stands above its mean size, and never nearer than this.
     Follow(u32),
+    /// At a quarter of it, and never nearer than this: for sound that is dull, or lies on a hum.
+    Deep(u32),
 }
 
 impl Threshold {
@@ -23,7 +25,7 @@ impl Threshold {
     {
         match self {
             Threshold::Fixed(_) => level,
-            Threshold::Follow(_) => level.after(sample),
+            Threshold::Follow(_) | Threshold::Deep(_) => level.after(sample),
         }
     }
 
@@ -39,6 +41,10 @@ impl Threshold {
             Threshold::Fixed(threshold) => threshold,
             Threshold::Follow(least) => {
                 let height = level.half_height();
+                if height < least { least } else { height }
+            }
+            Threshold::Deep(least) => {
+                let height = level.quarter_height();
                 if height < least { least } else { height }
             }
         }

@@ -1,0 +1,4 @@
+pub mod Blocks
+pub mod Decoding
+pub mod Pieces
+pub mod TakenFormat

@@ -1,0 +1,140 @@
+use Rattle.std.proofs.Common.{◌-◌, ◌++◌, ◌∷◌, [], take, refl, sym, arith, rules, subst, ◌∙◌}
+use Rattle.std.proofs.Common.{SFits, w16}
+use Rattle.wave_file.specs.StandsFor.{Decoding, StandsFor}
+use Rattle.wave_file.proofs.Decoding.{next_added, part_added, passed_added, told_piece, told_limit, told_bad, told_past}
+use Rattle.wave_file.proofs.decoder.WaveDecoder.take.Goals as goal
+use Rattle.std.proofs.lemmas.Int.{to_z-of_z}
+use Rattle.wave_file.specs.Wave.{refused, past_limit}
+
+pub returns-then-room-eq0-clause-stops : goal.returns-then-room-eq0-clause-stops
+returns-then-room-eq0-clause-stops c = λ front samples stands more.
+    let d = c.self.inside in
+    let s = subst (λ (x : Decoding). StandsFor x front samples) (sym c.self.view_is) stands in
+    let none = c.if-room-eq0.true in
+    let size = c.len.ensures.value in
+    let within = c.self.invariant.within in
+    rw (← c.self.view_is) (told_limit d.track d.notes d.place d.stage d.part.items c.args.bytes.now front more samples
+    c.self.invariant.stage c.self.invariant.part (omega (arith, none, size, within)) c.requires s)
+
+pub invariant_of-self : goal.invariant_of-self
+invariant_of-self c =
+    let p = c.in-Some.ensures.passed in
+    let alone = p.alone in
+    let part = c.self.invariant.part in
+    let wait = p.wait in
+    let count = p.within in
+    let room = c.within-length.ensures.room in
+    let size = c.len.ensures.value in
+    record {
+      least = c.self.invariant.least;
+      most = c.self.invariant.most;
+      notes = c.self.invariant.notes;
+      stage = p.stays c.self.inside.track c.self.inside.place c.self.invariant.stage;
+      part = omega (arith, alone, part, wait);
+      within = omega (arith, count, room, size);
+    }
+
+pub returns-in-Some-clause-takes : goal.returns-in-Some-clause-takes
+returns-in-Some-clause-takes c =
+    let d = c.self.inside in
+    let p = c.in-Some.ensures.passed in
+    rw (← c.self.view_is) (
+      passed_added d.track d.notes d.place d.stage c.in-Some.stage d.part.items c.args.bytes.now
+          c.within-length.result c.in-Some.count p c.within-length.ensures.length c.self.invariant.part,
+      p.format,
+    )
+
+pub returns-then-length-want-clause-takes : goal.returns-then-length-want-clause-takes
+returns-then-length-want-clause-takes c =
+    let d = c.self.inside in
+    rw (← c.self.view_is, c.push.ensures) (
+      part_added d.track d.notes d.place d.stage d.part.items c.args.bytes.now c.within-length.result
+          c.within-length.ensures.some c.within-length.ensures.length,
+      refl,
+    )
+
+pub returns-in-Next-clause-takes : goal.returns-in-Next-clause-takes
+returns-in-Next-clause-takes c =
+    let d = c.self.inside in
+    let want = c.width_of-width.result - c.len-before.result in
+    let size = c.len-before.ensures.value in
+    let part = c.self.invariant.part in
+    let width = c.width_of-width.ensures in
+    let there = c.if-length-want.false in
+    let all = c.within-length.ensures.length in
+    let st = c.in-Next.ensures.step in
+    rw (← c.self.view_is, c.in-Next.ensures.left) (
+      next_added d.track d.notes c.in-Next.notes d.place d.stage c.in-Next.stage d.part.items c.args.bytes.now
+          want c.width_of-width.result [] (omega (arith, size, part, width)) (omega (arith, size, part, width)) (omega (arith, there, all)) st.0,
+      st.2 ∙ sym st.1,
+    )
+
+pub returns-in-Begin-clause-takes : goal.returns-in-Begin-clause-takes
+returns-in-Begin-clause-takes c =
+    let d = c.self.inside in
+    let want = c.width_of-width.result - c.len-before.result in
+    let size = c.len-before.ensures.value in
+    let part = c.self.invariant.part in
+    let width = c.width_of-width.ensures in
+    let there = c.if-length-want.false in
+    let all = c.within-length.ensures.length in
+    let st = c.in-Begin.ensures.step in
+    rw (← c.self.view_is, c.in-Begin.ensures.left) (
+      next_added d.track d.notes d.notes d.place d.stage c.in-Begin.stage d.part.items c.args.bytes.now
+          want c.width_of-width.result [] (omega (arith, size, part, width)) (omega (arith, size, part, width)) (omega (arith, there, all)) st.0,
+      st.1,
+      st.2,
+    )
+
+pub returns-in-Sample-clause-takes : goal.returns-in-Sample-clause-takes
+returns-in-Sample-clause-takes c =
+    let d = c.self.inside in
+    let want = c.width_of-width.result - c.len-before.result in
+    let size = c.len-before.ensures.value in
+    let part = c.self.invariant.part in
+    let width = c.width_of-width.ensures in
+    let there = c.if-length-want.false in
+    let all = c.within-length.ensures.length in
+    let fits : SFits w16 c.in-Sample.sample = search rules in
+    let st = c.in-Sample.ensures.step in
+    rw (← c.self.view_is, c.in-Sample.ensures.left, to_z-of_z w16 c.in-Sample.sample fits) (
+      next_added d.track d.notes d.notes d.place d.stage c.in-Sample.stage d.part.items c.args.bytes.now
+          want c.width_of-width.result (c.in-Sample.sample ∷ []) (omega (arith, size, part, width)) (omega (arith, size, part, width)) (omega (arith, there, all)) st.0,
+      st.1,
+    )
+
+pub returns-in-Fault-clause-stops : goal.returns-in-Fault-clause-stops
+returns-in-Fault-clause-stops c = λ front samples stands more.
+    let d = c.self.inside in
+    let want = c.width_of-width.result - c.len-before.result in
+    let size = c.len-before.ensures.value in
+    let part = c.self.invariant.part in
+    let width = c.width_of-width.ensures in
+    let there = c.if-length-want.false in
+    let all = c.within-length.ensures.length in
+    let room = c.within-length.ensures.room in
+    let len = c.len.ensures.value in
+    let within = c.self.invariant.within in
+    let s = subst (λ (x : Decoding). StandsFor x front samples) (sym c.self.view_is) stands in
+    let st = c.in-Fault.ensures.step in
+    rw (← c.self.view_is) (told_piece d.track d.notes d.place d.stage d.part.items c.args.bytes.now front more want samples (refused c.in-Fault.fault)
+    (omega (arith, there, all)) (omega (arith, there, room, len, within)) refl
+    (told_bad d.track d.notes d.place d.stage (d.part.items ++ take want c.args.bytes.now) c.in-Fault.fault st.0 st.1) s)
+
+pub returns-in-Limit-clause-stops : goal.returns-in-Limit-clause-stops
+returns-in-Limit-clause-stops c = λ front samples stands more.
+    let d = c.self.inside in
+    let want = c.width_of-width.result - c.len-before.result in
+    let size = c.len-before.ensures.value in
+    let part = c.self.invariant.part in
+    let width = c.width_of-width.ensures in
+    let there = c.if-length-want.false in
+    let all = c.within-length.ensures.length in
+    let room = c.within-length.ensures.room in
+    let len = c.len.ensures.value in
+    let within = c.self.invariant.within in
+    let s = subst (λ (x : Decoding). StandsFor x front samples) (sym c.self.view_is) stands in
+    let st = c.in-Limit.ensures.step in
+    rw (← c.self.view_is) (told_piece d.track d.notes d.place d.stage d.part.items c.args.bytes.now front more want samples past_limit
+    (omega (arith, there, all)) (omega (arith, there, room, len, within)) refl
+    (told_past d.track d.notes d.place d.stage (d.part.items ++ take want c.args.bytes.now) st) s)

@@ -1,0 +1,71 @@
+-- The chunks of a sound file: what their letters and sizes say (EBU Tech 3285; ITU-R BS.2088 for sizes of 64 bits).
+use Rattle.std.specs.Prelude.{⊤, ◌≤◌, ℕ, zero, suc, Bool, true, false, not, ◌&&◌, ◌||◌, ◌==◌, nat_le, nat_lt, if◌then◌else◌, Option, Some, None, Result, Ok, Err, IfSome}
+use Rattle.wave_file.specs.declared.fault.WaveFault.{WaveFault}
+use Rattle.wave_file.specs.declared.fault.WaveFault.TheVariants as fault
+use Rattle.wave_file.specs.declared.format.WaveFormat.{WaveFormat}
+use Rattle.wave_file.specs.Format.{IsTakenFor}
+use Rattle.wave_file.specs.declared.chunk.Chunk.{Chunk}
+use Rattle.wave_file.specs.declared.chunk.Chunk.TheVariants as chunk
+use Rattle.wave_file.specs.declared.chunk.Extent.{Extent}
+use Rattle.wave_file.specs.declared.chunk.Extent.TheVariants as extent
+use Rattle.wave_file.specs.declared.chunk.Notes.{Notes}
+use Rattle.wave_file.specs.declared.chunk.TheConstants.{RIFF, RF64, BW64, FORMAT, SIZES, DATA, NO_SIZE}
+
+-- the first four letters: RF64 and BW64 have their sizes in 64 bits
+abbrev pub form_of : ℕ → Option Bool
+form_of letters =
+    if letters == RIFF then Some false
+    else if letters == RF64 then Some true
+    else if letters == BW64 then Some true
+    else None
+
+-- no chunk yet
+abbrev pub no_notes : Bool → Notes
+no_notes is_long = record { is_long = is_long; format = None; data_size = None }
+
+-- the sizes that programs write in RIFF where they do not know the length: ffmpeg the greatest one, sox and ALSA one a little below 2 to the 31st
+abbrev pub is_open_size : ℕ → Bool
+is_open_size size = (size == NO_SIZE) || (nat_le 2_147_479_296 size && nat_le size 2_147_483_647)
+
+-- how far data go whose size stands in ds64: 0 there says that the length was not known
+abbrev pub long_extent : Option ℕ → Option Extent
+long_extent None = None
+long_extent (Some zero) = Some extent.Open
+long_extent (Some (suc n)) = Some (extent.Announced (suc n))
+
+-- how far data of this size go, where that is said
+abbrev pub extent_of : Notes → ℕ → Option Extent
+extent_of notes size =
+    if not notes.is_long then (if is_open_size size then Some extent.Open else Some (extent.Announced size))
+    else if not (size == NO_SIZE) then Some (extent.Announced size)
+    else long_extent notes.data_size
+
+-- data want their extent, and then a format
+abbrev pub data_with : ℕ → Option Extent → Option WaveFormat → Result Chunk WaveFault
+data_with place None format = Err (fault.Ds64 place)
+data_with place (Some extent) None = Err (fault.Format place)
+data_with place (Some extent) (Some format) = Ok (chunk.Data format extent)
+
+abbrev pub data_in : Notes → ℕ → ℕ → Result Chunk WaveFault
+data_in notes place size = data_with place (extent_of notes size) notes.format
+
+-- the chunk that letters and a size begin at a place, behind other chunks; or their fault
+abbrev pub chunk_of : Notes → ℕ → ℕ → ℕ → Result Chunk WaveFault
+chunk_of notes place letters size =
+    if letters == DATA then data_in notes place size
+    else if letters == FORMAT then (if nat_lt size 16 then Err (fault.Format place) else Ok (chunk.Format size))
+    else if (letters == SIZES) && notes.is_long then (if nat_lt size 16 then Err (fault.Ds64 place) else Ok (chunk.Sizes size))
+    else Ok (chunk.Other size)
+
+-- ---- what is known of a chunk
+
+-- the formats in notes are taken
+abbrev pub IsNoted : ℕ → Notes → Type 0
+IsNoted track notes = IfSome notes.format (λ format. IsTakenFor track format)
+
+-- the chunk is long enough, and its format is taken
+abbrev pub IsChunkFor : ℕ → Chunk → Type 0
+IsChunkFor track (chunk.Format size) = 16 ≤ size
+IsChunkFor track (chunk.Sizes size) = 16 ≤ size
+IsChunkFor track (chunk.Data format extent) = IsTakenFor track format
+IsChunkFor track (chunk.Other size) = ⊤

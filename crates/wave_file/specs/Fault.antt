@@ -1,0 +1,23 @@
+-- The name and the place of a fault.
+use Rattle.std.specs.Prelude.{ℕ, List}
+use Rattle.wave_file.specs.declared.fault.WaveFault.{WaveFault}
+use Rattle.wave_file.specs.declared.fault.WaveFault.TheVariants.{Riff, Wave, Ds64, Format, Track, Truncated}
+use Rattle.wave_file.specs.declared.names.TheConstants.{RIFF_NAME, WAVE_NAME, DS64_NAME, FORMAT_NAME, TRACK_NAME, TRUNCATED_NAME}
+
+-- the name under which notes print a fault
+abbrev pub name_of : WaveFault → List ℕ
+name_of (Riff place) = RIFF_NAME.now
+name_of (Wave place) = WAVE_NAME.now
+name_of (Ds64 place) = DS64_NAME.now
+name_of (Format place) = FORMAT_NAME.now
+name_of (Track place) = TRACK_NAME.now
+name_of (Truncated place) = TRUNCATED_NAME.now
+
+-- the byte place of a fault
+abbrev pub place_of : WaveFault → ℕ
+place_of (Riff place) = place
+place_of (Wave place) = place
+place_of (Ds64 place) = place
+place_of (Format place) = place
+place_of (Track place) = place
+place_of (Truncated place) = place

@@ -1,0 +1,87 @@
+-- The format of a sound file, as the chunk `fmt ` gives it, and the samples of a track in its blocks (EBU Tech 3285, ITU-R BS.2088). Numbers stand with
+-- the less significant byte first. Which formats are taken is this project's own.
+use Rattle.std.specs.Prelude.{◌≡◌, ◌≤◌, ℕ, zero, suc, ◌+◌, ◌-◌, ◌*◌, ◌/◌, ℤ, pos, ◌-ℤ◌, Bool, not, ◌&&◌, ◌||◌, ◌==◌, nat_le, nat_lt, if◌then◌else◌}
+use Rattle.std.specs.Prelude.{List, [], ◌∷◌, length, take, drop, slice_index, Option, Some, None, Result, Ok, Err}
+use Rattle.std.specs.Int.{w16, cast_signed}
+use Rattle.byteorder.specs.Endian.{little_number}
+use Rattle.wave_file.specs.declared.fault.WaveFault.{WaveFault}
+use Rattle.wave_file.specs.declared.fault.WaveFault.TheVariants as fault
+use Rattle.wave_file.specs.declared.format.WaveFormat.{WaveFormat}
+use Rattle.wave_file.specs.declared.format.TheConstants.{MAX_TRACKS, MAX_RATE}
+
+-- ---- the format
+
+-- the fields: tracks at byte 2, samples a second at byte 4, bytes a block at byte 12, and bits a sample at byte 14
+abbrev pub format_of : List ℕ → WaveFormat
+format_of body = record {
+  tracks = little_number 2 (drop 2 body);
+  rate = little_number 4 (drop 4 body);
+  block = little_number 2 (drop 12 body);
+  bits = little_number 2 (drop 14 body);
+}
+
+-- samples are whole numbers: format 1, or format 65,534 whose subformat, at byte 24, is 1
+abbrev pub is_pcm : List ℕ → Bool
+is_pcm body =
+    (little_number 2 body == 1)
+    || ((little_number 2 body == 65_534) && (nat_le 26 (length body) && (little_number 2 (drop 24 body) == 1)))
+
+abbrev pub is_track_count : ℕ → Bool
+is_track_count tracks = nat_le 1 tracks && nat_le tracks MAX_TRACKS
+
+abbrev pub is_rate : ℕ → Bool
+is_rate rate = nat_le 1 rate && nat_le rate MAX_RATE
+
+abbrev pub is_sample_size : ℕ → Bool
+is_sample_size bits = (bits == 8) || ((bits == 16) || ((bits == 24) || (bits == 32)))
+
+-- the first field that is not taken, and behind all of them a track that is not there
+abbrev pub field_fault : ℕ → ℕ → Bool → WaveFormat → Option WaveFault
+field_fault track place is_pcm format =
+    if not is_pcm then Some (fault.Format place)
+    else if not (is_track_count format.tracks) then Some (fault.Format (place + 2))
+    else if not (is_rate format.rate) then Some (fault.Format (place + 4))
+    else if not (8 * format.block == format.tracks * format.bits) then Some (fault.Format (place + 12))
+    else if not (is_sample_size format.bits) then Some (fault.Format (place + 14))
+    else if nat_lt format.tracks track then Some (fault.Track (place + 2))
+    else None
+
+abbrev pub unless : {A : Type 0} → Option WaveFault → A → Result A WaveFault
+unless (Some f) value = Err f
+unless None value = Ok value
+
+-- the format of the first bytes of a chunk, which stand at a place, for a track from 1
+abbrev pub format_in : ℕ → ℕ → List ℕ → Result WaveFormat WaveFault
+format_in track place body = unless (field_fault track place (is_pcm body) (format_of body)) (format_of body)
+
+-- a format that is taken for a track
+pub record IsTakenFor (track : ℕ) (format : WaveFormat) : Type 0 where
+  pub first : 1 ≤ track
+  pub among : track ≤ format.tracks
+  pub most : format.tracks ≤ 64
+  pub rate_least : 1 ≤ format.rate
+  pub rate_most : format.rate ≤ 6_250_000
+  pub bits_least : 8 ≤ format.bits
+  pub bits_most : format.bits ≤ 32
+  pub whole : format.bits ≡ 8 * (format.bits / 8)
+  pub block : format.block ≡ format.tracks * (format.bits / 8)
+  pub some : 1 ≤ format.block
+  pub room : format.block ≤ 256
+
+-- ---- the samples
+
+-- the bytes of a sample
+abbrev pub sample_width : WaveFormat → ℕ
+sample_width format = format.bits / 8
+
+-- the sample of a track in a block, as its upper 16 bits: the two bytes above, or of 8 bits, which have no sign, 256 times what they stand above 128
+abbrev pub sample_in : WaveFormat → ℕ → List ℕ → ℤ
+sample_in format track block =
+    if sample_width format == 1 then pos (256 * slice_index block (track - 1)) -ℤ pos 32_768
+    else cast_signed w16 (little_number 2 (drop (track * sample_width format - 2) block))
+
+-- the samples of so many blocks, one block after another
+unfoldable pub samples_at : WaveFormat → ℕ → ℕ → List ℕ → List ℤ
+samples_at format track zero bytes = []
+samples_at format track (suc count) bytes =
+    sample_in format track (take format.block bytes) ∷ samples_at format track count (drop format.block bytes)

@@ -1,0 +1,326 @@
+//! The decoder of a sound file. Next: `tests`, with files of other programs.
+ghost use Rattle.std.specs.Prelude.{◌≡◌, ◌≤◌, ◌<◌, ◌*◌, ◌^◌, ◌++◌, ◌+◌, ℕ};
+ghost use Rattle.std.specs.Prelude.{ℤ, List, [], length, take, Some, None, OnOk, IfErr, IfSome};
+ghost use Rattle.wave_file.specs.Format.{samples_at, IsTakenFor};
+ghost use Rattle.wave_file.specs.Chunk.{IsNoted};
+ghost use Rattle.wave_file.specs.Stage.{format_at_stage, width_of, HasBytes, IsStage, IsWaiting};
+ghost use Rattle.wave_file.specs.Step.{IsLeft, IsStep};
+ghost use Rattle.wave_file.specs.StandsFor.{bytes_taken, format_in_decoding, may_end_before, no_decoding, AddsBlocks, AddsTaken};
+ghost use Rattle.wave_file.specs.StandsFor.{IsTold, StandsFor, StopsAt};
+ghost use Rattle.wave_file.specs.Wave.{end_fault_of, good, reading_of};
+
+use crate::chunk::{Extent, Notes};
+use crate::fault::WaveFault;
+use crate::format::WaveFormat;
+use crate::sample::sample_in;
+use crate::stage::{MAX_BYTES, Stage, Step, behind, data_stage, passed, step_over, width_of};
+use arrayvec::ArrayVec;
+use std::marker::Model;
+
+/// The most bytes of a piece: a block of 64 samples of 32 bits.
+pub const PIECE_ROOM: usize = 256;
+
+/// The first bytes of a piece.
+type Part = ArrayVec<u8, PIECE_ROOM>;
+
+/// What bytes complete.
+#[derive(Clone, Copy, Debug, PartialEq, Eq)]
+pub enum Taken {
+    /// So many bytes, and no sample.
+    Nothing(usize),
+    /// So many bytes, behind which the data begin.
+    Begin { count: usize, format: WaveFormat },
+    /// So many bytes, and with the last of them a sample of the track.
+    Sample { count: usize, sample: i16 },
+    /// The first fault of the bytes so far.
+    Fault(WaveFault),
+    /// One sample or one byte too many.
+    Limit,
+}
+
+/// Decodes a sound file piece by piece, and keeps less than one piece of it.
+#[derive(Drop)]
+pub struct WaveDecoder {
+    track: u32,
+    notes: Notes,
+    place: u64,
+    stage: Stage,
+    part: Part,
+}
+
+impl Model for WaveDecoder {
+    ghost use Rattle.wave_file.specs.StandsFor.{Decoding, IsDecoding, decoding_of};
+
+    ghost Value = { Decoding };
+
+    ghost view = { λ d. decoding_of d.track d.notes d.place d.stage d.part.items };
+
+    ghost invariant = { λ d. IsDecoding (decoding_of d.track d.notes d.place d.stage d.part.items) };
+}
+
+impl WaveDecoder {
+    /// A decoder of a track, from 1 to 64, that stands before the first byte.
+    pub fn new(track: u32) -> WaveDecoder
+        requires least { 1 ≤ track }
+        requires most { track ≤ 64 }
+        ensures value { result ≡ no_decoding track }
+        ensures stands { StandsFor result [] [] }
+    {
+        WaveDecoder {
+            track,
+            notes: Notes {
+                is_long: false,
+                format: None,
+                data_size: None,
+            },
+            place: 0,
+            stage: Stage::Riff,
+            part: ArrayVec::new(),
+        }
+    }
+
+    /// Takes some of the bytes, from the first on: up to the end of a piece, or all. A fault and the limit
+    /// leave the decoder as it was.
+    pub fn take(&mut self, bytes: &[u8]) -> Taken
+        requires { 0 < length bytes.now }
+        ensures takes { AddsTaken self.old self.new bytes.now result }
+        ensures stops { (front : List ℕ) (samples : List ℤ) → StandsFor self.old front samples
+            → StopsAt self.old (front ++ bytes.now) samples result }
+    {
+        let room = MAX_BYTES - (self.place + self.part.len() as u64);
+        if room == 0 {
+            return Taken::Limit;
+        }
+        let length = within(room, bytes.len());
+        if let Some((count, stage)) = passed(&self.stage, length) {
+            self.stage = stage;
+            self.place += count as u64;
+            return Taken::Nothing(count);
+        }
+        let width = width_of(&self.stage);
+        let before = self.part.len();
+        let want = width - before;
+        if length < want {
+            push(&mut self.part, &bytes[..length]);
+            return Taken::Nothing(length);
+        }
+        let (notes, stage) = (self.notes, self.stage);
+        match step_with(
+            self.track,
+            &notes,
+            &stage,
+            self.place,
+            &mut self.part,
+            &bytes[..want],
+        ) {
+            Step::Next { notes, stage } => {
+                self.notes = notes;
+                self.stage = stage;
+                self.place += width as u64;
+                Taken::Nothing(want)
+            }
+            Step::Begin { format, stage } => {
+                self.stage = stage;
+                self.place += width as u64;
+                Taken::Begin {
+                    count: want,
+                    format,
+                }
+            }
+            Step::Sample { sample, stage } => {
+                self.stage = stage;
+                self.place += width as u64;
+                Taken::Sample {
+                    count: want,
+                    sample,
+                }
+            }
+            Step::Fault(fault) => Taken::Fault(fault),
+            Step::Limit => Taken::Limit,
+        }
+    }
+
+    /// Takes whole blocks at the front of the bytes, where the next bytes are blocks of data, and puts
+    /// their samples into the room from its front on. Answers how many bytes and how many samples these
+    /// are: none where a block is cut, where data have not begun or have ended, or at a limit.
+    pub fn samples(&mut self, bytes: &[u8], room: &mut [i16]) -> (usize, usize)
+        ensures bytes { result.0 ≤ length bytes.now }
+        ensures samples { result.1 ≤ length room.new }
+        ensures room { length room.new ≡ length room.old }
+        ensures adds { AddsBlocks self.old self.new bytes.now result.0 (take result.1 room.new) }
+    {
+        let Stage::Data {
+            format,
+            extent,
+            room: left,
+        } = self.stage
+        else {
+            return (0, 0);
+        };
+        if !self.part.is_empty() {
+            return (0, 0);
+        }
+        let block = usize::from(format.block);
+        let inside = bytes_inside(extent, MAX_BYTES - self.place, bytes.len());
+        let count = least(inside / block, room.len(), left);
+        read_blocks(
+            &format,
+            self.track,
+            &bytes[..count * block],
+            &mut room[..count],
+        );
+        let length = count * block;
+        self.stage = data_stage(format, behind(extent, length as u64), left - count as u64);
+        self.place += length as u64;
+        (length, count)
+    }
+
+    /// The format, where the data have begun. What was taken is good, and the samples that were given are
+    /// those of its bytes.
+    pub fn format(&self) -> Option<WaveFormat>
+        ensures value { result ≡ format_in_decoding self.now }
+        ensures taken { IfSome result (λ format. IsTakenFor self.now.track format) }
+        ensures within { bytes_taken self.now ≤ MAX_BYTES }
+        ensures told { (bytes : List ℕ) (samples : List ℤ) → StandsFor self.now bytes samples
+            → IsTold (reading_of self.now.track bytes) result samples good }
+    {
+        format_at(&self.stage)
+    }
+
+    /// The end of the input: the fault where it may not end here.
+    pub fn finish(&self) -> Result<(), WaveFault>
+        ensures ok { OnOk result ((bytes : List ℕ) (samples : List ℤ) → StandsFor self.now bytes samples
+            → end_fault_of self.now.track bytes ≡ None) }
+        ensures err { IfErr result (λ fault. (bytes : List ℕ) (samples : List ℤ) → StandsFor self.now bytes samples
+            → end_fault_of self.now.track bytes ≡ Some fault) }
+    {
+        if self.part.is_empty() && may_end(&self.stage) {
+            Ok(())
+        } else {
+            Err(WaveFault::Truncated(self.place + self.part.len() as u64))
+        }
+    }
+}
+
+/// What a piece brings, the first bytes of which were kept. Where the reading ends, they are kept on.
+fn step_with(
+    track: u32,
+    notes: &Notes,
+    stage: &Stage,
+    place: u64,
+    part: &mut Part,
+    bytes: &[u8],
+) -> Step
+    requires track { 1 ≤ track }
+    requires notes { IsNoted track notes.now }
+    requires stage { IsStage track place stage.now }
+    requires waiting { IsWaiting stage.now }
+    requires place { place < 2 ^ 62 }
+    requires piece { length part.old.items + length bytes.now ≡ width_of stage.now }
+    requires room { width_of stage.now ≤ PIECE_ROOM }
+    ensures step { IsStep track notes.now place stage.now (part.old.items ++ bytes.now) result }
+    ensures left { IsLeft result part.old.items part.new.items }
+{
+    let before = part.len();
+    push(part, bytes);
+    let step = step_over(track, notes, stage, place, part);
+    match step {
+        Step::Fault(_) | Step::Limit => part.truncate(before),
+        _ => part.clear(),
+    }
+    step
+}
+
+/// The format, where the data have begun.
+fn format_at(stage: &Stage) -> Option<WaveFormat>
+    ensures { result ≡ format_at_stage stage.now }
+{
+    match *stage {
+        Stage::Data { format, .. } => Some(format),
+        Stage::Tail { format, .. } => Some(format),
+        _ => None,
+    }
+}
+
+/// Whether the input may end before bytes of a stage.
+fn may_end(stage: &Stage) -> bool
+    ensures { result ≡ may_end_before stage.now }
+{
+    match *stage {
+        Stage::Tail { left, .. } => left == 0,
+        Stage::Data {
+            extent: Extent::Open,
+            ..
+        } => true,
+        _ => false,
+    }
+}
+
+/// So many bytes, and no more than there is room for.
+fn within(room: u64, length: usize) -> usize
+    requires room { 1 ≤ room }
+    requires length { 1 ≤ length }
+    ensures some { 1 ≤ result }
+    ensures room { result ≤ room }
+    ensures length { result ≤ length }
+{
+    if room < length as u64 {
+        room as usize
+    } else {
+        length
+    }
+}
+
+/// How many of so many bytes are data and within the limit.
+fn bytes_inside(extent: Extent, room: u64, length: usize) -> usize
+    ensures length { result ≤ length }
+    ensures room { result ≤ room }
+    ensures inside { HasBytes result extent }
+{
+    let within = if room < length as u64 {
+        room as usize
+    } else {
+        length
+    };
+    match extent {
+        Extent::Announced(left) if left < within as u64 => left as usize,
+        _ => within,
+    }
+}
+
+/// The least of these numbers.
+fn least(blocks: usize, places: usize, left: u64) -> usize
+    ensures blocks { result ≤ blocks }
+    ensures places { result ≤ places }
+    ensures left { result ≤ left }
+{
+    let most = if blocks < places { blocks } else { places };
+    if left < most as u64 {
+        left as usize
+    } else {
+        most
+    }
+}
+
+/// Puts the samples of a track in blocks into places, of which there are as many.
+fn read_blocks(format: &WaveFormat, track: u32, blocks: &[u8], places: &mut [i16])
+    requires taken { IsTakenFor track format.now }
+    requires blocks { length blocks.now ≡ length places.old * format.now.block }
+    ensures { places.new ≡ samples_at format.now track (length places.old) blocks.now }
+{
+    let block = usize::from(format.block);
+    let mut at = 0;
+    'each: for place in 0..places.len() {
+        let next = at + block;
+        places[place] = sample_in(format, track, &blocks[at..next]);
+        at = next;
+    }
+}
+
+/// Appends bytes for which there is room.
+fn push(part: &mut Part, bytes: &[u8])
+    requires { length part.old.items + length bytes.now ≤ PIECE_ROOM }
+    ensures { part.new.items ≡ part.old.items ++ bytes.now }
+{
+    let _fits = part.try_extend_from_slice(bytes);
+}

@@ -1,0 +1,38 @@
+//! The sound file: the samples of one track, as they come.
+//!
+//! A sound file is RIFF/WAVE (BWF among it, EBU Tech 3285), or RF64 or BW64 (ITU-R BS.2088), which have
+//! sizes of 64 bits. Behind its first twelve bytes stand chunks: four letters, a size, and so many bytes.
+//! `fmt ` gives the format, `data` the samples. They are read in any pieces, in fixed memory.
+//!
+//! What this crate promises:
+//! - What bytes say is one value (`specs/Wave.antt`, `reading_of`): the format, the samples of a track,
+//!   whether the bytes are good, refused or past the limit, and whether the input may end there. It is
+//!   defined over the whole text, piece after piece; a sample is the upper 16 bits of its value
+//!   (`specs/Format.antt`, `sample_in`).
+//! - A `WaveDecoder` that was given bytes in whatever pieces has given the samples of these bytes, and
+//!   tells a fault or the limit exactly where they have it (`specs/StandsFor.antt`, `StandsFor` and
+//!   `StopsAt`). `WaveDecoder::samples` takes a whole run of blocks, by the same definition.
+//!   A fault and the limit are told for all bytes that begin with these.
+//! - Bytes that a decoder took are good, and their format and samples are those that it gave
+//!   (`WaveDecoder::format`, clause `told`; `laws`).
+//!
+//! Read `fault`, `format`, `sample`, `chunk`, `stage` and `decoder`, in this order, and `specs/Wave.antt`
+//! beside them. Nothing here allocates.
+#![tactic(auto)]
+
+mod chunk;
+mod decoder;
+mod fault;
+mod format;
+pub mod laws;
+mod names;
+mod sample;
+mod stage;
+
+pub use decoder::{Taken, WaveDecoder};
+pub use fault::WaveFault;
+pub use format::{MAX_RATE, MAX_TRACKS, WaveFormat};
+pub use stage::{MAX_BYTES, MAX_SAMPLES};
+
+#[cfg(test)]
+mod tests;
