@@ -115,7 +115,7 @@ one_way C25 a b d e x y s t = omega (arith, ints, x.leads, y.leads, s.above, s.w
 one_way C30 a b d e x y s t = omega (arith, ints, x.leads, y.leads, s.above, s.within, t.above, t.within)
 one_way Drop30 a b d e x y s t = omega (arith, ints, x.leads, y.leads, s.above, s.within, t.above, t.within)
 
-order_small : (direction : Direction) (taken slip : ℤ) → unsigned_abs taken ≤ 1_280 → unsigned_abs slip ≤ 8 →
+order_small : (direction : Direction) (taken slip : ℤ) → unsigned_abs taken ≤ 1_280 → unsigned_abs slip ≤ 24 →
     unsigned_abs ((motion_of direction +ℤ taken) +ℤ slip) ≤ 10_000
 order_small Forward taken slip p q = grind (arith, ints)
 order_small Backward taken slip p q = grind (arith, ints)
@@ -136,7 +136,7 @@ motion_cancels e m taken slip = omega (arith, ints)
 
 -- the error of the next frame: what the order leaves of this one's, less the slip
 pub error_after : (count : Count) (p n : ℕ) (direction : Direction) (taken slip : ℤ) → p < day_of count → n < day_length count →
-    unsigned_abs taken ≤ 1_280 → unsigned_abs slip ≤ 8 →
+    unsigned_abs taken ≤ 1_280 → unsigned_abs slip ≤ 24 →
     (unsigned_abs (error_to count p n -ℤ (taken +ℤ slip)) ≤ 1_000) ⊎
     (unsigned_abs (error_to count p n -ℤ (taken +ℤ slip)) < unsigned_abs (error_to count p n)) →
     error_to count (moved (day_of count) p ((motion_of direction +ℤ taken) +ℤ slip)) (moved (day_length count) n (frame_in direction)) ≡

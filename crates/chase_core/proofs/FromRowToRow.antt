@@ -11,7 +11,8 @@ use Rattle.chase_core.specs.Step.{after_command, error_to}
 use Rattle.chase_core.specs.Trace.{Loop, Row, Traced, after_row, traced, trace, IsSteadyFromTo, AreRowsOf, after_rows, loop_at, lock_bound}
 use Rattle.chase_core.specs.declared.report.State.TheVariants as states
 use Rattle.chase_core.proofs.ErrorShrinks.{moved_below, error_most}
-use Rattle.chase_core.proofs.LockIsHeld.{AreSteady, SaysLocked, first_line, holds_lock, lock_is_held}
+use Rattle.chase_core.specs.NextRow.{ReadsOn}
+use Rattle.chase_core.proofs.LockIsHeld.{AreSteady, SaysLocked, first_line, holds_lock, lock_is_held, next_wide, says_locked}
 use Rattle.chase_core.proofs.PullingShrinks.{SaysPulled, pulls_with, pulling_ends_in}
 
 -- without the first row
@@ -59,6 +60,32 @@ held_from_row (suc first) loop (r ∷ rows) (suc last) (suc i) at_first line p q
     let here = held_from_row first (after_row loop r) rows last i at_first line (after_on_the_day loop r) (λ k. q (suc k))
     (steady_rest loop.chase.count r rows first last s) e locked (omega arith) (omega arith) g in
     subst (λ (k : ℕ). SaysLocked line (lock_bound k)) (omega arith) here
+
+-- a row that one leaves Locked is Locked too where it reads on, and the transport slipped by 24 subframes at most
+first_row : (a b : Row) → Some a ≡ Some b → a ≡ b
+first_row a b e = cc
+
+pub held_over_a_slip : (i : ℕ) (loop : Loop) (rows : List Row) (row next : Row) (leaves line : Traced) → loop.position < day_of loop.chase.count →
+    AreRowsOf loop.chase.count rows → slice_get rows i ≡ Some row → slice_get rows (suc i) ≡ Some next → ReadsOn loop.chase.count row next →
+    unsigned_abs row.slip ≤ 24 → slice_get (trace loop rows) i ≡ Some leaves → leaves.report.state ≡ states.Locked →
+    slice_get (trace loop rows) (suc i) ≡ Some line → SaysLocked line (16 + unsigned_abs row.slip)
+unfolding trace
+held_over_a_slip zero loop [] row next leaves line p q here later reads slip e locked g = absurd (cc)
+held_over_a_slip zero loop (r ∷ []) row next leaves line p q here later reads slip e locked g = absurd (cc)
+held_over_a_slip zero loop (r ∷ x ∷ rows) row next leaves line p q here later reads slip e locked g =
+    let count = loop.chase.count in
+    let first : traced loop r ≡ leaves = first_line _ leaves e in
+    let holds = holds_lock loop r p (q 0 r refl) (subst (λ (y : Traced). y.report.state ≡ states.Locked) (sym first) locked) in
+    let is_row : row ≡ r = sym (first_row r row here) in
+    let is_next : next ≡ x = sym (first_row x next later) in
+    let on : ReadsOn count r x = subst (λ (y : Row). ReadsOn count r y) is_next (subst (λ (y : Row). ReadsOn count y next) is_row reads) in
+    let small : unsigned_abs r.slip ≤ 24 = subst (λ (y : Row). unsigned_abs y.slip ≤ 24) is_row slip in
+    let says = says_locked (after_row loop r) x (16 + unsigned_abs r.slip) (next_wide loop r x small holds on) in
+    let there = subst (λ (y : Traced). SaysLocked y (16 + unsigned_abs r.slip)) (first_line _ line g) says in
+    subst (λ (y : Row). SaysLocked line (16 + unsigned_abs y.slip)) (sym is_row) there
+held_over_a_slip (suc i) loop [] row next leaves line p q here later reads slip e locked g = absurd (cc)
+held_over_a_slip (suc i) loop (r ∷ rows) row next leaves line p q here later reads slip e locked g =
+    held_over_a_slip i (after_row loop r) rows row next leaves line (after_on_the_day loop r) (λ k. q (suc k)) here later reads slip e locked g
 
 -- in a locked state or none, what is said of a line so many rows on
 further : (n i first : ℕ) (line : Traced) → suc first ≤ suc i → SaysPulled n (i - first) line → SaysPulled n (suc i - suc first) line

@@ -1,6 +1,6 @@
 -- A row that ends Locked leaves an error of at most 40. The order takes 24 of it and the slip adds at most 8, so 24 are left
 -- in the next row, and after that the order takes all but the slip.
-use Rattle.std.proofs.Common.{◌≡◌, ℕ, suc, zero, ◌<◌, ◌≤◌, inl, ℤ, ◌+ℤ◌, ◌-ℤ◌, refl, sym, ap, ◌∙◌, subst, Option, Some, None, List, [], ◌∷◌, arith}
+use Rattle.std.proofs.Common.{◌≡◌, ℕ, suc, zero, ◌+◌, ◌<◌, ◌≤◌, inl, ℤ, ◌+ℤ◌, ◌-ℤ◌, refl, sym, ap, ◌∙◌, subst, Option, Some, None, List, [], ◌∷◌, arith}
 use Rattle.std.specs.Prelude.{unsigned_abs, slice_get, IfSome}
 use Rattle.std.proofs.lemmas.Int.{ints, clamps}
 use Rattle.std.proofs.lemmas.Grind.{common_steps}
@@ -16,6 +16,7 @@ use Rattle.chase_core.specs.declared.outcome.Outcome.{Outcome}
 use Rattle.chase_core.specs.declared.report.State.TheVariants as states
 use Rattle.chase_core.specs.Step.{error_to, held, motion_of, table_row, located, pulled, kept, after_command, outcome_of, state_of}
 use Rattle.chase_core.specs.Trace.{Loop, Row, Traced, outcome_in, after_row, traced, trace, next_of, GoesOn, IsRowOf, lock_bound}
+use Rattle.chase_core.specs.NextRow.{ReadsOn}
 use Rattle.chase_core.proofs.ErrorShrinks.{error_after, frame_below, moved_below}
 
 -- each of the rows after a first one goes on steadily from the one before it
@@ -63,6 +64,10 @@ rest_of_half e slip p q = grind (arith, ints, clamps)
 rest_of_slip : (e slip : ℤ) → unsigned_abs e ≤ 24 → unsigned_abs slip ≤ 8 → unsigned_abs (e -ℤ (held 24 e +ℤ slip)) ≤ 8
 rest_of_slip e slip p q = grind (arith, ints, clamps)
 
+-- and at any slip
+rest_wide : (e slip : ℤ) → unsigned_abs e ≤ 40 → unsigned_abs (e -ℤ (held 24 e +ℤ slip)) ≤ 16 + unsigned_abs slip
+rest_wide e slip p = grind (arith, ints, clamps)
+
 -- the next row: the chase was left Locked, no command comes, and the master is near
 answer_next : (count : Count) (mode : Mode) (r : Row) (m : Master) (p : ℕ) → mode ≡ Locked → r.command ≡ None → r.master ≡ Some m →
     unsigned_abs (error_to count p m.number) ≤ 40 →
@@ -75,10 +80,10 @@ same_master r m n p q = cc
 pub at_most : (a b c : ℕ) → a ≤ b → b ≤ c → a ≤ c
 at_most a b c p q = omega arith
 
-hold_next : (loop : Loop) (r next : Row) (bound left : ℕ) → left ≤ 40 →
+hold_next : (loop : Loop) (r next : Row) (bound left : ℕ) → left ≤ 40 → unsigned_abs r.slip ≤ 24 →
     ((e : ℤ) → unsigned_abs e ≤ bound → unsigned_abs (e -ℤ (held 24 e +ℤ r.slip)) ≤ left) →
-    HoldsLock loop r bound → GoesOn loop.chase.count r next → HoldsLock (after_row loop r) next left
-hold_next loop r next bound left small rest h g =
+    HoldsLock loop r bound → ReadsOn loop.chase.count r next → HoldsLock (after_row loop r) next left
+hold_next loop r next bound left small slip rest h g =
     let count = loop.chase.count in
     let m = h.master in
     let e = error_to count loop.position m.number in
@@ -88,7 +93,7 @@ hold_next loop r next bound left small rest h g =
     ap (λ (o : Outcome). moved (day_of count) loop.position (o.order +ℤ r.slip)) h.answer in
     let less : unsigned_abs (e -ℤ (held 24 e +ℤ r.slip)) ≤ left = rest e h.near in
     let tiny : unsigned_abs (e -ℤ (held 24 e +ℤ r.slip)) ≤ 1_000 = at_most (unsigned_abs (e -ℤ (held 24 e +ℤ r.slip))) left 1_000 less (omega arith) in
-    let after = error_after count loop.position m.number m.direction (held 24 e) r.slip h.stands h.inside (held_small e) g.slip (inl tiny) in
+    let after = error_after count loop.position m.number m.direction (held 24 e) r.slip h.stands h.inside (held_small e) slip (inl tiny) in
     let error : error_to count (after_row loop r).position (next_of count m).number ≡ e -ℤ (held 24 e +ℤ r.slip) =
     ap (λ (p : ℕ). error_to count p (next_of count m).number) stands ∙ after in
     let near : unsigned_abs (error_to count (after_row loop r).position (next_of count m).number) ≤ left =
@@ -101,6 +106,10 @@ hold_next loop r next bound left small rest h g =
       near = near;
       answer = answer_next count _ next (next_of count m) _ (ap (λ (o : Outcome). o.mode) h.answer) g.no_command reads (at_most _ left 40 near small);
     }
+
+-- a row that goes on reads on
+reads_on : (count : Count) (r next : Row) → GoesOn count r next → ReadsOn count r next
+reads_on count r next g = record { no_command = g.no_command; master = g.master; reads = g.reads; steady = g.steady }
 
 state_locked : (mode : Mode) → state_of mode ≡ states.Locked → mode ≡ Locked
 state_locked Waiting e = absurd (cc)
@@ -133,7 +142,7 @@ pub record SaysLocked (line : Traced) (bound : ℕ) : Type 0 where
   pub no_loss : line.report.loss ≡ None
   pub near : unsigned_abs line.report.error ≤ bound
 
-says_locked : (loop : Loop) (r : Row) (bound : ℕ) → HoldsLock loop r bound → SaysLocked (traced loop r) bound
+pub says_locked : (loop : Loop) (r : Row) (bound : ℕ) → HoldsLock loop r bound → SaysLocked (traced loop r) bound
 says_locked loop r bound h = record {
   locked = ap (λ (o : Outcome). state_of o.mode) h.answer;
   no_loss = ap (λ (o : Outcome). o.loss) h.answer;
@@ -141,12 +150,20 @@ says_locked loop r bound h = record {
 }
 
 next_half : (loop : Loop) (r next : Row) → HoldsLock loop r 40 → GoesOn loop.chase.count r next → HoldsLock (after_row loop r) next 24
-next_half loop r next h g = hold_next loop r next 40 24 (omega arith) (λ e near. rest_of_half e r.slip near g.slip) h g
+next_half loop r next h g =
+    hold_next loop r next 40 24 (omega arith) (at_most _ 8 24 g.slip (omega arith)) (λ e near. rest_of_half e r.slip near g.slip) h (reads_on _ r next g)
 
 next_slip : (loop : Loop) (r next : Row) (bound : ℕ) → bound ≤ 24 →
     HoldsLock loop r bound → GoesOn loop.chase.count r next → HoldsLock (after_row loop r) next 8
 next_slip loop r next bound small h g =
-    hold_next loop r next bound 8 (omega arith) (λ e near. rest_of_slip e r.slip (at_most _ bound 24 near small) g.slip) h g
+    hold_next loop r next bound 8 (omega arith) (at_most _ 8 24 g.slip (omega arith))
+    (λ e near. rest_of_slip e r.slip (at_most _ bound 24 near small) g.slip) h (reads_on _ r next g)
+
+-- a slip of 24 subframes costs no lock
+pub next_wide : (loop : Loop) (r next : Row) → unsigned_abs r.slip ≤ 24 → HoldsLock loop r 40 → ReadsOn loop.chase.count r next →
+    HoldsLock (after_row loop r) next (16 + unsigned_abs r.slip)
+next_wide loop r next slip h g =
+    hold_next loop r next 40 (16 + unsigned_abs r.slip) (omega (arith, slip)) slip (λ e near. rest_wide e r.slip near) h g
 
 -- the first line is that of the first row
 pub first_line : (line other : Traced) → Some line ≡ Some other → line ≡ other

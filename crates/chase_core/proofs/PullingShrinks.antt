@@ -80,7 +80,7 @@ pull_next loop r next left least h far g =
     let stands : (after_row loop r).position ≡ moved (day_of count) loop.position ((motion_of m.direction +ℤ held 1_280 e) +ℤ r.slip) =
     ap (λ (o : Outcome). moved (day_of count) loop.position (o.order +ℤ r.slip)) answer in
     let less : unsigned_abs (e -ℤ (held 1_280 e +ℤ r.slip)) ≤ left = rest_is_left e r.slip left least g.slip h.near (near_or_far _ _) in
-    let after = error_after count loop.position m.number m.direction (held 1_280 e) r.slip h.stands h.inside (held_most e) g.slip
+    let after = error_after count loop.position m.number m.direction (held 1_280 e) r.slip h.stands h.inside (held_most e) (at_most _ 8 24 g.slip (omega arith))
     (rest_is_small e r.slip left g.slip (near_or_far _ _)) in
     let error : error_to count (after_row loop r).position (next_of count m).number ≡ e -ℤ (held 1_280 e +ℤ r.slip) =
     ap (λ (p : ℕ). error_to count p (next_of count m).number) stands ∙ after in

@@ -1,8 +1,9 @@
 //! What follows from the tables of chase and transport alone: the closed loop keeps its lock.
-ghost use Rattle.std.specs.Prelude.{◌≡◌, ℕ, ◌+◌, ◌-◌, ◌*◌, ◌≤◌, List, length, slice_get, Some, None, unsigned_abs};
+ghost use Rattle.std.specs.Prelude.{◌≡◌, ℕ, suc, ◌+◌, ◌-◌, ◌*◌, ◌≤◌, List, length, slice_get, Some, None, unsigned_abs};
 ghost use Rattle.chase_core.specs.declared.command.Master.{Master};
 ghost use Rattle.chase_core.specs.declared.mode.Mode.TheVariants as modes;
 ghost use Rattle.chase_core.specs.declared.report.State.TheVariants as states;
+ghost use Rattle.chase_core.specs.NextRow.{ReadsOn};
 ghost use Rattle.chase_core.specs.Step.{after_command, error_to};
 ghost use Rattle.chase_core.specs.Trace.{Loop, Row, Traced, IsOnTheDay, AreRowsOf, IsSteadyFromTo, traced, trace, loop_at, lock_bound};
 
@@ -43,4 +44,17 @@ pub fn pulling_ends()
         → after_command row.command (loop_at loop rows first).chase.mode ≡ modes.Pulling
         → first ≤ i → i ≤ last → slice_get (trace loop rows) i ≡ Some line
         → (line.report.loss ≡ None) × (81_510 ≤ i - first → line.report.state ≡ states.Locked) }
+{}
+
+/// A slip of up to 24 subframes costs no lock: where a row leaves the chase Locked, no command comes, the
+/// master moves on and the transport slipped by at most 24 subframes, the next row is Locked too, without
+/// a loss, and its error is at most the slip and 16 subframes.
+pub fn a_slip_of_less_than_the_window_costs_no_lock()
+    ensures { (loop : Loop) (rows : List Row) (i : ℕ) (row next : Row) (leaves line : Traced)
+        → IsOnTheDay loop → AreRowsOf loop.chase.count rows
+        → slice_get rows i ≡ Some row → slice_get rows (suc i) ≡ Some next → ReadsOn loop.chase.count row next
+        → unsigned_abs row.slip ≤ 24 → slice_get (trace loop rows) i ≡ Some leaves → leaves.report.state ≡ states.Locked
+        → slice_get (trace loop rows) (suc i) ≡ Some line
+        → (line.report.state ≡ states.Locked) × (line.report.loss ≡ None)
+        × (unsigned_abs line.report.error ≤ 16 + unsigned_abs row.slip) }
 {}

@@ -12,6 +12,7 @@
 //! - In the closed loop, where chase and transport take turns (`specs/Trace.antt`, `trace`), a locked
 //!   chase stays locked and reports no loss while the master moves steadily, no command comes, and the
 //!   transport keeps its slip bound. Its error is then at most 40, 24 and at last 8 subframes (`laws`).
+//!   A slip of up to 24 subframes costs no lock.
 //! - Under the same premises pulling ends: from an error of 40 + 1272·n the chase is locked n rows
 //!   later (`laws`).
 //! - `ClosedLoop` works that loop a frame at a time (`after_row`, `traced`).

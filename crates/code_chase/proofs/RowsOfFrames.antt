@@ -1,7 +1,7 @@
 -- The row of a frame has the frame's label as its master, and a frame that goes on is the label after: so the master moves steadily there.
-use Rattle.std.proofs.Common.{◌≡◌, ℕ, zero, suc, ◌<◌, ◌≤◌, Bool, true, false, ℤ, List, [], ◌∷◌, Option, Some, None, slice_get, refl, sym, ◌∙◌}
+use Rattle.std.proofs.Common.{◌≡◌, ℕ, zero, suc, ◌<◌, Bool, true, false, ℤ, List, [], ◌∷◌, Option, Some, None, slice_get, refl, sym, ◌∙◌}
 use Rattle.std.proofs.Common.{ap, subst}
-use Rattle.std.specs.Prelude.{unsigned_abs, IfSome, if◌then◌else◌}
+use Rattle.std.specs.Prelude.{IfSome, if◌then◌else◌}
 use Rattle.tc_address.specs.declared.count.Count.{Count}
 use Rattle.tc_address.specs.declared.count.Count.TheVariants.{C24, C25, C30, Drop30}
 use Rattle.tc_address.specs.declared.direction.Direction.{Direction}
@@ -11,13 +11,14 @@ use Rattle.tc_address.specs.Label.{Address, IsLabel}
 use Rattle.tc_address.specs.Numbering.{day_length, number_of, step}
 use Rattle.chase_core.specs.declared.command.Command.{Command}
 use Rattle.chase_core.specs.declared.command.Master.{Master}
-use Rattle.chase_core.specs.Trace.{GoesOn, AreRowsOf, Row, frame_in, next_of}
+use Rattle.chase_core.specs.Trace.{AreRowsOf, Row, frame_in, next_of}
+use Rattle.chase_core.specs.NextRow.{ReadsOn}
 use Rattle.flywheel.specs.declared.frame.Frame.{Frame}
 use Rattle.flywheel.specs.declared.frame.Frame.TheVariants.{Heard, Invented, Gone}
 use Rattle.flywheel.specs.Frames.{is_same_count, steps_in}
 use Rattle.flywheel.specs.GoOn.{Follows, GoOn, Place, goes_on, place_of}
 use Rattle.generator.specs.Draw.{drawn}
-use Rattle.code_chase.specs.CodeTrace.{master_at, master_of, row_of, rows_from, slip_of}
+use Rattle.code_chase.specs.CodeTrace.{master_at, master_of, row_of, rows_from}
 use Rattle.code_chase.specs.Lock.{HaveLabels}
 
 -- what is used of the labels of a day, which are laws
@@ -150,11 +151,11 @@ same_step : (direction : Direction) → steps_in direction 1 ≡ frame_in direct
 same_step Forward = refl
 same_step Backward = refl
 
--- where the next frame goes on and has the count, and the transport keeps its bound, the next row goes on steadily
-pub row_goes_on : (laws : DayLaws) (count : Count) (bound : ℕ) (command : Option Command) (value other : ℕ) (a b : Frame) → Follows (place_of a) b →
-    goes_on b ≡ true → HasCount count b → unsigned_abs (slip_of bound value) ≤ 8 →
-    GoesOn count (row_of count bound command value a) (row_of count bound None other b)
-row_goes_on laws count bound command value other a b follows on has slip =
+-- where the next frame goes on and has the count, the next row reads on
+pub row_reads_on : (laws : DayLaws) (count : Count) (bound : ℕ) (command : Option Command) (value other : ℕ) (a b : Frame) → Follows (place_of a) b →
+    goes_on b ≡ true → HasCount count b →
+    ReadsOn count (row_of count bound command value a) (row_of count bound None other b)
+row_reads_on laws count bound command value other a b follows on has =
     let (place, before, after) = follows on in
     let d = place.direction in
     let next = step place.label (steps_in d 1) in
@@ -169,4 +170,4 @@ row_goes_on laws count bound command value other a b follows on has slip =
     ∙ ap (moved (day_length count) (number_of place.label)) (same_step d) in
     let steady : master_of count b ≡ Some (next_of count master) =
     master_of_place count b ∙ ap (master_there count) after ∙ master_known count next d next_count ∙ ap (λ n. Some (master_with n d)) number in
-    record { no_command = refl; master = master; reads = reads; steady = steady; slip = slip }
+    record { no_command = refl; master = master; reads = reads; steady = steady }

@@ -8,10 +8,10 @@
 //! What this crate promises:
 //! - `CodeChase::frame` answers the step of each frame, and moves the transport, exactly
 //!   (`specs/CodeTrace.antt`, `code_trace`; its clauses and `laws::a_frame_adds_a_line`).
-//! - A loss has one of four causes: the frame is gone, or has another count, or was heard and does not
-//!   join, or the transport slipped by more than eight subframes in the step before
-//!   (`laws::each_loss_has_a_cause`). So a recording without gaps keeps the lock of a transport that keeps
-//!   its bound (`laws::whole_code_keeps_the_lock`).
+//! - A loss of no code comes exactly where the frame is gone or has another count; one of the window only
+//!   where the frame was heard and does not join, or where the transport slipped by 25 subframes or more
+//!   in the step before (`laws::each_loss_has_a_cause`). So a recording without gaps keeps the lock of a
+//!   transport that slips by at most 24 (`laws::whole_code_keeps_the_lock`).
 //!
 //! Read `master`, `slip` and `code_loop`, in this order, with `specs/CodeTrace.antt` beside them, and
 //! `laws` with `specs/Lock.antt`. Nothing here allocates or fails.
