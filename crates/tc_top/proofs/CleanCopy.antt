@@ -1,5 +1,6 @@
 -- What is written of an input is a clean recording: the frames of its words have labels of its system, so each of them is read back.
-use Rattle.std.proofs.Common.{◌≡◌, ℕ, ◌≤◌, Bool, true, false, List, [], ◌∷◌, ◌∙◌, Some, None, refl, sym, subst, append-nil, arith}
+use Rattle.std.proofs.Common.{◌≡◌, ℕ, ◌≤◌, Bool, true, false, List, [], ◌∷◌, ◌++◌, length, ◌∙◌, ap, Some, None, refl, sym, subst, append-nil}
+use Rattle.std.proofs.Common.{arith}
 use Rattle.std.specs.Prelude.{sum}
 use Rattle.std.specs.declared.option.Option.{Option}
 use Rattle.std.specs.List.{All}
@@ -12,6 +13,7 @@ use Rattle.biphase.specs.Shape.{Shape, IsShape, IsShaped, shape_with, shaped}
 use Rattle.tc_address.specs.declared.system.System.{System}
 use Rattle.direction_reader.specs.declared.event.Event.{Event}
 use Rattle.direction_reader.specs.declared.event.Event.TheVariants.{Word, Refused, Lost}
+use Rattle.direction_reader.specs.declared.reader.TheConstants.{MAX_INTERVALS}
 use Rattle.direction_reader.specs.ListEvents.{AreEvents}
 use Rattle.direction_reader.specs.Played.{bits_of_words}
 use Rattle.flywheel.specs.declared.frame.Frame.{Frame}
@@ -20,17 +22,16 @@ use Rattle.flywheel.specs.Frames.{frames}
 use Rattle.ltc_jam.specs.Cells.{clean_cells, clean_events, steady_cells, words_of_frames}
 use Rattle.ltc_jam.specs.Labels.{AreEventsOf, AreFramesOf, AreHeardOf}
 use Rattle.tc_files.specs.declared.interval_file.header.IntervalHeader.{IntervalHeader}
-use Rattle.tc_files.specs.Grammar.{AreIntervals}
-use Rattle.tc_files.specs.Recording.{Recording, recording_of}
-use Rattle.tc_words.specs.declared.job.Job.{Job}
-use Rattle.tc_words.specs.declared.job.Job.TheVariants.{LtcJam}
+use Rattle.tc_files.specs.Grammar.{AreIntervals, IsFile}
+use Rattle.tc_files.specs.Recording.{Recording, end_fault_of, recording_of}
+use Rattle.tc_files.specs.Verdict.{good}
 use Rattle.tc_words.specs.Jam.{IsJamming, Jamming}
-use Rattle.tc_top.specs.Along.{IsWholeBehind}
-use Rattle.tc_top.specs.Commands.{meaning_of}
-use Rattle.tc_top.specs.LtcJam.{clean_file, clean_intervals, clean_recording, CleansIfItJams, CleansTheInput, IsClean}
-use Rattle.tc_top.specs.Meaning.{Meaning}
-use Rattle.tc_top.specs.OfFrames.{frames_of, words_heard}
-use Rattle.tc_top.proofs.MadeIsRead.{ShapesAreIntervals, in_range}
+use Rattle.interval_commands.specs.Along.{IsWholeBehind, IsWholeOf}
+use Rattle.tc_top.specs.CleanCopy.{CleansTheInput, IsClean}
+use Rattle.frame_commands.specs.LtcJam.{clean_file, clean_header, clean_intervals, clean_recording}
+use Rattle.interval_commands.specs.LtcRead.{last_line, lines, report}
+use Rattle.frame_commands.specs.OfFrames.{frames_of, words_heard}
+use Rattle.made_commands.specs.KeptIntervals.{ShapesAreIntervals, in_range}
 
 -- what the laws of the crates below say
 pub record CleanLaws : Type 1 where
@@ -40,6 +41,10 @@ pub record CleanLaws : Type 1 where
   pub intervals : ShapesAreIntervals
   pub events : (system : System) (profile : Profile) (list : List ℕ) (es : List Event) → AreEvents system profile list es → AreEventsOf system es
   pub frames : (system : System) (limit : ℕ) (words : List HeardWord) (last : ℕ) → AreHeardOf system words → AreFramesOf system (frames limit words last)
+  pub one_list : (system : System) (profile : Profile) (list : List ℕ) (a b : List Event) → AreEvents system profile list a
+      → AreEvents system profile list b → a ≡ b
+  pub files : (bytes : List ℕ) (header : IntervalHeader) (list : List ℕ) → IsFile bytes header list → length list ≤ MAX_INTERVALS
+      → (recording_of bytes ≡ record { header = Some header; intervals = list; verdict = good }) × (end_fault_of bytes ≡ None)
 
 -- the words that are heard are those of the events
 pub words_are : (system : System) (es : List Event) → AreEventsOf system es → AreHeardOf system (words_heard es)
@@ -58,6 +63,16 @@ in_file laws j fs is =
     (subst (λ (cells : List Cell). All (λ (x : ℕ). (1 ≤ x) × (x ≤ MAX_INTERVAL)) (flat cells)) (sym (laws.shaped_so j.cell list))
     (laws.intervals shape list is_shape))
 
+-- the report of a file within the limit whose events are these
+reported : CleanLaws → (header : IntervalHeader) (list bytes : List ℕ) (events : List Event) → IsFile bytes header list
+    → AreEvents header.system Normal list events → (text : List ℕ) → length list ≤ MAX_INTERVALS
+    → IsWholeOf (report Normal) (recording_of bytes) text → text ≡ lines header events ++ last_line list events
+reported laws header list bytes events file are text few output =
+    let said = (laws.files bytes header list file few).0 in
+    let whole = subst (λ (r : Recording). IsWholeOf (report Normal) r text) said output in
+    let same = laws.one_list header.system Normal list whole.events events whole.are_events are in
+    whole.are ∙ ap (λ (es : List Event). lines header es ++ last_line list es) same
+
 behind : CleanLaws → (j : Jamming) → IsJamming j → (input : Recording) (header : Option IntervalHeader) (written : List ℕ) → input.header ≡ header
     → IsWholeBehind (clean_recording j) header input.intervals written → IsClean j input written
 behind laws j is input None written e whole = absurd whole
@@ -66,25 +81,24 @@ behind laws j is input (Some header) written e whole =
     let some = is.some_ticks in
     let most = is.not_too_fast in
     let heard = words_are header.system whole.events (laws.events header.system Normal input.intervals whole.events whole.are_events) in
+    let file : IsFile written (clean_header j header) (clean_intervals j fs) = record {
+      tick_rate = (omega arith, omega arith);
+      range = in_file laws j fs is;
+      are = whole.are ∙ append-nil (clean_file j header fs);
+    } in
+    let read = laws.read header.system j.cell fs is.cell
+    (laws.frames header.system j.limit (words_heard whole.events) (sum input.intervals) heard) in
     record {
       header = header;
       begins = e;
       events = whole.events;
       are_events = whole.are_events;
-      file = record {
-        tick_rate = (omega arith, omega arith);
-        range = in_file laws j fs is;
-        are = whole.are ∙ append-nil (clean_file j header fs);
-      };
-      read = laws.read header.system j.cell fs is.cell
-          (laws.frames header.system j.limit (words_heard whole.events) (sum input.intervals) heard);
+      frames = fs;
+      are_frames = refl;
+      file = file;
+      read = read;
+      report = reported laws (clean_header j header) (clean_intervals j fs) written (clean_events j.cell fs) file read;
     }
 
 pub copy_is_clean : CleanLaws → (j : Jamming) → IsJamming j → CleansTheInput j
 copy_is_clean laws j is = λ input written whole. behind laws j is (recording_of input) (recording_of input).header written refl whole
-
--- a job that jams
-pub job_cleans : (job : Job) (j : Jamming) → job ≡ LtcJam j → CleansIfItJams job → (input written : List ℕ) → Meaning.output (meaning_of job) input written
-    → IsClean j (recording_of input) written
-job_cleans job j is cleans input written output =
-    subst (λ (o : Job). CleansIfItJams o) is cleans input written (subst (λ (o : Job). Meaning.output (meaning_of o) input written) is output)

@@ -1,14 +1,16 @@
 -- What `ltc-chase` writes of an input is the trace over all of its frames: they go on from one another and have labels, so each loss has its cause.
-use Rattle.std.proofs.Common.{◌≡◌, ◌≢◌, inl, inr, ℕ, zero, suc, ◌≤◌, List, [], ◌∷◌, length, take, Option, Some, None, slice_get, refl, sym}
+use Rattle.std.proofs.Common.{◌≡◌, inl, inr, ℕ, zero, suc, ◌-◌, ◌≤◌, List, [], ◌∷◌, length, take, Option, Some, None, slice_get, refl, sym}
 use Rattle.std.proofs.Common.{subst}
 use Rattle.std.specs.Prelude.{sum, unsigned_abs}
 use Rattle.std.proofs.lemmas.Bool.{cases_lt}
 use Rattle.biphase.specs.declared.profile.Profile.{Profile}
 use Rattle.biphase.specs.declared.profile.Profile.TheVariants.{Normal}
 use Rattle.chase_core.specs.declared.report.State.TheVariants.{Locked}
-use Rattle.chase_core.specs.Trace.{Traced}
+use Rattle.chase_core.specs.declared.report.Loss.{Loss}
+use Rattle.chase_core.specs.declared.report.Loss.TheVariants.{NoCode}
+use Rattle.chase_core.specs.Trace.{Traced, lock_bound}
 use Rattle.code_chase.specs.CodeTrace.{code_trace}
-use Rattle.code_chase.specs.Lock.{AreWhole, HasCauseOfLoss, HasLabel, HaveLabels}
+use Rattle.code_chase.specs.Lock.{AreWhole, BringsNoCode, HasCauseOfLoss, HasLabel, HaveLabels}
 use Rattle.direction_reader.specs.declared.event.Event.{Event}
 use Rattle.direction_reader.specs.ListEvents.{AreEvents}
 use Rattle.flywheel.specs.declared.frame.Frame.{Frame}
@@ -21,15 +23,11 @@ use Rattle.tc_address.specs.declared.system.System.{System}
 use Rattle.tc_address.specs.Label.{Address, IsLabel}
 use Rattle.tc_files.specs.declared.interval_file.header.IntervalHeader.{IntervalHeader}
 use Rattle.tc_files.specs.Recording.{Recording, recording_of}
-use Rattle.tc_words.specs.declared.job.Job.{Job}
-use Rattle.tc_words.specs.declared.job.Job.TheVariants.{LtcChase}
 use Rattle.tc_words.specs.ChaseRun.{Chasing, IsChasing}
-use Rattle.tc_top.specs.declared.engines.ltc_chase.TheConstants.{MAX_FRAMES}
-use Rattle.tc_top.specs.Along.{IsSpentBehind, IsWholeBehind}
-use Rattle.tc_top.specs.Commands.{meaning_of}
-use Rattle.tc_top.specs.LtcChase.{ChasesIfItFollows, ChasesTheInput, FollowsTheCode, LosesWithCause, chased_recording}
-use Rattle.tc_top.specs.Meaning.{Meaning}
-use Rattle.tc_top.specs.OfFrames.{frames_of, words_heard}
+use Rattle.frame_commands.specs.declared.ltc_chase.TheConstants.{MAX_FRAMES}
+use Rattle.interval_commands.specs.Along.{IsSpentBehind, IsWholeBehind}
+use Rattle.frame_commands.specs.LtcChase.{ChasesTheInput, FollowsTheCode, LosesWithCause, chased_recording}
+use Rattle.frame_commands.specs.OfFrames.{frames_of, words_heard}
 use Rattle.tc_top.proofs.CleanCopy.{words_are}
 
 -- what the laws of the crates below say
@@ -37,13 +35,19 @@ pub record ChaseLaws : Type 1 where
   pub events : (system : System) (profile : Profile) (list : List ℕ) (es : List Event) → AreEvents system profile list es → AreEventsOf system es
   pub labels : (system : System) (limit : ℕ) (words : List HeardWord) (last : ℕ) → AreHeardOf system words → AreFramesOf system (frames limit words last)
   pub go_on : (limit last : ℕ) (words : List HeardWord) → GoOn None (frames limit words last)
-  pub cause : (label : Address) (seed bound : ℕ) (fs : List Frame) (j : ℕ) (line : Traced) → IsLabel label → HaveLabels fs → GoOn None fs
-      → slice_get (code_trace label seed bound fs) j ≡ Some line → line.report.loss ≢ None → HasCauseOfLoss label seed bound fs j
+  pub cause : (label : Address) (seed bound : ℕ) (fs : List Frame) (j : ℕ) (line : Traced) (loss : Loss) → IsLabel label → HaveLabels fs → GoOn None fs
+      → slice_get (code_trace label seed bound fs) j ≡ Some line → line.report.loss ≡ Some loss → HasCauseOfLoss label seed bound fs j loss
+  pub no_code : (label : Address) (seed bound : ℕ) (fs : List Frame) (i : ℕ) (leaves line : Traced) (frame : Frame)
+      → slice_get (code_trace label seed bound fs) i ≡ Some leaves → leaves.report.state ≡ Locked → slice_get fs (suc i) ≡ Some frame
+      → BringsNoCode label.count frame → slice_get (code_trace label seed bound fs) (suc i) ≡ Some line → line.report.loss ≡ Some NoCode
   pub no_loss : (label : Address) (seed bound : ℕ) (fs : List Frame) (j : ℕ) (line : Traced) → IsLabel label → HaveLabels fs → GoOn None fs
-      → AreWhole label.count fs → bound ≤ 8 → slice_get (code_trace label seed bound fs) j ≡ Some line → line.report.loss ≡ None
+      → AreWhole label.count fs → bound ≤ 24 → slice_get (code_trace label seed bound fs) j ≡ Some line → line.report.loss ≡ None
   pub near : (label : Address) (seed bound : ℕ) (fs : List Frame) (first j : ℕ) (leaves line : Traced) → IsLabel label → HaveLabels fs → GoOn None fs
-      → AreWhole label.count fs → bound ≤ 8 → slice_get (code_trace label seed bound fs) first ≡ Some leaves → leaves.report.state ≡ Locked
+      → AreWhole label.count fs → bound ≤ 24 → slice_get (code_trace label seed bound fs) first ≡ Some leaves → leaves.report.state ≡ Locked
       → first ≤ j → slice_get (code_trace label seed bound fs) j ≡ Some line → (line.report.state ≡ Locked) × (unsigned_abs line.report.error ≤ 40)
+  pub nearer : (label : Address) (seed bound : ℕ) (fs : List Frame) (first j : ℕ) (leaves line : Traced) → IsLabel label → HaveLabels fs → GoOn None fs
+      → AreWhole label.count fs → bound ≤ 8 → slice_get (code_trace label seed bound fs) first ≡ Some leaves → leaves.report.state ≡ Locked
+      → first ≤ j → slice_get (code_trace label seed bound fs) j ≡ Some line → unsigned_abs line.report.error ≤ lock_bound (j - first)
 
 -- ---- the labels of frames
 
@@ -76,10 +80,14 @@ first_go_on before (suc n) (f ∷ fs) on = (on.0, first_go_on (place_of f) n fs 
 
 lock_of : ChaseLaws → (c : Chasing) → IsChasing c → (fs : List Frame) → HaveLabels fs → GoOn None fs → LosesWithCause c fs
 lock_of laws c is fs have on = record {
-  cause = λ j line at loses. laws.cause c.label c.seed c.bound fs j line is.label have on at loses;
+  cause = λ j line loss at loses. laws.cause c.label c.seed c.bound fs j line loss is.label have on at loses;
+  no_code = λ i leaves line frame at_leaves locked there brings at.
+      laws.no_code c.label c.seed c.bound fs i leaves line frame at_leaves locked there brings at;
   no_loss = λ whole small j line at. laws.no_loss c.label c.seed c.bound fs j line is.label have on whole small at;
   near = λ whole small first j leaves line at_first locked least at.
       laws.near c.label c.seed c.bound fs first j leaves line is.label have on whole small at_first locked least at;
+  nearer = λ whole small first j leaves line at_first locked least at.
+      laws.nearer c.label c.seed c.bound fs first j leaves line is.label have on whole small at_first locked least at;
 }
 
 behind : ChaseLaws → (c : Chasing) → IsChasing c → (input : Recording) (header : Option IntervalHeader) (written : List ℕ) → input.header ≡ header
@@ -107,10 +115,3 @@ behind laws c is input (Some header) written e whole =
 
 pub chase_follows : ChaseLaws → (c : Chasing) → IsChasing c → ChasesTheInput c
 chase_follows laws c is = λ input written whole. behind laws c is (recording_of input) (recording_of input).header written refl whole
-
--- a job that chases
-pub job_follows : (job : Job) (c : Chasing) → job ≡ LtcChase c → ChasesIfItFollows job → (input written : List ℕ)
-    → Meaning.output (meaning_of job) input written → FollowsTheCode c (recording_of input) written
-job_follows job c is follows input written output =
-    subst (λ (o : Job). ChasesIfItFollows o) is follows input written
-    (subst (λ (o : Job). Meaning.output (meaning_of o) input written) is output)

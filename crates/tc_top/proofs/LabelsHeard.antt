@@ -16,7 +16,7 @@ use Rattle.quarter_frame.specs.ReadAgain.{AreLabelled}
 use Rattle.tc_address.specs.declared.direction.Direction.{Direction}
 use Rattle.tc_address.specs.declared.system.System.{System}
 use Rattle.tc_bits.specs.Register.{number_in}
-use Rattle.tc_top.specs.OfFrames.{words_heard}
+use Rattle.frame_commands.specs.OfFrames.{words_heard}
 
 -- the words that are heard in events have labels
 abbrev HaveLabels : List Event → Type 0

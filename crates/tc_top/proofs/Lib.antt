@@ -1,43 +1,12 @@
-pub mod AlongTheInput
-pub mod AnItemMore
-pub mod ChaseStatus
-pub mod Converted
-pub mod CleanCopy
-pub mod CountedEvents
-pub mod CountedLabels
-pub mod Digits
-pub mod FewerFrames
-pub mod FieldsGrow
-pub mod FlightGrows
-pub mod FollowsTheFrames
-pub mod FramesAnew
-pub mod FramesFirst
-pub mod FramesInOrder
-pub mod FrontOfOutput
-pub mod LabelsHeard
-pub mod LinesGrow
-pub mod LinesOfFrames
-pub mod LoadInPieces
-pub mod LoadIsRead
-pub mod MadeInPieces
-pub mod MadeIsRead
-pub mod MadeIsShort
-pub mod MadeLinesAreRead
-pub mod MadeLinesInPieces
-pub mod MarkedLines
-pub mod MidiGrows
-pub mod MidiLimit
-pub mod OneOutput
-pub mod OneStatus
-pub mod PushedLines
-pub mod PutMore
-pub mod ReportsTheTape
-pub mod RunOfIntervals
-pub mod SentIsRead
-pub mod SlicedAgain
-pub mod SlicedOn
-pub mod SoundGrows
-pub mod StepsGrow
-pub mod VerdictStays
-pub mod WordsAnswer
-pub mod WrittenFirst
+mod CleanCopy
+mod EachCommand
+mod FollowsTheFrames
+mod LabelsHeard
+mod LinesAreInput
+mod MarkedLines
+mod PinnedText
+mod ReportsTheTape
+mod SentIsRead
+mod SlicedAgain
+mod StoppedAnswer
+mod WordsAnswer

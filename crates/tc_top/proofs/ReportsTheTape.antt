@@ -1,5 +1,5 @@
 -- A report holds the lines of the events of its recording, and these tell the tape.
-use Rattle.std.proofs.Common.{◌≡◌, ℕ, List, reverse, Option, Some, None, refl, subst, sym}
+use Rattle.std.proofs.Common.{◌≡◌, ℕ, List, reverse, Option, Some, None, refl}
 use Rattle.biphase.specs.declared.profile.Profile.{Profile}
 use Rattle.direction_reader.specs.declared.event.Event.{Event}
 use Rattle.direction_reader.specs.ListEvents.{AreEvents}
@@ -8,13 +8,9 @@ use Rattle.direction_reader.specs.Tape.{TellsTheTape, FindsTheTape}
 use Rattle.tc_address.specs.declared.system.System.{System}
 use Rattle.tc_files.specs.declared.interval_file.header.IntervalHeader.{IntervalHeader}
 use Rattle.tc_files.specs.Recording.{recording_of}
-use Rattle.tc_words.specs.declared.job.Job.{Job}
-use Rattle.tc_words.specs.declared.job.Job.TheVariants.{LtcRead, LtcWorn}
-use Rattle.tc_top.specs.Along.{IsWholeBehind}
-use Rattle.tc_top.specs.Commands.{meaning_of}
-use Rattle.tc_top.specs.LtcRead.{report}
-use Rattle.tc_top.specs.Meaning.{Meaning}
-use Rattle.tc_top.specs.Tape.{IsReport, ReportsTheTape}
+use Rattle.interval_commands.specs.Along.{IsWholeBehind, IsWholeOf}
+use Rattle.interval_commands.specs.LtcRead.{report}
+use Rattle.tc_top.specs.Tape.{ReportsTheTape}
 
 -- the events of a list tell the tape, find it again behind damage, and mirror it
 pub record TellTheTape : Type 0 where
@@ -26,14 +22,15 @@ pub record TellTheTape : Type 0 where
       → AreEvents system profile intervals events → AreEvents system profile (reverse intervals) mirrored
       → MirrorsTheTape system profile intervals events mirrored
 
-whole_report : TellTheTape → (profile : Profile) (bytes written : List ℕ) (header : Option IntervalHeader)
+behind : TellTheTape → (profile : Profile) (bytes written : List ℕ) (header : Option IntervalHeader)
     → (recording_of bytes).header ≡ header → IsWholeBehind (report profile) header (recording_of bytes).intervals written
     → ReportsTheTape profile bytes written
-whole_report tell profile bytes written None begins is = absurd is
-whole_report tell profile bytes written (Some header) begins is = record {
+behind tell profile bytes written None begins is = absurd is
+behind tell profile bytes written (Some header) begins is = record {
   header = header;
   begins = begins;
   events = is.events;
+  are_events = is.are_events;
   are = is.are;
   truth = tell.truth header.system profile (recording_of bytes).intervals is.events is.are_events;
   mirror = λ mirrored others.
@@ -41,10 +38,6 @@ whole_report tell profile bytes written (Some header) begins is = record {
   damage = tell.damage header.system profile (recording_of bytes).intervals is.events is.are_events;
 }
 
-pub reports_the_tape : TellTheTape → (job : Job) (profile : Profile) (bytes written : List ℕ) → IsReport job profile
-    → Meaning.output (meaning_of job) bytes written → ReportsTheTape profile bytes written
-reports_the_tape tell LtcRead profile bytes written is output =
-    subst (λ p. ReportsTheTape p bytes written) (sym is) (whole_report tell _ bytes written _ refl output)
-reports_the_tape tell LtcWorn profile bytes written is output =
-    subst (λ p. ReportsTheTape p bytes written) (sym is) (whole_report tell _ bytes written _ refl output)
-reports_the_tape tell job profile bytes written is output = absurd is
+pub reports_the_tape : TellTheTape → (profile : Profile) (bytes written : List ℕ)
+    → IsWholeOf (report profile) (recording_of bytes) written → ReportsTheTape profile bytes written
+reports_the_tape tell profile bytes written output = behind tell profile bytes written _ refl output

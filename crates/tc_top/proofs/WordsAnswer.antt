@@ -10,11 +10,12 @@ use Rattle.tc_address.specs.Label.{Address}
 use Rattle.tc_words.specs.declared.fault.WordsFault.{WordsFault}
 use Rattle.tc_words.specs.declared.fault.WordsFault.TheVariants as words
 use Rattle.tc_words.specs.Job.{answer_to}
-use Rattle.tc_top.specs.declared.status.Status.{Status}
-use Rattle.tc_top.specs.declared.status.Status.TheVariants.{Done, Usage, Refused, ReadFault, WriteFault, Memory, Limit}
-use Rattle.tc_top.specs.Notes.{usage_note}
-use Rattle.tc_top.specs.Answer.{Exchange, IsTaskAnswer, IsRunAnswer}
-use Rattle.tc_top.specs.Status.{status_of_words}
+use Rattle.tc_command.specs.declared.status.Status.{Status}
+use Rattle.tc_command.specs.declared.status.Status.TheVariants.{Done, Usage, Refused, ReadFault, WriteFault, Memory, Limit}
+use Rattle.tc_command.specs.Notes.{usage_note}
+use Rattle.tc_top.specs.Answer.{IsTaskAnswer, IsRunAnswer}
+use Rattle.tc_command.specs.Exchange.{Exchange}
+use Rattle.tc_command.specs.Status.{status_of_words}
 
 -- the answer of a task is that of the words that name it
 pub task_answers : (all : List (List ℕ)) (task : Task) (status : Status) (e : Exchange) → answer_to all ≡ Ok task

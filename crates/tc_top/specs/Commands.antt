@@ -1,45 +1,85 @@
--- The meaning of each job.
+-- The shape of each job, and the meaning of a shape: what it takes and what it writes.
+use Rattle.std.specs.Prelude.{ℕ, List, Option, Some, None}
 use Rattle.biphase.specs.declared.profile.Profile.TheVariants.{Normal, Worn}
 use Rattle.tc_address.specs.Numbering.{number_of}
 use Rattle.tc_words.specs.declared.job.Job.{Job}
 use Rattle.tc_words.specs.declared.job.Job.TheVariants.{LtcRead, LtcWorn, LtcFly, LtcMtc, LtcJam, LtcChase, MtcRead, Number, LabelOf, LtcMake}
 use Rattle.tc_words.specs.declared.job.Job.TheVariants.{LtcConvert, PcmLtc, LtcPcm, LtcLoad, VitcRead, VitcMake}
-use Rattle.tc_top.specs.Along.{along_intervals}
-use Rattle.tc_top.specs.Labels.{number_line, label_line}
-use Rattle.tc_top.specs.Load.{load_text}
-use Rattle.tc_top.specs.LtcChase.{chased_recording}
-use Rattle.tc_top.specs.LtcConvert.{conversion}
-use Rattle.tc_top.specs.LtcFly.{flight}
-use Rattle.tc_top.specs.LtcJam.{clean_recording}
-use Rattle.tc_top.specs.LtcMtc.{time_code}
-use Rattle.tc_top.specs.LtcPcm.{made_sound}
-use Rattle.tc_top.specs.LtcRead.{report}
-use Rattle.tc_top.specs.Made.{made}
-use Rattle.tc_top.specs.MadeLines.{made_lines}
-use Rattle.tc_top.specs.Meaning.{Meaning, writes}
-use Rattle.tc_top.specs.MtcRead.{along_midi}
-use Rattle.tc_top.specs.PcmLtc.{along_samples}
-use Rattle.tc_top.specs.VitcRead.{along_fields}
+use Rattle.tc_words.specs.Slicing.{Slices}
+use Rattle.tc_command.specs.Meaning.{Meaning, writes}
+use Rattle.interval_commands.specs.Along.{Printing, along_intervals}
+use Rattle.interval_commands.specs.LtcConvert.{conversion}
+use Rattle.interval_commands.specs.LtcPcm.{made_sound}
+use Rattle.interval_commands.specs.LtcRead.{report}
+use Rattle.frame_commands.specs.LtcChase.{lines_of_steps}
+use Rattle.frame_commands.specs.LtcFly.{lines_of_frames}
+use Rattle.frame_commands.specs.LtcJam.{file_of_frames}
+use Rattle.frame_commands.specs.LtcMtc.{messages_of_frames}
+use Rattle.frame_commands.specs.OfFrames.{FrameText, along_frames}
+use Rattle.made_commands.specs.Labels.{number_line, label_line}
+use Rattle.made_commands.specs.Load.{load_text}
+use Rattle.made_commands.specs.Made.{made}
+use Rattle.made_commands.specs.MadeLines.{made_lines}
+use Rattle.signal_commands.specs.MtcRead.{along_midi}
+use Rattle.signal_commands.specs.PcmLtc.{along_samples}
+use Rattle.signal_commands.specs.VitcRead.{along_fields}
+
+pub data Shape : Type 1 where
+  -- it reads nothing, and writes a text
+  writes_text : List ℕ → Shape
+  -- it reads an interval file, and writes of its header and its intervals
+  along_recording : Printing → Shape
+  -- it reads an interval file, and writes of the frames of its words, with at most so many invented ones in a row
+  along_its_frames : ℕ → FrameText → Shape
+  -- it reads MIDI bytes
+  along_midi_bytes : Shape
+  -- it reads samples of sound, and slices them so
+  along_sound : Slices → Shape
+  -- it reads a line file
+  along_line_file : Shape
+
+-- what a command of this shape takes and writes
+abbrev pub meaning_by : Shape → Meaning
+meaning_by (writes_text text) = writes text
+meaning_by (along_recording printing) = along_intervals printing
+meaning_by (along_its_frames limit made) = along_intervals (along_frames limit made)
+meaning_by along_midi_bytes = along_midi
+meaning_by (along_sound slicing) = along_samples slicing
+meaning_by along_line_file = along_fields
+
+-- the record of each command
+abbrev pub shape_of : Job → Shape
+shape_of LtcRead = along_recording (report Normal)
+shape_of LtcWorn = along_recording (report Worn)
+shape_of (LtcFly limit) = along_its_frames limit lines_of_frames
+shape_of (LtcMtc limit) = along_its_frames limit messages_of_frames
+shape_of (LtcJam jam) = along_its_frames jam.limit (file_of_frames jam)
+shape_of (LtcChase run) = along_its_frames run.limit (lines_of_steps run)
+shape_of MtcRead = along_midi_bytes
+shape_of (LtcMake stripe) = writes_text (made stripe)
+shape_of (LtcLoad run) = writes_text (load_text run)
+shape_of (LtcConvert version) = along_recording (conversion version)
+shape_of (PcmLtc slicing) = along_sound slicing
+shape_of (LtcPcm size) = along_recording (made_sound size)
+shape_of VitcRead = along_line_file
+shape_of (VitcMake stripe) = writes_text (made_lines stripe)
+shape_of (Number label) = writes_text (number_line (number_of label))
+shape_of (LabelOf label) = writes_text (label_line label)
+
+-- what a job takes and writes
+abbrev pub meaning_of : Job → Meaning
+meaning_of job = meaning_by (shape_of job)
+
+-- a sink of frames takes so many at most
+abbrev pub HasMost : Option ℕ → Type 0
+HasMost None = ⊥
+HasMost (Some most) = Unit {0}
+
+-- a command of this shape has a limit of its own
+abbrev pub IsLimited : Shape → Type 0
+IsLimited (along_its_frames limit made) = HasMost made.most
+IsLimited _ = ⊥
 
 -- the jobs with a limit of the command's own
 abbrev pub HasOwnLimit : Job → Type 0
-HasOwnLimit (LtcChase run) = Unit {0}
-HasOwnLimit _ = ⊥
-
-abbrev pub meaning_of : Job → Meaning
-meaning_of LtcRead = along_intervals (report Normal)
-meaning_of LtcWorn = along_intervals (report Worn)
-meaning_of (LtcFly limit) = along_intervals (flight limit)
-meaning_of (LtcMtc limit) = along_intervals (time_code limit)
-meaning_of (LtcJam jam) = along_intervals (clean_recording jam)
-meaning_of (LtcChase run) = along_intervals (chased_recording run)
-meaning_of MtcRead = along_midi
-meaning_of (LtcMake stripe) = writes (made stripe)
-meaning_of (LtcLoad run) = writes (load_text run)
-meaning_of (LtcConvert version) = along_intervals (conversion version)
-meaning_of (PcmLtc slicing) = along_samples slicing
-meaning_of (LtcPcm size) = along_intervals (made_sound size)
-meaning_of VitcRead = along_fields
-meaning_of (VitcMake stripe) = writes (made_lines stripe)
-meaning_of (Number label) = writes (number_line (number_of label))
-meaning_of (LabelOf label) = writes (label_line label)
+HasOwnLimit job = IsLimited (shape_of job)

@@ -1,26 +1,36 @@
 -- Sound out, and in again: what `ltc-pcm` makes of a recording, `pcm-ltc` slices into its intervals.
-use Rattle.std.specs.Prelude.{◌≡◌, ℕ, ◌≤◌, List, length}
-use Rattle.direction_reader.specs.declared.reader.TheConstants.{MAX_INTERVALS}
+use Rattle.std.specs.Prelude.{◌≡◌, ℕ, ◌*◌, ◌≤◌, List, map}
+use Rattle.std.specs.List.{flat_map}
 use Rattle.pcm_front.specs.declared.threshold.Threshold.TheVariants.{Fixed}
-use Rattle.tc_files.specs.declared.interval_file.header.IntervalHeader.{IntervalHeader}
-use Rattle.tc_files.specs.Grammar.{IsFile, file_of}
-use Rattle.tc_words.specs.declared.job.Job.{Job}
-use Rattle.tc_words.specs.declared.job.Job.TheVariants.{LtcPcm, PcmLtc}
+use Rattle.pcm_front.specs.Distance.{distances, pieces_of}
+use Rattle.pcm_front.specs.Samples.{samples_of}
+use Rattle.tc_files.specs.Grammar.{file_of}
+use Rattle.tc_files.specs.Recording.{recording_of}
+use Rattle.tc_words.specs.declared.job.Job.TheVariants.{PcmLtc}
 use Rattle.tc_words.specs.Slicing.{Slices}
 use Rattle.tc_top.specs.Commands.{meaning_of}
-use Rattle.tc_top.specs.Meaning.{Meaning}
-use Rattle.tc_top.specs.PcmLtc.{sliced_header}
+use Rattle.tc_command.specs.Meaning.{Meaning, IsInput}
+use Rattle.signal_commands.specs.PcmLtc.{sliced_header}
 
--- sound of samples of a size, sliced in whole samples at a threshold of at most the size, gives the intervals again
-abbrev pub IsSlicedAgain : ℕ → Type 0
-IsSlicedAgain size = (bytes sound again : List ℕ) (header : IntervalHeader) (intervals : List ℕ) (slicing : Slices) (threshold : ℕ)
-    → IsFile bytes header intervals → length intervals ≤ MAX_INTERVALS
-    → slicing.threshold ≡ Fixed threshold → slicing.fineness ≡ 1 → 1 ≤ threshold → threshold ≤ size
-    → Meaning.output (meaning_of (LtcPcm size)) bytes sound
-    → Meaning.output (meaning_of (PcmLtc slicing)) sound again
-    → again ≡ file_of (sliced_header slicing) intervals
+-- each interval, so many times as long
+abbrev pub times : ℕ → List ℕ → List ℕ
+times fineness intervals = map (λ interval. fineness * interval) intervals
 
--- the sound that a job makes is sliced into its intervals again
-abbrev pub SoundsTheIntervals : Job → Type 0
-SoundsTheIntervals (LtcPcm size) = IsSlicedAgain size
-SoundsTheIntervals _ = Unit {0}
+-- `pcm-ltc` takes the sound whole, at a fixed threshold of at most the size of its samples, and writes this
+pub record SlicesTo (size : ℕ) (slicing : Slices) (sound written : List ℕ) : Type 0 where
+  pub threshold : ℕ
+  pub fixed : slicing.threshold ≡ Fixed threshold
+  pub some : 1 ≤ threshold
+  pub most : threshold ≤ size
+  pub input : IsInput (meaning_of (PcmLtc slicing)) sound
+  pub output : Meaning.output (meaning_of (PcmLtc slicing)) sound written
+
+-- at each fixed threshold of at most the size, and at each fineness, the crossings of the sound lie so many ticks apart as each interval of the
+-- recording has, so many times. So `pcm-ltc` writes the file of these distances, and in whole samples that of the intervals themselves
+pub record IsSlicedAgain (size : ℕ) (bytes sound : List ℕ) : Type 0 where
+  pub apart : (fineness threshold : ℕ) → 1 ≤ threshold → threshold ≤ size
+      → distances fineness (Fixed threshold) (samples_of sound) ≡ times fineness (recording_of bytes).intervals
+  pub finer : (slicing : Slices) (again : List ℕ) → SlicesTo size slicing sound again
+      → again ≡ file_of (sliced_header slicing) (flat_map pieces_of (times slicing.fineness (recording_of bytes).intervals))
+  pub whole : (slicing : Slices) (again : List ℕ) → SlicesTo size slicing sound again → slicing.fineness ≡ 1
+      → again ≡ file_of (sliced_header slicing) (recording_of bytes).intervals

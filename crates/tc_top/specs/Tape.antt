@@ -1,24 +1,15 @@
 -- The truth of a report: what the lines of `ltc-read`, and under the other tolerance `ltc-worn`, say of the tape.
 use Rattle.std.specs.Prelude.{◌≡◌, ℕ, List, ◌++◌, reverse, Some}
 use Rattle.biphase.specs.declared.profile.Profile.{Profile}
-use Rattle.biphase.specs.declared.profile.Profile.TheVariants.{Normal, Worn}
 use Rattle.direction_reader.specs.declared.event.Event.{Event}
 use Rattle.direction_reader.specs.ListEvents.{AreEvents}
 use Rattle.direction_reader.specs.Mirror.{MirrorsTheTape}
 use Rattle.direction_reader.specs.Tape.{TellsTheTape, FindsTheTape}
 use Rattle.tc_files.specs.declared.interval_file.header.IntervalHeader.{IntervalHeader}
 use Rattle.tc_files.specs.Recording.{recording_of}
-use Rattle.tc_words.specs.declared.job.Job.{Job}
-use Rattle.tc_words.specs.declared.job.Job.TheVariants.{LtcRead, LtcWorn}
-use Rattle.tc_top.specs.LtcRead.{lines, last_line}
+use Rattle.interval_commands.specs.LtcRead.{lines, last_line}
 
--- the job is a report under a tolerance
-abbrev pub IsReport : Job → Profile → Type 0
-IsReport LtcRead profile = profile ≡ Normal
-IsReport LtcWorn profile = profile ≡ Worn
-IsReport job profile = ⊥
-
--- what was written are the lines of events that tell the tape, and the last line: where the intervals of the file keep the tolerance, these are
+-- what was written are the lines of the events of the file, and the last line, and these events tell the tape: where the intervals of the file keep the tolerance, these are
 -- the whole words of the tape, good or refused, from the first unequal pair on, and no break. Where damage stands before intervals that keep it,
 -- they are so from the second unequal pair on. And where the intervals keep it in the other order of time too, the events there are the same
 -- words, each met from its other end
@@ -26,6 +17,7 @@ pub record ReportsTheTape (profile : Profile) (bytes written : List ℕ) : Type 
   pub header : IntervalHeader
   pub begins : (recording_of bytes).header ≡ Some header
   pub events : List Event
+  pub are_events : AreEvents header.system profile (recording_of bytes).intervals events
   pub are : written ≡ lines header events ++ last_line (recording_of bytes).intervals events
   pub truth : TellsTheTape header.system profile (recording_of bytes).intervals events
   pub damage : FindsTheTape header.system profile (recording_of bytes).intervals events

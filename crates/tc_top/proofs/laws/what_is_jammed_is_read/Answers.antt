@@ -8,4 +8,6 @@ returns c = copy_is_clean (record {
   intervals = c.shaped_cells_are_a_chain.ensures.intervals;
   events = c.what_is_read_has_labels_of_its_system.ensures.events;
   frames = c.what_is_read_has_labels_of_its_system.ensures.frames;
+  one_list = c.a_list_has_one_list_of_events.ensures;
+  files = c.a_file_is_read_as_it_was_written.ensures.read;
 })

@@ -1,28 +1,31 @@
 use Rattle.tc_top.proofs.streaming.work_on.Goals as goal
 
--- a front of the label was written
-pub returns-in-LabelOf-clause-stops : goal.returns-in-LabelOf-clause-stops
-returns-in-LabelOf-clause-stops g c = rw (c.in-LabelOf.is, ← c.label.ensures) c.make-in-LabelOf.ensures.stops
+pub returns-in-LtcRead-clause-stops : goal.returns-in-LtcRead-clause-stops
+returns-in-LtcRead-clause-stops g c = rw c.in-LtcRead.is c.read_recording.ensures.stops
 
--- a front of the recording was written
+pub returns-in-LtcWorn-clause-stops : goal.returns-in-LtcWorn-clause-stops
+returns-in-LtcWorn-clause-stops g c = rw c.in-LtcWorn.is c.read_recording-in-LtcWorn.ensures.stops
+
+pub returns-in-LtcJam-clause-stops : goal.returns-in-LtcJam-clause-stops
+returns-in-LtcJam-clause-stops g c = rw c.in-LtcJam.is c.jam_sync.ensures.stops
+
+pub returns-in-LtcChase-clause-stops : goal.returns-in-LtcChase-clause-stops
+returns-in-LtcChase-clause-stops g c = rw c.in-LtcChase.is c.chase_code.ensures.stops
+
 pub returns-in-LtcMake-clause-stops : goal.returns-in-LtcMake-clause-stops
-returns-in-LtcMake-clause-stops g c = rw (c.in-LtcMake.is, ← c.new-in-LtcMake.ensures.rest) c.make.ensures.stops
+returns-in-LtcMake-clause-stops g c = rw c.in-LtcMake.is c.make_recording.ensures.stops
 
--- the line of what was made and read was written, or a front of it
-pub returns-in-LtcLoad-clause-ends : goal.returns-in-LtcLoad-clause-ends
-returns-in-LtcLoad-clause-ends g c = rw (c.in-LtcLoad.is, ← c.load.ensures.line) c.make-in-LtcLoad.ensures.ends
+pub returns-in-LtcConvert-clause-stops : goal.returns-in-LtcConvert-clause-stops
+returns-in-LtcConvert-clause-stops g c = rw c.in-LtcConvert.is c.convert_recording.ensures.stops
 
 pub returns-in-LtcLoad-clause-stops : goal.returns-in-LtcLoad-clause-stops
-returns-in-LtcLoad-clause-stops g c = rw (c.in-LtcLoad.is, ← c.load.ensures.line) c.make-in-LtcLoad.ensures.stops
+returns-in-LtcLoad-clause-stops g c = rw c.in-LtcLoad.is c.tell_load.ensures.stops
 
--- a front of the line file was written
+pub returns-in-LtcPcm-clause-stops : goal.returns-in-LtcPcm-clause-stops
+returns-in-LtcPcm-clause-stops g c = rw c.in-LtcPcm.is c.sound_recording.ensures.stops
+
 pub returns-in-VitcMake-clause-stops : goal.returns-in-VitcMake-clause-stops
-returns-in-VitcMake-clause-stops g c = rw (c.in-VitcMake.is, ← c.new-in-VitcMake.ensures.rest) c.make-in-VitcMake.ensures.stops
+returns-in-VitcMake-clause-stops g c = rw c.in-VitcMake.is c.make_lines.ensures.stops
 
--- the clean recording was written
-pub returns-in-LtcJam-clause-ends : goal.returns-in-LtcJam-clause-ends
-returns-in-LtcJam-clause-ends g c = rw (c.in-LtcJam.is, ← c.new-in-LtcJam.ensures.choice) c.work-in-LtcJam.ensures.ends
-
--- the lines of the chase were written
-pub returns-in-LtcChase-clause-ends : goal.returns-in-LtcChase-clause-ends
-returns-in-LtcChase-clause-ends g c = rw (c.in-LtcChase.is, ← c.new-in-LtcChase.ensures.choice) c.work-in-LtcChase.ensures.ends
+pub returns-in-LabelOf-clause-stops : goal.returns-in-LabelOf-clause-stops
+returns-in-LabelOf-clause-stops g c = rw c.in-LabelOf.is c.tell_label.ensures.stops

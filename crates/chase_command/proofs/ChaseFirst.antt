@@ -1,0 +1,45 @@
+-- What a chase wrote is a front of the trace where its whole input is a script, and nothing where it is none.
+use Rattle.std.proofs.Common.{◌≡◌, ℕ, List, [], ◌++◌, length, Bool, true, Some, sym, ◌∙◌, ap, subst, append-nil, arith}
+use Rattle.std.specs.Prelude.{nat_le}
+use Rattle.std.specs.declared.option.Option.{Option}
+use Rattle.std.specs.Io.KnownBytes.{Consumes}
+use Rattle.tc_io.specs.Sink.{IsFront}
+use Rattle.tc_address.specs.Label.{Address}
+use Rattle.chase_script.specs.declared.row.ScriptRow.{ScriptRow}
+use Rattle.chase_script.specs.Script.{script_in}
+use Rattle.chase_command.specs.declared.chasing.TheConstants.{MAX_SCRIPT}
+use Rattle.tc_command.specs.declared.stop.ChaseStop.{ChaseStop}
+use Rattle.tc_command.specs.declared.stop.ChaseStop.TheVariants.{Refused, ReadFault, WriteFault, Memory, Limit}
+use Rattle.chase_command.specs.Chase.{IsChaseStop, IsScript, IsTraced, IsWhole, chase_output, chase_text, text_of_length, text_of_script}
+use Rattle.tc_command.specs.KeptWorks.{all_at_end}
+
+-- at the end of an input that is no longer than a script may be
+output_is : (label : Address) (left : Option (List ℕ)) (all pulled : List ℕ) → Consumes (Some all) left pulled → IsWhole left pulled
+    → chase_output label all ≡ text_of_script label (script_in label.count pulled)
+output_is label left all pulled consumed whole =
+    let same : all ≡ pulled = all_at_end all pulled left consumed whole.end in
+    let short : nat_le (length all) MAX_SCRIPT ≡ true = rw same (grind (arith, whole.short)) in
+    ap (λ (b : Bool). text_of_length label b (script_in label.count all)) short
+    ∙ ap (λ (bytes : List ℕ). text_of_script label (script_in label.count bytes)) same
+
+-- of a script it is the trace
+trace_is : (label : Address) (left : Option (List ℕ)) (all pulled : List ℕ) (rows : List ScriptRow) → Consumes (Some all) left pulled
+    → IsScript label left pulled rows → chase_output label all ≡ chase_text label rows
+trace_is label left all pulled rows consumed is = output_is label left all pulled consumed is.whole ∙ ap (text_of_script label) is.are
+
+nothing_first : (written whole : List ℕ) → written ≡ [] → IsFront written whole
+nothing_first written whole none = (whole, ap (λ (l : List ℕ). l ++ whole) (sym none))
+
+pub trace_first : (label : Address) (left : Option (List ℕ)) (all pulled written : List ℕ) (rows : List ScriptRow) → Consumes (Some all) left pulled
+    → IsTraced label left pulled written rows → IsFront written (chase_output label all)
+trace_first label left all pulled written rows consumed is =
+    ([], trace_is label left all pulled rows consumed is.script ∙ sym is.text ∙ sym (append-nil written))
+
+pub stop_first : (label : Address) (stop : ChaseStop) (left : Option (List ℕ)) (all pulled written : List ℕ) → Consumes (Some all) left pulled
+    → IsChaseStop label stop left pulled written → IsFront written (chase_output label all)
+stop_first label (Refused fault) left all pulled written consumed is = nothing_first written (chase_output label all) is.2
+stop_first label ReadFault left all pulled written consumed is = nothing_first written (chase_output label all) is.1
+stop_first label WriteFault left all pulled written consumed is =
+    subst (λ (whole : List ℕ). IsFront written whole) (sym (trace_is label left all pulled is.0 consumed is.1)) is.2
+stop_first label Memory left all pulled written consumed is = nothing_first written (chase_output label all) is.1
+stop_first label Limit left all pulled written consumed is = nothing_first written (chase_output label all) is.1

@@ -1,0 +1,2 @@
+mod ChaseFirst
+mod ChaseStatus

@@ -1,0 +1,15 @@
+use Rattle.std.proofs.Common.{◌≡◌, ◌+◌, ◌-◌, ◌≤◌, length}
+use Rattle.std.specs.Io.KnownBytes.{Consumes}
+use Rattle.chase_command.specs.declared.chasing.TheConstants.{MAX_SCRIPT}
+use Rattle.chase_command.proofs.chasing.gather.Given as goal
+
+-- what was pulled is in memory, and is no longer than a script may be
+abbrev pub invariant-pulls : goal.invariant-pulls
+invariant-pulls g l = record {
+  short : length l.script.items ≤ MAX_SCRIPT;
+  pulled : Consumes (g.S.Source.left l.fn.source) (g.S.Source.left l.source) l.script.items;
+  same : g.S.Source.faults l.source ≡ g.S.Source.faults l.fn.source;
+}
+
+abbrev pub decreases-pulls : goal.decreases-pulls
+decreases-pulls g l = MAX_SCRIPT + 1 - length l.script.items

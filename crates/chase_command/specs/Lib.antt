@@ -1,0 +1,2 @@
+pub mod Chase
+pub mod KeptScript

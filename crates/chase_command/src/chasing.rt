@@ -1,0 +1,156 @@
+//! `chase`: a script is read whole, and then its trace is written. Next:
+//! `trace`.
+ghost use Rattle.std.specs.Prelude.{◌≡◌, ◌⊎◌, ℕ, ◌+◌, ◌<◌, ◌≤◌, List, ◌++◌, length, Some, Ok, OnOk, IfOk, IfErr, Err};
+ghost use Rattle.std.specs.Io.KnownBytes.{Appends, Consumes, IsAtEnd};
+ghost use Rattle.tc_address.specs.declared.count.Count.{Count};
+ghost use Rattle.tc_io.specs.Sink.{IsFront};
+ghost use Rattle.tc_io.specs.Source.{Rose};
+ghost use Rattle.chase_script.specs.declared.row.ScriptRow.{ScriptRow};
+ghost use Rattle.chase_script.specs.Answer.{AreRowsFor};
+ghost use Rattle.chase_script.specs.Lock.{KeepsItsLock};
+ghost use Rattle.chase_script.specs.Script.{script_in};
+ghost use Rattle.chase_command.specs.Chase.{IsChaseAnswer};
+ghost use Rattle.tc_command.specs.Causes.{SourceCause, OutCause};
+ghost use Rattle.chase_command.specs.Chase.{IsChaseStop, IsTraced, chase_ended, chase_output, chase_status_on};
+ghost use Rattle.tc_command.specs.Exchange.{Exchange, IsPulled, IsWritten, IsNoted};
+ghost use Rattle.chase_command.specs.KeptScript.{IsGatherStop, IsPullStop, IsRowStop};
+
+use crate::trace::Trace;
+use chase_script::{Script, ScriptFault, script_rows};
+use std::alloc::Global;
+use tc_address::{Count, Label};
+use tc_command::{ChaseStop, Status, chase_note, give_all, push_note};
+use tc_io::{Sink, Source};
+
+/// How many bytes a script has at most.
+pub const MAX_SCRIPT: usize = 1_048_576;
+
+/// The room for the bytes of one pull.
+const PULLED: usize = 4096;
+
+/// Works a chase that begins at a label along a script. Nothing is written before the whole script was
+/// read and each row was judged.
+pub fn chase<S: Source, K: Sink, N: Sink>(
+    alloc: Global,
+    label: &Label,
+    source: &mut S,
+    out: &mut K,
+    notes: &mut N,
+) -> Status
+    // What was pulled, what was written, and the note are those of the status. A trace that was written keeps its lock.
+    ensures answer { (e : Exchange) × IsPulled (S.left source.old) (S.left source.new) e
+        × IsWritten (K.written out.old) (K.written out.new) e
+        × IsNoted (N.written notes.old) (N.written notes.new) (N.faults notes.old) (N.faults notes.new) e
+        × IsChaseAnswer label.now result e }
+    ensures no_note { result ≡ Status.Done → notes.new ≡ notes.old }
+
+    // Want of memory writes nothing.
+    ensures no_usage { result ≡ Status.Usage → ⊥ }
+    ensures no_memory { result ≡ Status.Memory → out.new ≡ out.old }
+
+    // A read fault and a write fault come only where a count of faults rose.
+    ensures source { SourceCause result (S.faults source.old) (S.faults source.new) }
+    ensures out { OutCause result (K.faults out.old) (K.faults out.new) }
+
+    // Where no count of faults rises, the whole input leaves one status, want of memory aside.
+    ensures status { (input : List ℕ) → S.left source.old ≡ Some input
+        → ¬ Rose (S.faults source.old) (S.faults source.new) → ¬ Rose (K.faults out.old) (K.faults out.new)
+        → (result ≡ chase_status_on label.now input) ⊎ (result ≡ Status.Memory) }
+
+    // Whatever the status, what was written is a front of the trace where the whole input is a script, and nothing where
+    // it is none.
+    ensures first { (input : List ℕ) → S.left source.old ≡ Some input
+        → (written : List ℕ) × Appends (K.written out.old) (K.written out.new) written
+        × IsFront written (chase_output label.now input) }
+{
+    match trace_script(alloc, label, source, out) {
+        Ok(()) => Status::Done,
+        Err(stop) => {
+            push_note(notes, &chase_note(stop));
+            Status::of_chase(stop)
+        }
+    }
+}
+
+/// Reads a script whole, and writes its trace.
+fn trace_script<S: Source, K: Sink>(
+    alloc: Global,
+    label: &Label,
+    source: &mut S,
+    out: &mut K,
+) -> Result<(), ChaseStop>
+    ensures ends { OnOk result ((pulled written : List ℕ) × (rows : List ScriptRow)
+        × Consumes (S.left source.old) (S.left source.new) pulled × Appends (K.written out.old) (K.written out.new) written
+        × IsTraced label.now (S.left source.new) pulled written rows × KeepsItsLock label.now rows) }
+    ensures stops { IfErr result (λ stop. (pulled written : List ℕ)
+        × Consumes (S.left source.old) (S.left source.new) pulled × Appends (K.written out.old) (K.written out.new) written
+        × IsChaseStop label.now stop (S.left source.new) pulled written) }
+    ensures source { SourceCause (chase_ended result) (S.faults source.old) (S.faults source.new) }
+    ensures out { OutCause (chase_ended result) (K.faults out.old) (K.faults out.new) }
+    ensures no_memory { result ≡ Err ChaseStop.Memory → out.new ≡ out.old }
+{
+    let script = gather(alloc, source)?;
+    let rows = judge(alloc, &script, label.count())?;
+    match give_all(&mut Trace::new(label, rows), out) {
+        Ok(()) => Ok(()),
+        Err(_) => Err(ChaseStop::WriteFault),
+    }
+}
+
+/// The rows of a script.
+fn judge(alloc: Global, script: &[u8], count: Count) -> Result<Script, ChaseStop>
+    ensures rows { IfOk result (λ rows. script_in count script.now ≡ Ok rows.items) }
+    ensures fit { IfOk result (λ rows. AreRowsFor count rows.items) }
+    ensures stops { IfErr result (λ stop. IsRowStop (script_in count script.now) stop) }
+{
+    match script_rows(alloc, script, count) {
+        Ok(rows) => Ok(rows),
+        Err(ScriptFault::Row(fault)) => Err(ChaseStop::Refused(fault)),
+        Err(ScriptFault::Memory(_)) => Err(ChaseStop::Memory),
+    }
+}
+
+/// Pulls a whole script into memory. At most a byte more is pulled than it may have.
+fn gather<S: Source>(alloc: Global, source: &mut S) -> Result<Vec<u8>, ChaseStop>
+    ensures whole { IfOk result (λ script. Consumes (S.left source.old) (S.left source.new) script.items
+        × IsAtEnd (S.left source.new) × (length script.items ≤ MAX_SCRIPT)) }
+    ensures stops { IfErr result (λ stop. (pulled : List ℕ) × Consumes (S.left source.old) (S.left source.new) pulled
+        × IsGatherStop stop pulled) }
+    ensures source { SourceCause (chase_ended result) (S.faults source.old) (S.faults source.new) }
+{
+    let mut script = Vec::new(alloc);
+    let mut buf = [0; PULLED];
+    'pulls: loop {
+        let room = PULLED.min(MAX_SCRIPT + 1 - script.len());
+        let count = pull_behind(source, &mut buf[..room], &mut script)?;
+        if count == 0 {
+            return Ok(script);
+        }
+        if MAX_SCRIPT < script.len() {
+            return Err(ChaseStop::Limit);
+        }
+    }
+}
+
+/// Pulls once into a room, and puts what came behind the script. How many bytes it was.
+fn pull_behind<S: Source>(
+    source: &mut S,
+    room: &mut [u8],
+    script: &mut Vec<u8>,
+) -> Result<usize, ChaseStop>
+    requires { 0 < length room.old }
+    ensures takes { IfOk result (λ count. (bytes : List ℕ) × Consumes (S.left source.old) (S.left source.new) bytes
+        × (script.new.items ≡ script.old.items ++ bytes) × (length bytes ≡ count) × (count ≤ length room.old)) }
+    ensures end { IfOk result (λ count. count ≡ 0 → IsAtEnd (S.left source.new)) }
+    ensures stops { IfErr result (λ stop. (bytes : List ℕ) × Consumes (S.left source.old) (S.left source.new) bytes
+        × IsPullStop stop (length room.old) bytes) }
+    ensures source { SourceCause (chase_ended result) (S.faults source.old) (S.faults source.new) }
+{
+    let Ok(count) = source.pull(room) else {
+        return Err(ChaseStop::ReadFault);
+    };
+    match script.extend_from_slice(&room[..count]) {
+        Ok(()) => Ok(count),
+        Err(_) => Err(ChaseStop::Memory),
+    }
+}

@@ -1,0 +1,146 @@
+-- What a command along the frames of a recording keeps. No promise speaks of it.
+use Rattle.std.specs.Prelude.{◌≡◌, ℕ, ◌+◌, ◌*◌, ◌≤◌, List, [], ◌++◌, count_by, length, IfSome, sum, Option}
+use Rattle.std.specs.Io.KnownBytes.{Appends}
+use Rattle.std.proofs.Common.{sym, ◌∙◌, ap}
+use Rattle.biphase.specs.declared.profile.Profile.TheVariants.{Normal}
+use Rattle.direction_reader.specs.declared.event.Event.{Event}
+use Rattle.direction_reader.specs.declared.reader.TheConstants.{MAX_INTERVALS}
+use Rattle.direction_reader.specs.ListEvents.{AreEvents}
+use Rattle.direction_reader.specs.StandsFor as reads
+use Rattle.direction_reader.specs.Tracker.{profile_of}
+use Rattle.flywheel.specs.declared.frame.Frame.{Frame}
+use Rattle.flywheel.specs.declared.frame.Frame.TheVariants.{Heard, Invented, Gone}
+use Rattle.flywheel.specs.declared.heard.HeardWord.{HeardWord}
+use Rattle.flywheel.specs.Frames.{frames}
+use Rattle.flywheel.specs.StandsFor as flies
+use Rattle.flywheel.specs.Wheel.{Wheel, frames_left}
+use Rattle.tc_files.specs.declared.interval_file.header.IntervalHeader.{IntervalHeader}
+use Rattle.frame_commands.specs.declared.flight.Flight.{Flight}
+use Rattle.tc_io.specs.Sink.{AppendsFront}
+use Rattle.frame_commands.specs.LtcFly.{is_end, is_heard, is_invented}
+use Rattle.frame_commands.specs.OfFrames.{FrameText, IsFlightPart, words_heard}
+
+-- one frame more of its kind
+abbrev pub counted : Frame → Flight → Flight
+counted (Heard label direction joined tick) f = record f { heard = f.heard + 1 }
+counted (Invented label direction step tick) f = record f { invented = f.invented + 1 }
+counted (Gone tick) f = record f { gone = f.gone + 1 }
+
+-- each of these frames was counted
+pub record Counts (before after : Flight) (more : List Frame) : Type 0 where
+  pub heard : after.heard ≡ before.heard + count_by is_heard more
+  pub invented : after.invented ≡ before.invented + count_by is_invented more
+  pub gone : after.gone ≡ before.gone + count_by is_end more
+
+-- a word brings so many frames after it at most
+abbrev pub FitsFrames : Flight → Type 0
+FitsFrames f = f.invented + f.gone + frames_left f.wheel ≤ 256 * f.heard
+
+-- the last word was heard at the tick or before
+abbrev pub HeardBy : ℕ → Wheel → Type 0
+HeardBy tick wheel = IfSome wheel.reference (λ (word : HeardWord). word.tick ≤ tick)
+
+-- the counts fit so many intervals
+pub record FitsFlight (f : Flight) (count : ℕ) : Type 0 where
+  pub within : count ≤ MAX_INTERVALS
+  pub counts : f.reader.intervals ≡ count
+  pub words : f.heard ≤ 2 * count
+  pub more_frames : FitsFrames f
+  pub heard_by : HeardBy f.reader.tick f.wheel
+
+-- these frames come first among those of the words up to the tick
+abbrev pub Comes : ℕ → List HeardWord → ℕ → List Frame → Type 0
+Comes limit words tick front = (rest : List Frame) × (frames limit words tick ≡ front ++ rest)
+
+-- with these frames more, all of the words so far and these words were given up to the tick
+abbrev pub GivesAll : Wheel → Wheel → ℕ → List HeardWord → List Frame → Type 0
+GivesAll before after tick more_words more = (words : List HeardWord) (given : List Frame) → flies.HasGivenAll before words tick given
+    → flies.HasGivenAll after (words ++ more_words) tick (given ++ more)
+
+-- they come first among those of the words so far and these
+abbrev pub GivesFirst : Wheel → ℕ → List HeardWord → List Frame → Type 0
+GivesFirst before tick more_words more = (words : List HeardWord) (given : List Frame) → flies.HasGivenAll before words tick given
+    → Comes before.limit (words ++ more_words) tick (given ++ more)
+
+-- with these frames more, all that were due up to a later tick were given
+abbrev pub GivesDue : Wheel → Wheel → ℕ → List Frame → Type 0
+GivesDue before after tick more = (words : List HeardWord) (earlier : ℕ) (given : List Frame) → flies.StandsFor before words earlier given
+    → earlier ≤ tick → flies.HasGivenAll after words tick (given ++ more)
+
+-- they come first
+abbrev pub GivesDueFirst : Wheel → ℕ → List Frame → Type 0
+GivesDueFirst before tick more = (words : List HeardWord) (earlier : ℕ) (given : List Frame) → flies.StandsFor before words earlier given
+    → earlier ≤ tick → Comes before.limit words tick (given ++ more)
+
+-- with these frames more, all that were due and those of these words were given up to a later tick
+abbrev pub GivesDueAll : Wheel → Wheel → ℕ → List HeardWord → List Frame → Type 0
+GivesDueAll before after tick more_words more = (words : List HeardWord) (earlier : ℕ) (given : List Frame) → flies.StandsFor before words earlier given
+    → earlier ≤ tick → flies.HasGivenAll after (words ++ more_words) tick (given ++ more)
+
+-- they come first
+abbrev pub GivesDueAllFirst : Wheel → ℕ → List HeardWord → List Frame → Type 0
+GivesDueAllFirst before tick more_words more = (words : List HeardWord) (earlier : ℕ) (given : List Frame) → flies.StandsFor before words earlier given
+    → earlier ≤ tick → Comes before.limit (words ++ more_words) tick (given ++ more)
+
+-- before the first interval
+pub record BeginsFlight (f : Flight) (limit : ℕ) (header : IntervalHeader) : Type 0 where
+  pub system : f.reader.system ≡ header.system
+  pub keeps : profile_of f.reader.tracker ≡ Normal
+  pub reader : reads.StandsFor f.reader [] []
+  pub limit_is : f.wheel.limit ≡ limit
+  pub wheel : flies.HasGivenAll f.wheel [] 0 []
+  pub fits : FitsFlight f 0
+  pub heard : f.heard ≡ 0
+  pub invented : f.invented ≡ 0
+  pub gone : f.gone ≡ 0
+
+-- ---- what becomes of frames, in a sink of frames. `made` says what it writes, and `given` which frames it was given
+
+-- with these frames more, all of their bytes were written
+abbrev pub Sends : {S C : Type 0} → (C → FrameText) → (S → C → IntervalHeader → List Frame → Type 0) → S → S → Option (List ℕ) → Option (List ℕ)
+    → List Frame → Type 0
+Sends {S} {C} made given before after old new more = (choice : C) (header : IntervalHeader) (frames : List Frame) → given before choice header frames
+    → given after choice header (frames ++ more)
+    × ((bytes : List ℕ) × ((made choice).text header (frames ++ more) ≡ (made choice).text header frames ++ bytes) × Appends old new bytes)
+
+-- a front of their bytes was written, whatever frames come after them
+abbrev pub SendsFront : {S C : Type 0} → (C → FrameText) → (S → C → IntervalHeader → List Frame → Type 0) → S → Option (List ℕ) → Option (List ℕ)
+    → List Frame → Type 0
+SendsFront {S} {C} made given before old new more = (choice : C) (header : IntervalHeader) (frames rest : List Frame) → given before choice header frames
+    → (bytes : List ℕ) × ((made choice).text header (frames ++ (more ++ rest)) ≡ (made choice).text header frames ++ bytes) × AppendsFront old new bytes
+
+-- the intervals and frames were counted
+pub record CountsAll (f : Flight) (intervals : List ℕ) (given : List Frame) : Type 0 where
+  pub intervals_are : f.reader.intervals ≡ length intervals
+  pub ticks : f.reader.tick ≡ sum intervals
+  pub heard : f.heard ≡ count_by is_heard given
+  pub invented : f.invented ≡ count_by is_invented given
+  pub gone : f.gone ≡ count_by is_end given
+
+-- it was given these intervals behind this header, and sent the frames of their words
+pub record Stands {S C : Type 0} (limit : C → ℕ) (made : C → FrameText) (has_given : S → C → IntervalHeader → List Frame → Type 0)
+    (f : Flight) (sink : S) (choice : C) (header : IntervalHeader) (intervals written : List ℕ) : Type 0 where
+  pub system : f.reader.system ≡ header.system
+  pub keeps : profile_of f.reader.tracker ≡ Normal
+  pub limit_is : f.wheel.limit ≡ limit choice
+  pub events : List Event
+  pub reader : reads.StandsFor f.reader intervals events
+  pub are_events : AreEvents header.system Normal intervals events
+  pub given : List Frame
+  pub wheel : flies.HasGivenAll f.wheel (words_heard events) (sum intervals) given
+  pub sent : has_given sink choice header given
+  pub are : written ≡ (made choice).text header given
+  pub heard : f.heard ≡ count_by is_heard given
+  pub invented : f.invented ≡ count_by is_invented given
+  pub gone : f.gone ≡ count_by is_end given
+
+-- what was written is a part of what the frames make
+pub stands_well : {S C : Type 0} (limit : C → ℕ) (made : C → FrameText) (has_given : S → C → IntervalHeader → List Frame → Type 0)
+    (f : Flight) (sink : S) (choice : C) (header : IntervalHeader) (intervals written : List ℕ)
+    → Stands limit made has_given f sink choice header intervals written → IsFlightPart (limit choice) (made choice) header intervals written
+stands_well limit made has_given f sink choice header intervals written stands = record {
+  events = stands.events;
+  are_events = stands.are_events;
+  are = stands.are ∙ ap ((made choice).text header)
+      (sym (ap (λ (n : ℕ). frames n (words_heard stands.events) (sum intervals)) (sym stands.limit_is) ∙ stands.wheel.1));
+}

@@ -1,0 +1,80 @@
+-- `ltc-chase`: the steps of a chase over the frames of a recording; and why such a chase loses its lock.
+use Rattle.std.specs.Prelude.{◌≡◌, ℕ, suc, ◌-◌, ◌≤◌, List, length, take, slice_get, Some, None, unsigned_abs}
+use Rattle.std.specs.List.{count_by}
+use Rattle.biphase.specs.declared.profile.Profile.TheVariants.{Normal}
+use Rattle.chase_core.specs.declared.report.State.TheVariants.{Locked}
+use Rattle.chase_core.specs.declared.report.Loss.{Loss}
+use Rattle.chase_core.specs.declared.report.Loss.TheVariants.{NoCode}
+use Rattle.chase_core.specs.Trace.{Traced, lock_bound}
+use Rattle.chase_script.specs.TraceText.{loses, step_end_line, step_lines, trace_text}
+use Rattle.code_chase.specs.CodeTrace.{code_trace}
+use Rattle.code_chase.specs.Lock.{AreWhole, BringsNoCode, HasCauseOfLoss}
+use Rattle.direction_reader.specs.declared.event.Event.{Event}
+use Rattle.direction_reader.specs.ListEvents.{AreEvents}
+use Rattle.flywheel.specs.declared.frame.Frame.{Frame}
+use Rattle.tc_files.specs.declared.interval_file.header.IntervalHeader.{IntervalHeader}
+use Rattle.tc_files.specs.Recording.{Recording, recording_of}
+use Rattle.tc_words.specs.ChaseRun.{Chasing}
+use Rattle.frame_commands.specs.declared.ltc_chase.TheConstants.{MAX_FRAMES}
+use Rattle.interval_commands.specs.Along.{IsSpentOf, IsWholeOf, Printing}
+use Rattle.frame_commands.specs.OfFrames.{FrameText, along_frames, frames_of}
+
+-- the steps of a chase over these frames
+abbrev pub steps_over : Chasing → List Frame → List Traced
+steps_over c frames = code_trace c.label c.seed c.bound frames
+
+-- those of the first frames, so many at most
+abbrev pub first_steps : ℕ → Chasing → List Frame → List Traced
+first_steps most c frames = steps_over c (take most frames)
+
+-- the lines of the first steps, and the line that counts them; further frames pass the limit
+abbrev pub lines_of_steps : Chasing → FrameText
+lines_of_steps c = record {
+  text = λ header frames. step_lines c.label.count 1 (first_steps MAX_FRAMES c frames);
+  last = λ intervals frames. step_end_line (length (first_steps MAX_FRAMES c frames)) (count_by loses (first_steps MAX_FRAMES c frames));
+  most = Some MAX_FRAMES;
+}
+
+-- what is written
+abbrev pub chased_recording : Chasing → Printing
+chased_recording c = along_frames c.limit (lines_of_steps c)
+
+-- ---- why the lock is lost
+
+-- each loss has its cause, by its kind: no code exactly where the frame of the step is gone or has another count; and out of the window only
+-- where the frame was heard and does not join the one before it, or where the transport slipped by 25 subframes or more in the step before. So where
+-- each frame behind the first is invented or joined and has the chase's count, and the transport slips by at most 24 subframes, no step has a loss,
+-- and from the first step that ends Locked on each error is at most half a frame; and where it slips by at most 8, the error is at most 40 subframes
+-- there, then 24, and then 8
+pub record LosesWithCause (c : Chasing) (frames : List Frame) : Type 0 where
+  pub cause : (j : ℕ) (line : Traced) (loss : Loss) → slice_get (steps_over c frames) j ≡ Some line → line.report.loss ≡ Some loss
+      → HasCauseOfLoss c.label c.seed c.bound frames j loss
+  pub no_code : (i : ℕ) (leaves line : Traced) (frame : Frame)
+      → slice_get (steps_over c frames) i ≡ Some leaves → leaves.report.state ≡ Locked
+      → slice_get frames (suc i) ≡ Some frame → BringsNoCode c.label.count frame
+      → slice_get (steps_over c frames) (suc i) ≡ Some line → line.report.loss ≡ Some NoCode
+  pub no_loss : AreWhole c.label.count frames → c.bound ≤ 24 → (j : ℕ) (line : Traced) → slice_get (steps_over c frames) j ≡ Some line
+      → line.report.loss ≡ None
+  pub near : AreWhole c.label.count frames → c.bound ≤ 24 → (first j : ℕ) (leaves line : Traced)
+      → slice_get (steps_over c frames) first ≡ Some leaves → leaves.report.state ≡ Locked
+      → first ≤ j → slice_get (steps_over c frames) j ≡ Some line
+      → (line.report.state ≡ Locked) × (unsigned_abs line.report.error ≤ 40)
+  pub nearer : AreWhole c.label.count frames → c.bound ≤ 8 → (first j : ℕ) (leaves line : Traced)
+      → slice_get (steps_over c frames) first ≡ Some leaves → leaves.report.state ≡ Locked
+      → first ≤ j → slice_get (steps_over c frames) j ≡ Some line
+      → unsigned_abs line.report.error ≤ lock_bound (j - first)
+
+-- what was written is the trace of the chase over the frames of the recording, in which each loss has its cause: over all of them, where they are
+-- within the limit, and else over the first
+pub record FollowsTheCode (c : Chasing) (input : Recording) (written : List ℕ) : Type 0 where
+  pub header : IntervalHeader
+  pub begins : input.header ≡ Some header
+  pub events : List Event
+  pub are_events : AreEvents header.system Normal input.intervals events
+  pub all : ¬ IsSpentOf (chased_recording c) input → length (frames_of c.limit input.intervals events) ≤ MAX_FRAMES
+  pub text : written ≡ trace_text c.label.count (first_steps MAX_FRAMES c (frames_of c.limit input.intervals events))
+  pub lock : LosesWithCause c (take MAX_FRAMES (frames_of c.limit input.intervals events))
+
+-- what is written of a whole input is
+abbrev pub ChasesTheInput : Chasing → Type 0
+ChasesTheInput c = (input written : List ℕ) → IsWholeOf (chased_recording c) (recording_of input) written → FollowsTheCode c (recording_of input) written

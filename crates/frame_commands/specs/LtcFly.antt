@@ -1,0 +1,60 @@
+-- `ltc-fly`: a line of each frame of a recording.
+use Rattle.std.specs.Prelude.{◌≡◌, ℕ, Bool, true, false, List, ◌++◌, length, count_by, sum, map, Some, None}
+use Rattle.std.specs.List.{flat_map}
+use Rattle.biphase.specs.declared.profile.Profile.TheVariants.{Normal}
+use Rattle.direction_reader.specs.declared.event.Event.{Event}
+use Rattle.direction_reader.specs.ListEvents.{AreEvents}
+use Rattle.flywheel.specs.declared.frame.Frame.{Frame}
+use Rattle.flywheel.specs.declared.frame.Frame.TheVariants.{Heard, Invented, Gone}
+use Rattle.flywheel.specs.Marked.{AreMarked, word_of, words_in}
+use Rattle.tc_files.specs.FrameTexts.{frame_line, fly_end_line}
+use Rattle.tc_files.specs.declared.interval_file.header.IntervalHeader.{IntervalHeader}
+use Rattle.tc_files.specs.Recording.{recording_of}
+use Rattle.interval_commands.specs.Along.{Printing}
+use Rattle.frame_commands.specs.OfFrames.{FrameText, along_frames, frames_of, words_heard}
+
+-- the lines of frames, one after another
+abbrev pub frame_lines : List Frame → List ℕ
+frame_lines fs = flat_map frame_line fs
+
+abbrev pub is_heard : Frame → Bool
+is_heard (Heard label direction joined tick) = true
+is_heard (Invented label direction step tick) = false
+is_heard (Gone tick) = false
+
+abbrev pub is_invented : Frame → Bool
+is_invented (Heard label direction joined tick) = false
+is_invented (Invented label direction step tick) = true
+is_invented (Gone tick) = false
+
+abbrev pub is_end : Frame → Bool
+is_end (Heard label direction joined tick) = false
+is_end (Invented label direction step tick) = false
+is_end (Gone tick) = true
+
+-- the last line counts the intervals, the frames of each kind and the ticks
+abbrev pub last_fly_line : List ℕ → List Frame → List ℕ
+last_fly_line intervals fs =
+    fly_end_line (length intervals) (count_by is_heard fs) (count_by is_invented fs) (count_by is_end fs) (sum intervals)
+
+-- the lines of the frames, and the last line
+abbrev pub lines_of_frames : FrameText
+lines_of_frames = record { text = λ header fs. frame_lines fs; last = last_fly_line; most = None }
+
+-- what is written with a limit of invented frames
+abbrev pub flight : ℕ → Printing
+flight limit = along_frames limit lines_of_frames
+
+-- what was written are the lines of the frames of the recording, and the line that counts them. The heard frames are its words, one after
+-- another, each with its label, its direction and its tick; between two of them, and after the last, at most so many frames are invented, and
+-- each has its step in its line
+pub record ShowsTheFrames (limit : ℕ) (bytes written : List ℕ) : Type 0 where
+  pub header : IntervalHeader
+  pub begins : (recording_of bytes).header ≡ Some header
+  pub events : List Event
+  pub are_events : AreEvents header.system Normal (recording_of bytes).intervals events
+  pub frames : List Frame
+  pub are_frames : frames ≡ frames_of limit (recording_of bytes).intervals events
+  pub are : written ≡ frame_lines frames ++ last_fly_line (recording_of bytes).intervals frames
+  pub heard : words_in frames ≡ map word_of (words_heard events)
+  pub marked : AreMarked limit None frames

@@ -1,0 +1,393 @@
+//! The way along the frames of a recording, the same for each command that makes something of them: words
+//! become frames, and a flywheel invents those that are missing. Next: `flywheel/src/wheel.rt`, and
+//! behind it the engines.
+ghost use Rattle.std.specs.Prelude.{◌≡◌, ◌≤◌, ◌<◌, ◌+◌, ◌*◌, ◌^◌, List, ◌∷◌, ◌++◌, [], ℕ, false, OnOk, OnErr, IfOk, IfErr, IfSome};
+ghost use Rattle.std.specs.Io.KnownBytes.{Appends};
+ghost use Rattle.biphase.specs.declared.cell.TheConstants.{MAX_INTERVAL};
+ghost use Rattle.direction_reader.specs.declared.reader.TheConstants.{MAX_INTERVALS};
+ghost use Rattle.direction_reader.specs.declared.event.Event.{Event};
+ghost use Rattle.direction_reader.specs.declared.event.Events.{Events};
+ghost use Rattle.direction_reader.specs.Brings.{IsLatest, Brings};
+ghost use Rattle.direction_reader.specs.Events.{event_list, listed};
+ghost use Rattle.direction_reader.specs.StandsFor.{MayTell, Tells};
+ghost use Rattle.flywheel.specs.declared.frame.Frame.{Frame};
+ghost use Rattle.flywheel.specs.declared.heard.HeardWord.{HeardWord};
+ghost use Rattle.flywheel.specs.Wheel.{frames_left, has_frame_due, IsInRange};
+ghost use Rattle.tc_files.specs.FrameTexts.{fly_end_line, FitsFrameLine};
+ghost use Rattle.tc_io.specs.Sink.{AppendsFront};
+ghost use Rattle.tc_command.specs.Causes.{HasOutCause};
+ghost use Rattle.frame_commands.specs.OfFrames.{words_heard};
+ghost use Rattle.frame_commands.specs.KeptFlight.{
+  BeginsFlight,
+  counted,
+  Counts,
+  FitsFlight,
+  FitsFrames,
+  GivesAll,
+  GivesDue,
+  GivesDueAll,
+  GivesDueAllFirst,
+  GivesDueFirst,
+  GivesFirst,
+  HeardBy,
+  Sends,
+  SendsFront,
+};
+
+use crate::frame_sink::FrameSink;
+use biphase::{MAX_INTERVAL, Profile};
+use direction_reader::laws::{
+    a_list_has_one_list_of_events, a_reader_gives_the_events_of_its_list,
+};
+use direction_reader::{Brought, DirectionReader, Event, Events, MAX_INTERVALS};
+use flywheel::laws::frames_come_in_order;
+use flywheel::{Flywheel, Frame, HeardWord};
+use interval_commands::Behind;
+use line_text::Text;
+use tc_command::Stop;
+use tc_files::{IntervalHeader, fly_end_text};
+use tc_io::Sink;
+
+/// The frames of a recording: its reader, its flywheel, and how many frames of each kind were given.
+#[derive(Drop)]
+pub(crate) struct Flight {
+    reader: DirectionReader,
+    wheel: Flywheel,
+    heard: u64,
+    invented: u64,
+    gone: u64,
+}
+
+impl Flight {
+    /// Before the first interval.
+    fn new(limit: u8, header: &IntervalHeader) -> Flight
+        ensures { BeginsFlight result limit header.now }
+    {
+        Flight {
+            reader: DirectionReader::new(header.system, Profile::Normal),
+            wheel: Flywheel::new(limit),
+            heard: 0,
+            invented: 0,
+            gone: 0,
+        }
+    }
+
+    /// Counts a frame, and gives it.
+    fn push<T: FrameSink, K: Sink>(
+        &mut self,
+        frame: &Frame,
+        sink: &mut T,
+        out: &mut K,
+    ) -> Result<(), Stop>
+        requires line { FitsFrameLine frame.now }
+        requires heard { self.old.heard < 2 ^ 40 }
+        requires others { self.old.invented + self.old.gone < 2 ^ 40 }
+        ensures counted { self.new ≡ counted frame.now self.old }
+        ensures reader { self.new.reader ≡ self.old.reader }
+        ensures wheel { self.new.wheel ≡ self.old.wheel }
+        ensures sends { OnOk result (Sends T.made T.given sink.old sink.new (K.written out.old) (K.written out.new) (frame.now ∷ [])) }
+        ensures front { OnErr result (SendsFront T.made T.given sink.old (K.written out.old) (K.written out.new) (frame.now ∷ [])) }
+        ensures why { IfErr result (λ stop. stop ≡ Stop.WriteFault) }
+        ensures cause { HasOutCause (K.faults out.old) (K.faults out.new) result }
+    {
+        match frame {
+            Frame::Heard { .. } => self.heard += 1,
+            Frame::Invented { .. } => self.invented += 1,
+            Frame::Gone { .. } => self.gone += 1,
+        }
+        sink.frame(frame, out)
+    }
+
+    /// Gives the frames that are due at the tick.
+    #[cold]
+    #[inline(never)]
+    fn pass<T: FrameSink, K: Sink>(
+        &mut self,
+        tick: u64,
+        sink: &mut T,
+        out: &mut K,
+    ) -> Result<(), Stop>
+        requires below { tick < 2 ^ 60 }
+        requires heard_by { HeardBy tick self.old.wheel }
+        requires fits { FitsFrames self.old }
+        requires few { self.old.heard ≤ 2 * MAX_INTERVALS }
+        ensures reader { self.new.reader ≡ self.old.reader }
+        ensures heard { self.new.heard ≡ self.old.heard }
+        ensures limit { self.new.wheel.limit ≡ self.old.wheel.limit }
+        ensures fits { OnOk result (FitsFrames self.new) }
+        ensures heard_by { OnOk result (HeardBy tick self.new.wheel) }
+        ensures none_due { OnOk result (has_frame_due self.new.wheel tick ≡ false) }
+        ensures gives { OnOk result ((more : List Frame) × Counts self.old self.new more
+            × Sends T.made T.given sink.old sink.new (K.written out.old) (K.written out.new) more × GivesDue self.old.wheel self.new.wheel tick more) }
+        ensures front { OnErr result ((more : List Frame) × SendsFront T.made T.given sink.old (K.written out.old) (K.written out.new) more
+            × GivesDueFirst self.old.wheel tick more) }
+        ensures why { IfErr result (λ stop. stop ≡ Stop.WriteFault) }
+        ensures cause { HasOutCause (K.faults out.old) (K.faults out.new) result }
+    {
+        frames_come_in_order();
+        'due: loop {
+            let Some(frame) = self.wheel.passed(tick) else {
+                return Ok(());
+            };
+            self.push(&frame, sink, out)?;
+        }
+    }
+
+    /// Hears the word of an event, if it is one, and gives its frame.
+    fn hear<T: FrameSink, K: Sink>(
+        &mut self,
+        event: Option<Event>,
+        tick: u64,
+        sink: &mut T,
+        out: &mut K,
+    ) -> Result<(), Stop>
+        requires below { tick < 2 ^ 60 }
+        requires latest { IfSome event (IsLatest self.old.reader.intervals tick) }
+        requires heard_by { HeardBy tick self.old.wheel }
+        requires none_due { has_frame_due self.old.wheel tick ≡ false }
+        requires fits { FitsFrames self.old }
+        requires few { self.old.heard ≤ 2 * MAX_INTERVALS + 1 }
+        ensures reader { self.new.reader ≡ self.old.reader }
+        ensures heard { self.new.heard ≤ self.old.heard + 1 }
+        ensures limit { self.new.wheel.limit ≡ self.old.wheel.limit }
+        ensures fits { FitsFrames self.new }
+        ensures heard_by { HeardBy tick self.new.wheel }
+        ensures none_due { has_frame_due self.new.wheel tick ≡ false }
+        ensures gives { (more : List Frame) × Counts self.old self.new more × GivesAll self.old.wheel self.new.wheel tick (words_heard (listed event)) more
+            × OnOk result (Sends T.made T.given sink.old sink.new (K.written out.old) (K.written out.new) more)
+            × OnErr result (SendsFront T.made T.given sink.old (K.written out.old) (K.written out.new) more) }
+        ensures why { IfErr result (λ stop. stop ≡ Stop.WriteFault) }
+        ensures cause { HasOutCause (K.faults out.old) (K.faults out.new) result }
+    {
+        match event {
+            Some(
+                Event::Word {
+                    direction,
+                    word,
+                    tick,
+                    length,
+                },
+            ) => {
+                let word = HeardWord {
+                    label: word.fields.label(),
+                    direction,
+                    tick,
+                    length,
+                };
+                self.hear_word(&word, sink, out)
+            }
+            Some(Event::Refused { .. }) => Ok(()),
+            Some(Event::Lost { .. }) => Ok(()),
+            None => Ok(()),
+        }
+    }
+
+    /// Hears a word, at whose tick nothing is due any more, and gives its frame.
+    fn hear_word<T: FrameSink, K: Sink>(
+        &mut self,
+        word: &HeardWord,
+        sink: &mut T,
+        out: &mut K,
+    ) -> Result<(), Stop>
+        requires range { IsInRange word.now }
+        requires heard_by { HeardBy word.now.tick self.old.wheel }
+        requires none_due { has_frame_due self.old.wheel word.now.tick ≡ false }
+        requires fits { FitsFrames self.old }
+        requires few { self.old.heard ≤ 2 * MAX_INTERVALS + 1 }
+        ensures reader { self.new.reader ≡ self.old.reader }
+        ensures heard { self.new.heard ≡ self.old.heard + 1 }
+        ensures limit { self.new.wheel.limit ≡ self.old.wheel.limit }
+        ensures fits { FitsFrames self.new }
+        ensures heard_by { HeardBy word.now.tick self.new.wheel }
+        ensures none_due { has_frame_due self.new.wheel word.now.tick ≡ false }
+        ensures gives { (frame : Frame) × Counts self.old self.new (frame ∷ [])
+            × GivesAll self.old.wheel self.new.wheel word.now.tick (word.now ∷ []) (frame ∷ [])
+            × OnOk result (Sends T.made T.given sink.old sink.new (K.written out.old) (K.written out.new) (frame ∷ []))
+            × OnErr result (SendsFront T.made T.given sink.old (K.written out.old) (K.written out.new) (frame ∷ [])) }
+        ensures why { IfErr result (λ stop. stop ≡ Stop.WriteFault) }
+        ensures cause { HasOutCause (K.faults out.old) (K.faults out.new) result }
+    {
+        let frame = self.wheel.heard(word);
+        self.push(&frame, sink, out)
+    }
+
+    /// Hears the words of the events of an interval, and gives their frames.
+    fn hear_both<T: FrameSink, K: Sink>(
+        &mut self,
+        events: Events,
+        tick: u64,
+        sink: &mut T,
+        out: &mut K,
+    ) -> Result<(), Stop>
+        requires below { tick < 2 ^ 60 }
+        requires brings { Brings self.old.reader.intervals tick events }
+        requires heard_by { HeardBy tick self.old.wheel }
+        requires none_due { has_frame_due self.old.wheel tick ≡ false }
+        requires fits { FitsFrames self.old }
+        requires few { self.old.heard ≤ 2 * MAX_INTERVALS }
+        ensures reader { self.new.reader ≡ self.old.reader }
+        ensures heard { OnOk result (self.new.heard ≤ self.old.heard + 2) }
+        ensures limit { self.new.wheel.limit ≡ self.old.wheel.limit }
+        ensures fits { OnOk result (FitsFrames self.new) }
+        ensures heard_by { OnOk result (HeardBy tick self.new.wheel) }
+        ensures gives { OnOk result ((more : List Frame) × Counts self.old self.new more
+            × Sends T.made T.given sink.old sink.new (K.written out.old) (K.written out.new) more
+            × GivesAll self.old.wheel self.new.wheel tick (words_heard (event_list events)) more) }
+        ensures front { OnErr result ((more : List Frame) × SendsFront T.made T.given sink.old (K.written out.old) (K.written out.new) more
+            × GivesFirst self.old.wheel tick (words_heard (event_list events)) more) }
+        ensures why { IfErr result (λ stop. stop ≡ Stop.WriteFault) }
+        ensures cause { HasOutCause (K.faults out.old) (K.faults out.new) result }
+    {
+        frames_come_in_order();
+        self.hear(events.first, tick, sink, out)?;
+        self.hear(events.second, tick, sink, out)
+    }
+
+    /// Gives the frames that are due at the tick, mostly none.
+    #[inline(always)]
+    fn give_due<T: FrameSink, K: Sink>(
+        &mut self,
+        tick: u64,
+        sink: &mut T,
+        out: &mut K,
+    ) -> Result<(), Stop>
+        requires below { tick < 2 ^ 60 }
+        requires heard_by { HeardBy tick self.old.wheel }
+        requires fits { FitsFrames self.old }
+        requires few { self.old.heard ≤ 2 * MAX_INTERVALS }
+        ensures reader { self.new.reader ≡ self.old.reader }
+        ensures heard { self.new.heard ≡ self.old.heard }
+        ensures limit { self.new.wheel.limit ≡ self.old.wheel.limit }
+        ensures fits { OnOk result (FitsFrames self.new) }
+        ensures heard_by { OnOk result (HeardBy tick self.new.wheel) }
+        ensures none_due { OnOk result (has_frame_due self.new.wheel tick ≡ false) }
+        ensures gives { OnOk result ((more : List Frame) × Counts self.old self.new more
+            × Sends T.made T.given sink.old sink.new (K.written out.old) (K.written out.new) more × GivesDue self.old.wheel self.new.wheel tick more) }
+        ensures front { OnErr result ((more : List Frame) × SendsFront T.made T.given sink.old (K.written out.old) (K.written out.new) more
+            × GivesDueFirst self.old.wheel tick more) }
+        ensures why { IfErr result (λ stop. stop ≡ Stop.WriteFault) }
+        ensures cause { HasOutCause (K.faults out.old) (K.faults out.new) result }
+    {
+        if self.wheel.due(tick) {
+            self.pass(tick, sink, out)
+        } else {
+            Ok(())
+        }
+    }
+
+    /// Gives the frames that are due, and then those of the words of what an interval brought.
+    #[cold]
+    #[inline(never)]
+    fn hear_all<T: FrameSink, K: Sink>(
+        &mut self,
+        brought: Brought,
+        sink: &mut T,
+        out: &mut K,
+    ) -> Result<(), Stop>
+        requires taken { 1 ≤ self.old.reader.intervals }
+        requires may { MayTell self.old.reader brought }
+        requires below { self.old.reader.tick < 2 ^ 60 }
+        requires heard_by { HeardBy self.old.reader.tick self.old.wheel }
+        requires fits { FitsFrames self.old }
+        requires few { self.old.heard ≤ 2 * MAX_INTERVALS }
+        ensures reader { self.new.reader ≡ self.old.reader }
+        ensures heard { OnOk result (self.new.heard ≤ self.old.heard + 2) }
+        ensures limit { self.new.wheel.limit ≡ self.old.wheel.limit }
+        ensures fits { OnOk result (FitsFrames self.new) }
+        ensures heard_by { OnOk result (HeardBy self.old.reader.tick self.new.wheel) }
+        ensures gives { OnOk result ((own : Events) × (more : List Frame) × Tells self.old.reader brought own × Counts self.old self.new more
+            × Sends T.made T.given sink.old sink.new (K.written out.old) (K.written out.new) more
+            × GivesDueAll self.old.wheel self.new.wheel self.old.reader.tick (words_heard (event_list own)) more) }
+        ensures front { OnErr result ((own : Events) × (more : List Frame) × Tells self.old.reader brought own
+            × SendsFront T.made T.given sink.old (K.written out.old) (K.written out.new) more
+            × GivesDueAllFirst self.old.wheel self.old.reader.tick (words_heard (event_list own)) more) }
+        ensures why { IfErr result (λ stop. stop ≡ Stop.WriteFault) }
+        ensures cause { HasOutCause (K.faults out.old) (K.faults out.new) result }
+    {
+        frames_come_in_order();
+        let tick = self.reader.tick();
+        let events = self.reader.events(brought);
+        self.give_due(tick, sink, out)?;
+        self.hear_both(events, tick, sink, out)
+    }
+
+    /// The line that counts what was given.
+    pub(crate) fn end_text(&self) -> Text
+        requires { FitsFlight self.now self.now.reader.intervals }
+        ensures { result.items ≡ fly_end_line
+            self.now.reader.intervals self.now.heard self.now.invented self.now.gone self.now.reader.tick }
+    {
+        fly_end_text(
+            self.reader.intervals(),
+            self.heard,
+            self.invented,
+            self.gone,
+            self.reader.tick(),
+        )
+    }
+}
+
+/// What a command makes of the frames of a recording, along its intervals.
+#[derive(Drop)]
+pub(crate) struct FlightTo<T: FrameSink> {
+    flight: Flight,
+    sink: T,
+}
+
+impl<T: FrameSink> Behind for FlightTo<T> {
+    ghost use Rattle.std.specs.Prelude.{⊤};
+    ghost use Rattle.frame_commands.specs.KeptFlight.{FitsFlight, Stands, stands_well};
+    ghost use Rattle.frame_commands.specs.OfFrames.{along_frames};
+
+    type Choice = T::Choice;
+
+    ghost printing = { λ choice. along_frames (T.limit choice) (T.made choice) };
+
+    ghost fits = { λ s count. FitsFlight s.flight count };
+
+    ghost stands = { λ s choice header intervals written. Stands T.limit T.made T.given s.flight s.sink choice header intervals written };
+
+    ghost is_settled = { λ _. ⊤ };
+
+    ghost stands_well = { λ s choice header intervals written settled stands.
+        stands_well T.limit T.made T.given s.flight s.sink choice header intervals written stands };
+
+    fn begin<K: Sink>(
+        choice: T::Choice,
+        header: IntervalHeader,
+        out: &mut K,
+    ) -> Result<FlightTo<T>, Stop> {
+        a_reader_gives_the_events_of_its_list();
+        let flight = Flight::new(T::limit(choice), &header);
+        let sink = T::begin(choice, &header, out)?;
+        Ok(FlightTo { flight, sink })
+    }
+
+    #[inline(always)]
+    fn interval<K: Sink>(&mut self, x: u32, out: &mut K) -> Result<(), Stop> {
+        a_reader_gives_the_events_of_its_list();
+        frames_come_in_order();
+        match self.flight.reader.step(x) {
+            Brought::Nothing => {
+                let tick = self.flight.reader.tick();
+                self.flight.give_due(tick, &mut self.sink, out)
+            }
+            brought => self.flight.hear_all(brought, &mut self.sink, out),
+        }
+    }
+
+    fn flush<K: Sink>(&mut self, _out: &mut K) -> Result<(), Stop> {
+        Ok(())
+    }
+
+    /// Its frames pass the limit of their sink.
+    #[inline(always)]
+    fn is_spent(&self) -> bool {
+        a_list_has_one_list_of_events();
+        self.sink.is_spent()
+    }
+
+    fn finish<K: Sink>(&self, out: &mut K) -> Result<(), Stop> {
+        self.sink.finish(&self.flight, out)
+    }
+}

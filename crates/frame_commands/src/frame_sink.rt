@@ -1,0 +1,74 @@
+//! What a command makes of the frames of a recording. Next: `flight`, which gives it the frames.
+ghost use Rattle.std.specs.Prelude.{◌≡◌, ℕ, true, false, List, [], ◌∷◌, ◌++◌, OnOk, OnErr, IfOk, IfErr};
+ghost use Rattle.std.specs.Io.KnownBytes.{Appends};
+ghost use Rattle.flywheel.specs.declared.frame.Frame.{Frame};
+ghost use Rattle.tc_files.specs.declared.interval_file.header.IntervalHeader.{IntervalHeader};
+ghost use Rattle.tc_files.specs.FrameTexts.{FitsFrameLine};
+ghost use Rattle.tc_io.specs.Sink.{AppendsFront};
+ghost use Rattle.tc_command.specs.Causes.{HasOutCause};
+ghost use Rattle.frame_commands.specs.KeptFlight.{CountsAll, FitsFlight, Sends, SendsFront};
+ghost use Rattle.frame_commands.specs.OfFrames.{AreTooMany, FrameText};
+
+use crate::flight::Flight;
+use flywheel::Frame;
+use tc_command::Stop;
+use tc_files::IntervalHeader;
+use tc_io::Sink;
+
+/// What a command makes of the frames of a recording, one after another.
+pub(crate) trait FrameSink: Drop {
+    /// What the words choose for it.
+    type Choice: Copy;
+
+    /// How many frames are invented in a row, at most.
+    ghost limit: { Self.Choice → ℕ };
+
+    /// What it writes.
+    ghost made: { Self.Choice → FrameText };
+
+    /// It was begun with this choice and this header, and was given these frames.
+    ghost given: { Self → Self.Choice → IntervalHeader → List Frame → Type 0 };
+
+    /// How many frames are invented in a row, at most.
+    fn limit(choice: Self::Choice) -> u8
+        ensures { result ≡ limit choice };
+
+    /// Writes what stands first.
+    fn begin<K: Sink>(
+        choice: Self::Choice,
+        header: &IntervalHeader,
+        out: &mut K,
+    ) -> Result<Self, Stop>
+        ensures begins { IfOk result (λ sink. given sink choice header.now []
+            × Appends (K.written out.old) (K.written out.new) (FrameText.text (made choice) header.now [])) }
+        ensures front { IfErr result (λ stop. (stop ≡ Stop.WriteFault)
+            × AppendsFront (K.written out.old) (K.written out.new) (FrameText.text (made choice) header.now [])) }
+        ensures cause { HasOutCause (K.faults out.old) (K.faults out.new) result };
+
+    /// Writes what the next frame brings.
+    fn frame<K: Sink>(&mut self, frame: &Frame, out: &mut K) -> Result<(), Stop>
+        requires { FitsFrameLine frame.now }
+        ensures sends { OnOk result (Sends made given self.old self.new (K.written out.old) (K.written out.new) (frame.now ∷ [])) }
+        ensures front { OnErr result (SendsFront made given self.old (K.written out.old) (K.written out.new) (frame.now ∷ [])) }
+        ensures why { IfErr result (λ stop. stop ≡ Stop.WriteFault) }
+        ensures cause { HasOutCause (K.faults out.old) (K.faults out.new) result };
+
+    /// Whether the frames that it was given pass a limit of the command's own.
+    fn is_spent(&self) -> bool
+        ensures spent { result ≡ true → (choice : Self.Choice) (header : IntervalHeader) (frames : List Frame)
+            → given self.now choice header frames → AreTooMany (FrameText.most (made choice)) frames }
+        ensures going { result ≡ false → (choice : Self.Choice) (header : IntervalHeader) (frames : List Frame)
+            → given self.now choice header frames → ¬ AreTooMany (FrameText.most (made choice)) frames };
+
+    /// Writes what stands last. The flight has counted what was given.
+    fn finish<K: Sink>(&self, flight: &Flight, out: &mut K) -> Result<(), Stop>
+        requires { FitsFlight flight.now flight.now.reader.intervals }
+        ensures ends { OnOk result ((choice : Self.Choice) (header : IntervalHeader) (intervals : List ℕ) (frames : List Frame)
+            → given self.now choice header frames → CountsAll flight.now intervals frames
+            → Appends (K.written out.old) (K.written out.new) (FrameText.last (made choice) intervals frames)) }
+        ensures front { OnErr result ((choice : Self.Choice) (header : IntervalHeader) (intervals : List ℕ) (frames : List Frame)
+            → given self.now choice header frames → CountsAll flight.now intervals frames
+            → AppendsFront (K.written out.old) (K.written out.new) (FrameText.last (made choice) intervals frames)) }
+        ensures why { IfErr result (λ stop. stop ≡ Stop.WriteFault) }
+        ensures cause { HasOutCause (K.faults out.old) (K.faults out.new) result };
+}

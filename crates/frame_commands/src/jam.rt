@@ -1,0 +1,103 @@
+//! What `ltc-jam` makes of frames: a clean recording. Next: `ltc_jam/src/cells.rt`, and then
+//! `tc_command/src/pushing.rt`.
+ghost use Rattle.std.specs.Prelude.{◌≡◌, ◌≤◌, ◌+◌, ◌*◌, ◌++◌, length, OnOk, IfErr};
+ghost use Rattle.arrayvec.specs.ArrayVec.{array_vec_len};
+ghost use Rattle.made_commands.specs.Made.{interval_bytes};
+ghost use Rattle.tc_command.specs.Causes.{HasOutCause, HasSourceCause};
+ghost use Rattle.tc_command.specs.Ran.{CameToItsEnd, StoppedBefore};
+ghost use Rattle.interval_commands.specs.Along.{along_intervals};
+ghost use Rattle.frame_commands.specs.LtcJam.{clean_recording};
+
+use crate::flight::{Flight, FlightTo};
+use crate::frame_sink::FrameSink;
+use flywheel::Frame;
+use interval_commands::work_along;
+use ltc_jam::laws::a_clean_recording_is_written_frame_by_frame;
+use ltc_jam::{frame_cells, lead};
+use made_commands::{push_all, push_interval};
+use tc_command::{PIECE, Piece, Stop, push_piece};
+use tc_files::{FileVersion, IntervalHeader, interval_header};
+use tc_io::{Sink, Source};
+use tc_words::Jam;
+
+/// Works `ltc-jam`: a clean recording of the frames of a recording.
+pub fn jam_sync<S: Source, K: Sink>(jam: Jam, source: &mut S, out: &mut K) -> Result<(), Stop>
+    ensures ends { OnOk result (CameToItsEnd (along_intervals (clean_recording jam)) (S.left source.old) (S.left source.new)
+        (K.written out.old) (K.written out.new)) }
+    ensures stops { IfErr result (λ stop. StoppedBefore (along_intervals (clean_recording jam)) stop (S.left source.old) (S.left source.new)
+        (K.written out.old) (K.written out.new)) }
+    ensures source { HasSourceCause (S.faults source.old) (S.faults source.new) result }
+    ensures out { HasOutCause (K.faults out.old) (K.faults out.new) result }
+{
+    work_along::<FlightTo<CleanRecording>, S, K>(jam, source, out)
+}
+
+/// A clean recording of frames, in the cells that it was told.
+#[derive(Drop)]
+pub(crate) struct CleanRecording {
+    jam: Jam,
+}
+
+impl FrameSink for CleanRecording {
+    ghost use Rattle.std.specs.Prelude.{◌≡◌};
+    ghost use Rattle.frame_commands.specs.LtcJam.{file_of_frames};
+
+    type Choice = Jam;
+
+    ghost limit = { λ jam. jam.limit };
+
+    ghost made = { λ jam. file_of_frames jam };
+
+    ghost given = { λ s jam header frames. s.jam ≡ jam };
+
+    fn limit(jam: Jam) -> u8 {
+        jam.limit()
+    }
+
+    /// The header, and the cells by which a reader locks.
+    fn begin<K: Sink>(
+        jam: Jam,
+        header: &IntervalHeader,
+        out: &mut K,
+    ) -> Result<CleanRecording, Stop> {
+        a_clean_recording_is_written_frame_by_frame();
+        let header = interval_header(&IntervalHeader {
+            version: FileVersion::One,
+            system: header.system,
+            tick_rate: jam.tick_rate(),
+        });
+        let mut room = Piece::new();
+        push_all(&mut room, &header);
+        push_intervals(&mut room, &lead(jam.cell()));
+        push_piece(out, &room)?;
+        Ok(CleanRecording { jam })
+    }
+
+    /// The cells of a frame go out in one push. The end of invention has none.
+    fn frame<K: Sink>(&mut self, frame: &Frame, out: &mut K) -> Result<(), Stop> {
+        a_clean_recording_is_written_frame_by_frame();
+        let mut room = Piece::new();
+        push_intervals(&mut room, &frame_cells(self.jam.cell(), frame));
+        push_piece(out, &room)
+    }
+
+    /// It has no limit of its own.
+    #[inline(always)]
+    fn is_spent(&self) -> bool {
+        false
+    }
+
+    fn finish<K: Sink>(&self, _flight: &Flight, _out: &mut K) -> Result<(), Stop> {
+        Ok(())
+    }
+}
+
+/// Intervals for which there is room.
+fn push_intervals(room: &mut Piece, intervals: &[u32])
+    requires { array_vec_len room.old + 4 * length intervals.now ≤ PIECE }
+    ensures { room.new.items ≡ room.old.items ++ interval_bytes intervals.now }
+{
+    'intervals: for interval in intervals {
+        push_interval(room, *interval);
+    }
+}

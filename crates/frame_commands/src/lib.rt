@@ -1,0 +1,27 @@
+//! The commands that follow the frames of a recording: the words that are heard in it, and those that a
+//! flywheel invents between them. `ltc-fly` prints them, `ltc-mtc` sends them as MIDI Time Code, `ltc-jam`
+//! records them anew, and `ltc-chase` has a transport follow them.
+//!
+//! What this crate promises, for all sources and sinks:
+//! - Each command writes what its `FrameText` makes of the frames of the file's intervals, with at most so
+//!   many invented ones in a row (`specs/OfFrames.antt`, over `interval_commands`).
+//! - The lines of `ltc-fly` mark each frame that is invented (`specs/LtcFly.antt`); what `ltc-jam` writes is a
+//!   clean recording, from which each frame is read, and nothing else (`specs/LtcJam.antt`); in the trace of
+//!   `ltc-chase` each loss has its cause (`specs/LtcChase.antt`).
+//! - What they make of frames comes first, whatever frames follow (`laws`).
+//!
+//! Read `frame_sink`, `flight`, and then `ltc_fly`, `ltc_mtc`, `jam` and `ltc_chase`.
+#![tactic(auto)]
+
+mod flight;
+mod frame_sink;
+mod jam;
+pub mod laws;
+mod ltc_chase;
+mod ltc_fly;
+mod ltc_mtc;
+
+pub use jam::jam_sync;
+pub use ltc_chase::{MAX_FRAMES, chase_code};
+pub use ltc_fly::fly_along;
+pub use ltc_mtc::send_time_code;

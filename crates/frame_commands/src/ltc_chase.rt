@@ -1,0 +1,134 @@
+//! What `ltc-chase` makes of frames: the steps of a chase that follows them. Next:
+//! `code_chase/src/code_loop.rt`, and then `chase_script/src/texts.rt` for the lines.
+ghost use Rattle.std.specs.Prelude.{◌≡◌, ◌<◌, ◌+◌, OnOk, IfErr};
+ghost use Rattle.chase_script.specs.TraceText.{step_line};
+ghost use Rattle.code_chase.specs.CodeTrace.{next_line};
+ghost use Rattle.frame_commands.specs.KeptSteps.{stepped};
+ghost use Rattle.tc_command.specs.Causes.{HasOutCause, HasSourceCause};
+ghost use Rattle.tc_command.specs.Ran.{CameToItsEnd, StoppedBefore};
+ghost use Rattle.interval_commands.specs.Along.{along_intervals};
+ghost use Rattle.frame_commands.specs.LtcChase.{chased_recording};
+
+use crate::flight::{Flight, FlightTo};
+use crate::frame_sink::FrameSink;
+use chase_script::{step_end_text, step_text};
+use code_chase::CodeChase;
+use code_chase::laws::a_frame_adds_a_line;
+use flywheel::Frame;
+use interval_commands::work_along;
+use line_text::Text;
+use std::marker::Model;
+use tc_address::Count;
+use tc_command::{Stop, push_line};
+use tc_files::IntervalHeader;
+use tc_io::{Sink, Source};
+use tc_words::ChaseRun;
+
+/// How many frames one run follows at most. A further one ends it.
+pub const MAX_FRAMES: u64 = 100_000_000;
+
+/// Works `ltc-chase`: the steps of a chase over the frames of a recording.
+pub fn chase_code<S: Source, K: Sink>(
+    run: ChaseRun,
+    source: &mut S,
+    out: &mut K,
+) -> Result<(), Stop>
+    ensures ends { OnOk result (CameToItsEnd (along_intervals (chased_recording run)) (S.left source.old) (S.left source.new)
+        (K.written out.old) (K.written out.new)) }
+    ensures stops { IfErr result (λ stop. StoppedBefore (along_intervals (chased_recording run)) stop (S.left source.old) (S.left source.new)
+        (K.written out.old) (K.written out.new)) }
+    ensures source { HasSourceCause (S.faults source.old) (S.faults source.new) result }
+    ensures out { HasOutCause (K.faults out.old) (K.faults out.new) result }
+{
+    work_along::<FlightTo<StepLines>, S, K>(run, source, out)
+}
+
+/// The lines of the steps of a chase.
+#[derive(Drop)]
+pub(crate) struct StepLines {
+    chase: CodeChase,
+    count: Count,
+    steps: u64,
+    losses: u64,
+    is_spent: bool,
+}
+
+impl Model for StepLines {
+    ghost use Rattle.frame_commands.specs.KeptSteps.{IsStepping, Stepping};
+
+    ghost Value = { Stepping };
+
+    ghost view = { λ s. record { chase = s.chase; count = s.count; steps = s.steps; losses = s.losses; is_spent = s.is_spent } };
+
+    ghost invariant = { λ s. IsStepping (record { chase = s.chase; count = s.count; steps = s.steps; losses = s.losses; is_spent = s.is_spent }) };
+}
+
+impl StepLines {
+    /// Makes the step of a frame, and its line.
+    fn step(&mut self, frame: &Frame) -> Text
+        requires { self.old.steps < MAX_FRAMES }
+        ensures line { result.items ≡ step_line self.old.count (self.old.steps + 1) (next_line self.old.chase frame.now) }
+        ensures next { self.new ≡ stepped self.old frame.now }
+    {
+        let report = self.chase.frame(frame);
+        self.steps += 1;
+        if report.loss.is_some() {
+            self.losses += 1;
+        }
+        step_text(self.steps, &report, self.count, self.chase.position())
+    }
+}
+
+impl FrameSink for StepLines {
+    ghost use Rattle.frame_commands.specs.declared.ltc_chase.TheConstants.{MAX_FRAMES};
+    ghost use Rattle.frame_commands.specs.KeptSteps.{HasFollowed};
+    ghost use Rattle.frame_commands.specs.LtcChase.{lines_of_steps};
+
+    type Choice = ChaseRun;
+
+    ghost limit = { λ run. run.limit };
+
+    ghost made = { λ run. lines_of_steps run };
+
+    ghost given = { λ s run header frames. HasFollowed MAX_FRAMES run s frames };
+
+    fn limit(run: ChaseRun) -> u8 {
+        run.limit()
+    }
+
+    fn begin<K: Sink>(
+        run: ChaseRun,
+        _header: &IntervalHeader,
+        _out: &mut K,
+    ) -> Result<StepLines, Stop> {
+        a_frame_adds_a_line();
+        let label = run.label();
+        Ok(StepLines {
+            chase: CodeChase::new(&label, run.seed(), run.bound()),
+            count: label.count(),
+            steps: 0,
+            losses: 0,
+            is_spent: false,
+        })
+    }
+
+    /// The line of a step goes out at once. A frame past the limit is not followed.
+    fn frame<K: Sink>(&mut self, frame: &Frame, out: &mut K) -> Result<(), Stop> {
+        a_frame_adds_a_line();
+        if self.steps == MAX_FRAMES {
+            self.is_spent = true;
+            return Ok(());
+        }
+        let line = self.step(frame);
+        push_line(out, &line)
+    }
+
+    fn is_spent(&self) -> bool {
+        self.is_spent
+    }
+
+    fn finish<K: Sink>(&self, _flight: &Flight, out: &mut K) -> Result<(), Stop> {
+        a_frame_adds_a_line();
+        push_line(out, &step_end_text(self.steps, self.losses))
+    }
+}

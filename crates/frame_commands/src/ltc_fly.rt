@@ -1,0 +1,68 @@
+//! What `ltc-fly` makes of frames: a line of each. Next: `tc_files/src/texts/frame.rt`.
+ghost use Rattle.std.specs.Prelude.{OnOk, IfErr};
+ghost use Rattle.tc_command.specs.Causes.{HasOutCause, HasSourceCause};
+ghost use Rattle.tc_command.specs.Ran.{CameToItsEnd, StoppedBefore};
+ghost use Rattle.interval_commands.specs.Along.{along_intervals};
+ghost use Rattle.frame_commands.specs.LtcFly.{flight};
+
+use crate::flight::{Flight, FlightTo};
+use crate::frame_sink::FrameSink;
+use flywheel::Frame;
+use interval_commands::work_along;
+use tc_command::{Stop, push_line};
+use tc_files::{IntervalHeader, frame_text};
+use tc_io::{Sink, Source};
+
+/// Works `ltc-fly`: a line for each frame of a recording, with at most so many invented ones in a row.
+pub fn fly_along<S: Source, K: Sink>(limit: u8, source: &mut S, out: &mut K) -> Result<(), Stop>
+    ensures ends { OnOk result (CameToItsEnd (along_intervals (flight limit)) (S.left source.old) (S.left source.new)
+        (K.written out.old) (K.written out.new)) }
+    ensures stops { IfErr result (λ stop. StoppedBefore (along_intervals (flight limit)) stop (S.left source.old) (S.left source.new)
+        (K.written out.old) (K.written out.new)) }
+    ensures source { HasSourceCause (S.faults source.old) (S.faults source.new) result }
+    ensures out { HasOutCause (K.faults out.old) (K.faults out.new) result }
+{
+    work_along::<FlightTo<FrameLines>, S, K>(limit, source, out)
+}
+
+/// The lines of frames. The choice is how many are invented in a row, at most.
+#[derive(Drop)]
+pub(crate) struct FrameLines;
+
+impl FrameSink for FrameLines {
+    ghost use Rattle.frame_commands.specs.LtcFly.{lines_of_frames};
+
+    type Choice = u8;
+
+    ghost limit = { λ choice. choice };
+
+    ghost made = { λ choice. lines_of_frames };
+
+    ghost given = { λ s choice header frames. Unit {0} };
+
+    fn limit(choice: u8) -> u8 {
+        choice
+    }
+
+    fn begin<K: Sink>(
+        _choice: u8,
+        _header: &IntervalHeader,
+        _out: &mut K,
+    ) -> Result<FrameLines, Stop> {
+        Ok(FrameLines)
+    }
+
+    fn frame<K: Sink>(&mut self, frame: &Frame, out: &mut K) -> Result<(), Stop> {
+        push_line(out, &frame_text(frame))
+    }
+
+    /// It has no limit of its own.
+    #[inline(always)]
+    fn is_spent(&self) -> bool {
+        false
+    }
+
+    fn finish<K: Sink>(&self, flight: &Flight, out: &mut K) -> Result<(), Stop> {
+        push_line(out, &flight.end_text())
+    }
+}

@@ -1,0 +1,81 @@
+//! What `ltc-mtc` makes of frames: MIDI Time Code. Next: `quarter_frame/src/writer.rt`.
+ghost use Rattle.std.specs.Prelude.{OnOk, IfErr};
+ghost use Rattle.tc_command.specs.Causes.{HasOutCause, HasSourceCause};
+ghost use Rattle.tc_command.specs.Ran.{CameToItsEnd, StoppedBefore};
+ghost use Rattle.interval_commands.specs.Along.{along_intervals};
+ghost use Rattle.frame_commands.specs.LtcMtc.{time_code};
+
+use crate::flight::{Flight, FlightTo};
+use crate::frame_sink::FrameSink;
+use flywheel::Frame;
+use interval_commands::work_along;
+use quarter_frame::QuarterWriter;
+use tc_command::{Stop, push_piece};
+use tc_files::IntervalHeader;
+use tc_io::{Sink, Source};
+
+/// Works `ltc-mtc`: the frames of a recording as MIDI Time Code.
+pub fn send_time_code<S: Source, K: Sink>(
+    limit: u8,
+    source: &mut S,
+    out: &mut K,
+) -> Result<(), Stop>
+    ensures ends { OnOk result (CameToItsEnd (along_intervals (time_code limit)) (S.left source.old) (S.left source.new)
+        (K.written out.old) (K.written out.new)) }
+    ensures stops { IfErr result (λ stop. StoppedBefore (along_intervals (time_code limit)) stop (S.left source.old) (S.left source.new)
+        (K.written out.old) (K.written out.new)) }
+    ensures source { HasSourceCause (S.faults source.old) (S.faults source.new) result }
+    ensures out { HasOutCause (K.faults out.old) (K.faults out.new) result }
+{
+    work_along::<FlightTo<FrameMessages>, S, K>(limit, source, out)
+}
+
+/// The messages of frames. The choice is how many frames are invented in a row, at most.
+#[derive(Drop)]
+pub(crate) struct FrameMessages {
+    writer: QuarterWriter,
+}
+
+impl FrameSink for FrameMessages {
+    ghost use Rattle.quarter_frame.specs.StandsFor.{StandsFor};
+    ghost use Rattle.frame_commands.specs.LtcMtc.{messages_of_frames};
+
+    type Choice = u8;
+
+    ghost limit = { λ choice. choice };
+
+    ghost made = { λ choice. messages_of_frames };
+
+    ghost given = { λ s choice header frames. StandsFor s.writer frames };
+
+    fn limit(choice: u8) -> u8 {
+        choice
+    }
+
+    fn begin<K: Sink>(
+        _choice: u8,
+        _header: &IntervalHeader,
+        _out: &mut K,
+    ) -> Result<FrameMessages, Stop> {
+        Ok(FrameMessages {
+            writer: QuarterWriter::new(),
+        })
+    }
+
+    /// The messages of a frame go out in one push. The end of invention has none.
+    fn frame<K: Sink>(&mut self, frame: &Frame, out: &mut K) -> Result<(), Stop> {
+        let mut room = [0; 18];
+        let count = self.writer.frame(frame, &mut room);
+        push_piece(out, &room[..count])
+    }
+
+    /// It has no limit of its own.
+    #[inline(always)]
+    fn is_spent(&self) -> bool {
+        false
+    }
+
+    fn finish<K: Sink>(&self, _flight: &Flight, _out: &mut K) -> Result<(), Stop> {
+        Ok(())
+    }
+}

@@ -1,0 +1,5 @@
+use Rattle.interval_commands.proofs.VerdictStays as stays
+use Rattle.interval_commands.proofs.laws.recordings_grow.Goals as goal
+
+pub returns : goal.returns
+returns c = stays.recordings_grow

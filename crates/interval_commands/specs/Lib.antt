@@ -1,0 +1,9 @@
+pub mod Along
+pub mod KeptAlong
+pub mod KeptCommand
+pub mod KeptConversion
+pub mod KeptReport
+pub mod KeptSound
+pub mod LtcConvert
+pub mod LtcPcm
+pub mod LtcRead

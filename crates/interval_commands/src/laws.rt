@@ -1,0 +1,49 @@
+//! What follows from the definitions alone.
+ghost use Rattle.std.specs.Prelude.{◌≡◌, List, ℕ, Some};
+ghost use Rattle.biphase.specs.declared.profile.Profile.{Profile};
+ghost use Rattle.tc_files.specs.declared.interval_file.header.FileVersion.{FileVersion};
+ghost use Rattle.tc_files.specs.declared.interval_file.header.IntervalHeader.{IntervalHeader};
+ghost use Rattle.tc_files.specs.Grammar.{AreBytes, IsFile};
+ghost use Rattle.tc_files.specs.Recording.{recording_of};
+ghost use Rattle.tc_command.specs.Meaning.{Meaning, IsInput};
+ghost use Rattle.interval_commands.specs.Along.{along_intervals};
+ghost use Rattle.interval_commands.specs.KeptCommand.{PrintsInOrder, RecordingsGrow};
+ghost use Rattle.interval_commands.specs.LtcConvert.{conversion, in_version};
+ghost use Rattle.interval_commands.specs.LtcPcm.{made_sound};
+ghost use Rattle.interval_commands.specs.LtcRead.{report};
+
+use direction_reader::laws::{a_list_has_one_list_of_events, events_of_a_front_come_first};
+use tc_files::laws::{a_file_is_read_as_it_was_written, bytes_are_read_as_the_text_says};
+
+/// What bytes say of a recording grows with more bytes, and stays as it is behind a fault and behind the
+/// limit.
+pub fn recordings_grow()
+    ensures { RecordingsGrow }
+{}
+
+/// What each command prints behind some intervals comes first, whatever intervals follow, and is one.
+pub fn what_is_printed_is_in_order()
+    ensures report { (profile : Profile) → PrintsInOrder (report profile) }
+    ensures conversion { (version : FileVersion) → PrintsInOrder (conversion version) }
+    ensures sound { (size : ℕ) → PrintsInOrder (made_sound size) }
+{
+    a_list_has_one_list_of_events();
+    events_of_a_front_come_first();
+}
+
+/// Each input that `ltc-convert` takes whole is a file, and it writes the file of the asked version with
+/// the system, the tick rate and the intervals of it. So a file comes out in its own version as it was.
+pub fn converting_keeps_the_recording()
+    ensures output { (version : FileVersion) (bytes written : List ℕ) → AreBytes bytes
+        → IsInput (along_intervals (conversion version)) bytes
+        → Meaning.output (along_intervals (conversion version)) bytes written
+        → (header : IntervalHeader) × (intervals : List ℕ)
+        × IsFile bytes header intervals × IsFile written (in_version version header) intervals }
+    ensures same { (bytes written : List ℕ) (header : IntervalHeader) → AreBytes bytes
+        → IsInput (along_intervals (conversion header.version)) bytes
+        → Meaning.output (along_intervals (conversion header.version)) bytes written
+        → (recording_of bytes).header ≡ Some header → written ≡ bytes }
+{
+    a_file_is_read_as_it_was_written();
+    bytes_are_read_as_the_text_says();
+}

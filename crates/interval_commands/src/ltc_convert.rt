@@ -1,0 +1,90 @@
+//! The engine of `ltc-convert`: each interval is spelled in the asked version. Next:
+//! `tc_files/src/interval_file/piece.rt`, and then `tc_command/src/gathered.rt`.
+ghost use Rattle.std.specs.Prelude.{OnOk, IfErr};
+ghost use Rattle.tc_command.specs.Causes.{HasOutCause, HasSourceCause};
+ghost use Rattle.tc_command.specs.Ran.{CameToItsEnd, StoppedBefore};
+ghost use Rattle.interval_commands.specs.Along.{along_intervals};
+ghost use Rattle.interval_commands.specs.LtcConvert.{conversion};
+
+use crate::along::{Behind, work_along};
+use tc_command::{Gathered, Stop};
+use tc_files::{FileVersion, IntervalHeader, interval_bytes, interval_header};
+use tc_io::{Sink, Source};
+
+/// Works `ltc-convert`: the same recording in a version of the file.
+pub fn convert_recording<S: Source, K: Sink>(
+    version: FileVersion,
+    source: &mut S,
+    out: &mut K,
+) -> Result<(), Stop>
+    ensures ends { OnOk result (CameToItsEnd (along_intervals (conversion version)) (S.left source.old) (S.left source.new)
+        (K.written out.old) (K.written out.new)) }
+    ensures stops { IfErr result (λ stop. StoppedBefore (along_intervals (conversion version)) stop (S.left source.old) (S.left source.new)
+        (K.written out.old) (K.written out.new)) }
+    ensures source { HasSourceCause (S.faults source.old) (S.faults source.new) result }
+    ensures out { HasOutCause (K.faults out.old) (K.faults out.new) result }
+{
+    work_along::<Conversion, S, K>(version, source, out)
+}
+
+/// A recording on its way into a version.
+#[derive(Drop)]
+struct Conversion {
+    version: FileVersion,
+    gathered: Gathered,
+}
+
+impl Behind for Conversion {
+    ghost use Rattle.std.specs.Prelude.{⊤, ◌≡◌, []};
+    ghost use Rattle.interval_commands.specs.LtcConvert.{conversion};
+    ghost use Rattle.interval_commands.specs.KeptConversion.{Stands, stands_well};
+
+    type Choice = FileVersion;
+
+    ghost printing = { λ version. conversion version };
+
+    ghost fits = { λ _ _. ⊤ };
+
+    ghost stands = { λ c version header intervals written. Stands c version header intervals written };
+
+    ghost is_settled = { λ c. c.gathered.room.items ≡ [] };
+
+    ghost stands_well = { λ c version header intervals written settled stands. stands_well c version header intervals written settled stands };
+
+    fn begin<K: Sink>(
+        version: FileVersion,
+        header: IntervalHeader,
+        _out: &mut K,
+    ) -> Result<Conversion, Stop> {
+        let bytes = interval_header(&IntervalHeader {
+            version,
+            system: header.system,
+            tick_rate: header.tick_rate,
+        });
+        Ok(Conversion {
+            version,
+            gathered: Gathered::holding(&bytes),
+        })
+    }
+
+    #[inline(always)]
+    fn interval<K: Sink>(&mut self, x: u32, out: &mut K) -> Result<(), Stop> {
+        let mut bytes = [0; 6];
+        let count = interval_bytes(self.version, x, &mut bytes);
+        self.gathered.put(&bytes[..count], out)
+    }
+
+    fn flush<K: Sink>(&mut self, out: &mut K) -> Result<(), Stop> {
+        self.gathered.push(out)
+    }
+
+    /// It has no limit of its own.
+    #[inline(always)]
+    fn is_spent(&self) -> bool {
+        false
+    }
+
+    fn finish<K: Sink>(&self, _out: &mut K) -> Result<(), Stop> {
+        Ok(())
+    }
+}

@@ -1,0 +1,178 @@
+//! The engine of `ltc-pcm`: sound made of the intervals of a recording. Next:
+//! `tc_command/src/gathered.rt`.
+ghost use Rattle.std.specs.Prelude.{◌≡◌, ◌≤◌, ◌*◌, ◌++◌, ℕ, ℤ, pos, List, length, replicate, OnOk, OnErr, IfErr};
+ghost use Rattle.std.specs.Io.KnownBytes.{Appends};
+ghost use Rattle.biphase.specs.declared.cell.TheConstants.{MAX_INTERVAL};
+ghost use Rattle.pcm_front.specs.Samples.{bytes_of, sample_bytes};
+ghost use Rattle.pcm_front.specs.Side.{upward};
+ghost use Rattle.tc_io.specs.Sink.{AppendsFront};
+ghost use Rattle.tc_command.specs.Causes.{HasOutCause, HasSourceCause};
+ghost use Rattle.tc_command.specs.Ran.{CameToItsEnd, StoppedBefore};
+ghost use Rattle.interval_commands.specs.Along.{along_intervals};
+ghost use Rattle.interval_commands.specs.LtcPcm.{made_sound};
+
+use crate::along::{Behind, work_along};
+use arrayvec::ArrayVec;
+use biphase::MAX_INTERVAL;
+use byteorder::{ByteOrder, LittleEndian};
+use pcm_front::Side;
+use tc_command::{Gathered, Stop, push_piece};
+use tc_files::IntervalHeader;
+use tc_io::{Sink, Source};
+use tc_words::Amplitude;
+
+/// Works `ltc-pcm`: the sound of a recording, in samples of one size.
+pub fn sound_recording<S: Source, K: Sink>(
+    amplitude: Amplitude,
+    source: &mut S,
+    out: &mut K,
+) -> Result<(), Stop>
+    ensures ends { OnOk result (CameToItsEnd (along_intervals (made_sound amplitude)) (S.left source.old) (S.left source.new)
+        (K.written out.old) (K.written out.new)) }
+    ensures stops { IfErr result (λ stop. StoppedBefore (along_intervals (made_sound amplitude)) stop (S.left source.old) (S.left source.new)
+        (K.written out.old) (K.written out.new)) }
+    ensures source { HasSourceCause (S.faults source.old) (S.faults source.new) result }
+    ensures out { HasOutCause (K.faults out.old) (K.faults out.new) result }
+{
+    work_along::<MadeSound, S, K>(amplitude, source, out)
+}
+
+/// So many equal samples are put at once, at most.
+const RUN: usize = 512;
+
+/// Their bytes.
+type Run = ArrayVec<u8, 1024>;
+
+/// A sound that is made as its intervals come.
+#[derive(Drop)]
+struct MadeSound {
+    above: Run,
+    below: Run,
+    /// The side of the next interval.
+    side: Side,
+    gathered: Gathered,
+}
+
+/// A sample of this size on a side.
+fn sample_on(side: Side, amplitude: Amplitude) -> i16
+    ensures { result ≡ upward side (pos amplitude) }
+{
+    let size = amplitude.size() as i16;
+    match side {
+        Side::High => size,
+        Side::Low => -size,
+    }
+}
+
+/// The bytes of a sample.
+fn sample_bytes(sample: i16) -> [u8; 2]
+    ensures { result ≡ sample_bytes sample }
+{
+    let mut bytes = [0; 2];
+    LittleEndian::write_i16(&mut bytes, sample);
+    bytes
+}
+
+/// The bytes of so many equal samples.
+fn run_of(sample: i16) -> Run
+    ensures { result.items ≡ bytes_of (replicate 512 sample) }
+{
+    let bytes = sample_bytes(sample);
+    let mut run = Run::new();
+    'samples: for _done in 0..RUN {
+        if run.try_extend_from_slice(&bytes).is_err() {
+            unreachable!();
+        }
+    }
+    run
+}
+
+/// Puts so many samples, of which the run has as many as are put at once.
+#[inline(always)]
+fn put_run<K: Sink>(
+    run: &Run,
+    samples: u32,
+    gathered: &mut Gathered,
+    out: &mut K,
+) -> Result<(), Stop>
+    requires run { length run.now.items ≡ 1024 }
+    ensures all { OnOk result ((sample : ℤ) → run.now.items ≡ bytes_of (replicate 512 sample)
+        → (more : List ℕ) × Appends (K.written out.old) (K.written out.new) more
+        × (gathered.old.room.items ++ bytes_of (replicate samples sample) ≡ more ++ gathered.new.room.items)) }
+    ensures front { OnErr result ((sample : ℤ) → run.now.items ≡ bytes_of (replicate 512 sample)
+        → AppendsFront (K.written out.old) (K.written out.new) (gathered.old.room.items ++ bytes_of (replicate samples sample))) }
+    ensures why { IfErr result (λ stop. stop ≡ Stop.WriteFault) }
+    ensures cause { HasOutCause (K.faults out.old) (K.faults out.new) result }
+{
+    let mut rest = samples as usize;
+    'runs: while RUN < rest {
+        gathered.put(run.as_slice(), out)?;
+        rest -= RUN;
+    }
+    gathered.put(&run.as_slice()[..2 * rest], out)
+}
+
+impl Behind for MadeSound {
+    ghost use Rattle.std.specs.Prelude.{⊤, ◌≡◌, []};
+    ghost use Rattle.interval_commands.specs.LtcPcm.{made_sound};
+    ghost use Rattle.interval_commands.specs.KeptSound.{HasRuns, Stands, stands_well};
+
+    type Choice = Amplitude;
+
+    ghost printing = { λ amplitude. made_sound amplitude };
+
+    ghost fits = { λ s _. HasRuns s };
+
+    ghost stands = { λ s amplitude header intervals written. Stands s amplitude intervals written };
+
+    ghost is_settled = { λ s. s.gathered.room.items ≡ [] };
+
+    ghost stands_well = { λ s amplitude header intervals written settled stands. stands_well s amplitude header intervals written settled stands };
+
+    fn begin<K: Sink>(
+        amplitude: Amplitude,
+        _header: IntervalHeader,
+        _out: &mut K,
+    ) -> Result<MadeSound, Stop> {
+        let above = sample_on(Side::High, amplitude);
+        let below = sample_on(Side::Low, amplitude);
+        Ok(MadeSound {
+            above: run_of(above),
+            below: run_of(below),
+            side: Side::High,
+            gathered: Gathered::holding(&sample_bytes(below)),
+        })
+    }
+
+    #[inline(always)]
+    fn interval<K: Sink>(&mut self, x: u32, out: &mut K) -> Result<(), Stop> {
+        match self.side {
+            Side::High => {
+                put_run(&self.above, x, &mut self.gathered, out)?;
+                self.side = Side::Low;
+            }
+            Side::Low => {
+                put_run(&self.below, x, &mut self.gathered, out)?;
+                self.side = Side::High;
+            }
+        }
+        Ok(())
+    }
+
+    fn flush<K: Sink>(&mut self, out: &mut K) -> Result<(), Stop> {
+        self.gathered.push(out)
+    }
+
+    /// It has no limit of its own.
+    #[inline(always)]
+    fn is_spent(&self) -> bool {
+        false
+    }
+
+    fn finish<K: Sink>(&self, out: &mut K) -> Result<(), Stop> {
+        match self.side {
+            Side::High => push_piece(out, &self.above.as_slice()[..2]),
+            Side::Low => push_piece(out, &self.below.as_slice()[..2]),
+        }
+    }
+}

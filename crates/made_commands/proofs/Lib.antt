@@ -1,0 +1,9 @@
+mod CountedLabels
+mod Digits
+mod LoadInPieces
+mod LoadIsRead
+mod MadeInPieces
+mod MadeIsRead
+mod MadeIsShort
+mod MadeLinesAreRead
+mod MadeLinesInPieces

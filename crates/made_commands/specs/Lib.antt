@@ -1,0 +1,9 @@
+pub mod KeptIntervals
+pub mod KeptLine
+pub mod KeptLines
+pub mod KeptLoad
+pub mod KeptTape
+pub mod Labels
+pub mod Load
+pub mod Made
+pub mod MadeLines

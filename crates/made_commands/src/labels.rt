@@ -1,0 +1,120 @@
+//! The commands that write one line: those that turn labels into numbers and back, and the load run.
+//! Next: `tc_command/src/making.rt`.
+ghost use Rattle.std.specs.Prelude.{◌≡◌, OnOk, IfErr};
+ghost use Rattle.tc_address.specs.Numbering.{number_of};
+ghost use Rattle.made_commands.specs.KeptLine.{rest_of};
+ghost use Rattle.made_commands.specs.Labels.{number_line, label_line};
+ghost use Rattle.made_commands.specs.Load.{load_text};
+ghost use Rattle.tc_command.specs.Causes.{HasOutCause};
+ghost use Rattle.tc_command.specs.Meaning.{writes};
+ghost use Rattle.tc_command.specs.Ran.{CameToItsEnd, StoppedBefore};
+
+use crate::ltc_load::load_text;
+use line_text::{Text, push_bytes, push_number};
+use tc_address::{Label, number, text};
+use tc_command::{Maker, Piece, Stop, make};
+use tc_io::{Sink, Source};
+use tc_words::LoadRun;
+
+/// Works `ltc-load`: what was read of a recording that was made by chance.
+pub fn tell_load<S: Source, K: Sink>(run: &LoadRun, source: &mut S, out: &mut K) -> Result<(), Stop>
+    ensures ends { OnOk result (CameToItsEnd (writes (load_text run.now)) (S.left source.old) (S.left source.new)
+        (K.written out.old) (K.written out.new)) }
+    ensures stops { IfErr result (λ stop. StoppedBefore (writes (load_text run.now)) stop (S.left source.old) (S.left source.new)
+        (K.written out.old) (K.written out.new)) }
+    ensures idle { source.new ≡ source.old }
+    ensures why { IfErr result (λ stop. stop ≡ Stop.WriteFault) }
+    ensures out { HasOutCause (K.faults out.old) (K.faults out.new) result }
+{
+    make(&mut OneLine::load(run), source, out)
+}
+
+/// Works `label`: the label with a number.
+pub fn tell_label<S: Source, K: Sink>(
+    label: &Label,
+    source: &mut S,
+    out: &mut K,
+) -> Result<(), Stop>
+    ensures ends { OnOk result (CameToItsEnd (writes (label_line label.now)) (S.left source.old) (S.left source.new)
+        (K.written out.old) (K.written out.new)) }
+    ensures stops { IfErr result (λ stop. StoppedBefore (writes (label_line label.now)) stop (S.left source.old) (S.left source.new)
+        (K.written out.old) (K.written out.new)) }
+    ensures idle { source.new ≡ source.old }
+    ensures why { IfErr result (λ stop. stop ≡ Stop.WriteFault) }
+    ensures out { HasOutCause (K.faults out.old) (K.faults out.new) result }
+{
+    make(&mut OneLine::label(label), source, out)
+}
+
+/// Works `number`: how many labels of its count stand before a label in the day.
+pub fn tell_number<S: Source, K: Sink>(
+    label: &Label,
+    source: &mut S,
+    out: &mut K,
+) -> Result<(), Stop>
+    ensures ends { OnOk result (CameToItsEnd (writes (number_line (number_of label.now))) (S.left source.old) (S.left source.new)
+        (K.written out.old) (K.written out.new)) }
+    ensures stops { IfErr result (λ stop. StoppedBefore (writes (number_line (number_of label.now))) stop (S.left source.old) (S.left source.new)
+        (K.written out.old) (K.written out.new)) }
+    ensures idle { source.new ≡ source.old }
+    ensures why { IfErr result (λ stop. stop ≡ Stop.WriteFault) }
+    ensures out { HasOutCause (K.faults out.old) (K.faults out.new) result }
+{
+    make(&mut OneLine::number(label), source, out)
+}
+
+/// An output of one line.
+#[derive(Drop)]
+struct OneLine {
+    line: Option<Text>,
+}
+
+impl OneLine {
+    /// The line of `number`: how many labels of its count stand before the label in the day.
+    #[tactic(auto, using(crate::proofs::Digits::digits_of_any))]
+    fn number(label: &Label) -> OneLine
+        ensures { rest_of result.line ≡ number_line (number_of label.now) }
+    {
+        let mut line = Text::new();
+        push_number(&mut line, u64::from(number(label)));
+        push_bytes(&mut line, b"\n");
+        OneLine { line: Some(line) }
+    }
+
+    /// The line of `label`: the text of the label.
+    fn label(label: &Label) -> OneLine
+        ensures { rest_of result.line ≡ label_line label.now }
+    {
+        let mut line = Text::new();
+        push_bytes(&mut line, &text(label));
+        push_bytes(&mut line, b"\n");
+        OneLine { line: Some(line) }
+    }
+
+    /// The line of `ltc-load`: what was read of a recording that was made.
+    fn load(run: &LoadRun) -> OneLine
+        ensures { rest_of result.line ≡ load_text run.now }
+    {
+        OneLine {
+            line: Some(load_text(run)),
+        }
+    }
+}
+
+impl Maker for OneLine {
+    ghost use Rattle.made_commands.specs.KeptLine.{rest_of, pieces_of};
+
+    ghost rest = { λ s. rest_of s.line };
+
+    ghost pieces = { λ s. pieces_of s.line };
+
+    fn give(&mut self, room: &mut Piece) -> bool {
+        match self.line.take() {
+            Some(line) => match room.try_extend_from_slice(&line) {
+                Ok(()) => true,
+                Err(_) => unreachable!(),
+            },
+            None => false,
+        }
+    }
+}

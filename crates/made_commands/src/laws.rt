@@ -1,0 +1,55 @@
+//! What follows from the definitions alone.
+ghost use Rattle.std.specs.Prelude.{◌≡◌, ◌≤◌, length, None, Some};
+ghost use Rattle.biphase.specs.Chain.{flat};
+ghost use Rattle.tc_files.specs.Recording.{end_fault_of, recording_of};
+ghost use Rattle.tc_files.specs.Verdict.{good};
+ghost use Rattle.tc_words.specs.LineStripe.{IsLineStripe, LineStriping};
+ghost use Rattle.tc_words.specs.Stripe.{IsStripe, Striping};
+ghost use Rattle.made_commands.specs.declared.chance.TheConstants as chance;
+ghost use Rattle.made_commands.specs.Made.{made, made_cells, made_header, IsReadBack};
+ghost use Rattle.made_commands.specs.MadeLines.{made_lines, AreReadBack};
+
+use biphase::laws::shaped_cells_are_a_chain;
+use direction_reader::laws::played_words_are_read;
+use line_file::laws::{
+    a_file_is_read_as_it_was_written as line_files_are_read_as_they_were_written,
+    runs_of_a_line_fit_the_file,
+};
+use ltc_jam::laws::{steps_lead_to_labels, words_of_labels_are_spelled};
+use tc_files::laws::a_file_is_read_as_it_was_written;
+use vitc_line::laws::each_word_has_its_line;
+use vitc_reader::laws::each_line_has_its_runs;
+
+/// The lengths that `ltc-load` makes of what it draws have these limits.
+pub fn the_lengths_of_a_load_run_are_these()
+    ensures first { chance.FIRST_LENGTH ≡ 512 }
+    ensures least { chance.LEAST_LENGTH ≡ 64 }
+    ensures greatest { chance.GREATEST_LENGTH ≡ 4096 }
+{}
+
+/// What `ltc-make` makes is within the limit of a reading, and is read as its header and its intervals,
+/// frame by frame.
+pub fn what_is_made_is_read_whole()
+    ensures few { (s : Striping) → IsStripe s → length (flat (made_cells s)) ≤ 160000003 }
+    ensures read { (s : Striping) → IsStripe s
+        → (recording_of (made s) ≡ record { header = Some (made_header s); intervals = flat (made_cells s); verdict = good })
+        × (end_fault_of (made s) ≡ None) }
+    ensures back { (s : Striping) → IsStripe s → IsReadBack s (made s) }
+{
+    words_of_labels_are_spelled();
+    steps_lead_to_labels();
+    played_words_are_read();
+    shaped_cells_are_a_chain();
+    a_file_is_read_as_it_was_written();
+}
+
+/// What `vitc-make` makes is read back, field by field.
+pub fn lines_that_are_made_are_read_back()
+    ensures { (s : LineStriping) → IsLineStripe s → AreReadBack s (made_lines s) }
+{
+    steps_lead_to_labels();
+    each_word_has_its_line();
+    each_line_has_its_runs();
+    runs_of_a_line_fit_the_file();
+    line_files_are_read_as_they_were_written();
+}

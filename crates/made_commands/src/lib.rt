@@ -1,0 +1,24 @@
+//! The commands that read nothing and make something: a recording (`ltc-make`), a line file (`vitc-make`),
+//! the line of a load run (`ltc-load`), and those of `number` and `label`.
+//!
+//! What this crate promises, for all sinks:
+//! - Each command pulls nothing, and writes its text whole, or a front of it where the sink failed: what it
+//!   makes stands in `specs/Made.antt`, `MadeLines.antt`, `Load.antt` and `Labels.antt`.
+//! - What `ltc-make` and `vitc-make` make is read back, frame by frame and field by field, and of what
+//!   `ltc-load` makes each word is read (`laws`).
+//!
+//! Read `ltc_make`, `vitc_make`, `ltc_load` over `chance`, and `labels`. `frame_commands` stands on this
+//! crate, since a recording of frames is spelled as one that is made.
+#![tactic(auto)]
+
+mod chance;
+mod labels;
+pub mod laws;
+mod ltc_load;
+mod ltc_make;
+mod vitc_make;
+
+pub use labels::{tell_label, tell_load, tell_number};
+pub use ltc_load::is_all_read;
+pub use ltc_make::{make_recording, push_all, push_interval};
+pub use vitc_make::make_lines;

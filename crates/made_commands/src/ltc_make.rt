@@ -1,0 +1,198 @@
+//! `ltc-make`: a recording made of labels. Next: `tc_command/src/making.rt`.
+ghost use Rattle.std.specs.Prelude.{◌≡◌, ◌+◌, ◌^◌, ◌<◌, ◌≤◌, Bool, false, true, List, [], ◌∷◌, ◌++◌, length, None, OnOk, IfErr};
+ghost use Rattle.arrayvec.specs.ArrayVec.{array_vec_len};
+ghost use Rattle.biphase.specs.Chain.{intervals_of};
+ghost use Rattle.byteorder.specs.Endian.{big_bytes};
+ghost use Rattle.direction_reader.specs.Played.{low_bits};
+ghost use Rattle.flywheel.specs.Frames.{steps_in};
+ghost use Rattle.ltc_word.specs.Spelled.{spelling_of};
+ghost use Rattle.made_commands.specs.KeptTape.{cell_bytes, rest_of};
+ghost use Rattle.made_commands.specs.Made.{interval_bytes, made};
+ghost use Rattle.tc_command.specs.Causes.{HasOutCause};
+ghost use Rattle.tc_command.specs.Meaning.{writes};
+ghost use Rattle.tc_command.specs.Ran.{CameToItsEnd, StoppedBefore};
+
+use biphase::{Cell, Shaper};
+use byteorder::{BigEndian, ByteOrder};
+use ltc_jam::played_bits;
+use ltc_word::laws::{each_word_has_its_spelling, spelling_is_exact};
+use ltc_word::{LtcWord, encode};
+use tc_address::laws::steps_add_up;
+use tc_address::{Direction, Label, advance, system_of};
+use tc_command::{Maker, PIECE, Piece, Stop, make};
+use tc_files::{FileVersion, IntervalHeader, interval_header};
+use tc_io::{Sink, Source};
+use tc_words::Stripe;
+
+/// The room that the intervals of a frame take at most: 80 ones of two intervals of four bytes.
+const FRAME_ROOM: usize = 640;
+
+/// Works `ltc-make`: the recording of a stripe.
+pub fn make_recording<S: Source, K: Sink>(
+    stripe: &Stripe,
+    source: &mut S,
+    out: &mut K,
+) -> Result<(), Stop>
+    ensures ends { OnOk result (CameToItsEnd (writes (made stripe.now)) (S.left source.old) (S.left source.new)
+        (K.written out.old) (K.written out.new)) }
+    ensures stops { IfErr result (λ stop. StoppedBefore (writes (made stripe.now)) stop (S.left source.old) (S.left source.new)
+        (K.written out.old) (K.written out.new)) }
+    ensures idle { source.new ≡ source.old }
+    ensures why { IfErr result (λ stop. stop ≡ Stop.WriteFault) }
+    ensures out { HasOutCause (K.faults out.old) (K.faults out.new) result }
+{
+    make(&mut Tape::new(stripe), source, out)
+}
+
+/// A recording that is still to be made.
+#[derive(Drop)]
+struct Tape {
+    header: Option<[u8; 12]>,
+    shaper: Shaper,
+    direction: Direction,
+    label: Label,
+    frames: u32,
+}
+
+impl Tape {
+    /// The whole recording of a stripe.
+    fn new(stripe: &Stripe) -> Tape
+        ensures rest { rest_of result.header result.shaper result.direction result.label result.frames ≡ made stripe.now }
+    {
+        let label = stripe.label();
+        let header = IntervalHeader {
+            version: FileVersion::One,
+            system: system_of(label.count()),
+            tick_rate: stripe.tick_rate(),
+        };
+        Tape {
+            header: Some(interval_header(&header)),
+            shaper: stripe.shaper(),
+            direction: stripe.direction(),
+            label,
+            frames: stripe.frames(),
+        }
+    }
+
+    /// Writes the next frame, and goes on to the next label.
+    fn frame(&mut self, room: &mut Piece)
+        requires some { 0 < self.old.frames }
+        requires room { array_vec_len room.old + FRAME_ROOM ≤ PIECE }
+        ensures rest { room.new.items ++ rest_of None self.new.shaper self.new.direction self.new.label self.new.frames
+            ≡ room.old.items ++ rest_of None self.old.shaper self.old.direction self.old.label self.old.frames }
+        ensures frames { self.new.frames + 1 ≡ self.old.frames }
+        ensures header { self.new.header ≡ self.old.header }
+    {
+        steps_add_up();
+        let bits = played_bits(self.direction, &self.label);
+        write_bits(&mut self.shaper, bits, room);
+        self.label = advance(&self.label, one_step(self.direction));
+        self.frames -= 1;
+    }
+}
+
+impl Maker for Tape {
+    ghost use Rattle.made_commands.specs.KeptTape.{pieces_of, rest_of};
+
+    ghost rest = { λ s. rest_of s.header s.shaper s.direction s.label s.frames };
+
+    ghost pieces = { λ s. pieces_of s.header s.frames };
+
+    fn give(&mut self, room: &mut Piece) -> bool {
+        if let Some(header) = self.header.take() {
+            begin(&header, &mut self.shaper, room);
+            return true;
+        }
+        if self.frames == 0 {
+            return false;
+        }
+        self.frame(room);
+        'frames: while 0 < self.frames && room.len() <= PIECE - FRAME_ROOM {
+            self.frame(room);
+        }
+        true
+    }
+}
+
+/// The step from a label to the next one.
+fn one_step(direction: Direction) -> i64
+    ensures { result ≡ steps_in direction 1 }
+{
+    match direction {
+        Direction::Forward => 1,
+        Direction::Backward => -1,
+    }
+}
+
+/// The header, and a zero and a one, by which a reader locks.
+fn begin(header: &[u8; 12], shaper: &mut Shaper, room: &mut Piece)
+    requires { room.old.items ≡ [] }
+    ensures { (tail : List Bool) → room.new.items ++ cell_bytes shaper.new tail
+        ≡ header.now ++ cell_bytes shaper.old (false ∷ true ∷ tail) }
+{
+    push_all(room, header);
+    push_cell(room, shaper.next_cell(false));
+    push_cell(room, shaper.next_cell(true));
+}
+
+/// The cells of 80 bits, bit 0 first.
+fn write_bits(shaper: &mut Shaper, bits: u128, room: &mut Piece)
+    requires { array_vec_len room.old + FRAME_ROOM ≤ PIECE }
+    ensures cells { (tail : List Bool) → room.new.items ++ cell_bytes shaper.new tail
+        ≡ room.old.items ++ cell_bytes shaper.old (low_bits 80 bits ++ tail) }
+    ensures len { array_vec_len room.new ≤ array_vec_len room.old + FRAME_ROOM }
+{
+    let mut rest = bits;
+    'cells: for _done in 0..80u32 {
+        push_cell(room, shaper.next_cell(rest % 2 == 1));
+        rest /= 2;
+    }
+}
+
+/// The intervals of a cell.
+fn push_cell(room: &mut Piece, cell: Cell)
+    requires { array_vec_len room.old + 8 ≤ PIECE }
+    ensures items { room.new.items ≡ room.old.items ++ interval_bytes (intervals_of cell) }
+    ensures len { array_vec_len room.new ≤ array_vec_len room.old + 8 }
+{
+    match cell {
+        Cell::Zero(ticks) => push_interval(room, ticks),
+        Cell::One(first, second) => {
+            push_interval(room, first);
+            push_interval(room, second);
+        }
+    }
+}
+
+/// An interval, the most significant byte first.
+pub fn push_interval(room: &mut Piece, ticks: u32)
+    requires { array_vec_len room.old + 4 ≤ PIECE }
+    ensures items { room.new.items ≡ room.old.items ++ big_bytes 4 ticks }
+    ensures len { array_vec_len room.new ≡ array_vec_len room.old + 4 }
+{
+    let mut bytes = [0; 4];
+    BigEndian::write_u32(&mut bytes, ticks);
+    push_all(room, &bytes);
+}
+
+/// Bytes for which there is room.
+pub fn push_all(room: &mut Piece, bytes: &[u8])
+    requires { array_vec_len room.old + length bytes.now ≤ PIECE }
+    ensures items { room.new.items ≡ room.old.items ++ bytes.now }
+    ensures len { array_vec_len room.new ≡ array_vec_len room.old + length bytes.now }
+{
+    match room.try_extend_from_slice(bytes) {
+        Ok(()) => (),
+        Err(_) => unreachable!(),
+    }
+}
+
+/// The 80 bits of a word, bit 0 first in time.
+pub(crate) fn spelling(word: &LtcWord) -> u128
+    ensures value { result ≡ spelling_of word.now }
+    ensures width { result < 2 ^ 80 }
+{
+    each_word_has_its_spelling();
+    spelling_is_exact();
+    encode(word)
+}

@@ -1,0 +1,175 @@
+-- The lines of fields grow by the line of the field that bytes complete, and the last line counts all of them.
+use Rattle.std.proofs.Common.{◌≡◌, ℕ, ◌+◌, List, [], ◌∷◌, ◌++◌, length, count_by, Bool, cond, refl, sym, ◌∙◌, ap, ap₂, arith, subst}
+use Rattle.std.proofs.Common.{append_assoc, append-nil}
+use Rattle.std.specs.declared.option.Option.{Option}
+use Rattle.std.proofs.lemmas.List.{length-append}
+use Rattle.std.proofs.lemmas.List.Sums.{sum_by-append, sum_by-cons}
+use Rattle.vitc_reader.specs.declared.field.FieldAnswer.{FieldAnswer}
+use Rattle.vitc_reader.specs.declared.field.FieldAnswer.TheVariants.{NoLine, Agreed, Conflict, Nothing}
+use Rattle.tc_files.specs.Verdict.{good}
+use Rattle.tc_io.specs.Sink.{AppendsFront}
+use Rattle.line_file.specs.LineFile.{reading_of}
+use Rattle.line_file.specs.StandsFor as reads
+use Rattle.line_file.specs.StandsFor.{Decoding, IsTold}
+use Rattle.line_file.specs.Texts.{field_line, field_end_line}
+use Rattle.signal_commands.specs.declared.vitc_read.FieldReport.{FieldReport}
+use Rattle.tc_command.specs.declared.stop.Stop.TheVariants as stops
+use Rattle.signal_commands.specs.KeptFields.{counted, Stands}
+use Rattle.tc_command.specs.Stops.{Stops}
+use Rattle.signal_commands.specs.VitcRead.{along_fields, answer_lines, is_agreed, is_conflict, is_nothing, last_field_line}
+
+-- what the law of the decoder says
+abbrev pub TellsTheFile : Type 0
+TellsTheFile = (d : Decoding) (bytes : List ℕ) (answers : List FieldAnswer) → reads.StandsFor d bytes answers → IsTold (reading_of bytes) good answers
+
+-- ---- lines
+
+pub lines_last : (field : ℕ) (answers : List FieldAnswer) (answer : FieldAnswer)
+    → answer_lines field (answers ++ answer ∷ []) ≡ answer_lines field answers ++ field_line (field + length answers) answer
+lines_last field [] answer = let e : field + 0 ≡ field = omega arith in append-nil (field_line field answer) ∙ ap (λ (n : ℕ). field_line n answer) (sym e)
+lines_last field (first ∷ answers) answer =
+    let rest = lines_last (field + 1) answers answer in
+    let e : field + 1 + length answers ≡ field + length (first ∷ answers) = omega arith in
+    ap (λ (l : List ℕ). field_line field first ++ l) (rest ∙ ap (λ (n : ℕ). answer_lines (field + 1) answers ++ field_line n answer) e)
+    ∙ sym (append_assoc (field_line field first) (answer_lines (field + 1) answers) (field_line (field + length (first ∷ answers)) answer))
+
+lines_now : (written : List ℕ) (field : ℕ) (answers : List FieldAnswer) (answer : FieldAnswer) → written ≡ answer_lines 0 answers → field ≡ length answers
+    → written ++ field_line field answer ≡ answer_lines 0 (answers ++ answer ∷ [])
+lines_now written field answers answer are number =
+    let e : field ≡ 0 + length answers = omega (arith, number) in
+    ap₂ (λ (l : List ℕ) (n : ℕ). l ++ field_line n answer) are e ∙ sym (lines_last 0 answers answer)
+
+-- ---- counts
+
+count_last : (kind : FieldAnswer → Bool) (answers : List FieldAnswer) (answer : FieldAnswer)
+    → count_by kind (answers ++ answer ∷ []) ≡ count_by kind answers + cond (kind answer) 1 0
+count_last kind answers answer =
+    let all = sum_by-append (λ (a : FieldAnswer). cond (kind a) 1 0) answers (answer ∷ []) in
+    let last = sum_by-cons (λ (a : FieldAnswer). cond (kind a) 1 0) answer [] in
+    omega (arith, all, last)
+
+-- ---- a field more
+
+same_answers : (d : Decoding) (bytes : List ℕ) (answers : List FieldAnswer) → reads.StandsFor d bytes (answers ++ []) → reads.StandsFor d bytes answers
+same_answers d bytes answers s = subst (λ (told : List FieldAnswer). reads.StandsFor d bytes told) (append-nil answers) s
+
+-- bytes that complete no field
+pub none_more : TellsTheFile → (r next : FieldReport) (front written taken : List ℕ) → (s : Stands r front written)
+    → reads.StandsFor next.decoder (front ++ taken) (s.answers ++ []) → next ≡ record r { decoder = next.decoder }
+    → Stands next (front ++ taken) (written ++ [])
+none_more law r next front written taken s reads_on same =
+    let is = same_answers next.decoder (front ++ taken) s.answers reads_on in
+    record {
+      answers = s.answers;
+      decoder = is;
+      told = law next.decoder (front ++ taken) s.answers is;
+      are = append-nil written ∙ s.are;
+      fields = ap (λ (x : FieldReport). x.fields) same ∙ s.fields;
+      agreed = ap (λ (x : FieldReport). x.agreed) same ∙ s.agreed;
+      conflict = ap (λ (x : FieldReport). x.conflict) same ∙ s.conflict;
+      nothing = ap (λ (x : FieldReport). x.nothing) same ∙ s.nothing;
+    }
+
+-- the counts of a report with a field more
+pub record Counts (before after : FieldReport) (answer : FieldAnswer) : Type 0 where
+  pub fields : after.fields ≡ before.fields + 1
+  pub agreed : after.agreed ≡ before.agreed + cond (is_agreed answer) 1 0
+  pub conflict : after.conflict ≡ before.conflict + cond (is_conflict answer) 1 0
+  pub nothing : after.nothing ≡ before.nothing + cond (is_nothing answer) 1 0
+
+pub one_counted : (before mid after : FieldReport) (answer : FieldAnswer) → mid ≡ record before { decoder = mid.decoder } → after ≡ counted answer mid
+    → Counts before after answer
+one_counted before mid after answer same is =
+    by_kind answer (ap (λ (x : FieldReport). x.fields) same) (ap (λ (x : FieldReport). x.agreed) same) (ap (λ (x : FieldReport). x.conflict) same)
+    (ap (λ (x : FieldReport). x.nothing) same) is
+  where
+    by_kind : (answer : FieldAnswer) → mid.fields ≡ before.fields → mid.agreed ≡ before.agreed → mid.conflict ≡ before.conflict → mid.nothing ≡ before.nothing
+        → after ≡ counted answer mid → Counts before after answer
+    by_kind (Agreed word) f a k n e = rw e (record {
+      fields = omega (arith, f);
+      agreed = omega (arith, a);
+      conflict = omega (arith, k);
+      nothing = omega (arith, n);
+    })
+    by_kind (Conflict word other) f a k n e = rw e (record {
+      fields = omega (arith, f);
+      agreed = omega (arith, a);
+      conflict = omega (arith, k);
+      nothing = omega (arith, n);
+    })
+    by_kind NoLine f a k n e = rw e (record { fields = omega (arith, f); agreed = omega (arith, a); conflict = omega (arith, k); nothing = omega (arith, n) })
+    by_kind (Nothing fault) f a k n e = rw e (record {
+      fields = omega (arith, f);
+      agreed = omega (arith, a);
+      conflict = omega (arith, k);
+      nothing = omega (arith, n);
+    })
+
+count_now : (kind : FieldAnswer → Bool) (before after : ℕ) (answers : List FieldAnswer) (answer : FieldAnswer) → before ≡ count_by kind answers
+    → after ≡ before + cond (kind answer) 1 0 → after ≡ count_by kind (answers ++ answer ∷ [])
+count_now kind before after answers answer is more = more ∙ ap (λ (n : ℕ). n + cond (kind answer) 1 0) is ∙ sym (count_last kind answers answer)
+
+-- bytes that complete a field
+pub one_more : TellsTheFile → (r next : FieldReport) (front written taken : List ℕ) (answer : FieldAnswer) → (s : Stands r front written)
+    → reads.StandsFor next.decoder (front ++ taken) (s.answers ++ answer ∷ []) → Counts r next answer
+    → Stands next (front ++ taken) (written ++ field_line r.fields answer)
+one_more law r next front written taken answer s reads_on counts =
+    let number = s.fields in
+    let fields = counts.fields in
+    record {
+      answers = s.answers ++ answer ∷ [];
+      decoder = reads_on;
+      told = law next.decoder (front ++ taken) (s.answers ++ answer ∷ []) reads_on;
+      are = lines_now written r.fields s.answers answer s.are number;
+      fields = omega (arith, number, fields, length-append s.answers (answer ∷ []));
+      agreed = count_now is_agreed r.agreed next.agreed s.answers answer s.agreed counts.agreed;
+      conflict = count_now is_conflict r.conflict next.conflict s.answers answer s.conflict counts.conflict;
+      nothing = count_now is_nothing r.nothing next.nothing s.answers answer s.nothing counts.nothing;
+    }
+
+-- a front of the line of a field was written
+pub one_more_part : TellsTheFile → (r : FieldReport) (d : Decoding) (front written bytes taken behind : List ℕ) (answer : FieldAnswer)
+    (old new : Option (List ℕ)) → (s : Stands r front written)
+    → reads.StandsFor d (front ++ taken) (s.answers ++ answer ∷ []) → bytes ≡ taken ++ behind → AppendsFront old new (field_line r.fields answer)
+    → Stops along_fields stops.WriteFault old new (front ++ bytes) written
+one_more_part law r d front written bytes taken behind answer old new s reads_on split f = (
+  f.0,
+  f.2,
+  (
+    front ++ taken,
+    answer_lines 0 (s.answers ++ answer ∷ []),
+    (behind, ap (λ (l : List ℕ). front ++ l) split ∙ sym (append_assoc front taken behind)),
+    (s.answers ++ answer ∷ [], (law d (front ++ taken) (s.answers ++ answer ∷ []) reads_on).1, refl),
+    (
+      f.1.0,
+      sym (lines_now written r.fields s.answers answer s.are s.fields) ∙ ap (λ (l : List ℕ). written ++ l) f.1.1 ∙ sym (append_assoc written f.0 f.1.0),
+    ),
+  ),
+)
+
+-- ---- the last line
+
+pub last_line_is : (r : FieldReport) (bytes written line : List ℕ) → (s : Stands r bytes written) → line ≡ field_end_line r.fields r.agreed r.conflict r.nothing
+    → line ≡ last_field_line s.answers
+last_line_is r bytes written line s is =
+    is ∙ ap (λ (n : ℕ). field_end_line n r.agreed r.conflict r.nothing) s.fields
+    ∙ ap (λ (n : ℕ). field_end_line (length s.answers) n r.conflict r.nothing) s.agreed
+    ∙ ap (λ (n : ℕ). field_end_line (length s.answers) (count_by is_agreed s.answers) n r.nothing) s.conflict
+    ∙ ap (λ (n : ℕ). field_end_line (length s.answers) (count_by is_agreed s.answers) (count_by is_conflict s.answers) n) s.nothing
+
+-- ---- the decoder of a report with a field more
+
+pub same_decoder : (mid after : FieldReport) (answer : FieldAnswer) → after ≡ counted answer mid → after.decoder ≡ mid.decoder
+same_decoder mid after (Agreed word) e = ap (λ (x : FieldReport). x.decoder) e
+same_decoder mid after (Conflict word other) e = ap (λ (x : FieldReport). x.decoder) e
+same_decoder mid after NoLine e = ap (λ (x : FieldReport). x.decoder) e
+same_decoder mid after (Nothing fault) e = ap (λ (x : FieldReport). x.decoder) e
+
+-- a field was counted and printed
+pub printed : TellsTheFile → (r mid next : FieldReport) (front written taken : List ℕ) (answer : FieldAnswer) → (s : Stands r front written)
+    → reads.StandsFor mid.decoder (front ++ taken) (s.answers ++ answer ∷ []) → mid ≡ record r { decoder = mid.decoder } → next ≡ counted answer mid
+    → Stands next (front ++ taken) (written ++ field_line r.fields answer)
+printed law r mid next front written taken answer s reads_on same is =
+    one_more law r next front written taken answer s
+    (subst (λ (d : Decoding). reads.StandsFor d (front ++ taken) (s.answers ++ answer ∷ [])) (sym (same_decoder mid next answer is)) reads_on)
+    (one_counted r mid next answer same is)

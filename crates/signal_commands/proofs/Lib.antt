@@ -1,0 +1,6 @@
+mod AreCommands
+mod FieldsGrow
+mod MidiGrows
+mod MidiLimit
+mod PutMore
+mod SlicedOn

@@ -1,0 +1,301 @@
+-- A file of sliced sound grows by the intervals of the distance that more samples bring, and past the limit nothing more is taken.
+use Rattle.std.proofs.Common.{◌≡◌, inl, ℕ, ◌+◌, ◌-◌, ◌*◌, ◌/◌, ◌^◌, ◌%◌, ◌==◌, ap₂, get_or, mul-le-mul, ◌<◌, ◌≤◌, Bool, true, false, nat_lt, cond, ℤ}
+use Rattle.std.proofs.Common.{List, [], ◌∷◌, ◌++◌, length, take, drop, Some, None, sym, ◌∙◌, ap, refl, subst, append_assoc, append-nil, arith}
+use Rattle.std.specs.declared.option.Option.{Option}
+use Rattle.std.specs.Option.{option_to_list}
+use Rattle.std.specs.List.{flat_map}
+use Rattle.std.specs.Io.KnownBytes.{Appends}
+use Rattle.std.proofs.lemmas.Bool.{ltb-true, lt-ltb}
+use Rattle.std.proofs.lemmas.Grind.{flat_map-append}
+use Rattle.std.proofs.lemmas.List.{length-append, length-take, length-take-le, take-append-drop, take-append-le, take-take, take_all}
+use Rattle.pcm_front.specs.Distance.{distances, pieces_of}
+use Rattle.pcm_front.specs.Samples.{samples_of}
+use Rattle.pcm_front.specs.StandsFor as pcm
+use Rattle.tc_files.specs.declared.fault.FileFault.{FileFault}
+use Rattle.tc_files.specs.declared.interval_file.header.FileVersion.TheVariants.{One}
+use Rattle.tc_files.specs.Grammar.{file_of, intervals_bytes}
+use Rattle.tc_files.specs.IntervalHeader.{header_bytes}
+use Rattle.tc_files.specs.Piece.{spelling}
+use Rattle.tc_files.specs.Verdict.{Verdict, good, refused, past_limit}
+use Rattle.tc_io.specs.Sink.{AppendsFront}
+use Rattle.tc_words.specs.Slicing as words
+use Rattle.signal_commands.specs.declared.pcm_ltc.SlicedSound.{SlicedSound}
+use Rattle.signal_commands.specs.declared.pcm_ltc.TheConstants.{MAX_SAMPLES}
+use Rattle.std.specs.Prelude.{IfErr, Ok, Err}
+use Rattle.std.specs.declared.result.Result.{Result}
+use Rattle.pcm_front.specs.declared.threshold.Threshold.{Threshold}
+use Rattle.tc_command.specs.declared.stop.Stop.{Stop}
+use Rattle.tc_command.specs.declared.stop.Stop.TheVariants as stops
+use Rattle.signal_commands.specs.KeptSlices.{Slices, Stands, half_is_none, length-samples, samples_of-append}
+use Rattle.tc_files.specs.declared.fault.FileFault.TheVariants.{Truncated}
+use Rattle.signal_commands.specs.PcmLtc.{along_samples, odd_fault, samples_within, sliced, sliced_header}
+use Rattle.tc_command.specs.Stops.{Stops}
+use Rattle.tc_command.specs.KeptWorks.{first_and_rest, first_only}
+
+-- ---- the limit
+
+abbrev verdict_by : Bool → Verdict
+verdict_by b = cond b past_limit good
+
+not_refused : (b : Bool) (f : FileFault) → ¬ (verdict_by b ≡ refused f)
+not_refused true f e = absurd cc
+not_refused false f e = absurd cc
+
+-- nothing is refused before the end
+pub never_refused : (most : ℕ) (bytes : List ℕ) (f : FileFault) → ¬ (samples_within most bytes ≡ refused f)
+never_refused most bytes f e = not_refused (nat_lt most (length (samples_of bytes))) f e
+
+past_by : (most n : ℕ) (b : Bool) → nat_lt most n ≡ b → verdict_by b ≡ past_limit → most < n
+past_by most n true is e = ltb-true most n is
+past_by most n false is e = absurd cc
+
+is_past : (most : ℕ) (bytes : List ℕ) → most < length (samples_of bytes) → samples_within most bytes ≡ past_limit
+is_past most bytes more = ap verdict_by (lt-ltb most (length (samples_of bytes)) more)
+
+-- more bytes have no fewer samples
+no_fewer : (front rest : List ℕ) → length (samples_of front) ≤ length (samples_of (front ++ rest))
+unfolding samples_of
+no_fewer [] rest = omega arith
+no_fewer (low ∷ []) rest = omega arith
+no_fewer (low ∷ high ∷ more) rest = let fewer = no_fewer more rest in omega (arith, fewer)
+
+-- what is past the limit stays so
+pub past_within : (most : ℕ) (front rest : List ℕ) → samples_within most front ≡ past_limit → samples_within most (front ++ rest) ≡ past_limit
+past_within most front rest e =
+    let more = past_by most (length (samples_of front)) (nat_lt most (length (samples_of front))) refl e in
+    is_past most (front ++ rest) (omega (arith, more, no_fewer front rest))
+
+-- two bytes are a sample
+some_samples : (bytes : List ℕ) → 2 ≤ length bytes → 1 ≤ length (samples_of bytes)
+unfolding samples_of
+some_samples [] some = absurd (omega (arith, some))
+some_samples (low ∷ []) some = absurd (omega (arith, some))
+some_samples (low ∷ high ∷ more) some = omega arith
+
+-- ---- the file
+
+-- of no samples it is the header
+pub no_samples : (s : words.Slices) → sliced s (samples_of []) ≡ header_bytes (sliced_header s)
+unfolding samples_of
+no_samples s = append-nil (header_bytes (sliced_header s))
+
+-- what a distance brings
+abbrev pub due : Option ℕ → List ℕ
+due distance = intervals_bytes One (flat_map pieces_of (option_to_list distance))
+
+longer_file : (s : words.Slices) (samples more : List ℤ) (distance : Option ℕ)
+    → distances s.fineness s.threshold (samples ++ more) ≡ distances s.fineness s.threshold samples ++ option_to_list distance
+    → sliced s (samples ++ more) ≡ sliced s samples ++ due distance
+longer_file s samples more distance brings =
+    let before = distances s.fineness s.threshold samples in
+    ap (λ (ds : List ℕ). file_of (sliced_header s) (flat_map pieces_of ds)) brings
+    ∙ ap (λ (xs : List ℕ). file_of (sliced_header s) xs) (flat_map-append pieces_of before (option_to_list distance))
+    ∙ ap (λ (bytes : List ℕ). header_bytes (sliced_header s) ++ bytes)
+    (flat_map-append (spelling One) (flat_map pieces_of before) (flat_map pieces_of (option_to_list distance)))
+    ∙ sym (append_assoc (header_bytes (sliced_header s)) (intervals_bytes One (flat_map pieces_of before)) (due distance))
+
+-- what the slicer says of more bytes
+pub record Grows (s next : SlicedSound) (taken : List ℕ) (distance : Option ℕ) : Type 0 where
+  pub count : length taken + 2 * s.samples ≡ 2 * next.samples
+  pub within : next.samples ≤ MAX_SAMPLES
+  pub slicing : next.slicing ≡ s.slicing
+  pub stands : (samples : List ℤ) → pcm.StandsFor s.slicer samples → pcm.StandsFor next.slicer (samples ++ samples_of taken)
+  pub brings : (samples : List ℤ) → pcm.StandsFor s.slicer samples
+      → distances s.slicing.fineness s.slicing.threshold (samples ++ samples_of taken)
+      ≡ distances s.slicing.fineness s.slicing.threshold samples ++ option_to_list distance
+
+-- the file of the bytes with more
+grown_file : (s next : SlicedSound) (whole written taken : List ℕ) (distance : Option ℕ) → Slices s whole written → Grows s next taken distance
+    → written ++ (s.gathered.room.items ++ due distance) ≡ sliced s.slicing (samples_of (whole ++ taken))
+grown_file s next whole written taken distance slices grows =
+    sym (append_assoc written s.gathered.room.items (due distance))
+    ∙ ap (λ (l : List ℕ). l ++ due distance) slices.are
+    ∙ sym (longer_file s.slicing (samples_of whole) (samples_of taken) distance (grows.brings (samples_of whole) slices.slicer))
+    ∙ ap (sliced s.slicing) (sym (samples_of-append s.samples whole taken slices.count))
+
+-- more bytes were taken, and what they bring was pushed or is gathered
+pub grown : (s next : SlicedSound) (whole written taken more : List ℕ) (distance : Option ℕ) → Slices s whole written → Grows s next taken distance
+    → s.gathered.room.items ++ due distance ≡ more ++ next.gathered.room.items → Slices next (whole ++ taken) (written ++ more)
+grown s next whole written taken more distance slices grows pushed = record {
+  within = grows.within;
+  count = omega (arith, length-append whole taken, slices.count, grows.count);
+  slicer = rw (samples_of-append s.samples whole taken slices.count) (grows.stands (samples_of whole) slices.slicer);
+  are = append_assoc written more next.gathered.room.items ∙ ap (λ (l : List ℕ). written ++ l) (sym pushed)
+      ∙ grown_file s next whole written taken distance slices grows ∙ ap (λ (c : words.Slices). sliced c (samples_of (whole ++ taken))) (sym grows.slicing);
+}
+
+-- the part of whole bytes within the limit
+part_of : (slicing : words.Slices) (bytes written : List ℕ) → length (samples_of bytes) ≤ MAX_SAMPLES → written ≡ sliced slicing (samples_of bytes)
+    → written ≡ sliced slicing (take MAX_SAMPLES (samples_of bytes))
+part_of slicing bytes written within are = are ∙ ap (sliced slicing) (sym (take_all MAX_SAMPLES (samples_of bytes) within))
+
+-- a push failed: a front of what is due stands
+pub grown_part : (s next : SlicedSound) (whole written bytes rest : List ℕ) (count : ℕ) (distance : Option ℕ) (old new : Option (List ℕ))
+    → Slices s whole written → Grows s next (take count bytes) distance
+    → AppendsFront old new (s.gathered.room.items ++ due distance)
+    → Stops (along_samples s.slicing) stops.WriteFault old new (whole ++ (bytes ++ rest)) written
+grown_part s next whole written bytes rest count distance old new slices grows f =
+    let taken = take count bytes in
+    let front = whole ++ taken in
+    let long : length front ≡ 2 * next.samples = omega (arith, length-append whole taken, slices.count, grows.count) in
+    let within : length (samples_of front) ≤ MAX_SAMPLES = omega (arith, length-samples next.samples front long, grows.within) in
+    let behind : bytes ++ rest ≡ taken ++ (drop count bytes ++ rest) =
+    ap (λ (l : List ℕ). l ++ rest) (sym (take-append-drop count bytes)) ∙ append_assoc taken (drop count bytes) rest in (
+      f.0,
+      f.2,
+      (
+        front,
+        written ++ (s.gathered.room.items ++ due distance),
+        (
+          drop count bytes ++ rest,
+          ap (λ (l : List ℕ). whole ++ l) behind ∙ sym (append_assoc whole taken (drop count bytes ++ rest)),
+        ),
+        part_of s.slicing front _ within (grown_file s next whole written taken distance slices grows),
+        (f.1.0, ap (λ (l : List ℕ). written ++ l) f.1.1 ∙ sym (append_assoc written f.0 f.1.0)),
+      ),
+    )
+
+-- what is gathered was pushed, and this is the part of bytes past the limit
+pub at_limit : (s : SlicedSound) (whole written bytes : List ℕ) (old new : Option (List ℕ)) → Slices s whole written → s.samples ≡ MAX_SAMPLES
+    → 2 ≤ length bytes → Appends old new s.gathered.room.items
+    → Stops (along_samples s.slicing) stops.Limit old new (whole ++ bytes) written
+at_limit s whole written bytes old new slices full some pushed =
+    let long = length-samples s.samples whole slices.count in
+    let all = samples_of-append s.samples whole bytes slices.count in
+    let more = length-append (samples_of whole) (samples_of bytes) in (
+      s.gathered.room.items,
+      pushed,
+      inl (
+        record { is = is_past MAX_SAMPLES (whole ++ bytes) (rw all (omega (arith, long, full, more, some_samples bytes some))); unspent = λ spent. spent },
+        slices.are ∙ ap (sliced s.slicing) (sym (ap (take MAX_SAMPLES) all
+            ∙ take-append-le MAX_SAMPLES (samples_of whole) (samples_of bytes) (omega (arith, long, full))
+            ∙ take_all MAX_SAMPLES (samples_of whole) (omega (arith, long, full)))),
+      ),
+    )
+
+-- what is gathered was not taken
+pub gathered_part : (s : SlicedSound) (whole written bytes : List ℕ) (old new : Option (List ℕ)) → Slices s whole written
+    → AppendsFront old new s.gathered.room.items
+    → Stops (along_samples s.slicing) stops.WriteFault old new (whole ++ bytes) written
+gathered_part s whole written bytes old new slices f =
+    let within : length (samples_of whole) ≤ MAX_SAMPLES = omega (arith, length-samples s.samples whole slices.count, slices.within) in (
+      f.0,
+      f.2,
+      (
+        whole,
+        written ++ s.gathered.room.items,
+        (bytes, refl),
+        part_of s.slicing whole _ within slices.are,
+        (f.1.0, ap (λ (l : List ℕ). written ++ l) f.1.1 ∙ sym (append_assoc written f.0 f.1.0)),
+      ),
+    )
+
+-- ---- the end
+
+-- half a sample more than whole ones
+pub odd_end : (count : ℕ) (bytes : List ℕ) → length bytes ≡ 2 * count + 1 → odd_fault bytes ≡ Some (Truncated (2 * count + 1))
+odd_end count bytes long =
+    let odd : (2 * count + 1) % 2 ≡ 1 = omega arith in
+    ap (λ (n : ℕ). cond (n % 2 == 1) (Some (Truncated n)) None) long ∙ ap (λ (n : ℕ). cond (n == 1) (Some (Truncated (2 * count + 1))) None) odd
+
+pub even_end : (count : ℕ) (bytes : List ℕ) → length bytes ≡ 2 * count → odd_fault bytes ≡ None
+even_end count bytes long =
+    let even : (2 * count) % 2 ≡ 0 = omega arith in
+    ap (λ (n : ℕ). cond (n % 2 == 1) (Some (Truncated n)) None) long ∙ ap (λ (n : ℕ). cond (n == 1) (Some (Truncated (2 * count))) None) even
+
+pub length-bytes : (s : SlicedSound) (bytes written : List ℕ) → Stands s bytes written → length bytes ≡ 2 * s.samples + length (option_to_list s.half)
+length-bytes s bytes written stands =
+    ap length stands.are ∙ length-append stands.whole (option_to_list s.half) ∙ ap (λ (n : ℕ). n + length (option_to_list s.half)) stands.slices.count
+
+-- all of it was written, where nothing is gathered
+pub all_written : (s : SlicedSound) (bytes written : List ℕ) → s.gathered.room.items ≡ [] → Stands s bytes written → written
+    ≡ sliced s.slicing (samples_of bytes)
+all_written s bytes written settled stands =
+    sym (append-nil written) ∙ ap (λ (l : List ℕ). written ++ l) (sym settled) ∙ stands.slices.are
+    ∙ ap (sliced s.slicing) (sym (ap samples_of stands.are ∙ half_is_none s.samples stands.whole s.half stands.slices.count))
+
+-- what is gathered was not taken
+pub gathered_stop : (s : SlicedSound) (bytes written : List ℕ) (old new : Option (List ℕ)) → Stands s bytes written
+    → AppendsFront old new s.gathered.room.items → Stops (along_samples s.slicing) stops.WriteFault old new bytes written
+gathered_stop s bytes written old new stands f =
+    subst (λ (b : List ℕ). Stops (along_samples s.slicing) stops.WriteFault old new b written) (sym stands.are)
+    (gathered_part s stands.whole written (option_to_list s.half) old new stands.slices f)
+
+-- ---- bytes that are given to the slicer
+
+-- the ticks of all samples within the limit are few
+pub ticks_fit : (fineness samples tick other length : ℕ) → tick ≡ fineness * samples → other ≡ fineness → fineness ≤ 64 → samples ≤ MAX_SAMPLES
+    → length ≤ 2 * MAX_SAMPLES → tick + other * length ≤ 2 ^ 62
+ticks_fit fineness samples tick other length is same fine within short =
+    let before : fineness * samples ≤ 64 * 1_000_000_000 = mul-le-mul fine within in
+    let now : fineness * length ≤ 64 * 2_000_000_000 = mul-le-mul fine short in
+    let all : other * length ≡ fineness * length = ap (λ (n : ℕ). n * length) same in
+    omega (arith, is, before, now, all)
+
+pub no_longer : (s : SlicedSound) (bytes inner : List ℕ) → inner ≡ take (2 * (MAX_SAMPLES - s.samples)) bytes → length inner ≤ 2 * (MAX_SAMPLES - s.samples)
+no_longer s bytes inner is = omega (arith, ap length is, length-take (2 * (MAX_SAMPLES - s.samples)) bytes)
+
+-- the samples that it took of those within the limit
+pub grows : (s next : SlicedSound) (bytes inner : List ℕ) (count k : ℕ) (distance : Option ℕ)
+    → inner ≡ take (2 * (MAX_SAMPLES - s.samples)) bytes → count ≤ length inner → count ≡ 2 * k
+    → next.samples ≡ s.samples + count / 2 → next.slicing ≡ s.slicing → s.samples ≤ MAX_SAMPLES
+    → s.slicer.fineness ≡ s.slicing.fineness → s.slicer.threshold ≡ s.slicing.threshold
+    → ((samples : List ℤ) → pcm.StandsFor s.slicer samples → pcm.StandsFor next.slicer (samples ++ samples_of (take count inner)))
+    → ((samples : List ℤ) → pcm.StandsFor s.slicer samples → distances s.slicer.fineness s.slicer.threshold (samples ++ samples_of (take count inner))
+    ≡ distances s.slicer.fineness s.slicer.threshold samples ++ option_to_list distance)
+    → Grows s next (take count bytes) distance
+grows s next bytes inner count k distance is within whole counted same_slicing few same_fineness same_threshold stands brings =
+    let most = 2 * (MAX_SAMPLES - s.samples) in
+    let short = no_longer s bytes inner is in
+    let inside : length inner ≤ length bytes = omega (arith, ap length is, length-take most bytes) in
+    let same : take count inner ≡ take count bytes = ap (take count) is ∙ take-take count most bytes (omega (arith, within, short)) in
+    let long : length (take count bytes) ≡ count = length-take-le count bytes (omega (arith, within, inside)) in
+    let by_words : (xs : List ℤ) → distances s.slicer.fineness s.slicer.threshold xs ≡ distances s.slicing.fineness s.slicing.threshold xs =
+    λ xs. ap₂ (λ (f : ℕ) (t : Threshold). distances f t xs) same_fineness same_threshold in
+    record {
+      count = omega (arith, long, whole, counted);
+      within = omega (arith, whole, counted, within, short, few);
+      slicing = same_slicing;
+      stands = λ samples is_for. subst (λ (b : List ℕ). pcm.StandsFor next.slicer (samples ++ samples_of b)) same (stands samples is_for);
+      brings = λ samples is_for. sym (by_words (samples ++ samples_of (take count bytes)))
+          ∙ ap (λ (b : List ℕ). distances s.slicer.fineness s.slicer.threshold (samples ++ samples_of b)) (sym same) ∙ brings samples is_for
+          ∙ ap (λ (l : List ℕ). l ++ option_to_list distance) (by_words samples);
+    }
+
+-- what a distance brings are its intervals
+pub due_is : (distance : Option ℕ) (d : ℕ) → distance ≡ Some d → due distance ≡ intervals_bytes One (pieces_of d)
+due_is distance d is = ap due is ∙ ap (intervals_bytes One) (append-nil (pieces_of d))
+
+pub none_due : (distance : Option ℕ) → distance ≡ None → due distance ≡ []
+none_due distance is = ap due is
+
+-- ---- a byte that begins or ends a sample
+
+pub any_half : (s : SlicedSound) (half : Option ℕ) (whole written : List ℕ) → Slices s whole written → Slices (record s { half = half }) whole written
+any_half s half whole written slices =
+    record { within = slices.within; count = slices.count; slicer = slices.slicer; are = slices.are }
+
+-- all bytes behind half a sample
+pub half_first : (front whole bytes : List ℕ) (half : Option ℕ) (low : ℕ) → front ≡ whole ++ option_to_list half → half ≡ Some low → 0 < length bytes
+    → front ++ bytes ≡ whole ++ ((low ∷ get_or bytes 0 0 ∷ []) ++ drop 1 bytes)
+half_first front whole bytes half low are is some =
+    ap (λ (l : List ℕ). l ++ bytes) (are ∙ ap (λ (h : Option ℕ). whole ++ option_to_list h) is)
+    ∙ append_assoc whole (low ∷ []) bytes ∙ ap (λ (l : List ℕ). whole ++ (low ∷ l)) (sym (first_and_rest bytes some))
+
+-- the one that completes it
+pub half_then : (front whole bytes : List ℕ) (half : Option ℕ) (low : ℕ) → front ≡ whole ++ option_to_list half → half ≡ Some low → 0 < length bytes
+    → front ++ take 1 bytes ≡ (whole ++ (low ∷ get_or bytes 0 0 ∷ [])) ++ []
+half_then front whole bytes half low are is some =
+    let high = get_or bytes 0 0 in
+    ap (λ (l : List ℕ). front ++ l) (sym (first_only bytes some))
+    ∙ ap (λ (l : List ℕ). l ++ (high ∷ [])) (are ∙ ap (λ (h : Option ℕ). whole ++ option_to_list h) is)
+    ∙ append_assoc whole (low ∷ []) (high ∷ []) ∙ sym (append-nil (whole ++ (low ∷ high ∷ [])))
+
+-- no half stands before them
+pub no_half : (front whole : List ℕ) (half : Option ℕ) → front ≡ whole ++ option_to_list half → half ≡ None → front ≡ whole
+no_half front whole half are is = are ∙ ap (λ (h : Option ℕ). whole ++ option_to_list h) is ∙ append-nil whole
+
+-- a fact of an error that follows from another
+pub err_to : {T : Type 0} {P Q : Stop → Type 0} (result : Result T Stop) → IfErr result P → ((stop : Stop) → P stop → Q stop) → IfErr result Q
+err_to (Ok done) says to = tt
+err_to (Err stop) says to = to stop says

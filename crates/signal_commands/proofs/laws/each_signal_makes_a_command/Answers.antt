@@ -1,0 +1,16 @@
+use Rattle.signal_commands.proofs.AreCommands.{fields_are_command, midi_is_command, samples_are_command}
+use Rattle.signal_commands.proofs.laws.each_signal_makes_a_command.Goals as goal
+
+pub returns-clause-midi : goal.returns-clause-midi
+returns-clause-midi c = midi_is_command c.earlier_events_stay.ensures
+
+pub returns-clause-samples : goal.returns-clause-samples
+returns-clause-samples c = samples_are_command c.distances_of_a_front_come_first.ensures
+
+pub returns-clause-fields : goal.returns-clause-fields
+returns-clause-fields c = fields_are_command (record {
+  fault = c.what_bytes_show_stays.ensures.fault;
+  limit = c.what_bytes_show_stays.ensures.limit;
+  answers = c.answers_of_a_front_come_first.ensures;
+  one = c.bytes_have_one_list_of_answers.ensures;
+})

@@ -1,0 +1,66 @@
+use Rattle.std.proofs.Common.{◌++◌, [], ◌∷◌, List, ℕ, Some, None, drop, get_or, ap, subst, sym, ◌∙◌, append-nil}
+use Rattle.std.proofs.KnownBytes.{Appends-nil}
+use Rattle.std.proofs.lemmas.List.{take_all}
+use Rattle.signal_commands.specs.KeptSlices.{Slices}
+use Rattle.signal_commands.specs.PcmLtc.{along_samples}
+use Rattle.tc_command.specs.Stops.{Stops}
+use Rattle.tc_command.specs.KeptWorks.{first_only, through}
+use Rattle.signal_commands.proofs.SlicedOn.{any_half, err_to, half_first, half_then, no_half}
+use Rattle.signal_commands.proofs.pcm_ltc.SlicedSoundEngine.take.Goals as goal
+
+-- the sample that the first byte completes stops the command
+pub returns-in_err-slice-clause-stops : goal.returns-in_err-slice-clause-stops
+returns-in_err-slice-clause-stops g c =
+    let s = c.args.self.now in
+    let bytes = c.args.bytes.now in
+    through c.from_residual.result c.from_residual.ensures.1 (λ stop same front written stands.
+    subst (λ (b : List ℕ). Stops (along_samples s.slicing) stop (g.K.Sink.written c.args.out.now) (g.K.Sink.written c.slice.new.out) b written)
+    (sym (half_first front stands.whole bytes s.half c.in-Some.low stands.are c.in-Some.is c.requires.some))
+    (rw same (c.in_err-slice.ensures.stops stands.whole written (drop 1 bytes) stands.slices)))
+
+-- the first byte completes a sample
+pub returns-in-Some-clause-works : goal.returns-in-Some-clause-works
+returns-in-Some-clause-works g c = λ front written stands.
+    let s = c.args.self.now in
+    let bytes = c.args.bytes.now in
+    let low = c.in-Some.low in
+    let pair = low ∷ get_or bytes 0 0 ∷ [] in
+    let w = c.in_ok-slice.ensures.works stands.whole written stands.slices in
+    let both = take_all c.in_ok-slice.field-0 pair c.in_ok-slice.ensures.count.0 in (
+      w.0,
+      w.1,
+      record {
+        whole = stands.whole ++ pair;
+        slices = any_half c.slice.new.self None (stands.whole ++ pair) (written ++ w.0)
+            (subst (λ (b : List ℕ). Slices c.slice.new.self (stands.whole ++ b) (written ++ w.0)) both w.2);
+        are = half_then front stands.whole bytes s.half low stands.are c.in-Some.is c.requires.some;
+      },
+    )
+
+-- the only byte begins one
+pub returns-then-bytes-eq1-clause-works : goal.returns-then-bytes-eq1-clause-works
+returns-then-bytes-eq1-clause-works g c = λ front written stands.
+    let s = c.args.self.now in
+    let bytes = c.args.bytes.now in
+    let low = get_or bytes 0 0 in (
+      [],
+      Appends-nil _,
+      record {
+        whole = stands.whole;
+        slices = any_half s (Some low) stands.whole (written ++ [])
+            (subst (λ (w : List ℕ). Slices s stands.whole w) (sym (append-nil written)) stands.slices);
+        are = ap (λ (l : List ℕ). front ++ l) (sym (first_only bytes c.requires.some))
+            ∙ ap (λ (l : List ℕ). l ++ (low ∷ [])) (no_half front stands.whole s.half stands.are c.in_default.is);
+      },
+    )
+
+-- whole samples stand first
+pub returns-clause-stops : goal.returns-clause-stops
+returns-clause-stops g c =
+    let s = c.args.self.now in
+    let bytes = c.args.bytes.now in
+    err_to c.slice-2.result c.slice-2.ensures.stops (λ stop stopped front written stands.
+    subst (λ (b : List ℕ). Stops (along_samples s.slicing) stop (g.K.Sink.written c.args.out.now) (g.K.Sink.written c.slice-2.new.out) b written)
+    (ap (λ (l : List ℕ). stands.whole ++ l) (append-nil bytes)
+    ∙ ap (λ (l : List ℕ). l ++ bytes) (sym (no_half front stands.whole s.half stands.are c.in_default.is)))
+    (stopped stands.whole written [] stands.slices))

@@ -1,0 +1,55 @@
+use Rattle.std.proofs.Common.{inl, ◌∙◌, [], take, drop, sym, refl, append-nil}
+use Rattle.std.proofs.KnownBytes.{Appends-nil}
+use Rattle.std.proofs.lemmas.List.{take-append-drop}
+use Rattle.line_file.specs.Texts.{field_line}
+use Rattle.signal_commands.specs.declared.vitc_read.FieldReport.{FieldReport}
+use Rattle.tc_command.specs.KeptWorks.{through}
+use Rattle.signal_commands.proofs.FieldsGrow.{none_more, one_more_part, printed}
+use Rattle.signal_commands.proofs.vitc_read.FieldReportEngine.take.Goals as goal
+
+-- no field is complete
+pub returns-in-Nothing-clause-works : goal.returns-in-Nothing-clause-works
+returns-in-Nothing-clause-works g c = λ front written stands.
+    let r = c.args.self.now in
+    let mid : FieldReport = record r { decoder = c.take.new.self } in
+    let taken = take c.in-Nothing.count c.args.bytes.now in
+    let reads_on = c.in-Nothing.ensures.takes.stands front stands.answers stands.decoder in
+    ([], Appends-nil _, none_more c.a_decoder_tells_the_file.ensures r mid front written taken stands reads_on refl)
+
+-- a field is complete, and its line was written
+pub returns-in_ok-print-in-Field-clause-works : goal.returns-in_ok-print-in-Field-clause-works
+returns-in_ok-print-in-Field-clause-works g c = λ front written stands.
+    let r = c.args.self.now in
+    let mid : FieldReport = record r { decoder = c.take.new.self } in
+    let taken = take c.in-Field.count c.args.bytes.now in
+    let reads_on = c.in-Field.ensures.takes.stands front stands.answers stands.decoder in (
+      field_line r.fields c.in-Field.answer,
+      c.in_ok-print-in-Field.ensures.all,
+      printed c.a_decoder_tells_the_file.ensures r mid c.print.new.self front written taken c.in-Field.answer stands reads_on refl
+          c.in_ok-print-in-Field.ensures.counted,
+    )
+
+-- its line was not taken
+pub returns-in_err-print-in-Field-clause-stops : goal.returns-in_err-print-in-Field-clause-stops
+returns-in_err-print-in-Field-clause-stops g c =
+    let r = c.args.self.now in
+    let bytes = c.args.bytes.now in
+    let count = c.in-Field.count in
+    let why = c.in_err-print-in-Field.ensures.why in
+    through c.from_residual.result c.from_residual.ensures.1 (λ stop same front written stands.
+    let reads_on = c.in-Field.ensures.takes.stands front stands.answers stands.decoder in
+    rw (same, why) (one_more_part c.a_decoder_tells_the_file.ensures r c.take.new.self front written bytes (take count bytes) (drop count bytes)
+    c.in-Field.answer _ _ stands
+    reads_on (sym (take-append-drop count bytes)) c.in_err-print-in-Field.ensures.front))
+
+-- the bytes have a fault
+pub returns-in-Fault-clause-stops : goal.returns-in-Fault-clause-stops
+returns-in-Fault-clause-stops g c = λ front written stands.
+    let told = c.in-Fault.ensures.stops front stands.answers stands.decoder in
+    ([], Appends-nil _, (record { is = told.0; unspent = λ spent. spent }, (stands.answers, told.1, append-nil written ∙ stands.are)))
+
+-- or a field too many
+pub returns-in-Limit-clause-stops : goal.returns-in-Limit-clause-stops
+returns-in-Limit-clause-stops g c = λ front written stands.
+    let told = c.in-Limit.ensures.stops front stands.answers stands.decoder in
+    ([], Appends-nil _, inl (record { is = told.0; unspent = λ spent. spent }, (stands.answers, told.1, append-nil written ∙ stands.are)))

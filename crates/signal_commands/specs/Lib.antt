@@ -1,0 +1,6 @@
+pub mod KeptFields
+pub mod KeptMtc
+pub mod KeptSlices
+pub mod MtcRead
+pub mod PcmLtc
+pub mod VitcRead

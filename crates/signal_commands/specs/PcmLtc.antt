@@ -1,0 +1,40 @@
+-- `pcm-ltc`: samples of sound, as an interval file of the distances of their crossings.
+use Rattle.std.specs.Prelude.{◌≡◌, ℕ, ◌*◌, ◌%◌, ◌==◌, true, cond, nat_lt, ℤ, List, length, take, Option, Some, None}
+use Rattle.pcm_front.specs.Distance.{intervals}
+use Rattle.pcm_front.specs.Samples.{samples_of}
+use Rattle.tc_files.specs.declared.fault.FileFault.{FileFault}
+use Rattle.tc_files.specs.declared.fault.FileFault.TheVariants.{Truncated}
+use Rattle.tc_files.specs.declared.interval_file.header.FileVersion.TheVariants.{One}
+use Rattle.tc_files.specs.declared.interval_file.header.IntervalHeader.{IntervalHeader}
+use Rattle.tc_files.specs.Grammar.{file_of}
+use Rattle.tc_files.specs.Verdict.{Verdict, good, past_limit}
+use Rattle.tc_words.specs.Slicing.{Slices}
+use Rattle.signal_commands.specs.declared.pcm_ltc.TheConstants.{MAX_SAMPLES}
+use Rattle.tc_command.specs.Meaning.{Meaning}
+
+-- the header: each sample has so many ticks
+abbrev pub sliced_header : Slices → IntervalHeader
+sliced_header s = record { version = One; system = s.system; tick_rate = s.rate * s.fineness }
+
+-- the file of the intervals of samples
+abbrev pub sliced : Slices → List ℤ → List ℕ
+sliced s samples = file_of (sliced_header s) (intervals s.fineness s.threshold samples)
+
+-- so many whole samples are taken, at most
+abbrev pub samples_within : ℕ → List ℕ → Verdict
+samples_within most bytes = cond (nat_lt most (length (samples_of bytes))) past_limit good
+
+-- the input may not end inside a sample
+abbrev pub odd_fault : List ℕ → Option FileFault
+odd_fault bytes = cond (length bytes % 2 == 1) (Some (Truncated (length bytes))) None
+
+-- what it takes and what it writes: the header stands before the first sample
+abbrev pub along_samples : Slices → Meaning
+along_samples s = record {
+  reads = true;
+  verdict = samples_within MAX_SAMPLES;
+  end_fault = odd_fault;
+  spent = λ bytes. ⊥;
+  part = λ bytes written. written ≡ sliced s (take MAX_SAMPLES (samples_of bytes));
+  output = λ bytes written. written ≡ sliced s (samples_of bytes);
+}

@@ -1,0 +1,39 @@
+//! What follows from the definitions alone.
+ghost use Rattle.std.specs.Prelude.{◌≡◌};
+ghost use Rattle.tc_words.specs.Slicing.{Slices};
+ghost use Rattle.tc_command.specs.Command.{IsCommand};
+ghost use Rattle.signal_commands.specs.declared.mtc_read.TheConstants.{MAX_BYTES};
+ghost use Rattle.signal_commands.specs.declared.pcm_ltc.TheConstants.{MAX_SAMPLES};
+ghost use Rattle.signal_commands.specs.MtcRead.{along_midi};
+ghost use Rattle.signal_commands.specs.PcmLtc.{along_samples};
+ghost use Rattle.signal_commands.specs.VitcRead.{along_fields};
+
+use line_file::laws::{
+    answers_of_a_front_come_first, bytes_have_one_list_of_answers, what_bytes_show_stays,
+};
+use mtc_reader::laws::earlier_events_stay;
+use pcm_front::laws::distances_of_a_front_come_first;
+
+/// Each of them is a command as any other: what it writes comes first and is one, and what bytes show
+/// stays.
+pub fn each_signal_makes_a_command()
+    ensures midi { IsCommand along_midi }
+    ensures samples { (slicing : Slices) → IsCommand (along_samples slicing) }
+    ensures fields { IsCommand along_fields }
+{
+    earlier_events_stay();
+    distances_of_a_front_come_first();
+    answers_of_a_front_come_first();
+    bytes_have_one_list_of_answers();
+    what_bytes_show_stays();
+}
+
+/// `mtc-read` reads a thousand million bytes, and no more.
+pub fn mtc_read_has_this_limit()
+    ensures { MAX_BYTES ≡ 1000000000 }
+{}
+
+/// `pcm-ltc` takes a thousand million samples, and no more.
+pub fn pcm_ltc_has_this_limit()
+    ensures { MAX_SAMPLES ≡ 1000000000 }
+{}

@@ -1,0 +1,144 @@
+//! The engine of `mtc-read`: a line of each event of MIDI bytes. Next: `mtc_reader/src/reader.rt`, and
+//! then `mtc_reader/src/texts.rt`.
+ghost use Rattle.std.specs.Prelude.{◌≡◌, ◌≤◌, ◌<◌, ◌+◌, ◌++◌, ℕ, List, [], length, take, OnOk, OnErr, IfErr};
+ghost use Rattle.std.specs.Io.KnownBytes.{Appends};
+ghost use Rattle.mtc_reader.specs.declared.event.MtcEvent.{MtcEvent};
+ghost use Rattle.mtc_reader.specs.Events.{events_in};
+ghost use Rattle.mtc_reader.specs.StandsFor as reads;
+ghost use Rattle.mtc_reader.specs.StandsFor.{events_of};
+ghost use Rattle.mtc_reader.specs.Texts.{event_line};
+ghost use Rattle.tc_io.specs.Sink.{AppendsFront};
+ghost use Rattle.tc_command.specs.Causes.{HasOutCause, HasSourceCause};
+ghost use Rattle.tc_command.specs.Ran.{CameToItsEnd, StoppedBefore};
+ghost use Rattle.signal_commands.specs.KeptMtc.{counted, FitsReport, Stands};
+ghost use Rattle.signal_commands.specs.MtcRead.{along_midi};
+
+use line_text::Text;
+use mtc_reader::{MtcEvent, MtcReader, mtc_end_text, push_mtc_text};
+use tc_command::{Engine, Stop, push_line, work};
+use tc_io::{Sink, Source};
+
+/// So many bytes are read, at most.
+pub const MAX_BYTES: u64 = 1_000_000_000;
+
+/// Works `mtc-read`: a line for each label of MIDI Time Code in MIDI bytes, and the last line.
+pub fn read_midi<S: Source, K: Sink>(source: &mut S, out: &mut K) -> Result<(), Stop>
+    ensures ends { OnOk result (CameToItsEnd (along_midi) (S.left source.old) (S.left source.new)
+        (K.written out.old) (K.written out.new)) }
+    ensures stops { IfErr result (λ stop. StoppedBefore (along_midi) stop (S.left source.old) (S.left source.new)
+        (K.written out.old) (K.written out.new)) }
+    ensures source { HasSourceCause (S.faults source.old) (S.faults source.new) result }
+    ensures out { HasOutCause (K.faults out.old) (K.faults out.new) result }
+{
+    work(&mut MtcReport::new(), source, out)
+}
+
+/// A reader of MIDI bytes, and how many of its events of each kind were printed.
+#[derive(Drop)]
+struct MtcReport {
+    reader: MtcReader,
+    full: u64,
+    quarter: u64,
+    refused: u64,
+}
+
+impl MtcReport {
+    /// Before the first byte.
+    fn new() -> MtcReport
+        ensures fits { FitsReport result }
+        ensures stands { Stands result [] [] }
+    {
+        MtcReport {
+            reader: MtcReader::new(),
+            full: 0,
+            quarter: 0,
+            refused: 0,
+        }
+    }
+
+    /// Takes bytes up to the one with which an event is complete, and all that may be taken where none is. It
+    /// answers how many these are, and the event.
+    fn read(&mut self, bytes: &[u8]) -> (usize, Option<MtcEvent>)
+        requires some { 0 < length bytes.now }
+        requires within { self.old.reader.bytes < MAX_BYTES }
+        ensures least { 1 ≤ result.0 }
+        ensures most { result.0 ≤ length bytes.now }
+        ensures count { self.new.reader.bytes ≡ self.old.reader.bytes + result.0 }
+        ensures within { self.new.reader.bytes ≤ MAX_BYTES }
+        ensures kept { self.new ≡ record self.old { reader = self.new.reader } }
+        ensures stands { (front : List ℕ) → reads.StandsFor self.old.reader front
+            → reads.StandsFor self.new.reader (front ++ take result.0 bytes.now) }
+        ensures gives { (front : List ℕ) → reads.StandsFor self.old.reader front
+            → events_in (front ++ take result.0 bytes.now) ≡ events_in front ++ events_of result.1 }
+    {
+        let room = (MAX_BYTES - self.reader.bytes()) as usize;
+        self.reader.take(&bytes[..bytes.len().min(room)])
+    }
+
+    /// Counts an event, and pushes its line.
+    fn print<K: Sink>(&mut self, event: &MtcEvent, out: &mut K) -> Result<(), Stop>
+        requires { self.old.full + self.old.quarter + self.old.refused < MAX_BYTES }
+        ensures counted { self.new ≡ counted event.now self.old }
+        ensures reader { self.new.reader ≡ self.old.reader }
+        ensures all { OnOk result (Appends (K.written out.old) (K.written out.new) (event_line event.now)) }
+        ensures front { OnErr result (AppendsFront (K.written out.old) (K.written out.new) (event_line event.now)) }
+        ensures why { IfErr result (λ stop. stop ≡ Stop.WriteFault) }
+        ensures cause { HasOutCause (K.faults out.old) (K.faults out.new) result }
+    {
+        match event {
+            MtcEvent::Full { .. } => self.full += 1,
+            MtcEvent::Quarter { .. } => self.quarter += 1,
+            MtcEvent::RefusedFull { .. } => self.refused += 1,
+            MtcEvent::RefusedQuarter { .. } => self.refused += 1,
+        }
+        let mut line = Text::new();
+        push_mtc_text(&mut line, event);
+        push_line(out, &line)
+    }
+}
+
+impl Engine for MtcReport {
+    ghost use Rattle.std.specs.Prelude.{◌-◌, ⊤};
+    ghost use Rattle.signal_commands.specs.KeptMtc.{FitsReport, Stands, stands_well};
+    ghost use Rattle.signal_commands.specs.MtcRead.{along_midi};
+    ghost use Rattle.signal_commands.specs.declared.mtc_read.TheConstants.{MAX_BYTES};
+
+    type Choice = ();
+
+    ghost meaning = { λ choice. along_midi };
+
+    ghost choice = { λ s. tt };
+
+    ghost is_going = { λ s. FitsReport s };
+
+    ghost stands = { λ s bytes written. Stands s bytes written };
+
+    ghost budget = { λ s. MAX_BYTES - s.reader.bytes };
+
+    ghost is_settled = { λ _. ⊤ };
+
+    ghost stands_well = { λ s bytes written settled stands. stands_well s bytes written stands };
+
+    fn take<K: Sink>(&mut self, bytes: &[u8], out: &mut K) -> Result<usize, Stop> {
+        if self.reader.bytes() == MAX_BYTES {
+            return Err(Stop::Limit);
+        }
+        let (count, event) = self.read(bytes);
+        if let Some(event) = event {
+            self.print(&event, out)?;
+        }
+        Ok(count)
+    }
+
+    fn flush<K: Sink>(&mut self, _out: &mut K) -> Result<(), Stop> {
+        Ok(())
+    }
+
+    fn finish<K: Sink>(&self, out: &mut K) -> Result<(), Stop> {
+        let bytes = self.reader.bytes();
+        push_line(
+            out,
+            &mtc_end_text(bytes, self.full, self.quarter, self.refused),
+        )
+    }
+}

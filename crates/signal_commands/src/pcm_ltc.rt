@@ -1,0 +1,194 @@
+//! The engine of `pcm-ltc`: an interval file of the crossings of sound. Next:
+//! `pcm_front/src/slicer.rt`, and then `tc_command/src/gathered.rt`.
+ghost use Rattle.std.specs.Prelude.{◌≡◌, ◌+◌, ◌*◌, ◌≤◌, ◌^◌, ◌++◌, ℕ, List, [], length, take, OnOk, OnErr, IfOk, IfErr, Err};
+ghost use Rattle.std.specs.Io.KnownBytes.{Appends};
+ghost use Rattle.pcm_front.specs.Distance.{pieces_of};
+ghost use Rattle.tc_files.specs.declared.interval_file.header.FileVersion.{FileVersion};
+ghost use Rattle.tc_files.specs.Grammar.{intervals_bytes};
+ghost use Rattle.tc_files.specs.Piece.{spelling};
+ghost use Rattle.tc_io.specs.Sink.{AppendsFront};
+ghost use Rattle.tc_command.specs.Causes.{HasOutCause, HasSourceCause};
+ghost use Rattle.tc_command.specs.Ran.{CameToItsEnd, StoppedBefore};
+ghost use Rattle.signal_commands.specs.KeptSlices.{IsGoing, Slices, Stands};
+ghost use Rattle.signal_commands.specs.PcmLtc.{along_samples};
+ghost use Rattle.tc_command.specs.Stops.{Stops};
+
+use byteorder::{BigEndian, ByteOrder};
+use pcm_front::{MAX_INTERVAL, Slicer, pieces};
+use tc_command::{Engine, Gathered, Stop, work};
+use tc_files::{FileFault, FileVersion, IntervalHeader, interval_header};
+use tc_io::{Sink, Source};
+use tc_words::Slicing;
+
+/// So many samples are taken, at most.
+pub const MAX_SAMPLES: u64 = 1_000_000_000;
+
+/// Works `pcm-ltc`: an interval file of the distances between the crossings of samples.
+pub fn slice_sound<S: Source, K: Sink>(
+    slicing: &Slicing,
+    source: &mut S,
+    out: &mut K,
+) -> Result<(), Stop>
+    ensures ends { OnOk result (CameToItsEnd (along_samples slicing.now) (S.left source.old) (S.left source.new)
+        (K.written out.old) (K.written out.new)) }
+    ensures stops { IfErr result (λ stop. StoppedBefore (along_samples slicing.now) stop (S.left source.old) (S.left source.new)
+        (K.written out.old) (K.written out.new)) }
+    ensures source { HasSourceCause (S.faults source.old) (S.faults source.new) result }
+    ensures out { HasOutCause (K.faults out.old) (K.faults out.new) result }
+{
+    work(&mut SlicedSound::new(slicing), source, out)
+}
+
+/// Sound on its way into intervals.
+#[derive(Drop)]
+struct SlicedSound {
+    slicing: Slicing,
+    slicer: Slicer,
+    /// Whole samples so far.
+    samples: u64,
+    /// The first byte of a sample, where a pull ended behind it.
+    half: Option<u8>,
+    gathered: Gathered,
+}
+
+impl SlicedSound {
+    /// Before the first sample. The header stands already.
+    fn new(slicing: &Slicing) -> SlicedSound
+        ensures choice { result.slicing ≡ slicing.now }
+        ensures going { IsGoing result }
+        ensures stands { Stands result [] [] }
+    {
+        let header = interval_header(&IntervalHeader {
+            version: FileVersion::One,
+            system: slicing.system(),
+            tick_rate: slicing.tick_rate(),
+        });
+        SlicedSound {
+            slicing: *slicing,
+            slicer: Slicer::finer(slicing.fineness(), slicing.threshold()),
+            samples: 0,
+            half: None,
+            gathered: Gathered::holding(&header),
+        }
+    }
+
+    /// Slices whole samples at the front of the bytes, up to a crossing, and answers on how many bytes.
+    fn slice<K: Sink>(&mut self, bytes: &[u8], out: &mut K) -> Result<usize, Stop>
+        requires going { IsGoing self.old }
+        requires some { 2 ≤ length bytes.now }
+        ensures going { OnOk result (IsGoing self.new) }
+        ensures count { IfOk result (λ count. (2 ≤ count) × (count ≤ length bytes.now)) }
+        ensures samples { IfOk result (λ count. 2 * self.new.samples ≡ 2 * self.old.samples + count) }
+        ensures slicing { self.new.slicing ≡ self.old.slicing }
+        ensures half { self.new.half ≡ self.old.half }
+        ensures works { IfOk result (λ count. (whole written : List ℕ) → Slices self.old whole written
+            → (more : List ℕ) × Appends (K.written out.old) (K.written out.new) more
+            × Slices self.new (whole ++ take count bytes.now) (written ++ more)) }
+        ensures stops { IfErr result (λ stop. (whole written rest : List ℕ) → Slices self.old whole written
+            → Stops (along_samples self.old.slicing) stop (K.written out.old) (K.written out.new) (whole ++ (bytes.now ++ rest)) written) }
+        ensures cause { HasOutCause (K.faults out.old) (K.faults out.new) result }
+        ensures no_pull { result ≡ Err Stop.ReadFault → ⊥ }
+    {
+        if self.samples == MAX_SAMPLES {
+            self.gathered.push(out)?;
+            return Err(Stop::Limit);
+        }
+        let (count, distance) = self.slicer.run(within(bytes, MAX_SAMPLES - self.samples));
+        self.samples += (count / 2) as u64;
+        if let Some(distance) = distance {
+            spell(&mut self.gathered, distance, out)?;
+        }
+        Ok(count)
+    }
+}
+
+/// The bytes of at most so many samples.
+fn within(bytes: &[u8], samples: u64) -> &[u8]
+    requires some { 1 ≤ samples }
+    requires most { samples ≤ MAX_SAMPLES }
+    ensures front { result.now ≡ take (2 * samples) bytes.now }
+{
+    let most = 2 * samples as usize;
+    if most < bytes.len() {
+        &bytes[..most]
+    } else {
+        bytes
+    }
+}
+
+/// Spells the intervals of a distance.
+fn spell<K: Sink>(gathered: &mut Gathered, distance: u64, out: &mut K) -> Result<(), Stop>
+    requires least { 1 ≤ distance }
+    requires most { distance ≤ 2 ^ 62 }
+    ensures all { OnOk result ((more : List ℕ) × Appends (K.written out.old) (K.written out.new) more
+        × (gathered.old.room.items ++ intervals_bytes FileVersion.One (pieces_of distance) ≡ more ++ gathered.new.room.items)) }
+    ensures front { OnErr result (AppendsFront (K.written out.old) (K.written out.new)
+        (gathered.old.room.items ++ intervals_bytes FileVersion.One (pieces_of distance))) }
+    ensures why { IfErr result (λ stop. stop ≡ Stop.WriteFault) }
+    ensures cause { HasOutCause (K.faults out.old) (K.faults out.new) result }
+{
+    let (whole, rest) = pieces(distance);
+    'pieces: for _done in 0..whole {
+        gathered.put(&spelling(MAX_INTERVAL), out)?;
+    }
+    gathered.put(&spelling(rest), out)
+}
+
+/// The bytes of an interval.
+fn spelling(x: u32) -> [u8; 4]
+    requires least { 1 ≤ x }
+    requires most { x ≤ MAX_INTERVAL }
+    ensures { result ≡ spelling FileVersion.One x }
+{
+    let mut bytes = [0; 4];
+    BigEndian::write_u32(&mut bytes, x);
+    bytes
+}
+
+impl Engine for SlicedSound {
+    ghost use Rattle.std.specs.Prelude.{◌-◌, ◌+◌, ◌*◌, ◌≡◌, [], length};
+    ghost use Rattle.std.specs.Option.{option_to_list};
+    ghost use Rattle.signal_commands.specs.KeptSlices.{IsGoing, Stands, stands_well};
+    ghost use Rattle.signal_commands.specs.PcmLtc.{along_samples};
+    ghost use Rattle.signal_commands.specs.declared.pcm_ltc.TheConstants.{MAX_SAMPLES};
+
+    type Choice = Slicing;
+
+    ghost meaning = { λ slicing. along_samples slicing };
+
+    ghost choice = { λ s. s.slicing };
+
+    ghost is_going = { λ s. IsGoing s };
+
+    ghost stands = { λ s bytes written. Stands s bytes written };
+
+    ghost is_settled = { λ s. s.gathered.room.items ≡ [] };
+
+    ghost budget = { λ s. 2 * MAX_SAMPLES + 1 - (2 * s.samples + length (option_to_list s.half)) };
+
+    ghost stands_well = { λ s bytes written settled stands. stands_well s bytes written settled stands };
+
+    fn take<K: Sink>(&mut self, bytes: &[u8], out: &mut K) -> Result<usize, Stop> {
+        if let Some(low) = self.half {
+            self.slice(&[low, bytes[0]], out)?;
+            self.half = None;
+            return Ok(1);
+        }
+        if bytes.len() == 1 {
+            self.half = Some(bytes[0]);
+            return Ok(1);
+        }
+        self.slice(bytes, out)
+    }
+
+    fn flush<K: Sink>(&mut self, out: &mut K) -> Result<(), Stop> {
+        self.gathered.push(out)
+    }
+
+    fn finish<K: Sink>(&self, _out: &mut K) -> Result<(), Stop> {
+        match self.half {
+            Some(_) => Err(Stop::Refused(FileFault::Truncated(2 * self.samples + 1))),
+            None => Ok(()),
+        }
+    }
+}

@@ -1,0 +1,126 @@
+//! The engine of `vitc-read`: a line of each field of a line file. Next: `line_file/src/decoder.rt`, and
+//! then `line_file/src/texts.rt`.
+ghost use Rattle.std.specs.Prelude.{◌≡◌, ◌<◌, ◌≤◌, ◌+◌, [], OnOk, OnErr, IfErr};
+ghost use Rattle.std.specs.Io.KnownBytes.{Appends};
+ghost use Rattle.line_file.specs.declared.decoder.TheConstants.{MAX_FIELDS};
+ghost use Rattle.line_file.specs.Texts.{field_line};
+ghost use Rattle.tc_io.specs.Sink.{AppendsFront};
+ghost use Rattle.tc_command.specs.Causes.{HasOutCause, HasSourceCause};
+ghost use Rattle.tc_command.specs.Ran.{CameToItsEnd, StoppedBefore};
+ghost use Rattle.signal_commands.specs.KeptFields.{counted, FitsFields, Stands};
+ghost use Rattle.signal_commands.specs.VitcRead.{along_fields};
+
+use line_file::laws::a_decoder_tells_the_file;
+use line_file::{LineDecoder, Taken, field_end_text, field_text};
+use tc_command::{Engine, Stop, push_line, work};
+use tc_io::{Sink, Source};
+use vitc_reader::FieldAnswer;
+
+/// Works `vitc-read`: a line for each field of a line file, and the last line.
+pub fn read_fields<S: Source, K: Sink>(source: &mut S, out: &mut K) -> Result<(), Stop>
+    ensures ends { OnOk result (CameToItsEnd (along_fields) (S.left source.old) (S.left source.new)
+        (K.written out.old) (K.written out.new)) }
+    ensures stops { IfErr result (λ stop. StoppedBefore (along_fields) stop (S.left source.old) (S.left source.new)
+        (K.written out.old) (K.written out.new)) }
+    ensures source { HasSourceCause (S.faults source.old) (S.faults source.new) result }
+    ensures out { HasOutCause (K.faults out.old) (K.faults out.new) result }
+{
+    work(&mut FieldReport::new(), source, out)
+}
+
+/// A decoder of a line file, and how many of its fields were printed, in all and of each kind.
+#[derive(Drop)]
+struct FieldReport {
+    decoder: LineDecoder,
+    fields: u64,
+    agreed: u64,
+    conflict: u64,
+    nothing: u64,
+}
+
+impl FieldReport {
+    /// Before the first byte.
+    fn new() -> FieldReport
+        ensures fits { FitsFields result }
+        ensures stands { Stands result [] [] }
+    {
+        a_decoder_tells_the_file();
+        FieldReport {
+            decoder: LineDecoder::new(),
+            fields: 0,
+            agreed: 0,
+            conflict: 0,
+            nothing: 0,
+        }
+    }
+
+    /// Counts a field, and pushes its line.
+    fn print<K: Sink>(&mut self, answer: &FieldAnswer, out: &mut K) -> Result<(), Stop>
+        requires within { self.old.fields < MAX_FIELDS }
+        requires counts { self.old.agreed + self.old.conflict + self.old.nothing ≤ self.old.fields }
+        ensures counted { self.new ≡ counted answer.now self.old }
+        ensures all { OnOk result (Appends (K.written out.old) (K.written out.new) (field_line self.old.fields answer.now)) }
+        ensures front { OnErr result (AppendsFront (K.written out.old) (K.written out.new) (field_line self.old.fields answer.now)) }
+        ensures why { IfErr result (λ stop. stop ≡ Stop.WriteFault) }
+        ensures cause { HasOutCause (K.faults out.old) (K.faults out.new) result }
+    {
+        let field = self.fields;
+        self.fields += 1;
+        match answer {
+            FieldAnswer::Agreed(_) => self.agreed += 1,
+            FieldAnswer::Conflict(_, _) => self.conflict += 1,
+            FieldAnswer::NoLine => self.nothing += 1,
+            FieldAnswer::Nothing(_) => self.nothing += 1,
+        }
+        push_line(out, &field_text(field, answer))
+    }
+}
+
+impl Engine for FieldReport {
+    ghost use Rattle.std.specs.Prelude.{◌-◌, ◌+◌, length, ⊤};
+    ghost use Rattle.signal_commands.specs.KeptFields.{most_bytes, FitsFields, Stands, stands_well};
+    ghost use Rattle.signal_commands.specs.VitcRead.{along_fields};
+
+    type Choice = ();
+
+    ghost meaning = { λ choice. along_fields };
+
+    ghost choice = { λ s. tt };
+
+    ghost is_going = { λ s. FitsFields s };
+
+    ghost stands = { λ s bytes written. Stands s bytes written };
+
+    ghost budget = { λ s. most_bytes - (s.decoder.place + length s.decoder.part) };
+
+    ghost is_settled = { λ _. ⊤ };
+
+    ghost stands_well = { λ s bytes written settled stands. stands_well s bytes written stands };
+
+    fn take<K: Sink>(&mut self, bytes: &[u8], out: &mut K) -> Result<usize, Stop> {
+        a_decoder_tells_the_file();
+        match self.decoder.take(bytes) {
+            Taken::Nothing(count) => Ok(count),
+            Taken::Field { count, answer } => {
+                self.print(&answer, out)?;
+                Ok(count)
+            }
+            Taken::Fault(fault) => Err(Stop::Refused(fault)),
+            Taken::Limit => Err(Stop::Limit),
+        }
+    }
+
+    fn flush<K: Sink>(&mut self, _out: &mut K) -> Result<(), Stop> {
+        Ok(())
+    }
+
+    fn finish<K: Sink>(&self, out: &mut K) -> Result<(), Stop> {
+        match self.decoder.finish() {
+            Ok(()) => push_line(
+                out,
+                &field_end_text(self.fields, self.agreed, self.conflict, self.nothing),
+            ),
+            Err(fault) => Err(Stop::Refused(fault)),
+        }
+    }
+}

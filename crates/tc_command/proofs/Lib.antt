@@ -1,0 +1,2 @@
+mod BytesPulled
+mod Digits

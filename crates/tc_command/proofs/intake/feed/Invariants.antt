@@ -1,0 +1,17 @@
+use Rattle.std.proofs.Common.{◌≡◌, ◌<◌, ◌≤◌, ◌-◌, take, length}
+use Rattle.tc_command.specs.KeptWorks.{Works}
+use Rattle.tc_command.proofs.intake.feed.Given as goal
+
+abbrev pub invariant-bytes : goal.invariant-bytes
+invariant-bytes g l = record {
+  within : l.at ≤ length l.bytes;
+  going : g.E.Engine.is_going l.engine;
+  budget : g.E.Engine.budget l.engine ≤ g.E.Engine.budget l.fn.engine;
+  falls : 0 < l.at → g.E.Engine.budget l.engine < g.E.Engine.budget l.fn.engine;
+  choice : g.E.Engine.choice l.engine ≡ g.E.Engine.choice l.fn.engine;
+  works : Works (g.E.Engine.stands l.fn.engine) (g.E.Engine.stands l.engine) (g.K.Sink.written l.fn.out) (g.K.Sink.written l.out) (take l.at l.bytes);
+  same : g.K.Sink.faults l.out ≡ g.K.Sink.faults l.fn.out;
+}
+
+abbrev pub decreases-bytes : goal.decreases-bytes
+decreases-bytes g l = length l.bytes - l.at

@@ -1,0 +1,39 @@
+-- By whose fault a job ended: a count of faults rose, or stands at its last value, where a call on that object failed, and else it stands
+-- as it was.
+use Rattle.std.specs.Prelude.{◌≡◌, ℕ, Result, Ok, Err}
+use Rattle.tc_io.specs.Source.{Rose}
+use Rattle.tc_command.specs.declared.stop.Stop.{Stop}
+use Rattle.tc_command.specs.declared.status.Status.{Status}
+use Rattle.tc_command.specs.declared.status.Status.TheVariants.{Done, Usage, Refused, ReadFault, WriteFault, Memory, Limit}
+use Rattle.tc_command.specs.Status.{status_of}
+
+-- of the source
+abbrev pub SourceCause : Status → ℕ → ℕ → Type 0
+SourceCause ReadFault before now = Rose before now
+SourceCause Done before now = now ≡ before
+SourceCause Usage before now = now ≡ before
+SourceCause Refused before now = now ≡ before
+SourceCause WriteFault before now = now ≡ before
+SourceCause Memory before now = now ≡ before
+SourceCause Limit before now = now ≡ before
+
+-- of the output
+abbrev pub OutCause : Status → ℕ → ℕ → Type 0
+OutCause WriteFault before now = Rose before now
+OutCause Done before now = now ≡ before
+OutCause Usage before now = now ≡ before
+OutCause Refused before now = now ≡ before
+OutCause ReadFault before now = now ≡ before
+OutCause Memory before now = now ≡ before
+OutCause Limit before now = now ≡ before
+
+-- the status of a job that came to its end, or stopped
+abbrev pub ended_with : {T : Type 0} → Result T Stop → Status
+ended_with (Ok _) = Done
+ended_with (Err stop) = status_of stop
+
+abbrev pub HasSourceCause : {T : Type 0} → ℕ → ℕ → Result T Stop → Type 0
+HasSourceCause before now result = SourceCause (ended_with result) before now
+
+abbrev pub HasOutCause : {T : Type 0} → ℕ → ℕ → Result T Stop → Type 0
+HasOutCause before now result = OutCause (ended_with result) before now

@@ -1,0 +1,26 @@
+-- What goes through a run: the bytes pulled and written, and the note.
+use Rattle.std.specs.Prelude.{◌≡◌, ℕ, List, Option}
+use Rattle.std.specs.Io.KnownBytes.{Appends, Consumes}
+use Rattle.tc_io.specs.Source.{Rose}
+use Rattle.tc_io.specs.Sink.{AppendsFront}
+
+-- what went through a run: the bytes pulled and what is left of the input, the bytes written, and the note
+pub record Exchange : Type 0 where
+  pub pulled : List ℕ
+  pub left : Option (List ℕ)
+  pub written : List ℕ
+  pub note : List ℕ
+
+-- it was pulled from a source
+pub record IsPulled (before now : Option (List ℕ)) (e : Exchange) : Type 0 where
+  pub bytes : Consumes before now e.pulled
+  pub left : now ≡ e.left
+
+-- it was written to a sink
+abbrev pub IsWritten : Option (List ℕ) → Option (List ℕ) → Exchange → Type 0
+IsWritten before now e = Appends before now e.written
+
+-- a front of the note was written, and all of it where no count of faults rose
+pub record IsNoted (before now : Option (List ℕ)) (faults_before faults_now : ℕ) (e : Exchange) : Type 0 where
+  pub front : AppendsFront before now e.note
+  pub all : ¬ Rose faults_before faults_now → Appends before now e.note

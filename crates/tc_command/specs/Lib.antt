@@ -1,0 +1,16 @@
+pub mod Causes
+pub mod ComesFirst
+pub mod Command
+pub mod Exchange
+pub mod KeptFirst
+pub mod KeptGathered
+pub mod KeptPushed
+pub mod KeptStatus
+pub mod KeptText
+pub mod KeptWorks
+pub mod Meaning
+pub mod Notes
+pub mod Ran
+pub mod Status
+pub mod Stops
+pub mod WholeInput

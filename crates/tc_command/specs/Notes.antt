@@ -1,0 +1,43 @@
+-- The note of each status but Done: one line.
+use Rattle.std.specs.Prelude.{ℕ, List, ◌++◌, codes, decimal}
+use Rattle.tc_files.specs.declared.fault.FileFault.{FileFault}
+use Rattle.tc_files.specs.Fault.{name_of, place_of}
+use Rattle.tc_words.specs.declared.fault.WordsFault.{WordsFault}
+use Rattle.tc_words.specs.declared.fault.WordsFault.TheVariants as words
+use Rattle.chase_script.specs.declared.fault.RowFault.{RowFault}
+use Rattle.chase_script.specs.Column.{number_of_column}
+use Rattle.tc_command.specs.declared.stop.ChaseStop.{ChaseStop}
+use Rattle.tc_command.specs.declared.stop.ChaseStop.TheVariants as chase
+use Rattle.tc_command.specs.declared.stop.Stop.{Stop}
+use Rattle.tc_command.specs.declared.stop.Stop.TheVariants.{Refused, ReadFault, WriteFault, Limit}
+
+-- the fault of the file and its byte place
+abbrev pub refused_note : FileFault → List ℕ
+refused_note fault = codes "tc: refused: " ++ name_of fault ++ codes " at byte " ++ decimal (place_of fault) ++ codes "\n"
+
+-- why a job stopped
+abbrev pub stop_note : Stop → List ℕ
+stop_note (Refused fault) = refused_note fault
+stop_note ReadFault = codes "tc: read fault\n"
+stop_note WriteFault = codes "tc: write fault\n"
+stop_note Limit = codes "tc: limit\n"
+
+-- the first refused row of a script and its least refused column
+abbrev pub row_note : RowFault → List ℕ
+row_note fault = codes "tc: refused: row " ++ decimal fault.row ++ codes " column " ++ decimal (number_of_column fault.column) ++ codes "\n"
+
+-- why a chase stopped
+abbrev pub chase_note : ChaseStop → List ℕ
+chase_note (chase.Refused fault) = row_note fault
+chase_note chase.ReadFault = codes "tc: read fault\n"
+chase_note chase.WriteFault = codes "tc: write fault\n"
+chase_note chase.Memory = codes "tc: out of memory\n"
+chase_note chase.Limit = codes "tc: limit\n"
+
+-- the first fault of the words, or want of memory
+abbrev pub usage_note : WordsFault → List ℕ
+usage_note (words.Dash place) = codes "tc: usage: dash in word " ++ decimal place ++ codes "\n"
+usage_note words.Command = codes "tc: usage: command\n"
+usage_note words.CountOfWords = codes "tc: usage: count of words\n"
+usage_note (words.Value place) = codes "tc: usage: value of word " ++ decimal place ++ codes "\n"
+usage_note (words.Memory error) = codes "tc: out of memory\n"

@@ -1,0 +1,36 @@
+//! A command of the program, whatever it reads and writes: what that is, how it is worked between a
+//! source and a sink, and how it ends.
+//!
+//! A command that reads is an `Engine`: it takes what was pulled, and `work` pulls its input to the end.
+//! One that reads nothing is a `Maker`, whose output `make` pushes piece by piece. Both run in fixed
+//! memory. The crates of the commands stand on this one, and `tc_top` on all of them.
+//!
+//! What this crate promises, for all sources and sinks:
+//! - What a command takes and writes is its `Meaning` (`specs/Meaning.antt`), and a run of it has come to
+//!   its end or was stopped, with exactly what was due (`specs/Ran.antt`, over `specs/Stops.antt`).
+//! - It stops by a fault of the source or of the sink only where its count rose (`specs/Causes.antt`).
+//! - The note is the one line of how it ended (`specs/Notes.antt`).
+//! - What holds of every command is `IsCommand` (`specs/Command.antt`): what is written comes first, there
+//!   is one output of an input, and what bytes show stays. From it follow the status of a whole input
+//!   (`specs/WholeInput.antt`) and that what was written is a front of the whole output.
+//!
+//! Read `engine`, `intake`, `making`, `gathered`, `pushing`, `stop`, `status` and `notes`.
+#![tactic(auto)]
+
+mod engine;
+mod gathered;
+mod intake;
+mod making;
+mod notes;
+mod pushing;
+mod status;
+mod stop;
+
+pub use engine::Engine;
+pub use gathered::Gathered;
+pub use intake::work;
+pub use making::{Maker, PIECE, Piece, give_all, make};
+pub use notes::{chase_note, push_note, stop_note, usage_note};
+pub use pushing::{push_line, push_piece};
+pub use status::Status;
+pub use stop::{ChaseStop, Stop};

@@ -1,0 +1,68 @@
+//! The way out of a command that reads nothing: its output goes out piece by piece, in fixed room.
+//! Next: `pushing`.
+ghost use Rattle.std.specs.Prelude.{◌≡◌, ℕ, ◌<◌, ◌≤◌, List, [], ◌++◌, true, false, OnOk, OnErr, IfErr};
+ghost use Rattle.std.specs.Io.KnownBytes.{Appends};
+ghost use Rattle.tc_io.specs.Sink.{AppendsFront};
+ghost use Rattle.tc_files.specs.Grammar.{AreBytes};
+ghost use Rattle.tc_command.specs.Causes.{HasOutCause, HasSourceCause};
+ghost use Rattle.tc_command.specs.Meaning.{writes};
+ghost use Rattle.tc_command.specs.Ran.{CameToItsEnd, StoppedBefore};
+
+use crate::pushing::push_piece;
+use crate::stop::Stop;
+use arrayvec::ArrayVec;
+use tc_io::{Sink, Source};
+
+/// The room in which output is gathered before it is pushed.
+pub type Piece = ArrayVec<u8, PIECE>;
+
+/// How many bytes it takes.
+pub const PIECE: usize = 4096;
+
+/// A command that reads nothing, and has some of its output still to give.
+pub trait Maker {
+    /// The output that it has still to give.
+    ghost rest: { Self → List ℕ };
+
+    /// How many pieces that is, at most.
+    ghost pieces: { Self → ℕ };
+
+    /// Puts the next piece into an empty room, and tells whether there was one.
+    fn give(&mut self, room: &mut Piece) -> bool
+        requires { room.old.items ≡ [] }
+        ensures given { rest self.old ≡ room.new.items ++ rest self.new }
+        ensures more { result ≡ true → pieces self.new < pieces self.old }
+        ensures all { result ≡ false → rest self.old ≡ [] };
+}
+
+/// Gives the whole output, and pulls nothing.
+pub fn make<M: Maker, S: Source, K: Sink>(
+    maker: &mut M,
+    source: &mut S,
+    out: &mut K,
+) -> Result<(), Stop>
+    ensures ends { OnOk result (CameToItsEnd (writes (M.rest maker.old)) (S.left source.old) (S.left source.new)
+        (K.written out.old) (K.written out.new)) }
+    ensures stops { IfErr result (λ stop. StoppedBefore (writes (M.rest maker.old)) stop (S.left source.old) (S.left source.new)
+        (K.written out.old) (K.written out.new)) }
+    ensures idle { source.new ≡ source.old }
+    ensures out { HasOutCause (K.faults out.old) (K.faults out.new) result }
+    ensures why { IfErr result (λ stop. stop ≡ Stop.WriteFault) }
+{
+    give_all(maker, out)
+}
+
+/// Pushes each piece.
+pub fn give_all<M: Maker, K: Sink>(maker: &mut M, out: &mut K) -> Result<(), Stop>
+    ensures all { OnOk result (Appends (K.written out.old) (K.written out.new) (M.rest maker.old)) }
+    ensures front { OnErr result (AppendsFront (K.written out.old) (K.written out.new) (M.rest maker.old)) }
+    ensures why { IfErr result (λ stop. stop ≡ Stop.WriteFault) }
+    ensures cause { HasOutCause (K.faults out.old) (K.faults out.new) result }
+{
+    let mut room = Piece::new();
+    'pieces: while maker.give(&mut room) {
+        push_piece(out, room.as_slice())?;
+        room.clear();
+    }
+    Ok(())
+}

@@ -1,0 +1,104 @@
+//! The notes: one line for each status but Done.
+ghost use Rattle.std.specs.Prelude.{◌≡◌, ◌++◌, ◌+◌, ◌≤◌, ◌<◌, ◌^◌, length, codes, decimal};
+ghost use Rattle.std.specs.Io.KnownBytes.{Appends};
+ghost use Rattle.tc_io.specs.Source.{Rose};
+ghost use Rattle.tc_io.specs.Sink.{AppendsFront};
+ghost use Rattle.tc_command.specs.Notes.{usage_note, stop_note, refused_note, chase_note, row_note};
+
+use crate::stop::{ChaseStop, Stop};
+use chase_script::RowFault;
+use line_text::{Text, push_bytes, push_number};
+use tc_files::FileFault;
+use tc_io::{Sink, push_all};
+use tc_words::WordsFault;
+
+/// Pushes a note. A sink of notes that fails changes nothing else.
+pub fn push_note<N: Sink>(notes: &mut N, note: &Text)
+    ensures front { AppendsFront (N.written notes.old) (N.written notes.new) note.now.items }
+    ensures all { ¬ Rose (N.faults notes.old) (N.faults notes.new)
+        → Appends (N.written notes.old) (N.written notes.new) note.now.items }
+{
+    let _pushed = push_all(notes, note);
+}
+
+/// The note of a job that stopped.
+pub fn stop_note(stop: Stop) -> Text
+    ensures { result.items ≡ stop_note stop }
+{
+    match stop {
+        Stop::Refused(fault) => refused_note(fault),
+        Stop::ReadFault => line_of(b"tc: read fault\n"),
+        Stop::WriteFault => line_of(b"tc: write fault\n"),
+        Stop::Limit => line_of(b"tc: limit\n"),
+    }
+}
+
+/// The note of a chase that stopped.
+pub fn chase_note(stop: ChaseStop) -> Text
+    ensures { result.items ≡ chase_note stop }
+{
+    match stop {
+        ChaseStop::Refused(fault) => row_note(fault),
+        ChaseStop::ReadFault => line_of(b"tc: read fault\n"),
+        ChaseStop::WriteFault => line_of(b"tc: write fault\n"),
+        ChaseStop::Memory => line_of(b"tc: out of memory\n"),
+        ChaseStop::Limit => line_of(b"tc: limit\n"),
+    }
+}
+
+/// The note of words that name no job, or that there is no memory to read.
+pub fn usage_note(fault: WordsFault) -> Text
+    ensures { result.items ≡ usage_note fault }
+{
+    match fault {
+        WordsFault::Dash(place) => numbered(b"tc: usage: dash in word ", place as u64),
+        WordsFault::Command => line_of(b"tc: usage: command\n"),
+        WordsFault::CountOfWords => line_of(b"tc: usage: count of words\n"),
+        WordsFault::Value(place) => numbered(b"tc: usage: value of word ", place as u64),
+        WordsFault::Memory(_) => line_of(b"tc: out of memory\n"),
+    }
+}
+
+#[tactic(auto, using(crate::proofs::Digits::digits_of_any))]
+fn refused_note(fault: FileFault) -> Text
+    ensures { result.items ≡ refused_note fault }
+{
+    let mut line = line_of(b"tc: refused: ");
+    push_bytes(&mut line, fault.name().as_bytes());
+    push_bytes(&mut line, b" at byte ");
+    push_number(&mut line, fault.place());
+    push_bytes(&mut line, b"\n");
+    line
+}
+
+#[tactic(auto, using(crate::proofs::Digits::digits_of_any))]
+fn row_note(fault: RowFault) -> Text
+    ensures { result.items ≡ row_note fault }
+{
+    let mut line = line_of(b"tc: refused: row ");
+    push_number(&mut line, fault.row);
+    push_bytes(&mut line, b" column ");
+    push_number(&mut line, fault.column.number());
+    push_bytes(&mut line, b"\n");
+    line
+}
+
+#[tactic(auto, using(crate::proofs::Digits::digits_of_any))]
+fn numbered(front: &[u8], number: u64) -> Text
+    requires { length front.now ≤ 100 }
+    ensures { result.items ≡ front.now ++ decimal number ++ codes "\n" }
+{
+    let mut line = line_of(front);
+    push_number(&mut line, number);
+    push_bytes(&mut line, b"\n");
+    line
+}
+
+fn line_of(bytes: &[u8]) -> Text
+    requires { length bytes.now ≤ 128 }
+    ensures { result.items ≡ bytes.now }
+{
+    let mut line = Text::new();
+    push_bytes(&mut line, bytes);
+    line
+}

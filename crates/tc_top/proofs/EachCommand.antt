@@ -1,0 +1,99 @@
+-- Each job is a command as any other: it is proved once for each shape, of what a command of that shape brings.
+use Rattle.std.proofs.Common.{ℕ, List, Option, Some, None}
+use Rattle.biphase.specs.declared.profile.Profile.{Profile}
+use Rattle.tc_files.specs.declared.interval_file.header.FileVersion.{FileVersion}
+use Rattle.tc_files.specs.declared.interval_file.header.IntervalHeader.{IntervalHeader}
+use Rattle.tc_files.specs.Recording.{recording_of}
+use Rattle.flywheel.specs.declared.frame.Frame.{Frame}
+use Rattle.tc_words.specs.ChaseRun.{Chasing}
+use Rattle.tc_words.specs.Jam.{Jamming}
+use Rattle.tc_words.specs.Slicing.{Slices}
+use Rattle.tc_words.specs.declared.job.Job.{Job}
+use Rattle.tc_words.specs.declared.job.Job.TheVariants.{LtcRead, LtcWorn, LtcFly, LtcMtc, LtcJam, LtcChase, LtcConvert, LtcPcm}
+use Rattle.tc_command.specs.Command.{IsCommand}
+use Rattle.tc_command.specs.KeptText.{text_is_command}
+use Rattle.tc_command.specs.Meaning.{Meaning}
+use Rattle.interval_commands.specs.Along.{Printing}
+use Rattle.interval_commands.specs.KeptCommand.{PrintsInOrder, RecordingsGrow, along_is_command, never_spent}
+use Rattle.interval_commands.specs.LtcConvert.{conversion}
+use Rattle.interval_commands.specs.LtcPcm.{made_sound}
+use Rattle.interval_commands.specs.LtcRead.{report}
+use Rattle.frame_commands.specs.KeptFrames.{AddsInOrder}
+use Rattle.frame_commands.specs.LtcChase.{lines_of_steps}
+use Rattle.frame_commands.specs.LtcFly.{lines_of_frames}
+use Rattle.frame_commands.specs.LtcJam.{file_of_frames}
+use Rattle.frame_commands.specs.LtcMtc.{messages_of_frames}
+use Rattle.frame_commands.specs.OfFrames.{AreTooMany, FrameText, IsFlightSpent, along_frames}
+use Rattle.signal_commands.specs.MtcRead.{along_midi}
+use Rattle.signal_commands.specs.PcmLtc.{along_samples}
+use Rattle.signal_commands.specs.VitcRead.{along_fields}
+use Rattle.tc_top.specs.Commands.{HasMost, HasOwnLimit, IsLimited, Shape, meaning_by, meaning_of, shape_of}
+use Rattle.tc_top.specs.Commands.{writes_text, along_recording, along_its_frames, along_midi_bytes, along_sound, along_line_file}
+
+-- a printing has no limit of its own
+abbrev NeverSpent : Printing → Type 0
+NeverSpent p = (header : IntervalHeader) (intervals : List ℕ) → ¬ p.spent header intervals
+
+-- what a command of a shape brings
+abbrev pub Brings : Shape → Type 0
+Brings (along_recording p) = PrintsInOrder p × NeverSpent p
+Brings (along_its_frames limit made) = AddsInOrder made
+Brings _ = Unit {0}
+
+-- what the laws of the crates of the commands say
+pub record CommandLaws : Type 0 where
+  pub grow : RecordingsGrow
+  pub report : (profile : Profile) → PrintsInOrder (report profile)
+  pub conversion : (version : FileVersion) → PrintsInOrder (conversion version)
+  pub sound : (size : ℕ) → PrintsInOrder (made_sound size)
+  pub frames : (limit : ℕ) (made : FrameText) → AddsInOrder made → PrintsInOrder (along_frames limit made)
+  pub lines : AddsInOrder lines_of_frames
+  pub messages : AddsInOrder messages_of_frames
+  pub cells : (jam : Jamming) → AddsInOrder (file_of_frames jam)
+  pub steps : (run : Chasing) → AddsInOrder (lines_of_steps run)
+  pub midi : IsCommand along_midi
+  pub samples : (slicing : Slices) → IsCommand (along_samples slicing)
+  pub fields : IsCommand along_fields
+
+-- each shape
+by_shape : CommandLaws → (shape : Shape) → Brings shape → IsCommand (meaning_by shape)
+by_shape laws (writes_text text) brings = text_is_command text
+by_shape laws (along_recording p) brings = along_is_command laws.grow p brings.0
+by_shape laws (along_its_frames limit made) brings = along_is_command laws.grow (along_frames limit made) (laws.frames limit made brings)
+by_shape laws along_midi_bytes brings = laws.midi
+by_shape laws (along_sound slicing) brings = laws.samples slicing
+by_shape laws along_line_file brings = laws.fields
+
+-- what each job brings
+brings : CommandLaws → (job : Job) → Brings (shape_of job)
+brings laws LtcRead = (laws.report _, λ header intervals spent. spent)
+brings laws LtcWorn = (laws.report _, λ header intervals spent. spent)
+brings laws (LtcConvert version) = (laws.conversion version, λ header intervals spent. spent)
+brings laws (LtcPcm size) = (laws.sound size, λ header intervals spent. spent)
+brings laws (LtcFly limit) = laws.lines
+brings laws (LtcMtc limit) = laws.messages
+brings laws (LtcJam jam) = laws.cells jam
+brings laws (LtcChase run) = laws.steps run
+brings laws job = tt
+
+pub each_command : CommandLaws → (job : Job) → IsCommand (meaning_of job)
+each_command laws job = by_shape laws (shape_of job) (brings laws job)
+
+-- ---- without a limit of its own
+
+few_enough : (most : Option ℕ) → ¬ HasMost most → (frames : List Frame) → ¬ AreTooMany most frames
+few_enough None none frames = λ many. many
+few_enough (Some most) none frames = absurd (none tt)
+
+unlimited : (shape : Shape) → Brings shape → ¬ IsLimited shape → (input : List ℕ) → ¬ Meaning.spent (meaning_by shape) input
+unlimited (writes_text text) brings none input = λ spent. spent
+unlimited (along_recording p) brings none input = never_spent p brings.1 (recording_of input)
+unlimited (along_its_frames limit made) brings none input =
+    never_spent (along_frames limit made) (λ header intervals (spent : IsFlightSpent limit made header intervals). few_enough made.most none _ spent.too_many)
+    (recording_of input)
+unlimited along_midi_bytes brings none input = λ spent. spent
+unlimited (along_sound slicing) brings none input = λ spent. spent
+unlimited along_line_file brings none input = λ spent. spent
+
+pub unlimited_job : CommandLaws → (job : Job) → ¬ HasOwnLimit job → (input : List ℕ) → ¬ Meaning.spent (meaning_of job) input
+unlimited_job laws job none input = unlimited (shape_of job) (brings laws job) none input

@@ -1,0 +1,110 @@
+-- A promise names one text: the events of the file are one list, so whoever keeps the promise of a report, of lines of frames, of a copy, of a trace,
+-- of a file that is made or converted, or of a load run has written the same bytes.
+use Rattle.std.proofs.Common.{◌≡◌, ℕ, List, ◌++◌, Some, sym, ◌∙◌, ap, ap₂, subst}
+use Rattle.biphase.specs.declared.profile.Profile.{Profile}
+use Rattle.biphase.specs.declared.profile.Profile.TheVariants.{Normal, Worn}
+use Rattle.direction_reader.specs.declared.event.Event.{Event}
+use Rattle.direction_reader.specs.ListEvents.{AreEvents}
+use Rattle.flywheel.specs.declared.frame.Frame.{Frame}
+use Rattle.chase_script.specs.TraceText.{trace_text}
+use Rattle.tc_address.specs.declared.system.System.{System}
+use Rattle.tc_files.specs.declared.interval_file.header.FileVersion.{FileVersion}
+use Rattle.tc_files.specs.declared.interval_file.header.IntervalHeader.{IntervalHeader}
+use Rattle.tc_files.specs.Grammar.{IsFile, file_of}
+use Rattle.tc_files.specs.Recording.{Recording, recording_of}
+use Rattle.tc_words.specs.ChaseRun.{Chasing}
+use Rattle.tc_words.specs.Jam.{Jamming}
+use Rattle.tc_words.specs.declared.job.Job.{Job}
+use Rattle.tc_words.specs.declared.job.Job.TheVariants.{LtcRead, LtcWorn, LtcFly, LtcMtc, LtcJam, LtcChase, MtcRead, LtcMake, LtcLoad}
+use Rattle.tc_words.specs.declared.job.Job.TheVariants.{LtcConvert, PcmLtc, LtcPcm, VitcRead, VitcMake, Number, LabelOf}
+use Rattle.frame_commands.specs.declared.ltc_chase.TheConstants.{MAX_FRAMES}
+use Rattle.tc_top.specs.CleanCopy.{IsClean}
+use Rattle.tc_command.specs.Exchange.{Exchange}
+use Rattle.frame_commands.specs.LtcChase.{FollowsTheCode, first_steps}
+use Rattle.interval_commands.specs.LtcConvert.{ConvertsTheFile, in_version}
+use Rattle.frame_commands.specs.LtcFly.{ShowsTheFrames, frame_lines, last_fly_line}
+use Rattle.frame_commands.specs.LtcJam.{clean_file}
+use Rattle.interval_commands.specs.LtcRead.{last_line, lines}
+use Rattle.frame_commands.specs.OfFrames.{frames_of}
+use Rattle.tc_top.specs.Pinned.{IsPinned}
+use Rattle.tc_top.specs.Promises.{Promise}
+use Rattle.tc_top.specs.Tape.{ReportsTheTape}
+
+-- what the laws of events and of files say
+pub record PinnedLaws : Type 0 where
+  pub one_list : (system : System) (profile : Profile) (list : List ℕ) (a b : List Event) → AreEvents system profile list a
+      → AreEvents system profile list b → a ≡ b
+  pub one_recording : (bytes : List ℕ) (a b : IntervalHeader) (xs ys : List ℕ) → IsFile bytes a xs → IsFile bytes b ys → (a ≡ b) × (xs ≡ ys)
+
+one_header : (r : Recording) (a b : IntervalHeader) → r.header ≡ Some a → r.header ≡ Some b → a ≡ b
+one_header r a b p q = cc
+
+-- the events under two headers that are one
+same_events : PinnedLaws → (profile : Profile) (list : List ℕ) (a b : IntervalHeader) (es fs : List Event) → a ≡ b
+    → AreEvents a.system profile list es → AreEvents b.system profile list fs → es ≡ fs
+same_events laws profile list a b es fs same p q =
+    laws.one_list b.system profile list es fs (subst (λ (h : IntervalHeader). AreEvents h.system profile list es) same p) q
+
+one_report : PinnedLaws → (profile : Profile) (bytes a b : List ℕ) → ReportsTheTape profile bytes a → ReportsTheTape profile bytes b → a ≡ b
+one_report laws profile bytes a b p q =
+    let list = (recording_of bytes).intervals in
+    let header = one_header (recording_of bytes) p.header q.header p.begins q.begins in
+    let events = same_events laws profile list p.header q.header p.events q.events header p.are_events q.are_events in
+    p.are ∙ ap₂ (λ (h : IntervalHeader) (es : List Event). lines h es ++ last_line list es) header events ∙ sym q.are
+
+one_flight : PinnedLaws → (limit : ℕ) (bytes a b : List ℕ) → ShowsTheFrames limit bytes a → ShowsTheFrames limit bytes b → a ≡ b
+one_flight laws limit bytes a b p q =
+    let list = (recording_of bytes).intervals in
+    let header = one_header (recording_of bytes) p.header q.header p.begins q.begins in
+    let events = same_events laws Normal list p.header q.header p.events q.events header p.are_events q.are_events in
+    let frames = p.are_frames ∙ ap (frames_of limit list) events ∙ sym q.are_frames in
+    p.are ∙ ap (λ (fs : List Frame). frame_lines fs ++ last_fly_line list fs) frames ∙ sym q.are
+
+one_copy : PinnedLaws → (j : Jamming) (input : Recording) (a b : List ℕ) → IsClean j input a → IsClean j input b → a ≡ b
+one_copy laws j input a b p q =
+    let header = one_header input p.header q.header p.begins q.begins in
+    let events = same_events laws Normal input.intervals p.header q.header p.events q.events header p.are_events q.are_events in
+    let frames = p.are_frames ∙ ap (frames_of j.limit input.intervals) events ∙ sym q.are_frames in
+    p.file.are ∙ ap₂ (clean_file j) header frames ∙ sym q.file.are
+
+one_trace : PinnedLaws → (c : Chasing) (input : Recording) (a b : List ℕ) → FollowsTheCode c input a → FollowsTheCode c input b → a ≡ b
+one_trace laws c input a b p q =
+    let header = one_header input p.header q.header p.begins q.begins in
+    let events = same_events laws Normal input.intervals p.header q.header p.events q.events header p.are_events q.are_events in
+    p.text ∙ ap (λ (es : List Event). trace_text c.label.count (first_steps MAX_FRAMES c (frames_of c.limit input.intervals es))) events ∙ sym q.text
+
+one_conversion : PinnedLaws → (version : FileVersion) (bytes a b : List ℕ) → ConvertsTheFile version bytes a → ConvertsTheFile version bytes b → a ≡ b
+one_conversion laws version bytes a b p q =
+    let same = laws.one_recording bytes p.header q.header p.intervals q.intervals p.from q.from in
+    p.to.are ∙ ap₂ (λ (h : IntervalHeader) (xs : List ℕ). file_of (in_version version h) xs) same.0 same.1 ∙ sym q.to.are
+
+pub one_text : PinnedLaws → (job : Job) (pulled : List ℕ) (e f : Exchange) → IsPinned job → e.pulled ≡ pulled → f.pulled ≡ pulled
+    → Promise job e → Promise job f → e.written ≡ f.written
+one_text laws LtcRead pulled e f is x y p q =
+    one_report laws Normal pulled e.written f.written (subst (λ (l : List ℕ). ReportsTheTape Normal l e.written) x p)
+    (subst (λ (l : List ℕ). ReportsTheTape Normal l f.written) y q)
+one_text laws LtcWorn pulled e f is x y p q =
+    one_report laws Worn pulled e.written f.written (subst (λ (l : List ℕ). ReportsTheTape Worn l e.written) x p)
+    (subst (λ (l : List ℕ). ReportsTheTape Worn l f.written) y q)
+one_text laws (LtcFly limit) pulled e f is x y p q =
+    one_flight laws limit pulled e.written f.written (subst (λ (l : List ℕ). ShowsTheFrames limit l e.written) x p)
+    (subst (λ (l : List ℕ). ShowsTheFrames limit l f.written) y q)
+one_text laws (LtcJam jam) pulled e f is x y p q =
+    one_copy laws jam (recording_of pulled) e.written f.written (subst (λ (l : List ℕ). IsClean jam (recording_of l) e.written) x p)
+    (subst (λ (l : List ℕ). IsClean jam (recording_of l) f.written) y q)
+one_text laws (LtcChase run) pulled e f is x y p q =
+    one_trace laws run (recording_of pulled) e.written f.written (subst (λ (l : List ℕ). FollowsTheCode run (recording_of l) e.written) x p)
+    (subst (λ (l : List ℕ). FollowsTheCode run (recording_of l) f.written) y q)
+one_text laws (LtcConvert version) pulled e f is x y p q =
+    one_conversion laws version pulled e.written f.written (subst (λ (l : List ℕ). ConvertsTheFile version l e.written) x p)
+    (subst (λ (l : List ℕ). ConvertsTheFile version l f.written) y q)
+one_text laws (LtcMake stripe) pulled e f is x y p q = p.file.are ∙ sym q.file.are
+one_text laws (LtcLoad run) pulled e f is x y p q = p.line ∙ sym q.line
+one_text laws (VitcMake stripe) pulled e f is x y p q = p.are ∙ sym q.are
+one_text laws (LtcMtc limit) pulled e f is x y p q = absurd is
+one_text laws (LtcPcm size) pulled e f is x y p q = absurd is
+one_text laws MtcRead pulled e f is x y p q = absurd is
+one_text laws VitcRead pulled e f is x y p q = absurd is
+one_text laws (PcmLtc slicing) pulled e f is x y p q = absurd is
+one_text laws (Number label) pulled e f is x y p q = absurd is
+one_text laws (LabelOf label) pulled e f is x y p q = absurd is

@@ -1,0 +1,12 @@
+use Rattle.std.proofs.Common.{arith}
+use Rattle.tc_top.proofs.SlicedAgain.{sliced_again}
+use Rattle.tc_top.proofs.promises.is_sliced_again.Goals as goal
+
+pub returns : goal.returns
+returns c = λ e are input output. sliced_again (record {
+  inputs = c.bytes_are_read_as_the_text_says.ensures.input;
+  files = c.a_file_is_read_as_it_was_written.ensures.read;
+  samples = c.samples_are_read_as_they_were_written.ensures.sound;
+  apart = c.a_sound_is_sliced_into_its_intervals.ensures.distances;
+  sliced = c.a_sound_is_sliced_into_its_intervals.ensures.intervals;
+}) c.args.amplitude (let valid = c.size-size.ensures.valid in omega (arith, valid.1)) e.pulled e.written are input output
