@@ -23,17 +23,6 @@ repeated_recording() { # FILE TIMES
 # The words that are read from a recording.
 words_in() { "$tc" ltc-read < "$1" | awk '$1 == "end" { print $5 }'; }
 
-# The user time in seconds of a command that reads a file. The system tells it by its clock's ticks, and one run over a few megabytes
-# is too short for that: there a round has several runs.
-user_time() { runs_time 1 "$@"; } # FILE COMMAND..
-runs_time() { # RUNS FILE COMMAND..
-    local TIMEFORMAT=%3U
-    { time for _ in $(seq "$1"); do "${@:3}" < "$2" > /dev/null; done; } 2>&1
-}
-
-# The least of numbers.
-least() { tr ' ' '\n' <<< "$1" | grep . | sort -n | head -n 1; }
-
 # The user time of a command that reads a file, and the user's and the system's, as multiples of those of `tc ltc-read`: of each the least of
 # seven turns, in which both write to a file.
 beside_ltc_read() { # FILE NAME COMMAND..
