@@ -5,28 +5,25 @@
 use std::process::ExitCode;
 use std::{env, io};
 use tc_io::{ReadSource, WriteSink};
-use tc_top::{Status, run};
-
-/// The exit number where the arguments can't be had for another cause than memory, as where one of
-/// them is no text. It is the program's own: no run ends with it.
-const NO_ARGUMENTS: u8 = 8;
+use tc_top::{NoArguments, Status, exit_number, run};
 
 fn main(rt: HostRuntime) -> ExitCode {
-    let words = match words(&rt) {
+    ExitCode::from(exit_number(work(&rt)))
+}
+
+/// Runs the arguments over the standard streams.
+fn work(rt: &HostRuntime) -> Result<Status, NoArguments> {
+    let words = match words(rt) {
         Ok(words) => words,
-        Err(error) if error.kind() == io::ErrorKind::OutOfMemory => {
-            return ExitCode::from(Status::Memory.code());
-        }
-        Err(_) => return ExitCode::from(NO_ARGUMENTS),
+        Err(error) => return Err(NoArguments::by_kind(error.kind())),
     };
-    let status = run(
+    Ok(run(
         rt.alloc(),
         &words,
         &mut ReadSource::new(rt.stdin()),
         &mut WriteSink::new(rt.stdout()),
         &mut WriteSink::new(rt.stderr()),
-    );
-    ExitCode::from(status.code())
+    ))
 }
 
 /// The arguments without the program's own name.

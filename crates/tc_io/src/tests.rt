@@ -3,44 +3,59 @@ ghost use Rattle.std.specs.Prelude.{None};
 
 use super::*;
 use std::io;
-use std::io::{ErrorKind, Read, Write};
+use std::io::{Read, Write};
+use std::process::Abort;
 use std::test::Fail;
 
-/// A reader that fills each buffer with the number of its read, from 1, and of which one read fails.
-#[derive(Drop)]
-struct FailsOnce {
-    reads: u8,
-    failing: u8,
-    kind: ErrorKind,
+/// What a reader or a writer answers once.
+#[derive(Clone, Copy, Debug, PartialEq, Eq)]
+enum Answer {
+    /// No byte.
+    Nothing,
+    /// One byte.
+    One,
+    /// All that was asked for.
+    All,
+    /// The error of the operating system with this number.
+    Fault(i32),
 }
 
-impl Read for FailsOnce {
-    fn read(&mut self, buf: &mut [u8]) -> io::Result<usize> {
-        self.reads = self.reads.wrapping_add(1);
-        if self.reads == self.failing {
-            return Err(io::Error::from(self.kind));
+/// A reader or a writer that answers as it is told, one answer a call, and from the fourth call on
+/// with no byte. A byte that is read is the number of the call, from 1.
+#[derive(Drop)]
+struct Told {
+    answers: [Answer; 3],
+    calls: u8,
+}
+
+impl Told {
+    fn answer(&mut self, len: usize) -> io::Result<usize> {
+        let place = usize::from(self.calls);
+        self.calls = self.calls.saturating_add(1);
+        if place >= 3 {
+            return Ok(0);
         }
-        buf.fill(self.reads);
-        Ok(buf.len())
+        match self.answers[place] {
+            Answer::Nothing => Ok(0),
+            Answer::One => Ok(len.min(1)),
+            Answer::All => Ok(len),
+            Answer::Fault(code) => Err(io::Error::from_raw_os_error(code)),
+        }
     }
 }
 
-/// A writer that takes so many bytes of a piece at most, and of which one write fails.
-#[derive(Drop)]
-struct Partial {
-    writes: u8,
-    failing: u8,
-    kind: ErrorKind,
-    most: usize,
+impl Read for Told {
+    fn read(&mut self, buf: &mut [u8]) -> io::Result<usize> {
+        let count = self.answer(buf.len())?;
+        let number = self.calls;
+        buf[..count].fill(number);
+        Ok(count)
+    }
 }
 
-impl Write for Partial {
+impl Write for Told {
     fn write(&mut self, buf: &[u8]) -> io::Result<usize> {
-        self.writes = self.writes.wrapping_add(1);
-        if self.writes == self.failing {
-            return Err(io::Error::from(self.kind));
-        }
-        Ok(buf.len().min(self.most))
+        self.answer(buf.len())
     }
 
     fn flush(&mut self) -> io::Result<()> {
@@ -76,33 +91,14 @@ impl Sink for Noting {
     }
 }
 
-/// A writer that takes so many bytes in all, and then nothing.
-#[derive(Drop)]
-struct Filling {
-    room: usize,
-}
+/// The answers that are tried, each beside each.
+const ANSWERS: [Answer; 4] = [Answer::Nothing, Answer::One, Answer::All, Answer::Fault(4)];
 
-impl Write for Filling {
-    fn write(&mut self, buf: &[u8]) -> io::Result<usize> {
-        let taken = buf.len().min(self.room);
-        self.room -= taken;
-        Ok(taken)
-    }
+/// The greatest number of an error of the operating system.
+const LAST_ERROR: i32 = 133;
 
-    fn flush(&mut self) -> io::Result<()> {
-        Ok(())
-    }
-}
-
-/// Errors that callers like to try again after, and one that they do not.
-const KINDS: [ErrorKind; 3] = [
-    ErrorKind::Interrupted,
-    ErrorKind::WouldBlock,
-    ErrorKind::Other,
-];
-
-/// Lengths of pieces and buffers: one byte, more than a line, and more than a buffer of the program.
-const LENGTHS: [usize; 3] = [1, 200, 5_000];
+/// Lengths of pieces and buffers: one byte, a line, the buffer of the program, and more than it has.
+const LENGTHS: [usize; 4] = [1, 200, 4_096, 70_000];
 
 #[test]
 fn a_steady_source_gives_what_fits(rt: HostRuntime) -> Result<(), Fail> {
@@ -157,31 +153,51 @@ fn what_fits_is_written_before_a_fault(rt: HostRuntime) -> Result<(), Fail> {
     Ok(())
 }
 
+/// What a pull makes of an answer of the reader.
+fn pulled(answer: Answer, len: usize) -> Result<usize, Failed> {
+    match answer {
+        Answer::Nothing => Ok(0),
+        Answer::One => Ok(1),
+        Answer::All => Ok(len),
+        Answer::Fault(_) => Err(Failed),
+    }
+}
+
+/// Pulls three times, and compares each with what the reader answers: one read a pull.
+fn pull_each(rt: &impl Abort, answers: [Answer; 3], buf: &mut [u8]) {
+    let mut source = ReadSource::new(Told { answers, calls: 0 });
+    let len = buf.len();
+    for call in 0..3u8 {
+        let answer = answers[usize::from(call)];
+        assert_eq!(rt;
+            source.pull(buf),
+            pulled(answer, len),
+            "{len} bytes, {answers:?}, call {call}"
+        );
+        if matches!(&answer, Answer::One | Answer::All) {
+            assert_eq!(rt; buf[0], call + 1);
+        }
+    }
+}
+
 #[test]
 fn a_pull_is_one_read(rt: HostRuntime) {
-    let mut whole = [0; 5_000];
-    for kind in KINDS {
-        for len in LENGTHS {
-            for failing in 1..4u8 {
-                let mut source = ReadSource::new(FailsOnce {
-                    reads: 0,
-                    failing,
-                    kind,
-                });
-                let buf = &mut whole[..len];
-                for call in 1..5u8 {
-                    let wanted = if call == failing {
-                        Err(Failed)
-                    } else {
-                        Ok(len)
-                    };
-                    assert_eq!(rt; source.pull(buf), wanted, "{len} bytes, call {call}");
-                    if call != failing {
-                        assert_eq!(rt; (buf[0], buf[len - 1]), (call, call));
-                    }
+    let mut whole = [0; 70_000];
+    for len in LENGTHS {
+        for first in ANSWERS {
+            for second in ANSWERS {
+                for third in ANSWERS {
+                    pull_each(&rt, [first, second, third], &mut whole[..len]);
                 }
             }
         }
+    }
+    for code in 1..=LAST_ERROR {
+        pull_each(
+            &rt,
+            [Answer::One, Answer::Fault(code), Answer::All],
+            &mut whole[..200],
+        );
     }
 }
 
@@ -194,69 +210,88 @@ fn a_reader_at_its_end_is_no_fault(rt: HostRuntime) {
     }
 }
 
+/// What a push makes of an answer of the writer: a write that takes nothing is a fault.
+fn pushed(answer: Answer, len: usize) -> Result<usize, Failed> {
+    match answer {
+        Answer::Nothing => Err(Failed),
+        _ => pulled(answer, len),
+    }
+}
+
+/// Pushes three times, and compares each with what the writer answers: one write a push.
+fn push_each(rt: &impl Abort, answers: [Answer; 3], piece: &[u8]) {
+    let mut sink = WriteSink::new(Told { answers, calls: 0 });
+    let len = piece.len();
+    for call in 0..3u8 {
+        let answer = answers[usize::from(call)];
+        assert_eq!(rt;
+            sink.push(piece),
+            pushed(answer, len),
+            "{len} bytes, {answers:?}, call {call}"
+        );
+    }
+}
+
 #[test]
 fn a_push_is_one_write(rt: HostRuntime) {
-    let piece = [7; 5_000];
-    for kind in KINDS {
-        for len in LENGTHS {
-            for most in [1, 150, 5_000] {
-                for failing in 1..4u8 {
-                    let mut sink = WriteSink::new(Partial {
-                        writes: 0,
-                        failing,
-                        kind,
-                        most,
-                    });
-                    for call in 1..5u8 {
-                        let taken = len.min(most);
-                        let wanted = if call == failing {
-                            Err(Failed)
-                        } else {
-                            Ok(taken)
-                        };
-                        assert_eq!(rt;
-                            sink.push(&piece[..len]),
-                            wanted,
-                            "{len} bytes, call {call}"
-                        );
-                    }
+    let whole = [7; 70_000];
+    for len in LENGTHS {
+        for first in ANSWERS {
+            for second in ANSWERS {
+                for third in ANSWERS {
+                    push_each(&rt, [first, second, third], &whole[..len]);
                 }
             }
         }
+    }
+    for code in 1..=LAST_ERROR {
+        push_each(
+            &rt,
+            [Answer::One, Answer::Fault(code), Answer::All],
+            &whole[..200],
+        );
+    }
+}
+
+/// Pushes a piece in parts of at most so many bytes, of which one push fails: no push comes behind it,
+/// and none that was not needed.
+fn push_in_parts(rt: &impl Abort, piece: &[u8], most: usize, failing: u64) {
+    let mut sink = Noting {
+        pushes: 0,
+        failing,
+        most,
+        taken: 0,
+        faults: 0,
+    };
+    let len = piece.len();
+    let before = most.wrapping_mul(failing as usize - 1);
+    let outcome = push_all(&mut sink, piece);
+    if before < len {
+        assert_eq!(rt; outcome, Err(Failed), "{len} bytes in parts of {most}");
+        assert_eq!(rt; (sink.pushes, sink.taken), (failing, before));
+    } else {
+        assert_eq!(rt; outcome, Ok(()), "{len} bytes in parts of {most}");
+        assert_eq!(rt; (sink.pushes, sink.taken), (len.div_ceil(most) as u64, len));
     }
 }
 
 #[test]
 fn nothing_is_pushed_after_a_fault(rt: HostRuntime) {
     let piece = [7; 5_000];
-    for len in LENGTHS {
+    for len in 0..5_000 {
         for most in [1, 150, 5_000] {
             for failing in 1..4u64 {
-                let mut sink = Noting {
-                    pushes: 0,
-                    failing,
-                    most,
-                    taken: 0,
-                    faults: 0,
-                };
-                let before = most.wrapping_mul(failing as usize - 1);
-                let outcome = push_all(&mut sink, &piece[..len]);
-                if before < len {
-                    assert_eq!(rt; outcome, Err(Failed), "{len} bytes in parts of {most}");
-                    assert_eq!(rt; (sink.pushes, sink.taken), (failing, before));
-                } else {
-                    assert_eq!(rt; outcome, Ok(()), "{len} bytes in parts of {most}");
-                    assert_eq!(rt; (sink.pushes, sink.taken), (len.div_ceil(most) as u64, len));
-                }
+                push_in_parts(&rt, &piece[..len], most, failing);
             }
         }
     }
 }
 
 #[test]
-fn a_write_that_takes_nothing_is_a_fault(rt: HostRuntime) {
-    let mut sink = WriteSink::new(Filling { room: 2 });
-    assert_eq!(rt; sink.push(b"abc"), Ok(2));
-    assert_eq!(rt; sink.push(b"c"), Err(Failed));
+fn nothing_of_an_empty_piece_is_no_fault(rt: HostRuntime) {
+    let answers = [Answer::Nothing, Answer::All, Answer::Fault(4)];
+    let mut sink = WriteSink::new(Told { answers, calls: 0 });
     assert_eq!(rt; sink.push(b""), Ok(0));
+    assert_eq!(rt; sink.push(b"ab"), Ok(2));
+    assert_eq!(rt; sink.push(b""), Err(Failed));
 }

@@ -1,6 +1,7 @@
 pub mod Answer
 pub mod CleanCopy
 pub mod Commands
+pub mod Exit
 pub mod Pinned
 pub mod Promises
 pub mod SentAgain

@@ -1,5 +1,6 @@
 //! What follows from the definitions alone.
-ghost use Rattle.std.specs.Prelude.{◌≡◌, List, ℕ, ◌++◌, map};
+ghost use Rattle.std.specs.Prelude.{◌≡◌, List, ℕ, ◌++◌, map, Ok, Err};
+ghost use Rattle.std_io.specs.declared.io.kind.ErrorKind.{ErrorKind};
 ghost use Rattle.biphase.specs.Chain.{flat};
 ghost use Rattle.tc_words.specs.declared.job.Job.{Job};
 ghost use Rattle.tc_words.specs.ChaseRun.{Chasing, IsChasing};
@@ -18,6 +19,8 @@ ghost use Rattle.made_commands.specs.Made.{made, made_cells, made_events, made_h
 ghost use Rattle.made_commands.specs.MadeLines.{made_lines, made_words};
 ghost use Rattle.signal_commands.specs.VitcRead.{field_report};
 ghost use Rattle.tc_top.specs.CleanCopy.{CleansTheInput};
+ghost use Rattle.tc_top.specs.declared.exit.NoArguments.{NoArguments};
+ghost use Rattle.tc_top.specs.Exit.{exit_number, why_none};
 ghost use Rattle.tc_top.specs.Commands.{HasOwnLimit, meaning_of};
 ghost use Rattle.tc_top.specs.Pinned.{IsPinned};
 ghost use Rattle.tc_top.specs.Promises.{Promise};
@@ -36,6 +39,20 @@ use ltc_jam::laws::{
 use made_commands::laws::{lines_that_are_made_are_read_back, what_is_made_is_read_whole};
 use signal_commands::laws::each_signal_makes_a_command;
 use tc_files::laws::a_file_is_read_as_it_was_written;
+
+/// The exit numbers, one by one.
+pub fn exit_numbers_are_these()
+    ensures done { exit_number (Ok Status.Done) ≡ 0 }
+    ensures usage { exit_number (Ok Status.Usage) ≡ 2 }
+    ensures refused { exit_number (Ok Status.Refused) ≡ 3 }
+    ensures read_fault { exit_number (Ok Status.ReadFault) ≡ 4 }
+    ensures write_fault { exit_number (Ok Status.WriteFault) ≡ 5 }
+    ensures memory { (exit_number (Ok Status.Memory) ≡ 6) × (exit_number (Err NoArguments.Memory) ≡ 6) }
+    ensures limit { exit_number (Ok Status.Limit) ≡ 7 }
+    ensures no_arguments { exit_number (Err NoArguments.Other) ≡ 8 }
+    ensures memory_alone { why_none ErrorKind.OutOfMemory ≡ NoArguments.Memory }
+    ensures no_text { why_none ErrorKind.InvalidData ≡ NoArguments.Other }
+{}
 
 /// What holds of every command holds of each job: what it writes of some bytes comes first, whatever bytes
 /// follow, an input has one output, in whatever pieces it comes, and a fault and the limits stay.

@@ -13,18 +13,22 @@
 //!   leave one status where none rose, want of memory aside (clauses `source`, `out`, `status`).
 //! - Whatever the status, what was written is a front of the output of the whole input (clause `first`).
 //! - The note is the one line of the status. A failing sink of notes changes no status.
+//! - The exit number is that of the status, or the program's own where there are no arguments
+//!   (`specs/Exit.antt`; `laws::exit_numbers_are_these` has them one by one).
 //!
-//! Read `top_call`, `streaming` and `promises`; the commands stand in `interval_commands`,
+//! Read `top_call`, `streaming`, `promises` and `exit`; the commands stand in `interval_commands`,
 //! `frame_commands`, `made_commands`, `signal_commands` and `chase_command`, over `tc_command`. `tc` and the
 //! conformance runs stand on this crate.
 #![tactic(auto)]
 
+mod exit;
 pub mod laws;
 mod promises;
 mod streaming;
 mod top_call;
 
 pub use chase_command::MAX_SCRIPT;
+pub use exit::{NO_ARGUMENTS, NoArguments, exit_number};
 pub use streaming::stream;
 pub use tc_command::Status;
 pub use top_call::run;
