@@ -47,3 +47,38 @@ located_and_there : trace (begun C25 0) (bare (Some (Locate 25)) ∷ bare None �
     line Locating (pos 2_000) (pos 2_000) None 2_000 ∷ line Waiting (pos 0) (pos 0) None 2_000 ∷ []
 unfolding begun frame bare line trace
 located_and_there = refl
+
+-- far from a label it goes 32 frames at once, either way
+far_from_a_label : trace (begun C25 0) (bare (Some (Locate 100)) ∷ []) ≡ line Locating (pos 8_000) (pos 2_560) None 2_560 ∷ []
+unfolding begun frame bare line trace
+far_from_a_label = refl
+
+far_behind_a_label : trace (begun C25 8_000) (bare (Some (Locate 0)) ∷ []) ≡ line Locating (neg_ℤ (pos 8_000)) (neg_ℤ (pos 2_560)) None 5_440 ∷ []
+unfolding begun frame bare line trace
+far_behind_a_label = refl
+
+-- far from its master it pulls by 16 frames, beside the motion of the master
+far_from_the_master : trace (begun C25 0) (frame (Some Play) Forward 20 (pos 0) ∷ []) ≡ line Pulling (pos 1_600) (pos 1_360) None 1_360 ∷ []
+unfolding begun frame bare line trace
+far_from_the_master = refl
+
+-- near its master it locks, and moves 24 subframes nearer at once; to play again changes nothing of it
+near_the_master : trace (begun C25 50) (frame (Some Play) Forward 1 (pos 0) ∷ frame (Some Play) Forward 2 (pos 0) ∷ []) ≡
+    line Locked (pos 30) (pos 104) None 154 ∷ line Locked (pos 6) (pos 86) None 240 ∷ []
+unfolding begun frame bare line trace
+near_the_master = refl
+
+-- half a frame is near, and a subframe more is not
+at_the_edge : trace (begun C25 40) (frame (Some Play) Forward 1 (pos 0) ∷ []) ≡ line Locked (pos 40) (pos 104) None 144 ∷ []
+unfolding begun frame bare line trace
+at_the_edge = refl
+
+behind_the_edge : trace (begun C25 39) (frame (Some Play) Forward 1 (pos 0) ∷ []) ≡ line Pulling (pos 41) (pos 121) None 160 ∷ []
+unfolding begun frame bare line trace
+behind_the_edge = refl
+
+-- a chase that locates plays where it is told to
+located_then_played : trace (begun C25 0) (bare (Some (Locate 100)) ∷ frame (Some Play) Forward 32 (pos 0) ∷ []) ≡
+    line Locating (pos 8_000) (pos 2_560) None 2_560 ∷ line Locked (pos 0) (pos 80) None 2_640 ∷ []
+unfolding begun frame bare line trace
+located_then_played = refl

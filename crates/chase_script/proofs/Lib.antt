@@ -3,3 +3,4 @@ pub mod FiveFields
 pub mod RowsFit
 pub mod TraceGoesOn
 pub mod WhatIsLeft
+mod Examples

@@ -1,3 +1,4 @@
 mod LinesOfFrames
 mod RowsOfFrames
 mod CausesOfALoss
+mod Examples

@@ -5,3 +5,4 @@ pub mod GivenComeFirst
 pub mod GivenSoFar
 mod LaterTicks
 pub mod PairsOfWords
+mod Examples

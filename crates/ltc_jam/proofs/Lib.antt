@@ -2,3 +2,4 @@ pub mod CleanIsRead
 pub mod LabelsOfSystem
 pub mod Steady
 pub mod WordOfLabel
+mod Examples

@@ -1,6 +1,6 @@
 -- Messages, read by the definitions.
 use Rattle.std.proofs.Common.{◌≡◌, [], ◌∷◌, refl}
-use Rattle.tc_address.specs.declared.count.Count.TheVariants.{C24, C30}
+use Rattle.tc_address.specs.declared.count.Count.TheVariants.{C24, C25, C30, Drop30}
 use Rattle.tc_address.specs.declared.direction.Direction.TheVariants.{Forward, Backward}
 use Rattle.tc_address.specs.declared.label.LabelFault.TheVariants as faults
 use Rattle.tc_address.specs.Label.{address}
@@ -22,3 +22,16 @@ refused = refl
 backward : events_in (0xf1 ∷ 0x70 ∷ 0xf1 ∷ 0x6f ∷ 0xf1 ∷ 0x50 ∷ 0xf1 ∷ 0x48 ∷ 0xf1 ∷ 0x30 ∷ 0xf1 ∷ 0x20 ∷ 0xf1 ∷ 0x10 ∷ 0xf1 ∷ 0xf8 ∷ 0x02 ∷ [])
     ≡ Quarter Backward (address C24 15 8 0 2) 16 ∷ []
 backward = refl
+
+-- the code of each count, in bits 5 and 6 of the hours (MIDI 1.0 Detailed Specification, "full message")
+count_24 : events_in (0xf0 ∷ 0x7f ∷ 0x7f ∷ 0x01 ∷ 0x01 ∷ 0x0a ∷ 0 ∷ 0 ∷ 0 ∷ 0xf7 ∷ []) ≡ Full (address C24 10 0 0 0) 9 ∷ []
+count_24 = refl
+
+count_25 : events_in (0xf0 ∷ 0x7f ∷ 0x7f ∷ 0x01 ∷ 0x01 ∷ 0x2a ∷ 0 ∷ 0 ∷ 0 ∷ 0xf7 ∷ []) ≡ Full (address C25 10 0 0 0) 9 ∷ []
+count_25 = refl
+
+count_30_drop : events_in (0xf0 ∷ 0x7f ∷ 0x7f ∷ 0x01 ∷ 0x01 ∷ 0x4a ∷ 0 ∷ 0 ∷ 0 ∷ 0xf7 ∷ []) ≡ Full (address Drop30 10 0 0 0) 9 ∷ []
+count_30_drop = refl
+
+count_30 : events_in (0xf0 ∷ 0x7f ∷ 0x7f ∷ 0x01 ∷ 0x01 ∷ 0x6a ∷ 0 ∷ 0 ∷ 0 ∷ 0xf7 ∷ []) ≡ Full (address C30 10 0 0 0) 9 ∷ []
+count_30 = refl

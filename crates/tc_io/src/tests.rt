@@ -1,5 +1,5 @@
 //! What the calls answer one after another, by hand.
-ghost use Rattle.std.specs.Prelude.{None};
+ghost use Rattle.std.specs.Prelude.{◌≤◌, length, IfOk, None};
 
 use super::*;
 use std::io;
@@ -29,7 +29,9 @@ struct Told {
 }
 
 impl Told {
-    fn answer(&mut self, len: usize) -> io::Result<usize> {
+    fn answer(&mut self, len: usize) -> io::Result<usize>
+        ensures { IfOk result (λ count. count ≤ len) }
+    {
         let place = usize::from(self.calls);
         self.calls = self.calls.saturating_add(1);
         if place >= 3 {
@@ -164,7 +166,9 @@ fn pulled(answer: Answer, len: usize) -> Result<usize, Failed> {
 }
 
 /// Pulls three times, and compares each with what the reader answers: one read a pull.
-fn pull_each(rt: &impl Abort, answers: [Answer; 3], buf: &mut [u8]) {
+fn pull_each(rt: &impl Abort, answers: [Answer; 3], buf: &mut [u8])
+    requires { 1 ≤ length buf.old }
+{
     let mut source = ReadSource::new(Told { answers, calls: 0 });
     let len = buf.len();
     for call in 0..3u8 {
@@ -192,12 +196,14 @@ fn a_pull_is_one_read(rt: HostRuntime) {
             }
         }
     }
+}
+
+#[test]
+fn no_error_is_tried_again(rt: HostRuntime) {
     for code in 1..=LAST_ERROR {
-        pull_each(
-            &rt,
-            [Answer::One, Answer::Fault(code), Answer::All],
-            &mut whole[..200],
-        );
+        let answers = [Answer::One, Answer::Fault(code), Answer::All];
+        pull_each(&rt, answers, &mut [0; 200]);
+        push_each(&rt, answers, &[7; 200]);
     }
 }
 
@@ -244,18 +250,14 @@ fn a_push_is_one_write(rt: HostRuntime) {
             }
         }
     }
-    for code in 1..=LAST_ERROR {
-        push_each(
-            &rt,
-            [Answer::One, Answer::Fault(code), Answer::All],
-            &whole[..200],
-        );
-    }
 }
 
 /// Pushes a piece in parts of at most so many bytes, of which one push fails: no push comes behind it,
 /// and none that was not needed.
-fn push_in_parts(rt: &impl Abort, piece: &[u8], most: usize, failing: u64) {
+fn push_in_parts(rt: &impl Abort, piece: &[u8], most: usize, failing: u64)
+    requires part { 1 ≤ most }
+    requires number { 1 ≤ failing }
+{
     let mut sink = Noting {
         pushes: 0,
         failing,
