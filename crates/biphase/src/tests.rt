@@ -1,6 +1,7 @@
 //! Values from outside.
 use crate::{
-    Cell, MAX_INTERVAL, PairKind, Profile, ShapeFault, Shaper, is_one, is_zero, kind, may_begin_one,
+    Cell, Latest, MAX_INTERVAL, PairKind, Profile, ShapeFault, Shaper, is_one, is_zero, kind,
+    may_begin_one,
 };
 use std::test::Fail;
 
@@ -32,13 +33,14 @@ fn intervals_at_the_edges_of_a_cell(rt: HostRuntime) {
         (200, 130, false, false),
         (2 * MAX_INTERVAL, MAX_INTERVAL, false, true),
     ] {
+        let latest = Profile::Normal.at_lock(c);
         assert_eq!(rt;
-            is_zero(Profile::Normal, c, x),
+            is_zero(Profile::Normal, latest, x),
             zero,
             "{x} as a zero after {c}"
         );
         assert_eq!(rt;
-            may_begin_one(Profile::Normal, c, x),
+            may_begin_one(Profile::Normal, latest, x),
             half,
             "{x} as a half after {c}"
         );
@@ -59,7 +61,7 @@ fn halves_at_the_edges_of_a_one(rt: HostRuntime) {
         (2 * MAX_INTERVAL, MAX_INTERVAL, MAX_INTERVAL, true),
     ] {
         assert_eq!(rt;
-            is_one(Profile::Normal, c, x, y),
+            is_one(Profile::Normal, Profile::Normal.at_lock(c), x, y),
             want,
             "{x} and {y} after {c}"
         );
@@ -72,11 +74,61 @@ fn a_worn_recording_may_differ_more(rt: HostRuntime) {
         (Profile::Worn, PairKind::Step, true, true),
         (Profile::Normal, PairKind::Wild, false, false),
     ] {
+        let latest = profile.at_lock(24);
         assert_eq!(rt; kind(profile, 24, 9), step);
-        assert_eq!(rt; may_begin_one(profile, 24, 16), half);
-        assert_eq!(rt; is_zero(profile, 24, 28), zero);
-        assert_eq!(rt; is_one(profile, 24, 13, 11), zero, "halves of 13 and 11");
+        assert_eq!(rt; may_begin_one(profile, latest, 16), half);
+        assert_eq!(rt; is_zero(profile, latest, 28), zero);
+        assert_eq!(rt;
+            is_one(profile, latest, 13, 11),
+            zero,
+            "halves of 13 and 11"
+        );
     }
+}
+
+#[test]
+fn a_rough_recording_is_compared_with_the_latest_four(rt: HostRuntime) {
+    const ROUGH: Profile = Profile::Rough;
+    assert_eq!(rt; kind(ROUGH, 99, 33), PairKind::Step);
+    assert_eq!(rt; kind(ROUGH, 100, 33), PairKind::Wild);
+    assert_eq!(rt; kind(ROUGH, 99, 66), PairKind::Same);
+    let mut latest = ROUGH.at_lock(100);
+    for (x, zero, half) in [
+        (74, false, false),
+        (75, true, false),
+        (125, true, false),
+        (126, false, false),
+        (29, false, false),
+        (30, false, true),
+        (70, false, true),
+        (71, false, false),
+    ] {
+        assert_eq!(rt; is_zero(ROUGH, latest, x), zero, "{x} as a zero");
+        assert_eq!(rt; may_begin_one(ROUGH, latest, x), half, "{x} as a half");
+    }
+    for (x, y, one) in [
+        (70, 55, true),
+        (70, 56, false),
+        (45, 30, true),
+        (46, 29, false),
+        (44, 30, false),
+    ] {
+        assert_eq!(rt; is_one(ROUGH, latest, x, y), one, "{x} and {y} as a one");
+    }
+    for _ in 0..4u32 {
+        assert_eq!(rt; is_zero(ROUGH, latest, 125), true);
+        latest = ROUGH.after(latest, 125);
+    }
+    assert_eq!(rt; latest, ROUGH.at_lock(125));
+    assert_eq!(rt; is_zero(ROUGH, latest, 156), true);
+    assert_eq!(rt; is_zero(ROUGH, latest, 157), false);
+    let widest = Latest {
+        last: u32::MAX,
+        second: u32::MAX,
+        third: u32::MAX,
+        fourth: u32::MAX,
+    };
+    assert_eq!(rt; is_one(ROUGH, widest, u32::MAX, u32::MAX), false);
 }
 
 #[test]

@@ -1,6 +1,6 @@
 -- Which lists of intervals the tracker's states stand for, each list with its stretches.
 use Rattle.std.specs.Prelude.{◌≡◌, ℕ, ◌+◌, ◌-◌, List, [], ◌∷◌, ◌++◌, length, slice_get, Option, Some, None, All}
-use Rattle.biphase.specs.Chain.{last_length}
+use Rattle.biphase.specs.Chain.{kept_of}
 use Rattle.biphase.specs.declared.cell.Cell.{Cell}
 use Rattle.cell_tracker.specs.declared.hunting.FromHunting.{FromHunting}
 use Rattle.cell_tracker.specs.declared.hunting.FromHunting.TheVariants.{Hunt, StartAt, StartMid, StartBroken}
@@ -20,19 +20,19 @@ pub record HuntingStandsFor (state : HuntingState) (intervals : List ℕ) (stret
   pub all_broken : All IsBroken stretches
   pub before : state.before ≡ last_of intervals
 
--- the last stretch is open and ends with the list, and the state keeps the length of its last cell
+-- the last stretch is open and ends with the list, and the state keeps what the tolerance keeps of its cells
 pub record AtCellStandsFor (state : AtCellState) (intervals : List ℕ) (earlier : List Stretch) (stretch : Stretch) : Type 0 where
   pub stretches_are : AreStretches state.profile intervals (earlier ++ stretch ∷ [])
   pub open_yet : stretch.broken_at ≡ None
   pub ends : end_of stretch ≡ length intervals
-  pub last : last_length 0 stretch.cells ≡ state.last
+  pub kept : kept_of state.profile stretch.cells ≡ state.latest
 
 -- the last stretch is open and ends one interval before the list, which is the waiting half
 pub record MidCellStandsFor (state : MidCellState) (intervals : List ℕ) (earlier : List Stretch) (stretch : Stretch) : Type 0 where
   pub stretches_are : AreStretches state.profile intervals (earlier ++ stretch ∷ [])
   pub open_yet : stretch.broken_at ≡ None
   pub ends : end_of stretch + 1 ≡ length intervals
-  pub last : last_length 0 stretch.cells ≡ state.last
+  pub kept : kept_of state.profile stretch.cells ≡ state.latest
   pub half : last_of intervals ≡ Some state.half
 
 -- what Hunting answers to an interval fits the list with the interval at its end: the search goes on, or a stretch begins

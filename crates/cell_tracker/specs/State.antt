@@ -1,5 +1,6 @@
 -- What the three states of the tracker keep.
 use Rattle.std.specs.Prelude.{ℕ, Option, Some}
+use Rattle.biphase.specs.declared.latest.Latest.{Latest}
 use Rattle.biphase.specs.declared.profile.Profile.{Profile}
 
 -- between stretches: the interval before, if there was one since the search began
@@ -7,15 +8,15 @@ pub record HuntingState : Type 0 where
   pub profile : Profile
   pub before : Option ℕ
 
--- at the end of a cell: its length
+-- at the end of a cell: what the tolerance keeps of it and of the cells before it
 pub record AtCellState : Type 0 where
   pub profile : Profile
-  pub last : ℕ
+  pub latest : Latest
 
--- inside a one: the length of the cell before it, and its first half
+-- inside a one: what is kept of the cells before it, and its first half
 pub record MidCellState : Type 0 where
   pub profile : Profile
-  pub last : ℕ
+  pub latest : Latest
   pub half : ℕ
 
 -- a search that begins at x

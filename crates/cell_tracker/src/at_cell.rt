@@ -2,6 +2,7 @@
 ghost use Rattle.std.specs.Prelude.{◌≡◌, ℕ, ◌≤◌, List};
 ghost use Rattle.biphase.specs.declared.cell.TheConstants.{MAX_INTERVAL};
 ghost use Rattle.biphase.specs.Chain.{IsNextZero, IsFirstHalf};
+ghost use Rattle.biphase.specs.Tolerance.{kept_next, IsKeptBy};
 ghost use Rattle.cell_tracker.specs.Answer.{KeepsOfAtCell};
 ghost use Rattle.cell_tracker.specs.State.{search_from};
 ghost use Rattle.cell_tracker.specs.Stretch.{Stretch};
@@ -10,24 +11,27 @@ ghost use Rattle.cell_tracker.specs.declared.at_cell.FromAtCell.TheVariants.{Zer
 
 use crate::hunting::Hunting;
 use crate::mid_cell::MidCell;
-use biphase::{MAX_INTERVAL, Profile, is_zero, may_begin_one};
+use biphase::{Latest, MAX_INTERVAL, Profile, is_zero, may_begin_one};
 use std::marker::Model;
 
 /// A stretch is open and ends with the last interval.
 #[derive(Clone, Copy, Debug, PartialEq, Eq)]
 pub struct AtCell {
     profile: Profile,
-    last: u32,
+    latest: Latest,
 }
 
 impl Model for AtCell {
+    ghost use Rattle.biphase.specs.Tolerance.{IsKeptBy};
     ghost use Rattle.cell_tracker.specs.State.{AtCellState};
 
     ghost Value = { AtCellState };
 
-    ghost view = { λ a. record { profile = a.profile; last = a.last } };
+    ghost view = { λ a. record { profile = a.profile; latest = a.latest } };
 
-    ghost inverse = { λ v. record { profile = v.profile; last = v.last } };
+    ghost invariant = { λ a. IsKeptBy a.profile a.latest };
+
+    ghost inverse = { λ v. record { profile = v.profile; latest = v.latest } };
 }
 
 /// What an interval does to `AtCell`.
@@ -42,17 +46,18 @@ pub enum FromAtCell {
 }
 
 impl AtCell {
-    pub(crate) fn new(profile: Profile, last: u32) -> AtCell
-        ensures { result ≡ record { profile = profile; last = last } }
+    pub(crate) fn new(profile: Profile, latest: Latest) -> AtCell
+        requires { IsKeptBy profile latest }
+        ensures { result ≡ record { profile = profile; latest = latest } }
     {
-        AtCell { profile, last }
+        AtCell { profile, latest }
     }
 
     /// The length of the last cell, in ticks.
     pub fn last(&self) -> u32
-        ensures { result ≡ self.now.last }
+        ensures { result ≡ self.now.latest.last }
     {
-        self.last
+        self.latest.last
     }
 
     /// Takes the next interval, of `x` ticks.
@@ -61,12 +66,12 @@ impl AtCell {
         requires most { x ≤ MAX_INTERVAL }
 
         // The answer by the tests of `biphase`.
-        ensures zero { IsNextZero self.profile self.last x
-            → result ≡ Zero (record { profile = self.profile; last = x }) }
-        ensures half { IsFirstHalf self.profile self.last x
-            → result ≡ Half (record { profile = self.profile; last = self.last; half = x }) }
-        ensures broken { ¬ IsNextZero self.profile self.last x
-            → ¬ IsFirstHalf self.profile self.last x
+        ensures zero { IsNextZero self.profile self.latest x
+            → result ≡ Zero (record { profile = self.profile; latest = kept_next self.profile self.latest x }) }
+        ensures half { IsFirstHalf self.profile self.latest x
+            → result ≡ Half (record { profile = self.profile; latest = self.latest; half = x }) }
+        ensures broken { ¬ IsNextZero self.profile self.latest x
+            → ¬ IsFirstHalf self.profile self.latest x
             → result ≡ Broken (search_from self.profile x) }
 
         // What the answer keeps of the state and the interval.
@@ -77,11 +82,11 @@ impl AtCell {
             → AtCellStandsFor self intervals earlier stretch
             → StandsAfterAtCell result x intervals earlier stretch }
     {
-        let (profile, last) = (self.profile, self.last);
-        if is_zero(profile, last, x) {
-            FromAtCell::Zero(AtCell::new(profile, x))
-        } else if may_begin_one(profile, last, x) {
-            FromAtCell::Half(MidCell::new(profile, last, x))
+        let (profile, latest) = (self.profile, self.latest);
+        if is_zero(profile, latest, x) {
+            FromAtCell::Zero(AtCell::new(profile, profile.after(latest, x)))
+        } else if may_begin_one(profile, latest, x) {
+            FromAtCell::Half(MidCell::new(profile, latest, x))
         } else {
             FromAtCell::Broken(Hunting::after(profile, x))
         }

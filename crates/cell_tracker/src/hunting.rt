@@ -3,6 +3,7 @@ ghost use Rattle.std.specs.Prelude.{◌≡◌, ℕ, ◌≤◌, ◌<◌, List, []
 ghost use Rattle.biphase.specs.declared.cell.TheConstants.{MAX_INTERVAL};
 ghost use Rattle.biphase.specs.Pair.{AreUnequal};
 ghost use Rattle.biphase.specs.Chain.{IsFirstHalf};
+ghost use Rattle.biphase.specs.Tolerance.{kept_at_lock};
 ghost use Rattle.cell_tracker.specs.Answer.{KeepsOfHunting};
 ghost use Rattle.cell_tracker.specs.State.{search_from};
 ghost use Rattle.cell_tracker.specs.Stretch.{Stretch};
@@ -85,12 +86,12 @@ impl Hunting {
         ensures equal { IfSome self.before (λ z. ¬ AreUnequal self.profile z x
             → result ≡ Hunt (search_from self.profile x)) }
         ensures rising { IfSome self.before (λ z. AreUnequal self.profile z x → z < x
-            → result ≡ StartAt (record { profile = self.profile; last = x })) }
+            → result ≡ StartAt (record { profile = self.profile; latest = kept_at_lock self.profile x })) }
         ensures falling { IfSome self.before (λ z. AreUnequal self.profile z x → x < z
-            → IsFirstHalf self.profile z x
-            → result ≡ StartMid (record { profile = self.profile; last = z; half = x }) z) }
+            → IsFirstHalf self.profile (kept_at_lock self.profile z) x
+            → result ≡ StartMid (record { profile = self.profile; latest = kept_at_lock self.profile z; half = x }) z) }
         ensures broken { IfSome self.before (λ z. AreUnequal self.profile z x → x < z
-            → ¬ IsFirstHalf self.profile z x
+            → ¬ IsFirstHalf self.profile (kept_at_lock self.profile z) x
             → result ≡ StartBroken (search_from self.profile x) z) }
 
         // What the answer keeps of the state and the interval.
@@ -109,10 +110,11 @@ impl Hunting {
         match kind(profile, before, x) {
             PairKind::Same | PairKind::Wild => FromHunting::Hunt(hunting),
             PairKind::Step => {
+                let latest = profile.at_lock(before);
                 if before < x {
-                    FromHunting::StartAt(AtCell::new(profile, x))
-                } else if may_begin_one(profile, before, x) {
-                    FromHunting::StartMid(MidCell::new(profile, before, x), before)
+                    FromHunting::StartAt(AtCell::new(profile, profile.at_lock(x)))
+                } else if may_begin_one(profile, latest, x) {
+                    FromHunting::StartMid(MidCell::new(profile, latest, x), before)
                 } else {
                     FromHunting::StartBroken(hunting, before)
                 }

@@ -2,6 +2,7 @@
 ghost use Rattle.std.specs.Prelude.{◌≡◌, ℕ, ◌≤◌, ◌+◌, List};
 ghost use Rattle.biphase.specs.declared.cell.TheConstants.{MAX_INTERVAL};
 ghost use Rattle.biphase.specs.Chain.{IsFirstHalf, IsNextOne};
+ghost use Rattle.biphase.specs.Tolerance.{kept_next, IsKeptBy};
 ghost use Rattle.cell_tracker.specs.Answer.{KeepsOfMidCell};
 ghost use Rattle.cell_tracker.specs.State.{search_from};
 ghost use Rattle.cell_tracker.specs.Stretch.{Stretch};
@@ -10,30 +11,31 @@ ghost use Rattle.cell_tracker.specs.declared.mid_cell.FromMidCell.TheVariants.{O
 
 use crate::at_cell::AtCell;
 use crate::hunting::Hunting;
-use biphase::{MAX_INTERVAL, Profile, is_one};
+use biphase::{Latest, MAX_INTERVAL, Profile, is_one};
 use std::marker::Model;
 
 /// A stretch is open and ends one interval before the last, which may be the first half of a one.
 #[derive(Clone, Copy, Debug, PartialEq, Eq)]
 pub struct MidCell {
     profile: Profile,
-    last: u32,
+    latest: Latest,
     half: u32,
 }
 
 impl Model for MidCell {
     ghost use Rattle.std.specs.Prelude.{◌≤◌};
     ghost use Rattle.biphase.specs.Chain.{IsFirstHalf};
+    ghost use Rattle.biphase.specs.Tolerance.{IsKeptBy};
     ghost use Rattle.biphase.specs.declared.cell.TheConstants.{MAX_INTERVAL};
     ghost use Rattle.cell_tracker.specs.State.{MidCellState};
 
     ghost Value = { MidCellState };
 
-    ghost view = { λ m. record { profile = m.profile; last = m.last; half = m.half } };
+    ghost view = { λ m. record { profile = m.profile; latest = m.latest; half = m.half } };
 
-    ghost invariant = { λ m. (m.half ≤ MAX_INTERVAL) × IsFirstHalf m.profile m.last m.half };
+    ghost invariant = { λ m. (m.half ≤ MAX_INTERVAL) × IsFirstHalf m.profile m.latest m.half × IsKeptBy m.profile m.latest };
 
-    ghost inverse = { λ v. record { profile = v.profile; last = v.last; half = v.half } };
+    ghost inverse = { λ v. record { profile = v.profile; latest = v.latest; half = v.half } };
 }
 
 /// What an interval does to `MidCell`.
@@ -46,23 +48,24 @@ pub enum FromMidCell {
 }
 
 impl MidCell {
-    pub(crate) fn new(profile: Profile, last: u32, half: u32) -> MidCell
+    pub(crate) fn new(profile: Profile, latest: Latest, half: u32) -> MidCell
         requires most { half ≤ MAX_INTERVAL }
-        requires first_half { IsFirstHalf profile last half }
-        ensures { result ≡ record { profile = profile; last = last; half = half } }
+        requires first_half { IsFirstHalf profile latest half }
+        requires kept { IsKeptBy profile latest }
+        ensures { result ≡ record { profile = profile; latest = latest; half = half } }
     {
         MidCell {
             profile,
-            last,
+            latest,
             half,
         }
     }
 
     /// The length of the last cell, in ticks.
     pub fn last(&self) -> u32
-        ensures { result ≡ self.now.last }
+        ensures { result ≡ self.now.latest.last }
     {
-        self.last
+        self.latest.last
     }
 
     /// The waiting half, in ticks.
@@ -78,9 +81,9 @@ impl MidCell {
         requires most { y ≤ MAX_INTERVAL }
 
         // The answer by the tests of `biphase`.
-        ensures one { IsNextOne self.profile self.last self.half y
-            → result ≡ One (record { profile = self.profile; last = self.half + y }) self.half y }
-        ensures broken { ¬ IsNextOne self.profile self.last self.half y
+        ensures one { IsNextOne self.profile self.latest self.half y
+            → result ≡ One (record { profile = self.profile; latest = kept_next self.profile self.latest (self.half + y) }) self.half y }
+        ensures broken { ¬ IsNextOne self.profile self.latest self.half y
             → result ≡ Broken (search_from self.profile y) }
 
         // What the answer keeps of the state and the interval.
@@ -91,9 +94,10 @@ impl MidCell {
             → MidCellStandsFor self intervals earlier stretch
             → StandsAfterMidCell result y intervals earlier stretch }
     {
-        let (profile, last, half) = (self.profile, self.last, self.half);
-        if is_one(profile, last, half, y) {
-            FromMidCell::One(AtCell::new(profile, half + y), half, y)
+        let (profile, latest, half) = (self.profile, self.latest, self.half);
+        if is_one(profile, latest, half, y) {
+            let next = AtCell::new(profile, profile.after(latest, half + y));
+            FromMidCell::One(next, half, y)
         } else {
             FromMidCell::Broken(Hunting::after(profile, y))
         }

@@ -27,7 +27,7 @@ WaitsWith x (Hunting next) = ⊥
 
 -- a cell of this length has just ended
 abbrev pub EndsCell : ℕ → Tracker → Type 0
-EndsCell length (AtCell next) = next.last ≡ length
+EndsCell length (AtCell next) = next.latest.last ≡ length
 EndsCell length (MidCell next) = ⊥
 EndsCell length (Hunting next) = ⊥
 

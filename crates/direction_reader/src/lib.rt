@@ -13,11 +13,11 @@
 //!   the events of its front come first (`laws`).
 //! - `DirectionReader` stands for the intervals that it was fed and for their events
 //!   (`specs/StandsFor.antt`). `feed`, and `step` with `events` after it, give exactly those that are
-//!   new, under either tolerance (clause `stands`). Nearly every interval brings nothing, and then
+//!   new, under each tolerance (clause `stands`). Nearly every interval brings nothing, and then
 //!   `step` is enough.
-//! - The events tell a tape within the tolerance, find it again behind damage (`specs/Tape.antt`), and
-//!   mirror it in the other order of time (`specs/Mirror.antt`): clauses `truth`, `damage` and `mirror`
-//!   of `feed`.
+//! - The events tell a tape within the tolerance (`specs/Tape.antt`). Where the tolerance looks at the
+//!   last cell alone, they find it again behind damage (`specs/Tape.antt`), and mirror it in the other
+//!   order of time (`specs/Mirror.antt`): clauses `truth`, `damage` and `mirror` of `feed`.
 //! - A window holds the latest of the bits that it was given (`specs/HoldsBits.antt`).
 //! - `window_events` gives the candidates of one window, the forward one first
 //!   (`specs/Candidate.antt`).
