@@ -4,7 +4,7 @@ use Rattle.std.proofs.Common.{◌≡◌, ℕ, ◌*◌, ◌≤◌, ◌≢◌, ◌
 use Rattle.std.proofs.lemmas.Bool.{cases_lt}
 use Rattle.biphase.specs.declared.cell.Cell.{Cell}
 use Rattle.biphase.specs.declared.cell.Cell.TheVariants.{Zero, One}
-use Rattle.biphase.specs.declared.latest.Latest.{Latest}
+use Rattle.biphase.specs.Latest.{Latest}
 use Rattle.biphase.specs.declared.profile.Profile.{Profile}
 use Rattle.biphase.specs.declared.profile.Profile.TheVariants.{Normal, Worn, Rough}
 use Rattle.biphase.specs.declared.profile.Ratio.{Ratio}

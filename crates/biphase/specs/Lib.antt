@@ -1,5 +1,6 @@
 pub mod Chain
 pub mod Kinds
+pub mod Latest
 pub mod Laws
 pub mod Mean
 pub mod Mirror

@@ -3,7 +3,7 @@ use Rattle.std.specs.Prelude.{ℕ, ◌*◌, ◌≤◌, List, [], ◌∷◌}
 use Rattle.std.specs.Int.{abs_diff}
 use Rattle.biphase.specs.declared.cell.Cell.{Cell}
 use Rattle.biphase.specs.declared.cell.Cell.TheVariants.{Zero, One}
-use Rattle.biphase.specs.declared.latest.Latest.{Latest}
+use Rattle.biphase.specs.Latest.{Latest}
 use Rattle.biphase.specs.declared.profile.Profile.TheVariants.{Rough}
 use Rattle.biphase.specs.Chain.{length_of}
 use Rattle.biphase.specs.Tolerance.{sum_of, kept_at_lock, kept_next}

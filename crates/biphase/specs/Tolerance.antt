@@ -2,7 +2,7 @@
 use Rattle.std.specs.Prelude.{◌≡◌, ℕ, ◌+◌}
 use Rattle.biphase.specs.declared.cell.Cell.{Cell}
 use Rattle.biphase.specs.declared.cell.Cell.TheVariants.{Zero, One}
-use Rattle.biphase.specs.declared.latest.Latest.{Latest}
+use Rattle.biphase.specs.Latest.{Latest}
 use Rattle.biphase.specs.declared.profile.Profile.{Profile}
 use Rattle.biphase.specs.declared.profile.Profile.TheVariants.{Normal, Worn, Rough}
 use Rattle.biphase.specs.declared.profile.Tolerance.{Tolerance}
@@ -92,8 +92,18 @@ LooksAtLast Normal = Unit {0}
 LooksAtLast Worn = Unit {0}
 LooksAtLast Rough = ⊥
 
--- such a profile keeps nothing but that
-abbrev pub IsKeptBy : Profile → Latest → Type 0
-IsKeptBy Normal latest = (latest.second ≡ 0) × (latest.third ≡ 0) × (latest.fourth ≡ 0)
-IsKeptBy Worn latest = (latest.second ≡ 0) × (latest.third ≡ 0) × (latest.fourth ≡ 0)
-IsKeptBy Rough latest = Unit {0}
+-- the number that the tests of a profile compare with: the length of the last cell, or the sum of the latest four
+abbrev pub reference_of : Profile → Latest → ℕ
+reference_of Normal latest = latest.last
+reference_of Worn latest = latest.last
+reference_of Rough latest = sum_of latest
+
+-- what is kept, by this number and by four lengths beside it: a profile that compares with the last cell does not look at them
+abbrev pub kept_by : Profile → ℕ → Latest → Latest
+kept_by Normal reference four = latest_with reference 0 0 0
+kept_by Worn reference four = latest_with reference 0 0 0
+kept_by Rough reference four = four
+
+-- the number and the four lengths fit each other
+abbrev pub Fits : Profile → ℕ → Latest → Type 0
+Fits profile reference four = reference_of profile (kept_by profile reference four) ≡ reference

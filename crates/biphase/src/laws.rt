@@ -5,7 +5,7 @@ ghost use Rattle.biphase.specs.declared.cell.Cell.{Cell};
 ghost use Rattle.biphase.specs.declared.cell.TheConstants.{MAX_INTERVAL};
 ghost use Rattle.biphase.specs.declared.pair.PairKind.{PairKind};
 ghost use Rattle.biphase.specs.declared.profile.Profile.{Profile};
-ghost use Rattle.biphase.specs.declared.latest.Latest.{Latest};
+ghost use Rattle.biphase.specs.Latest.{Latest};
 ghost use Rattle.biphase.specs.declared.profile.Profile.TheVariants.{Normal, Worn, Rough};
 ghost use Rattle.biphase.specs.Tolerance.{kept_at_lock, kept_next, latest_with, sum_of, LooksAtLast};
 ghost use Rattle.biphase.specs.Pair.{AreEqual, AreUnequal, IsKind};

@@ -36,7 +36,7 @@ mod tests;
 mod tolerance;
 
 pub use cell::{Cell, MAX_INTERVAL};
-pub use latest::Latest;
+pub use latest::LatestFour;
 pub use pair::{PairKind, kind};
 pub use profile::Profile;
 pub use shaper::{MAX_SHAPED, MIN_SHAPED, ShapeFault, Shaper};

@@ -1,6 +1,6 @@
 //! Values from outside.
 use crate::{
-    Cell, Latest, MAX_INTERVAL, PairKind, Profile, ShapeFault, Shaper, is_one, is_zero, kind,
+    Cell, LatestFour, MAX_INTERVAL, PairKind, Profile, ShapeFault, Shaper, is_one, is_zero, kind,
     may_begin_one,
 };
 use std::test::Fail;
@@ -33,14 +33,13 @@ fn intervals_at_the_edges_of_a_cell(rt: HostRuntime) {
         (200, 130, false, false),
         (2 * MAX_INTERVAL, MAX_INTERVAL, false, true),
     ] {
-        let latest = Profile::Normal.at_lock(c);
         assert_eq!(rt;
-            is_zero(Profile::Normal, latest, x),
+            is_zero(Profile::Normal, c, x),
             zero,
             "{x} as a zero after {c}"
         );
         assert_eq!(rt;
-            may_begin_one(Profile::Normal, latest, x),
+            may_begin_one(Profile::Normal, c, x),
             half,
             "{x} as a half after {c}"
         );
@@ -61,7 +60,7 @@ fn halves_at_the_edges_of_a_one(rt: HostRuntime) {
         (2 * MAX_INTERVAL, MAX_INTERVAL, MAX_INTERVAL, true),
     ] {
         assert_eq!(rt;
-            is_one(Profile::Normal, Profile::Normal.at_lock(c), x, y),
+            is_one(Profile::Normal, c, x, y),
             want,
             "{x} and {y} after {c}"
         );
@@ -74,15 +73,10 @@ fn a_worn_recording_may_differ_more(rt: HostRuntime) {
         (Profile::Worn, PairKind::Step, true, true),
         (Profile::Normal, PairKind::Wild, false, false),
     ] {
-        let latest = profile.at_lock(24);
         assert_eq!(rt; kind(profile, 24, 9), step);
-        assert_eq!(rt; may_begin_one(profile, latest, 16), half);
-        assert_eq!(rt; is_zero(profile, latest, 28), zero);
-        assert_eq!(rt;
-            is_one(profile, latest, 13, 11),
-            zero,
-            "halves of 13 and 11"
-        );
+        assert_eq!(rt; may_begin_one(profile, 24, 16), half);
+        assert_eq!(rt; is_zero(profile, 24, 28), zero);
+        assert_eq!(rt; is_one(profile, 24, 13, 11), zero, "halves of 13 and 11");
     }
 }
 
@@ -92,7 +86,9 @@ fn a_rough_recording_is_compared_with_the_latest_four(rt: HostRuntime) {
     assert_eq!(rt; kind(ROUGH, 99, 33), PairKind::Step);
     assert_eq!(rt; kind(ROUGH, 100, 33), PairKind::Wild);
     assert_eq!(rt; kind(ROUGH, 99, 66), PairKind::Same);
-    let mut latest = ROUGH.at_lock(100);
+    let mut four = LatestFour::new();
+    let lock = ROUGH.at_lock(&mut four, 100);
+    assert_eq!(rt; lock, 400);
     for (x, zero, half) in [
         (74, false, false),
         (75, true, false),
@@ -103,8 +99,8 @@ fn a_rough_recording_is_compared_with_the_latest_four(rt: HostRuntime) {
         (70, false, true),
         (71, false, false),
     ] {
-        assert_eq!(rt; is_zero(ROUGH, latest, x), zero, "{x} as a zero");
-        assert_eq!(rt; may_begin_one(ROUGH, latest, x), half, "{x} as a half");
+        assert_eq!(rt; is_zero(ROUGH, lock, x), zero, "{x} as a zero");
+        assert_eq!(rt; may_begin_one(ROUGH, lock, x), half, "{x} as a half");
     }
     for (x, y, one) in [
         (70, 55, true),
@@ -113,22 +109,25 @@ fn a_rough_recording_is_compared_with_the_latest_four(rt: HostRuntime) {
         (46, 29, false),
         (44, 30, false),
     ] {
-        assert_eq!(rt; is_one(ROUGH, latest, x, y), one, "{x} and {y} as a one");
+        assert_eq!(rt; is_one(ROUGH, lock, x, y), one, "{x} and {y} as a one");
     }
-    for _ in 0..4u32 {
-        assert_eq!(rt; is_zero(ROUGH, latest, 125), true);
-        latest = ROUGH.after(latest, 125);
+    for (c, sum) in [(125, 425), (120, 445), (130, 475), (110, 485), (90, 450)] {
+        assert_eq!(rt; ROUGH.after(&mut four, c), sum, "with {c}");
     }
-    assert_eq!(rt; latest, ROUGH.at_lock(125));
-    assert_eq!(rt; is_zero(ROUGH, latest, 156), true);
-    assert_eq!(rt; is_zero(ROUGH, latest, 157), false);
-    let widest = Latest {
-        last: u32::MAX,
-        second: u32::MAX,
-        third: u32::MAX,
-        fourth: u32::MAX,
-    };
-    assert_eq!(rt; is_one(ROUGH, widest, u32::MAX, u32::MAX), false);
+    assert_eq!(rt; is_zero(ROUGH, 500, 156), true);
+    assert_eq!(rt; is_zero(ROUGH, 500, 157), false);
+    let longest = 2 * MAX_INTERVAL;
+    assert_eq!(rt; ROUGH.at_lock(&mut four, longest), 8 * MAX_INTERVAL);
+    assert_eq!(rt; is_zero(ROUGH, 8 * MAX_INTERVAL, MAX_INTERVAL), false);
+    assert_eq!(rt; is_one(ROUGH, u32::MAX, u32::MAX, u32::MAX), false);
+}
+
+#[test]
+fn other_profiles_keep_the_last_cell_alone(rt: HostRuntime) {
+    let mut four = LatestFour::new();
+    assert_eq!(rt; Profile::Worn.at_lock(&mut four, 24), 24);
+    assert_eq!(rt; Profile::Worn.after(&mut four, 26), 26);
+    assert_eq!(rt; four, LatestFour::new());
 }
 
 #[test]

@@ -2,47 +2,50 @@
 ghost use Rattle.std.specs.Prelude.{◌≡◌, ◌↔◌, ◌+◌, ◌<◌, ◌^◌, IsTrue};
 ghost use Rattle.biphase.specs.declared.profile.TheConstants.{ROUGH};
 ghost use Rattle.biphase.specs.Profile.{IsAtLeast, IsAtMost, IsWithin};
-ghost use Rattle.biphase.specs.Tolerance.{sum_of, IsCellOfSum, IsHalfOfSum, IsOneOfSum};
+ghost use Rattle.biphase.specs.Latest.{Latest};
+ghost use Rattle.biphase.specs.Tolerance.{reference_of, IsCellOfSum, IsHalfOfSum, IsOneOfSum};
 ghost use Rattle.biphase.specs.Chain.{IsNextZero, IsFirstHalf, IsNextOne};
 
-use crate::latest::Latest;
 use crate::profile::{
     NORMAL, Profile, ROUGH, Ratio, Tolerance, WORN, is_at_least, is_at_most, is_within,
 };
 
-/// Tells whether an interval of `x` ticks can be a zero after the latest cells.
+/// Tells whether an interval of `x` ticks can be a zero after the latest cells, of which
+/// `reference` is the number that the profile compares with.
 #[inline(always)]
-pub fn is_zero(profile: Profile, latest: Latest, x: u32) -> bool
-    ensures { IsTrue result ↔ IsNextZero profile latest x }
+pub fn is_zero(profile: Profile, reference: u32, x: u32) -> bool
+    ensures { (latest : Latest) → reference_of profile latest ≡ reference → IsTrue result ↔ IsNextZero profile latest x }
 {
     match profile {
-        Profile::Normal => next_zero(NORMAL, latest.last, x),
-        Profile::Worn => next_zero(WORN, latest.last, x),
-        Profile::Rough => is_cell_of_sum(sum_of(latest), u64::from(x)),
+        Profile::Normal => next_zero(NORMAL, reference, x),
+        Profile::Worn => next_zero(WORN, reference, x),
+        Profile::Rough => is_cell_of_sum(u64::from(reference), u64::from(x)),
     }
 }
 
-/// Tells whether an interval of `x` ticks can be the first half of a one after the latest cells.
+/// Tells whether an interval of `x` ticks can be the first half of a one after the latest cells, of which
+/// `reference` is the number that the profile compares with.
 #[inline(always)]
-pub fn may_begin_one(profile: Profile, latest: Latest, x: u32) -> bool
-    ensures { IsTrue result ↔ IsFirstHalf profile latest x }
+pub fn may_begin_one(profile: Profile, reference: u32, x: u32) -> bool
+    ensures { (latest : Latest) → reference_of profile latest ≡ reference → IsTrue result ↔ IsFirstHalf profile latest x }
 {
     match profile {
-        Profile::Normal => first_half(NORMAL, latest.last, x),
-        Profile::Worn => first_half(WORN, latest.last, x),
-        Profile::Rough => is_half_of_sum(sum_of(latest), u64::from(x)),
+        Profile::Normal => first_half(NORMAL, reference, x),
+        Profile::Worn => first_half(WORN, reference, x),
+        Profile::Rough => is_half_of_sum(u64::from(reference), u64::from(x)),
     }
 }
 
-/// Tells whether two intervals of `x` and `y` ticks can be a one after the latest cells.
+/// Tells whether two intervals of `x` and `y` ticks can be a one after the latest cells, of which
+/// `reference` is the number that the profile compares with.
 #[inline(always)]
-pub fn is_one(profile: Profile, latest: Latest, x: u32, y: u32) -> bool
-    ensures { IsTrue result ↔ IsNextOne profile latest x y }
+pub fn is_one(profile: Profile, reference: u32, x: u32, y: u32) -> bool
+    ensures { (latest : Latest) → reference_of profile latest ≡ reference → IsTrue result ↔ IsNextOne profile latest x y }
 {
     match profile {
-        Profile::Normal => next_one(NORMAL, latest.last, x, y),
-        Profile::Worn => next_one(WORN, latest.last, x, y),
-        Profile::Rough => is_one_of_sum(sum_of(latest), u64::from(x), u64::from(y)),
+        Profile::Normal => next_one(NORMAL, reference, x, y),
+        Profile::Worn => next_one(WORN, reference, x, y),
+        Profile::Rough => is_one_of_sum(u64::from(reference), u64::from(x), u64::from(y)),
     }
 }
 
@@ -80,17 +83,6 @@ fn lies_between(least: Ratio, greatest: Ratio, a: u64, b: u64) -> bool
     ensures { IsTrue result ↔ (IsAtLeast least a b × IsAtMost greatest a b) }
 {
     is_at_least(least, a, b) && is_at_most(greatest, a, b)
-}
-
-/// The sum of the lengths of the latest four cells, in ticks.
-fn sum_of(latest: Latest) -> u64
-    ensures value { result ≡ sum_of latest }
-    ensures within { result < 2 ^ 34 }
-{
-    u64::from(latest.last)
-        + u64::from(latest.second)
-        + u64::from(latest.third)
-        + u64::from(latest.fourth)
 }
 
 /// Tells whether a cell of `length` ticks can follow four cells of this sum.

@@ -12,7 +12,7 @@ use Rattle.biphase.specs.declared.profile.Ratio.{Ratio}
 use Rattle.biphase.specs.declared.profile.Tolerance.{Tolerance}
 use Rattle.biphase.specs.declared.profile.SumTolerance.{SumTolerance}
 use Rattle.biphase.specs.declared.profile.TheConstants.{NORMAL, WORN, ROUGH}
-use Rattle.biphase.specs.declared.latest.Latest.{Latest}
+use Rattle.biphase.specs.Latest.{Latest}
 use Rattle.biphase.specs.Profile.{equal_of, unequal_of, IsAtLeast, IsAtMost}
 use Rattle.biphase.specs.Tolerance.{sum_of, kept_at_lock, kept_next, IsOneOfSum}
 use Rattle.biphase.specs.Pair.{AreUnequal}

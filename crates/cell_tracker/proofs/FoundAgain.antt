@@ -14,7 +14,7 @@ use Rattle.biphase.specs.declared.profile.Profile.TheVariants.{Normal, Worn, Rou
 use Rattle.biphase.specs.declared.cell.Cell.{Cell}
 use Rattle.biphase.specs.declared.cell.Cell.TheVariants.{Zero, One}
 use Rattle.biphase.specs.Pair.{AreUnequal}
-use Rattle.biphase.specs.declared.latest.Latest.{Latest}
+use Rattle.biphase.specs.Latest.{Latest}
 use Rattle.biphase.specs.Tolerance.{LooksAtLast, kept_at_lock, kept_next}
 use Rattle.biphase.specs.Chain.{length_of, intervals_of, flat, kept_after, kept_of, AreHalves, IsCell, IsChain, Follow, FollowOn, IsChainAfter, IsFirstHalf}
 use Rattle.biphase.specs.Kinds.{zeros_equal, halves_equal}

@@ -6,7 +6,7 @@ use Rattle.std.proofs.lemmas.Grind.{flat_map-append}
 use Rattle.biphase.specs.declared.profile.Profile.{Profile}
 use Rattle.biphase.specs.declared.cell.Cell.{Cell}
 use Rattle.biphase.specs.declared.cell.Cell.TheVariants.{Zero, One}
-use Rattle.biphase.specs.declared.latest.Latest.{Latest}
+use Rattle.biphase.specs.Latest.{Latest}
 use Rattle.biphase.specs.Tolerance.{kept_at_lock}
 use Rattle.biphase.specs.Chain.{intervals_of, flat, kept_after, kept_of, IsCell, IsNext, Follow, FollowOn, IsChainAfter, IsNextZero, IsNextOne}
 use Rattle.cell_tracker.proofs.Chains.{chain_rest, chain-append, chain_lasts}

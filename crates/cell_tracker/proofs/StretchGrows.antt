@@ -6,7 +6,7 @@ use Rattle.std.proofs.lemmas.List.Elements.{All-nil, All-cons, All-head, All-tai
 use Rattle.std.proofs.lemmas.Option.{MatchOption-at_some}
 use Rattle.std.proofs.lemmas.List.{drop-append-le, length-drop, length_push}
 use Rattle.biphase.specs.declared.profile.Profile.{Profile}
-use Rattle.biphase.specs.declared.latest.Latest.{Latest}
+use Rattle.biphase.specs.Latest.{Latest}
 use Rattle.biphase.specs.declared.cell.Cell.TheVariants.{Zero}
 use Rattle.biphase.specs.Chain.{flat, kept_of, IsFirstHalf}
 use Rattle.biphase.specs.Laws.{first_half, half_or_not}

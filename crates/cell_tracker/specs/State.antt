@@ -1,6 +1,6 @@
 -- What the three states of the tracker keep.
 use Rattle.std.specs.Prelude.{ℕ, Option, Some}
-use Rattle.biphase.specs.declared.latest.Latest.{Latest}
+use Rattle.biphase.specs.Latest.{Latest}
 use Rattle.biphase.specs.declared.profile.Profile.{Profile}
 
 -- between stretches: the interval before, if there was one since the search began

@@ -8,7 +8,7 @@ use Rattle.std.proofs.lemmas.List.FromFn.{take-map-range_with_len}
 use Rattle.biphase.specs.declared.cell.Cell.{Cell}
 use Rattle.biphase.specs.declared.cell.Cell.TheVariants.{Zero}
 use Rattle.biphase.specs.declared.profile.Profile.{Profile}
-use Rattle.biphase.specs.declared.latest.Latest.{Latest}
+use Rattle.biphase.specs.Latest.{Latest}
 use Rattle.biphase.specs.Chain.{Begins, flat, kept_of}
 use Rattle.biphase.specs.Laws.{half_or_not}
 use Rattle.cell_tracker.specs.GoOn.{GoesOn, GoOn}

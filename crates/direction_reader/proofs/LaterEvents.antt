@@ -15,7 +15,7 @@ use Rattle.std.proofs.lemmas.List.FromFn.{get_or-map-range_with_len, length-map-
 use Rattle.biphase.specs.declared.cell.Cell.{Cell}
 use Rattle.biphase.specs.declared.cell.Cell.TheVariants.{Zero}
 use Rattle.biphase.specs.declared.profile.Profile.{Profile}
-use Rattle.biphase.specs.declared.latest.Latest.{Latest}
+use Rattle.biphase.specs.Latest.{Latest}
 use Rattle.biphase.specs.Tolerance.{kept_at_lock, kept_next}
 use Rattle.biphase.specs.Chain.{Begins, intervals_of, flat, length_of, kept_of, Follow}
 use Rattle.biphase.specs.Laws.{half_or_not, unequal_differ}
