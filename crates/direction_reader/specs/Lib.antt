@@ -16,4 +16,5 @@ pub mod Reader
 pub mod StandsFor
 pub mod Tape
 pub mod Tracker
+pub mod Tracking
 pub mod Window

@@ -23,7 +23,7 @@
 //!   (`specs/Candidate.antt`).
 //! - The numbers of an event are in the ranges of `specs/Brings.antt`.
 //!
-//! Read `reader`, `tracker`, `latest_cells`, `latest_bits`, `window`, `boundaries`, `brought`,
+//! Read `reader`, `tracker`, `state`, `latest_cells`, `latest_bits`, `window`, `boundaries`, `brought`,
 //! `candidates` and `event`, in this order: the way of an interval. `specs/Invariants.antt` is what
 //! the code keeps. `tc_files` prints the events. Nothing here allocates.
 #![tactic(auto)]
@@ -36,6 +36,7 @@ mod latest_bits;
 mod latest_cells;
 pub mod laws;
 mod reader;
+mod state;
 mod tracker;
 mod window;
 
