@@ -14,7 +14,7 @@ printf 'play,,00:00:00:00,forward,0\n,,00:00:00:01,forward,60\n,,,,\n' > "$work/
 # INPUT, then the words
 cases() {
     local word
-    for word in ltc-read ltc-worn 'ltc-fly 2' 'ltc-mtc 2' 'ltc-jam 2 20 48000' 'ltc-convert 2' 'ltc-pcm 100' 'ltc-chase 25 17:17:17:17 2 1 8'; do
+    for word in ltc-read ltc-worn ltc-rough 'ltc-fly 2' 'ltc-mtc 2' 'ltc-jam 2 20 48000' 'ltc-convert 2' 'ltc-pcm 100' 'ltc-chase 25 17:17:17:17 2 1 8'; do
         echo "examples/25-worn.ltci $word"
     done
     echo "examples/30d-damaged.mtc mtc-read"

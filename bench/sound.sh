@@ -53,7 +53,7 @@ row() { # NAME RATE
     local name=$1 rate=$2 cells
     cells="| $name | $("$room/sound" read "$fps" "$rate" < "$room/now" | counted)"
     for how in "1000" "1000 16" "250 16 follow"; do
-        for command in ltc-read ltc-worn; do
+        for command in ltc-read ltc-worn ltc-rough; do
             # shellcheck disable=SC2086
             cells="$cells | $("$tc" pcm-ltc "$system" "$rate" $how < "$room/now" | words "$command" | counted)"
         done
@@ -61,8 +61,8 @@ row() { # NAME RATE
     echo "$cells |"
 }
 
-echo "| Sound of $frames frames | libltc | whole samples | worn | sixteenths | worn | following | worn |"
-echo "|---|---|---|---|---|---|---|---|"
+echo "| Sound of $frames frames | libltc | whole samples | worn | rough | sixteenths | worn | rough | following | worn | rough |"
+echo "|---|---|---|---|---|---|---|---|---|---|---|"
 "$room/sound" make "$fps" 48000 "$frames" > "$room/clean" 2> "$room/addresses"
 cp "$room/clean" "$room/now" && row "as it was made" 48000
 # The edges of a tape are not square, and it hisses: what follows was hurt so first.

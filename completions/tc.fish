@@ -2,6 +2,7 @@
 complete -c tc -f
 complete -c tc -n '__fish_is_first_arg' -a ltc-read -d 'the words of a recording'
 complete -c tc -n '__fish_is_first_arg' -a ltc-worn -d 'the same with the tolerance of worn tapes'
+complete -c tc -n '__fish_is_first_arg' -a ltc-rough -d 'the same with the tolerance of hissy and dull tapes'
 complete -c tc -n '__fish_is_first_arg' -a ltc-fly -d 'the frames, missing ones invented and marked'
 complete -c tc -n '__fish_is_first_arg' -a ltc-mtc -d 'these frames as MIDI Time Code'
 complete -c tc -n '__fish_is_first_arg' -a ltc-jam -d 'a clean recording of these frames'

@@ -1,2 +1,3 @@
 mod EitherWay
 pub mod ShapedIsAChain
+mod WornIsRough

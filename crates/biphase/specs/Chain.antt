@@ -1,14 +1,16 @@
 -- Cells of biphase mark (SMPTE 12M, linear time code), and the lists of them that keep a profile's tolerance.
-use Rattle.std.specs.Prelude.{◌≡◌, ℕ, ◌+◌, ◌≤◌, List, [], ◌∷◌, ◌++◌, flat_map, Bool, true, false, map}
+use Rattle.std.specs.Prelude.{◌≡◌, ℕ, ◌<◌, ◌≤◌, List, [], ◌∷◌, ◌++◌, flat_map, Bool, true, false, map}
 use Rattle.biphase.specs.declared.profile.Profile.{Profile}
+use Rattle.biphase.specs.declared.profile.Profile.TheVariants.{Normal, Worn, Rough}
 use Rattle.biphase.specs.declared.cell.Cell.{Cell}
 use Rattle.biphase.specs.declared.cell.Cell.TheVariants.{Zero, One}
-use Rattle.biphase.specs.Profile.{tolerance_of, IsAtLeast, IsAtMost, IsWithin}
+use Rattle.biphase.specs.Latest.{Latest}
+use Rattle.biphase.specs.Pair.{AreEqual, AreUnequal}
+use Rattle.biphase.specs.Tolerance.{ticks_of, rules_of, kept_at_lock, kept_next}
 
 -- the length of a cell, in ticks
 abbrev pub length_of : Cell → ℕ
-length_of (Zero x) = x
-length_of (One a b) = a + b
+length_of cell = ticks_of cell
 
 -- the intervals of a cell, in order
 abbrev pub intervals_of : Cell → List ℕ
@@ -28,47 +30,91 @@ flat cells = flat_map intervals_of cells
 abbrev pub bits : List Cell → List Bool
 bits cells = map bit_of cells
 
--- the length of the last of some cells that follow one of length c, and c where there are none
-abbrev pub last_length : ℕ → List Cell → ℕ
-last_length c [] = c
-last_length c (cell ∷ cells) = last_length (length_of cell) cells
-
 -- the one list begins the other
 abbrev pub Begins : {A : Type 0} → List A → List A → Type 0
 Begins {A} front list = (rest : List A) × (list ≡ front ++ rest)
 
--- a cell of length next may stand directly after one of length c
+-- what is kept after some cells that follow others
+abbrev pub kept_after : Profile → Latest → List Cell → Latest
+kept_after profile latest [] = latest
+kept_after profile latest (cell ∷ cells) = kept_after profile (kept_next profile latest (length_of cell)) cells
+
+-- what is kept after the cells of a stretch, of which the first is the one at the lock
+abbrev pub kept_of : Profile → List Cell → Latest
+kept_of profile [] = kept_at_lock profile 0
+kept_of profile (cell ∷ cells) = kept_after profile (kept_at_lock profile (length_of cell)) cells
+
+-- a zero of length next may stand directly after a first cell of length c
 abbrev pub IsNear : Profile → ℕ → ℕ → Type 0
-IsNear profile c next = IsWithin (tolerance_of profile).cell next c c
+IsNear profile c next = (rules_of profile).IsNext (kept_at_lock profile c) (Zero next)
 
 -- a and b may be the halves of one cell
 abbrev pub AreHalves : Profile → ℕ → ℕ → Type 0
-AreHalves profile a b = IsWithin (tolerance_of profile).half a b (a + b)
+AreHalves profile a b = (rules_of profile).AreHalves a b
 
--- a cell by itself: each interval lasts a tick or more, and halves are near each other
+-- a cell by itself: each interval lasts a tick or more, and its halves may be those of one cell
 abbrev pub IsCell : Profile → Cell → Type 0
 IsCell profile (Zero x) = 1 ≤ x
 IsCell profile (One a b) = (1 ≤ a) × (1 ≤ b) × AreHalves profile a b
 
--- cells that may follow one of length c: each is near the one before it
+-- a cell may come next
+abbrev pub IsNext : Profile → Latest → Cell → Type 0
+IsNext profile latest cell = (rules_of profile).IsNext latest cell
+
+-- cells that may follow others: each may come next after what is kept of those before it
+abbrev pub Follow : Profile → Latest → List Cell → Type 0
+Follow profile latest [] = Unit {0}
+Follow profile latest (cell ∷ cells) =
+    IsCell profile cell × IsNext profile latest cell × Follow profile (kept_next profile latest (length_of cell)) cells
+
+-- cells that may follow a first one of length c, as from a lock
 abbrev pub IsChainAfter : Profile → ℕ → List Cell → Type 0
-IsChainAfter profile c [] = Unit {0}
-IsChainAfter profile c (cell ∷ cells) =
-    IsCell profile cell × IsNear profile c (length_of cell) × IsChainAfter profile (length_of cell) cells
+IsChainAfter profile c cells = Follow profile (kept_at_lock profile c) cells
 
--- a chain: each cell is near the one before it
+-- cells that follow one another from the first of them on
+abbrev pub FollowOn : Profile → List Cell → Type 0
+FollowOn profile [] = Unit {0}
+FollowOn profile (cell ∷ cells) = IsCell profile cell × IsChainAfter profile (length_of cell) cells
+
+-- from each zero on, as from a lock there, the cells behind it follow
+abbrev pub FollowEachZero : Profile → List Cell → Type 0
+FollowEachZero profile [] = Unit {0}
+FollowEachZero profile (Zero x ∷ cells) = (1 ≤ x) × IsChainAfter profile x cells × FollowEachZero profile cells
+FollowEachZero profile (One a b ∷ cells) = FollowEachZero profile cells
+
+-- the halves of a cell are equal
+abbrev pub Inner : Profile → Cell → Type 0
+Inner profile (Zero x) = Unit {0}
+Inner profile (One a b) = AreEqual profile a b
+
+-- where two cells meet, two zeros and two halves are equal, a zero and a half unequal, and the zero is the greater
+abbrev pub Meets : Profile → Cell → Cell → Type 0
+Meets profile (Zero x) (Zero y) = AreEqual profile x y
+Meets profile (Zero x) (One a b) = AreUnequal profile x a × (a < x)
+Meets profile (One a b) (Zero y) = AreUnequal profile b y × (b < y)
+Meets profile (One a b) (One c d) = AreEqual profile b c
+
+-- so it is everywhere in the cells: the kinds of neighbouring intervals are as the cells say
+abbrev pub Kinds : Profile → List Cell → Type 0
+Kinds profile [] = Unit {0}
+Kinds profile (cell ∷ []) = Inner profile cell
+Kinds profile (cell ∷ next ∷ cells) = Inner profile cell × Meets profile cell next × Kinds profile (next ∷ cells)
+
+-- a chain, cells that keep the tolerance of a profile. Where the last cell alone is kept, each cell is near the one before it. Where four are
+-- kept, the cells follow from each zero on, and the kinds of neighbouring intervals are as the cells say
 abbrev pub IsChain : Profile → List Cell → Type 0
-IsChain profile [] = Unit {0}
-IsChain profile (cell ∷ cells) = IsCell profile cell × IsChainAfter profile (length_of cell) cells
+IsChain Normal cells = FollowOn Normal cells
+IsChain Worn cells = FollowOn Worn cells
+IsChain Rough cells = FollowEachZero Rough cells × Kinds Rough cells
 
--- after a cell of length c, x can be a zero
-abbrev pub IsNextZero : Profile → ℕ → ℕ → Type 0
-IsNextZero profile c x = IsNear profile c x
+-- after the latest cells, x can be a zero
+abbrev pub IsNextZero : Profile → Latest → ℕ → Type 0
+IsNextZero profile latest x = IsNext profile latest (Zero x)
 
--- after a cell of length c, x can be the first half of a one
-abbrev pub IsFirstHalf : Profile → ℕ → ℕ → Type 0
-IsFirstHalf profile c x = IsAtLeast (tolerance_of profile).least_half x c × IsAtMost (tolerance_of profile).greatest_half x c
+-- after the latest cells, x can be the first half of a one
+abbrev pub IsFirstHalf : Profile → Latest → ℕ → Type 0
+IsFirstHalf profile latest x = (rules_of profile).IsFirstHalf latest x
 
--- after a cell of length c, x and y can be the halves of a one
-abbrev pub IsNextOne : Profile → ℕ → ℕ → ℕ → Type 0
-IsNextOne profile c x y = IsNear profile c (x + y) × AreHalves profile x y
+-- after the latest cells, x and y can be the halves of a one
+abbrev pub IsNextOne : Profile → Latest → ℕ → ℕ → Type 0
+IsNextOne profile latest x y = IsNext profile latest (One x y) × AreHalves profile x y

@@ -1,8 +1,12 @@
 pub mod Chain
+pub mod Kinds
+pub mod Latest
 pub mod Laws
+pub mod Mean
 pub mod Mirror
 pub mod OneChain
 pub mod Pair
 pub mod Profile
 pub mod Zeros
 pub mod Shape
+pub mod Tolerance

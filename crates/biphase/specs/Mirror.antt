@@ -1,16 +1,15 @@
 -- Cells in the other order of time, as a tape that runs backward gives them; and a law for the proofs of the crates above: the kinds of its
 -- pairs tell the cells of a list, in either order, once one cell is known. No promise rests on these proofs.
-use Rattle.std.proofs.Common.{◌≡◌, ℕ, ◌+◌, ◌≤◌, List, [], ◌∷◌, ◌++◌, map, reverse, ◌⊎◌, inl, inr, refl, ap, sym, ◌∙◌, arith, append-nil, append_assoc, subst}
+use Rattle.std.proofs.Common.{◌≡◌, ℕ, List, [], ◌∷◌, ◌++◌, map, reverse, ◌⊎◌, inl, inr, refl, ap, sym, ◌∙◌, arith, append-nil, append_assoc, subst}
 use Rattle.std.proofs.lemmas.Grind.{flat_map-append, reverse_onto}
 use Rattle.std.proofs.lemmas.List.{reverse-append}
 use Rattle.biphase.specs.declared.profile.Profile.{Profile}
-use Rattle.biphase.specs.declared.profile.Profile.TheVariants.{Normal, Worn}
+use Rattle.biphase.specs.declared.profile.Profile.TheVariants.{Normal, Worn, Rough}
 use Rattle.biphase.specs.declared.cell.Cell.{Cell}
 use Rattle.biphase.specs.declared.cell.Cell.TheVariants.{Zero, One}
 use Rattle.biphase.specs.Pair.{AreEqual, AreUnequal}
-use Rattle.biphase.specs.Chain.{length_of, intervals_of, flat, Begins, IsCell, AreHalves, IsChainAfter, IsNextZero, IsNextOne}
+use Rattle.biphase.specs.Chain.{intervals_of, flat, Begins, Inner, Meets, Kinds}
 use Rattle.biphase.specs.OneChain.{front_with}
-use Rattle.biphase.specs.Zeros.{zeros_equal, halves_equal, neighbours_equal}
 
 -- a cell in the other order of time
 abbrev pub mirror_of : Cell → Cell
@@ -39,19 +38,11 @@ flat_mirrored (cell ∷ cells) =
 
 -- ---- the kinds of pairs
 
--- a zero and a half are unequal, in either order
-zero_half : (profile : Profile) (c x y : ℕ) → 1 ≤ x → IsNextOne profile c x y → AreUnequal profile c x
-zero_half Normal c x y ticks one = (λ equal. omega arith, omega arith)
-zero_half Worn c x y ticks one = (λ equal. omega arith, omega arith)
-
-half_zero : (profile : Profile) (a b x : ℕ) → 1 ≤ x → AreHalves profile a b → IsNextZero profile (a + b) x → AreUnequal profile b x
-half_zero Normal a b x ticks halves near = (λ equal. omega arith, omega arith)
-half_zero Worn a b x ticks halves near = (λ equal. omega arith, omega arith)
-
 -- the order of a pair does not matter
 equal_turned : (profile : Profile) (a b : ℕ) → AreEqual profile a b → AreEqual profile b a
 equal_turned Normal a b equal = omega arith
 equal_turned Worn a b equal = omega arith
+equal_turned Rough a b equal = omega arith
 
 at_least_turned : (profile : Profile) (a b : ℕ) → AreUnequal profile a b → ¬ AreEqual profile b a
 at_least_turned profile a b unequal = λ equal. unequal.0 (equal_turned profile b a equal)
@@ -59,44 +50,9 @@ at_least_turned profile a b unequal = λ equal. unequal.0 (equal_turned profile 
 pub unequal_turned : (profile : Profile) (a b : ℕ) → AreUnequal profile a b → AreUnequal profile b a
 unequal_turned Normal a b unequal = (at_least_turned Normal a b unequal, omega (arith, unequal.1))
 unequal_turned Worn a b unequal = (at_least_turned Worn a b unequal, omega (arith, unequal.1))
+unequal_turned Rough a b unequal = (at_least_turned Rough a b unequal, omega (arith, unequal.1))
 
--- the halves of a cell are equal
-abbrev Inner : Profile → Cell → Type 0
-Inner profile (Zero x) = Unit {0}
-Inner profile (One a b) = AreEqual profile a b
-
--- where two cells meet, two zeros and two halves are equal, a zero and a half unequal
-abbrev Meets : Profile → Cell → Cell → Type 0
-Meets profile (Zero x) (Zero y) = AreEqual profile x y
-Meets profile (Zero x) (One a b) = AreUnequal profile x a
-Meets profile (One a b) (Zero y) = AreUnequal profile b y
-Meets profile (One a b) (One c d) = AreEqual profile b c
-
--- so it is everywhere in the cells
-abbrev pub Kinds : Profile → List Cell → Type 0
-Kinds profile [] = Unit {0}
-Kinds profile (cell ∷ []) = Inner profile cell
-Kinds profile (cell ∷ next ∷ cells) = Inner profile cell × Meets profile cell next × Kinds profile (next ∷ cells)
-
-inner_of : (profile : Profile) (cell : Cell) → IsCell profile cell → Inner profile cell
-inner_of profile (Zero x) is = tt
-inner_of profile (One a b) is = halves_equal profile a b is.2
-
-meets_of : (profile : Profile) (cell next : Cell) (cells : List Cell) → IsCell profile cell
-    → IsChainAfter profile (length_of cell) (next ∷ cells) → Meets profile cell next
-meets_of profile (Zero x) (Zero y) cells is chain = zeros_equal profile x y chain.1
-meets_of profile (Zero x) (One a b) cells is chain = zero_half profile x a b chain.0.0 (chain.1, chain.0.2)
-meets_of profile (One a b) (Zero y) cells is chain = half_zero profile a b y chain.0 is.2 chain.1
-meets_of profile (One a b) (One c d) cells is chain = neighbours_equal profile a b c d is.2 (chain.1, chain.0.2)
-
--- it is in a chain
-pub chain_kinds : (profile : Profile) (cell : Cell) (cells : List Cell) → IsCell profile cell
-    → IsChainAfter profile (length_of cell) cells → Kinds profile (cell ∷ cells)
-chain_kinds profile cell [] is chain = inner_of profile cell is
-chain_kinds profile cell (next ∷ cells) is chain =
-    (inner_of profile cell is, meets_of profile cell next cells is chain, chain_kinds profile next cells chain.0 chain.2)
-
--- in a front of the cells
+-- the kinds of a front of the cells
 pub front_kinds : (profile : Profile) (cell : Cell) (one two : List Cell) → Kinds profile (cell ∷ (one ++ two)) → Kinds profile (cell ∷ one)
 front_kinds profile cell [] [] kinds = kinds
 front_kinds profile cell [] (next ∷ two) kinds = kinds.0
@@ -109,8 +65,8 @@ inner_turned profile (One a b) inner = equal_turned profile a b inner
 
 meets_turned : (profile : Profile) (cell next : Cell) → Meets profile cell next → Meets profile (mirror_of next) (mirror_of cell)
 meets_turned profile (Zero x) (Zero y) meets = equal_turned profile x y meets
-meets_turned profile (Zero x) (One a b) meets = unequal_turned profile x a meets
-meets_turned profile (One a b) (Zero y) meets = unequal_turned profile b y meets
+meets_turned profile (Zero x) (One a b) meets = (unequal_turned profile x a meets.0, meets.1)
+meets_turned profile (One a b) (Zero y) meets = (unequal_turned profile b y meets.0, meets.1)
 meets_turned profile (One a b) (One c d) meets = equal_turned profile b c meets
 
 abbrev Joins : Profile → Cell → List Cell → Type 0
@@ -142,8 +98,8 @@ mirrored_kinds profile cell cells kinds =
 
 -- an interval behind a cell is a zero or a half
 differ : (profile : Profile) (cell : Cell) (x a b : ℕ) → Meets profile cell (Zero x) → Meets profile cell (One a b) → x ≡ a → ⊥
-differ profile (Zero z) x a b equal unequal same = unequal.0 (rw (← same) equal)
-differ profile (One p q) x a b unequal equal same = unequal.0 (rw same equal)
+differ profile (Zero z) x a b equal unequal same = unequal.0.0 (rw (← same) equal)
+differ profile (One p q) x a b unequal equal same = unequal.0.0 (rw same equal)
 
 -- two lists of cells that begin with one cell and have one list of intervals
 pub comparable_kinds : (profile : Profile) (cell : Cell) (one two : List Cell) (rest other : List ℕ) → Kinds profile (cell ∷ one)

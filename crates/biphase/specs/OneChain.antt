@@ -4,7 +4,9 @@ use Rattle.std.proofs.Common.{◌≡◌, ℕ, ◌+◌, List, [], ◌∷◌, ◌+
 use Rattle.biphase.specs.declared.profile.Profile.{Profile}
 use Rattle.biphase.specs.declared.cell.Cell.{Cell}
 use Rattle.biphase.specs.declared.cell.Cell.TheVariants.{Zero, One}
-use Rattle.biphase.specs.Chain.{flat, Begins, IsChainAfter}
+use Rattle.biphase.specs.Latest.{Latest}
+use Rattle.biphase.specs.Tolerance.{kept_next}
+use Rattle.biphase.specs.Chain.{flat, Begins, Follow}
 use Rattle.biphase.specs.Laws.{zero_is_no_half, first_half}
 
 -- a cell in front of both lists
@@ -13,16 +15,16 @@ pub front_with : (cell : Cell) (one two : List Cell) → Begins one two ⊎ Begi
 front_with cell one two (inl (rest, same)) = inl (rest, ap (λ cells. cell ∷ cells) same)
 front_with cell one two (inr (rest, same)) = inr (rest, ap (λ cells. cell ∷ cells) same)
 
-pub comparable_after : (profile : Profile) (c : ℕ) (one two : List Cell) (rest other : List ℕ)
-    → IsChainAfter profile c one → IsChainAfter profile c two → flat one ++ rest ≡ flat two ++ other
+pub comparable_after : (profile : Profile) (c : Latest) (one two : List Cell) (rest other : List ℕ)
+    → Follow profile c one → Follow profile c two → flat one ++ rest ≡ flat two ++ other
     → Begins one two ⊎ Begins two one
 comparable_after profile c [] two rest other ones twos same = inl (two, refl)
 comparable_after profile c (cell ∷ one) [] rest other ones twos same = inr (cell ∷ one, refl)
 comparable_after profile c (Zero x ∷ one) (Zero y ∷ two) rest other ones twos same =
     let head : x ≡ y = cc in
     let tail : flat one ++ rest ≡ flat two ++ other = cc in
-    let twos_too : IsChainAfter profile x two = rw head twos.2 in
-    rw (← head) (front_with (Zero x) one two (comparable_after profile x one two rest other ones.2 twos_too tail))
+    let twos_too : Follow profile (kept_next profile c x) two = rw head twos.2 in
+    rw (← head) (front_with (Zero x) one two (comparable_after profile (kept_next profile c x) one two rest other ones.2 twos_too tail))
 comparable_after profile c (Zero x ∷ one) (One a b ∷ two) rest other ones twos same =
     let head : a ≡ x = cc in
     absurd (zero_is_no_half profile c x ones.0 ones.1 (rw (← head) (first_half profile c a b (twos.1, twos.0.2))))
@@ -33,13 +35,13 @@ comparable_after profile c (One a b ∷ one) (One x y ∷ two) rest other ones t
     let first : a ≡ x = cc in
     let second : b ≡ y = cc in
     let tail : flat one ++ rest ≡ flat two ++ other = cc in
-    let twos_too : IsChainAfter profile (a + b) two = rw (first, second) twos.2 in
+    let twos_too : Follow profile (kept_next profile c (a + b)) two = rw (first, second) twos.2 in
     rw (← first, ← second) (front_with (One a b) one two
-    (comparable_after profile (a + b) one two rest other ones.2 twos_too tail))
+    (comparable_after profile (kept_next profile c (a + b)) one two rest other ones.2 twos_too tail))
 
 -- the same of the front of a list
-pub comparable : (profile : Profile) (c : ℕ) (one two : List Cell) (intervals : List ℕ)
-    → IsChainAfter profile c one → IsChainAfter profile c two → Begins (flat one) intervals → Begins (flat two) intervals
+pub comparable : (profile : Profile) (c : Latest) (one two : List Cell) (intervals : List ℕ)
+    → Follow profile c one → Follow profile c two → Begins (flat one) intervals → Begins (flat two) intervals
     → Begins one two ⊎ Begins two one
 comparable profile c one two intervals ones twos front front_too =
     comparable_after profile c one two front.0 front_too.0 ones twos (sym front.1 ∙ front_too.1)

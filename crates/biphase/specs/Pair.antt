@@ -3,15 +3,15 @@ use Rattle.std.specs.Prelude.{ℕ, min, max}
 use Rattle.biphase.specs.declared.profile.Profile.{Profile}
 use Rattle.biphase.specs.declared.pair.PairKind.{PairKind}
 use Rattle.biphase.specs.declared.pair.PairKind.TheVariants.{Same, Step, Wild}
-use Rattle.biphase.specs.Profile.{tolerance_of, IsAtLeast}
+use Rattle.biphase.specs.Profile.{equal_of, unequal_of, IsAtLeast}
 
 -- the lesser is nearly the greater
 abbrev pub AreEqual : Profile → ℕ → ℕ → Type 0
-AreEqual profile a b = IsAtLeast (tolerance_of profile).equal (min a b) (max a b)
+AreEqual profile a b = IsAtLeast (equal_of profile) (min a b) (max a b)
 
 -- the lesser is less than that, and nearly half the greater or more
 abbrev pub AreUnequal : Profile → ℕ → ℕ → Type 0
-AreUnequal profile a b = ¬ AreEqual profile a b × IsAtLeast (tolerance_of profile).unequal (min a b) (max a b)
+AreUnequal profile a b = ¬ AreEqual profile a b × IsAtLeast (unequal_of profile) (min a b) (max a b)
 
 -- the pair is of this kind
 abbrev pub IsKind : Profile → ℕ → ℕ → PairKind → Type 0

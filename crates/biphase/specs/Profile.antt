@@ -2,15 +2,21 @@
 use Rattle.std.specs.Prelude.{ℕ, ◌*◌, ◌≤◌}
 use Rattle.std.specs.Int.{abs_diff}
 use Rattle.biphase.specs.declared.profile.Profile.{Profile}
-use Rattle.biphase.specs.declared.profile.Profile.TheVariants.{Normal, Worn}
+use Rattle.biphase.specs.declared.profile.Profile.TheVariants.{Normal, Worn, Rough}
 use Rattle.biphase.specs.declared.profile.Ratio.{Ratio}
-use Rattle.biphase.specs.declared.profile.Tolerance.{Tolerance}
-use Rattle.biphase.specs.declared.profile.TheConstants.{NORMAL, WORN}
+use Rattle.biphase.specs.declared.profile.TheConstants.{NORMAL, WORN, ROUGH}
 
--- the numbers of a profile
-abbrev pub tolerance_of : Profile → Tolerance
-tolerance_of Normal = NORMAL
-tolerance_of Worn = WORN
+-- the lesser of two equal intervals is at least this part of the greater
+abbrev pub equal_of : Profile → Ratio
+equal_of Normal = NORMAL.equal
+equal_of Worn = WORN.equal
+equal_of Rough = ROUGH.equal
+
+-- the lesser of two unequal intervals is at least this part of the greater
+abbrev pub unequal_of : Profile → Ratio
+unequal_of Normal = NORMAL.unequal
+unequal_of Worn = WORN.unequal
+unequal_of Rough = ROUGH.unequal
 
 -- a is at least this part of b
 abbrev pub IsAtLeast : Ratio → ℕ → ℕ → Type 0

@@ -19,11 +19,11 @@ pub enum PairKind {
 pub fn kind(profile: Profile, a: u32, b: u32) -> PairKind
     ensures { IsKind profile a b result }
 {
-    let tolerance = profile.tolerance();
     let (lesser, greater) = if a < b { (a, b) } else { (b, a) };
-    if is_at_least(tolerance.equal, lesser, greater) {
+    let (lesser, greater) = (u64::from(lesser), u64::from(greater));
+    if is_at_least(profile.equal(), lesser, greater) {
         PairKind::Same
-    } else if is_at_least(tolerance.unequal, lesser, greater) {
+    } else if is_at_least(profile.unequal(), lesser, greater) {
         PairKind::Step
     } else {
         PairKind::Wild

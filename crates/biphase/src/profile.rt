@@ -1,7 +1,7 @@
 //! The tolerance profiles, and all their numbers. Next: the states of `cell_tracker`, which act on
 //! what the tests tell.
 ghost use Rattle.std.specs.Prelude.{◌≡◌, ◌*◌, ◌<◌, ◌^◌, ◌↔◌, IsTrue};
-ghost use Rattle.biphase.specs.Profile.{tolerance_of, IsAtLeast, IsAtMost, IsWithin};
+ghost use Rattle.biphase.specs.Profile.{equal_of, unequal_of, IsAtLeast, IsAtMost, IsWithin};
 
 /// How much the cells of a recording may differ.
 #[derive(Clone, Copy, Debug, PartialEq, Eq)]
@@ -12,6 +12,8 @@ pub enum Profile {
     /// For worn recordings: a cell lasts within one sixth of the cell before, and halves differ by at
     /// most one twelfth of their cell.
     Worn,
+    /// For hissy and dull recordings: a cell is compared with the mean of the latest four.
+    Rough,
 }
 
 /// A part of a whole, as two parts of three.
@@ -21,7 +23,7 @@ pub struct Ratio {
     pub whole: u8,
 }
 
-/// The numbers of a profile.
+/// The numbers of a tolerance that compares with the last cell.
 #[derive(Clone, Copy, Debug, PartialEq, Eq)]
 pub struct Tolerance {
     /// So many times the difference of two neighbouring cells is at most the first of them.
@@ -36,6 +38,24 @@ pub struct Tolerance {
     pub least_half: Ratio,
     /// A first half is at most this part of the cell before.
     pub greatest_half: Ratio,
+}
+
+/// The numbers of a tolerance that compares with the latest four cells, the sum of whose lengths is
+/// four times their mean.
+#[derive(Clone, Copy, Debug, PartialEq, Eq)]
+pub struct SumTolerance {
+    /// A cell is at least this part of the sum.
+    pub least_cell: Ratio,
+    /// A cell is at most this part of the sum.
+    pub greatest_cell: Ratio,
+    /// A half is at least this part of the sum.
+    pub least_half: Ratio,
+    /// A half is at most this part of the sum.
+    pub greatest_half: Ratio,
+    /// Of two equal intervals, the lesser is at least this part of the greater.
+    pub equal: Ratio,
+    /// Of two unequal intervals, the lesser is at least this part of the greater.
+    pub unequal: Ratio,
 }
 
 /// The numbers of `Profile::Normal`.
@@ -58,14 +78,36 @@ pub const WORN: Tolerance = Tolerance {
     greatest_half: Ratio { part: 2, whole: 3 },
 };
 
+/// The numbers of `Profile::Rough`.
+pub const ROUGH: SumTolerance = SumTolerance {
+    least_cell: Ratio { part: 3, whole: 16 },
+    greatest_cell: Ratio { part: 5, whole: 16 },
+    least_half: Ratio { part: 3, whole: 40 },
+    greatest_half: Ratio { part: 7, whole: 40 },
+    equal: Ratio { part: 2, whole: 3 },
+    unequal: Ratio { part: 1, whole: 3 },
+};
+
 impl Profile {
-    /// The numbers of the profile.
-    pub(crate) fn tolerance(self) -> Tolerance
-        ensures { result ≡ tolerance_of self }
+    /// Of two equal intervals, the lesser is at least this part of the greater.
+    pub(crate) fn equal(self) -> Ratio
+        ensures { result ≡ equal_of self }
     {
         match self {
-            Profile::Normal => NORMAL,
-            Profile::Worn => WORN,
+            Profile::Normal => NORMAL.equal,
+            Profile::Worn => WORN.equal,
+            Profile::Rough => ROUGH.equal,
+        }
+    }
+
+    /// Of two unequal intervals, the lesser is at least this part of the greater.
+    pub(crate) fn unequal(self) -> Ratio
+        ensures { result ≡ unequal_of self }
+    {
+        match self {
+            Profile::Normal => NORMAL.unequal,
+            Profile::Worn => WORN.unequal,
+            Profile::Rough => ROUGH.unequal,
         }
     }
 }
@@ -78,17 +120,21 @@ fn times(number: u8, ticks: u64) -> u64
 }
 
 /// Tells whether `a` ticks are at least this part of `b` ticks.
-pub(crate) fn is_at_least(ratio: Ratio, a: u32, b: u32) -> bool
+pub(crate) fn is_at_least(ratio: Ratio, a: u64, b: u64) -> bool
+    requires first { a < 2 ^ 40 }
+    requires second { b < 2 ^ 40 }
     ensures { IsTrue result ↔ IsAtLeast ratio a b }
 {
-    times(ratio.part, u64::from(b)) <= times(ratio.whole, u64::from(a))
+    times(ratio.part, b) <= times(ratio.whole, a)
 }
 
 /// Tells whether `a` ticks are at most this part of `b` ticks.
-pub(crate) fn is_at_most(ratio: Ratio, a: u32, b: u32) -> bool
+pub(crate) fn is_at_most(ratio: Ratio, a: u64, b: u64) -> bool
+    requires first { a < 2 ^ 40 }
+    requires second { b < 2 ^ 40 }
     ensures { IsTrue result ↔ IsAtMost ratio a b }
 {
-    times(ratio.whole, u64::from(a)) <= times(ratio.part, u64::from(b))
+    times(ratio.whole, a) <= times(ratio.part, b)
 }
 
 /// Tells whether `number` times the difference of `a` and `b` is at most `length`, all in ticks. Two

@@ -1,6 +1,7 @@
 //! Values from outside.
 use crate::{
-    Cell, MAX_INTERVAL, PairKind, Profile, ShapeFault, Shaper, is_one, is_zero, kind, may_begin_one,
+    Cell, LatestFour, MAX_INTERVAL, PairKind, Profile, ShapeFault, Shaper, is_one, is_zero, kind,
+    may_begin_one,
 };
 use std::test::Fail;
 
@@ -77,6 +78,56 @@ fn a_worn_recording_may_differ_more(rt: HostRuntime) {
         assert_eq!(rt; is_zero(profile, 24, 28), zero);
         assert_eq!(rt; is_one(profile, 24, 13, 11), zero, "halves of 13 and 11");
     }
+}
+
+#[test]
+fn a_rough_recording_is_compared_with_the_latest_four(rt: HostRuntime) {
+    const ROUGH: Profile = Profile::Rough;
+    assert_eq!(rt; kind(ROUGH, 99, 33), PairKind::Step);
+    assert_eq!(rt; kind(ROUGH, 100, 33), PairKind::Wild);
+    assert_eq!(rt; kind(ROUGH, 99, 66), PairKind::Same);
+    let mut four = LatestFour::new();
+    let lock = ROUGH.at_lock(&mut four, 100);
+    assert_eq!(rt; lock, 400);
+    for (x, zero, half) in [
+        (74, false, false),
+        (75, true, false),
+        (125, true, false),
+        (126, false, false),
+        (29, false, false),
+        (30, false, true),
+        (70, false, true),
+        (71, false, false),
+    ] {
+        assert_eq!(rt; is_zero(ROUGH, lock, x), zero, "{x} as a zero");
+        assert_eq!(rt; may_begin_one(ROUGH, lock, x), half, "{x} as a half");
+    }
+    for (x, y, one) in [
+        (70, 55, true),
+        (70, 56, false),
+        (45, 30, true),
+        (46, 29, false),
+        (44, 30, false),
+    ] {
+        assert_eq!(rt; is_one(ROUGH, lock, x, y), one, "{x} and {y} as a one");
+    }
+    for (c, sum) in [(125, 425), (120, 445), (130, 475), (110, 485), (90, 450)] {
+        assert_eq!(rt; ROUGH.after(&mut four, c), sum, "with {c}");
+    }
+    assert_eq!(rt; is_zero(ROUGH, 500, 156), true);
+    assert_eq!(rt; is_zero(ROUGH, 500, 157), false);
+    let longest = 2 * MAX_INTERVAL;
+    assert_eq!(rt; ROUGH.at_lock(&mut four, longest), 8 * MAX_INTERVAL);
+    assert_eq!(rt; is_zero(ROUGH, 8 * MAX_INTERVAL, MAX_INTERVAL), false);
+    assert_eq!(rt; is_one(ROUGH, u32::MAX, u32::MAX, u32::MAX), false);
+}
+
+#[test]
+fn other_profiles_keep_the_last_cell_alone(rt: HostRuntime) {
+    let mut four = LatestFour::new();
+    assert_eq!(rt; Profile::Worn.at_lock(&mut four, 24), 24);
+    assert_eq!(rt; Profile::Worn.after(&mut four, 26), 26);
+    assert_eq!(rt; four, LatestFour::new());
 }
 
 #[test]

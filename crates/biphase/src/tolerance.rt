@@ -1,37 +1,51 @@
-//! The tests of the tolerance, each of what comes after a cell. Next: `profile`.
-ghost use Rattle.std.specs.Prelude.{◌↔◌, ◌+◌, IsTrue};
+//! The tests of the tolerance, each of what comes after some cells. Next: `profile`.
+ghost use Rattle.std.specs.Prelude.{◌≡◌, ◌↔◌, ◌+◌, ◌<◌, ◌^◌, IsTrue};
+ghost use Rattle.biphase.specs.declared.profile.TheConstants.{ROUGH};
 ghost use Rattle.biphase.specs.Profile.{IsAtLeast, IsAtMost, IsWithin};
+ghost use Rattle.biphase.specs.Latest.{Latest};
+ghost use Rattle.biphase.specs.Tolerance.{reference_of, IsCellOfSum, IsHalfOfSum, IsOneOfSum};
 ghost use Rattle.biphase.specs.Chain.{IsNextZero, IsFirstHalf, IsNextOne};
 
-use crate::profile::{NORMAL, Profile, Tolerance, WORN, is_at_least, is_at_most, is_within};
+use crate::profile::{
+    NORMAL, Profile, ROUGH, Ratio, Tolerance, WORN, is_at_least, is_at_most, is_within,
+};
 
-/// Tells whether an interval of `x` ticks can be a zero after a cell of `c` ticks.
-pub fn is_zero(profile: Profile, c: u32, x: u32) -> bool
-    ensures { IsTrue result ↔ IsNextZero profile c x }
+/// Tells whether an interval of `x` ticks can be a zero after the latest cells, of which
+/// `reference` is the number that the profile compares with.
+#[inline(always)]
+pub fn is_zero(profile: Profile, reference: u32, x: u32) -> bool
+    ensures { (latest : Latest) → reference_of profile latest ≡ reference → IsTrue result ↔ IsNextZero profile latest x }
 {
     match profile {
-        Profile::Normal => next_zero(NORMAL, c, x),
-        Profile::Worn => next_zero(WORN, c, x),
+        Profile::Normal => next_zero(NORMAL, reference, x),
+        Profile::Worn => next_zero(WORN, reference, x),
+        Profile::Rough => is_cell_of_sum(u64::from(reference), u64::from(x)),
     }
 }
 
-/// Tells whether an interval of `x` ticks can be the first half of a one after a cell of `c` ticks.
-pub fn may_begin_one(profile: Profile, c: u32, x: u32) -> bool
-    ensures { IsTrue result ↔ IsFirstHalf profile c x }
+/// Tells whether an interval of `x` ticks can be the first half of a one after the latest cells, of which
+/// `reference` is the number that the profile compares with.
+#[inline(always)]
+pub fn may_begin_one(profile: Profile, reference: u32, x: u32) -> bool
+    ensures { (latest : Latest) → reference_of profile latest ≡ reference → IsTrue result ↔ IsFirstHalf profile latest x }
 {
     match profile {
-        Profile::Normal => first_half(NORMAL, c, x),
-        Profile::Worn => first_half(WORN, c, x),
+        Profile::Normal => first_half(NORMAL, reference, x),
+        Profile::Worn => first_half(WORN, reference, x),
+        Profile::Rough => is_half_of_sum(u64::from(reference), u64::from(x)),
     }
 }
 
-/// Tells whether two intervals of `x` and `y` ticks can be a one after a cell of `c` ticks.
-pub fn is_one(profile: Profile, c: u32, x: u32, y: u32) -> bool
-    ensures { IsTrue result ↔ IsNextOne profile c x y }
+/// Tells whether two intervals of `x` and `y` ticks can be a one after the latest cells, of which
+/// `reference` is the number that the profile compares with.
+#[inline(always)]
+pub fn is_one(profile: Profile, reference: u32, x: u32, y: u32) -> bool
+    ensures { (latest : Latest) → reference_of profile latest ≡ reference → IsTrue result ↔ IsNextOne profile latest x y }
 {
     match profile {
-        Profile::Normal => next_one(NORMAL, c, x, y),
-        Profile::Worn => next_one(WORN, c, x, y),
+        Profile::Normal => next_one(NORMAL, reference, x, y),
+        Profile::Worn => next_one(WORN, reference, x, y),
+        Profile::Rough => is_one_of_sum(u64::from(reference), u64::from(x), u64::from(y)),
     }
 }
 
@@ -45,7 +59,12 @@ fn next_zero(tolerance: Tolerance, c: u32, x: u32) -> bool
 fn first_half(tolerance: Tolerance, c: u32, x: u32) -> bool
     ensures { IsTrue result ↔ (IsAtLeast tolerance.least_half x c × IsAtMost tolerance.greatest_half x c) }
 {
-    is_at_least(tolerance.least_half, x, c) && is_at_most(tolerance.greatest_half, x, c)
+    lies_between(
+        tolerance.least_half,
+        tolerance.greatest_half,
+        u64::from(x),
+        u64::from(c),
+    )
 }
 
 fn next_one(tolerance: Tolerance, c: u32, x: u32, y: u32) -> bool
@@ -55,4 +74,41 @@ fn next_one(tolerance: Tolerance, c: u32, x: u32, y: u32) -> bool
     let next = first + second;
     is_within(tolerance.cell, next, length, length)
         && is_within(tolerance.half, first, second, next)
+}
+
+/// Tells whether `a` ticks are at least and at most such parts of `b` ticks.
+fn lies_between(least: Ratio, greatest: Ratio, a: u64, b: u64) -> bool
+    requires first { a < 2 ^ 40 }
+    requires second { b < 2 ^ 40 }
+    ensures { IsTrue result ↔ (IsAtLeast least a b × IsAtMost greatest a b) }
+{
+    is_at_least(least, a, b) && is_at_most(greatest, a, b)
+}
+
+/// Tells whether a cell of `length` ticks can follow four cells of this sum.
+fn is_cell_of_sum(sum: u64, length: u64) -> bool
+    requires first { sum < 2 ^ 40 }
+    requires second { length < 2 ^ 40 }
+    ensures { IsTrue result ↔ IsCellOfSum ROUGH sum length }
+{
+    lies_between(ROUGH.least_cell, ROUGH.greatest_cell, length, sum)
+}
+
+/// Tells whether an interval of `x` ticks can be a half of a one that follows four cells of this sum.
+fn is_half_of_sum(sum: u64, x: u64) -> bool
+    requires first { sum < 2 ^ 40 }
+    requires second { x < 2 ^ 40 }
+    ensures { IsTrue result ↔ IsHalfOfSum ROUGH sum x }
+{
+    lies_between(ROUGH.least_half, ROUGH.greatest_half, x, sum)
+}
+
+/// Tells whether intervals of `x` and `y` ticks can be a one that follows four cells of this sum.
+fn is_one_of_sum(sum: u64, x: u64, y: u64) -> bool
+    requires first { sum < 2 ^ 40 }
+    requires second { x < 2 ^ 32 }
+    requires third { y < 2 ^ 32 }
+    ensures { IsTrue result ↔ IsOneOfSum ROUGH sum x y }
+{
+    is_half_of_sum(sum, x) && is_half_of_sum(sum, y) && is_cell_of_sum(sum, x + y)
 }

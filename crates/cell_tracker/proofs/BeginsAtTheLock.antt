@@ -6,6 +6,7 @@ use Rattle.std.proofs.lemmas.List.Elements.{All-push}
 use Rattle.std.proofs.lemmas.Option.{slice_get-get_or, slice_get_within, get_or_from_slice_get}
 use Rattle.biphase.specs.declared.profile.Profile.{Profile}
 use Rattle.biphase.specs.Pair.{AreUnequal}
+use Rattle.biphase.specs.Tolerance.{kept_at_lock}
 use Rattle.biphase.specs.Chain.{IsFirstHalf}
 use Rattle.biphase.specs.Laws.{step_is_no_zero, unequal_differ}
 use Rattle.cell_tracker.specs.Lock.{IsUnequalAt, HasNoLock}
@@ -127,7 +128,7 @@ none_past profile intervals x k past at = omega (arith, at.0, length_push interv
 pub start_at : (state : HuntingState) (intervals : List ℕ) (stretches : List Stretch) (z x : ℕ)
     → HuntingStandsFor state intervals stretches
     → state.before ≡ Some z → AreUnequal state.profile z x → z < x
-    → AtCellStandsFor (record { profile = state.profile; last = x }) (intervals ++ x ∷ []) stretches
+    → AtCellStandsFor (record { profile = state.profile; latest = kept_at_lock state.profile x }) (intervals ++ x ∷ []) stretches
     (begun (length intervals) x)
 start_at state intervals stretches z x stands before unequal rising = record {
   stretches_are =
@@ -143,14 +144,14 @@ start_at state intervals stretches z x stands before unequal rising = record {
       })) refl;
   open_yet = refl;
   ends = sym (length_push intervals x);
-  last = refl;
+  kept = refl;
 }
 
 -- the interval before is the first zero of a stretch, and the interval waits
 pub start_mid : (state : HuntingState) (intervals : List ℕ) (stretches : List Stretch) (z x : ℕ)
     → HuntingStandsFor state intervals stretches
-    → state.before ≡ Some z → AreUnequal state.profile z x → x ≤ z → IsFirstHalf state.profile z x
-    → MidCellStandsFor (record { profile = state.profile; last = z; half = x }) (intervals ++ x ∷ []) stretches
+    → state.before ≡ Some z → AreUnequal state.profile z x → x ≤ z → IsFirstHalf state.profile (kept_at_lock state.profile z) x
+    → MidCellStandsFor (record { profile = state.profile; latest = kept_at_lock state.profile z; half = x }) (intervals ++ x ∷ []) stretches
     (begun (length intervals - 1) z)
 start_mid state intervals stretches z x stands before unequal low half =
     let falling : x < z = falls state.profile z x unequal low in
@@ -171,14 +172,14 @@ start_mid state intervals stretches z x stands before unequal low half =
           })) refl;
       open_yet = refl;
       ends = ap (λ n. n + 1) end ∙ sym (length_push intervals x);
-      last = refl;
+      kept = refl;
       half = last_of-push intervals x;
     }
 
 -- the interval before is the only zero of a stretch that breaks at the interval
 pub start_broken : (state : HuntingState) (intervals : List ℕ) (stretches : List Stretch) (z x : ℕ)
     → HuntingStandsFor state intervals stretches
-    → state.before ≡ Some z → AreUnequal state.profile z x → x ≤ z → ¬ IsFirstHalf state.profile z x
+    → state.before ≡ Some z → AreUnequal state.profile z x → x ≤ z → ¬ IsFirstHalf state.profile (kept_at_lock state.profile z) x
     → HuntingStandsFor (search_from state.profile x) (intervals ++ x ∷ [])
     (stretches ++ with_break (length intervals) (begun (length intervals - 1) z) ∷ [])
 start_broken state intervals stretches z x stands before unequal low no_half =

@@ -5,7 +5,9 @@ use Rattle.std.proofs.lemmas.Bool.{le-leb, lt-leb}
 use Rattle.biphase.specs.declared.profile.Profile.{Profile}
 use Rattle.biphase.specs.declared.cell.Cell.{Cell}
 use Rattle.biphase.specs.declared.cell.Cell.TheVariants.{Zero, One}
-use Rattle.biphase.specs.Chain.{intervals_of, flat, last_length, IsChainAfter, IsNextOne}
+use Rattle.biphase.specs.Latest.{Latest}
+use Rattle.biphase.specs.Tolerance.{kept_next}
+use Rattle.biphase.specs.Chain.{intervals_of, flat, kept_after, Follow, IsNextOne}
 use Rattle.biphase.specs.Laws.{zero_is_no_half, first_half}
 use Rattle.cell_tracker.specs.Kept.{cells_between}
 use Rattle.cell_tracker.specs.Stretch.{IsBreak}
@@ -84,33 +86,33 @@ front_of_front (cell ∷ one) rest (next ∷ two) other same fewer =
     (omega (arith, length-append (intervals_of cell) (flat one), length-append (intervals_of next) (flat two), long, fewer)) in
     (more.0, ap (λ c. c ∷ two) head ∙ ap (λ (cs : List Cell). cell ∷ cs) more.1)
 
--- what a list may have behind cells of which the last has length c: nothing, or the first half of a one
-abbrev pub IsCutOff : Profile → ℕ → List ℕ → Type 0
+-- what a list may have behind some cells: nothing, or the first half of a one
+abbrev pub IsCutOff : Profile → Latest → List ℕ → Type 0
 IsCutOff profile c [] = Unit {0}
 IsCutOff profile c (x ∷ []) = (y : ℕ) × (1 ≤ x) × IsNextOne profile c x y
 IsCutOff profile c (x ∷ y ∷ rest) = ⊥
 
 -- no cell fits there
-pub none_fits_cut : (profile : Profile) (c : ℕ) (left : List ℕ) → IsCutOff profile c left → NoneFits profile c left
+pub none_fits_cut : (profile : Profile) (c : Latest) (left : List ℕ) → IsCutOff profile c left → NoneFits profile c left
 none_fits_cut profile c [] cut = tt
 none_fits_cut profile c (x ∷ []) cut = λ near. zero_is_no_half profile c x cut.1 near (first_half profile c x cut.0 cut.2)
 none_fits_cut profile c (x ∷ y ∷ rest) cut = absurd cut
 
 -- and nothing breaks there
-pub no_break_cut : (profile : Profile) (c after : ℕ) (left : List ℕ) → IsCutOff profile c left → IsBreak profile c after left None
+pub no_break_cut : (profile : Profile) (c : Latest) (after : ℕ) (left : List ℕ) → IsCutOff profile c left → IsBreak profile c after left None
 no_break_cut profile c after [] cut = refl
 no_break_cut profile c after (x ∷ []) cut = (λ _. refl, λ no_half. absurd (no_half (first_half profile c x cut.0 cut.2)))
 no_break_cut profile c after (x ∷ y ∷ rest) cut = absurd cut
 
--- the cells that lie in a list from a boundary on, where the last cell has length c, and what is left of the list
-pub record Lie (profile : Profile) (c : ℕ) (kept : List Cell) (front : List ℕ) : Type 0 where
-  pub chain : IsChainAfter profile c kept
+-- the cells that lie in a list from a boundary on, and what is left of the list
+pub record Lie (profile : Profile) (c : Latest) (kept : List Cell) (front : List ℕ) : Type 0 where
+  pub chain : Follow profile c kept
   pub left : List ℕ
   pub are : front ≡ flat kept ++ left
-  pub cut : IsCutOff profile (last_length c kept) left
+  pub cut : IsCutOff profile (kept_after profile c kept) left
 
 -- none of them, and the list is what is left
-lie_none : (profile : Profile) (c : ℕ) (kept : List Cell) (front : List ℕ) → kept ≡ [] → IsCutOff profile c front → Lie profile c kept front
+lie_none : (profile : Profile) (c : Latest) (kept : List Cell) (front : List ℕ) → kept ≡ [] → IsCutOff profile c front → Lie profile c kept front
 lie_none profile c kept front none cut = subst (λ (cells : List Cell). Lie profile c cells front) (sym none) (record {
   chain = tt;
   left = front;
@@ -118,8 +120,8 @@ lie_none profile c kept front none cut = subst (λ (cells : List Cell). Lie prof
   cut = cut;
 })
 
-pub they_lie : (profile : Profile) (c low high at : ℕ) (cells : List Cell) (front rest : List ℕ) → low ≤ at
-    → at + length front ≡ high → IsChainAfter profile c cells → flat cells ≡ front ++ rest
+pub they_lie : (profile : Profile) (c : Latest) (low high at : ℕ) (cells : List Cell) (front rest : List ℕ) → low ≤ at
+    → at + length front ≡ high → Follow profile c cells → flat cells ≡ front ++ rest
     → Lie profile c (cells_between low high at cells) front
 they_lie profile c low high at [] [] rest begins ends chain same = lie_none profile c [] [] refl tt
 they_lie profile c low high at [] (x ∷ front) rest begins ends chain same = absurd (omega (arith, ap length same))
@@ -128,7 +130,7 @@ they_lie profile c low high at (cell ∷ cells) [] rest begins ends chain same =
 they_lie profile c low high at (Zero x ∷ cells) (y ∷ front) rest begins ends chain same =
     let first : y ≡ x = cc in
     let tail : flat cells ≡ front ++ rest = cc in
-    let more = they_lie profile x low high (at + 1) cells front rest (omega arith) (omega arith) chain.2 tail in
+    let more = they_lie profile (kept_next profile c x) low high (at + 1) cells front rest (omega arith) (omega arith) chain.2 tail in
     subst (λ (kept : List Cell). Lie profile c kept (y ∷ front))
     (sym (lies_between low high at (Zero x) cells begins (omega arith))) (record {
       chain = (chain.0, chain.1, more.chain);
@@ -147,7 +149,7 @@ they_lie profile c low high at (One a b ∷ cells) (y ∷ z ∷ front) rest begi
     let first : y ≡ a = cc in
     let second : z ≡ b = cc in
     let tail : flat cells ≡ front ++ rest = cc in
-    let more = they_lie profile (a + b) low high (at + 2) cells front rest (omega arith) (omega arith) chain.2 tail in
+    let more = they_lie profile (kept_next profile c (a + b)) low high (at + 2) cells front rest (omega arith) (omega arith) chain.2 tail in
     subst (λ (kept : List Cell). Lie profile c kept (y ∷ z ∷ front))
     (sym (lies_between low high at (One a b) cells begins (omega arith))) (record {
       chain = (chain.0, chain.1, more.chain);

@@ -7,7 +7,14 @@ use Rattle.std.proofs.lemmas.List.{append-nil, length_push}
 use Rattle.std.proofs.lemmas.List.Elements.{All-nil}
 use Rattle.biphase.specs.declared.profile.Profile.{Profile}
 use Rattle.biphase.specs.declared.cell.Cell.TheVariants.{Zero, One}
-use Rattle.biphase.specs.Profile.{tolerance_of}
+use Rattle.biphase.specs.declared.profile.Profile.TheVariants.{Normal, Worn, Rough}
+use Rattle.biphase.specs.declared.profile.Ratio.{Ratio}
+use Rattle.biphase.specs.declared.profile.Tolerance.{Tolerance}
+use Rattle.biphase.specs.declared.profile.SumTolerance.{SumTolerance}
+use Rattle.biphase.specs.declared.profile.TheConstants.{NORMAL, WORN, ROUGH}
+use Rattle.biphase.specs.Latest.{Latest}
+use Rattle.biphase.specs.Profile.{equal_of, unequal_of, IsAtLeast, IsAtMost}
+use Rattle.biphase.specs.Tolerance.{sum_of, kept_at_lock, kept_next, IsOneOfSum}
 use Rattle.biphase.specs.Pair.{AreUnequal}
 use Rattle.biphase.specs.Chain.{IsNextZero, IsFirstHalf, IsNextOne}
 use Rattle.cell_tracker.specs.Stretch.{Stretch, IsBroken, AreStretches, begun, with_cell, with_break}
@@ -39,32 +46,75 @@ not_tells true p = record { yes_it_is = λ holds. absurd (false≢true holds); n
 not_tells false p = record { yes_it_is = λ _. p.no_it_is_not refl; no_it_is_not = λ fails. absurd (false≢true (sym fails)) }
 
 -- the tests of biphase
-abbrev pub is_zero : Profile → ℕ → ℕ → Bool
-is_zero profile c x = leb ((tolerance_of profile).cell * abs_diff x c) c
+abbrev is_between : Ratio → Ratio → ℕ → ℕ → Bool
+is_between low high a b = leb (low.part * b) (low.whole * a) && leb (high.whole * a) (high.part * b)
 
-abbrev pub is_half : Profile → ℕ → ℕ → Bool
-is_half profile c x =
-    let low = (tolerance_of profile).least_half in
-    let high = (tolerance_of profile).greatest_half in
-    leb (low.part * c) (low.whole * x) && leb (high.whole * x) (high.part * c)
+abbrev is_near : Tolerance → Latest → ℕ → Bool
+is_near tolerance latest length = leb (tolerance.cell * abs_diff length latest.last) latest.last
 
-abbrev pub is_one : Profile → ℕ → ℕ → ℕ → Bool
-is_one profile c x y = is_zero profile c (x + y) && leb ((tolerance_of profile).half * abs_diff x y) (x + y)
+abbrev are_near : Tolerance → Latest → ℕ → ℕ → Bool
+are_near tolerance latest x y = is_near tolerance latest (x + y) && leb (tolerance.half * abs_diff x y) (x + y)
+
+abbrev is_half_of : SumTolerance → ℕ → ℕ → Bool
+is_half_of tolerance sum x = is_between tolerance.least_half tolerance.greatest_half x sum
+
+abbrev is_one_of : SumTolerance → ℕ → ℕ → ℕ → Bool
+is_one_of tolerance sum x y =
+    is_half_of tolerance sum x && (is_half_of tolerance sum y && is_between tolerance.least_cell tolerance.greatest_cell (x + y) sum)
+
+abbrev pub is_zero : Profile → Latest → ℕ → Bool
+is_zero Normal latest x = is_near NORMAL latest x
+is_zero Worn latest x = is_near WORN latest x
+is_zero Rough latest x = is_between ROUGH.least_cell ROUGH.greatest_cell x (sum_of latest)
+
+abbrev pub is_half : Profile → Latest → ℕ → Bool
+is_half Normal latest x = is_between NORMAL.least_half NORMAL.greatest_half x latest.last
+is_half Worn latest x = is_between WORN.least_half WORN.greatest_half x latest.last
+is_half Rough latest x = is_half_of ROUGH (sum_of latest) x
+
+abbrev pub is_one : Profile → Latest → ℕ → ℕ → Bool
+is_one Normal latest x y = are_near NORMAL latest x y
+is_one Worn latest x y = are_near WORN latest x y
+is_one Rough latest x y = is_one_of ROUGH (sum_of latest) x y
 
 abbrev pub is_unequal : Profile → ℕ → ℕ → Bool
 is_unequal profile a b =
-    let equal = (tolerance_of profile).equal in
-    let unequal = (tolerance_of profile).unequal in
+    let equal = equal_of profile in
+    let unequal = unequal_of profile in
     not (leb (equal.part * max a b) (equal.whole * min a b)) && leb (unequal.part * max a b) (unequal.whole * min a b)
 
-zero_tells : (profile : Profile) (c x : ℕ) → Tells (is_zero profile c x) (IsNextZero profile c x)
-zero_tells profile c x = leb_tells _ _
+between_tells : (low high : Ratio) (a b : ℕ) → Tells (is_between low high a b) (IsAtLeast low a b × IsAtMost high a b)
+between_tells low high a b = and_tells _ _ (leb_tells _ _) (leb_tells _ _)
 
-half_tells : (profile : Profile) (c x : ℕ) → Tells (is_half profile c x) (IsFirstHalf profile c x)
-half_tells profile c x = and_tells _ _ (leb_tells _ _) (leb_tells _ _)
+zero_tells : (profile : Profile) (latest : Latest) (x : ℕ) → Tells (is_zero profile latest x) (IsNextZero profile latest x)
+zero_tells Normal latest x = leb_tells _ _
+zero_tells Worn latest x = leb_tells _ _
+zero_tells Rough latest x = between_tells ROUGH.least_cell ROUGH.greatest_cell x (sum_of latest)
 
-one_tells : (profile : Profile) (c x y : ℕ) → Tells (is_one profile c x y) (IsNextOne profile c x y)
-one_tells profile c x y = and_tells _ _ (leb_tells _ _) (leb_tells _ _)
+half_tells : (profile : Profile) (latest : Latest) (x : ℕ) → Tells (is_half profile latest x) (IsFirstHalf profile latest x)
+half_tells Normal latest x = between_tells NORMAL.least_half NORMAL.greatest_half x latest.last
+half_tells Worn latest x = between_tells WORN.least_half WORN.greatest_half x latest.last
+half_tells Rough latest x = between_tells ROUGH.least_half ROUGH.greatest_half x (sum_of latest)
+
+-- two halves and a sum
+sum_tells : (latest : Latest) (x y : ℕ) → Tells (is_one_of ROUGH (sum_of latest) x y) (IsOneOfSum ROUGH (sum_of latest) x y)
+sum_tells latest x y =
+    let first = between_tells ROUGH.least_half ROUGH.greatest_half x (sum_of latest) in
+    let second = between_tells ROUGH.least_half ROUGH.greatest_half y (sum_of latest) in
+    let whole = between_tells ROUGH.least_cell ROUGH.greatest_cell (x + y) (sum_of latest) in
+    let rest = and_tells _ _ second whole in
+    let all = and_tells _ _ first rest in
+    record {
+      yes_it_is = λ holds. let is = all.yes_it_is holds in (is.0, is.1.0, is.1.1);
+      no_it_is_not = λ fails is. all.no_it_is_not fails (is.0, (is.1, is.2));
+    }
+
+one_tells : (profile : Profile) (latest : Latest) (x y : ℕ) → Tells (is_one profile latest x y) (IsNextOne profile latest x y)
+one_tells Normal latest x y = and_tells _ _ (leb_tells _ _) (leb_tells _ _)
+one_tells Worn latest x y = and_tells _ _ (leb_tells _ _) (leb_tells _ _)
+one_tells Rough latest x y =
+    let sum = sum_tells latest x y in
+    record { yes_it_is = λ holds. (sum.yes_it_is holds, tt); no_it_is_not = λ fails is. sum.no_it_is_not fails is.0 }
 
 unequal_tells : (profile : Profile) (a b : ℕ) → Tells (is_unequal profile a b) (AreUnequal profile a b)
 unequal_tells profile a b = and_tells _ _ (not_tells _ (leb_tells _ _)) (leb_tells _ _)
@@ -72,17 +122,17 @@ unequal_tells profile a b = and_tells _ _ (not_tells _ (leb_tells _ _)) (leb_tel
 -- a state of the tracker with the stretches so far
 pub data Tracked : Type 0 where
   hunting : Option ℕ → List Stretch → Tracked
-  at_cell : ℕ → List Stretch → Stretch → Tracked
-  mid_cell : ℕ → ℕ → List Stretch → Stretch → Tracked
+  at_cell : Latest → List Stretch → Stretch → Tracked
+  mid_cell : Latest → ℕ → List Stretch → Stretch → Tracked
 
 -- it stands for the list
 abbrev pub Tracks : Profile → List ℕ → Tracked → Type 0
 Tracks profile intervals (hunting before stretches) =
     HuntingStandsFor (record { profile = profile; before = before }) intervals stretches
 Tracks profile intervals (at_cell last earlier stretch) =
-    AtCellStandsFor (record { profile = profile; last = last }) intervals earlier stretch
+    AtCellStandsFor (record { profile = profile; latest = last }) intervals earlier stretch
 Tracks profile intervals (mid_cell last half earlier stretch) =
-    MidCellStandsFor (record { profile = profile; last = last; half = half }) intervals earlier stretch
+    MidCellStandsFor (record { profile = profile; latest = last; half = half }) intervals earlier stretch
 
 -- the stretches so far
 abbrev pub stretches_in : Tracked → List Stretch
@@ -91,34 +141,34 @@ stretches_in (at_cell last earlier stretch) = earlier ++ stretch ∷ []
 stretches_in (mid_cell last half earlier stretch) = earlier ++ stretch ∷ []
 
 -- what the interval at place n makes of it, by the answers of the tests
-abbrev pub from_pair : ℕ → List Stretch → ℕ → ℕ → Bool → Bool → Bool → Tracked
-from_pair n stretches z x false rises half = hunting (Some x) stretches
-from_pair n stretches z x true true half = at_cell x stretches (begun n x)
-from_pair n stretches z x true false true = mid_cell z x stretches (begun (n - 1) z)
-from_pair n stretches z x true false false = hunting (Some x) (stretches ++ with_break n (begun (n - 1) z) ∷ [])
+abbrev pub from_pair : Profile → ℕ → List Stretch → ℕ → ℕ → Bool → Bool → Bool → Tracked
+from_pair profile n stretches z x false rises half = hunting (Some x) stretches
+from_pair profile n stretches z x true true half = at_cell (kept_at_lock profile x) stretches (begun n x)
+from_pair profile n stretches z x true false true = mid_cell (kept_at_lock profile z) x stretches (begun (n - 1) z)
+from_pair profile n stretches z x true false false = hunting (Some x) (stretches ++ with_break n (begun (n - 1) z) ∷ [])
 
-abbrev pub from_cell : ℕ → ℕ → List Stretch → Stretch → ℕ → Bool → Bool → Tracked
-from_cell n last earlier stretch x true half = at_cell x earlier (with_cell (Zero x) stretch)
-from_cell n last earlier stretch x false true = mid_cell last x earlier stretch
-from_cell n last earlier stretch x false false = hunting (Some x) (earlier ++ with_break n stretch ∷ [])
+abbrev pub from_cell : Profile → ℕ → Latest → List Stretch → Stretch → ℕ → Bool → Bool → Tracked
+from_cell profile n last earlier stretch x true half = at_cell (kept_next profile last x) earlier (with_cell (Zero x) stretch)
+from_cell profile n last earlier stretch x false true = mid_cell last x earlier stretch
+from_cell profile n last earlier stretch x false false = hunting (Some x) (earlier ++ with_break n stretch ∷ [])
 
-abbrev pub from_half : ℕ → ℕ → List Stretch → Stretch → ℕ → Bool → Tracked
-from_half n half earlier stretch x true = at_cell (half + x) earlier (with_cell (One half x) stretch)
-from_half n half earlier stretch x false = hunting (Some x) (earlier ++ with_break n stretch ∷ [])
+abbrev pub from_half : Profile → ℕ → Latest → ℕ → List Stretch → Stretch → ℕ → Bool → Tracked
+from_half profile n last half earlier stretch x true = at_cell (kept_next profile last (half + x)) earlier (with_cell (One half x) stretch)
+from_half profile n last half earlier stretch x false = hunting (Some x) (earlier ++ with_break n stretch ∷ [])
 
 abbrev pub step : Profile → ℕ → Tracked → ℕ → Tracked
 step profile n (hunting None stretches) x = hunting (Some x) stretches
 step profile n (hunting (Some z) stretches) x =
-    from_pair n stretches z x (is_unequal profile z x) (ltb z x) (is_half profile z x)
+    from_pair profile n stretches z x (is_unequal profile z x) (ltb z x) (is_half profile (kept_at_lock profile z) x)
 step profile n (at_cell last earlier stretch) x =
-    from_cell n last earlier stretch x (is_zero profile last x) (is_half profile last x)
-step profile n (mid_cell last half earlier stretch) x = from_half n half earlier stretch x (is_one profile last half x)
+    from_cell profile n last earlier stretch x (is_zero profile last x) (is_half profile last x)
+step profile n (mid_cell last half earlier stretch) x = from_half profile n last half earlier stretch x (is_one profile last half x)
 
 -- each step keeps what it stands for
 pair_steps : (profile : Profile) (intervals : List ℕ) (stretches : List Stretch) (z x : ℕ) (unequal rises half : Bool)
-    → Tells unequal (AreUnequal profile z x) → Tells rises (z < x) → Tells half (IsFirstHalf profile z x)
+    → Tells unequal (AreUnequal profile z x) → Tells rises (z < x) → Tells half (IsFirstHalf profile (kept_at_lock profile z) x)
     → Tracks profile intervals (hunting (Some z) stretches)
-    → Tracks profile (intervals ++ x ∷ []) (from_pair (length intervals) stretches z x unequal rises half)
+    → Tracks profile (intervals ++ x ∷ []) (from_pair profile (length intervals) stretches z x unequal rises half)
 pair_steps profile intervals stretches z x false rises half u r h tracks =
     hunt_equal _ intervals stretches z x tracks refl (u.no_it_is_not refl)
 pair_steps profile intervals stretches z x true true half u r h tracks =
@@ -130,11 +180,11 @@ pair_steps profile intervals stretches z x true false false u r h tracks =
     let no_rise = r.no_it_is_not refl in
     start_broken _ intervals stretches z x tracks refl (u.yes_it_is refl) (omega arith) (h.no_it_is_not refl)
 
-cell_steps : (profile : Profile) (intervals : List ℕ) (last : ℕ) (earlier : List Stretch) (stretch : Stretch) (x : ℕ)
+cell_steps : (profile : Profile) (intervals : List ℕ) (last : Latest) (earlier : List Stretch) (stretch : Stretch) (x : ℕ)
     (zero half : Bool)
     → Tells zero (IsNextZero profile last x) → Tells half (IsFirstHalf profile last x)
     → Tracks profile intervals (at_cell last earlier stretch)
-    → Tracks profile (intervals ++ x ∷ []) (from_cell (length intervals) last earlier stretch x zero half)
+    → Tracks profile (intervals ++ x ∷ []) (from_cell profile (length intervals) last earlier stretch x zero half)
 cell_steps profile intervals last earlier stretch x true half z h tracks =
     gains_zero _ intervals earlier stretch x tracks (z.yes_it_is refl)
 cell_steps profile intervals last earlier stretch x false true z h tracks =
@@ -142,11 +192,11 @@ cell_steps profile intervals last earlier stretch x false true z h tracks =
 cell_steps profile intervals last earlier stretch x false false z h tracks =
     breaks _ intervals earlier stretch x tracks (z.no_it_is_not refl) (h.no_it_is_not refl)
 
-half_steps : (profile : Profile) (intervals : List ℕ) (last half : ℕ) (earlier : List Stretch) (stretch : Stretch) (x : ℕ)
+half_steps : (profile : Profile) (intervals : List ℕ) (last : Latest) (half : ℕ) (earlier : List Stretch) (stretch : Stretch) (x : ℕ)
     (one : Bool)
     → Tells one (IsNextOne profile last half x)
     → Tracks profile intervals (mid_cell last half earlier stretch)
-    → Tracks profile (intervals ++ x ∷ []) (from_half (length intervals) half earlier stretch x one)
+    → Tracks profile (intervals ++ x ∷ []) (from_half profile (length intervals) last half earlier stretch x one)
 half_steps profile intervals last half earlier stretch x true o tracks =
     gains_one _ intervals earlier stretch x tracks (o.yes_it_is refl)
 half_steps profile intervals last half earlier stretch x false o tracks =
@@ -156,7 +206,7 @@ pub steps : (profile : Profile) (intervals : List ℕ) (state : Tracked) (x : �
     → Tracks profile (intervals ++ x ∷ []) (step profile (length intervals) state x)
 steps profile intervals (hunting None stretches) x tracks = hunt_first _ intervals stretches x tracks refl
 steps profile intervals (hunting (Some z) stretches) x tracks =
-    pair_steps profile intervals stretches z x _ _ _ (unequal_tells profile z x) (ltb_tells z x) (half_tells profile z x) tracks
+    pair_steps profile intervals stretches z x _ _ _ (unequal_tells profile z x) (ltb_tells z x) (half_tells profile (kept_at_lock profile z) x) tracks
 steps profile intervals (at_cell last earlier stretch) x tracks =
     cell_steps profile intervals last earlier stretch x _ _ (zero_tells profile last x) (half_tells profile last x) tracks
 steps profile intervals (mid_cell last half earlier stretch) x tracks =

@@ -10,20 +10,23 @@ use Rattle.std.proofs.lemmas.List.{drop_at, drop_more, drop-drop, drop-append-le
 use Rattle.std.proofs.lemmas.List.Elements.{All-nil, All-cons}
 use Rattle.std.proofs.lemmas.Grind.{flat_map-append}
 use Rattle.biphase.specs.declared.profile.Profile.{Profile}
-use Rattle.biphase.specs.declared.profile.Profile.TheVariants.{Normal, Worn}
+use Rattle.biphase.specs.declared.profile.Profile.TheVariants.{Normal, Worn, Rough}
 use Rattle.biphase.specs.declared.cell.Cell.{Cell}
 use Rattle.biphase.specs.declared.cell.Cell.TheVariants.{Zero, One}
 use Rattle.biphase.specs.Pair.{AreUnequal}
-use Rattle.biphase.specs.Chain.{length_of, intervals_of, flat, last_length, AreHalves, IsCell, IsChain, IsChainAfter, IsFirstHalf}
-use Rattle.biphase.specs.Laws.{unequal_differ, half_or_not}
-use Rattle.biphase.specs.Zeros.{IsZeroAt, greater_is_zero, zeros_equal, halves_equal}
+use Rattle.biphase.specs.Latest.{Latest}
+use Rattle.biphase.specs.Tolerance.{LooksAtLast, kept_at_lock, kept_next}
+use Rattle.biphase.specs.Chain.{length_of, intervals_of, flat, kept_after, kept_of, AreHalves, IsCell, IsChain, Follow, FollowOn, IsChainAfter, IsFirstHalf}
+use Rattle.biphase.specs.Kinds.{zeros_equal, halves_equal}
+use Rattle.biphase.specs.Laws.{behind_zero, chain_on, kept_anew, last_at_lock, last_next, unequal_differ, half_or_not}
+use Rattle.biphase.specs.Zeros.{IsZeroAt, greater_is_zero}
 use Rattle.cell_tracker.specs.FoundAgain.{IsSecondLock, BreaksBy, AreFrom}
 use Rattle.cell_tracker.specs.Kept.{IsPiece, cells_between, cells_from}
 use Rattle.cell_tracker.specs.Lock.{IsLock, IsUnequalAt}
 use Rattle.cell_tracker.specs.Stretch.{Stretch, end_of, IsBreak, IsStretch, AreStretchesFrom, AreStretches}
 use Rattle.cell_tracker.proofs.CellsOfAPiece.{has_intervals, from_low, all_between, from_any_low, front_of_front}
-use Rattle.cell_tracker.proofs.Chains.{last_length-append}
-use Rattle.cell_tracker.proofs.KeptStretch.{piece_from, two_at, pair_has_zero, lock_is_zero, behind_zero, stretch_of_piece_at, stretch_at_zero}
+use Rattle.cell_tracker.proofs.Chains.{kept_after-append}
+use Rattle.cell_tracker.proofs.KeptStretch.{piece_from, two_at, pair_has_zero, lock_is_zero, stretch_of_piece_at, stretch_at_zero}
 use Rattle.cell_tracker.proofs.LocalStretch.{NoneFits, stretch_from, locally}
 use Rattle.cell_tracker.proofs.OneStretch.{stretch_is_one}
 use Rattle.cell_tracker.proofs.StretchGrows.{end_within}
@@ -34,57 +37,64 @@ use Rattle.cell_tracker.proofs.StretchGrows.{end_within}
 abbrev EndsIn : Profile → ℕ → ℕ → Type 0
 EndsIn profile c a = (c ≡ a) ⊎ ((h : ℕ) × AreHalves profile h a × (c ≡ h + a))
 
-last_interval : (profile : Profile) (cell : Cell) (cells : List Cell) (k a : ℕ) → IsCell profile cell
-    → IsChainAfter profile (length_of cell) cells → drop k (flat (cell ∷ cells)) ≡ a ∷ []
-    → EndsIn profile (last_length (length_of cell) cells) a
-last_interval profile (Zero x) [] zero a is chain there = inl cc
-last_interval profile (Zero x) [] (suc k) a is chain there = absurd (omega (arith, ap length there, ap length (drop-nil {A = ℕ} k)))
-last_interval profile (Zero x) (next ∷ more) zero a is chain there =
+last_interval : (profile : Profile) (c : Latest) (cell : Cell) (cells : List Cell) (k a : ℕ) → c.last ≡ length_of cell → IsCell profile cell
+    → Follow profile c cells → drop k (flat (cell ∷ cells)) ≡ a ∷ []
+    → EndsIn profile (kept_after profile c cells).last a
+last_interval profile c (Zero x) [] zero a at is chain there = let same : x ≡ a = cc in inl (at ∙ same)
+last_interval profile c (Zero x) [] (suc k) a at is chain there = absurd (omega (arith, ap length there, ap length (drop-nil {A = ℕ} k)))
+last_interval profile c (Zero x) (next ∷ more) zero a at is chain there =
     absurd (omega (arith, has_intervals next, ap length there, length-append (intervals_of next) (flat more)))
-last_interval profile (Zero x) (next ∷ more) (suc k) a is chain there = last_interval profile next more k a chain.0 chain.2 there
-last_interval profile (One x y) cells zero a is chain there = absurd (omega (arith, ap length there))
-last_interval profile (One x y) [] (suc zero) a is chain there =
+last_interval profile c (Zero x) (next ∷ more) (suc k) a at is chain there =
+    last_interval profile (kept_next profile c (length_of next)) next more k a (last_next profile c (length_of next)) chain.0 chain.2 there
+last_interval profile c (One x y) cells zero a at is chain there = absurd (omega (arith, ap length there))
+last_interval profile c (One x y) [] (suc zero) a at is chain there =
     let same : y ≡ a = cc in
-    inr (x, subst (λ v. AreHalves profile x v) same is.2, ap (λ v. x + v) same)
-last_interval profile (One x y) [] (suc (suc k)) a is chain there =
+    inr (x, subst (λ v. AreHalves profile x v) same is.2, at ∙ ap (λ v. x + v) same)
+last_interval profile c (One x y) [] (suc (suc k)) a at is chain there =
     absurd (omega (arith, ap length there, ap length (drop-nil {A = ℕ} k)))
-last_interval profile (One x y) (next ∷ more) (suc zero) a is chain there =
+last_interval profile c (One x y) (next ∷ more) (suc zero) a at is chain there =
     absurd (omega (arith, has_intervals next, ap length there, length-append (intervals_of next) (flat more)))
-last_interval profile (One x y) (next ∷ more) (suc (suc k)) a is chain there = last_interval profile next more k a chain.0 chain.2 there
+last_interval profile c (One x y) (next ∷ more) (suc (suc k)) a at is chain there =
+    last_interval profile (kept_next profile c (length_of next)) next more k a (last_next profile c (length_of next)) chain.0 chain.2 there
 
 -- behind a last interval the greater one of an unequal pair is no first half
-no_half_zero : (profile : Profile) (a b : ℕ) → AreUnequal profile a b → a < b → IsFirstHalf profile a b → ⊥
-no_half_zero Normal a b unequal rises half = omega arith
-no_half_zero Worn a b unequal rises half = omega arith
+no_half_zero : (profile : Profile) → LooksAtLast profile → (c : Latest) (a b : ℕ) → c.last ≡ a → AreUnequal profile a b → a < b
+    → IsFirstHalf profile c b → ⊥
+no_half_zero Normal looks c a b same unequal rises half = omega arith
+no_half_zero Worn looks c a b same unequal rises half = omega arith
+no_half_zero Rough looks c a b same unequal rises half = absurd looks
 
-no_half_one : (profile : Profile) (h a b : ℕ) → AreHalves profile h a → AreUnequal profile a b → a < b → IsFirstHalf profile (h + a) b → ⊥
-no_half_one Normal h a b halves unequal rises half = omega arith
-no_half_one Worn h a b halves unequal rises half = omega arith
+no_half_one : (profile : Profile) → LooksAtLast profile → (c : Latest) (h a b : ℕ) → c.last ≡ h + a → AreHalves profile h a
+    → AreUnequal profile a b → a < b → IsFirstHalf profile c b → ⊥
+no_half_one Normal looks c h a b same halves unequal rises half = omega arith
+no_half_one Worn looks c h a b same halves unequal rises half = omega arith
+no_half_one Rough looks c h a b same halves unequal rises half = absurd looks
 
-no_half : (profile : Profile) (c a b : ℕ) → EndsIn profile c a → AreUnequal profile a b → a < b → IsFirstHalf profile c b → ⊥
-no_half profile c a b (inl same) unequal rises half = no_half_zero profile a b unequal rises (rw (← same) half)
-no_half profile c a b (inr (h, halves, same)) unequal rises half = no_half_one profile h a b halves unequal rises (rw (← same) half)
+no_half : (profile : Profile) → LooksAtLast profile → (c : Latest) (a b : ℕ) → EndsIn profile c.last a → AreUnequal profile a b → a < b
+    → IsFirstHalf profile c b → ⊥
+no_half profile looks c a b (inl same) unequal rises half = no_half_zero profile looks c a b same unequal rises half
+no_half profile looks c a b (inr (h, halves, same)) unequal rises half = no_half_one profile looks c h a b same halves unequal rises half
 
 -- in a chain no unequal pair follows a zero and a half
-zero_half_after : (profile : Profile) (a b d : ℕ) (rest : List ℕ) (after : List Cell) → IsChainAfter profile a after
+zero_half_after : (profile : Profile) → LooksAtLast profile → (a b d : ℕ) (rest : List ℕ) (after : List Cell) → IsChainAfter profile a after
     → flat after ≡ b ∷ d ∷ rest → AreUnequal profile a b → AreUnequal profile b d → ⊥
-zero_half_after profile a b d rest [] chain there first second = absurd (omega (arith, ap length there))
-zero_half_after profile a b d rest (Zero x ∷ after) chain there first second =
-    let same : x ≡ b = cc in first.0 (rw (← same) (zeros_equal profile a x chain.1))
-zero_half_after profile a b d rest (One x y ∷ after) chain there first second =
+zero_half_after profile looks a b d rest [] chain there first second = absurd (omega (arith, ap length there))
+zero_half_after profile looks a b d rest (Zero x ∷ after) chain there first second =
+    let same : x ≡ b = cc in first.0 (rw (← same) (zeros_equal profile looks a x chain.1))
+zero_half_after profile looks a b d rest (One x y ∷ after) chain there first second =
     let same : x ≡ b = cc in
     let too : y ≡ d = cc in
-    second.0 (rw (← same, ← too) (halves_equal profile x y chain.0.2))
+    second.0 (rw (← same, ← too) (halves_equal profile looks x y chain.0.2))
 
-zero_half_half : (profile : Profile) (cells : List Cell) (k a b d : ℕ) (rest : List ℕ) → IsChain profile cells → IsZeroAt cells k a
+zero_half_half : (profile : Profile) → LooksAtLast profile → (cells : List Cell) (k a b d : ℕ) (rest : List ℕ) → IsChain profile cells → IsZeroAt cells k a
     → drop k (flat cells) ≡ a ∷ b ∷ d ∷ rest → AreUnequal profile a b → AreUnequal profile b d → ⊥
-zero_half_half profile cells k a b d rest chain is there first second =
+zero_half_half profile looks cells k a b d rest chain is there first second =
     let behind : a ∷ flat is.after ≡ a ∷ b ∷ d ∷ rest =
     sym (drop_at (flat is.before) (a ∷ flat is.after) k is.place)
     ∙ ap (drop k) (sym (flat_map-append intervals_of is.before (Zero a ∷ is.after)))
     ∙ ap (λ (cs : List Cell). drop k (flat cs)) (sym is.are) ∙ there in
     let after : flat is.after ≡ b ∷ d ∷ rest = cc in
-    zero_half_after profile a b d rest is.after
+    zero_half_after profile looks a b d rest is.after
     (behind_zero profile is.before is.after a (subst (IsChain profile) is.are chain)).1 after first second
 
 -- ---- a stretch that shares a zero with the recording
@@ -103,17 +113,26 @@ record Shares (tape : List Cell) (cut n : ℕ) (stretch : Stretch) (q : ℕ) : T
 abbrev stretch_by : ℕ → List Cell → Option ℕ → Stretch
 stretch_by lock cells place = record { lock = lock; cells = cells; broken_at = place }
 
+-- where the last cell alone is kept, what is kept from one of the zeros on is what is kept of all
+kept_from_zero : (profile : Profile) → LooksAtLast profile → (older newer : List Cell) (x : ℕ)
+    → kept_of profile (older ++ Zero x ∷ newer) ≡ kept_of profile (Zero x ∷ newer)
+kept_from_zero profile looks [] newer x = refl
+kept_from_zero profile looks (cell ∷ older) newer x =
+    let c = kept_after profile (kept_at_lock profile (length_of cell)) older in
+    kept_after-append profile (kept_at_lock profile (length_of cell)) older (Zero x ∷ newer)
+    ∙ ap (λ (l : Latest). kept_after profile l newer) (kept_anew profile looks c x)
+
 -- what a stretch has from one of its zeros on is the stretch there
-stretch_from_zero : (profile : Profile) (l : List ℕ) (s : Stretch) (older newer : List Cell) (x : ℕ) → IsStretch profile l s
+stretch_from_zero : (profile : Profile) → LooksAtLast profile → (l : List ℕ) (s : Stretch) (older newer : List Cell) (x : ℕ) → IsStretch profile l s
     → s.cells ≡ older ++ Zero x ∷ newer → IsStretch profile l (stretch_by (s.lock + length (flat older)) (Zero x ∷ newer) s.broken_at)
-stretch_from_zero profile l s older newer x is are =
+stretch_from_zero profile looks l s older newer x is are =
     let local = locally profile l s is in
     let first = get_or l s.lock 0 in
     let more = local.0 in
     let rest = drop (end_of s) l in
-    let chain = behind_zero profile older newer x (subst (IsChain profile) are is.chain.chain) in
-    let last : last_length first more ≡ last_length x newer =
-    ap (last_length 0) (sym local.1.cells) ∙ ap (last_length 0) are ∙ last_length-append 0 older (Zero x ∷ newer) in
+    let chain = behind_zero profile older newer x (chain_on profile looks (older ++ Zero x ∷ newer) (subst (FollowOn profile) are is.chain.chain)) in
+    let last : kept_of profile (Zero first ∷ more) ≡ kept_of profile (Zero x ∷ newer) =
+    ap (kept_of profile) (sym local.1.cells) ∙ ap (kept_of profile) are ∙ kept_from_zero profile looks older newer x in
     let joined : flat s.cells ≡ flat older ++ (x ∷ flat newer) = ap flat are ∙ flat_map-append intervals_of older (Zero x ∷ newer) in
     let there : drop s.lock l ≡ flat older ++ (x ∷ (flat newer ++ rest)) =
     local.1.there ∙ ap (λ (cs : List Cell). flat cs ++ rest) (sym local.1.cells) ∙ ap (λ (xs : List ℕ). xs ++ rest) joined
@@ -127,7 +146,7 @@ stretch_from_zero profile l s older newer x is are =
       there = sym (drop-drop (length (flat older)) s.lock l) ∙ ap (drop (length (flat older))) there
           ∙ drop_at (flat older) (x ∷ (flat newer ++ rest)) (length (flat older)) refl;
       none = subst (λ c. NoneFits profile c rest) last local.1.none;
-      broken = subst (λ e. IsBreak profile (last_length x newer) e rest s.broken_at) end
+      broken = subst (λ e. IsBreak profile (kept_of profile (Zero x ∷ newer)) e rest s.broken_at) end
           (subst (λ c. IsBreak profile c (end_of s) rest s.broken_at) last local.1.broken);
     })
 
@@ -138,13 +157,13 @@ record Joins (tape : List Cell) (cut n : ℕ) (kept : List ℕ) (stretch : Stret
   place : stretch.lock + length (flat older) ≡ n + q
   open_yet : stretch.broken_at ≡ None
 
-joins : (profile : Profile) (before kept : List ℕ) (tape : List Cell) (cut q : ℕ) (s : Stretch) → IsPiece profile kept tape cut
+joins : (profile : Profile) → LooksAtLast profile → (before kept : List ℕ) (tape : List Cell) (cut q : ℕ) (s : Stretch) → IsPiece profile kept tape cut
     → q < length kept → IsStretch profile (before ++ kept) s → Shares tape cut (length before) s q → Joins tape cut (length before) kept s q
-joins profile before kept tape cut q s piece within is shares =
+joins profile looks before kept tape cut q s piece within is shares =
     let part = stretch_by (s.lock + length (flat shares.older)) (Zero shares.x ∷ shares.newer) s.broken_at in
     let own = stretch_of_piece_at (length before) tape cut kept q in
     let same : part ≡ own = stretch_is_one profile (before ++ kept) part own shares.place
-    (stretch_from_zero profile (before ++ kept) s shares.older shares.newer shares.x is shares.are)
+    (stretch_from_zero profile looks (before ++ kept) s shares.older shares.newer shares.x is shares.are)
     (stretch_at_zero profile before kept tape cut q shares.y piece shares.zero_there within) in
     record {
       older = shares.older;
@@ -231,10 +250,10 @@ shift_back profile before kept k at =
     (omega (arith, at.0, length-append before kept), rw (← here, ← next) at.1)
 
 -- a stretch over both intervals of an unequal pair of the recording shares its greater interval
-over_pair : (profile : Profile) (before kept : List ℕ) (tape : List Cell) (cut k : ℕ) (s : Stretch) → IsPiece profile kept tape cut
+over_pair : (profile : Profile) → LooksAtLast profile → (before kept : List ℕ) (tape : List Cell) (cut k : ℕ) (s : Stretch) → IsPiece profile kept tape cut
     → IsUnequalAt profile kept k → IsStretch profile (before ++ kept) s → s.lock ≤ length before + k → length before + k + 2 ≤ end_of s
     → (q : ℕ) × (q ≤ k + 1) × Shares tape cut (length before) s q
-over_pair profile before kept tape cut k s piece at is begins ends =
+over_pair profile looks before kept tape cut k s piece at is begins ends =
     let n = length before in
     let a = get_or kept k 0 in
     let b = get_or kept (k + 1) 0 in
@@ -243,7 +262,7 @@ over_pair profile before kept tape cut k s piece at is begins ends =
     let inside = in_stretch profile (before ++ kept) s j (n + k) is (omega arith) (omega arith) in
     let two = two_of_front (drop j (flat s.cells)) is.chain.front.0 a b _ (inside ∙ there)
     (omega (arith, length-drop j (flat s.cells))) in
-    let mine = greater_is_zero profile s.cells j a b two.0 is.chain.chain two.1 at.1 in
+    let mine = greater_is_zero profile s.cells j a b two.0 (chain_on profile looks s.cells is.chain.chain) two.1 at.1 in
     let theirs = pair_has_zero profile kept tape cut k piece at in
     elim (cases_order a b) [
       | inl same ↦ absurd (unequal_differ profile a b at.1 same)
@@ -293,7 +312,7 @@ at_zero profile before kept tape cut q y s is at zero_there =
     }
 
 -- where a break is past a place, so is the end of the cells, or the interval at that place waits as a half
-late_end : (profile : Profile) (c after : ℕ) (rest : List ℕ) (place : Option ℕ) (limit : ℕ) → IsBreak profile c after rest place
+late_end : (profile : Profile) (c : Latest) (after : ℕ) (rest : List ℕ) (place : Option ℕ) (limit : ℕ) → IsBreak profile c after rest place
     → ((b : ℕ) → place ≡ Some b → limit < b) → limit + 1 < after + length rest
     → (limit < after) ⊎ ((after ≡ limit) × ((x : ℕ) × (more : List ℕ) × (rest ≡ x ∷ more) × IsFirstHalf profile c x))
 late_end profile c after [] place limit broken late within = inl (omega arith)
@@ -310,11 +329,11 @@ late_end profile c after (x ∷ y ∷ rest) place limit broken late within =
     ]
 
 -- no stretch waits with a half at the second interval of the first pair where the second pair begins there
-no_wait : (profile : Profile) (before kept : List ℕ) (tape : List Cell) (cut k x : ℕ) (more : List ℕ) (s : Stretch)
+no_wait : (profile : Profile) → LooksAtLast profile → (before kept : List ℕ) (tape : List Cell) (cut k x : ℕ) (more : List ℕ) (s : Stretch)
     → IsPiece profile kept tape cut → IsUnequalAt profile kept k → IsUnequalAt profile kept (k + 1)
     → IsStretch profile (before ++ kept) s → s.lock ≤ length before + k → end_of s ≡ length before + k + 1
-    → drop (end_of s) (before ++ kept) ≡ x ∷ more → IsFirstHalf profile (last_length 0 s.cells) x → ⊥
-no_wait profile before kept tape cut k x more s piece at next is begins ends waits half =
+    → drop (end_of s) (before ++ kept) ≡ x ∷ more → IsFirstHalf profile (kept_of profile s.cells) x → ⊥
+no_wait profile looks before kept tape cut k x more s piece at next is begins ends waits half =
     let l = before ++ kept in
     let n = length before in
     let a = get_or kept k 0 in
@@ -326,9 +345,10 @@ no_wait profile before kept tape cut k x more s piece at next is begins ends wai
     let inside = in_stretch profile l s j (n + k) is (omega arith) (omega arith) in
     let one : drop j (flat s.cells) ≡ a ∷ [] =
     one_of_front (drop j (flat s.cells)) is.chain.front.0 a _ (inside ∙ there) (omega (arith, length-drop j (flat s.cells))) in
-    let last : EndsIn profile (last_length 0 s.cells) a =
-    subst (λ c. EndsIn profile c a) (ap (last_length 0) (sym local.1.cells))
-    (last_interval profile (Zero (get_or l s.lock 0)) local.0 j a local.1.ticks local.1.chain
+    let z = get_or l s.lock 0 in
+    let last : EndsIn profile (kept_of profile s.cells).last a =
+    subst (λ c. EndsIn profile c a) (ap (λ (cs : List Cell). (kept_of profile cs).last) (sym local.1.cells))
+    (last_interval profile (kept_at_lock profile z) (Zero z) local.0 j a (last_at_lock profile z) local.1.ticks local.1.chain
     (ap (λ (cs : List Cell). drop j (flat cs)) (sym local.1.cells) ∙ one)) in
     let place : end_of s ≡ n + (k + 1) = omega (arith, ends) in
     let at_end : x ∷ more ≡ b ∷ drop (k + 1 + 1) kept =
@@ -336,9 +356,9 @@ no_wait profile before kept tape cut k x more s piece at next is begins ends wai
     let same : x ≡ b = cc in
     elim (cases_order a b) [
       | inl equal ↦ unequal_differ profile a b at.1 equal
-      | inr (inl rises) ↦ no_half profile (last_length 0 s.cells) a b last at.1 rises
-          (subst (λ v. IsFirstHalf profile (last_length 0 s.cells) v) same half)
-      | inr (inr falls) ↦ zero_half_half profile tape (cut + k) a b d _ piece.chain
+      | inr (inl rises) ↦ no_half profile looks (kept_of profile s.cells) a b last at.1 rises
+          (subst (λ v. IsFirstHalf profile (kept_of profile s.cells) v) same half)
+      | inr (inr falls) ↦ zero_half_half profile looks tape (cut + k) a b d _ piece.chain
           ((pair_has_zero profile kept tape cut k piece at).1 falls)
           (piece_from profile kept tape cut k piece (omega (arith, at.0))
           ∙ ap (λ (xs : List ℕ). xs ++ piece.part.0) (two_at kept k at.0 ∙ ap (λ (xs : List ℕ). a ∷ b ∷ xs)
@@ -395,12 +415,12 @@ locked_behind profile before kept tape cut second start s is2 piece lock is earl
     ]
 
 -- a stretch that is locked before the recording's second pair, and does not break before it, shares a zero
-shares_late : (profile : Profile) (before kept : List ℕ) (tape : List Cell) (cut second start : ℕ) (s : Stretch)
+shares_late : (profile : Profile) → LooksAtLast profile → (before kept : List ℕ) (tape : List Cell) (cut second start : ℕ) (s : Stretch)
     (is2 : IsSecondLock profile kept second) → IsPiece profile kept tape cut → (lock : IsLock profile (before ++ kept) start s.lock)
     → IsStretch profile (before ++ kept) s → lock.pair < length before + is2.next.pair
     → ((b : ℕ) → s.broken_at ≡ Some b → length before + is2.next.pair < b)
     → (q : ℕ) × (q ≤ second) × Shares tape cut (length before) s q
-shares_late profile before kept tape cut second start s is2 piece lock is early late =
+shares_late profile looks before kept tape cut second start s is2 piece lock is early late =
     let l = before ++ kept in
     let n = length before in
     let k = is2.lock.pair in
@@ -409,12 +429,12 @@ shares_late profile before kept tape cut second start s is2 piece lock is early 
     let high = lock_near profile kept (k + 1) second is2.next in
     let over : s.lock ≤ n + k → n + k + 2 ≤ end_of s → (q : ℕ) × (q ≤ second) × Shares tape cut n s q =
     λ begins ends.
-    let found = over_pair profile before kept tape cut k s piece is2.lock.unequal is begins ends in
+    let found = over_pair profile looks before kept tape cut k s piece is2.lock.unequal is begins ends in
     (found.0, omega (arith, found.1), found.2) in
     elim (cases_lt (n + k) s.lock) [
       | inl behind ↦ locked_behind profile before kept tape cut second start s is2 piece lock is early behind
       | inr begins ↦ (
-          let c = last_length 0 s.cells in
+          let c = kept_of profile s.cells in
           let inside = end_within profile l s is in
           let second_in = is2.next.unequal.0 in
           let ends = late_end profile c (end_of s) (drop (end_of s) l) s.broken_at (n + k2) is.broken late
@@ -425,7 +445,7 @@ shares_late profile before kept tape cut second start s is2 piece lock is early 
               | inl apart ↦ over begins (omega arith)
               | inr joined ↦ (
                   let same : k2 ≡ k + 1 = omega arith in
-                  absurd (no_wait profile before kept tape cut k x more s piece is2.lock.unequal
+                  absurd (no_wait profile looks before kept tape cut k x more s piece is2.lock.unequal
                   (subst (λ i. IsUnequalAt profile kept i) same is2.next.unequal) is begins (omega arith) waits half))
             ]
           ])
@@ -462,15 +482,15 @@ at_second profile before kept tape cut second start s is2 piece lock is same =
 -- ---- the stretches
 
 -- a stretch that shares a zero has the recording's cells from the second pair on, and is the last
-last_of_all : (profile : Profile) (before kept : List ℕ) (tape : List Cell) (cut second q : ℕ) (s : Stretch) (more : List Stretch)
+last_of_all : (profile : Profile) → LooksAtLast profile → (before kept : List ℕ) (tape : List Cell) (cut second q : ℕ) (s : Stretch) (more : List Stretch)
     → IsSecondLock profile kept second → IsPiece profile kept tape cut → q ≤ second → IsStretch profile (before ++ kept) s
     → Shares tape cut (length before) s q
     → MatchOption s.broken_at (more ≡ []) (λ place. AreStretchesFrom profile (before ++ kept) place more)
     → AreFrom (length before + second) (cells_from tape cut kept second) (s ∷ more)
-last_of_all profile before kept tape cut second q s more is2 piece order is shares after =
+last_of_all profile looks before kept tape cut second q s more is2 piece order is shares after =
     let zero_of = lock_is_zero profile kept tape cut (is2.lock.pair + 1) second piece is2.next in
     let within : second < length kept = zero_of.0 in
-    let joined = joins profile before kept tape cut q s piece (omega arith) is shares in
+    let joined = joins profile looks before kept tape cut q s piece (omega arith) is shares in
     let later = later_zero tape cut q second shares.y zero_of.1.0 kept shares.zero_there zero_of.1.1 order within in
     let none : more ≡ [] =
     MatchOption-at_none (more ≡ []) (λ place. AreStretchesFrom profile (before ++ kept) place more) joined.open_yet after in
@@ -517,13 +537,13 @@ by_or_late (Some b) limit = elim (cases_lt limit b) [
 breaks_by : (o : Option ℕ) (b from : ℕ) → o ≡ Some b → b ≤ from → IsSomeAnd o (λ place. place ≤ from)
 breaks_by o b from some early = rw some early
 
-found : (profile : Profile) (before kept : List ℕ) (tape : List Cell) (cut second start : ℕ) (ss : List Stretch)
+found : (profile : Profile) → LooksAtLast profile → (before kept : List ℕ) (tape : List Cell) (cut second start : ℕ) (ss : List Stretch)
     (is2 : IsSecondLock profile kept second) → IsPiece profile kept tape cut → start ≤ length before + is2.next.pair
     → AreStretchesFrom profile (before ++ kept) start ss
     → AreFrom (length before + second) (cells_from tape cut kept second) ss
-found profile before kept tape cut second start [] is2 piece low are =
+found profile looks before kept tape cut second start [] is2 piece low are =
     absurd (are (length before + is2.next.pair) low (shift_on profile before kept is2.next.pair is2.next.unequal))
-found profile before kept tape cut second start (s ∷ more) is2 piece low are =
+found profile looks before kept tape cut second start (s ∷ more) is2 piece low are =
     let l = before ++ kept in
     let n = length before in
     let k2 = is2.next.pair in
@@ -531,14 +551,14 @@ found profile before kept tape cut second start (s ∷ more) is2 piece low are =
     let high = lock_near profile kept (is2.lock.pair + 1) second is2.next in
     let at = shift_on profile before kept k2 is2.next.unequal in
     let last = λ (shares : (q : ℕ) × (q ≤ second) × Shares tape cut n s q).
-    last_of_all profile before kept tape cut second shares.0 s more is2 piece shares.1 are.1 shares.2 are.2 in
+    last_of_all profile looks before kept tape cut second shares.0 s more is2 piece shares.1 are.1 shares.2 are.2 in
     elim (cases_lt lock.pair (n + k2)) [
       | inl early ↦ elim (by_or_late s.broken_at (n + k2)) [
         | inl (b, some, by) ↦ one_before (n + second) (cells_from tape cut kept second) s more
             (breaks_by s.broken_at b (n + second) some (omega arith))
-            (found profile before kept tape cut second b more is2 piece by
+            (found profile looks before kept tape cut second b more is2 piece by
             (MatchOption-at_some (more ≡ []) (λ place. AreStretchesFrom profile l place more) b some are.2))
-        | inr late ↦ last (shares_late profile before kept tape cut second start s is2 piece lock are.1 early late)
+        | inr late ↦ last (shares_late profile looks before kept tape cut second start s is2 piece lock are.1 early late)
       ]
       | inr past ↦ elim (cases_lt (n + k2) lock.pair) [
         | inl behind ↦ absurd (lock.none_before (n + k2) low behind at)
@@ -547,8 +567,8 @@ found profile before kept tape cut second start (s ∷ more) is2 piece low are =
     ]
 
 -- whatever stands before a recording
-pub found_again : (profile : Profile) (before kept : List ℕ) (tape : List Cell) (cut second : ℕ) (ss : List Stretch)
+pub found_again : (profile : Profile) → LooksAtLast profile → (before kept : List ℕ) (tape : List Cell) (cut second : ℕ) (ss : List Stretch)
     → IsPiece profile kept tape cut → IsSecondLock profile kept second → AreStretches profile (before ++ kept) ss
     → AreFrom (length before + second) (cells_from tape cut kept second) ss
-found_again profile before kept tape cut second ss piece is2 are =
-    found profile before kept tape cut second 0 ss is2 piece (omega arith) are
+found_again profile looks before kept tape cut second ss piece is2 are =
+    found profile looks before kept tape cut second 0 ss is2 piece (omega arith) are

@@ -6,8 +6,10 @@ use Rattle.std.proofs.lemmas.List.Elements.{All-push}
 use Rattle.biphase.specs.declared.profile.Profile.{Profile}
 use Rattle.biphase.specs.declared.cell.Cell.{Cell}
 use Rattle.biphase.specs.declared.cell.Cell.TheVariants.{Zero, One}
-use Rattle.biphase.specs.Chain.{flat, intervals_of, length_of, last_length, IsCell, IsNear, IsFirstHalf, IsNextZero, IsNextOne}
-use Rattle.cell_tracker.proofs.Chains.{chain-append, chain_lasts, last_length-append}
+use Rattle.biphase.specs.Latest.{Latest}
+use Rattle.biphase.specs.Tolerance.{kept_at_lock, kept_next}
+use Rattle.biphase.specs.Chain.{flat, intervals_of, length_of, kept_of, IsCell, IsNext, IsFirstHalf, IsNextZero, IsNextOne}
+use Rattle.cell_tracker.proofs.Chains.{chain-append, chain_lasts, kept_of-push}
 use Rattle.biphase.specs.Laws.{half_lasts, zero_is_no_half, half_or_not, zero_lasts, one_lasts}
 use Rattle.cell_tracker.specs.Lock.{HasNoLock}
 use Rattle.cell_tracker.specs.State.{AtCellState, MidCellState, search_from}
@@ -21,7 +23,7 @@ use Rattle.cell_tracker.proofs.StretchGrows.{there_push, last_grows, no_stretch,
 gains : (profile : Profile) (intervals : List ℕ) (x : ℕ) (earlier : List Stretch) (stretch : Stretch) (cell : Cell)
     (rest : List ℕ)
     → drop (end_of stretch) intervals ≡ rest → rest ++ x ∷ [] ≡ intervals_of cell → stretch.broken_at ≡ None
-    → (1 ≤ last_length 0 stretch.cells → IsCell profile cell) → IsNear profile (last_length 0 stretch.cells) (length_of cell)
+    → (1 ≤ (kept_of profile stretch.cells).last → IsCell profile cell) → IsNext profile (kept_of profile stretch.cells) cell
     → AreStretches profile intervals (earlier ++ stretch ∷ [])
     → AreStretches profile (intervals ++ x ∷ []) (earlier ++ with_cell cell stretch ∷ [])
 gains profile intervals x earlier stretch cell rest rest_is whole open_yet fits near are =
@@ -29,16 +31,15 @@ gains profile intervals x earlier stretch cell rest rest_is whole open_yet fits 
     let local = locally profile intervals stretch is in
     let first = get_or intervals stretch.lock 0 in
     let more = local.0 in
-    let last : last_length 0 stretch.cells ≡ last_length first more = ap (last_length 0) local.1.cells in
-    let ticks : 1 ≤ last_length 0 stretch.cells = rw last (chain_lasts profile first more local.1.ticks local.1.chain) in
-    let near_too : IsNear profile (last_length first more) (length_of cell) =
-    subst (λ c. IsNear profile c (length_of cell)) last near in
+    let last : kept_of profile stretch.cells ≡ kept_of profile (Zero first ∷ more) = ap (kept_of profile) local.1.cells in
+    let ticks : 1 ≤ (kept_of profile stretch.cells).last = rw last (chain_lasts profile first more local.1.ticks local.1.chain) in
+    let near_too : IsNext profile (kept_of profile (Zero first ∷ more)) cell = subst (λ c. IsNext profile c cell) last near in
     let before : drop stretch.lock intervals ≡ first ∷ (flat more ++ rest) =
     local.1.there ∙ ap (λ xs. first ∷ (flat more ++ xs)) rest_is in
     stretch_from profile (intervals ++ x ∷ []) (with_cell cell stretch) first (more ++ cell ∷ []) [] (record {
       cells = ap (λ cells. cells ++ cell ∷ []) local.1.cells;
       ticks = local.1.ticks;
-      chain = chain-append profile first more (cell ∷ []) local.1.chain (fits ticks, near_too, tt);
+      chain = chain-append profile (kept_at_lock profile first) more (cell ∷ []) local.1.chain (fits ticks, near_too, tt);
       there = there_push intervals stretch.lock first x (flat more) rest before
           ∙ ap (λ xs. first ∷ (flat more ++ xs)) (whole ∙ sym (append-nil (intervals_of cell)))
           ∙ ap (λ xs. first ∷ xs) (sym (flat_push more cell []));
@@ -50,8 +51,8 @@ gains profile intervals x earlier stretch cell rest rest_is whole open_yet fits 
 -- or it keeps its cells, and waits or breaks
 holds : (profile : Profile) (intervals : List ℕ) (x : ℕ) (earlier : List Stretch) (stretch new : Stretch) (rest : List ℕ)
     → drop (end_of stretch) intervals ≡ rest → new.lock ≡ stretch.lock → new.cells ≡ stretch.cells
-    → (NoneFits profile (last_length 0 stretch.cells) rest → NoneFits profile (last_length 0 stretch.cells) (rest ++ x ∷ []))
-    → IsBreak profile (last_length 0 stretch.cells) (end_of stretch) (rest ++ x ∷ []) new.broken_at
+    → (NoneFits profile (kept_of profile stretch.cells) rest → NoneFits profile (kept_of profile stretch.cells) (rest ++ x ∷ []))
+    → IsBreak profile (kept_of profile stretch.cells) (end_of stretch) (rest ++ x ∷ []) new.broken_at
     → MatchOption new.broken_at (no_stretch ≡ []) (HasNoLock profile (intervals ++ x ∷ []))
     → AreStretches profile intervals (earlier ++ stretch ∷ [])
     → AreStretches profile (intervals ++ x ∷ []) (earlier ++ new ∷ [])
@@ -60,11 +61,11 @@ holds profile intervals x earlier stretch new rest rest_is lock cells none broke
     let local = locally profile intervals stretch is in
     let first = get_or intervals stretch.lock 0 in
     let more = local.0 in
-    let last : last_length 0 stretch.cells ≡ last_length first more = ap (last_length 0) local.1.cells in
+    let last : kept_of profile stretch.cells ≡ kept_of profile (Zero first ∷ more) = ap (kept_of profile) local.1.cells in
     let before : drop stretch.lock intervals ≡ first ∷ (flat more ++ rest) =
     local.1.there ∙ ap (λ xs. first ∷ (flat more ++ xs)) rest_is in
-    let none_before : NoneFits profile (last_length 0 stretch.cells) rest =
-    subst (λ c. NoneFits profile c rest) (sym last) (subst (NoneFits profile (last_length first more)) rest_is local.1.none) in
+    let none_before : NoneFits profile (kept_of profile stretch.cells) rest =
+    subst (λ c. NoneFits profile c rest) (sym last) (subst (NoneFits profile (kept_of profile (Zero first ∷ more))) rest_is local.1.none) in
     let end : end_of stretch ≡ end_of new =
     ap (λ n. n + length (flat stretch.cells)) (sym lock) ∙ ap (λ cells. new.lock + length (flat cells)) (sym cells) in
     stretch_from profile (intervals ++ x ∷ []) new first more (rest ++ x ∷ []) (record {
@@ -74,16 +75,28 @@ holds profile intervals x earlier stretch new rest rest_is lock cells none broke
       there = ap (λ n. drop n (intervals ++ x ∷ [])) lock ∙ there_push intervals stretch.lock first x (flat more) rest before;
       none = subst (λ c. NoneFits profile c (rest ++ x ∷ [])) last (none none_before);
       broken = subst (λ c. IsBreak profile c (end_of new) (rest ++ x ∷ []) new.broken_at) last
-          (subst (λ end. IsBreak profile (last_length 0 stretch.cells) end (rest ++ x ∷ []) new.broken_at) end broken);
+          (subst (λ end. IsBreak profile (kept_of profile stretch.cells) end (rest ++ x ∷ []) new.broken_at) end broken);
     }))
     after are
 
 -- the last cell of a stretch lasts a tick or more
 stretch_lasts : (profile : Profile) (intervals : List ℕ) (stretch : Stretch) → IsStretch profile intervals stretch
-    → 1 ≤ last_length 0 stretch.cells
+    → 1 ≤ (kept_of profile stretch.cells).last
 stretch_lasts profile intervals stretch is =
     let local = locally profile intervals stretch is in
     rw local.1.cells (chain_lasts profile _ local.0 local.1.ticks local.1.chain)
+
+-- what is kept of a stretch with one cell more
+kept_with : (profile : Profile) (intervals : List ℕ) (earlier : List Stretch) (stretch : Stretch) (cell : Cell) (latest : Latest)
+    → AreStretches profile intervals (earlier ++ stretch ∷ []) → kept_of profile stretch.cells ≡ latest
+    → kept_of profile (stretch.cells ++ cell ∷ []) ≡ kept_next profile latest (length_of cell)
+kept_with profile intervals earlier stretch cell latest are kept =
+    let local = locally profile intervals stretch (last_is_stretch profile intervals 0 earlier stretch are) in
+    let first = Zero (get_or intervals stretch.lock 0) in
+    ap (λ cells. kept_of profile (cells ++ cell ∷ [])) local.1.cells
+    ∙ kept_of-push profile first local.0 cell
+    ∙ ap (λ cells. kept_next profile (kept_of profile cells) (length_of cell)) (sym local.1.cells)
+    ∙ ap (λ c. kept_next profile c (length_of cell)) kept
 
 -- the place after a stretch with one cell more
 end_of-with_cell : (stretch : Stretch) (cell : Cell)
@@ -99,57 +112,58 @@ end_of-with_cell stretch cell =
 -- the stretch gains a zero
 pub gains_zero : (state : AtCellState) (intervals : List ℕ) (earlier : List Stretch) (stretch : Stretch) (x : ℕ)
     → AtCellStandsFor state intervals earlier stretch
-    → IsNextZero state.profile state.last x
-    → AtCellStandsFor (record { profile = state.profile; last = x }) (intervals ++ x ∷ []) earlier (with_cell (Zero x) stretch)
+    → IsNextZero state.profile state.latest x
+    → AtCellStandsFor (record { profile = state.profile; latest = kept_next state.profile state.latest x }) (intervals ++ x ∷ []) earlier
+    (with_cell (Zero x) stretch)
 gains_zero state intervals earlier stretch x stands zero =
-    let near : IsNextZero state.profile (last_length 0 stretch.cells) x = rw stands.last zero in
+    let near : IsNextZero state.profile (kept_of state.profile stretch.cells) x = rw stands.kept zero in
     record {
       stretches_are =
           gains state.profile intervals x earlier stretch (Zero x) []
           (drop_all (end_of stretch) intervals (omega (arith, stands.ends))) refl stands.open_yet
-          (λ ticks. zero_lasts state.profile (last_length 0 stretch.cells) x ticks near) near stands.stretches_are;
+          (λ ticks. zero_lasts state.profile (kept_of state.profile stretch.cells) x ticks near) near stands.stretches_are;
       open_yet = stands.open_yet;
       ends = omega (arith, end_of-with_cell stretch (Zero x), stands.ends, length_push intervals x);
-      last = last_length-append 0 stretch.cells (Zero x ∷ []);
+      kept = kept_with state.profile intervals earlier stretch (Zero x) state.latest stands.stretches_are stands.kept;
     }
 
 -- the interval may be a first half
 pub waits : (state : AtCellState) (intervals : List ℕ) (earlier : List Stretch) (stretch : Stretch) (x : ℕ)
     → AtCellStandsFor state intervals earlier stretch
-    → IsFirstHalf state.profile state.last x
-    → MidCellStandsFor (record { profile = state.profile; last = state.last; half = x }) (intervals ++ x ∷ []) earlier stretch
+    → IsFirstHalf state.profile state.latest x
+    → MidCellStandsFor (record { profile = state.profile; latest = state.latest; half = x }) (intervals ++ x ∷ []) earlier stretch
 waits state intervals earlier stretch x stands half =
-    let half_too : IsFirstHalf state.profile (last_length 0 stretch.cells) x = rw stands.last half in
+    let half_too : IsFirstHalf state.profile (kept_of state.profile stretch.cells) x = rw stands.kept half in
     let lasts =
     stretch_lasts state.profile intervals stretch
     (last_is_stretch state.profile intervals 0 earlier stretch stands.stretches_are) in
-    let ticks : 1 ≤ x = half_lasts state.profile (last_length 0 stretch.cells) x lasts half_too in
+    let ticks : 1 ≤ x = half_lasts state.profile (kept_of state.profile stretch.cells) x lasts half_too in
     record {
       stretches_are =
           holds state.profile intervals x earlier stretch stretch []
           (drop_all (end_of stretch) intervals (omega (arith, stands.ends))) refl refl
-          (λ _ zero. zero_is_no_half state.profile (last_length 0 stretch.cells) x ticks zero half_too)
+          (λ _ zero. zero_is_no_half state.profile (kept_of state.profile stretch.cells) x ticks zero half_too)
           (λ _. stands.open_yet, λ no_half. absurd (no_half half_too))
           (subst (λ place. MatchOption place (no_stretch ≡ []) (HasNoLock state.profile (intervals ++ x ∷ [])))
           (sym stands.open_yet) refl) stands.stretches_are;
       open_yet = stands.open_yet;
       ends = omega (arith, stands.ends, length_push intervals x);
-      last = stands.last;
+      kept = stands.kept;
       half = last_of-push intervals x;
     }
 
 -- the stretch breaks at the interval
 pub breaks : (state : AtCellState) (intervals : List ℕ) (earlier : List Stretch) (stretch : Stretch) (x : ℕ)
     → AtCellStandsFor state intervals earlier stretch
-    → ¬ IsNextZero state.profile state.last x → ¬ IsFirstHalf state.profile state.last x
+    → ¬ IsNextZero state.profile state.latest x → ¬ IsFirstHalf state.profile state.latest x
     → HuntingStandsFor (search_from state.profile x) (intervals ++ x ∷ [])
     (earlier ++ with_break (length intervals) stretch ∷ [])
 breaks state intervals earlier stretch x stands no_zero no_half = record {
   stretches_are =
       holds state.profile intervals x earlier stretch (with_break (length intervals) stretch) []
       (drop_all (end_of stretch) intervals (omega (arith, stands.ends))) refl refl
-      (λ _ zero. no_zero (rw (← stands.last) zero))
-      (λ half. absurd (no_half (rw (← stands.last) half)), λ _. ap Some (sym stands.ends))
+      (λ _ zero. no_zero (rw (← stands.kept) zero))
+      (λ half. absurd (no_half (rw (← stands.kept) half)), λ _. ap Some (sym stands.ends))
       (none_past state.profile intervals x) stands.stretches_are;
   all_broken =
       All-push IsBroken earlier (with_break (length intervals) stretch)
@@ -171,13 +185,13 @@ half_behind state intervals earlier stretch stands =
 -- it may be one, since the stretch is open
 half_may_be : (state : MidCellState) (intervals : List ℕ) (earlier : List Stretch) (stretch : Stretch)
     → MidCellStandsFor state intervals earlier stretch
-    → IsFirstHalf state.profile (last_length 0 stretch.cells) state.half
+    → IsFirstHalf state.profile (kept_of state.profile stretch.cells) state.half
 half_may_be state intervals earlier stretch stands =
     let is = last_is_stretch state.profile intervals 0 earlier stretch stands.stretches_are in
-    let broken : IsBreak state.profile (last_length 0 stretch.cells) (end_of stretch) (state.half ∷ []) stretch.broken_at =
-    subst (λ rest. IsBreak state.profile (last_length 0 stretch.cells) (end_of stretch) rest stretch.broken_at)
+    let broken : IsBreak state.profile (kept_of state.profile stretch.cells) (end_of stretch) (state.half ∷ []) stretch.broken_at =
+    subst (λ rest. IsBreak state.profile (kept_of state.profile stretch.cells) (end_of stretch) rest stretch.broken_at)
     (half_behind state intervals earlier stretch stands) is.broken in
-    elim (half_or_not state.profile (last_length 0 stretch.cells) state.half) [
+    elim (half_or_not state.profile (kept_of state.profile stretch.cells) state.half) [
       | inl half ↦ half
       | inr no_half ↦ let there : stretch.broken_at ≡ Some (end_of stretch) =
           broken.1 no_half in let nowhere : stretch.broken_at ≡ None = stands.open_yet in cc
@@ -186,33 +200,33 @@ half_may_be state intervals earlier stretch stands =
 -- the stretch gains a one
 pub gains_one : (state : MidCellState) (intervals : List ℕ) (earlier : List Stretch) (stretch : Stretch) (y : ℕ)
     → MidCellStandsFor state intervals earlier stretch
-    → IsNextOne state.profile state.last state.half y
-    → AtCellStandsFor (record { profile = state.profile; last = state.half + y }) (intervals ++ y ∷ []) earlier
+    → IsNextOne state.profile state.latest state.half y
+    → AtCellStandsFor (record { profile = state.profile; latest = kept_next state.profile state.latest (state.half + y) }) (intervals ++ y ∷ []) earlier
     (with_cell (One state.half y) stretch)
 gains_one state intervals earlier stretch y stands one =
-    let one_too : IsNextOne state.profile (last_length 0 stretch.cells) state.half y = rw stands.last one in
+    let one_too : IsNextOne state.profile (kept_of state.profile stretch.cells) state.half y = rw stands.kept one in
     record {
       stretches_are =
           gains state.profile intervals y earlier stretch (One state.half y) (state.half ∷ [])
           (half_behind state intervals earlier stretch stands) refl stands.open_yet
-          (λ ticks. let lasts = one_lasts state.profile (last_length 0 stretch.cells) state.half y ticks one_too in
+          (λ ticks. let lasts = one_lasts state.profile (kept_of state.profile stretch.cells) state.half y ticks one_too in
           (lasts.0, lasts.1, one_too.1)) one_too.0 stands.stretches_are;
       open_yet = stands.open_yet;
       ends = omega (arith, end_of-with_cell stretch (One state.half y), stands.ends, length_push intervals y);
-      last = last_length-append 0 stretch.cells (One state.half y ∷ []);
+      kept = kept_with state.profile intervals earlier stretch (One state.half y) state.latest stands.stretches_are stands.kept;
     }
 
 -- the stretch breaks behind its waiting half
 pub breaks_behind : (state : MidCellState) (intervals : List ℕ) (earlier : List Stretch) (stretch : Stretch) (y : ℕ)
     → MidCellStandsFor state intervals earlier stretch
-    → ¬ IsNextOne state.profile state.last state.half y
+    → ¬ IsNextOne state.profile state.latest state.half y
     → HuntingStandsFor (search_from state.profile y) (intervals ++ y ∷ [])
     (earlier ++ with_break (length intervals) stretch ∷ [])
 breaks_behind state intervals earlier stretch y stands no_one = record {
   stretches_are =
       holds state.profile intervals y earlier stretch (with_break (length intervals) stretch) (state.half ∷ [])
       (half_behind state intervals earlier stretch stands) refl refl
-      (λ none. (none, λ one. no_one (rw (← stands.last) one)))
+      (λ none. (none, λ one. no_one (rw (← stands.kept) one)))
       (λ _. ap Some (sym stands.ends), λ no_half. absurd (no_half (half_may_be state intervals earlier stretch stands)))
       (none_past state.profile intervals y) stands.stretches_are;
   all_broken =

@@ -8,14 +8,14 @@ use Rattle.std.proofs.lemmas.Grind.{flat_map-append}
 use Rattle.biphase.specs.declared.profile.Profile.{Profile}
 use Rattle.biphase.specs.declared.cell.Cell.{Cell}
 use Rattle.biphase.specs.declared.cell.Cell.TheVariants.{Zero}
-use Rattle.biphase.specs.Chain.{length_of, intervals_of, flat, last_length, IsChain, IsChainAfter}
-use Rattle.biphase.specs.Laws.{unequal_differ}
+use Rattle.biphase.specs.Tolerance.{kept_at_lock}
+use Rattle.biphase.specs.Chain.{intervals_of, flat, kept_of, IsChain}
+use Rattle.biphase.specs.Laws.{behind_zero, unequal_differ}
 use Rattle.biphase.specs.Zeros.{IsZeroAt, greater_is_zero}
 use Rattle.cell_tracker.specs.Kept.{IsPiece, cells_between, cells_from, stretch_of_piece}
 use Rattle.cell_tracker.specs.Lock.{IsLock, IsUnequalAt}
 use Rattle.cell_tracker.specs.Stretch.{Stretch, end_of, IsStretch, AreStretches}
 use Rattle.cell_tracker.proofs.CellsOfAPiece.{from_low, lies_between, none_fits_cut, no_break_cut, they_lie}
-use Rattle.cell_tracker.proofs.Chains.{chain_rest}
 use Rattle.cell_tracker.proofs.LocalStretch.{stretch_from}
 use Rattle.cell_tracker.proofs.OneStretch.{stretch_is_one}
 
@@ -62,14 +62,6 @@ lock_is_zero profile intervals cells cut start lock is at =
           (omega arith, (a, subst (λ n. IsZeroAt cells (cut + n) a) place (zero_of.1 falls)))
     ]
 
--- the cells of a chain behind a zero follow it
-pub behind_zero : (profile : Profile) (before after : List Cell) (x : ℕ) → IsChain profile (before ++ Zero x ∷ after)
-    → (1 ≤ x) × IsChainAfter profile x after
-behind_zero profile [] after x chain = chain
-behind_zero profile (cell ∷ before) after x chain =
-    let rest = chain_rest profile (length_of cell) before (Zero x ∷ after) chain.1 in
-    (rest.0, rest.2)
-
 -- the cells of a chain that lie in the list from a zero on: the zero, and those of the cells behind it
 pub cells_at_zero : (cells before after : List Cell) (cut place x : ℕ) (intervals : List ℕ) → cells ≡ before ++ Zero x ∷ after
     → length (flat before) ≡ cut + place → place < length intervals
@@ -108,7 +100,7 @@ stretch_at_zero profile before intervals cells cut place x is zero within =
     let front = drop (place + 1) intervals in
     let chain = behind_zero profile zero.before zero.after x (subst (IsChain profile) zero.are is.chain) in
     let more = cells_between (cut + place) (cut + length intervals) (cut + place + 1) zero.after in
-    let lie = they_lie profile x (cut + place) (cut + length intervals) (cut + place + 1) zero.after front is.part.0 (omega arith)
+    let lie = they_lie profile (kept_at_lock profile x) (cut + place) (cut + length intervals) (cut + place + 1) zero.after front is.part.0 (omega arith)
     (omega (arith, length-drop (place + 1) intervals)) chain.1 (sym behind) in
     stretch_from profile (before ++ intervals) s x more lie.left (record {
       cells = cells_at_zero cells zero.before zero.after cut place x intervals zero.are zero.place within;
@@ -116,8 +108,8 @@ stretch_at_zero profile before intervals cells cut place x is zero within =
       chain = lie.chain;
       there = drop-append-add before intervals place ∙ drop_more intervals place 0 within ∙ ap (λ v. v ∷ front) first
           ∙ ap (λ (xs : List ℕ). x ∷ xs) lie.are;
-      none = none_fits_cut profile (last_length x more) lie.left lie.cut;
-      broken = no_break_cut profile (last_length x more) (end_of s) lie.left lie.cut;
+      none = none_fits_cut profile (kept_of profile (Zero x ∷ more)) lie.left lie.cut;
+      broken = no_break_cut profile (kept_of profile (Zero x ∷ more)) (end_of s) lie.left lie.cut;
     })
 
 -- at the lock of a piece stands the stretch of its cells

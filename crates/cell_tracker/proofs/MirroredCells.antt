@@ -8,16 +8,18 @@ use Rattle.std.proofs.lemmas.Grind.{flat_map-append}
 use Rattle.biphase.specs.declared.profile.Profile.{Profile}
 use Rattle.biphase.specs.declared.cell.Cell.{Cell}
 use Rattle.biphase.specs.declared.cell.Cell.TheVariants.{Zero}
-use Rattle.biphase.specs.Chain.{intervals_of, flat, IsChain}
-use Rattle.biphase.specs.Laws.{unequal_differ}
-use Rattle.biphase.specs.Mirror.{mirror_of, mirrored, flat_mirrored, unequal_turned, Kinds, chain_kinds, front_kinds, mirrored_kinds, comparable_kinds}
+use Rattle.biphase.specs.Chain.{intervals_of, flat, FollowOn, IsChain, Kinds}
+use Rattle.biphase.specs.Kinds.{chain_kinds}
+use Rattle.biphase.specs.Laws.{behind_zero, chain_on, unequal_differ}
+use Rattle.biphase.specs.Mirror.{mirror_of, mirrored, flat_mirrored, unequal_turned, front_kinds, mirrored_kinds, comparable_kinds}
+use Rattle.biphase.specs.Tolerance.{LooksAtLast}
 use Rattle.biphase.specs.Zeros.{IsZeroAt}
 use Rattle.cell_tracker.specs.Kept.{IsPiece, cells_between, cells_from}
 use Rattle.cell_tracker.specs.Lock.{IsLock, IsUnequalAt}
 use Rattle.cell_tracker.specs.Mirrored.{BeginMirrored}
 use Rattle.cell_tracker.proofs.CellsOfAPiece.{has_intervals, all_between}
 use Rattle.cell_tracker.proofs.FoundAgain.{lock_near, later_zero}
-use Rattle.cell_tracker.proofs.KeptStretch.{piece_from, pair_has_zero, lock_is_zero, behind_zero, cells_at_zero, stretch_at_lock}
+use Rattle.cell_tracker.proofs.KeptStretch.{piece_from, pair_has_zero, lock_is_zero, cells_at_zero, stretch_at_lock}
 
 -- ---- places in the other order
 
@@ -73,10 +75,6 @@ last_zero profile l tape cut first last piece lock turned =
     ]
 
 -- ---- the kinds
-
-kinds_of_chain : (profile : Profile) (cells : List Cell) → IsChain profile cells → Kinds profile cells
-kinds_of_chain profile [] chain = tt
-kinds_of_chain profile (cell ∷ cells) chain = chain_kinds profile cell cells chain.0 chain.1
 
 kinds_of_front : (profile : Profile) (one two : List Cell) → Kinds profile (one ++ two) → Kinds profile one
 kinds_of_front profile [] two kinds = tt
@@ -144,9 +142,9 @@ push_flat mid more x rest =
     ∙ ap (λ (xs : List ℕ). xs ++ rest) (flat_map-append intervals_of (mid ++ Zero x ∷ []) more)
     ∙ append_assoc (flat (mid ++ Zero x ∷ [])) (flat more) rest
 
-middle_of : (profile : Profile) (l : List ℕ) (tape : List Cell) (cut first last : ℕ) → IsPiece profile l tape cut
+middle_of : (profile : Profile) → LooksAtLast profile → (l : List ℕ) (tape : List Cell) (cut first last : ℕ) → IsPiece profile l tape cut
     → IsLock profile l 0 first → IsLock profile (reverse l) 0 last → Middle profile l tape cut first last
-middle_of profile l tape cut first last piece lock turned =
+middle_of profile looks l tape cut first last piece lock turned =
     let z = last_zero profile l tape cut first last piece lock turned in
     let v = z.0 in
     let at_v = z.3.1 in
@@ -159,7 +157,8 @@ middle_of profile l tape cut first last piece lock turned =
     later.1 ∙ ap (λ (cs : List Cell). mid ++ cs)
     (cells_at_zero tape at_v.before at_v.after cut v x l at_v.are at_v.place (omega (arith, z.1))) in
     let is = stretch_at_lock profile l tape cut 0 first piece lock in
-    let chain : IsChain profile (mid ++ Zero x ∷ more) = subst (IsChain profile) are is.chain.chain in
+    let chain : IsChain profile (mid ++ Zero x ∷ more) =
+    chain_on profile looks (mid ++ Zero x ∷ more) (subst (FollowOn profile) are is.chain.chain) in
     let same : mid ++ Zero x ∷ more ≡ (mid ++ Zero x ∷ []) ++ more = sym (append_assoc mid (Zero x ∷ []) more) in
     let rest = is.chain.front.0 in
     let tail = flat more ++ rest in
@@ -173,7 +172,7 @@ middle_of profile l tape cut first last piece lock turned =
       more = more;
       are = are;
       many = omega (arith, z.1, later.2);
-      kinds = kinds_of_front profile (mid ++ Zero x ∷ []) more (subst (Kinds profile) same (kinds_of_chain profile _ chain));
+      kinds = kinds_of_front profile (mid ++ Zero x ∷ []) more (subst (Kinds profile) same (chain_kinds profile (mid ++ Zero x ∷ more) chain));
       tail = tail;
       there = sym (take-append-drop first l) ∙ ap (λ (xs : List ℕ). take first l ++ xs) begins;
       long = omega (arith, ap length begins, length-append (flat (mid ++ Zero x ∷ [])) tail, long, length-drop first l, z.1, later.2);
@@ -188,11 +187,11 @@ behind_zero_there profile intervals cells cut place x is z within =
     ∙ ap (drop (cut + place)) (flat_map-append intervals_of z.before (Zero x ∷ z.after))
     ∙ drop_at (flat z.before) (x ∷ flat z.after) (cut + place) z.place
 
-pub begin_mirrored : (profile : Profile) (l : List ℕ) (tape other : List Cell) (cut place first last : ℕ) → IsPiece profile l tape cut
+pub begin_mirrored : (profile : Profile) → LooksAtLast profile → (l : List ℕ) (tape other : List Cell) (cut place first last : ℕ) → IsPiece profile l tape cut
     → IsPiece profile (reverse l) other place → IsLock profile l 0 first → IsLock profile (reverse l) 0 last
     → BeginMirrored (cells_from tape cut l first) (cells_from other place (reverse l) last) first last (length l)
-begin_mirrored profile l tape other cut place first last piece turned lock last_lock =
-    let m = middle_of profile l tape cut first last piece lock last_lock in
+begin_mirrored profile looks l tape other cut place first last piece turned lock last_lock =
+    let m = middle_of profile looks l tape cut first last piece lock last_lock in
     let mid = m.mid in
     let x = m.x in
     let middle = mid ++ Zero x ∷ [] in
@@ -213,7 +212,7 @@ begin_mirrored profile l tape other cut place first last piece turned lock last_
     let after : flat z.after ≡ flat (mirrored mid) ++ rest = cc in
     let kinds : Kinds profile (Zero x ∷ mirrored mid) = subst (Kinds profile) pushed (kinds_mirrored profile middle m.kinds) in
     let others : Kinds profile (Zero x ∷ z.after) =
-    subst (λ v. Kinds profile (Zero v ∷ z.after)) head (chain_kinds profile (Zero w) z.after chain.0 chain.1) in
+    subst (λ v. Kinds profile (Zero v ∷ z.after)) head (chain_kinds profile (Zero w ∷ z.after) (chain_on profile looks (Zero w ∷ z.after) (chain.0, chain.1))) in
     let found = tells_cells profile x mid z.after rest kinds others after in
     let low = place + last in
     let high = place + length (reverse l) in

@@ -6,6 +6,8 @@ use Rattle.std.proofs.lemmas.List.{append-nil, nil_from_length}
 use Rattle.biphase.specs.declared.profile.Profile.{Profile}
 use Rattle.biphase.specs.declared.cell.Cell.{Cell}
 use Rattle.biphase.specs.declared.cell.Cell.TheVariants.{Zero}
+use Rattle.biphase.specs.Latest.{Latest}
+use Rattle.biphase.specs.Tolerance.{kept_at_lock}
 use Rattle.biphase.specs.Chain.{Begins}
 use Rattle.biphase.specs.OneChain.{comparable_after}
 use Rattle.biphase.specs.Laws.{half_or_not, unequal_differ}
@@ -46,7 +48,7 @@ front_is one two (rest, is) long =
     sym (is ∙ ap (λ xs. one ++ xs) none ∙ append-nil one)
 
 -- two breaks of one stretch are one
-break_is_one : (profile : Profile) (c after : ℕ) (rest : List ℕ) (place other : Option ℕ) → IsBreak profile c after rest place
+break_is_one : (profile : Profile) (c : Latest) (after : ℕ) (rest : List ℕ) (place other : Option ℕ) → IsBreak profile c after rest place
     → IsBreak profile c after rest other → place ≡ other
 break_is_one profile c after [] place other is is_too = is ∙ sym is_too
 break_is_one profile c after (x ∷ []) place other is is_too =
@@ -76,7 +78,7 @@ cells_are_one profile intervals lock cells others place other is is_too =
     let first = get_or intervals lock 0 in
     let fewer : length cells ≤ length others = is_too.longest cells is.chain in
     let more : length others ≤ length cells = is.longest others is_too.chain in
-    elim (comparable_after profile first one.0 two.0 _ _ one.1.chain two.1.chain (tail_is (sym one.1.there ∙ two.1.there))) [
+    elim (comparable_after profile (kept_at_lock profile first) one.0 two.0 _ _ one.1.chain two.1.chain (tail_is (sym one.1.there ∙ two.1.there))) [
       | inl front ↦ one.1.cells ∙ ap (λ xs. Zero first ∷ xs)
           (front_is one.0 two.0 front (omega (arith, more, ap length one.1.cells, ap length two.1.cells))) ∙ sym two.1.cells
       | inr front ↦ one.1.cells ∙ ap (λ xs. Zero first ∷ xs)

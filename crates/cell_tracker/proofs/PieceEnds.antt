@@ -10,7 +10,10 @@ use Rattle.std.proofs.lemmas.Grind.{flat_map-append}
 use Rattle.biphase.specs.declared.profile.Profile.{Profile}
 use Rattle.biphase.specs.declared.cell.Cell.{Cell}
 use Rattle.biphase.specs.declared.cell.Cell.TheVariants.{Zero, One}
-use Rattle.biphase.specs.Chain.{length_of, intervals_of, flat, last_length}
+use Rattle.biphase.specs.Latest.{Latest}
+use Rattle.biphase.specs.Tolerance.{kept_at_lock, kept_next}
+use Rattle.biphase.specs.Chain.{length_of, intervals_of, flat, kept_after, kept_of}
+use Rattle.biphase.specs.Laws.{last_at_lock, last_next}
 use Rattle.cell_tracker.specs.Kept.{IsPiece, cells_between, cells_from, stretch_of_piece}
 use Rattle.cell_tracker.specs.Lock.{IsLock, HasNoLock}
 use Rattle.cell_tracker.specs.PieceEnd.{StandsAtBoundary, StandsInsideOne}
@@ -57,36 +60,44 @@ front_lies low high at (cell ∷ cells) begins =
           next = subst (λ (n : ℕ). NextEndsBehind high n more.rest) same more.next;
         })
 
--- cells end with a last one
+-- cells end with a last one, whose length is kept
 record EndsWith (cells : List Cell) : Type 0 where
   front : List Cell
   cell : Cell
   are : cells ≡ front ++ cell ∷ []
-  last : (c : ℕ) → last_length c cells ≡ length_of cell
+  last_after : (profile : Profile) (c : Latest) → (kept_after profile c cells).last ≡ length_of cell
+  last : (profile : Profile) → (kept_of profile cells).last ≡ length_of cell
 
 ends_with : (first : Cell) (more : List Cell) → EndsWith (first ∷ more)
-ends_with first [] = record { front = []; cell = first; are = refl; last = λ c. refl }
+ends_with first [] = record {
+  front = [];
+  cell = first;
+  are = refl;
+  last_after = λ profile c. last_next profile c (length_of first);
+  last = λ profile. last_at_lock profile (length_of first);
+}
 ends_with first (next ∷ more) =
     let rest = ends_with next more in
     record {
       front = first ∷ rest.front;
       cell = rest.cell;
       are = ap (λ (cs : List Cell). first ∷ cs) rest.are;
-      last = λ c. rest.last (length_of first);
+      last_after = λ profile c. rest.last_after profile (kept_next profile c (length_of first));
+      last = λ profile. rest.last_after profile (kept_at_lock profile (length_of first));
     }
 
 -- the cells of a piece from its lock on, with those of the chain before and behind them
-record LieInChain (cells : List Cell) (cut lock : ℕ) (intervals : List ℕ) : Type 0 where
+record LieInChain (profile : Profile) (cells : List Cell) (cut lock : ℕ) (intervals : List ℕ) : Type 0 where
   before : List Cell
   cell : Cell
   rest : List Cell
   are : cells ≡ before ++ cell ∷ rest
   place : length (flat before) + length (intervals_of cell) ≡ cut + lock + length (flat (cells_from cells cut intervals lock))
-  last : last_length 0 (cells_from cells cut intervals lock) ≡ length_of cell
+  last : (kept_of profile (cells_from cells cut intervals lock)).last ≡ length_of cell
   next : NextEndsBehind (cut + length intervals) (cut + lock + length (flat (cells_from cells cut intervals lock))) rest
 
 lie_in_chain : (profile : Profile) (intervals : List ℕ) (cells : List Cell) (cut lock : ℕ) → IsPiece profile intervals cells cut
-    → IsLock profile intervals 0 lock → LieInChain cells cut lock intervals
+    → IsLock profile intervals 0 lock → LieInChain profile cells cut lock intervals
 lie_in_chain profile intervals cells cut lock is at =
     let zero_of = lock_is_zero profile intervals cells cut 0 lock is at in
     let x = zero_of.1.0 in
@@ -117,7 +128,7 @@ lie_in_chain profile intervals cells cut lock is at =
       rest = front.rest;
       are = all;
       place = omega (arith, halves, sum, spelled, parts, single, place, length_kept);
-      last = ap (λ (cs : List Cell). last_length 0 cs) begins ∙ end.last 0;
+      last = ap (λ (cs : List Cell). (kept_of profile cs).last) begins ∙ end.last profile;
       next = subst (λ (n : ℕ). NextEndsBehind high n front.rest) next front.next;
     }
 
@@ -181,7 +192,7 @@ at_boundary state intervals earlier stretch cells cut stands is =
       after = lie.rest;
       are = lie.are;
       ends = omega (arith, place, ends);
-      last = sym stands.last ∙ ap (λ (s : Stretch). last_length 0 s.cells) its.is ∙ lie.last;
+      last = ap (λ (c : Latest). c.last) (sym stands.kept) ∙ ap (λ (s : Stretch). (kept_of state.profile s.cells).last) its.is ∙ lie.last;
     }
 
 -- what stands in the chain behind these cells is the last interval of the piece
@@ -240,5 +251,5 @@ inside_one state intervals earlier stretch cells cut stands is =
       after = one.1;
       are = lie.are ∙ ap (λ (cs : List Cell). lie.before ++ lie.cell ∷ cs) one.2;
       ends = omega (arith, place, ends);
-      last = sym stands.last ∙ ap (λ (s : Stretch). last_length 0 s.cells) its.is ∙ lie.last;
+      last = ap (λ (c : Latest). c.last) (sym stands.kept) ∙ ap (λ (s : Stretch). (kept_of state.profile s.cells).last) its.is ∙ lie.last;
     }

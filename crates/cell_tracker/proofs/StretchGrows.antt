@@ -6,7 +6,9 @@ use Rattle.std.proofs.lemmas.List.Elements.{All-nil, All-cons, All-head, All-tai
 use Rattle.std.proofs.lemmas.Option.{MatchOption-at_some}
 use Rattle.std.proofs.lemmas.List.{drop-append-le, length-drop, length_push}
 use Rattle.biphase.specs.declared.profile.Profile.{Profile}
-use Rattle.biphase.specs.Chain.{flat, last_length, IsFirstHalf}
+use Rattle.biphase.specs.Latest.{Latest}
+use Rattle.biphase.specs.declared.cell.Cell.TheVariants.{Zero}
+use Rattle.biphase.specs.Chain.{flat, kept_of, IsFirstHalf}
 use Rattle.biphase.specs.Laws.{first_half, half_or_not}
 use Rattle.cell_tracker.specs.Lock.{HasNoLock, IsLock}
 use Rattle.cell_tracker.specs.Stretch.{Stretch, IsBroken, end_of, IsBreak, IsStretch, AreStretchesFrom, AreStretches}
@@ -26,7 +28,7 @@ there_push intervals lock first x more rest there =
     ∙ ap (λ xs. first ∷ xs) (append_assoc more rest (x ∷ []))
 
 -- an interval at the end does not touch a break, nor what stands before it
-rest_stays : (profile : Profile) (c after : ℕ) (rest : List ℕ) (place : Option ℕ) (broken x : ℕ)
+rest_stays : (profile : Profile) (c : Latest) (after : ℕ) (rest : List ℕ) (place : Option ℕ) (broken x : ℕ)
     → NoneFits profile c rest → IsBreak profile c after rest place → place ≡ Some broken
     → NoneFits profile c (rest ++ x ∷ []) × IsBreak profile c after (rest ++ x ∷ []) place
 rest_stays profile c after [] place broken x none is some = cc
@@ -44,7 +46,7 @@ stretch_stays profile intervals stretch broken x is some =
     let more = local.0 in
     let rest = drop (end_of stretch) intervals in
     let stays =
-    rest_stays profile (last_length first more)
+    rest_stays profile (kept_of profile (Zero first ∷ more))
     (end_of stretch) rest stretch.broken_at broken x local.1.none local.1.broken some in
     stretch_from profile (intervals ++ x ∷ []) stretch first more (rest ++ x ∷ []) (record {
       cells = local.1.cells;
@@ -56,7 +58,7 @@ stretch_stays profile intervals stretch broken x is some =
     })
 
 -- the rest of a list behind a break goes on to it
-break_is : (profile : Profile) (c after : ℕ) (rest : List ℕ) (place : Option ℕ) (broken : ℕ)
+break_is : (profile : Profile) (c : Latest) (after : ℕ) (rest : List ℕ) (place : Option ℕ) (broken : ℕ)
     → IsBreak profile c after rest place → place ≡ Some broken → broken < after + length rest
 break_is profile c after [] place broken is some = cc
 break_is profile c after (h ∷ []) place broken is some =
@@ -88,7 +90,7 @@ pub break_within : (profile : Profile) (intervals : List ℕ) (stretch : Stretch
     → IsStretch profile intervals stretch → stretch.broken_at ≡ Some broken → broken < length intervals
 break_within profile intervals stretch broken is some =
     let below =
-    break_is profile (last_length 0 stretch.cells) (end_of stretch)
+    break_is profile (kept_of profile stretch.cells) (end_of stretch)
     (drop (end_of stretch) intervals) stretch.broken_at broken is.broken some in
     omega (arith, below, end_within profile intervals stretch is, length-drop (end_of stretch) intervals)
 

@@ -2,6 +2,7 @@
 -- the front of a list go on in those of the list.
 use Rattle.std.proofs.Common.{◌≡◌, ℕ, Bool, true, false, List, [], ◌∷◌, ◌++◌, length, Some, None, refl, subst, sym, ap, ◌∙◌}
 use Rattle.std.proofs.lemmas.List.{append-nil, append_assoc}
+use Rattle.biphase.specs.Latest.{Latest}
 use Rattle.biphase.specs.declared.profile.Profile.{Profile}
 use Rattle.biphase.specs.declared.cell.Cell.{Cell}
 use Rattle.biphase.specs.declared.cell.Cell.TheVariants.{Zero, One}
@@ -58,30 +59,30 @@ go_on_through (r ∷ rs) (s ∷ ss) [] go more = absurd more
 go_on_through (r ∷ rs) (s ∷ ss) (t ∷ ts) go more = (goes_on_through r s t go.0 more.0, go_on_through rs ss ts go.1 more.1)
 
 -- each answer of the tests makes the stretches go on
-pair_goes_on : (n : ℕ) (ss : List Stretch) (z x : ℕ) (unequal rises half : Bool) → GoOn ss (stretches_in (from_pair n ss z x unequal rises half))
-pair_goes_on n ss z x false rises half = same_go_on ss
-pair_goes_on n ss z x true true half = more_go_on ss _
-pair_goes_on n ss z x true false true = more_go_on ss _
-pair_goes_on n ss z x true false false = more_go_on ss _
+pair_goes_on : (profile : Profile) (n : ℕ) (ss : List Stretch) (z x : ℕ) (unequal rises half : Bool) → GoOn ss (stretches_in (from_pair profile n ss z x unequal rises half))
+pair_goes_on profile n ss z x false rises half = same_go_on ss
+pair_goes_on profile n ss z x true true half = more_go_on ss _
+pair_goes_on profile n ss z x true false true = more_go_on ss _
+pair_goes_on profile n ss z x true false false = more_go_on ss _
 
-from_cell_goes_on : (n last : ℕ) (ss : List Stretch) (s : Stretch) (x : ℕ) (zero half : Bool) → s.broken_at ≡ None
-    → GoOn (ss ++ s ∷ []) (stretches_in (from_cell n last ss s x zero half))
-from_cell_goes_on n last ss s x true half none = last_goes_on ss s _ (cell_goes_on (Zero x) s none)
-from_cell_goes_on n last ss s x false true none = same_go_on (ss ++ s ∷ [])
-from_cell_goes_on n last ss s x false false none = last_goes_on ss s _ (break_goes_on n s none)
+from_cell_goes_on : (profile : Profile) (n : ℕ) (last : Latest) (ss : List Stretch) (s : Stretch) (x : ℕ) (zero half : Bool) → s.broken_at ≡ None
+    → GoOn (ss ++ s ∷ []) (stretches_in (from_cell profile n last ss s x zero half))
+from_cell_goes_on profile n last ss s x true half none = last_goes_on ss s _ (cell_goes_on (Zero x) s none)
+from_cell_goes_on profile n last ss s x false true none = same_go_on (ss ++ s ∷ [])
+from_cell_goes_on profile n last ss s x false false none = last_goes_on ss s _ (break_goes_on n s none)
 
-from_half_goes_on : (n half : ℕ) (ss : List Stretch) (s : Stretch) (x : ℕ) (one : Bool) → s.broken_at ≡ None
-    → GoOn (ss ++ s ∷ []) (stretches_in (from_half n half ss s x one))
-from_half_goes_on n half ss s x true none = last_goes_on ss s _ (cell_goes_on (One half x) s none)
-from_half_goes_on n half ss s x false none = last_goes_on ss s _ (break_goes_on n s none)
+from_half_goes_on : (profile : Profile) (n : ℕ) (last : Latest) (half : ℕ) (ss : List Stretch) (s : Stretch) (x : ℕ) (one : Bool) → s.broken_at ≡ None
+    → GoOn (ss ++ s ∷ []) (stretches_in (from_half profile n last half ss s x one))
+from_half_goes_on profile n last half ss s x true none = last_goes_on ss s _ (cell_goes_on (One half x) s none)
+from_half_goes_on profile n last half ss s x false none = last_goes_on ss s _ (break_goes_on n s none)
 
 -- an interval more
 step_goes_on : (profile : Profile) (intervals : List ℕ) (state : Tracked) (x : ℕ) → Tracks profile intervals state
     → GoOn (stretches_in state) (stretches_in (step profile (length intervals) state x))
 step_goes_on profile intervals (hunting None ss) x tracks = same_go_on ss
-step_goes_on profile intervals (hunting (Some z) ss) x tracks = pair_goes_on (length intervals) ss z x _ _ _
-step_goes_on profile intervals (at_cell last ss s) x tracks = from_cell_goes_on (length intervals) last ss s x _ _ tracks.open_yet
-step_goes_on profile intervals (mid_cell last half ss s) x tracks = from_half_goes_on (length intervals) half ss s x _ tracks.open_yet
+step_goes_on profile intervals (hunting (Some z) ss) x tracks = pair_goes_on profile (length intervals) ss z x _ _ _
+step_goes_on profile intervals (at_cell last ss s) x tracks = from_cell_goes_on profile (length intervals) last ss s x _ _ tracks.open_yet
+step_goes_on profile intervals (mid_cell last half ss s) x tracks = from_half_goes_on profile (length intervals) last half ss s x _ tracks.open_yet
 
 -- what is tracked of a list, and of the list with more behind it, whose stretches are those of the list gone on
 abbrev GoesOnTo : Profile → Tracked → List ℕ → Type 0

@@ -5,14 +5,14 @@ use Rattle.biphase.specs.declared.cell.Cell.TheVariants.{One}
 use Rattle.biphase.specs.Chain.{intervals_of, length_of, flat}
 use Rattle.cell_tracker.specs.State.{AtCellState, MidCellState}
 
--- the place is a boundary of the chain, and the state keeps the length of the cell that ends there
+-- the place is a boundary of the chain, and the state keeps the length of the cell that ends there as the last
 pub record StandsAtBoundary (state : AtCellState) (cells : List Cell) (place : ℕ) : Type 0 where
   pub before : List Cell
   pub cell : Cell
   pub after : List Cell
   pub are : cells ≡ before ++ cell ∷ after
   pub ends : length (flat before) + length (intervals_of cell) ≡ place
-  pub last : state.last ≡ length_of cell
+  pub last : state.latest.last ≡ length_of cell
 
 -- the place lies between the halves of a one of the chain, and the state keeps its first half and the length of the cell before it
 pub record StandsInsideOne (state : MidCellState) (cells : List Cell) (place : ℕ) : Type 0 where
@@ -22,4 +22,4 @@ pub record StandsInsideOne (state : MidCellState) (cells : List Cell) (place : �
   pub after : List Cell
   pub are : cells ≡ before ++ cell ∷ One state.half second ∷ after
   pub ends : length (flat before) + length (intervals_of cell) + 1 ≡ place
-  pub last : state.last ≡ length_of cell
+  pub last : state.latest.last ≡ length_of cell

@@ -3,7 +3,8 @@ use Rattle.std.specs.Prelude.{◌≡◌, ℕ, ◌+◌, ◌≤◌, List, [], ◌�
 use Rattle.biphase.specs.declared.profile.Profile.{Profile}
 use Rattle.biphase.specs.declared.cell.Cell.{Cell}
 use Rattle.biphase.specs.declared.cell.Cell.TheVariants.{Zero}
-use Rattle.biphase.specs.Chain.{flat, last_length, Begins, IsChain, IsFirstHalf}
+use Rattle.biphase.specs.Latest.{Latest}
+use Rattle.biphase.specs.Chain.{flat, kept_of, Begins, FollowOn, IsFirstHalf}
 use Rattle.cell_tracker.specs.Lock.{IsLock, HasNoLock}
 
 -- the place of its first zero, its cells, and the place of the interval at which it breaks, if it does
@@ -20,24 +21,24 @@ IsBroken stretch = IsSome stretch.broken_at
 abbrev pub end_of : Stretch → ℕ
 end_of stretch = stretch.lock + length (flat stretch.cells)
 
--- a chain that begins with the zero at the lock and follows the list from there
+-- cells that follow one another from the zero at the lock on, and are those of the list from there
 pub record IsChainFrom (profile : Profile) (intervals : List ℕ) (lock : ℕ) (cells : List Cell) : Type 0 where
   pub first : (more : List Cell) × (cells ≡ Zero (slice_index intervals lock) ∷ more)
-  pub chain : IsChain profile cells
+  pub chain : FollowOn profile cells
   pub front : Begins (flat cells) (drop lock intervals)
 
--- the place where a stretch breaks, if it does: its last cell has length c, and `rest` is the list from the place `after` it on
+-- the place where a stretch breaks, if it does: `kept` is kept of its cells, and `rest` is the list from the place `after` them on
 -- it breaks at the next interval, or one later where that may be a first half, and not before the list goes on so far
-abbrev pub IsBreak : Profile → ℕ → ℕ → List ℕ → Option ℕ → Type 0
-IsBreak profile c after [] place = place ≡ None
-IsBreak profile c after (x ∷ []) place = (IsFirstHalf profile c x → place ≡ None) × (¬ IsFirstHalf profile c x → place ≡ Some after)
-IsBreak profile c after (x ∷ y ∷ rest) place = (IsFirstHalf profile c x → place ≡ Some (after + 1)) × (¬ IsFirstHalf profile c x → place ≡ Some after)
+abbrev pub IsBreak : Profile → Latest → ℕ → List ℕ → Option ℕ → Type 0
+IsBreak profile kept after [] place = place ≡ None
+IsBreak profile kept after (x ∷ []) place = (IsFirstHalf profile kept x → place ≡ None) × (¬ IsFirstHalf profile kept x → place ≡ Some after)
+IsBreak profile kept after (x ∷ y ∷ rest) place = (IsFirstHalf profile kept x → place ≡ Some (after + 1)) × (¬ IsFirstHalf profile kept x → place ≡ Some after)
 
 -- the longest chain from a lock, since no other has more cells, with its break
 pub record IsStretch (profile : Profile) (intervals : List ℕ) (stretch : Stretch) : Type 0 where
   pub chain : IsChainFrom profile intervals stretch.lock stretch.cells
   pub longest : (others : List Cell) → IsChainFrom profile intervals stretch.lock others → length others ≤ length stretch.cells
-  pub broken : IsBreak profile (last_length 0 stretch.cells) (end_of stretch) (drop (end_of stretch) intervals) stretch.broken_at
+  pub broken : IsBreak profile (kept_of profile stretch.cells) (end_of stretch) (drop (end_of stretch) intervals) stretch.broken_at
 
 -- the stretches from the place `start` on: the first is at the lock from there, and after its break those from the break on follow
 abbrev pub AreStretchesFrom : Profile → List ℕ → ℕ → List Stretch → Type 0

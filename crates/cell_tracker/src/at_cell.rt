@@ -2,32 +2,34 @@
 ghost use Rattle.std.specs.Prelude.{◌≡◌, ℕ, ◌≤◌, List};
 ghost use Rattle.biphase.specs.declared.cell.TheConstants.{MAX_INTERVAL};
 ghost use Rattle.biphase.specs.Chain.{IsNextZero, IsFirstHalf};
+ghost use Rattle.biphase.specs.Tolerance.{kept_by, kept_next, Fits};
 ghost use Rattle.cell_tracker.specs.Answer.{KeepsOfAtCell};
-ghost use Rattle.cell_tracker.specs.State.{search_from};
+ghost use Rattle.cell_tracker.specs.State.{at_cell_with, held_at_cell, held_mid_cell, search_from};
 ghost use Rattle.cell_tracker.specs.Stretch.{Stretch};
 ghost use Rattle.cell_tracker.specs.StandsFor.{AtCellStandsFor, StandsAfterAtCell};
 ghost use Rattle.cell_tracker.specs.declared.at_cell.FromAtCell.TheVariants.{Zero, Half, Broken};
 
 use crate::hunting::Hunting;
 use crate::mid_cell::MidCell;
-use biphase::{MAX_INTERVAL, Profile, is_zero, may_begin_one};
+use biphase::{LatestFour, MAX_INTERVAL, Profile, is_zero, may_begin_one};
 use std::marker::Model;
 
-/// A stretch is open and ends with the last interval.
+/// A stretch is open and ends with the last interval. Of the cells so far it holds the number that its
+/// profile compares with; the lengths of the latest four stand beside it.
 #[derive(Clone, Copy, Debug, PartialEq, Eq)]
 pub struct AtCell {
     profile: Profile,
-    last: u32,
+    reference: u32,
 }
 
 impl Model for AtCell {
-    ghost use Rattle.cell_tracker.specs.State.{AtCellState};
+    ghost use Rattle.cell_tracker.specs.State.{AtCellHeld};
 
-    ghost Value = { AtCellState };
+    ghost Value = { AtCellHeld };
 
-    ghost view = { λ a. record { profile = a.profile; last = a.last } };
+    ghost view = { λ a. record { profile = a.profile; reference = a.reference } };
 
-    ghost inverse = { λ v. record { profile = v.profile; last = v.last } };
+    ghost inverse = { λ v. record { profile = v.profile; reference = v.reference } };
 }
 
 /// What an interval does to `AtCell`.
@@ -42,46 +44,47 @@ pub enum FromAtCell {
 }
 
 impl AtCell {
-    pub(crate) fn new(profile: Profile, last: u32) -> AtCell
-        ensures { result ≡ record { profile = profile; last = last } }
+    pub(crate) fn new(profile: Profile, reference: u32) -> AtCell
+        ensures { result ≡ record { profile = profile; reference = reference } }
     {
-        AtCell { profile, last }
+        AtCell { profile, reference }
     }
 
-    /// The length of the last cell, in ticks.
-    pub fn last(&self) -> u32
-        ensures { result ≡ self.now.last }
+    /// What the profile compares with: the length of the last cell, or the sum of the latest four, in
+    /// ticks.
+    pub fn reference(&self) -> u32
+        ensures { result ≡ self.now.reference }
     {
-        self.last
+        self.reference
     }
 
-    /// Takes the next interval, of `x` ticks.
-    pub fn feed(self, x: u32) -> FromAtCell
+    /// Takes the next interval, of `x` ticks, with the four lengths beside this state.
+    pub fn feed(self, four: &mut LatestFour, x: u32) -> FromAtCell
         requires least { 1 ≤ x }
         requires most { x ≤ MAX_INTERVAL }
+        requires fits { Fits self.profile self.reference four.old }
 
         // The answer by the tests of `biphase`.
-        ensures zero { IsNextZero self.profile self.last x
-            → result ≡ Zero (record { profile = self.profile; last = x }) }
-        ensures half { IsFirstHalf self.profile self.last x
-            → result ≡ Half (record { profile = self.profile; last = self.last; half = x }) }
-        ensures broken { ¬ IsNextZero self.profile self.last x
-            → ¬ IsFirstHalf self.profile self.last x
-            → result ≡ Broken (search_from self.profile x) }
+        ensures zero { let latest = kept_by self.profile self.reference four.old in IsNextZero self.profile latest x
+            → result ≡ Zero (held_at_cell self.profile (kept_next self.profile latest x)) }
+        ensures half { let latest = kept_by self.profile self.reference four.old in IsFirstHalf self.profile latest x
+            → result ≡ Half (held_mid_cell self.profile latest x) }
+        ensures broken { let latest = kept_by self.profile self.reference four.old in ¬ IsNextZero self.profile latest x
+            → ¬ IsFirstHalf self.profile latest x → result ≡ Broken (search_from self.profile x) }
 
-        // What the answer keeps of the state and the interval.
-        ensures keeps { KeepsOfAtCell self x result }
+        // What the answer and the four lengths keep of the state and the interval.
+        ensures keeps { KeepsOfAtCell (at_cell_with self four.old) x result four.new }
 
         // What it means for the stretches of the intervals so far.
         ensures stands { (intervals : List ℕ) (earlier : List Stretch) (stretch : Stretch)
-            → AtCellStandsFor self intervals earlier stretch
-            → StandsAfterAtCell result x intervals earlier stretch }
+            → AtCellStandsFor (at_cell_with self four.old) intervals earlier stretch
+            → StandsAfterAtCell result four.new x intervals earlier stretch }
     {
-        let (profile, last) = (self.profile, self.last);
-        if is_zero(profile, last, x) {
-            FromAtCell::Zero(AtCell::new(profile, x))
-        } else if may_begin_one(profile, last, x) {
-            FromAtCell::Half(MidCell::new(profile, last, x))
+        let (profile, reference) = (self.profile, self.reference);
+        if is_zero(profile, reference, x) {
+            FromAtCell::Zero(AtCell::new(profile, profile.after(four, x)))
+        } else if may_begin_one(profile, reference, x) {
+            FromAtCell::Half(MidCell::new(profile, reference, x))
         } else {
             FromAtCell::Broken(Hunting::after(profile, x))
         }

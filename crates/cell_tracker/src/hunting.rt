@@ -3,15 +3,16 @@ ghost use Rattle.std.specs.Prelude.{◌≡◌, ℕ, ◌≤◌, ◌<◌, List, []
 ghost use Rattle.biphase.specs.declared.cell.TheConstants.{MAX_INTERVAL};
 ghost use Rattle.biphase.specs.Pair.{AreUnequal};
 ghost use Rattle.biphase.specs.Chain.{IsFirstHalf};
+ghost use Rattle.biphase.specs.Tolerance.{kept_at_lock};
 ghost use Rattle.cell_tracker.specs.Answer.{KeepsOfHunting};
-ghost use Rattle.cell_tracker.specs.State.{search_from};
+ghost use Rattle.cell_tracker.specs.State.{held_at_cell, held_mid_cell, search_from};
 ghost use Rattle.cell_tracker.specs.Stretch.{Stretch};
 ghost use Rattle.cell_tracker.specs.StandsFor.{HuntingStandsFor, StandsAfterHunting};
 ghost use Rattle.cell_tracker.specs.declared.hunting.FromHunting.TheVariants.{Hunt, StartAt, StartMid, StartBroken};
 
 use crate::at_cell::AtCell;
 use crate::mid_cell::MidCell;
-use biphase::{MAX_INTERVAL, PairKind, Profile, kind, may_begin_one};
+use biphase::{LatestFour, MAX_INTERVAL, PairKind, Profile, kind, may_begin_one};
 use std::marker::Model;
 
 /// No stretch is open: the tracker looks for two unequal intervals.
@@ -22,11 +23,15 @@ pub struct Hunting {
 }
 
 impl Model for Hunting {
+    ghost use Rattle.std.specs.Prelude.{◌≤◌, IfSome};
+    ghost use Rattle.biphase.specs.declared.cell.TheConstants.{MAX_INTERVAL};
     ghost use Rattle.cell_tracker.specs.State.{HuntingState};
 
     ghost Value = { HuntingState };
 
     ghost view = { λ a. record { profile = a.profile; before = a.before } };
+
+    ghost invariant = { λ a. IfSome a.before (λ z. z ≤ MAX_INTERVAL) };
 
     ghost inverse = { λ v. record { profile = v.profile; before = v.before } };
 }
@@ -60,6 +65,7 @@ impl Hunting {
 
     /// A search that begins at an interval of `x` ticks.
     pub(crate) fn after(profile: Profile, x: u32) -> Hunting
+        requires { x ≤ MAX_INTERVAL }
         ensures { result ≡ record { profile = profile; before = Some x } }
     {
         Hunting {
@@ -75,8 +81,8 @@ impl Hunting {
         self.before
     }
 
-    /// Takes the next interval, of `x` ticks.
-    pub fn feed(self, x: u32) -> FromHunting
+    /// Takes the next interval, of `x` ticks, and writes the four lengths where a stretch begins.
+    pub fn feed(self, four: &mut LatestFour, x: u32) -> FromHunting
         requires least { 1 ≤ x }
         requires most { x ≤ MAX_INTERVAL }
 
@@ -85,21 +91,21 @@ impl Hunting {
         ensures equal { IfSome self.before (λ z. ¬ AreUnequal self.profile z x
             → result ≡ Hunt (search_from self.profile x)) }
         ensures rising { IfSome self.before (λ z. AreUnequal self.profile z x → z < x
-            → result ≡ StartAt (record { profile = self.profile; last = x })) }
+            → result ≡ StartAt (held_at_cell self.profile (kept_at_lock self.profile x))) }
         ensures falling { IfSome self.before (λ z. AreUnequal self.profile z x → x < z
-            → IsFirstHalf self.profile z x
-            → result ≡ StartMid (record { profile = self.profile; last = z; half = x }) z) }
+            → IsFirstHalf self.profile (kept_at_lock self.profile z) x
+            → result ≡ StartMid (held_mid_cell self.profile (kept_at_lock self.profile z) x) z) }
         ensures broken { IfSome self.before (λ z. AreUnequal self.profile z x → x < z
-            → ¬ IsFirstHalf self.profile z x
+            → ¬ IsFirstHalf self.profile (kept_at_lock self.profile z) x
             → result ≡ StartBroken (search_from self.profile x) z) }
 
-        // What the answer keeps of the state and the interval.
-        ensures keeps { KeepsOfHunting self x result }
+        // What the answer and the four lengths keep of the state and the interval.
+        ensures keeps { KeepsOfHunting self x result four.new }
 
         // What it means for the stretches of the intervals so far.
         ensures stands { (intervals : List ℕ) (stretches : List Stretch)
             → HuntingStandsFor self intervals stretches
-            → StandsAfterHunting result x intervals stretches }
+            → StandsAfterHunting result four.new x intervals stretches }
     {
         let profile = self.profile;
         let hunting = Hunting::after(profile, x);
@@ -110,9 +116,11 @@ impl Hunting {
             PairKind::Same | PairKind::Wild => FromHunting::Hunt(hunting),
             PairKind::Step => {
                 if before < x {
-                    FromHunting::StartAt(AtCell::new(profile, x))
-                } else if may_begin_one(profile, before, x) {
-                    FromHunting::StartMid(MidCell::new(profile, before, x), before)
+                    return FromHunting::StartAt(AtCell::new(profile, profile.at_lock(four, x)));
+                }
+                let reference = profile.at_lock(four, before);
+                if may_begin_one(profile, reference, x) {
+                    FromHunting::StartMid(MidCell::new(profile, reference, x), before)
                 } else {
                     FromHunting::StartBroken(hunting, before)
                 }

@@ -2,8 +2,9 @@
 ghost use Rattle.std.specs.Prelude.{◌≡◌, ℕ, ◌+◌, List, [], ◌∷◌, ◌++◌, length, reverse, Some, None};
 ghost use Rattle.biphase.specs.declared.cell.Cell.{Cell};
 ghost use Rattle.biphase.specs.declared.profile.Profile.{Profile};
-ghost use Rattle.biphase.specs.declared.cell.Cell.TheVariants.{One};
-ghost use Rattle.biphase.specs.declared.profile.Profile.TheVariants.{Normal};
+ghost use Rattle.biphase.specs.declared.cell.Cell.TheVariants.{Zero, One};
+ghost use Rattle.biphase.specs.declared.profile.Profile.TheVariants.{Normal, Rough};
+ghost use Rattle.biphase.specs.Tolerance.{LooksAtLast};
 ghost use Rattle.cell_tracker.specs.FoundAgain.{IsSecondLock, AreFrom};
 ghost use Rattle.cell_tracker.specs.GoOn.{GoOn};
 ghost use Rattle.cell_tracker.specs.Kept.{IsPiece, cells_from, stretch_of_piece};
@@ -70,21 +71,22 @@ pub fn states_stand_in_the_recording()
         → StandsInsideOne state cells (cut + length intervals) }
 {}
 
-/// Resynchronisation: whatever stands before a recording within the tolerance, from the greater
-/// interval of its second unequal pair on the cells of the stretches are the recording's own, and
-/// nothing breaks behind it.
+/// Resynchronisation, where a cell is compared with the one before it alone: whatever stands before a
+/// recording within the tolerance, from the greater interval of its second unequal pair on the cells
+/// of the stretches are the recording's own, and nothing breaks behind it.
 pub fn a_recording_is_found_again_behind_anything()
-    ensures { (profile : Profile) (before kept : List ℕ) (cells : List Cell) (cut second : ℕ)
+    ensures { (profile : Profile) → LooksAtLast profile → (before kept : List ℕ) (cells : List Cell) (cut second : ℕ)
         (stretches : List Stretch) → IsPiece profile kept cells cut → IsSecondLock profile kept second
         → AreStretches profile (before ++ kept) stretches
         → AreFrom (length before + second) (cells_from cells cut kept second) stretches }
 {}
 
-/// Mirror: where a recording and the same intervals in the other order of time are both within the
+/// Mirror, for the same tolerances: where a recording and the same intervals in the other order of time are both within the
 /// tolerance, their cells are the same between the greater intervals of the first and of the last
 /// unequal pair, each in its order. The lock of the mirror is the number of intervals behind them.
 pub fn a_mirrored_recording_has_the_mirrored_cells()
-    ensures { (profile : Profile) (intervals : List ℕ) (cells others : List Cell) (cut place first last : ℕ)
+    ensures { (profile : Profile) → LooksAtLast profile → (intervals : List ℕ) (cells others : List Cell)
+        (cut place first last : ℕ)
         → IsPiece profile intervals cells cut → IsPiece profile (reverse intervals) others place
         → IsLock profile intervals 0 first → IsLock profile (reverse intervals) 0 last
         → BeginMirrored (cells_from cells cut intervals first) (cells_from others place (reverse intervals) last)
@@ -101,4 +103,21 @@ pub fn small_recordings_have_these_stretches()
     ensures from_its_end { AreStretches Normal (recording 81 0x207ffa) (stretch_of 81 0x207ffa None ∷ []) }
     ensures both { AreStretches Normal (recording 81 0x17ff80000000000007ffa) (stretch_of 81 0x17ff80000000000007ffa None ∷ []) }
     ensures two { AreStretches Normal (24 ∷ 12 ∷ 24 ∷ 12 ∷ 12 ∷ []) (with_break 2 (begun 0 24) ∷ with_cell (One 12 12) (begun 2 24) ∷ []) }
+{}
+
+/// Recordings of the rough tolerance, by hand: the lock at the first unequal pair; a zero too short by
+/// a tick, and one that is just long enough; four cells of 125 ticks, of which the next can be longer
+/// by a quarter and no more; and the least part of 99 ticks that is half of them, where of 100 it is
+/// not.
+pub fn rough_recordings_have_these_stretches()
+    ensures lock { AreStretches Rough (100 ∷ 100 ∷ 50 ∷ 50 ∷ 100 ∷ [])
+        (with_cell (Zero 100) (with_cell (One 50 50) (begun 1 100)) ∷ []) }
+    ensures broken { AreStretches Rough (100 ∷ 50 ∷ 50 ∷ 74 ∷ []) (with_break 3 (with_cell (One 50 50) (begun 0 100)) ∷ []) }
+    ensures short { AreStretches Rough (100 ∷ 50 ∷ 50 ∷ 75 ∷ []) (with_cell (Zero 75) (with_cell (One 50 50) (begun 0 100)) ∷ []) }
+    ensures long { AreStretches Rough (100 ∷ 50 ∷ 50 ∷ 125 ∷ 125 ∷ 125 ∷ 125 ∷ 156 ∷ [])
+        (record { lock = 0; cells = Zero 100 ∷ One 50 50 ∷ Zero 125 ∷ Zero 125 ∷ Zero 125 ∷ Zero 125 ∷ Zero 156 ∷ []; broken_at = None } ∷ []) }
+    ensures longer { AreStretches Rough (100 ∷ 50 ∷ 50 ∷ 125 ∷ 125 ∷ 125 ∷ 125 ∷ 157 ∷ [])
+        (record { lock = 0; cells = Zero 100 ∷ One 50 50 ∷ Zero 125 ∷ Zero 125 ∷ Zero 125 ∷ Zero 125 ∷ []; broken_at = Some 7 } ∷ []) }
+    ensures third { AreStretches Rough (99 ∷ 33 ∷ []) (begun 0 99 ∷ []) }
+    ensures less { AreStretches Rough (100 ∷ 33 ∷ []) [] }
 {}

@@ -16,9 +16,10 @@
 //!   `AreStretches`), and a list has one list of them. Where more intervals follow, they go on, and a
 //!   broken one stays as it is (`specs/GoOn.antt`, `laws`).
 //! - A recording within the tolerance is one stretch, and its cells are the recording's own
-//!   (`specs/Kept.antt`); it is found again behind anything (`specs/FoundAgain.antt`); and in the other
-//!   order of time its cells are the same (`specs/Mirrored.antt`, all in `laws`). Each state stands at
-//!   a boundary of such a recording, or inside a one of it (`specs/PieceEnd.antt`).
+//!   (`specs/Kept.antt`). Each state stands at a boundary of such a recording, or inside a one of it
+//!   (`specs/PieceEnd.antt`). Where the tolerance looks at the last cell alone, the recording is found
+//!   again behind anything (`specs/FoundAgain.antt`), and in the other order of time its cells are the
+//!   same (`specs/Mirrored.antt`, all in `laws`).
 //!
 //! Read `hunting`, `at_cell` and `mid_cell`, in this order, and `specs/Lock.antt`, `Stretch.antt` and
 //! `StandsFor.antt` beside them, then `specs/Kept.antt`.

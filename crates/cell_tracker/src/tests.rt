@@ -1,47 +1,72 @@
 //! Values from outside.
 use crate::{AtCell, FromAtCell, FromHunting, FromMidCell, Hunting, MidCell};
-use biphase::Profile;
+use biphase::{LatestFour, Profile};
 
 const NORMAL: Profile = Profile::Normal;
 
+const ROUGH: Profile = Profile::Rough;
+
+/// At the end of a cell, by the number that the profile compares with.
+fn at_cell(profile: Profile, reference: u32) -> AtCell {
+    AtCell::new(profile, reference)
+}
+
 #[test]
 fn a_search_meets_each_sort_of_pair(rt: HostRuntime) {
+    let four = &mut LatestFour::new();
     let hunt = |x| FromHunting::Hunt(Hunting::after(NORMAL, x));
     assert_eq!(rt; Hunting::new(NORMAL).before(), None);
-    assert_eq!(rt; Hunting::new(NORMAL).feed(24), hunt(24));
-    assert_eq!(rt; Hunting::after(NORMAL, 24).feed(16), hunt(16));
-    assert_eq!(rt; Hunting::after(NORMAL, 100).feed(39), hunt(39));
+    assert_eq!(rt; Hunting::new(NORMAL).feed(four, 24), hunt(24));
+    assert_eq!(rt; Hunting::after(NORMAL, 24).feed(four, 16), hunt(16));
+    assert_eq!(rt; Hunting::after(NORMAL, 100).feed(four, 39), hunt(39));
 
-    let start_at = FromHunting::StartAt(AtCell::new(NORMAL, 24));
-    assert_eq!(rt; Hunting::after(NORMAL, 15).feed(24), start_at);
+    let start_at = FromHunting::StartAt(at_cell(NORMAL, 24));
+    assert_eq!(rt; Hunting::after(NORMAL, 15).feed(four, 24), start_at);
     let start_mid = FromHunting::StartMid(MidCell::new(NORMAL, 24, 15), 24);
-    assert_eq!(rt; Hunting::after(NORMAL, 24).feed(15), start_mid);
+    assert_eq!(rt; Hunting::after(NORMAL, 24).feed(four, 15), start_mid);
     let start_broken = FromHunting::StartBroken(Hunting::after(NORMAL, 130), 200);
-    assert_eq!(rt; Hunting::after(NORMAL, 200).feed(130), start_broken);
+    assert_eq!(rt; Hunting::after(NORMAL, 200).feed(four, 130), start_broken);
 }
 
 #[test]
 fn a_stretch_goes_on_or_breaks(rt: HostRuntime) {
-    let cell = AtCell::new(NORMAL, 24);
-    assert_eq!(rt; cell.last(), 24);
-    assert_eq!(rt; cell.feed(27), FromAtCell::Zero(AtCell::new(NORMAL, 27)));
+    let four = &mut LatestFour::new();
+    let cell = at_cell(NORMAL, 24);
+    let half = MidCell::new(NORMAL, 24, 12);
+    assert_eq!(rt; cell.reference(), 24);
+    assert_eq!(rt; cell.feed(four, 27), FromAtCell::Zero(at_cell(NORMAL, 27)));
+    assert_eq!(rt; cell.feed(four, 12), FromAtCell::Half(half));
     assert_eq!(rt;
-        cell.feed(12),
-        FromAtCell::Half(MidCell::new(NORMAL, 24, 12))
-    );
-    assert_eq!(rt;
-        cell.feed(72),
+        cell.feed(four, 72),
         FromAtCell::Broken(Hunting::after(NORMAL, 72))
     );
 
-    let half = MidCell::new(NORMAL, 24, 12);
-    assert_eq!(rt; (half.last(), half.half()), (24, 12));
+    assert_eq!(rt; (half.reference(), half.half()), (24, 12));
     assert_eq!(rt;
-        half.feed(13),
-        FromMidCell::One(AtCell::new(NORMAL, 25), 12, 13)
+        half.feed(four, 13),
+        FromMidCell::One(at_cell(NORMAL, 25), 12, 13)
     );
     assert_eq!(rt;
-        half.feed(24),
+        half.feed(four, 24),
         FromMidCell::Broken(Hunting::after(NORMAL, 24))
     );
+}
+
+#[test]
+fn a_rough_stretch_keeps_the_latest_four(rt: HostRuntime) {
+    let four = &mut LatestFour::new();
+    let half = MidCell::new(ROUGH, 400, 50);
+    assert_eq!(rt;
+        Hunting::after(ROUGH, 100).feed(four, 50),
+        FromHunting::StartMid(half, 100)
+    );
+    let behind = at_cell(ROUGH, 400);
+    assert_eq!(rt; half.feed(four, 50), FromMidCell::One(behind, 50, 50));
+    let broken = FromAtCell::Broken(Hunting::after(ROUGH, 74));
+    assert_eq!(rt; behind.feed(four, 74), broken);
+    let next = at_cell(ROUGH, 375);
+    assert_eq!(rt; behind.feed(four, 75), FromAtCell::Zero(next));
+    let late = FromAtCell::Broken(Hunting::after(ROUGH, 118));
+    assert_eq!(rt; next.feed(four, 118), late);
+    assert_eq!(rt; next.feed(four, 117), FromAtCell::Zero(at_cell(ROUGH, 392)));
 }

@@ -5,9 +5,9 @@ use Rattle.std.specs.Prelude.{slice_index, nat_lt}
 use Rattle.std.proofs.Math.Decide.{dec_lt}
 use Rattle.std.proofs.lemmas.Grind.{common_steps}
 use Rattle.biphase.specs.declared.cell.TheConstants.{MAX_INTERVAL}
-use Rattle.direction_reader.specs.declared.tracker.Tracker.{Tracker}
-use Rattle.direction_reader.specs.declared.tracker.Tracker.TheVariants.{Hunting, AtCell, MidCell}
-use Rattle.direction_reader.specs.declared.tracker.Step.TheVariants.{Cell}
+use Rattle.direction_reader.specs.Tracking.{Tracking}
+use Rattle.direction_reader.specs.Tracking.{Hunting, AtCell, MidCell}
+use Rattle.direction_reader.specs.declared.state.Step.TheVariants.{Cell}
 use Rattle.direction_reader.specs.Tracker.{Steps}
 use Rattle.direction_reader.specs.LatestCells.{with_boundary}
 use Rattle.direction_reader.specs.Invariants.{AreBoundariesTo, FitsTracker}
@@ -55,7 +55,7 @@ pub window_length : (tick : ℕ) (bs : List ℕ) → AreBoundariesTo tick bs →
 window_length tick bs are full = let least = span-least tick bs are in let most = span-most tick bs are in (omega arith, omega arith)
 
 -- a cell that ends is one boundary more
-pub cell_ended : (old next : Tracker) (x tick : ℕ) (bit : Bool) (bs : List ℕ) → FitsTracker old tick bs → 1 ≤ x → x ≤ MAX_INTERVAL
+pub cell_ended : (old next : Tracking) (x tick : ℕ) (bit : Bool) (bs : List ℕ) → FitsTracker old tick bs → 1 ≤ x → x ≤ MAX_INTERVAL
     → Steps old x next (Cell bit) → AreBoundariesTo (tick + x) (with_boundary bs (tick + x))
 cell_ended (Hunting h) next x tick bit bs fits least most steps = absurd steps
 cell_ended (AtCell a) next x tick bit bs fits least most steps = kept tick (tick + x) bs fits (omega arith) (omega arith)
@@ -63,7 +63,7 @@ cell_ended (MidCell m) next x tick bit bs fits least most steps =
     kept (tick - m.half) (tick + x) bs fits.3 (omega arith) (omega arith)
 
 -- and the state at its end fits these boundaries
-pub fits_after : (old next : Tracker) (x tick : ℕ) (bit : Bool) (bs : List ℕ) → Steps old x next (Cell bit)
+pub fits_after : (old next : Tracking) (x tick : ℕ) (bit : Bool) (bs : List ℕ) → Steps old x next (Cell bit)
     → AreBoundariesTo tick bs → FitsTracker next tick bs
 fits_after (Hunting h) next x tick bit bs steps are = absurd steps
 fits_after (AtCell a) (Hunting n) x tick bit bs steps are = absurd steps.1
@@ -74,7 +74,7 @@ fits_after (MidCell m) (MidCell n) x tick bit bs steps are = absurd steps.1
 fits_after (MidCell m) (AtCell n) x tick bit bs steps are = are
 
 -- what the reader keeps fits where a cell has ended
-pub cell_fits : (old next : Tracker) (x tick now : ℕ) (bit : Bool) (bs new : List ℕ) → FitsTracker old tick bs → 1 ≤ x → x ≤ MAX_INTERVAL
+pub cell_fits : (old next : Tracking) (x tick now : ℕ) (bit : Bool) (bs new : List ℕ) → FitsTracker old tick bs → 1 ≤ x → x ≤ MAX_INTERVAL
     → Steps old x next (Cell bit) → now ≡ tick + x → new ≡ with_boundary bs now → FitsTracker next now new
 cell_fits old next x tick now bit bs new fits least most steps is are =
     let ended = cell_ended old next x tick bit bs fits least most steps in

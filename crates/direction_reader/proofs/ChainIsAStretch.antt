@@ -6,15 +6,16 @@ use Rattle.std.proofs.lemmas.List.{drop_all, length-append}
 use Rattle.biphase.specs.declared.cell.Cell.{Cell}
 use Rattle.biphase.specs.declared.cell.Cell.TheVariants.{Zero, One}
 use Rattle.biphase.specs.declared.profile.Profile.{Profile}
-use Rattle.biphase.specs.Chain.{bits, flat, intervals_of, last_length, Begins, IsChain, IsChainAfter, IsNextOne}
+use Rattle.biphase.specs.Tolerance.{kept_at_lock}
+use Rattle.biphase.specs.Chain.{bits, flat, intervals_of, kept_of, Begins, FollowOn, IsChain, IsChainAfter, Kinds}
+use Rattle.biphase.specs.Laws.{behind_zero}
 use Rattle.biphase.specs.OneChain.{comparable}
-use Rattle.biphase.specs.Pair.{AreUnequal}
 use Rattle.cell_tracker.specs.Lock.{IsLock}
 use Rattle.cell_tracker.specs.Stretch.{Stretch, AreStretches, IsBreak, IsChainFrom, IsStretch, end_of}
 
 -- what the laws of biphase say
-abbrev pub Falls : Type 0
-Falls = (profile : Profile) (c x y : ℕ) → 1 ≤ x → IsNextOne profile c x y → AreUnequal profile c x × (x < c)
+abbrev pub AreAsSaid : Type 0
+AreAsSaid = (profile : Profile) (cells : List Cell) → IsChain profile cells → Kinds profile cells
 
 -- all of the cells, without a break
 abbrev pub whole : List Cell → Stretch
@@ -62,25 +63,26 @@ not_more one two fits (extra, e) =
 
 -- the longest chain there
 longest : (profile : Profile) (x : ℕ) (two others more : List Cell) → IsChainAfter profile x two
-    → others ≡ Zero x ∷ more → IsChain profile others → Begins (flat others) (x ∷ flat two) → length others ≤ suc (length two)
+    → others ≡ Zero x ∷ more → FollowOn profile others → Begins (flat others) (x ∷ flat two) → length others ≤ suc (length two)
 longest profile x two others more twos first chain (rest, e) =
-    let chain_too : IsChain profile (Zero x ∷ more) = rw first at chain in
+    let chain_too : FollowOn profile (Zero x ∷ more) = rw first at chain in
     let e_too : x ∷ flat two ≡ (x ∷ flat more) ++ rest = e ∙ ap (λ (l : List Cell). flat l ++ rest) first in
     let tail : flat two ≡ flat more ++ rest = cc in
     let fits = front_fits (flat more) (flat two) rest tail in
     let count : length others ≡ suc (length more) = ap length first in
-    let fewer : length more ≤ length two = elim (comparable profile x more two (flat two) chain_too.1 twos (rest, tail) ([], sym (append-nil (flat two)))) [
+    let fewer : length more ≤ length two = elim (comparable profile (kept_at_lock profile x) more two (flat two) chain_too.1 twos (rest, tail) ([], sym (append-nil (flat two)))) [
       | inl before ↦ no_longer more two fits before
       | inr after ↦ not_more more two fits after
     ] in
     omega arith
 
-one_stretch : Falls → (profile : Profile) (x a b : ℕ) (more : List Cell) → IsChain profile (Zero x ∷ One a b ∷ more)
+one_stretch : AreAsSaid → (profile : Profile) (x a b : ℕ) (more : List Cell) → IsChain profile (Zero x ∷ One a b ∷ more)
     → AreStretches profile (flat (Zero x ∷ One a b ∷ more)) (whole (Zero x ∷ One a b ∷ more) ∷ [])
-one_stretch falls profile x a b more chain =
+one_stretch said profile x a b more chain =
     let cells : List Cell = Zero x ∷ One a b ∷ more in
     let list = flat cells in
-    let pair = falls profile x a b chain.1.0.0 (chain.1.1, chain.1.0.2) in
+    let pair = (said profile cells chain).1 in
+    let follow = behind_zero profile [] (One a b ∷ more) x chain in
     let lock : IsLock profile list 0 0 = record {
       pair = 0;
       within = omega arith;
@@ -89,21 +91,21 @@ one_stretch falls profile x a b more chain =
       rising = λ lt. absurd (omega (arith, pair.1));
       falling = λ lt. refl;
     } in
-    let from : IsChainFrom profile list 0 cells = record { first = (One a b ∷ more, refl); chain = chain; front = ([], sym (append-nil list)) } in
+    let from : IsChainFrom profile list 0 cells = record { first = (One a b ∷ more, refl); chain = follow; front = ([], sym (append-nil list)) } in
     let none : drop (end_of (whole cells)) list ≡ [] = drop_all (end_of (whole cells)) list (omega arith) in
-    let broken : IsBreak profile (last_length 0 cells) (end_of (whole cells)) (drop (end_of (whole cells)) list) None = rw none refl in
+    let broken : IsBreak profile (kept_of profile cells) (end_of (whole cells)) (drop (end_of (whole cells)) list) None = rw none refl in
     let is : IsStretch profile list (whole cells) = record {
       chain = from;
-      longest = λ others c. longest profile x (One a b ∷ more) others c.first.0 chain.1 c.first.1 c.chain c.front;
+      longest = λ others c. longest profile x (One a b ∷ more) others c.first.0 follow.1 c.first.1 c.chain c.front;
       broken = broken;
     } in
     (lock, is, refl)
 
 -- and so are cells with these bits
-pub whole_is : Falls → (profile : Profile) (cells : List Cell) (list : List Bool) → IsChain profile cells → bits cells ≡ false ∷ true ∷ list
+pub whole_is : AreAsSaid → (profile : Profile) (cells : List Cell) (list : List Bool) → IsChain profile cells → bits cells ≡ false ∷ true ∷ list
     → AreStretches profile (flat cells) (whole cells ∷ [])
-whole_is falls profile [] list chain are = absurd cc
-whole_is falls profile (Zero x ∷ []) list chain are = absurd cc
-whole_is falls profile (Zero x ∷ Zero y ∷ more) list chain are = absurd cc
-whole_is falls profile (Zero x ∷ One a b ∷ more) list chain are = one_stretch falls profile x a b more chain
-whole_is falls profile (One a b ∷ more) list chain are = absurd cc
+whole_is said profile [] list chain are = absurd cc
+whole_is said profile (Zero x ∷ []) list chain are = absurd cc
+whole_is said profile (Zero x ∷ Zero y ∷ more) list chain are = absurd cc
+whole_is said profile (Zero x ∷ One a b ∷ more) list chain are = one_stretch said profile x a b more chain
+whole_is said profile (One a b ∷ more) list chain are = absurd cc

@@ -11,7 +11,9 @@ use Rattle.std.proofs.lemmas.List.Sums.{sum_by-append, sum_by-take-drop, sum_by-
 use Rattle.biphase.specs.declared.cell.Cell.{Cell}
 use Rattle.biphase.specs.declared.cell.Cell.TheVariants.{Zero, One}
 use Rattle.biphase.specs.declared.profile.Profile.{Profile}
-use Rattle.biphase.specs.Chain.{intervals_of, flat, last_length, IsChain, IsChainAfter}
+use Rattle.biphase.specs.Latest.{Latest}
+use Rattle.biphase.specs.Tolerance.{LooksAtLast, kept_at_lock, kept_next}
+use Rattle.biphase.specs.Chain.{intervals_of, flat, kept_of, Follow, FollowOn}
 use Rattle.biphase.specs.Laws.{half_or_not}
 use Rattle.cell_tracker.specs.FoundAgain.{IsSecondLock, AreFrom, BreaksBy}
 use Rattle.cell_tracker.specs.Kept.{IsPiece, cells_from}
@@ -34,7 +36,7 @@ use Rattle.direction_reader.proofs.WindowsFromCells.{duration_of, windows_cons, 
 
 -- the stretches are the tape's from a place on
 abbrev pub IsFoundAgain : Type 0
-IsFoundAgain = (profile : Profile) (before kept : List ℕ) (cells : List Cell) (cut second : ℕ) (stretches : List Stretch)
+IsFoundAgain = (profile : Profile) → LooksAtLast profile → (before kept : List ℕ) (cells : List Cell) (cut second : ℕ) (stretches : List Stretch)
     → IsPiece profile kept cells cut → IsSecondLock profile kept second → AreStretches profile (before ++ kept) stretches
     → AreFrom (length before + second) (cells_from cells cut kept second) stretches
 
@@ -178,19 +180,19 @@ split system tick (cell ∷ older) cells es last are =
 
 -- ---- the places of a stretch and their ticks
 
-last_after : (profile : Profile) (c : ℕ) (cells : List Cell) → IsChainAfter profile c cells → AllLast cells
+last_after : (profile : Profile) (c : Latest) (cells : List Cell) → Follow profile c cells → AllLast cells
 last_after profile c [] chain = tt
 last_after profile c (Zero x ∷ cells) chain =
-    let ticks : 1 ≤ x = chain.0 in (omega arith, last_after profile x cells chain.2)
+    let ticks : 1 ≤ x = chain.0 in (omega arith, last_after profile (kept_next profile c x) cells chain.2)
 last_after profile c (One a b ∷ cells) chain =
-    let ticks : 1 ≤ a = chain.0.0 in (omega arith, last_after profile (a + b) cells chain.2)
+    let ticks : 1 ≤ a = chain.0.0 in (omega arith, last_after profile (kept_next profile c (a + b)) cells chain.2)
 
-chain_lasts : (profile : Profile) (cells : List Cell) → IsChain profile cells → AllLast cells
+chain_lasts : (profile : Profile) (cells : List Cell) → FollowOn profile cells → AllLast cells
 chain_lasts profile [] chain = tt
 chain_lasts profile (Zero x ∷ cells) chain =
-    let ticks : 1 ≤ x = chain.0 in (omega arith, last_after profile x cells chain.1)
+    let ticks : 1 ≤ x = chain.0 in (omega arith, last_after profile (kept_at_lock profile x) cells chain.1)
 chain_lasts profile (One a b ∷ cells) chain =
-    let ticks : 1 ≤ a = chain.0.0 in (omega arith, last_after profile (a + b) cells chain.1)
+    let ticks : 1 ≤ a = chain.0.0 in (omega arith, last_after profile (kept_at_lock profile (a + b)) cells chain.1)
 
 -- the sum of a list up to the end of some intervals of it
 pub sum_at : (l xs rest : List ℕ) (lock : ℕ) → drop lock l ≡ xs ++ rest → sum (take (lock + length xs) l) ≡ sum (take lock l) + sum xs
@@ -220,7 +222,7 @@ sum_later (x ∷ l) (suc i) (suc j) less =
     )
 
 -- a break does not stand before the end of the cells
-pub break_behind : (profile : Profile) (c after : ℕ) (rest : List ℕ) (place : Option ℕ) (p : ℕ) → IsBreak profile c after rest place
+pub break_behind : (profile : Profile) (c : Latest) (after : ℕ) (rest : List ℕ) (place : Option ℕ) (p : ℕ) → IsBreak profile c after rest place
     → place ≡ Some p → after ≤ p
 break_behind profile c after [] place p is some = absurd cc
 break_behind profile c after (x ∷ []) place p is some = elim (half_or_not profile c x) [
@@ -262,7 +264,7 @@ of_broken : (system : System) (profile : Profile) (l : List ℕ) (from p : ℕ) 
 of_broken system profile l from p s es is some by (own, are, join) =
     let lost = Lost p (sum (take (p + 1) l)) in
     let all : es ≡ own ++ (lost ∷ []) = join ∙ ap (λ o. own ++ break_events l o) some in
-    let ends = break_behind profile (last_length 0 s.cells) (end_of s) (drop (end_of s) l) s.broken_at p is.broken some in
+    let ends = break_behind profile (kept_of profile s.cells) (end_of s) (drop (end_of s) l) s.broken_at p is.broken some in
     let tick = end_tick profile l s is in
     let later = sum_later l (end_of s) from (omega (arith, ends, by)) in
     let words : (end : ℕ) → sum (take from l) < end → AreWordsBefore end own =
@@ -350,7 +352,7 @@ tell_from system profile l from cells ss es stretches found are =
 
 pub finds_the_tape : IsFoundAgain → (system : System) (profile : Profile) (l : List ℕ) (es : List Event)
     → AreEvents system profile l es → FindsTheTape system profile l es
-finds_the_tape law system profile l es (ss, stretches, are) = λ before kept cells cut second same piece is2.
+finds_the_tape law system profile l es (ss, stretches, are) = λ looks before kept cells cut second same piece is2.
     let here : AreStretches profile (before ++ kept) ss = subst (λ (xs : List ℕ). AreStretches profile xs ss) same stretches in
     tell_from system profile l (length before + second) (cells_from cells cut kept second) ss es stretches
-    (law profile before kept cells cut second ss piece is2 here) are
+    (law profile looks before kept cells cut second ss piece is2 here) are

@@ -8,7 +8,8 @@ use Rattle.std.proofs.lemmas.List.FromFn.{take-map-range_with_len}
 use Rattle.biphase.specs.declared.cell.Cell.{Cell}
 use Rattle.biphase.specs.declared.cell.Cell.TheVariants.{Zero}
 use Rattle.biphase.specs.declared.profile.Profile.{Profile}
-use Rattle.biphase.specs.Chain.{Begins, flat, last_length}
+use Rattle.biphase.specs.Latest.{Latest}
+use Rattle.biphase.specs.Chain.{Begins, flat, kept_of}
 use Rattle.biphase.specs.Laws.{half_or_not}
 use Rattle.cell_tracker.specs.GoOn.{GoesOn, GoOn}
 use Rattle.cell_tracker.specs.Stretch.{Stretch, IsBreak, IsStretch, AreStretches, AreStretchesFrom, end_of}
@@ -70,7 +71,7 @@ lock_inside profile l s is =
 is_place : (n p : ℕ) (place : Option ℕ) → place ≡ Some p → p < n → IfSome place (λ q. q < n)
 is_place n p place is within = rw is within
 
-break_inside : (profile : Profile) (c after n : ℕ) (rest : List ℕ) (place : Option ℕ) → length rest ≡ n - after
+break_inside : (profile : Profile) (c : Latest) (after n : ℕ) (rest : List ℕ) (place : Option ℕ) → length rest ≡ n - after
     → IsBreak profile c after rest place → IfSome place (λ p. p < n)
 break_inside profile c after n [] place count is = rw is tt
 break_inside profile c after n (x ∷ []) place count is = elim (half_or_not profile c x) [
@@ -87,7 +88,7 @@ stretch_inside profile l s is =
     let lock = lock_inside profile l s is in
     record {
       lock = omega arith;
-      broken = break_inside profile (last_length 0 s.cells) (end_of s) (length l) (drop (end_of s) l) s.broken_at
+      broken = break_inside profile (kept_of profile s.cells) (end_of s) (length l) (drop (end_of s) l) s.broken_at
           (length-drop (end_of s) l) is.broken;
     }
 

@@ -15,7 +15,9 @@ use Rattle.std.proofs.lemmas.List.FromFn.{get_or-map-range_with_len, length-map-
 use Rattle.biphase.specs.declared.cell.Cell.{Cell}
 use Rattle.biphase.specs.declared.cell.Cell.TheVariants.{Zero}
 use Rattle.biphase.specs.declared.profile.Profile.{Profile}
-use Rattle.biphase.specs.Chain.{Begins, intervals_of, flat, length_of, last_length, IsChainAfter}
+use Rattle.biphase.specs.Latest.{Latest}
+use Rattle.biphase.specs.Tolerance.{kept_at_lock, kept_next}
+use Rattle.biphase.specs.Chain.{Begins, intervals_of, flat, length_of, kept_of, Follow}
 use Rattle.biphase.specs.Laws.{half_or_not, unequal_differ}
 use Rattle.cell_tracker.specs.GoOn.{GoesOn, GoOn}
 use Rattle.cell_tracker.specs.Lock.{HasNoLock, IsLock}
@@ -116,9 +118,9 @@ both_windows system (w ∷ ws) vs es (own, rest, is, others, join) =
 -- ---- the windows of a stretch from one on
 
 -- the front of a chain is one
-chain_front : (profile : Profile) (c : ℕ) (one two : List Cell) → IsChainAfter profile c (one ++ two) → IsChainAfter profile c one
+chain_front : (profile : Profile) (c : Latest) (one two : List Cell) → Follow profile c (one ++ two) → Follow profile c one
 chain_front profile c [] two chain = tt
-chain_front profile c (cell ∷ one) two chain = (chain.0, chain.1, chain_front profile (length_of cell) one two chain.2)
+chain_front profile c (cell ∷ one) two chain = (chain.0, chain.1, chain_front profile (kept_next profile c (length_of cell)) one two chain.2)
 
 -- also from a lock
 front_from : (profile : Profile) (l : List ℕ) (lock : ℕ) (one two : List Cell) → 0 < length one → IsChainFrom profile l lock (one ++ two)
@@ -129,7 +131,7 @@ front_from profile l lock (cell ∷ one) two some is =
     let zero : cell ≡ Zero (get_or l lock 0) = let all = first.1 in cc in
     record {
       first = (one, ap (λ (c : Cell). c ∷ one) zero);
-      chain = (is.chain.0, chain_front profile (length_of cell) one two is.chain.1);
+      chain = (is.chain.0, chain_front profile (kept_at_lock profile (length_of cell)) one two is.chain.1);
       front = (
         flat two ++ is.front.0,
         is.front.1 ∙ ap (λ (xs : List ℕ). xs ++ is.front.0) (flat_map-append intervals_of (cell ∷ one) two)
@@ -188,7 +190,7 @@ break_from l n (Some p) late =
 late_break : (profile : Profile) (l : List ℕ) (n : ℕ) (t : Stretch) → IsStretch profile l t → n ≤ end_of t + 1
     → (p : ℕ) → t.broken_at ≡ Some p → n ≤ p + 1
 late_break profile l n t is late p at =
-    let behind = break_behind profile (last_length 0 t.cells) (end_of t) (drop (end_of t) l) t.broken_at p is.broken at in
+    let behind = break_behind profile (kept_of profile t.cells) (end_of t) (drop (end_of t) l) t.broken_at p is.broken at in
     omega (arith, behind, late)
 
 -- the events of a stretch that locks there or later
@@ -287,7 +289,7 @@ ends_behind profile l more s others is chain longer =
     ]
 
 -- behind an open stretch stands a waiting half at most
-waits : (profile : Profile) (c after : ℕ) (rest : List ℕ) → IsBreak profile c after rest None → length rest ≤ 1
+waits : (profile : Profile) (c : Latest) (after : ℕ) (rest : List ℕ) → IsBreak profile c after rest None → length rest ≤ 1
 waits profile c after [] is = omega arith
 waits profile c after (x ∷ []) is = omega arith
 waits profile c after (x ∷ y ∷ rest) is = elim (half_or_not profile c x) [
@@ -343,7 +345,7 @@ open_later exact profile system l more s t es fs is goes open_yet go end (own, a
 -- what it goes on to has its end one interval before that of the list, or later
 open_end : (profile : Profile) (l : List ℕ) (s t : Stretch) → IsStretch profile l s → s.broken_at ≡ None → GoesOn s t → length l ≤ end_of t + 1
 open_end profile l s t is open_yet go =
-    let c = last_length 0 s.cells in
+    let c = kept_of profile s.cells in
     let rest = drop (end_of s) l in
     let none : IsBreak profile c (end_of s) rest None = subst (λ (o : Option ℕ). IsBreak profile c (end_of s) rest o) open_yet is.broken in
     let cells = go.cells in

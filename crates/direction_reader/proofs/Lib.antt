@@ -23,3 +23,4 @@ pub mod WindowsGrow
 pub mod WordsEnd
 pub mod WordsAreRead
 pub mod WrittenOver
+mod RoughAlone

@@ -10,6 +10,7 @@ use Rattle.std.proofs.lemmas.List.{length-reverse, reverse-append, take-append-d
 use Rattle.std.proofs.lemmas.List.Sums.{sum_by-append}
 use Rattle.biphase.specs.declared.cell.Cell.{Cell}
 use Rattle.biphase.specs.declared.profile.Profile.{Profile}
+use Rattle.biphase.specs.Tolerance.{LooksAtLast}
 use Rattle.biphase.specs.Chain.{intervals_of, flat}
 use Rattle.biphase.specs.Mirror.{mirrored}
 use Rattle.cell_tracker.specs.Kept.{IsPiece, cells_from}
@@ -219,7 +220,7 @@ all_mirror exact back system total (w ∷ ws) es fs fit (own, rest, is, others, 
 
 -- the cells of a mirrored recording
 abbrev pub AreTheSame : Type 0
-AreTheSame = (profile : Profile) (intervals : List ℕ) (cells others : List Cell) (cut place first last : ℕ) → IsPiece profile intervals cells cut
+AreTheSame = (profile : Profile) → LooksAtLast profile → (intervals : List ℕ) (cells others : List Cell) (cut place first last : ℕ) → IsPiece profile intervals cells cut
     → IsPiece profile (reverse intervals) others place → IsLock profile intervals 0 first → IsLock profile (reverse intervals) 0 last
     → BeginMirrored (cells_from cells cut intervals first) (cells_from others place (reverse intervals) last) first last (length intervals)
 
@@ -266,8 +267,8 @@ sums l middle tail first last there many within =
 
 pub mirrors_the_tape : IsExact → TurnsBack → AreTheSame → IsOneStretch → HasOneList → (system : System) (profile : Profile) (l : List ℕ)
     (es fs : List Event) → AreEvents system profile l es → AreEvents system profile (reverse l) fs → MirrorsTheTape system profile l es fs
-mirrors_the_tape exact back law stretch one system profile l es fs are too = λ tape other cut place first last piece turned_piece lock last_lock.
-    let m = law profile l tape other cut place first last piece turned_piece lock last_lock in
+mirrors_the_tape exact back law stretch one system profile l es fs are too = λ looks tape other cut place first last piece turned_piece lock last_lock.
+    let m = law profile looks l tape other cut place first last piece turned_piece lock last_lock in
     let middle = m.middle in
     let tick = sum (take first l) in
     let other_tick = sum (take last (reverse l)) in

@@ -14,9 +14,9 @@ use Rattle.direction_reader.specs.declared.event.Event.TheVariants.{Lost}
 use Rattle.direction_reader.specs.declared.event.Events.{Events}
 use Rattle.direction_reader.specs.declared.latest_bits.LatestBits.{LatestBits}
 use Rattle.direction_reader.specs.declared.latest_bits.LatestBits.TheVariants as latest
-use Rattle.direction_reader.specs.declared.tracker.Tracker.{Tracker}
-use Rattle.direction_reader.specs.declared.tracker.Step.TheVariants.{Nothing, FirstZero, ZeroBefore, Break}
-use Rattle.direction_reader.specs.declared.tracker.Step.{Step}
+use Rattle.direction_reader.specs.Tracking.{Tracking}
+use Rattle.direction_reader.specs.declared.state.Step.TheVariants.{Nothing, FirstZero, ZeroBefore, Break}
+use Rattle.direction_reader.specs.declared.state.Step.{Step}
 use Rattle.direction_reader.specs.Events.{event_list, no_events, one_event}
 use Rattle.direction_reader.specs.LatestBits.{after_bit, EndsInCandidate}
 use Rattle.direction_reader.specs.LatestCells.{Cells, no_cells, with_boundary, AreWindowEvents}
@@ -25,7 +25,7 @@ use Rattle.direction_reader.specs.Reader.{Reading, Takes}
 use Rattle.direction_reader.specs.StandsFor.{waiting, CellsStandFor, OpenStandsFor, LatestStandsFor, TrackerStandsFor, StandsFor, StandsAfter}
 use Rattle.direction_reader.specs.StandsFor.{BitsStandFor, MayBreak, IsLastZero, IsAtCell, Tells}
 use Rattle.direction_reader.specs.Tracker.{Steps}
-use Rattle.direction_reader.specs.declared.tracker.Tracker.TheVariants as tracker
+use Rattle.direction_reader.specs.Tracking as tracker
 use Rattle.direction_reader.specs.declared.brought.Brought.{Brought}
 use Rattle.direction_reader.specs.declared.brought.Brought.TheVariants.{Candidate}
 use Rattle.direction_reader.proofs.CellsGrow.{cell_more, none_yet, kept_events, duration_more}
@@ -301,7 +301,7 @@ pub quiet : (n : Reading) (l : List ℕ) (es : List Event) (own : Events) → St
 quiet n l es own stands none = rw none (subst (λ e. StandsFor n l e) (sym (append-nil es)) stands)
 
 -- a cell that ends leaves the tracker at its end
-pub at_cell_after : (old next : Tracker) (x : ℕ) (bit : Bool) → Steps old x next (Step.Cell bit) → IsAtCell next
+pub at_cell_after : (old next : Tracking) (x : ℕ) (bit : Bool) → Steps old x next (Step.Cell bit) → IsAtCell next
 at_cell_after (tracker.AtCell a) (tracker.AtCell n) x bit steps = tt
 at_cell_after (tracker.AtCell a) (tracker.MidCell n) x bit steps = absurd steps.1
 at_cell_after (tracker.AtCell a) (tracker.Hunting n) x bit steps = absurd steps.1

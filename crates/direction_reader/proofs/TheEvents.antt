@@ -2,8 +2,8 @@
 use Rattle.std.proofs.Common.{◌≡◌, ℕ, List, [], ◌∷◌, ◌++◌, ap, sym, ◌∙◌, append-nil, refl, Some, None, Option, subst}
 use Rattle.cell_tracker.specs.Stretch.{Stretch}
 use Rattle.direction_reader.specs.declared.event.Event.{Event}
-use Rattle.direction_reader.specs.declared.tracker.Tracker.{Tracker}
-use Rattle.direction_reader.specs.declared.tracker.Tracker.TheVariants.{AtCell, MidCell, Hunting}
+use Rattle.direction_reader.specs.Tracking.{Tracking}
+use Rattle.direction_reader.specs.Tracking.{AtCell, MidCell, Hunting}
 use Rattle.direction_reader.specs.ListEvents.{break_events, AreEventsOfStretch, AreEventsOfStretches, AreEvents}
 use Rattle.direction_reader.specs.Reader.{Reading}
 use Rattle.direction_reader.specs.StandsFor.{TrackerStandsFor, LatestStandsFor, OpenStandsFor, StandsFor}
@@ -17,7 +17,7 @@ open_events r l s es open_yet is =
     let none : break_events l s.broken_at ≡ [] = rw open_yet refl in
     (es, is.events_are, sym (ap (λ e. es ++ e) none ∙ append-nil es))
 
-the_events : (r : Reading) (t : Tracker) (l : List ℕ) (es past latest : List Event) (earlier : List Stretch) (o : Option Stretch)
+the_events : (r : Reading) (t : Tracking) (l : List ℕ) (es past latest : List Event) (earlier : List Stretch) (o : Option Stretch)
     → TrackerStandsFor t l earlier o → AreEventsOfStretches r.system l earlier past → LatestStandsFor r l o latest → es ≡ past ++ latest
     → AreEvents r.system (profile_of t) l es
 the_events r (AtCell a) l es past latest earlier None is past_are latest_are all = absurd is

@@ -20,7 +20,7 @@ use Rattle.direction_reader.specs.Candidate.{AreEventsOf}
 use Rattle.direction_reader.specs.Events.{no_events, one_event}
 use Rattle.direction_reader.specs.ListEvents.{duration, number_of, window_at, windows, AreEvents, AreEventsOfWindows}
 use Rattle.direction_reader.specs.Played.{Played, AreSpelled, bits_of_words, events_of_words, in_time, low_bits, played_bits}
-use Rattle.direction_reader.proofs.ChainIsAStretch.{Falls, whole, whole_is}
+use Rattle.direction_reader.proofs.ChainIsAStretch.{AreAsSaid, whole, whole_is}
 use Rattle.direction_reader.proofs.SyncInTime.{WordLaws, Starts, led, lead_backward, lead_forward, length-low_bits, no_other_way}
 use Rattle.direction_reader.proofs.SyncInTime.{no_way_forward, number-low_bits, plays, quiet_backward, quiet_forward, starts_with, window_bits}
 use Rattle.direction_reader.proofs.WindowsGrow.{duration-append}
@@ -231,11 +231,11 @@ windows_are_read laws system cells (w ∷ more) are spelled =
 
 -- ---- all events
 
-pub words_are_read : WordLaws → Falls → (system : System) (profile : Profile) (cells : List Cell) (words : List Played) → IsChain profile cells
+pub words_are_read : WordLaws → AreAsSaid → (system : System) (profile : Profile) (cells : List Cell) (words : List Played) → IsChain profile cells
     → bits cells ≡ false ∷ true ∷ bits_of_words words → AreSpelled system words
     → AreEvents system profile (flat cells) (events_of_words (duration (take 2 cells)) (drop 2 cells) words)
-words_are_read laws falls system profile cells words chain are spelled =
+words_are_read laws said system profile cells words chain are spelled =
     let events = events_of_words (duration (take 2 cells)) (drop 2 cells) words in
-    let stretches = whole_is falls profile cells (bits_of_words words) chain are in
+    let stretches = whole_is said profile cells (bits_of_words words) chain are in
     let own = windows_are_read laws system cells words are spelled in
     (whole cells ∷ [], stretches, (events, [], (events, own, sym (append-nil events)), refl, sym (append-nil events)))

@@ -4,6 +4,7 @@ pub mod Boundaries
 pub mod Brings
 pub mod Candidate
 pub mod Events
+pub mod Hissy
 pub mod HoldsBits
 pub mod Invariants
 pub mod LatestBits
@@ -15,4 +16,5 @@ pub mod Reader
 pub mod StandsFor
 pub mod Tape
 pub mod Tracker
+pub mod Tracking
 pub mod Window

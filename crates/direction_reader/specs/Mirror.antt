@@ -3,6 +3,7 @@ use Rattle.std.specs.Prelude.{◌≡◌, ℕ, ◌+◌, ◌-◌, List, ◌++◌, 
 use Rattle.std.specs.List.{AllZip}
 use Rattle.biphase.specs.declared.cell.Cell.{Cell}
 use Rattle.biphase.specs.declared.profile.Profile.{Profile}
+use Rattle.biphase.specs.Tolerance.{LooksAtLast}
 use Rattle.biphase.specs.Chain.{flat}
 use Rattle.biphase.specs.Mirror.{mirrored}
 use Rattle.cell_tracker.specs.Kept.{IsPiece, cells_from}
@@ -58,10 +59,11 @@ pub record TellMirrored (system : System) (intervals : List ℕ) (first last : �
       (reverse (map (mirror_window (sum intervals)) (windows (sum (take first intervals)) between))) theirs
   pub same : AllZip (IsMirrorOf (sum intervals)) mine (reverse theirs)
 
--- the events of a recording and of its mirror, both within the tolerance, are so between the greater intervals of the first and of the last
--- unequal pair
+-- where a cell is compared with the one before it alone, the events of a recording and of its mirror, both within the tolerance, are so between
+-- the greater intervals of the first and of the last unequal pair
 abbrev pub MirrorsTheTape : System → Profile → List ℕ → List Event → List Event → Type 0
-MirrorsTheTape system profile intervals events mirrored_events = (tape other : List Cell) (cut place first last : ℕ)
+MirrorsTheTape system profile intervals events mirrored_events = LooksAtLast profile → (tape other : List Cell)
+    (cut place first last : ℕ)
     → IsPiece profile intervals tape cut → IsPiece profile (reverse intervals) other place
     → IsLock profile intervals 0 first → IsLock profile (reverse intervals) 0 last
     → TellMirrored system intervals first last (cells_from tape cut intervals first)

@@ -1,7 +1,7 @@
 -- What a reader counts, and what it keeps of the stretch that is open.
 use Rattle.std.specs.Prelude.{◌≡◌, ℕ, ◌+◌}
 use Rattle.tc_address.specs.declared.system.System.{System}
-use Rattle.direction_reader.specs.declared.tracker.Tracker.{Tracker}
+use Rattle.direction_reader.specs.Tracking.{Tracking}
 use Rattle.direction_reader.specs.LatestCells.{Cells}
 use Rattle.direction_reader.specs.Tracker.{profile_of}
 
@@ -10,7 +10,7 @@ pub record Reading : Type 0 where
   pub system : System
   pub intervals : ℕ
   pub tick : ℕ
-  pub tracker : Tracker
+  pub tracker : Tracking
   pub cells : Cells
 
 -- a reader takes one interval more

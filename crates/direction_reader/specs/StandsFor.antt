@@ -12,16 +12,16 @@ use Rattle.direction_reader.specs.declared.event.Events.{Events}
 use Rattle.direction_reader.specs.Events.{no_events, one_event}
 use Rattle.direction_reader.specs.declared.latest_bits.LatestBits.{LatestBits}
 use Rattle.direction_reader.specs.declared.latest_bits.LatestBits.TheVariants as newest
-use Rattle.direction_reader.specs.declared.tracker.Tracker.{Tracker}
-use Rattle.direction_reader.specs.declared.tracker.Tracker.TheVariants.{AtCell, MidCell, Hunting}
-use Rattle.direction_reader.specs.declared.tracker.Step.{Step}
-use Rattle.direction_reader.specs.declared.tracker.Step.TheVariants.{Nothing, FirstZero, ZeroBefore, Break}
+use Rattle.direction_reader.specs.Tracking.{Tracking}
+use Rattle.direction_reader.specs.Tracking.{AtCell, MidCell, Hunting}
+use Rattle.direction_reader.specs.declared.state.Step.{Step}
+use Rattle.direction_reader.specs.declared.state.Step.TheVariants.{Nothing, FirstZero, ZeroBefore, Break}
 use Rattle.direction_reader.specs.LatestCells.{Cells, AreWindowEvents}
 use Rattle.direction_reader.specs.ListEvents.{duration, number_of, begin_of, windows, AreEventsOfWindows, AreEventsOfStretches}
 use Rattle.direction_reader.specs.Reader.{Reading}
 
 -- the tracker stands for the intervals: of their stretches some are broken, and one may be open
-abbrev pub TrackerStandsFor : Tracker → List ℕ → List Stretch → Option Stretch → Type 0
+abbrev pub TrackerStandsFor : Tracking → List ℕ → List Stretch → Option Stretch → Type 0
 TrackerStandsFor (AtCell a) intervals earlier (Some stretch) = AtCellStandsFor a intervals earlier stretch
 TrackerStandsFor (AtCell a) intervals earlier None = ⊥
 TrackerStandsFor (MidCell m) intervals earlier (Some stretch) = MidCellStandsFor m intervals earlier stretch
@@ -49,13 +49,13 @@ pub record CellsStandFor (kept : Cells) (tick : ℕ) (cells : List Cell) : Type 
   pub boundaries_are : kept.boundaries ≡ ticks (tick + duration older) newest
 
 -- a cell ended with the latest interval
-abbrev pub IsAtCell : Tracker → Type 0
+abbrev pub IsAtCell : Tracking → Type 0
 IsAtCell (AtCell a) = Unit {0}
 IsAtCell (MidCell m) = ⊥
 IsAtCell (Hunting h) = ⊥
 
 -- the half that waits behind the last cell
-abbrev pub waiting : Tracker → ℕ
+abbrev pub waiting : Tracking → ℕ
 waiting (AtCell a) = 0
 waiting (MidCell m) = m.half
 waiting (Hunting h) = 0
@@ -71,7 +71,7 @@ MayBreak intervals None stretch =
     (first : ℕ) × IsLastZero intervals first × (stretch ≡ begun (length intervals - 1) first)
 
 -- what a step of the tracker means for the stretches of the intervals with x at their end
-abbrev pub StandsAfter : Tracker → Tracker → ℕ → List ℕ → List Stretch → Option Stretch → Step → Type 0
+abbrev pub StandsAfter : Tracking → Tracking → ℕ → List ℕ → List Stretch → Option Stretch → Step → Type 0
 StandsAfter old next x intervals earlier open_yet Nothing =
     TrackerStandsFor next (intervals ++ x ∷ []) earlier open_yet × (IsSome open_yet → waiting next ≡ waiting old + x)
 StandsAfter old next x intervals earlier open_yet FirstZero = (open_yet ≡ None) × (waiting next ≡ 0)

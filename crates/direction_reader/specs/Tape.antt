@@ -2,6 +2,7 @@
 use Rattle.std.specs.Prelude.{◌≡◌, ℕ, ◌+◌, ◌<◌, ◌≤◌, List, [], ◌++◌, length, take, sum, count_by, All}
 use Rattle.biphase.specs.declared.cell.Cell.{Cell}
 use Rattle.biphase.specs.declared.profile.Profile.{Profile}
+use Rattle.biphase.specs.Tolerance.{LooksAtLast}
 use Rattle.cell_tracker.specs.FoundAgain.{IsSecondLock}
 use Rattle.cell_tracker.specs.Kept.{IsPiece, IsKept, cells_from}
 use Rattle.cell_tracker.specs.Lock.{IsLock, HasNoLock}
@@ -47,9 +48,9 @@ pub record TellFrom (system : System) (intervals : List ℕ) (from : ℕ) (cells
   pub no_other_word : 80 ≤ length cells → All (EndsBefore (sum (take from intervals) + duration (take 80 cells))) past
   pub no_other_break : All (BreaksBy from) past
 
--- the events find the tape again, whatever stands before it: where the recording ends in a piece of the tape, they are from the greater interval
--- of the piece's second unequal pair on those of the tape's windows, and nothing else
+-- where a cell is compared with the one before it alone, the events find the tape again, whatever stands before it: where the recording ends in
+-- a piece of the tape, they are from the greater interval of the piece's second unequal pair on those of the tape's windows, and nothing else
 abbrev pub FindsTheTape : System → Profile → List ℕ → List Event → Type 0
-FindsTheTape system profile intervals events = (before kept : List ℕ) (tape : List Cell) (cut second : ℕ) → intervals ≡ before ++ kept
+FindsTheTape system profile intervals events = LooksAtLast profile → (before kept : List ℕ) (tape : List Cell) (cut second : ℕ) → intervals ≡ before ++ kept
     → IsPiece profile kept tape cut → IsSecondLock profile kept second
     → TellFrom system intervals (length before + second) (cells_from tape cut kept second) events

@@ -3,7 +3,7 @@ ghost use Rattle.std.specs.Prelude.{◌≡◌, ℕ, ◌*◌, ◌^◌, ◌<◌, �
 ghost use Rattle.biphase.specs.declared.cell.Cell.{Cell};
 ghost use Rattle.biphase.specs.Chain.{bits, flat, IsChain};
 ghost use Rattle.biphase.specs.declared.profile.Profile.{Profile};
-ghost use Rattle.biphase.specs.declared.profile.Profile.TheVariants.{Normal};
+ghost use Rattle.biphase.specs.declared.profile.Profile.TheVariants.{Normal, Worn, Rough};
 ghost use Rattle.cell_tracker.specs.Recording.{recording};
 ghost use Rattle.direction_reader.specs.declared.boundaries.TheConstants.{BOUNDARIES};
 ghost use Rattle.direction_reader.specs.declared.event.Event.{Event};
@@ -14,6 +14,7 @@ ghost use Rattle.direction_reader.specs.declared.window.TheConstants.{WINDOW_BIT
 ghost use Rattle.direction_reader.specs.Brings.{greatest_cell};
 ghost use Rattle.direction_reader.specs.Candidate.{AreEventsOf};
 ghost use Rattle.direction_reader.specs.Events.{tick_of};
+ghost use Rattle.direction_reader.specs.Hissy.{hissy_cells};
 ghost use Rattle.direction_reader.specs.Mirror.{MirrorsTheTape};
 ghost use Rattle.direction_reader.specs.ListEvents.{duration, AreEvents};
 ghost use Rattle.direction_reader.specs.Played.{Played, AreSpelled, bits_of_words, events_of_words};
@@ -28,15 +29,16 @@ ghost use Rattle.tc_address.specs.declared.system.System.{System};
 ghost use Rattle.tc_address.specs.declared.system.System.TheVariants.{F25};
 ghost use Rattle.tc_bits.specs.declared.fault.FieldFault.TheVariants.{FrameUnits};
 
-use biphase::laws::kinds_tell_zeros_from_halves;
+use biphase::laws::kinds_are_as_the_cells_say;
 use cell_tracker::laws::{
     a_list_has_one_list_of_stretches, a_mirrored_recording_has_the_mirrored_cells,
     a_recording_is_found_again_behind_anything, a_recording_within_the_tolerance_is_one_stretch,
     small_recordings_have_these_stretches, stretches_go_on,
 };
 use ltc_word::laws::{
-    bits_in_sync_spell_a_word_or_have_a_fault, reversed_twice_is_the_same, spelling_is_exact,
-    twelve_ones_are_the_sync_word, words_of_round_labels,
+    bits_in_sync_spell_a_word_or_have_a_fault, each_word_has_its_spelling,
+    reversed_twice_is_the_same, spelling_is_exact, twelve_ones_are_the_sync_word,
+    words_of_round_labels,
 };
 
 /// A reader takes a thousand million intervals, a window has 80 bits and 81 boundaries, and its
@@ -120,7 +122,7 @@ pub fn events_tell_the_tape()
     a_recording_within_the_tolerance_is_one_stretch();
 }
 
-/// Resynchronisation: whatever stands before a recording within the tolerance, from the greater
+/// Resynchronisation, where a cell is compared with the one before it alone: whatever stands before a recording within the tolerance, from the greater
 /// interval of its second unequal pair on the events are those of the tape's own windows.
 pub fn events_find_the_tape_again()
     ensures { (system : System) (profile : Profile) (intervals : List ℕ) (events : List Event)
@@ -130,7 +132,7 @@ pub fn events_find_the_tape_again()
     a_recording_is_found_again_behind_anything();
 }
 
-/// Mirror: the events of a recording and of its intervals in the other order of time, both within
+/// Mirror, for the same tolerances: the events of a recording and of its intervals in the other order of time, both within
 /// the tolerance, are the same words between the greater intervals of the first and of the last
 /// unequal pair, each met from its other end.
 pub fn events_mirror_the_tape()
@@ -193,7 +195,22 @@ pub fn played_words_are_read()
         → IsChain profile cells → bits cells ≡ false ∷ true ∷ bits_of_words words → AreSpelled system words
         → AreEvents system profile (flat cells) (events_of_words (duration (take 2 cells)) (drop 2 cells) words) }
 {
-    kinds_tell_zeros_from_halves();
+    kinds_are_as_the_cells_say();
     reversed_twice_is_the_same();
     twelve_ones_are_the_sync_word();
+}
+
+/// A word in cells of 90 and 112 ticks, which take turns, keeps the rough tolerance and neither other,
+/// and is read by it.
+pub fn a_hissy_word_is_read_by_the_rough_tolerance_alone()
+    ensures rough { IsChain Rough hissy_cells }
+    ensures normal { ¬ IsChain Normal hissy_cells }
+    ensures worn { ¬ IsChain Worn hissy_cells }
+    ensures events { AreEvents F25 Rough (flat hissy_cells)
+        (Word Forward (word_with C25 0 0 0 0 (flags false false false false false) 0 true) 8282 8080 ∷ []) }
+{
+    words_of_round_labels();
+    each_word_has_its_spelling();
+    spelling_is_exact();
+    played_words_are_read();
 }

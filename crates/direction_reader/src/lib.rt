@@ -13,17 +13,17 @@
 //!   the events of its front come first (`laws`).
 //! - `DirectionReader` stands for the intervals that it was fed and for their events
 //!   (`specs/StandsFor.antt`). `feed`, and `step` with `events` after it, give exactly those that are
-//!   new, under either tolerance (clause `stands`). Nearly every interval brings nothing, and then
+//!   new, under each tolerance (clause `stands`). Nearly every interval brings nothing, and then
 //!   `step` is enough.
-//! - The events tell a tape within the tolerance, find it again behind damage (`specs/Tape.antt`), and
-//!   mirror it in the other order of time (`specs/Mirror.antt`): clauses `truth`, `damage` and `mirror`
-//!   of `feed`.
+//! - The events tell a tape within the tolerance (`specs/Tape.antt`). Where the tolerance looks at the
+//!   last cell alone, they find it again behind damage (`specs/Tape.antt`), and mirror it in the other
+//!   order of time (`specs/Mirror.antt`): clauses `truth`, `damage` and `mirror` of `feed`.
 //! - A window holds the latest of the bits that it was given (`specs/HoldsBits.antt`).
 //! - `window_events` gives the candidates of one window, the forward one first
 //!   (`specs/Candidate.antt`).
 //! - The numbers of an event are in the ranges of `specs/Brings.antt`.
 //!
-//! Read `reader`, `tracker`, `latest_cells`, `latest_bits`, `window`, `boundaries`, `brought`,
+//! Read `reader`, `tracker`, `state`, `latest_cells`, `latest_bits`, `window`, `boundaries`, `brought`,
 //! `candidates` and `event`, in this order: the way of an interval. `specs/Invariants.antt` is what
 //! the code keeps. `tc_files` prints the events. Nothing here allocates.
 #![tactic(auto)]
@@ -36,6 +36,7 @@ mod latest_bits;
 mod latest_cells;
 pub mod laws;
 mod reader;
+mod state;
 mod tracker;
 mod window;
 

@@ -12,14 +12,15 @@ ghost use Rattle.direction_reader.specs.Reader.{Takes};
 ghost use Rattle.direction_reader.specs.StandsFor.{StandsFor, Tells, MayTell};
 ghost use Rattle.direction_reader.specs.Tape.{TellsTheTape, FindsTheTape};
 ghost use Rattle.direction_reader.specs.Tracker.{profile_of};
+ghost use Rattle.direction_reader.specs.Tracking.{searching};
 
 use crate::brought::Brought;
 use crate::event::{Event, Events};
 use crate::latest_cells::LatestCells;
 use crate::laws::a_reader_tells_the_tape;
-use crate::tracker::{Step, Tracker};
+use crate::state::Step;
+use crate::tracker::Tracker;
 use biphase::{MAX_INTERVAL, Profile};
-use cell_tracker::Hunting;
 use std::marker::Model;
 use tc_address::System;
 
@@ -60,7 +61,7 @@ impl DirectionReader {
           system = system;
           intervals = 0;
           tick = 0;
-          tracker = Tracker.Hunting (record { profile = profile; before = None });
+          tracker = searching profile;
           cells = no_cells 0;
         } }
         ensures stands { StandsFor result [] [] }
@@ -69,7 +70,7 @@ impl DirectionReader {
             system,
             intervals: 0,
             tick: 0,
-            tracker: Tracker::Hunting(Hunting::new(profile)),
+            tracker: Tracker::new(profile),
             cells: LatestCells::new(),
         }
     }
@@ -174,10 +175,13 @@ impl DirectionReader {
     {
         match brought {
             Brought::Nothing => Events::none(),
-            Brought::Candidate => match self.tracker {
-                Tracker::AtCell(_) => self.cells.events(self.system, self.tick),
-                Tracker::MidCell(_) | Tracker::Hunting(_) => Events::none(),
-            },
+            Brought::Candidate => {
+                if self.tracker.is_at_cell() {
+                    self.cells.events(self.system, self.tick)
+                } else {
+                    Events::none()
+                }
+            }
             Brought::Break => Events::one(Event::Lost {
                 interval: self.intervals - 1,
                 tick: self.tick,

@@ -106,3 +106,22 @@ fn a_word_behind_one_zero_is_read_from_its_first_bit(rt: HostRuntime) {
     };
     assert_eq!(rt; only_event(&mut reader, &[5]), Some(lost));
 }
+
+#[test]
+fn a_rough_stretch_breaks_behind_the_latest_four(rt: HostRuntime) {
+    for (intervals, interval, tick) in [
+        ([100, 100, 50, 50, 100, 50, 50, 74], 7, 574),
+        ([100, 50, 50, 125, 125, 125, 125, 157], 7, 857),
+    ] {
+        let mut reader = DirectionReader::new(System::F25, Profile::Rough);
+        let lost = Event::Lost { interval, tick };
+        assert_eq!(rt; only_event(&mut reader, &intervals), Some(lost));
+    }
+    for intervals in [
+        [100, 100, 50, 50, 100, 50, 50, 75],
+        [100, 50, 50, 125, 125, 125, 125, 156],
+    ] {
+        let mut reader = DirectionReader::new(System::F25, Profile::Rough);
+        assert_eq!(rt; only_event(&mut reader, &intervals), None);
+    }
+}

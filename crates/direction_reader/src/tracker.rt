@@ -1,38 +1,46 @@
-//! Where the tracker stands, and what an interval does to it. Next: the states of `cell_tracker`, and
-//! with what they answer `latest_cells`.
-ghost use Rattle.std.specs.Prelude.{◌≡◌, ◌≤◌, ℕ, List, Option};
+//! Where the tracker stands, and what an interval does to it. Next: `state`.
+ghost use Rattle.std.specs.Prelude.{◌≡◌, ◌≤◌, ◌↔◌, ℕ, List, [], Option, None, IsTrue};
 ghost use Rattle.cell_tracker.specs.Stretch.{Stretch};
 ghost use Rattle.biphase.specs.declared.cell.TheConstants.{MAX_INTERVAL};
-ghost use Rattle.direction_reader.specs.StandsFor.{TrackerStandsFor, StandsAfter};
+ghost use Rattle.direction_reader.specs.StandsFor.{TrackerStandsFor, StandsAfter, IsAtCell};
 ghost use Rattle.direction_reader.specs.Tracker.{profile_of, Steps};
+ghost use Rattle.direction_reader.specs.Tracking.{searching};
 
-use biphase::MAX_INTERVAL;
-use cell_tracker::{AtCell, FromAtCell, FromHunting, FromMidCell, Hunting, MidCell};
+use crate::state::{State, Step};
+use biphase::{LatestFour, MAX_INTERVAL, Profile};
+use cell_tracker::Hunting;
+use std::marker::Model;
 
-/// A state of the tracker. Most intervals find it at the end of a cell.
-#[derive(Clone, Copy, Debug, PartialEq, Eq)]
-pub enum Tracker {
-    AtCell(AtCell),
-    MidCell(MidCell),
-    Hunting(Hunting),
+/// The tracker: a state, and beside it the lengths of the latest four cells of its stretch. They stand
+/// in one place, so that no state carries them.
+#[derive(Drop)]
+pub struct Tracker {
+    state: State,
+    four: LatestFour,
 }
 
-/// What an interval brought to the stretch.
-#[derive(Clone, Copy, Debug, PartialEq, Eq)]
-pub enum Step {
-    /// No cell ended.
-    Nothing,
-    /// The interval is the first zero of a stretch.
-    FirstZero,
-    /// The interval before, of this length in ticks, is the first zero of a stretch.
-    ZeroBefore(u32),
-    /// A cell of this bit ended with the interval.
-    Cell(bool),
-    /// The stretch broke at the interval.
-    Break,
+impl Model for Tracker {
+    ghost use Rattle.direction_reader.specs.Tracking.{Tracking, tracking_with, StateFits};
+
+    ghost Value = { Tracking };
+
+    ghost view = { λ t. tracking_with t.state t.four };
+
+    ghost invariant = { λ t. StateFits t.state t.four };
 }
 
 impl Tracker {
+    /// A search that begins.
+    pub fn new(profile: Profile) -> Tracker
+        ensures value { result ≡ searching profile }
+        ensures stands { TrackerStandsFor result [] [] None }
+    {
+        Tracker {
+            state: State::Hunting(Hunting::new(profile)),
+            four: LatestFour::new(),
+        }
+    }
+
     /// Takes an interval, of `x` ticks.
     #[inline(always)]
     pub fn step(&mut self, x: u32) -> Step
@@ -44,49 +52,16 @@ impl Tracker {
             → TrackerStandsFor self.old intervals earlier open_yet
             → StandsAfter self.old self.new x intervals earlier open_yet result }
     {
-        match self {
-            Tracker::AtCell(at_cell) => match at_cell.feed(x) {
-                FromAtCell::Zero(next) => {
-                    *at_cell = next;
-                    Step::Cell(false)
-                }
-                FromAtCell::Half(mid_cell) => {
-                    *self = Tracker::MidCell(mid_cell);
-                    Step::Nothing
-                }
-                FromAtCell::Broken(hunting) => {
-                    *self = Tracker::Hunting(hunting);
-                    Step::Break
-                }
-            },
-            Tracker::MidCell(mid_cell) => match mid_cell.feed(x) {
-                FromMidCell::One(at_cell, _, _) => {
-                    *self = Tracker::AtCell(at_cell);
-                    Step::Cell(true)
-                }
-                FromMidCell::Broken(hunting) => {
-                    *self = Tracker::Hunting(hunting);
-                    Step::Break
-                }
-            },
-            Tracker::Hunting(hunting) => match hunting.feed(x) {
-                FromHunting::Hunt(next) => {
-                    *hunting = next;
-                    Step::Nothing
-                }
-                FromHunting::StartAt(at_cell) => {
-                    *self = Tracker::AtCell(at_cell);
-                    Step::FirstZero
-                }
-                FromHunting::StartMid(mid_cell, zero) => {
-                    *self = Tracker::MidCell(mid_cell);
-                    Step::ZeroBefore(zero)
-                }
-                FromHunting::StartBroken(next, _) => {
-                    *hunting = next;
-                    Step::Break
-                }
-            },
+        self.state.step(&mut self.four, x)
+    }
+
+    /// Whether a cell ended with the latest interval.
+    pub fn is_at_cell(&self) -> bool
+        ensures { IsTrue result ↔ IsAtCell self.now }
+    {
+        match self.state {
+            State::AtCell(_) => true,
+            State::MidCell(_) | State::Hunting(_) => false,
         }
     }
 }

@@ -9,7 +9,7 @@ use Rattle.tc_words.specs.ChaseRun.{Chasing}
 use Rattle.tc_words.specs.Jam.{Jamming}
 use Rattle.tc_words.specs.Slicing.{Slices}
 use Rattle.tc_words.specs.declared.job.Job.{Job}
-use Rattle.tc_words.specs.declared.job.Job.TheVariants.{LtcRead, LtcWorn, LtcFly, LtcMtc, LtcJam, LtcChase, LtcConvert, LtcPcm}
+use Rattle.tc_words.specs.declared.job.Job.TheVariants.{LtcRead, LtcWorn, LtcRough, LtcFly, LtcMtc, LtcJam, LtcChase, LtcConvert, LtcPcm}
 use Rattle.tc_command.specs.Command.{IsCommand}
 use Rattle.tc_command.specs.KeptText.{text_is_command}
 use Rattle.tc_command.specs.Meaning.{Meaning}
@@ -68,6 +68,7 @@ by_shape laws along_line_file brings = laws.fields
 brings : CommandLaws → (job : Job) → Brings (shape_of job)
 brings laws LtcRead = (laws.report _, λ header intervals spent. spent)
 brings laws LtcWorn = (laws.report _, λ header intervals spent. spent)
+brings laws LtcRough = (laws.report _, λ header intervals spent. spent)
 brings laws (LtcConvert version) = (laws.conversion version, λ header intervals spent. spent)
 brings laws (LtcPcm size) = (laws.sound size, λ header intervals spent. spent)
 brings laws (LtcFly limit) = laws.lines

@@ -2,7 +2,7 @@
 -- of a file that is made or converted, or of a load run has written the same bytes.
 use Rattle.std.proofs.Common.{◌≡◌, ℕ, List, ◌++◌, Some, sym, ◌∙◌, ap, ap₂, subst}
 use Rattle.biphase.specs.declared.profile.Profile.{Profile}
-use Rattle.biphase.specs.declared.profile.Profile.TheVariants.{Normal, Worn}
+use Rattle.biphase.specs.declared.profile.Profile.TheVariants.{Normal, Worn, Rough}
 use Rattle.direction_reader.specs.declared.event.Event.{Event}
 use Rattle.direction_reader.specs.ListEvents.{AreEvents}
 use Rattle.flywheel.specs.declared.frame.Frame.{Frame}
@@ -15,7 +15,7 @@ use Rattle.tc_files.specs.Recording.{Recording, recording_of}
 use Rattle.tc_words.specs.ChaseRun.{Chasing}
 use Rattle.tc_words.specs.Jam.{Jamming}
 use Rattle.tc_words.specs.declared.job.Job.{Job}
-use Rattle.tc_words.specs.declared.job.Job.TheVariants.{LtcRead, LtcWorn, LtcFly, LtcMtc, LtcJam, LtcChase, MtcRead, LtcMake, LtcLoad}
+use Rattle.tc_words.specs.declared.job.Job.TheVariants.{LtcRead, LtcWorn, LtcRough, LtcFly, LtcMtc, LtcJam, LtcChase, MtcRead, LtcMake, LtcLoad}
 use Rattle.tc_words.specs.declared.job.Job.TheVariants.{LtcConvert, PcmLtc, LtcPcm, VitcRead, VitcMake, Number, LabelOf}
 use Rattle.frame_commands.specs.declared.ltc_chase.TheConstants.{MAX_FRAMES}
 use Rattle.tc_top.specs.CleanCopy.{IsClean}
@@ -86,6 +86,9 @@ one_text laws LtcRead pulled e f is x y p q =
 one_text laws LtcWorn pulled e f is x y p q =
     one_report laws Worn pulled e.written f.written (subst (λ (l : List ℕ). ReportsTheTape Worn l e.written) x p)
     (subst (λ (l : List ℕ). ReportsTheTape Worn l f.written) y q)
+one_text laws LtcRough pulled e f is x y p q =
+    one_report laws Rough pulled e.written f.written (subst (λ (l : List ℕ). ReportsTheTape Rough l e.written) x p)
+    (subst (λ (l : List ℕ). ReportsTheTape Rough l f.written) y q)
 one_text laws (LtcFly limit) pulled e f is x y p q =
     one_flight laws limit pulled e.written f.written (subst (λ (l : List ℕ). ShowsTheFrames limit l e.written) x p)
     (subst (λ (l : List ℕ). ShowsTheFrames limit l f.written) y q)

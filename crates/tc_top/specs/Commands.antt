@@ -1,9 +1,9 @@
 -- The shape of each job, and the meaning of a shape: what it takes and what it writes.
 use Rattle.std.specs.Prelude.{ℕ, List, Option, Some, None}
-use Rattle.biphase.specs.declared.profile.Profile.TheVariants.{Normal, Worn}
+use Rattle.biphase.specs.declared.profile.Profile.TheVariants.{Normal, Worn, Rough}
 use Rattle.tc_address.specs.Numbering.{number_of}
 use Rattle.tc_words.specs.declared.job.Job.{Job}
-use Rattle.tc_words.specs.declared.job.Job.TheVariants.{LtcRead, LtcWorn, LtcFly, LtcMtc, LtcJam, LtcChase, MtcRead, Number, LabelOf, LtcMake}
+use Rattle.tc_words.specs.declared.job.Job.TheVariants.{LtcRead, LtcWorn, LtcRough, LtcFly, LtcMtc, LtcJam, LtcChase, MtcRead, Number, LabelOf, LtcMake}
 use Rattle.tc_words.specs.declared.job.Job.TheVariants.{LtcConvert, PcmLtc, LtcPcm, LtcLoad, VitcRead, VitcMake}
 use Rattle.tc_words.specs.Slicing.{Slices}
 use Rattle.tc_command.specs.Meaning.{Meaning, writes}
@@ -51,6 +51,7 @@ meaning_by along_line_file = along_fields
 abbrev pub shape_of : Job → Shape
 shape_of LtcRead = along_recording (report Normal)
 shape_of LtcWorn = along_recording (report Worn)
+shape_of LtcRough = along_recording (report Rough)
 shape_of (LtcFly limit) = along_its_frames limit lines_of_frames
 shape_of (LtcMtc limit) = along_its_frames limit messages_of_frames
 shape_of (LtcJam jam) = along_its_frames jam.limit (file_of_frames jam)

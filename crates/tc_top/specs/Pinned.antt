@@ -1,10 +1,11 @@
 -- The commands whose promise names one text: it can be kept by no other bytes.
 use Rattle.tc_words.specs.declared.job.Job.{Job}
-use Rattle.tc_words.specs.declared.job.Job.TheVariants.{LtcRead, LtcWorn, LtcFly, LtcJam, LtcChase, LtcMake, LtcLoad, LtcConvert, VitcMake}
+use Rattle.tc_words.specs.declared.job.Job.TheVariants.{LtcRead, LtcWorn, LtcRough, LtcFly, LtcJam, LtcChase, LtcMake, LtcLoad, LtcConvert, VitcMake}
 
 abbrev pub IsPinned : Job → Type 0
 IsPinned LtcRead = Unit {0}
 IsPinned LtcWorn = Unit {0}
+IsPinned LtcRough = Unit {0}
 IsPinned (LtcFly limit) = Unit {0}
 IsPinned (LtcJam jam) = Unit {0}
 IsPinned (LtcChase run) = Unit {0}

@@ -1,10 +1,10 @@
 -- What each command promises of a run that came to its end, of the bytes that were pulled and those that were written. A
 -- row a command.
-use Rattle.biphase.specs.declared.profile.Profile.TheVariants.{Normal, Worn}
+use Rattle.biphase.specs.declared.profile.Profile.TheVariants.{Normal, Worn, Rough}
 use Rattle.tc_files.specs.Grammar.{AreBytes}
 use Rattle.tc_files.specs.Recording.{recording_of}
 use Rattle.tc_words.specs.declared.job.Job.{Job}
-use Rattle.tc_words.specs.declared.job.Job.TheVariants.{LtcRead, LtcWorn, LtcFly, LtcMtc, LtcJam, LtcChase, MtcRead}
+use Rattle.tc_words.specs.declared.job.Job.TheVariants.{LtcRead, LtcWorn, LtcRough, LtcFly, LtcMtc, LtcJam, LtcChase, MtcRead}
 use Rattle.tc_words.specs.declared.job.Job.TheVariants.{LtcMake, LtcLoad, LtcConvert, PcmLtc, LtcPcm, VitcRead}
 use Rattle.tc_words.specs.declared.job.Job.TheVariants.{VitcMake, Number, LabelOf}
 use Rattle.tc_top.specs.CleanCopy.{IsClean}
@@ -26,6 +26,7 @@ use Rattle.tc_top.specs.Tape.{ReportsTheTape}
 abbrev pub Promise : Job → Exchange → Type 0
 Promise LtcRead e = ReportsTheTape Normal e.pulled e.written
 Promise LtcWorn e = ReportsTheTape Worn e.pulled e.written
+Promise LtcRough e = ReportsTheTape Rough e.pulled e.written
 Promise (LtcFly limit) e = ShowsTheFrames limit e.pulled e.written
 Promise (LtcMtc limit) e = SendsTheFrames limit e.pulled e.written
 Promise (LtcJam jam) e = IsClean jam (recording_of e.pulled) e.written

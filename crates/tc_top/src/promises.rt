@@ -24,7 +24,7 @@ pub(crate) fn a_promise_is_kept(job: &Job)
     ensures { KeepsItsPromise job.now }
 {
     match job {
-        Job::LtcRead | Job::LtcWorn => reports_the_tape(),
+        Job::LtcRead | Job::LtcWorn | Job::LtcRough => reports_the_tape(),
         Job::LtcFly { .. } => shows_the_frames(),
         Job::LtcMtc { .. } => sends_the_frames(),
         Job::LtcJam { jam } => is_clean(jam),
@@ -46,6 +46,7 @@ pub(crate) fn a_promise_is_kept(job: &Job)
 fn reports_the_tape()
     ensures normal { KeepsItsPromise Job.LtcRead }
     ensures worn { KeepsItsPromise Job.LtcWorn }
+    ensures rough { KeepsItsPromise Job.LtcRough }
 {
     events_tell_the_tape();
     events_find_the_tape_again();

@@ -78,6 +78,7 @@ fn work_on<S: Source, K: Sink>(job: &Job, source: &mut S, out: &mut K) -> Result
     match job {
         Job::LtcRead => read_recording(Profile::Normal, source, out),
         Job::LtcWorn => read_recording(Profile::Worn, source, out),
+        Job::LtcRough => read_recording(Profile::Rough, source, out),
         Job::LtcFly { limit } => fly_along(*limit, source, out),
         Job::LtcMtc { limit } => send_time_code(*limit, source, out),
         Job::LtcJam { jam } => jam_sync(*jam, source, out),

@@ -112,6 +112,7 @@ abbrev pub job_of : Word → List Word → Answer
 job_of command values =
     if bytes_eq command commands.LTC_READ.now then no_values jobs.LtcRead values
     else if bytes_eq command commands.LTC_WORN.now then no_values jobs.LtcWorn values
+    else if bytes_eq command commands.LTC_ROUGH.now then no_values jobs.LtcRough values
     else if bytes_eq command commands.LTC_FLY.now then ltc_fly values
     else if bytes_eq command commands.LTC_MTC.now then ltc_mtc values
     else if bytes_eq command commands.LTC_JAM.now then ltc_jam values

@@ -10,6 +10,9 @@ pub const LTC_READ: &str = "ltc-read";
 /// The word of `Job::LtcWorn`.
 pub const LTC_WORN: &str = "ltc-worn";
 
+/// The word of `Job::LtcRough`.
+pub const LTC_ROUGH: &str = "ltc-rough";
+
 /// The word of `Job::LtcFly`.
 pub const LTC_FLY: &str = "ltc-fly";
 

@@ -26,6 +26,8 @@ pub enum Job {
     LtcRead,
     /// `ltc-worn`: the same under the tolerance of worn recordings.
     LtcWorn,
+    /// `ltc-rough`: the same under the tolerance of hissy and dull recordings.
+    LtcRough,
     /// `ltc-fly LIMIT`: reads an interval file, and writes a line for each frame of its words, with at
     /// most so many invented frames in a row.
     LtcFly { limit: u8 },

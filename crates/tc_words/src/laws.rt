@@ -11,6 +11,7 @@ pub fn each_command_has_its_word()
     ensures chase { commands.CHASE.now ≡ codes "chase" }
     ensures ltc_read { commands.LTC_READ.now ≡ codes "ltc-read" }
     ensures ltc_worn { commands.LTC_WORN.now ≡ codes "ltc-worn" }
+    ensures ltc_rough { commands.LTC_ROUGH.now ≡ codes "ltc-rough" }
     ensures ltc_fly { commands.LTC_FLY.now ≡ codes "ltc-fly" }
     ensures ltc_mtc { commands.LTC_MTC.now ≡ codes "ltc-mtc" }
     ensures ltc_jam { commands.LTC_JAM.now ≡ codes "ltc-jam" }

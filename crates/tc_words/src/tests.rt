@@ -24,6 +24,7 @@ fn the_first_fault_is_told(rt: HostRuntime) -> Result<(), Fail> {
         ("ltc-red", WordsFault::Command),
         ("ltc-read x", WordsFault::CountOfWords),
         ("ltc-worn 25", WordsFault::CountOfWords),
+        ("ltc-rough 25", WordsFault::CountOfWords),
         ("ltc-fly", WordsFault::CountOfWords),
         ("ltc-fly 256", WordsFault::Value(1)),
         ("ltc-fly two", WordsFault::Value(1)),
@@ -157,7 +158,7 @@ fn label_text(task: &Task) -> Option<[u8; 11]> {
 
 fn label_text_of(job: &Job) -> Option<[u8; 11]> {
     match job {
-        Job::LtcRead | Job::LtcWorn | Job::LtcFly { .. } | Job::LtcConvert { .. } => None,
+        Job::LtcRead | Job::LtcWorn | Job::LtcRough | Job::LtcFly { .. } | Job::LtcConvert { .. } => None,
         Job::PcmLtc { .. } | Job::LtcPcm { .. } => None,
         Job::LtcJam { .. } | Job::VitcRead => None,
         Job::LtcChase { run } => Some(text(&run.label())),
@@ -246,6 +247,8 @@ fn jobs_are_read(rt: HostRuntime) -> Result<(), Fail> {
     assert_eq!(rt; read_words(alloc, &words), Ok(Task::Stream(Job::LtcRead)));
     let words = typed(alloc, "ltc-worn")?;
     assert_eq!(rt; read_words(alloc, &words), Ok(Task::Stream(Job::LtcWorn)));
+    let words = typed(alloc, "ltc-rough")?;
+    assert_eq!(rt; read_words(alloc, &words), Ok(Task::Stream(Job::LtcRough)));
     let words = typed(alloc, "mtc-read")?;
     assert_eq!(rt; read_words(alloc, &words), Ok(Task::Stream(Job::MtcRead)));
     for (line, job) in [

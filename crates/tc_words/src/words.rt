@@ -87,6 +87,7 @@ fn job_of(command: &str, values: &[&str]) -> Result<Job, WordsFault>
     match command {
         commands::LTC_READ => no_values(values, Job::LtcRead),
         commands::LTC_WORN => no_values(values, Job::LtcWorn),
+        commands::LTC_ROUGH => no_values(values, Job::LtcRough),
         commands::LTC_FLY => ltc_fly(values),
         commands::LTC_MTC => ltc_mtc(values),
         commands::LTC_JAM => ltc_jam(values),

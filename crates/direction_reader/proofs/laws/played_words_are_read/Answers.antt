@@ -10,4 +10,4 @@ returns c =
       width = c.reversed_twice_is_the_same.ensures.width;
       twice = c.reversed_twice_is_the_same.ensures.twice;
     } in
-    words_are_read laws c.kinds_tell_zeros_from_halves.ensures.falling
+    words_are_read laws c.kinds_are_as_the_cells_say.ensures

@@ -6,6 +6,9 @@ returns-in-LtcRead-clause-stops g c = rw c.in-LtcRead.is c.read_recording.ensure
 pub returns-in-LtcWorn-clause-stops : goal.returns-in-LtcWorn-clause-stops
 returns-in-LtcWorn-clause-stops g c = rw c.in-LtcWorn.is c.read_recording-in-LtcWorn.ensures.stops
 
+pub returns-in-LtcRough-clause-stops : goal.returns-in-LtcRough-clause-stops
+returns-in-LtcRough-clause-stops g c = rw c.in-LtcRough.is c.read_recording-in-LtcRough.ensures.stops
+
 pub returns-in-LtcJam-clause-stops : goal.returns-in-LtcJam-clause-stops
 returns-in-LtcJam-clause-stops g c = rw c.in-LtcJam.is c.jam_sync.ensures.stops
 

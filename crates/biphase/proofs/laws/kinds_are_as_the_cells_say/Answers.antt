@@ -1,0 +1,5 @@
+use Rattle.biphase.specs.Kinds.{chain_kinds}
+use Rattle.biphase.proofs.laws.kinds_are_as_the_cells_say.Goals as goal
+
+pub returns : goal.returns
+returns c = chain_kinds

@@ -1,0 +1,9 @@
+-- The lengths of the latest cells of a stretch, in ticks.
+use Rattle.std.specs.Prelude.{ℕ}
+
+-- the last one first. Where a tolerance compares with the last cell alone, the others are zeros
+pub record Latest : Type 0 where
+  pub last : ℕ
+  pub second : ℕ
+  pub third : ℕ
+  pub fourth : ℕ

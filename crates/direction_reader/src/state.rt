@@ -1,0 +1,95 @@
+//! The states of the tracker, and what an interval does to each. Next: the states of `cell_tracker`, and
+//! with what they answer `latest_cells`.
+ghost use Rattle.std.specs.Prelude.{◌≡◌, ◌≤◌, ℕ, List, Option};
+ghost use Rattle.cell_tracker.specs.Stretch.{Stretch};
+ghost use Rattle.biphase.specs.declared.cell.TheConstants.{MAX_INTERVAL};
+ghost use Rattle.direction_reader.specs.StandsFor.{TrackerStandsFor, StandsAfter};
+ghost use Rattle.direction_reader.specs.Tracker.{profile_of, Steps};
+ghost use Rattle.direction_reader.specs.Tracking.{tracking_with, StateFits};
+
+use biphase::{LatestFour, MAX_INTERVAL};
+use cell_tracker::{AtCell, FromAtCell, FromHunting, FromMidCell, Hunting, MidCell};
+
+/// A state of the tracker. Most intervals find it at the end of a cell.
+#[derive(Clone, Copy, Debug, PartialEq, Eq)]
+pub enum State {
+    AtCell(AtCell),
+    MidCell(MidCell),
+    Hunting(Hunting),
+}
+
+/// What an interval brought to the stretch.
+#[derive(Clone, Copy, Debug, PartialEq, Eq)]
+pub enum Step {
+    /// No cell ended.
+    Nothing,
+    /// The interval is the first zero of a stretch.
+    FirstZero,
+    /// The interval before, of this length in ticks, is the first zero of a stretch.
+    ZeroBefore(u32),
+    /// A cell of this bit ended with the interval.
+    Cell(bool),
+    /// The stretch broke at the interval.
+    Break,
+}
+
+impl State {
+    /// Takes an interval, of `x` ticks, with the latest four lengths beside this state.
+    #[inline(always)]
+    pub fn step(&mut self, four: &mut LatestFour, x: u32) -> Step
+        requires least { 1 ≤ x }
+        requires most { x ≤ MAX_INTERVAL }
+        requires fits { StateFits self.old four.old }
+        ensures fits { StateFits self.new four.new }
+        ensures steps { Steps (tracking_with self.old four.old) x (tracking_with self.new four.new) result }
+        ensures profile { profile_of (tracking_with self.new four.new) ≡ profile_of (tracking_with self.old four.old) }
+        ensures stands { (intervals : List ℕ) (earlier : List Stretch) (open_yet : Option Stretch)
+            → TrackerStandsFor (tracking_with self.old four.old) intervals earlier open_yet
+            → StandsAfter (tracking_with self.old four.old) (tracking_with self.new four.new) x intervals earlier open_yet result }
+    {
+        match self {
+            State::AtCell(at_cell) => match at_cell.feed(four, x) {
+                FromAtCell::Zero(next) => {
+                    *at_cell = next;
+                    Step::Cell(false)
+                }
+                FromAtCell::Half(mid_cell) => {
+                    *self = State::MidCell(mid_cell);
+                    Step::Nothing
+                }
+                FromAtCell::Broken(hunting) => {
+                    *self = State::Hunting(hunting);
+                    Step::Break
+                }
+            },
+            State::MidCell(mid_cell) => match mid_cell.feed(four, x) {
+                FromMidCell::One(at_cell, _, _) => {
+                    *self = State::AtCell(at_cell);
+                    Step::Cell(true)
+                }
+                FromMidCell::Broken(hunting) => {
+                    *self = State::Hunting(hunting);
+                    Step::Break
+                }
+            },
+            State::Hunting(hunting) => match hunting.feed(four, x) {
+                FromHunting::Hunt(next) => {
+                    *hunting = next;
+                    Step::Nothing
+                }
+                FromHunting::StartAt(at_cell) => {
+                    *self = State::AtCell(at_cell);
+                    Step::FirstZero
+                }
+                FromHunting::StartMid(mid_cell, zero) => {
+                    *self = State::MidCell(mid_cell);
+                    Step::ZeroBefore(zero)
+                }
+                FromHunting::StartBroken(next, _) => {
+                    *hunting = next;
+                    Step::Break
+                }
+            },
+        }
+    }
+}
