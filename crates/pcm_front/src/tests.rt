@@ -18,13 +18,13 @@ impl Model for Tape {
 
     ghost view = { λ t. t.samples };
 
-    ghost invariant = { λ t. (t.slicer.fineness ≤ 64) × (t.slicer.tick ≤ 64 * t.samples) };
+    ghost invariant = { λ t. (t.slicer.finder.fineness ≤ 64) × (t.slicer.finder.tick ≤ 64 * t.samples) };
 }
 
 impl Tape {
     fn new(slicer: Slicer) -> Tape
-        requires new { slicer.tick ≡ 0 }
-        requires fineness { slicer.fineness ≤ 64 }
+        requires new { slicer.finder.tick ≡ 0 }
+        requires fineness { slicer.finder.fineness ≤ 64 }
     {
         Tape { slicer, samples: 0 }
     }
