@@ -53,6 +53,7 @@ impl<'a> Samples for Bytes<'a> {
     }
 
     fn at(&self, place: usize) -> i16 {
-        LittleEndian::read_i16(&self.bytes[2 * place..])
+        let behind = &self.bytes[place..];
+        LittleEndian::read_i16(&behind[place..])
     }
 }

@@ -123,6 +123,39 @@ fn a_threshold_follows_the_level(rt: HostRuntime) {
 }
 
 #[test]
+fn sums_of_samples_are_sliced(rt: HostRuntime) {
+    // Sums of two bring 54 first, and sums of four 71. From the first crossing on, there is no first.
+    let sums = Slicer::from_the_start(16, Threshold::Follow(300), 3);
+    let mut tape = Tape::new(sums);
+    for (sample, brings) in [
+        (-900, None),
+        (-900, None),
+        (-900, None),
+        (900, None),
+        (900, Some(62)),
+        (900, None),
+        (-900, None),
+        (-900, Some(49)),
+        (-900, None),
+        (900, None),
+    ] {
+        assert_eq!(rt; tape.sample(sample), brings, "at {sample}");
+    }
+}
+
+#[test]
+fn samples_are_taken_up_to_a_distance(rt: HostRuntime) {
+    let samples = [-900, -900, -900, 900, 900, 900];
+    let mut slicer = Slicer::from_the_start(16, Threshold::Deep(1), 1);
+    assert_eq!(rt; slicer.run_samples(&samples), (1, None));
+    assert_eq!(rt; slicer.run_samples(&samples[1..]), (3, Some(42)));
+    let bytes = [0x7c, 0xfc, 0x7c, 0xfc, 0x7c, 0xfc, 0x84, 0x03, 0x84];
+    let mut slicer = Slicer::from_the_start(16, Threshold::Deep(1), 1);
+    assert_eq!(rt; slicer.run(&bytes), (2, None));
+    assert_eq!(rt; slicer.run(&bytes[2..]), (6, Some(42)));
+}
+
+#[test]
 fn long_distances_come_in_pieces(rt: HostRuntime) {
     for (distance, whole, rest) in [
         (1, 0, 1),

@@ -79,6 +79,7 @@ impl Window {
     pub(crate) fn sum_with(&self, sample: i16) -> i32
         ensures value { result ≡ total (self.now.kept ++ sample ∷ []) }
         ensures size { IsSum result }
+        ensures some { 1 ≤ self.now.smooth }
     {
         summed(self.sum, sample)
     }
