@@ -1,0 +1,11 @@
+-- What more bytes may change of what bytes say of a sound file: nothing that is shown.
+use Rattle.std.specs.Prelude.{◌≡◌, ◌⊎◌, ℤ, List, ◌++◌, None}
+use Rattle.wave_file.specs.declared.fault.WaveFault.{WaveFault}
+use Rattle.wave_file.specs.Wave.{Reading, refused, past_limit}
+
+-- a format that is there stays, and so do a fault and the limit; and the samples come first
+pub record GoesOn (front whole : Reading) : Type 0 where
+  pub format : (front.format ≡ None) ⊎ (whole.format ≡ front.format)
+  pub samples : (more : List ℤ) × (whole.samples ≡ front.samples ++ more)
+  pub fault : (f : WaveFault) → front.verdict ≡ refused f → whole.verdict ≡ refused f
+  pub limit : front.verdict ≡ past_limit → whole.verdict ≡ past_limit
