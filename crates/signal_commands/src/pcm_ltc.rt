@@ -117,7 +117,7 @@ fn within(bytes: &[u8], samples: u64) -> &[u8]
 }
 
 /// Spells the intervals of a distance.
-fn spell<K: Sink>(gathered: &mut Gathered, distance: u64, out: &mut K) -> Result<(), Stop>
+pub(crate) fn spell<K: Sink>(gathered: &mut Gathered, distance: u64, out: &mut K) -> Result<(), Stop>
     requires least { 1 ≤ distance }
     requires most { distance ≤ 2 ^ 62 }
     ensures all { OnOk result ((more : List ℕ) × Appends (K.written out.old) (K.written out.new) more
