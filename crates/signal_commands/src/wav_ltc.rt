@@ -23,7 +23,7 @@ use tc_files::{FileFault, FileVersion, IntervalHeader, interval_header};
 use tc_io::{Sink, Source};
 use tc_words::WaveSlicing;
 use wave_file::laws::{
-    no_more_samples_than_the_limit_are_read, what_a_sound_file_shows_stays,
+    samples_are_few_and_behind_a_format, what_a_sound_file_shows_stays,
 };
 use wave_file::{Taken, WaveDecoder, WaveFormat};
 
@@ -89,7 +89,7 @@ impl SlicedTrack {
         ensures cause { HasOutCause (K.faults out.old) (K.faults out.new) result }
         ensures no_pull { result ≡ Err Stop.ReadFault → ⊥ }
     {
-        no_more_samples_than_the_limit_are_read();
+        samples_are_few_and_behind_a_format();
         let (count, samples) = self.decoder.samples(bytes, &mut self.room);
         let _told = self.decoder.format();
         let slicer = &mut self.slicer;
@@ -111,7 +111,7 @@ impl SlicedTrack {
         ensures cause { HasOutCause (K.faults out.old) (K.faults out.new) result }
         ensures no_pull { result ≡ Err Stop.ReadFault → ⊥ }
     {
-        no_more_samples_than_the_limit_are_read();
+        samples_are_few_and_behind_a_format();
         let taken = self.decoder.take(bytes);
         let _told = self.decoder.format();
         match taken {

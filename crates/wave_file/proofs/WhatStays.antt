@@ -21,7 +21,7 @@ use Rattle.wave_file.specs.declared.format.WaveFormat.{WaveFormat}
 use Rattle.wave_file.specs.declared.stage.TheConstants.{MAX_BYTES, MAX_SAMPLES}
 use Rattle.wave_file.specs.Chunk.{chunk_of, form_of, no_notes}
 use Rattle.wave_file.specs.Format.{format_in, sample_in, samples_at}
-use Rattle.wave_file.specs.GoesOn.{GoesOn}
+use Rattle.wave_file.specs.GoesOn.{GoesOn, IsWithin}
 use Rattle.wave_file.specs.Wave.{Reading, Verdict, good, refused, past_limit, and_more, bad, behind_form, blocks_inside, bytes_inside, chunk_at, chunks_at}
 use Rattle.wave_file.specs.Wave.{data_at, file_at, format_at, judged_width, padded, piece, reading_of, sizes_at, taken, unfinished, wave_at}
 
@@ -216,31 +216,33 @@ reading_goes_on track bytes more = go (cases_lt MAX_BYTES (length bytes)) (cases
         rw (over bytes much, over (bytes ++ more) many, cut) (same_goes_on _)
     go (inl much) (inr fewer) = let all = length-append bytes more in absurd (omega (arith, much, fewer, all))
 
--- ---- how many samples
+-- ---- how many samples, and behind which format
 
 length-samples : (format : WaveFormat) (track count : ℕ) (bytes : List ℕ) → length (samples_at format track count bytes) ≡ count
 unfolding samples_at
 length-samples format track zero bytes = refl
 length-samples format track (suc count) bytes = let rest = length-samples format track count (drop format.block bytes) in omega (arith, rest)
 
--- no more samples than the limit
-abbrev IsFew : Reading → Type 0
-IsFew r = length r.samples ≤ MAX_SAMPLES
+few_unfinished : IsWithin unfinished
+few_unfinished = record { few = omega arith; none = λ e. refl; ends = λ e. refl }
 
-few_in_piece : (width : ℕ) (brings : List ℕ → List ℕ → Reading) (bytes : List ℕ) → ((body rest : List ℕ) → IsFew (brings body rest))
-    → IsFew (piece width brings bytes)
+few_bad : (f : WaveFault) → IsWithin (bad f)
+few_bad f = record { few = omega arith; none = λ e. refl; ends = λ e. refl }
+
+few_in_piece : (width : ℕ) (brings : List ℕ → List ℕ → Reading) (bytes : List ℕ) → ((body rest : List ℕ) → IsWithin (brings body rest))
+    → IsWithin (piece width brings bytes)
 few_in_piece width brings bytes few = by_test (nat_le width (length bytes))
   where
-    by_test : (b : Bool) → IsFew (if b then brings (take width bytes) (drop width bytes) else unfinished)
+    by_test : (b : Bool) → IsWithin (if b then brings (take width bytes) (drop width bytes) else unfinished)
     by_test true = few (take width bytes) (drop width bytes)
-    by_test false = omega arith
+    by_test false = few_unfinished
 
-few_taken : {A : Type 0} (r : Result A WaveFault) (next : A → Reading) → ((value : A) → IsFew (next value)) → IsFew (taken r next)
+few_taken : {A : Type 0} (r : Result A WaveFault) (next : A → Reading) → ((value : A) → IsWithin (next value)) → IsWithin (taken r next)
 few_taken (Ok value) next few = few value
-few_taken (Err f) next few = omega arith
+few_taken (Err f) next few = few_bad f
 
 few_in_chunk : (track : ℕ) (notes : Notes) (place : ℕ) (chunk : Chunk) (next : ℕ → Notes → Reading) (bytes : List ℕ)
-    → ((size : ℕ) (n : Notes) → IsFew (next size n)) → IsFew (chunk_at track notes place chunk next bytes)
+    → ((size : ℕ) (n : Notes) → IsWithin (next size n)) → IsWithin (chunk_at track notes place chunk next bytes)
 few_in_chunk track notes place (chunk.Format size) next bytes behind =
     few_in_piece (judged_width size) (λ body rest. format_brings track notes place (next size) body) bytes
     (λ body rest. few_taken (format_in track place body) (λ format. next size (record notes { format = Some format }))
@@ -248,10 +250,11 @@ few_in_chunk track notes place (chunk.Format size) next bytes behind =
 few_in_chunk track notes place (chunk.Sizes size) next bytes behind =
     few_in_piece 16 (λ body rest. sizes_bring notes (next size) body) bytes (λ body rest. behind size (record notes { data_size = Some (little_number 8 (drop 8 body)) }))
 few_in_chunk track notes place (chunk.Data format extent) next bytes behind =
-    let count = length-samples format track (min MAX_SAMPLES (blocks_inside format extent bytes)) bytes in omega (arith, count)
+    let count = length-samples format track (min MAX_SAMPLES (blocks_inside format extent bytes)) bytes in
+    record { few = omega (arith, count); none = λ e. absurd cc; ends = λ e. absurd cc }
 few_in_chunk track notes place (chunk.Other size) next bytes behind = behind size notes
 
-few_in_chunks : (track skip : ℕ) (notes : Notes) (place : ℕ) (bytes : List ℕ) → IsFew (chunks_at track skip notes place bytes)
+few_in_chunks : (track skip : ℕ) (notes : Notes) (place : ℕ) (bytes : List ℕ) → IsWithin (chunks_at track skip notes place bytes)
 unfolding chunks_at
 few_in_chunks track (suc skip) notes place (byte ∷ bytes) = few_in_chunks track skip notes (place + 1) bytes
 few_in_chunks track zero notes place (a ∷ b ∷ c ∷ d ∷ e ∷ f ∷ g ∷ h ∷ bytes) =
@@ -259,27 +262,28 @@ few_in_chunks track zero notes place (a ∷ b ∷ c ∷ d ∷ e ∷ f ∷ g ∷ 
     few_taken (chunk_of notes place (big_number 4 (a ∷ b ∷ c ∷ d ∷ [])) (little_number 4 (e ∷ f ∷ g ∷ h ∷ [])))
     (λ chunk. chunk_at track notes (place + 8) chunk next bytes)
     (λ chunk. few_in_chunk track notes (place + 8) chunk next bytes (λ size n. few_in_chunks track (padded size) n (place + 8) bytes))
-few_in_chunks track skip notes place bytes = omega arith
+few_in_chunks track skip notes place bytes = few_unfinished
 
-few_in_file : (track : ℕ) (bytes : List ℕ) → IsFew (file_at track bytes)
+few_in_file : (track : ℕ) (bytes : List ℕ) → IsWithin (file_at track bytes)
 few_in_file track bytes =
     few_in_piece 4 (λ letters rest. behind_form track (form_of (big_number 4 letters)) rest) bytes (λ letters rest. by_form (form_of (big_number 4 letters)) rest)
   where
-    by_letters : (b is_long : Bool) (rest : List ℕ) → IsFew (if b then chunks_at track 0 (no_notes is_long) 12 rest else bad (fault.Wave 8))
+    by_letters : (b is_long : Bool) (rest : List ℕ) → IsWithin (if b then chunks_at track 0 (no_notes is_long) 12 rest else bad (fault.Wave 8))
     by_letters true is_long rest = few_in_chunks track 0 (no_notes is_long) 12 rest
-    by_letters false is_long rest = omega arith
+    by_letters false is_long rest = few_bad (fault.Wave 8)
 
-    by_form : (form : Option Bool) (rest : List ℕ) → IsFew (behind_form track form rest)
-    by_form None rest = omega arith
+    by_form : (form : Option Bool) (rest : List ℕ) → IsWithin (behind_form track form rest)
+    by_form None rest = few_bad (fault.Riff 0)
     by_form (Some is_long) rest =
         let brings = λ (wave rest : List ℕ). if big_number 4 (drop 4 wave) == WAVE then chunks_at track 0 (no_notes is_long) 12 rest
         else bad (fault.Wave 8) in
         few_in_piece 8 brings rest (λ wave rest. by_letters (big_number 4 (drop 4 wave) == WAVE) is_long rest)
 
-pub few_samples : (track : ℕ) (bytes : List ℕ) → IsFew (reading_of track bytes)
+pub few_samples : (track : ℕ) (bytes : List ℕ) → IsWithin (reading_of track bytes)
 few_samples track bytes = by_test (nat_le (length bytes) MAX_BYTES)
   where
-    by_test : (b : Bool) → IsFew (if b then file_at track bytes
+    by_test : (b : Bool) → IsWithin (if b then file_at track bytes
         else let r = file_at track (take MAX_BYTES bytes) in record r { verdict = and_more r.verdict; may_end = false })
     by_test true = few_in_file track bytes
-    by_test false = few_in_file track (take MAX_BYTES bytes)
+    by_test false =
+        let within = few_in_file track (take MAX_BYTES bytes) in record { few = within.few; none = within.none; ends = λ e. refl }

@@ -1,10 +1,10 @@
 //! The numbers that code and definitions share, as the standards give them; and what follows from the
 //! definitions alone.
-ghost use Rattle.std.specs.Prelude.{◌≡◌, ◌≤◌, ◌^◌, ℕ, ℤ, List, [], ◌∷◌, ◌++◌, length};
+ghost use Rattle.std.specs.Prelude.{◌≡◌, ◌^◌, ℕ, ℤ, List, [], ◌∷◌, ◌++◌};
 ghost use Rattle.byteorder.specs.Endian.{big_number};
 ghost use Rattle.wave_file.specs.declared.chunk.TheConstants as chunk;
 ghost use Rattle.wave_file.specs.declared.stage.TheConstants.{MAX_BYTES, MAX_SAMPLES};
-ghost use Rattle.wave_file.specs.GoesOn.{GoesOn};
+ghost use Rattle.wave_file.specs.GoesOn.{GoesOn, IsWithin};
 ghost use Rattle.wave_file.specs.StandsFor.{Decoding, StandsFor, IsDecoding, IsTold, format_in_decoding};
 ghost use Rattle.wave_file.specs.Wave.{good, reading_of};
 
@@ -38,7 +38,8 @@ pub fn what_a_sound_file_shows_stays()
     ensures { (track : ℕ) (bytes more : List ℕ) → GoesOn (reading_of track bytes) (reading_of track (bytes ++ more)) }
 {}
 
-/// Whatever the bytes, no more samples are read than the limit.
-pub fn no_more_samples_than_the_limit_are_read()
-    ensures { (track : ℕ) (bytes : List ℕ) → length (reading_of track bytes).samples ≤ MAX_SAMPLES }
+/// Whatever the bytes, no more samples are read than the limit, and before a format there are none, and the
+/// input may not end.
+pub fn samples_are_few_and_behind_a_format()
+    ensures { (track : ℕ) (bytes : List ℕ) → IsWithin (reading_of track bytes) }
 {}
