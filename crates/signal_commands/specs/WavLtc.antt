@@ -31,6 +31,12 @@ track_file w (Some format) samples = file_of (track_header w format) (intervals_
 abbrev pub track_of : SlicesWave → List ℕ → List ℕ
 track_of w bytes = track_file w (reading_of w.track bytes).format (reading_of w.track bytes).samples
 
+-- what was written is the file of the distances of the track's samples, whose first one runs from tick 0
+pub record SlicesTheTrack (w : SlicesWave) (bytes written : List ℕ) : Type 0 where
+  pub format : WaveFormat
+  pub begins : (reading_of w.track bytes).format ≡ Some format
+  pub are : written ≡ file_of (track_header w format) (intervals_by (track_settings w) (reading_of w.track bytes).samples)
+
 -- what the bytes of a sound file show, in the terms of every command
 abbrev pub verdict_of : Verdict → verdict.Verdict
 verdict_of good = verdict.good

@@ -14,6 +14,7 @@
 pub mod laws;
 mod mtc_read;
 mod pcm_ltc;
+mod spelling;
 mod vitc_read;
 mod wav_ltc;
 

@@ -15,7 +15,7 @@ ghost use Rattle.signal_commands.specs.KeptTrack.{AreDue, IsGoing, Stands};
 ghost use Rattle.signal_commands.specs.WavLtc.{along_sound_file, track_header};
 ghost use Rattle.tc_files.specs.IntervalHeader.{header_bytes};
 
-use crate::pcm_ltc::spell;
+use crate::spelling::spell;
 use pcm_front::Slicer;
 use pcm_front::laws::distances_of_a_front_come_first;
 use tc_command::{Engine, Gathered, Stop, work};
