@@ -1,8 +1,10 @@
 -- The moments of some samples stay where samples follow, and the later ones stand behind them; so do their distances.
 use Rattle.std.proofs.Common.{◌≡◌, ℕ, ◌-◌, cond, ℤ, List, [], ◌∷◌, ◌++◌, length, refl, ap, sym, ◌∙◌, append_assoc, append-nil}
+use Rattle.pcm_front.specs.declared.start.Start.{Start}
+use Rattle.pcm_front.specs.declared.start.Start.TheVariants.{Crossing, Tick}
 use Rattle.pcm_front.specs.declared.threshold.Threshold.{Threshold}
 use Rattle.pcm_front.specs.Crossing.{is_crossing, moment, moments}
-use Rattle.pcm_front.specs.Distance.{gaps, gaps_after, distances}
+use Rattle.pcm_front.specs.Distance.{gaps, gaps_after, distances_since}
 use Rattle.pcm_front.proofs.OneMore.{moments-more}
 
 moments-stay : (f : ℕ) (threshold : Threshold) (xs more : List ℤ) →
@@ -27,9 +29,14 @@ gaps-stay : (ms more : List ℕ) → (rest : List ℕ) × (gaps (ms ++ more) ≡
 gaps-stay [] more = (gaps more, refl)
 gaps-stay (x ∷ ms) more = gaps_after-stay x ms more
 
-pub distances-stay : (f : ℕ) (threshold : Threshold) (xs more : List ℤ) →
-    (rest : List ℕ) × (distances f threshold (xs ++ more) ≡ distances f threshold xs ++ rest)
-distances-stay f threshold xs more =
+-- the distances, where the first one begins there
+pub distances-stay : (start : Start) (f : ℕ) (threshold : Threshold) (xs more : List ℤ) →
+    (rest : List ℕ) × (distances_since start f threshold (xs ++ more) ≡ distances_since start f threshold xs ++ rest)
+distances-stay Crossing f threshold xs more =
     let later = moments-stay f threshold xs more in
     let ds = gaps-stay (moments f threshold xs) later.0 in
     (ds.0, ap gaps later.1 ∙ ds.1)
+distances-stay Tick f threshold xs more =
+    let later = moments-stay f threshold xs more in
+    let ds = gaps_after-stay 0 (moments f threshold xs) later.0 in
+    (ds.0, ap (gaps_after 0) later.1 ∙ ds.1)

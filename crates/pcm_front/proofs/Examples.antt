@@ -1,13 +1,22 @@
 -- Samples that were sliced by hand, as theorems on the definition.
 use Rattle.std.proofs.Common.{◌≡◌, ℤ, pos, neg_ℤ, [], ◌∷◌, ◌++◌, replicate, refl}
 use Rattle.pcm_front.specs.declared.threshold.Threshold.TheVariants.{Fixed, Follow, Deep}
-use Rattle.pcm_front.specs.Distance.{distances, pieces_of}
+use Rattle.pcm_front.specs.Distance.{distances, distances_by, pieces_of}
+use Rattle.pcm_front.specs.Level.{level_of}
+use Rattle.pcm_front.specs.Settings.{from_crossing, from_start}
+use Rattle.pcm_front.specs.Sums.{sums, total}
 
 high : ℤ
 high = pos 2_000
 
 low : ℤ
 low = neg_ℤ (pos 2_000)
+
+above : ℤ
+above = pos 900
+
+below : ℤ
+below = neg_ℤ (pos 900)
 
 -- a run of 24 samples and two of 12, between two more runs
 three_runs : distances 1 (Fixed 1_000)
@@ -28,6 +37,36 @@ rounded_up = refl
 -- the thresholds are 4080, 4074, 4068 and 5536: the second sample lies on no side, and is above the threshold of the third
 followed : distances 16 (Follow 1) (neg_ℤ (pos 32_768) ∷ pos 4_073 ∷ pos 4_080 ∷ neg_ℤ (pos 20_000) ∷ []) ≡ 22 ∷ []
 followed = refl
+
+-- at a third of the height it would be 22
+at_a_half : distances 16 (Follow 1) (neg_ℤ (pos 32_768) ∷ pos 4_067 ∷ pos 4_080 ∷ neg_ℤ (pos 20_000) ∷ []) ≡ 21 ∷ []
+at_a_half = refl
+
+-- the sum of a thousand sizes, of which a 1024th goes at each: with a 512th it would be 439745
+sum_of_a_thousand : (level_of (replicate 1_000 (pos 1_000))).sum ≡ 638_859
+sum_of_a_thousand = refl
+
+-- the peak has the height at once, and then falls by a 1024th, rounded up
+peak_falls : (level_of (pos 4_000 ∷ replicate 100 (pos 0))).peak ≡ 900
+peak_falls = refl
+
+-- sums of three, where zeros stand before the first
+sums_of_three : sums 3 (pos 1 ∷ pos 10 ∷ pos 100 ∷ pos 1_000 ∷ neg_ℤ (pos 10_000) ∷ [])
+    ≡ pos 1 ∷ pos 11 ∷ pos 111 ∷ pos 1_110 ∷ neg_ℤ (pos 8_900) ∷ []
+unfolding total
+sums_of_three = refl
+
+-- three and three samples of 900 below and above zero, in sums of three: the first crossing is at tick 62
+summed : distances_by (from_start 16 (Follow 300) 3)
+    (replicate 3 below ++ (replicate 3 above ++ (replicate 3 below ++ above ∷ []))) ≡ 62 ∷ 49 ∷ []
+unfolding total above below
+summed = refl
+
+-- where the first distance begins at the first crossing, it is not among them
+summed_from_crossing : distances_by (from_crossing 16 (Follow 300) 3)
+    (replicate 3 below ++ (replicate 3 above ++ (replicate 3 below ++ above ∷ []))) ≡ 49 ∷ []
+unfolding total above below
+summed_from_crossing = refl
 
 -- a quarter of 8184 less 33 is 2037, and of 8176 less 35 it is 2035
 deep : distances 16 (Deep 1) (neg_ℤ (pos 32_768) ∷ pos 2_037 ∷ neg_ℤ (pos 2_035) ∷ []) ≡ 16 ∷ []

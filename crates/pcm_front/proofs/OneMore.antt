@@ -62,7 +62,7 @@ same_in_range p q f g a (suc n) tests values =
     ∙ rw (tests a (omega arith), values a (omega arith), more) refl
     ∙ sym (map_cond g (q a) a (filter q (range_with_len (a + 1) n)))
 
-range_with_len-more : (a n : ℕ) → range_with_len a (suc n) ≡ range_with_len a n ++ (a + n) ∷ []
+pub range_with_len-more : (a n : ℕ) → range_with_len a (suc n) ≡ range_with_len a n ++ (a + n) ∷ []
 range_with_len-more a zero = ap (λ k. k ∷ []) (sym (add-zero a))
 range_with_len-more a (suc n) =
     let same : (a + 1) + n ≡ a + suc n = omega arith in
@@ -91,7 +91,7 @@ pub last_or-more : (o : Option ℕ) (ms : List ℕ) (m : ℕ) → last_or o (ms 
 last_or-more o [] m = refl
 last_or-more o (x ∷ ms) m = last_or-more (Some x) ms m
 
-gaps_after-more : (x : ℕ) (ms : List ℕ) (m : ℕ) →
+pub gaps_after-more : (x : ℕ) (ms : List ℕ) (m : ℕ) →
     gaps_after x (ms ++ m ∷ []) ≡ gaps_after x ms ++ option_to_list (between (last_or (Some x) ms) (Some m))
 gaps_after-more x [] m = refl
 gaps_after-more x (y ∷ ms) m = ap (λ more. (y - x) ∷ more) (gaps_after-more y ms m)

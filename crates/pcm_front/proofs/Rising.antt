@@ -5,11 +5,15 @@ use Rattle.std.specs.List.{filter, range_with_len, All}
 use Rattle.std.proofs.lemmas.List.Elements.{All-cons}
 use Rattle.pcm_front.specs.declared.side.Side.{Side}
 use Rattle.pcm_front.specs.declared.side.Side.TheVariants.{High, Low}
+use Rattle.pcm_front.specs.declared.start.Start.{Start}
+use Rattle.pcm_front.specs.declared.start.Start.TheVariants.{Crossing, Tick}
 use Rattle.pcm_front.specs.declared.threshold.Threshold.{Threshold}
 use Rattle.pcm_front.specs.Level.{threshold_at}
 use Rattle.pcm_front.specs.Side.{sample_at, side_at, side_after, differs}
 use Rattle.pcm_front.specs.Crossing.{is_crossing, crossings, tick_at, moment, moments}
-use Rattle.pcm_front.specs.Distance.{gaps, gaps_after, distances}
+use Rattle.pcm_front.specs.Distance.{gaps, gaps_after, distances, distances_by, distances_since}
+use Rattle.pcm_front.specs.Settings.{Settings}
+use Rattle.pcm_front.specs.Sums.{sums}
 use Rattle.pcm_front.proofs.Rounding.{tick_to-within}
 
 -- places from a on, each greater than the one before, that pass the test
@@ -78,6 +82,26 @@ gaps-some f threshold xs (i ∷ is) some rising = gaps_after-some f threshold xs
 -- no distance is 0: moments rise
 pub distances-some : (f : ℕ) (threshold : Threshold) (xs : List ℤ) → 1 ≤ f → All (λ d. 1 ≤ d) (distances f threshold xs)
 distances-some f threshold xs some = gaps-some f threshold xs (crossings threshold xs) some (crossings-rise threshold xs)
+
+-- nor is that of the first crossing from tick 0
+from_start-by : (f : ℕ) (threshold : Threshold) (xs : List ℤ) (is : List ℕ) → 1 ≤ f → AreRising (is_crossing threshold xs) 0 is →
+    All (λ d. 1 ≤ d) (gaps_after 0 (map (moment f threshold xs) is))
+from_start-by f threshold xs [] some rising = λ k d h. absurd (omega arith)
+from_start-by f threshold xs (i ∷ is) some rising =
+    let tick = tick_at-within f threshold xs i some rising.1 in
+    All-cons (λ d. 1 ≤ d) (moment f threshold xs i - 0) (gaps_after (moment f threshold xs i) (map (moment f threshold xs) is))
+    (omega (arith, tick.0)) (gaps_after-some f threshold xs i is some rising.1 rising.2)
+
+since-some : (start : Start) (f : ℕ) (threshold : Threshold) (xs : List ℤ) → 1 ≤ f → All (λ d. 1 ≤ d) (distances_since start f threshold xs)
+since-some Crossing f threshold xs some = distances-some f threshold xs some
+since-some Tick f threshold xs some = from_start-by f threshold xs (crossings threshold xs) some (crossings-rise threshold xs)
+
+pub sliced-some : (s : Settings) (xs : List ℤ) → 1 ≤ s.fineness → All (λ d. 1 ≤ d) (distances_by s xs)
+sliced-some s xs some = since-some s.start s.fineness s.threshold (sums s.smooth xs) some
+
+-- the distances from tick 0 are the first moment, and then those from moment to moment
+pub from_start-is : (ms : List ℕ) (first : ℕ) (more : List ℕ) → ms ≡ first ∷ more → gaps_after 0 ms ≡ first ∷ gaps ms
+from_start-is ms first more are = rw are (ap₂ (λ d ds. d ∷ ds) (omega arith) refl)
 
 -- with one tick a sample, the moment of a crossing is its place
 pub moment-whole : (threshold : Threshold) (xs : List ℤ) (i : ℕ) → is_crossing threshold xs i ≡ true → moment 1 threshold xs i ≡ i

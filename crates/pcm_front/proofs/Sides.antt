@@ -12,7 +12,8 @@ differs_none (Some Low) = refl
 
 -- the side is the same
 pub stays_there : (before now : Option Side) → stays before now ≡ true → option_or now before ≡ before
-stays_there None now is = absurd (cc)
+stays_there None None is = refl
+stays_there None (Some now) is = absurd (cc)
 stays_there (Some before) None is = refl
 stays_there (Some High) (Some High) is = refl
 stays_there (Some High) (Some Low) is = absurd (cc)
@@ -21,7 +22,8 @@ stays_there (Some Low) (Some Low) is = refl
 
 -- and there is no crossing
 pub stays_apart : (before now : Option Side) → stays before now ≡ true → differs before now ≡ false
-stays_apart None now is = absurd (cc)
+stays_apart None None is = refl
+stays_apart None (Some now) is = absurd (cc)
 stays_apart (Some before) None is = differs_none (Some before)
 stays_apart (Some High) (Some High) is = refl
 stays_apart (Some High) (Some Low) is = absurd (cc)

@@ -1,4 +1,4 @@
--- A slicer that stands for some samples stands, after one more, for those with the one at their end, and says what is new in the distances.
+-- Crossings that are found as after some sums are found, after one more, as after those with the one at their end, and so is what is new in the distances.
 use Rattle.std.proofs.Common.{◌≡◌, ℕ, zero, suc, ◌+◌, ◌-◌, ◌*◌, ◌≤◌, Bool, true, false, cond, max, ℤ, pos, List, [], ◌∷◌, ◌++◌, length, take, Option}
 use Rattle.std.proofs.Common.{Some, None, refl, ap, ap₂, sym, ◌∙◌, append-nil, add-one, mul-suc, arith}
 use Rattle.std.specs.List.{last_or}
@@ -6,15 +6,17 @@ use Rattle.std.specs.Option.{option_or, option_to_list, option_map}
 use Rattle.std.proofs.lemmas.List.{take_all, get_or_push, length_push, get_or_append_left}
 use Rattle.std.proofs.lemmas.List.Sums.{fold_push}
 use Rattle.pcm_front.specs.declared.level.Level.{Level}
+use Rattle.pcm_front.specs.declared.start.Start.{Start}
+use Rattle.pcm_front.specs.declared.start.Start.TheVariants.{Crossing, Tick}
 use Rattle.pcm_front.specs.declared.threshold.Threshold.{Threshold}
 use Rattle.pcm_front.specs.declared.threshold.Threshold.TheVariants.{Fixed, Follow, Deep}
 use Rattle.pcm_front.specs.Level.{silent, level_after, level_of, half_height, quarter_height, next_level, threshold_by, threshold_at}
 use Rattle.pcm_front.specs.Side.{side_of, side_at, side_after, differs}
 use Rattle.pcm_front.specs.Crossing.{is_crossing, tick_to, tick_at, moment, moments}
-use Rattle.pcm_front.specs.Distance.{gaps, distances}
-use Rattle.pcm_front.specs.State.{SlicerState, between, level_in, crossing_in, state_after, distance_at}
-use Rattle.pcm_front.specs.StandsFor.{IsLevelFor, StandsFor}
-use Rattle.pcm_front.proofs.OneMore.{side_after-front, same_tick, moments-more, last_or-more, gaps-more}
+use Rattle.pcm_front.specs.Distance.{gaps, gaps_after, distances_since}
+use Rattle.pcm_front.specs.State.{FinderState, between, level_in, crossing_in, state_after, distance_at}
+use Rattle.pcm_front.specs.StandsFor.{IsLevelFor, latest_moment, Finds}
+use Rattle.pcm_front.proofs.OneMore.{side_after-front, same_tick, moments-more, last_or-more, gaps-more, gaps_after-more}
 
 -- the level goes on, where the threshold follows it
 level-more : (threshold : Threshold) (level : Level) (xs : List ℤ) (s : ℤ) → IsLevelFor threshold level xs →
@@ -55,7 +57,7 @@ cond_some true m k same = ap (λ x. Some x) (same refl)
 cond_some false m k same = refl
 
 -- the crossing that a slicer finds is that of the definition, late by a sample
-crossing-is : (state : SlicerState) (xs : List ℤ) (s : ℤ) → StandsFor state xs →
+crossing-is : (state : FinderState) (xs : List ℤ) (s : ℤ) → Finds state xs →
     crossing_in state s ≡ cond (is_crossing state.threshold (xs ++ s ∷ []) (length xs))
     (Some (moment state.fineness state.threshold (xs ++ s ∷ []) (length xs) + state.fineness)) None
 crossing-is state xs s stands =
@@ -76,13 +78,19 @@ crossing-is state xs s stands =
     ap₂ ◌+◌ stands.tick (tick some) ∙ late f n (tick_at f threshold (xs ++ s ∷ []) n) some)
 
 -- the last moment, with that of one sample more
-latest-more : (f : ℕ) (b : Bool) (m : ℕ) (ms : List ℕ) →
-    option_or (cond b (Some (m + f)) None) (option_map (λ moment. moment + f) (last_or None ms))
-    ≡ option_map (λ moment. moment + f) (last_or None (ms ++ cond b (m ∷ []) []))
-latest-more f true m ms = ap (option_map (λ moment. moment + f)) (sym (last_or-more None ms m))
-latest-more f false m ms = ap (λ all. option_map (λ moment. moment + f) (last_or None all)) (sym (append-nil ms))
+latest-by : (f : ℕ) (o : Option ℕ) (b : Bool) (m : ℕ) (ms : List ℕ) →
+    option_or (cond b (Some (m + f)) None) (option_map (λ moment. moment + f) (last_or o ms))
+    ≡ option_map (λ moment. moment + f) (last_or o (ms ++ cond b (m ∷ []) []))
+latest-by f o true m ms = ap (option_map (λ moment. moment + f)) (sym (last_or-more o ms m))
+latest-by f o false m ms = ap (λ all. option_map (λ moment. moment + f) (last_or o all)) (sym (append-nil ms))
 
-pub stands_still : (state : SlicerState) (xs : List ℤ) (s : ℤ) → StandsFor state xs → StandsFor (state_after state s) (xs ++ s ∷ [])
+latest-more : (start : Start) (f : ℕ) (b : Bool) (m : ℕ) (ms : List ℕ) →
+    option_or (cond b (Some (m + f)) None) (option_map (λ moment. moment + f) (latest_moment start ms))
+    ≡ option_map (λ moment. moment + f) (latest_moment start (ms ++ cond b (m ∷ []) []))
+latest-more Crossing f b m ms = latest-by f None b m ms
+latest-more Tick f b m ms = latest-by f (Some 0) b m ms
+
+pub stands_still : (state : FinderState) (xs : List ℤ) (s : ℤ) → Finds state xs → Finds (state_after state s) (xs ++ s ∷ [])
 stands_still state xs s stands =
     let n : ℕ = length xs in
     let f = state.fineness in
@@ -96,8 +104,8 @@ stands_still state xs s stands =
       level = level-more threshold state.level xs s stands.level;
       side = rw long (ap₂ option_or (side-now threshold state.level xs s stands.level) before);
       latest = ap₂ option_or (crossing-is state xs s stands) stands.latest
-          ∙ latest-more f (is_crossing threshold (xs ++ s ∷ []) n) (moment f threshold (xs ++ s ∷ []) n) (moments f threshold xs)
-          ∙ ap (λ ms. option_map (λ moment. moment + f) (last_or None ms)) (sym (moments-more f threshold xs s));
+          ∙ latest-more state.start f (is_crossing threshold (xs ++ s ∷ []) n) (moment f threshold (xs ++ s ∷ []) n) (moments f threshold xs)
+          ∙ ap (λ ms. option_map (λ moment. moment + f) (latest_moment state.start ms)) (sym (moments-more f threshold xs s));
     }
 
 between-none : (o : Option ℕ) → between o None ≡ None
@@ -109,19 +117,38 @@ between-late : (o : Option ℕ) (m f : ℕ) → between (option_map (λ moment. 
 between-late None m f = refl
 between-late (Some x) m f = ap (λ d. Some d) (omega arith)
 
-distance-more : (f : ℕ) (b : Bool) (m : ℕ) (ms : List ℕ) → gaps (ms ++ cond b (m ∷ []) [])
-    ≡ gaps ms ++ option_to_list (between (option_map (λ moment. moment + f) (last_or None ms)) (cond b (Some (m + f)) None))
-distance-more f true m ms = gaps-more ms m ∙ ap (λ d. gaps ms ++ option_to_list d) (sym (between-late (last_or None ms) m f))
-distance-more f false m ms = ap gaps (append-nil ms) ∙ sym (append-nil (gaps ms))
-    ∙ ap (λ d. gaps ms ++ option_to_list d) (sym (between-none (option_map (λ moment. moment + f) (last_or None ms))))
+-- the distances of moments, where the first one begins there
+abbrev gaps_since : Start → List ℕ → List ℕ
+gaps_since Crossing moments = gaps moments
+gaps_since Tick moments = gaps_after 0 moments
 
-pub brings_distance : (state : SlicerState) (xs : List ℤ) (s : ℤ) → StandsFor state xs →
-    distances state.fineness state.threshold (xs ++ s ∷ []) ≡ distances state.fineness state.threshold xs ++ option_to_list (distance_at state s)
+since-is : (start : Start) (f : ℕ) (threshold : Threshold) (xs : List ℤ) → distances_since start f threshold xs ≡ gaps_since start (moments f threshold xs)
+since-is Crossing f threshold xs = refl
+since-is Tick f threshold xs = refl
+
+gaps_since-more : (start : Start) (ms : List ℕ) (m : ℕ) →
+    gaps_since start (ms ++ m ∷ []) ≡ gaps_since start ms ++ option_to_list (between (latest_moment start ms) (Some m))
+gaps_since-more Crossing ms m = gaps-more ms m
+gaps_since-more Tick ms m = gaps_after-more 0 ms m
+
+distance-more : (start : Start) (f : ℕ) (b : Bool) (m : ℕ) (ms : List ℕ) → gaps_since start (ms ++ cond b (m ∷ []) [])
+    ≡ gaps_since start ms ++ option_to_list (between (option_map (λ moment. moment + f) (latest_moment start ms)) (cond b (Some (m + f)) None))
+distance-more start f true m ms = gaps_since-more start ms m
+    ∙ ap (λ d. gaps_since start ms ++ option_to_list d) (sym (between-late (latest_moment start ms) m f))
+distance-more start f false m ms = ap (gaps_since start) (append-nil ms) ∙ sym (append-nil (gaps_since start ms))
+    ∙ ap (λ d. gaps_since start ms ++ option_to_list d) (sym (between-none (option_map (λ moment. moment + f) (latest_moment start ms))))
+
+pub brings_distance : (state : FinderState) (xs : List ℤ) (s : ℤ) → Finds state xs →
+    distances_since state.start state.fineness state.threshold (xs ++ s ∷ [])
+    ≡ distances_since state.start state.fineness state.threshold xs ++ option_to_list (distance_at state s)
 brings_distance state xs s stands =
     let f = state.fineness in
     let threshold = state.threshold in
+    let start = state.start in
     let n : ℕ = length xs in
     let ms = moments f threshold xs in
-    ap gaps (moments-more f threshold xs s)
-    ∙ distance-more f (is_crossing threshold (xs ++ s ∷ []) n) (moment f threshold (xs ++ s ∷ []) n) ms
-    ∙ ap (λ d. gaps ms ++ option_to_list d) (sym (ap₂ between stands.latest (crossing-is state xs s stands)))
+    since-is start f threshold (xs ++ s ∷ [])
+    ∙ ap (gaps_since start) (moments-more f threshold xs s)
+    ∙ distance-more start f (is_crossing threshold (xs ++ s ∷ []) n) (moment f threshold (xs ++ s ∷ []) n) ms
+    ∙ ap (λ d. gaps_since start ms ++ option_to_list d) (sym (ap₂ between stands.latest (crossing-is state xs s stands)))
+    ∙ ap (λ ds. ds ++ option_to_list (distance_at state s)) (sym (since-is start f threshold xs))

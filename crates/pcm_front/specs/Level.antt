@@ -52,9 +52,13 @@ threshold_at threshold samples place = threshold_by threshold (level_of (take (p
 
 -- a sample has 16 bits, with one for the sign
 abbrev pub HasSixteenBits : ℤ → Type 0
-HasSixteenBits sample = unsigned_abs sample ≤ 32_768
+HasSixteenBits sample = unsigned_abs sample ≤ 2 ^ 15
 
--- the numbers of a level, where each sample has 16 bits
+-- a sum of 16 of them
+abbrev pub IsSum : ℤ → Type 0
+IsSum sum = unsigned_abs sum ≤ 2 ^ 19
+
+-- the numbers of a level, where each sample is such a sum
 pub record IsInRange (level : Level) : Type 0 where
-  pub peak : level.peak ≤ 32_768
-  pub sum : level.sum < 2 ^ 26
+  pub peak : level.peak ≤ 2 ^ 19
+  pub sum : level.sum ≤ 2 ^ 29

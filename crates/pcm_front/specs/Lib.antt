@@ -3,7 +3,9 @@ pub mod Distance
 pub mod Level
 pub mod Runs
 pub mod Samples
+pub mod Settings
 pub mod Side
 pub mod Sound
 pub mod StandsFor
 pub mod State
+pub mod Sums

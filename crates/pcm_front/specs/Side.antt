@@ -34,9 +34,10 @@ differs (Some High) (Some Low) = true
 differs (Some Low) (Some High) = true
 differs before now = false
 
--- the sound was on a side, and no sample leads to the other one
+-- the sound was on a side, and no sample leads to the other one, or it was on none, and is
 abbrev pub stays : Option Side → Option Side → Bool
-stays before now = is_some before && not (differs before now)
+stays None now = not (is_some now)
+stays (Some before) now = not (differs (Some before) now)
 
 -- a sample seen so that the side lies above
 abbrev pub upward : Side → ℤ → ℤ

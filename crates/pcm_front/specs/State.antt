@@ -1,29 +1,35 @@
--- What a slicer keeps.
-use Rattle.std.specs.Prelude.{ℕ, ◌+◌, ◌-◌, ◌≤◌, cond, ℤ, pos, Option, Some, None, IfSome}
+-- What is kept of the samples so far, in finding crossings and in summing them.
+use Rattle.std.specs.Prelude.{◌≡◌, ℕ, ◌+◌, ◌-◌, ◌≤◌, cond, ℤ, pos, List, [], ◌∷◌, ◌++◌, length, take, drop, replicate, Option, Some, None, IfSome}
+use Rattle.std.specs.List.{AllByRecursion}
 use Rattle.std.specs.Option.{option_or}
 use Rattle.pcm_front.specs.declared.level.Level.{Level}
 use Rattle.pcm_front.specs.declared.side.Side.{Side}
+use Rattle.pcm_front.specs.declared.start.Start.{Start}
+use Rattle.pcm_front.specs.declared.start.Start.TheVariants.{Crossing, Tick}
 use Rattle.pcm_front.specs.declared.threshold.Threshold.{Threshold}
 use Rattle.pcm_front.specs.declared.threshold.Threshold.TheVariants.{Fixed, Follow, Deep}
-use Rattle.pcm_front.specs.Level.{silent, next_level, threshold_by, IsInRange}
+use Rattle.pcm_front.specs.Level.{silent, next_level, threshold_by, HasSixteenBits, IsInRange, IsSum}
 use Rattle.pcm_front.specs.Side.{side_of, differs}
+use Rattle.pcm_front.specs.Sums.{total}
 use Rattle.pcm_front.specs.Crossing.{tick_to}
 
--- its fineness and threshold; the ticks of the samples so far, the last of them, their level where the threshold follows it, and the side
--- after them; and the moment of the last crossing, a sample late
-pub record SlicerState : Type 0 where
+-- its fineness and threshold, and where the first distance begins; the ticks of the samples so far, the last of them, their level where the
+-- threshold follows it, and the side after them; and the moment of the last crossing, a sample late
+pub record FinderState : Type 0 where
   pub fineness : ℕ
   pub threshold : Threshold
+  pub start : Start
   pub tick : ℕ
   pub before : ℤ
   pub level : Level
   pub side : Option Side
   pub latest : Option ℕ
 
-abbrev pub state_of : ℕ → Threshold → ℕ → ℤ → Level → Option Side → Option ℕ → SlicerState
-state_of fineness threshold tick before level side latest = record {
+abbrev pub state_of : ℕ → Threshold → Start → ℕ → ℤ → Level → Option Side → Option ℕ → FinderState
+state_of fineness threshold start tick before level side latest = record {
   fineness = fineness;
   threshold = threshold;
+  start = start;
   tick = tick;
   before = before;
   level = level;
@@ -31,46 +37,87 @@ state_of fineness threshold tick before level side latest = record {
   latest = latest;
 }
 
--- a slicer that was given no sample
-abbrev pub fresh : ℕ → Threshold → SlicerState
-fresh fineness threshold = state_of fineness threshold 0 (pos 0) silent None None
+-- where the first distance begins, a sample late
+abbrev pub late_start : Start → ℕ → Option ℕ
+late_start Crossing fineness = None
+late_start Tick fineness = Some fineness
 
--- the numbers that a threshold may be
+-- what is kept of no sample
+abbrev pub fresh : ℕ → Threshold → Start → FinderState
+fresh fineness threshold start = state_of fineness threshold start 0 (pos 0) silent None (late_start start fineness)
+
+-- the numbers that a threshold may be: up to the sum of 16 that are 32,767
 abbrev pub IsThreshold : Threshold → Type 0
-IsThreshold (Fixed threshold) = (1 ≤ threshold) × (threshold ≤ 32_767)
-IsThreshold (Follow least) = (1 ≤ least) × (least ≤ 32_767)
-IsThreshold (Deep least) = (1 ≤ least) × (least ≤ 32_767)
+IsThreshold (Fixed threshold) = (1 ≤ threshold) × (threshold ≤ 524_272)
+IsThreshold (Follow least) = (1 ≤ least) × (least ≤ 524_272)
+IsThreshold (Deep least) = (1 ≤ least) × (least ≤ 524_272)
 
--- what a slicer keeps is in its range
-pub record IsKept (state : SlicerState) : Type 0 where
+-- what is kept is in its range
+pub record IsKept (state : FinderState) : Type 0 where
   pub least : 1 ≤ state.fineness
   pub most : state.fineness ≤ 64
   pub threshold : IsThreshold state.threshold
+  pub before : IsSum state.before
   pub level : IsInRange state.level
-  pub latest : IfSome state.latest (λ moment. moment ≤ state.tick)
+  pub latest : IfSome state.latest (λ moment. moment ≤ state.tick + state.fineness)
+  pub behind : IfSome state.side (λ side. IfSome state.latest (λ moment. moment ≤ state.tick))
 
--- The steps of a slicer. No promise speaks of them.
+-- of how many samples sums are made, and the latest samples but for one of so many
+pub record WindowState : Type 0 where
+  pub smooth : ℕ
+  pub kept : List ℤ
+
+-- the samples in a ring of so many but one, the oldest in this place
+abbrev pub ring_of : ℕ → List ℤ → ℕ → List ℤ
+ring_of smooth ring oldest = drop oldest (take (smooth - 1) ring) ++ take oldest ring
+
+abbrev pub window_of : ℕ → List ℤ → ℕ → WindowState
+window_of smooth ring oldest = record { smooth = smooth; kept = ring_of smooth ring oldest }
+
+-- what is kept of no sample: 0 stands before the first
+abbrev pub fresh_window : ℕ → WindowState
+fresh_window smooth = record { smooth = smooth; kept = replicate (smooth - 1) (pos 0) }
+
+-- the window after a sample: the oldest of those kept goes
+abbrev pub window_after : WindowState → ℤ → WindowState
+window_after window sample = record { smooth = window.smooth; kept = drop 1 (window.kept ++ sample ∷ []) }
+
+-- what a window keeps is in its range
+pub record IsWindow (window : WindowState) : Type 0 where
+  pub least : 1 ≤ window.smooth
+  pub most : window.smooth ≤ 16
+  pub long : length window.kept + 1 ≡ window.smooth
+  pub bits : AllByRecursion HasSixteenBits window.kept
+
+-- the same of a ring, with the sum of what it keeps
+pub record IsRing (smooth : ℕ) (ring : List ℤ) (oldest : ℕ) (sum : ℤ) : Type 0 where
+  pub window : IsWindow (window_of smooth ring oldest)
+  pub sum_is : sum ≡ total (ring_of smooth ring oldest)
+  pub alone : smooth ≡ 1 → oldest ≡ 0
+  pub place : 2 ≤ smooth → oldest + 2 ≤ smooth
+
+-- The steps of finding crossings. No promise speaks of them.
 
 -- the moment, a sample late, of the crossing at a sample, by the level there
-abbrev pub crossing_after : SlicerState → Level → ℤ → Option ℕ
+abbrev pub crossing_after : FinderState → Level → ℤ → Option ℕ
 crossing_after state level sample =
     let threshold = threshold_by state.threshold level in
     let side = side_of threshold sample in
     cond (differs state.side side) (Some (state.tick + tick_to side state.fineness threshold state.before sample)) None
 
 -- the level after a sample
-abbrev pub level_in : SlicerState → ℤ → Level
+abbrev pub level_in : FinderState → ℤ → Level
 level_in state sample = next_level state.threshold state.level sample
 
 -- the moment of the crossing at a sample
-abbrev pub crossing_in : SlicerState → ℤ → Option ℕ
+abbrev pub crossing_in : FinderState → ℤ → Option ℕ
 crossing_in state sample = crossing_after state (level_in state sample) sample
 
--- what a slicer keeps after a sample
-abbrev pub state_after : SlicerState → ℤ → SlicerState
+-- what is kept after a sample
+abbrev pub state_after : FinderState → ℤ → FinderState
 state_after state sample =
     let side = side_of (threshold_by state.threshold (level_in state sample)) sample in
-    state_of state.fineness state.threshold (state.tick + state.fineness) sample (level_in state sample)
+    state_of state.fineness state.threshold state.start (state.tick + state.fineness) sample (level_in state sample)
     (option_or side state.side) (option_or (crossing_in state sample) state.latest)
 
 -- from one moment to the next, where both are there
@@ -80,5 +127,5 @@ between (Some before) None = None
 between (Some before) (Some now) = Some (now - before)
 
 -- the distance that a sample brings
-abbrev pub distance_at : SlicerState → ℤ → Option ℕ
+abbrev pub distance_at : FinderState → ℤ → Option ℕ
 distance_at state sample = between state.latest (crossing_in state sample)

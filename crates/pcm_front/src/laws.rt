@@ -7,12 +7,14 @@ ghost use Rattle.pcm_front.specs.declared.interval.TheConstants.{MAX_INTERVAL};
 ghost use Rattle.pcm_front.specs.declared.side.Side.{Side};
 ghost use Rattle.pcm_front.specs.declared.threshold.Threshold.{Threshold};
 ghost use Rattle.pcm_front.specs.declared.threshold.Threshold.TheVariants.{Fixed};
-ghost use Rattle.pcm_front.specs.Level.{HasSixteenBits, level_of};
+ghost use Rattle.pcm_front.specs.Level.{level_of};
 ghost use Rattle.pcm_front.specs.Crossing.{apart, crossings, is_crossing, moments, tick_at, tick_in_step};
-ghost use Rattle.pcm_front.specs.Distance.{distances, gaps, intervals, pieces_of, IsInterval};
+ghost use Rattle.pcm_front.specs.Distance.{distances, distances_by, distances_from_start, gaps, intervals, pieces_of, IsInterval};
 ghost use Rattle.pcm_front.specs.Runs.{Alternate, IsOfSize, LiesOn, joined};
 ghost use Rattle.pcm_front.specs.Samples.{bytes_of, samples_of};
+ghost use Rattle.pcm_front.specs.Settings.{from_crossing, Settings};
 ghost use Rattle.pcm_front.specs.Sound.{sound};
+ghost use Rattle.pcm_front.specs.Sums.{sums};
 
 /// The greatest length of an interval, in ticks: 24 bits.
 pub fn the_greatest_interval_is_this()
@@ -44,10 +46,31 @@ pub fn moments_rise()
         → All (λ distance. 1 ≤ distance) (distances fineness threshold samples) }
 {}
 
+/// No distance is 0, also where the first one runs from tick 0: each is at least 1.
+pub fn distances_are_some()
+    ensures { (settings : Settings) (samples : List ℤ) → 1 ≤ settings.fineness
+        → All (λ distance. 1 ≤ distance) (distances_by settings samples) }
+{}
+
+/// From tick 0, the first distance leads to the first crossing, and the others are those from crossing
+/// to crossing.
+pub fn the_first_distance_leads_to_the_first_crossing()
+    ensures { (fineness : ℕ) (threshold : Threshold) (samples : List ℤ) (first : ℕ) (more : List ℕ)
+        → moments fineness threshold samples ≡ first ∷ more
+        → distances_from_start fineness threshold samples ≡ first ∷ distances fineness threshold samples }
+{}
+
+/// A sum of one sample is the sample.
+pub fn sums_of_one_are_the_samples()
+    ensures sums { (samples : List ℤ) → sums 1 samples ≡ samples }
+    ensures distances { (fineness : ℕ) (threshold : Threshold) (samples : List ℤ)
+        → distances_by (from_crossing fineness threshold 1) samples ≡ distances fineness threshold samples }
+{}
+
 /// The distances of some samples come first, whatever samples follow.
 pub fn distances_of_a_front_come_first()
-    ensures { (fineness : ℕ) (threshold : Threshold) (front more : List ℤ)
-        → (rest : List ℕ) × (distances fineness threshold (front ++ more) ≡ distances fineness threshold front ++ rest) }
+    ensures { (settings : Settings) (front more : List ℤ)
+        → (rest : List ℕ) × (distances_by settings (front ++ more) ≡ distances_by settings front ++ rest) }
 {}
 
 /// With one tick a sample, moments are the places of the crossings.
@@ -107,12 +130,13 @@ pub fn samples_are_read_as_they_were_written()
         → samples_of (bytes_of (sound size intervals)) ≡ sound size intervals }
 {}
 
-/// The level of samples of 16 bits: its peak is at most 32,768, and its sum below 2 to the 26th.
+/// The level of samples whose sizes are within a number: its peak is within it too, and its sum within
+/// 1,024 times as much.
 pub fn levels_are_bounded()
-    ensures peak { (samples : List ℤ) → AllByRecursion HasSixteenBits samples
-        → (level_of samples).peak ≤ 32_768 }
-    ensures sum { (samples : List ℤ) → AllByRecursion HasSixteenBits samples
-        → (level_of samples).sum < 2 ^ 26 }
+    ensures peak { (most : ℕ) (samples : List ℤ) → AllByRecursion (λ sample. unsigned_abs sample ≤ most) samples
+        → (level_of samples).peak ≤ most }
+    ensures sum { (most : ℕ) (samples : List ℤ) → AllByRecursion (λ sample. unsigned_abs sample ≤ most) samples
+        → (level_of samples).sum ≤ 1_024 * most }
 {}
 
 /// The intervals of a distance add up to it, and each is from 1 to the greatest.

@@ -1,6 +1,6 @@
 //! The level of the sound. Next: `side`.
 ghost use Rattle.std.specs.Prelude.{◌≡◌, ◌≤◌, ◌<◌, ◌^◌, unsigned_abs};
-ghost use Rattle.pcm_front.specs.Level.{silent, level_after, half_height, quarter_height, IsInRange};
+ghost use Rattle.pcm_front.specs.Level.{silent, level_after, half_height, quarter_height, IsInRange, IsSum};
 
 /// How loud the sound is: its peak, and the sum of some thousand sizes.
 #[derive(Clone, Copy, Debug, PartialEq, Eq)]
@@ -20,13 +20,14 @@ impl Level {
         Level { peak: 0, sum: 0 }
     }
 
-    /// The level after one more sample.
-    pub(crate) fn after(self, sample: i16) -> Level
-        requires { IsInRange self }
-        ensures value { result ≡ level_after self sample }
+    /// The level after one more sum.
+    pub(crate) fn after(self, sum: i32) -> Level
+        requires level { IsInRange self }
+        requires sum { IsSum sum }
+        ensures value { result ≡ level_after self sum }
         ensures range { IsInRange result }
     {
-        let size = u32::from(sample.unsigned_abs());
+        let size = sum.unsigned_abs();
         let peak = if self.peak < size {
             self.peak + (size - self.peak).div_ceil(4)
         } else {
@@ -42,7 +43,7 @@ impl Level {
     pub(crate) fn half_height(self) -> u32
         requires { IsInRange self }
         ensures value { result ≡ half_height self }
-        ensures most { result ≤ 16_384 }
+        ensures most { result ≤ 2 ^ 18 }
     {
         self.peak.saturating_sub(self.sum / 1_024) / 2
     }
@@ -51,7 +52,7 @@ impl Level {
     pub(crate) fn quarter_height(self) -> u32
         requires { IsInRange self }
         ensures value { result ≡ quarter_height self }
-        ensures most { result ≤ 8_192 }
+        ensures most { result ≤ 2 ^ 17 }
     {
         self.peak.saturating_sub(self.sum / 1_024) / 4
     }

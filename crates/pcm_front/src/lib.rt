@@ -26,17 +26,23 @@
 #![tactic(auto)]
 
 mod crossing;
+mod finder;
 mod interval;
 pub mod laws;
 mod level;
+mod samples;
 mod side;
 mod slicer;
+mod start;
 mod threshold;
+mod window;
 
 pub use interval::{MAX_INTERVAL, pieces};
 pub use side::Side;
 pub use slicer::Slicer;
-pub use threshold::Threshold;
+pub use start::Start;
+pub use threshold::{MAX_THRESHOLD, Threshold};
+pub use window::MAX_SMOOTH;
 
 #[cfg(test)]
 mod tests;

@@ -1,5 +1,6 @@
 //! The sides of the threshold. Next: `crossing`.
-ghost use Rattle.std.specs.Prelude.{◌≡◌, ◌≤◌, unsigned_abs};
+ghost use Rattle.std.specs.Prelude.{◌≡◌, ◌≤◌};
+ghost use Rattle.pcm_front.specs.Level.{IsSum};
 ghost use Rattle.pcm_front.specs.Side.{side_of, stays, differs, upward};
 
 /// A side of the threshold.
@@ -9,32 +10,32 @@ pub enum Side {
     Low,
 }
 
-/// The side on which a sample lies, if it lies on one.
-pub(crate) fn side_of(threshold: u32, sample: i16) -> Option<Side>
-    requires { threshold ≤ 32_767 }
-    ensures { result ≡ side_of threshold sample }
+/// The side on which a sum lies, if it lies on one.
+pub(crate) fn side_of(threshold: u32, sum: i32) -> Option<Side>
+    requires { threshold ≤ 524_272 }
+    ensures { result ≡ side_of threshold sum }
 {
-    let (threshold, sample) = (threshold as i32, i32::from(sample));
-    if threshold <= sample {
+    let threshold = threshold as i32;
+    if threshold <= sum {
         Some(Side::High)
-    } else if sample <= -threshold {
+    } else if sum <= -threshold {
         Some(Side::Low)
     } else {
         None
     }
 }
 
-/// Whether the sound stays on its side. Nearly every sample does, so one comparison tells it.
-pub(crate) fn stays(side: Option<Side>, threshold: u32, sample: i16) -> bool
+/// Whether the sound stays on its side, or on none. Nearly every sum lets it, so one comparison tells it.
+pub(crate) fn stays(side: Option<Side>, threshold: u32, sum: i32) -> bool
     requires least { 1 ≤ threshold }
-    requires most { threshold ≤ 32_767 }
-    ensures { result ≡ stays side (side_of threshold sample) }
+    requires most { threshold ≤ 524_272 }
+    ensures { result ≡ stays side (side_of threshold sum) }
 {
-    let (threshold, sample) = (threshold as i32, i32::from(sample));
+    let threshold = threshold as i32;
     match side {
-        Some(Side::High) => -threshold < sample,
-        Some(Side::Low) => sample < threshold,
-        None => false,
+        Some(Side::High) => -threshold < sum,
+        Some(Side::Low) => sum < threshold,
+        None => -threshold < sum && sum < threshold,
     }
 }
 
@@ -49,14 +50,15 @@ pub(crate) fn differs(before: Option<Side>, now: Option<Side>) -> bool
 }
 
 impl Side {
-    /// The sample, seen so that this side lies above. The least sample has no opposite of 16 bits.
-    pub(crate) fn upward(self, sample: i16) -> i32
-        ensures value { result ≡ upward self sample }
-        ensures size { unsigned_abs result ≤ 32_768 }
+    /// The sum, seen so that this side lies above.
+    pub(crate) fn upward(self, sum: i32) -> i32
+        requires { IsSum sum }
+        ensures value { result ≡ upward self sum }
+        ensures size { IsSum result }
     {
         match self {
-            Side::High => i32::from(sample),
-            Side::Low => -i32::from(sample),
+            Side::High => sum,
+            Side::Low => -sum,
         }
     }
 }

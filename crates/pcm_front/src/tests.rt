@@ -18,13 +18,13 @@ impl Model for Tape {
 
     ghost view = { λ t. t.samples };
 
-    ghost invariant = { λ t. (t.slicer.fineness ≤ 64) × (t.slicer.tick ≤ 64 * t.samples) };
+    ghost invariant = { λ t. (t.slicer.finder.fineness ≤ 64) × (t.slicer.finder.tick ≤ 64 * t.samples) };
 }
 
 impl Tape {
     fn new(slicer: Slicer) -> Tape
-        requires new { slicer.tick ≡ 0 }
-        requires fineness { slicer.fineness ≤ 64 }
+        requires new { slicer.finder.tick ≡ 0 }
+        requires fineness { slicer.finder.fineness ≤ 64 }
     {
         Tape { slicer, samples: 0 }
     }
@@ -120,6 +120,39 @@ fn a_threshold_follows_the_level(rt: HostRuntime) {
     // Here the least holds, and no sample but the first and the last lies on a side.
     let tape = Tape::new(Slicer::finer(16, Threshold::Follow(5_537)));
     assert_eq!(rt; tape.four(samples), [None, None, None, None]);
+}
+
+#[test]
+fn sums_of_samples_are_sliced(rt: HostRuntime) {
+    // Sums of two bring 54 first, and sums of four 71. From the first crossing on, there is no first.
+    let sums = Slicer::from_the_start(16, Threshold::Follow(300), 3);
+    let mut tape = Tape::new(sums);
+    for (sample, brings) in [
+        (-900, None),
+        (-900, None),
+        (-900, None),
+        (900, None),
+        (900, Some(62)),
+        (900, None),
+        (-900, None),
+        (-900, Some(49)),
+        (-900, None),
+        (900, None),
+    ] {
+        assert_eq!(rt; tape.sample(sample), brings, "at {sample}");
+    }
+}
+
+#[test]
+fn samples_are_taken_up_to_a_distance(rt: HostRuntime) {
+    let samples = [-900, -900, -900, 900, 900, 900];
+    let mut slicer = Slicer::from_the_start(16, Threshold::Deep(1), 1);
+    assert_eq!(rt; slicer.run_samples(&samples), (1, None));
+    assert_eq!(rt; slicer.run_samples(&samples[1..]), (3, Some(42)));
+    let bytes = [0x7c, 0xfc, 0x7c, 0xfc, 0x7c, 0xfc, 0x84, 0x03, 0x84];
+    let mut slicer = Slicer::from_the_start(16, Threshold::Deep(1), 1);
+    assert_eq!(rt; slicer.run(&bytes), (2, None));
+    assert_eq!(rt; slicer.run(&bytes[2..]), (6, Some(42)));
 }
 
 #[test]

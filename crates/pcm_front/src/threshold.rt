@@ -1,11 +1,15 @@
 //! The threshold that a crossing passes. Next: `level`.
 ghost use Rattle.std.specs.Prelude.{◌≡◌, ◌≤◌};
-ghost use Rattle.pcm_front.specs.Level.{next_level, threshold_by, IsInRange};
+ghost use Rattle.pcm_front.specs.Level.{next_level, threshold_by, IsInRange, IsSum};
 ghost use Rattle.pcm_front.specs.State.{IsThreshold};
 
 use crate::level::Level;
 
-/// How far above and below zero the threshold lies, from 1 to 32,767.
+/// The greatest threshold: the sum of sixteen samples that are 32,767.
+pub const MAX_THRESHOLD: u32 = 524_272;
+
+/// How far above and below zero the threshold lies, in the unit of the sums: from 1 to
+/// `MAX_THRESHOLD`.
 #[derive(Clone, Copy, Debug, PartialEq, Eq)]
 pub enum Threshold {
     /// So far at each sample.
@@ -17,15 +21,16 @@ pub enum Threshold {
 }
 
 impl Threshold {
-    /// The level after one more sample, where the threshold follows it.
-    pub(crate) fn next_level(self, level: Level, sample: i16) -> Level
-        requires { IsInRange level }
-        ensures value { result ≡ next_level self level sample }
+    /// The level after one more sum, where the threshold follows it.
+    pub(crate) fn next_level(self, level: Level, sum: i32) -> Level
+        requires level { IsInRange level }
+        requires sum { IsSum sum }
+        ensures value { result ≡ next_level self level sum }
         ensures range { IsInRange result }
     {
         match self {
             Threshold::Fixed(_) => level,
-            Threshold::Follow(_) | Threshold::Deep(_) => level.after(sample),
+            Threshold::Follow(_) | Threshold::Deep(_) => level.after(sum),
         }
     }
 
@@ -35,7 +40,7 @@ impl Threshold {
         requires level { IsInRange level }
         ensures value { result ≡ threshold_by self level }
         ensures least { 1 ≤ result }
-        ensures most { result ≤ 32_767 }
+        ensures most { result ≤ 524_272 }
     {
         match self {
             Threshold::Fixed(threshold) => threshold,

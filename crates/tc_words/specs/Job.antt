@@ -12,12 +12,13 @@ use Rattle.biphase.specs.declared.shaper.TheConstants.{MIN_SHAPED, MAX_SHAPED}
 use Rattle.tc_words.specs.declared.stripe.TheConstants.{MAX_TICK_RATE}
 use Rattle.tc_words.specs.ChaseWords.{chased}
 use Rattle.tc_words.specs.Jam.{jamming_of}
-use Rattle.tc_words.specs.Sound.{amplitude_in, following, in_samples, in_ticks}
+use Rattle.tc_words.specs.Sound.{amplitude_in, following, in_samples, in_ticks, summing}
 use Rattle.tc_words.specs.Tape.{at_one_length, moving, value_or}
 use Rattle.tc_words.specs.declared.load.TheConstants.{MAX_WORDS}
 use Rattle.tc_words.specs.Lines.{in_lines}
 use Rattle.tc_words.specs.Load.{loading_of}
 use Rattle.tc_words.specs.Values.{Word, between, count_in, limit_in, number_in, numbered, spelled, version_in}
+use Rattle.tc_words.specs.Wave.{in_dull_wave, in_smooth_wave, in_wave}
 use Rattle.command_words.specs.CommandLine.{begins_with_dash}
 
 -- the job, or the first fault
@@ -76,12 +77,21 @@ abbrev pub ltc_convert : List Word → Answer
 ltc_convert (version ∷ []) = with_value 1 (version_in version) (λ v. Ok (jobs.LtcConvert v))
 ltc_convert _ = Err CountOfWords
 
--- `pcm-ltc SYSTEM RATE THRESHOLD [FINENESS [follow]]`: without the last words the ticks are samples, and the threshold stays where it is
+-- `pcm-ltc SYSTEM RATE THRESHOLD [FINENESS [follow|deep [SMOOTH]]]`: without the last words the ticks are samples, the threshold stays where
+-- it is, and each sample stands for itself
 abbrev pub pcm_ltc : List Word → Answer
 pcm_ltc (system ∷ rate ∷ threshold ∷ []) = in_samples system rate threshold
 pcm_ltc (system ∷ rate ∷ threshold ∷ fineness ∷ []) = in_ticks system rate threshold fineness
 pcm_ltc (system ∷ rate ∷ threshold ∷ fineness ∷ follow ∷ []) = following system rate threshold fineness follow
+pcm_ltc (system ∷ rate ∷ threshold ∷ fineness ∷ follow ∷ smooth ∷ []) = summing system rate threshold fineness follow smooth
 pcm_ltc _ = Err CountOfWords
+
+-- `wav-ltc SYSTEM TRACK THRESHOLD [SMOOTH [deep]]`: without the last words each sample stands for itself, and the threshold is at a half
+abbrev pub wav_ltc : List Word → Answer
+wav_ltc (system ∷ track ∷ threshold ∷ []) = in_wave system track threshold
+wav_ltc (system ∷ track ∷ threshold ∷ smooth ∷ []) = in_smooth_wave system track threshold smooth
+wav_ltc (system ∷ track ∷ threshold ∷ smooth ∷ deep ∷ []) = in_dull_wave system track threshold smooth deep
+wav_ltc _ = Err CountOfWords
 
 -- `ltc-pcm LEVEL`
 abbrev pub ltc_pcm : List Word → Answer
@@ -121,6 +131,7 @@ job_of command values =
     else if bytes_eq command commands.LTC_LOAD.now then ltc_load values
     else if bytes_eq command commands.LTC_CONVERT.now then ltc_convert values
     else if bytes_eq command commands.PCM_LTC.now then pcm_ltc values
+    else if bytes_eq command commands.WAV_LTC.now then wav_ltc values
     else if bytes_eq command commands.LTC_PCM.now then ltc_pcm values
     else if bytes_eq command commands.VITC_READ.now then no_values jobs.VitcRead values
     else if bytes_eq command commands.VITC_MAKE.now then vitc_make values

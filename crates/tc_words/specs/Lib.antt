@@ -10,3 +10,5 @@ pub mod Load
 pub mod Stripe
 pub mod Tape
 pub mod Values
+pub mod Wave
+pub mod WaveSlicing

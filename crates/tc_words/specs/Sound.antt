@@ -2,7 +2,8 @@
 use Rattle.std.specs.Prelude.{ℕ, ◌*◌, ◌≤◌, nat_le, codes, Option, Some, None, Result, Ok, Err, if◌then◌else◌, option_and_then}
 use Rattle.std.specs.Str.{bytes_eq}
 use Rattle.pcm_front.specs.declared.threshold.Threshold.{Threshold}
-use Rattle.pcm_front.specs.declared.threshold.Threshold.TheVariants.{Fixed, Follow}
+use Rattle.pcm_front.specs.declared.threshold.Threshold.TheVariants.{Fixed, Follow, Deep}
+use Rattle.pcm_front.specs.declared.window.TheConstants.{MAX_SMOOTH}
 use Rattle.tc_words.specs.declared.fault.WordsFault.{WordsFault}
 use Rattle.tc_words.specs.declared.job.Job.{Job}
 use Rattle.tc_words.specs.declared.job.Job.TheVariants.{PcmLtc}
@@ -25,17 +26,33 @@ pub record IsSound (sound : Sound) : Type 0 where
   pub not_too_fast : sound.rate ≤ MAX_TICK_RATE
   pub threshold : IsSize sound.threshold
 
--- the job of slicing it at a threshold, so many ticks a sample
-abbrev pub sliced_job : Sound → Threshold → ℕ → Job
-sliced_job sound threshold fineness = PcmLtc (slicing_of sound.system sound.rate threshold fineness)
+-- a threshold of samples
+abbrev pub IsSampleThreshold : Threshold → Type 0
+IsSampleThreshold (Fixed threshold) = IsSize threshold
+IsSampleThreshold (Follow least) = IsSize least
+IsSampleThreshold (Deep least) = IsSize least
+
+-- the threshold of sums of so many samples
+abbrev pub of_sums : ℕ → Threshold → Threshold
+of_sums smooth (Fixed threshold) = Fixed (smooth * threshold)
+of_sums smooth (Follow least) = Follow (smooth * least)
+of_sums smooth (Deep least) = Deep (smooth * least)
+
+-- the job of slicing it at a threshold, so many ticks a sample, in sums of so many samples
+abbrev pub sliced_job : Sound → Threshold → ℕ → ℕ → Job
+sliced_job sound threshold fineness smooth =
+    PcmLtc (slicing_of sound.system sound.rate (of_sums smooth threshold) fineness smooth)
 
 -- so many ticks a sample, where they are not too many a second
 abbrev pub fineness_in : ℕ → Word → Option ℕ
 fineness_in rate word = option_and_then (λ n. if nat_le (rate * n) MAX_TICK_RATE then Some n else None) (between 1 MAX_FINENESS word)
 
--- `follow`: a threshold that follows the level, and is never below this
+-- `follow` or `deep`: a threshold that follows the level, at a half or a quarter of it, and is never below this
 abbrev pub following_in : ℕ → Word → Option Threshold
-following_in least word = if bytes_eq word (codes "follow") then Some (Follow least) else None
+following_in least word =
+    if bytes_eq word (codes "follow") then Some (Follow least)
+    else if bytes_eq word (codes "deep") then Some (Deep least)
+    else None
 
 -- what follows from the values of the first three words, or their first fault
 abbrev pub with_sound : {Y : Type 0} → Result Sound WordsFault → (Sound → Result Y WordsFault) → Result Y WordsFault
@@ -44,19 +61,26 @@ with_sound (Ok sound) next = next sound
 
 -- the job of three words: whole samples, and one threshold
 unfoldable pub in_samples : Word → Word → Word → Result Job WordsFault
-in_samples system rate threshold = with_sound (sound_in system rate threshold) (λ sound. Ok (sliced_job sound (Fixed sound.threshold) 1))
+in_samples system rate threshold = with_sound (sound_in system rate threshold) (λ sound. Ok (sliced_job sound (Fixed sound.threshold) 1 1))
 
 -- the job of four words: so many ticks a sample
 unfoldable pub in_ticks : Word → Word → Word → Word → Result Job WordsFault
 in_ticks system rate threshold fineness =
     with_sound (sound_in system rate threshold) (λ sound. value_or 4 (fineness_in sound.rate fineness) (λ f.
-    Ok (sliced_job sound (Fixed sound.threshold) f)))
+    Ok (sliced_job sound (Fixed sound.threshold) f 1)))
 
 -- the job of five words: a threshold that follows the level
 unfoldable pub following : Word → Word → Word → Word → Word → Result Job WordsFault
 following system rate threshold fineness follow =
     with_sound (sound_in system rate threshold) (λ sound. value_or 4 (fineness_in sound.rate fineness) (λ f.
-    value_or 5 (following_in sound.threshold follow) (λ t. Ok (sliced_job sound t f))))
+    value_or 5 (following_in sound.threshold follow) (λ t. Ok (sliced_job sound t f 1))))
+
+-- the job of six words: in sums of so many samples
+unfoldable pub summing : Word → Word → Word → Word → Word → Word → Result Job WordsFault
+summing system rate threshold fineness follow smooth =
+    with_sound (sound_in system rate threshold) (λ sound. value_or 4 (fineness_in sound.rate fineness) (λ f.
+    value_or 5 (following_in sound.threshold follow) (λ t. value_or 6 (between 1 MAX_SMOOTH smooth) (λ n.
+    Ok (sliced_job sound t f n)))))
 
 -- how loud sound is: a size from 1 to the greatest
 abbrev pub amplitude_in : Word → Option ℕ

@@ -37,6 +37,9 @@ pub const LTC_CONVERT: &str = "ltc-convert";
 /// The word of `Job::PcmLtc`.
 pub const PCM_LTC: &str = "pcm-ltc";
 
+/// The word of `Job::WavLtc`.
+pub const WAV_LTC: &str = "wav-ltc";
+
 /// The word of `Job::LtcPcm`.
 pub const LTC_PCM: &str = "ltc-pcm";
 

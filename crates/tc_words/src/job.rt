@@ -6,6 +6,7 @@ use crate::line_stripe::LineStripe;
 use crate::load::LoadRun;
 use crate::slicing::Slicing;
 use crate::stripe::Stripe;
+use crate::wave_slicing::WaveSlicing;
 use tc_address::Label;
 use tc_files::FileVersion;
 
@@ -47,9 +48,12 @@ pub enum Job {
     LtcLoad { run: LoadRun },
     /// `ltc-convert VERSION`: reads an interval file, and writes it in this version.
     LtcConvert { version: FileVersion },
-    /// `pcm-ltc SYSTEM RATE THRESHOLD [FINENESS [follow]]`: reads samples of sound, and writes an interval
-    /// file of the distances of their crossings.
+    /// `pcm-ltc SYSTEM RATE THRESHOLD [FINENESS [follow|deep [SMOOTH]]]`: reads samples of sound, and writes
+    /// an interval file of the distances of their crossings.
     PcmLtc { slicing: Slicing },
+    /// `wav-ltc SYSTEM TRACK THRESHOLD [SMOOTH [deep]]`: reads a sound file, and writes an interval file of
+    /// the distances of the crossings of a track.
+    WavLtc { slicing: WaveSlicing },
     /// `ltc-pcm LEVEL`: reads an interval file, and writes it as samples of sound.
     LtcPcm { amplitude: Amplitude },
     /// `vitc-read`: reads a line file, and writes a line for each field.

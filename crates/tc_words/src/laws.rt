@@ -5,6 +5,7 @@ ghost use Rattle.tc_words.specs.declared.chase_run.TheConstants.{MAX_SLIP};
 ghost use Rattle.tc_words.specs.declared.slicing.TheConstants.{MAX_FINENESS, MAX_SIZE};
 ghost use Rattle.tc_words.specs.declared.load.TheConstants.{MAX_WORDS};
 ghost use Rattle.tc_words.specs.declared.stripe.TheConstants.{MAX_FRAMES, MAX_TICK_RATE};
+ghost use Rattle.tc_words.specs.declared.wave_slicing.TheConstants.{MAX_TRACKS};
 
 /// Each command has its word.
 pub fn each_command_has_its_word()
@@ -20,6 +21,7 @@ pub fn each_command_has_its_word()
     ensures ltc_load { commands.LTC_LOAD.now ≡ codes "ltc-load" }
     ensures ltc_convert { commands.LTC_CONVERT.now ≡ codes "ltc-convert" }
     ensures pcm_ltc { commands.PCM_LTC.now ≡ codes "pcm-ltc" }
+    ensures wav_ltc { commands.WAV_LTC.now ≡ codes "wav-ltc" }
     ensures ltc_pcm { commands.LTC_PCM.now ≡ codes "ltc-pcm" }
     ensures vitc_read { commands.VITC_READ.now ≡ codes "vitc-read" }
     ensures vitc_make { commands.VITC_MAKE.now ≡ codes "vitc-make" }
@@ -29,12 +31,14 @@ pub fn each_command_has_its_word()
 
 /// A run makes a million frames at most, in ticks of a clock of a hundred million a second at most; a
 /// load run reads a hundred thousand words at most. A sample has 64 ticks at most, and a size of 15 bits. A
+/// sound file has 64 tracks at most. A
 /// transport is told to slip by a thousand subframes at most.
 pub fn the_limits_are_these()
     ensures frames { MAX_FRAMES ≡ 1000000 }
     ensures tick_rate { MAX_TICK_RATE ≡ 100000000 }
     ensures fineness { MAX_FINENESS ≡ 64 }
     ensures size { MAX_SIZE ≡ 2 ^ 15 - 1 }
+    ensures tracks { MAX_TRACKS ≡ 64 }
     ensures words { MAX_WORDS ≡ 100000 }
     ensures slip { MAX_SLIP ≡ 1000 }
 {}

@@ -8,7 +8,7 @@
 //! `answer_to`). A task is a job that is streamed, or a chase.
 //!
 //! Read `commands`, `fault`, `job`, `stripe`, `tape`, `jam`, `chase_run`, `chase_words`, `line_stripe`, `lines`, `load`, `slicing`, `amplitude`,
-//! `sound`, `values` and `words`, with `specs/Job.antt` and `specs/Values.antt` beside them: `words` and `Job.antt` have the same
+//! `sound`, `wave_slicing`, `wave`, `values` and `words`, with `specs/Job.antt` and `specs/Values.antt` beside them: `words` and `Job.antt` have the same
 //! rows. `tc_top` stands on this crate.
 //!
 //! A later command joins in these places:
@@ -35,6 +35,8 @@ mod sound;
 mod stripe;
 mod tape;
 mod values;
+mod wave;
+mod wave_slicing;
 mod words;
 
 pub use amplitude::Amplitude;
@@ -46,6 +48,7 @@ pub use line_stripe::LineStripe;
 pub use load::{LoadRun, MAX_WORDS};
 pub use slicing::{MAX_FINENESS, MAX_SIZE, Slicing};
 pub use stripe::{MAX_FRAMES, MAX_TICK_RATE, Stripe};
+pub use wave_slicing::{MAX_TRACKS, WaveSlicing};
 pub use words::read_words;
 
 #[cfg(test)]

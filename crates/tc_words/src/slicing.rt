@@ -1,4 +1,4 @@
-//! What `pcm-ltc` is told: how sound is sliced into intervals. Next: `tc_top/src/engines/pcm_ltc.rt`,
+//! What `pcm-ltc` is told: how sound is sliced into intervals. Next: `signal_commands/src/pcm_ltc.rt`,
 //! which slices it.
 ghost use Rattle.std.specs.Prelude.{◌≡◌, ◌*◌};
 ghost use Rattle.tc_words.specs.Slicing.{IsSlicing, slicing_of};
@@ -20,6 +20,7 @@ pub struct Slicing {
     rate: u32,
     threshold: Threshold,
     fineness: u32,
+    smooth: u32,
 }
 
 impl Model for Slicing {
@@ -27,25 +28,32 @@ impl Model for Slicing {
 
     ghost Value = { Slices };
 
-    ghost view = { λ s. slicing_of s.system s.rate s.threshold s.fineness };
+    ghost view = { λ s. slicing_of s.system s.rate s.threshold s.fineness s.smooth };
 
-    ghost invariant = { λ s. IsSlicing (slicing_of s.system s.rate s.threshold s.fineness) };
+    ghost invariant = { λ s. IsSlicing (slicing_of s.system s.rate s.threshold s.fineness s.smooth) };
 
-    ghost inverse = { λ s. record { system = s.system; rate = s.rate; threshold = s.threshold; fineness = s.fineness } };
+    ghost inverse = { λ s. record { system = s.system; rate = s.rate; threshold = s.threshold; fineness = s.fineness; smooth = s.smooth } };
 }
 
 impl Slicing {
-    /// Sound of this system, of so many samples a second, sliced at this threshold, so many ticks a
-    /// sample.
-    pub(crate) fn new(system: System, rate: u32, threshold: Threshold, fineness: u32) -> Slicing
-        requires { IsSlicing (slicing_of system rate threshold fineness) }
-        ensures { result ≡ slicing_of system rate threshold fineness }
+    /// Sound of this system, of so many samples a second, sliced at this threshold of sums, so many
+    /// ticks a sample, in sums of so many samples.
+    pub(crate) fn new(
+        system: System,
+        rate: u32,
+        threshold: Threshold,
+        fineness: u32,
+        smooth: u32,
+    ) -> Slicing
+        requires { IsSlicing (slicing_of system rate threshold fineness smooth) }
+        ensures { result ≡ slicing_of system rate threshold fineness smooth }
     {
         Slicing {
             system,
             rate,
             threshold,
             fineness,
+            smooth,
         }
     }
 
@@ -56,7 +64,7 @@ impl Slicing {
         self.system
     }
 
-    /// The threshold.
+    /// The threshold, of the sums: from 1 to `pcm_front::MAX_THRESHOLD`.
     pub fn threshold(&self) -> Threshold
         ensures value { result ≡ self.now.threshold }
         ensures valid { IsSlicing self.now }
@@ -70,6 +78,14 @@ impl Slicing {
         ensures valid { IsSlicing self.now }
     {
         self.fineness
+    }
+
+    /// Samples in a sum, from 1 to `pcm_front::MAX_SMOOTH`.
+    pub fn smooth(&self) -> u32
+        ensures value { result ≡ self.now.smooth }
+        ensures valid { IsSlicing self.now }
+    {
+        self.smooth
     }
 
     /// Ticks a second, from 1 to `MAX_TICK_RATE`.

@@ -1,8 +1,9 @@
 //! The values of `pcm-ltc` and `ltc-pcm`, word by word. Next: `slicing` and `amplitude`, which hold them.
 ghost use Rattle.std.specs.Prelude.{◌≡◌, ◌≤◌, ◌*◌, IfOk, IfSome};
 ghost use Rattle.pcm_front.specs.State.{IsThreshold};
+ghost use Rattle.pcm_front.specs.declared.window.TheConstants.{MAX_SMOOTH};
 ghost use Rattle.tc_words.specs.Slicing.{IsSize, IsSlicing, slicing_of};
-ghost use Rattle.tc_words.specs.Sound.{amplitude_in, fineness_in, following, following_in, in_samples, in_ticks, sliced_job, sound_in, IsSound};
+ghost use Rattle.tc_words.specs.Sound.{amplitude_in, fineness_in, following, following_in, in_samples, in_ticks, of_sums, sliced_job, sound_in, summing, IsSampleThreshold, IsSound};
 
 use crate::amplitude::Amplitude;
 use crate::fault::WordsFault;
@@ -10,7 +11,7 @@ use crate::job::Job;
 use crate::slicing::{MAX_FINENESS, MAX_SIZE, Slicing};
 use crate::stripe::MAX_TICK_RATE;
 use crate::values::{between, system_in};
-use pcm_front::Threshold;
+use pcm_front::{MAX_SMOOTH, Threshold};
 use tc_address::System;
 
 /// The values of the first three words.
@@ -28,7 +29,7 @@ pub(crate) fn in_samples(system: &str, rate: &str, threshold: &str) -> Result<Jo
     ensures { result ≡ in_samples system.now rate.now threshold.now }
 {
     let sound = sound_in(system, rate, threshold)?;
-    Ok(sound.job(Threshold::Fixed(sound.threshold), 1))
+    Ok(sound.job(Threshold::Fixed(sound.threshold), 1, 1))
 }
 
 /// The job of four words: so many ticks a sample.
@@ -43,7 +44,7 @@ pub(crate) fn in_ticks(
 {
     let sound = sound_in(system, rate, threshold)?;
     let fineness = fineness_in(sound.rate, fineness).ok_or(WordsFault::Value(4))?;
-    Ok(sound.job(Threshold::Fixed(sound.threshold), fineness))
+    Ok(sound.job(Threshold::Fixed(sound.threshold), fineness, 1))
 }
 
 /// The job of five words: a threshold that follows the level.
@@ -60,7 +61,26 @@ pub(crate) fn following(
     let sound = sound_in(system, rate, threshold)?;
     let fineness = fineness_in(sound.rate, fineness).ok_or(WordsFault::Value(4))?;
     let threshold = following_in(sound.threshold, follow).ok_or(WordsFault::Value(5))?;
-    Ok(sound.job(threshold, fineness))
+    Ok(sound.job(threshold, fineness, 1))
+}
+
+/// The job of six words: sums of so many samples.
+#[tactic(auto, unfolding(crate::specs::Sound::summing))]
+pub(crate) fn summing(
+    system: &str,
+    rate: &str,
+    threshold: &str,
+    fineness: &str,
+    follow: &str,
+    smooth: &str,
+) -> Result<Job, WordsFault>
+    ensures { result ≡ summing system.now rate.now threshold.now fineness.now follow.now smooth.now }
+{
+    let sound = sound_in(system, rate, threshold)?;
+    let fineness = fineness_in(sound.rate, fineness).ok_or(WordsFault::Value(4))?;
+    let threshold = following_in(sound.threshold, follow).ok_or(WordsFault::Value(5))?;
+    let smooth = between(1, MAX_SMOOTH, smooth).ok_or(WordsFault::Value(6))?;
+    Ok(sound.job(threshold, fineness, smooth))
 }
 
 /// The values of the first three words, or the first fault of them.
@@ -79,13 +99,17 @@ fn sound_in(system: &str, rate: &str, threshold: &str) -> Result<Sound, WordsFau
 }
 
 impl Sound {
-    /// The job of slicing it at this threshold, so many ticks a sample.
-    fn job(self, threshold: Threshold, fineness: u32) -> Job
-        requires { IsSlicing (slicing_of self.system self.rate threshold fineness) }
-        ensures { result ≡ sliced_job self threshold fineness }
+    /// The job of slicing it at this threshold, so many ticks a sample, in sums of so many samples.
+    fn job(self, threshold: Threshold, fineness: u32, smooth: u32) -> Job
+        requires threshold { IsSampleThreshold threshold }
+        requires some { 1 ≤ smooth }
+        requires most { smooth ≤ MAX_SMOOTH }
+        requires slicing { IsSlicing (slicing_of self.system self.rate (of_sums smooth threshold) fineness smooth) }
+        ensures { result ≡ sliced_job self threshold fineness smooth }
     {
+        let threshold = of_sums(smooth, threshold);
         Job::PcmLtc {
-            slicing: Slicing::new(self.system, self.rate, threshold, fineness),
+            slicing: Slicing::new(self.system, self.rate, threshold, fineness, smooth),
         }
     }
 }
@@ -103,14 +127,30 @@ fn fineness_in(rate: u32, word: &str) -> Option<u32>
     }
 }
 
-/// A threshold that follows the level, and is never below this.
+/// The threshold of sums of so many samples.
+pub(crate) fn of_sums(smooth: u32, threshold: Threshold) -> Threshold
+    requires some { 1 ≤ smooth }
+    requires most { smooth ≤ MAX_SMOOTH }
+    requires threshold { IsSampleThreshold threshold }
+    ensures value { result ≡ of_sums smooth threshold }
+    ensures valid { IsThreshold result }
+{
+    match threshold {
+        Threshold::Fixed(threshold) => Threshold::Fixed(smooth * threshold),
+        Threshold::Follow(least) => Threshold::Follow(smooth * least),
+        Threshold::Deep(least) => Threshold::Deep(smooth * least),
+    }
+}
+
+/// A threshold that follows the level, at a half or a quarter of it, and is never below this.
 fn following_in(least: u32, word: &str) -> Option<Threshold>
     requires { IsSize least }
     ensures value { result ≡ following_in least word.now }
-    ensures valid { IfSome result IsThreshold }
+    ensures valid { IfSome result IsSampleThreshold }
 {
     match word {
         "follow" => Some(Threshold::Follow(least)),
+        "deep" => Some(Threshold::Deep(least)),
         _ => None,
     }
 }

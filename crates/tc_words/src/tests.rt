@@ -118,10 +118,20 @@ fn the_first_fault_is_told(rt: HostRuntime) -> Result<(), Fail> {
         ("pcm-ltc 25 1562501 1000 64", WordsFault::Value(4)),
         ("pcm-ltc 25 100000000 1000 2", WordsFault::Value(4)),
         ("pcm-ltc 25 48000 1000 16 Follow", WordsFault::Value(5)),
+        ("pcm-ltc 25 48000 1000 16 deeper 0", WordsFault::Value(5)),
+        ("pcm-ltc 25 48000 1000 16 follow 0", WordsFault::Value(6)),
+        ("pcm-ltc 25 48000 1000 16 deep 17", WordsFault::Value(6)),
         (
-            "pcm-ltc 25 48000 1000 16 follow 1",
+            "pcm-ltc 25 48000 1000 16 follow 1 1",
             WordsFault::CountOfWords,
         ),
+        ("wav-ltc 25 1", WordsFault::CountOfWords),
+        ("wav-ltc 30d 0 0 0 follow", WordsFault::Value(1)),
+        ("wav-ltc 25 65 0 0 follow", WordsFault::Value(2)),
+        ("wav-ltc 25 64 32768 0 follow", WordsFault::Value(3)),
+        ("wav-ltc 25 64 32767 17 follow", WordsFault::Value(4)),
+        ("wav-ltc 25 64 32767 16 follow", WordsFault::Value(5)),
+        ("wav-ltc 25 1 1 1 deep 1", WordsFault::CountOfWords),
         ("ltc-pcm", WordsFault::CountOfWords),
         ("ltc-pcm 0", WordsFault::Value(1)),
         ("ltc-pcm 32768", WordsFault::Value(1)),
@@ -158,7 +168,7 @@ fn label_text(task: &Task) -> Option<[u8; 11]> {
 fn label_text_of(job: &Job) -> Option<[u8; 11]> {
     match job {
         Job::LtcRead | Job::LtcWorn | Job::LtcFly { .. } | Job::LtcConvert { .. } => None,
-        Job::PcmLtc { .. } | Job::LtcPcm { .. } => None,
+        Job::PcmLtc { .. } | Job::WavLtc { .. } | Job::LtcPcm { .. } => None,
         Job::LtcJam { .. } | Job::VitcRead => None,
         Job::LtcChase { run } => Some(text(&run.label())),
         Job::LtcMtc { .. } | Job::MtcRead | Job::LtcLoad { .. } => None,
@@ -179,6 +189,20 @@ fn slicing_in(task: &Task) -> Option<Slicing> {
 fn slicing_of(job: &Job) -> Option<Slicing> {
     match job {
         Job::PcmLtc { slicing } => Some(*slicing),
+        _ => None,
+    }
+}
+
+fn wave_slicing_in(task: &Task) -> Option<WaveSlicing> {
+    match task {
+        Task::Stream(job) => wave_slicing_of(job),
+        Task::Chase { .. } => None,
+    }
+}
+
+fn wave_slicing_of(job: &Job) -> Option<WaveSlicing> {
+    match job {
+        Job::WavLtc { slicing } => Some(*slicing),
         _ => None,
     }
 }
@@ -293,6 +317,12 @@ fn slicings_and_levels_are_read(rt: HostRuntime) -> Result<(), Fail> {
             16,
             768_000,
         ),
+        (
+            "pcm-ltc 25 48000 32767 16 deep 16",
+            Threshold::Deep(524_272),
+            16,
+            768_000,
+        ),
     ] {
         let words = typed(alloc, line)?;
         let Ok(task) = read_words(alloc, &words) else {
@@ -304,6 +334,27 @@ fn slicings_and_levels_are_read(rt: HostRuntime) -> Result<(), Fail> {
         assert_eq!(rt; slicing.threshold(), threshold, "at {line}");
         assert_eq!(rt; slicing.fineness(), fineness, "at {line}");
         assert_eq!(rt; slicing.tick_rate(), tick_rate, "at {line}");
+    }
+    for (line, track, threshold, smooth) in [
+        ("wav-ltc 24 1 1", 1, Threshold::Follow(1), 1),
+        ("wav-ltc 30 64 250 3", 64, Threshold::Follow(750), 3),
+        (
+            "wav-ltc 25 2 32767 16 deep",
+            2,
+            Threshold::Deep(524_272),
+            16,
+        ),
+    ] {
+        let words = typed(alloc, line)?;
+        let Ok(task) = read_words(alloc, &words) else {
+            return Err("no task".into());
+        };
+        let Some(wave) = wave_slicing_in(&task) else {
+            return Err("no slicing of a file".into());
+        };
+        assert_eq!(rt; wave.track(), track, "at {line}");
+        assert_eq!(rt; wave.threshold(), threshold, "at {line}");
+        assert_eq!(rt; wave.smooth(), smooth, "at {line}");
     }
     for (line, limit, cell, tick_rate) in [
         ("ltc-jam 0 16 1", 0, 16, 1),

@@ -3,7 +3,7 @@
 ghost use Rattle.std.specs.Prelude.{◌≡◌, ◌⊎◌, map, position, string_bytes, alloc_error};
 ghost use Rattle.command_words.specs.CommandLine.{begins_with_dash};
 ghost use Rattle.tc_words.specs.Job.{answer_to, without_dashes, job_of, no_values, ltc_fly, ltc_mtc, ltc_jam, ltc_chase, number, label_of, ltc_make};
-ghost use Rattle.tc_words.specs.Job.{ltc_convert, pcm_ltc, ltc_pcm, task_of, chase, ltc_load, vitc_make};
+ghost use Rattle.tc_words.specs.Job.{ltc_convert, pcm_ltc, wav_ltc, ltc_pcm, task_of, chase, ltc_load, vitc_make};
 
 use crate::chase_words::chased;
 use crate::commands;
@@ -12,10 +12,11 @@ use crate::jam::Jam;
 use crate::job::{Job, Task};
 use crate::lines::in_lines;
 use crate::load::{LoadRun, MAX_WORDS};
-use crate::sound::{amplitude_in, following, in_samples, in_ticks};
+use crate::sound::{amplitude_in, following, in_samples, in_ticks, summing};
 use crate::stripe::MAX_TICK_RATE;
 use crate::tape::{at_one_length, moving};
 use crate::values::{between, count_in, limit_in, number_in, numbered, spelled, version_in};
+use crate::wave::{in_dull_wave, in_smooth_wave, in_wave};
 use biphase::{MAX_SHAPED, MIN_SHAPED};
 use command_words::CommandLine;
 use std::alloc::Global;
@@ -96,6 +97,7 @@ fn job_of(command: &str, values: &[&str]) -> Result<Job, WordsFault>
         commands::LTC_LOAD => ltc_load(values),
         commands::LTC_CONVERT => ltc_convert(values),
         commands::PCM_LTC => pcm_ltc(values),
+        commands::WAV_LTC => wav_ltc(values),
         commands::LTC_PCM => ltc_pcm(values),
         commands::VITC_READ => no_values(values, Job::VitcRead),
         commands::VITC_MAKE => vitc_make(values),
@@ -211,7 +213,7 @@ fn ltc_convert(values: &[&str]) -> Result<Job, WordsFault>
     Ok(Job::LtcConvert { version })
 }
 
-// `pcm-ltc SYSTEM RATE THRESHOLD [FINENESS [follow]]`
+// `pcm-ltc SYSTEM RATE THRESHOLD [FINENESS [follow|deep [SMOOTH]]]`
 fn pcm_ltc(values: &[&str]) -> Result<Job, WordsFault>
     ensures { result ≡ pcm_ltc (map (λ v. v.now) values.now) }
 {
@@ -220,6 +222,23 @@ fn pcm_ltc(values: &[&str]) -> Result<Job, WordsFault>
         [system, rate, threshold, fineness] => in_ticks(system, rate, threshold, fineness),
         [system, rate, threshold, fineness, follow] => {
             following(system, rate, threshold, fineness, follow)
+        }
+        [system, rate, threshold, fineness, follow, smooth] => {
+            summing(system, rate, threshold, fineness, follow, smooth)
+        }
+        _ => Err(WordsFault::CountOfWords),
+    }
+}
+
+// `wav-ltc SYSTEM TRACK THRESHOLD [SMOOTH [deep]]`
+fn wav_ltc(values: &[&str]) -> Result<Job, WordsFault>
+    ensures { result ≡ wav_ltc (map (λ v. v.now) values.now) }
+{
+    match values {
+        [system, track, threshold] => in_wave(system, track, threshold),
+        [system, track, threshold, smooth] => in_smooth_wave(system, track, threshold, smooth),
+        [system, track, threshold, smooth, deep] => {
+            in_dull_wave(system, track, threshold, smooth, deep)
         }
         _ => Err(WordsFault::CountOfWords),
     }

@@ -1,4 +1,4 @@
-use Rattle.pcm_front.proofs.Sums.{sums_near}
+use Rattle.pcm_front.proofs.NearSums.{sums_near}
 use Rattle.pcm_front.proofs.laws.a_finer_distance_is_near.Goals as goal
 
 pub returns : goal.returns

@@ -1,36 +1,34 @@
-use Rattle.std.proofs.Common.{◌+◌, take, subst, arith}
-use Rattle.std.proofs.lemmas.List.{take_rest}
-use Rattle.pcm_front.proofs.SampleBySample.{runs_then, ticks_in_parts, RunsTo}
+use Rattle.std.proofs.Common.{◌≡◌, ◌≤◌, ◌+◌, ◌*◌, ◌/◌, ◌^◌, ℕ, ◌++◌, take, length, subst, ap, sym, ◌∙◌, mul-le-mul_left, arith}
+use Rattle.std.specs.Option.{option_to_list}
+use Rattle.pcm_front.specs.Distance.{distances_by}
+use Rattle.pcm_front.specs.Samples.{samples_of}
+use Rattle.pcm_front.specs.StandsFor.{settings_of, StandsFor}
+use Rattle.pcm_front.proofs.InBytes.{length_samples_of, take-samples_of}
 use Rattle.pcm_front.proofs.slicer.Slicer.run.Goals as goal
 
--- the samples with which the sound stays on its side, and then the others
-pub returns-clause-tick : goal.returns-clause-tick
-returns-clause-tick c =
-    let s = c.still-still.ensures.tick in
-    let m = c.sample_by_sample-more.ensures.tick in
-    let later = rw c.still-still.ensures.fineness at m.2 in
-    (s.0 + m.0, omega (arith, s.1, m.1), omega (arith, s.2, later, ticks_in_parts c.args.self.now.fineness s.0 m.0))
+pub up_to_distance-count-requires : goal.up_to_distance-count-requires
+up_to_distance-count-requires c =
+    let f = c.args.self.now.finder.fineness in
+    let bytes = c.args.bytes.now in
+    let fewer : f * length (samples_of bytes) ≤ f * length bytes = mul-le-mul_left f (omega (arith, length_samples_of bytes)) in
+    omega (arith, fewer, c.requires)
+
+pub overflow_mul-result : goal.overflow_mul-result
+overflow_mul-result c = let within = c.up_to_distance-count.ensures.within in omega (arith, within, length_samples_of c.args.bytes.now, c.type_inv.bytes)
+
+pub returns-clause-within : goal.returns-clause-within
+returns-clause-within c = omega (arith, c.up_to_distance-count.ensures.within, length_samples_of c.args.bytes.now)
+
+pub returns-clause-some : goal.returns-clause-some
+returns-clause-some c = λ two.
+    let one = c.up_to_distance-count.ensures.some (omega (arith, two, length_samples_of c.args.bytes.now)) in omega (arith, one)
 
 pub returns-clause-stands : goal.returns-clause-stands
-returns-clause-stands c =
-    let s = c.still-still.ensures in
-    let m = c.sample_by_sample-more.ensures in
-    let n = c.sample_by_sample-more.result.0 in
-    let distance = c.sample_by_sample-more.result.1 in
-    let rest = subst (λ l. RunsTo c.still-still.new.self c.sample_by_sample-more.new.self (take n l) distance) (take_rest c.args.bytes.now c.still-still.result)
-    (record { stands = m.stands; brings = m.distances }) in
-    (runs_then c.args.self.now c.still-still.new.self c.sample_by_sample-more.new.self c.still-still.result n s.tick.0 c.args.bytes.now distance
-    s.tick.1 s.within
-    s.fineness s.threshold s.stands s.none rest).stands
+returns-clause-stands c = λ front stands.
+    let e = c.up_to_distance-count.ensures in
+    rw (sym (take-samples_of c.up_to_distance-count.result.0 c.args.bytes.now e.within)) (e.stands front stands)
 
 pub returns-clause-distances : goal.returns-clause-distances
-returns-clause-distances c =
-    let s = c.still-still.ensures in
-    let m = c.sample_by_sample-more.ensures in
-    let n = c.sample_by_sample-more.result.0 in
-    let distance = c.sample_by_sample-more.result.1 in
-    let rest = subst (λ l. RunsTo c.still-still.new.self c.sample_by_sample-more.new.self (take n l) distance) (take_rest c.args.bytes.now c.still-still.result)
-    (record { stands = m.stands; brings = m.distances }) in
-    (runs_then c.args.self.now c.still-still.new.self c.sample_by_sample-more.new.self c.still-still.result n s.tick.0 c.args.bytes.now distance
-    s.tick.1 s.within
-    s.fineness s.threshold s.stands s.none rest).brings
+returns-clause-distances c = λ front stands.
+    let e = c.up_to_distance-count.ensures in
+    rw (sym (take-samples_of c.up_to_distance-count.result.0 c.args.bytes.now e.within)) (e.distances front stands)

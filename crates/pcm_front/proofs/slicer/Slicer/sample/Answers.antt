@@ -1,12 +1,28 @@
-use Rattle.std.proofs.Common.{to_z-of_z}
-use Rattle.pcm_front.proofs.StandsStill.{stands_still, brings_distance}
+use Rattle.std.specs.Int.{w16, w32}
+use Rattle.std.proofs.Common.{FitsSigned, rules, ◌≡◌, [], ◌∷◌, to_z-of_z}
+use Rattle.pcm_front.specs.State.{FinderState, WindowState, distance_at}
+use Rattle.pcm_front.proofs.Together.{one_taken, RunsTo}
 use Rattle.pcm_front.proofs.slicer.Slicer.sample.Goals as goal
 
 -- the step is that of a slicer that stands for the samples
 pub returns-clause-stands : goal.returns-clause-stands
-returns-clause-stands c = λ samples stands.
-    rw (c.step.ensures.state, to_z-of_z c.ranges.sample) (stands_still c.args.self.now samples c.args.sample stands)
+returns-clause-stands c =
+    let fits : FitsSigned w16 c.args.sample = search rules in
+    let fits_too : FitsSigned w32 c.sum_with-sum.result = search rules in
+    let value = rw (to_z-of_z fits) at c.sum_with-sum.ensures.value in
+    let pushed = rw (to_z-of_z fits) at c.push.ensures in
+    let state = rw (to_z-of_z fits_too) at c.step.ensures.state in
+    let distance = rw (to_z-of_z fits_too) at c.step.ensures.distance in
+    (one_taken c.args.self.now.finder c.step.new.self c.args.self.now.window c.push.new.self c.args.sample c.sum_with-sum.result c.step.result
+    c.sum_with-sum.ensures.some value pushed state distance).stands
 
 pub returns-clause-distance : goal.returns-clause-distance
-returns-clause-distance c = λ samples stands.
-    rw (c.step.ensures.distance, to_z-of_z c.ranges.sample) (brings_distance c.args.self.now samples c.args.sample stands)
+returns-clause-distance c =
+    let fits : FitsSigned w16 c.args.sample = search rules in
+    let fits_too : FitsSigned w32 c.sum_with-sum.result = search rules in
+    let value = rw (to_z-of_z fits) at c.sum_with-sum.ensures.value in
+    let pushed = rw (to_z-of_z fits) at c.push.ensures in
+    let state = rw (to_z-of_z fits_too) at c.step.ensures.state in
+    let distance = rw (to_z-of_z fits_too) at c.step.ensures.distance in
+    (one_taken c.args.self.now.finder c.step.new.self c.args.self.now.window c.push.new.self c.args.sample c.sum_with-sum.result c.step.result
+    c.sum_with-sum.ensures.some value pushed state distance).brings

@@ -1,0 +1,10 @@
+//! Where the first distance begins. Next: `samples`.
+
+/// Where the first distance begins.
+#[derive(Clone, Copy, Debug, PartialEq, Eq)]
+pub enum Start {
+    /// At the first crossing.
+    Crossing,
+    /// At tick 0, the place of the first sample.
+    Tick,
+}

@@ -1,0 +1,25 @@
+-- What is told of a sound file that is to be sliced.
+use Rattle.std.specs.Prelude.{ℕ, ◌≤◌}
+use Rattle.pcm_front.specs.declared.threshold.Threshold.{Threshold}
+use Rattle.pcm_front.specs.declared.window.TheConstants.{MAX_SMOOTH}
+use Rattle.pcm_front.specs.State.{IsThreshold}
+use Rattle.tc_address.specs.declared.system.System.{System}
+use Rattle.tc_words.specs.declared.wave_slicing.TheConstants.{MAX_TRACKS}
+
+-- time code of a system, in a track, at a threshold of sums, in sums of so many samples
+pub record SlicesWave : Type 0 where
+  pub system : System
+  pub track : ℕ
+  pub threshold : Threshold
+  pub smooth : ℕ
+
+abbrev pub wave_slicing_of : System → ℕ → Threshold → ℕ → SlicesWave
+wave_slicing_of system track threshold smooth = record { system = system; track = track; threshold = threshold; smooth = smooth }
+
+-- a track that a file can have, and sums of some samples and not too many
+pub record IsWaveSlicing (s : SlicesWave) : Type 0 where
+  pub some_track : 1 ≤ s.track
+  pub not_too_many : s.track ≤ MAX_TRACKS
+  pub threshold : IsThreshold s.threshold
+  pub some_in_sum : 1 ≤ s.smooth
+  pub most_in_sum : s.smooth ≤ MAX_SMOOTH

@@ -1,0 +1,107 @@
+//! The values of `wav-ltc`, word by word. Next: `wave_slicing`, which holds them.
+ghost use Rattle.std.specs.Prelude.{◌≡◌, ◌≤◌, IfOk, IfSome};
+ghost use Rattle.pcm_front.specs.declared.window.TheConstants.{MAX_SMOOTH};
+ghost use Rattle.tc_words.specs.Slicing.{IsSize};
+ghost use Rattle.tc_words.specs.Sound.{of_sums, IsSampleThreshold};
+ghost use Rattle.tc_words.specs.Wave.{deep_in, in_dull_wave, in_smooth_wave, in_wave, wave_in, wave_job, IsWave};
+
+use crate::fault::WordsFault;
+use crate::job::Job;
+use crate::slicing::MAX_SIZE;
+use crate::sound::of_sums;
+use crate::values::{between, system_in};
+use crate::wave_slicing::{MAX_TRACKS, WaveSlicing};
+use pcm_front::{MAX_SMOOTH, Threshold};
+use tc_address::System;
+
+/// The values of the first three words.
+#[derive(Clone, Copy)]
+struct Wave {
+    system: System,
+    track: u32,
+    threshold: u32,
+}
+
+/// The job of three words: each sample stands for itself.
+#[tactic(auto, unfolding(crate::specs::Wave::in_wave))]
+pub(crate) fn in_wave(system: &str, track: &str, threshold: &str) -> Result<Job, WordsFault>
+    ensures { result ≡ in_wave system.now track.now threshold.now }
+{
+    let wave = wave_in(system, track, threshold)?;
+    Ok(wave.job(Threshold::Follow(wave.threshold), 1))
+}
+
+/// The job of four words: sums of so many samples.
+#[tactic(auto, unfolding(crate::specs::Wave::in_smooth_wave))]
+pub(crate) fn in_smooth_wave(
+    system: &str,
+    track: &str,
+    threshold: &str,
+    smooth: &str,
+) -> Result<Job, WordsFault>
+    ensures { result ≡ in_smooth_wave system.now track.now threshold.now smooth.now }
+{
+    let wave = wave_in(system, track, threshold)?;
+    let smooth = between(1, MAX_SMOOTH, smooth).ok_or(WordsFault::Value(4))?;
+    Ok(wave.job(Threshold::Follow(wave.threshold), smooth))
+}
+
+/// The job of five words: a threshold at a quarter of the level.
+#[tactic(auto, unfolding(crate::specs::Wave::in_dull_wave))]
+pub(crate) fn in_dull_wave(
+    system: &str,
+    track: &str,
+    threshold: &str,
+    smooth: &str,
+    deep: &str,
+) -> Result<Job, WordsFault>
+    ensures { result ≡ in_dull_wave system.now track.now threshold.now smooth.now deep.now }
+{
+    let wave = wave_in(system, track, threshold)?;
+    let smooth = between(1, MAX_SMOOTH, smooth).ok_or(WordsFault::Value(4))?;
+    let threshold = deep_in(wave.threshold, deep).ok_or(WordsFault::Value(5))?;
+    Ok(wave.job(threshold, smooth))
+}
+
+/// The values of the first three words, or the first fault of them.
+fn wave_in(system: &str, track: &str, threshold: &str) -> Result<Wave, WordsFault>
+    ensures value { result ≡ wave_in system.now track.now threshold.now }
+    ensures valid { IfOk result IsWave }
+{
+    let system = system_in(system).ok_or(WordsFault::Value(1))?;
+    let track = between(1, MAX_TRACKS, track).ok_or(WordsFault::Value(2))?;
+    let threshold = between(1, MAX_SIZE, threshold).ok_or(WordsFault::Value(3))?;
+    Ok(Wave {
+        system,
+        track,
+        threshold,
+    })
+}
+
+impl Wave {
+    /// The job of slicing it at this threshold, in sums of so many samples.
+    fn job(self, threshold: Threshold, smooth: u32) -> Job
+        requires wave { IsWave self }
+        requires threshold { IsSampleThreshold threshold }
+        requires some { 1 ≤ smooth }
+        requires most { smooth ≤ MAX_SMOOTH }
+        ensures { result ≡ wave_job self threshold smooth }
+    {
+        let threshold = of_sums(smooth, threshold);
+        Job::WavLtc {
+            slicing: WaveSlicing::new(self.system, self.track, threshold, smooth),
+        }
+    }
+}
+
+/// A threshold at a quarter of the level, and never below this.
+fn deep_in(least: u32, word: &str) -> Option<Threshold>
+    requires { IsSize least }
+    ensures value { result ≡ deep_in least word.now }
+    ensures valid { IfSome result IsSampleThreshold }
+{
+    match word {
+        "deep" => Some(Threshold::Deep(least)),
+        _ => None,
+    }
+}

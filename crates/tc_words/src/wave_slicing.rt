@@ -1,0 +1,79 @@
+//! What `wav-ltc` is told: how a track of a sound file is sliced into intervals. Next:
+//! `signal_commands/src/wav_ltc.rt`, which slices it.
+ghost use Rattle.std.specs.Prelude.{◌≡◌};
+ghost use Rattle.tc_words.specs.WaveSlicing.{IsWaveSlicing, wave_slicing_of};
+
+use pcm_front::Threshold;
+use std::marker::Model;
+use tc_address::System;
+
+/// The greatest number of tracks in a sound file.
+pub const MAX_TRACKS: u32 = 64;
+
+/// A track of a sound file, and how it is sliced.
+#[derive(Clone, Copy, Debug, PartialEq, Eq)]
+pub struct WaveSlicing {
+    system: System,
+    track: u32,
+    threshold: Threshold,
+    smooth: u32,
+}
+
+impl Model for WaveSlicing {
+    ghost use Rattle.tc_words.specs.WaveSlicing.{IsWaveSlicing, SlicesWave, wave_slicing_of};
+
+    ghost Value = { SlicesWave };
+
+    ghost view = { λ s. wave_slicing_of s.system s.track s.threshold s.smooth };
+
+    ghost invariant = { λ s. IsWaveSlicing (wave_slicing_of s.system s.track s.threshold s.smooth) };
+
+    ghost inverse = { λ s. record { system = s.system; track = s.track; threshold = s.threshold; smooth = s.smooth } };
+}
+
+impl WaveSlicing {
+    /// Time code of this system, in this track, sliced at this threshold of sums, in sums of so many
+    /// samples.
+    pub(crate) fn new(system: System, track: u32, threshold: Threshold, smooth: u32) -> WaveSlicing
+        requires { IsWaveSlicing (wave_slicing_of system track threshold smooth) }
+        ensures { result ≡ wave_slicing_of system track threshold smooth }
+    {
+        WaveSlicing {
+            system,
+            track,
+            threshold,
+            smooth,
+        }
+    }
+
+    /// The system of the time code.
+    pub fn system(&self) -> System
+        ensures { result ≡ self.now.system }
+    {
+        self.system
+    }
+
+    /// The track, from 1 to `MAX_TRACKS`.
+    pub fn track(&self) -> u32
+        ensures value { result ≡ self.now.track }
+        ensures valid { IsWaveSlicing self.now }
+    {
+        self.track
+    }
+
+    /// The threshold, of the sums: from 1 to `pcm_front::MAX_THRESHOLD`.
+    pub fn threshold(&self) -> Threshold
+        ensures value { result ≡ self.now.threshold }
+        ensures valid { IsWaveSlicing self.now }
+    {
+        self.threshold
+    }
+
+    /// Samples in a sum, from 1 to `pcm_front::MAX_SMOOTH`.
+    pub fn smooth(&self) -> u32
+        ensures value { result ≡ self.now.smooth }
+        ensures valid { IsWaveSlicing self.now }
+    {
+        self.smooth
+    }
+}
