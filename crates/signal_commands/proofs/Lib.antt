@@ -1,6 +1,9 @@
 mod AreCommands
+mod DueSamples
 mod FieldsGrow
 mod MidiGrows
 mod MidiLimit
 mod PutMore
 mod SlicedOn
+mod SlicedTracks
+mod TrackGoesOn

@@ -1,28 +1,33 @@
 //! What follows from the definitions alone.
 ghost use Rattle.std.specs.Prelude.{◌≡◌};
 ghost use Rattle.tc_words.specs.Slicing.{Slices};
+ghost use Rattle.tc_words.specs.WaveSlicing.{SlicesWave};
 ghost use Rattle.tc_command.specs.Command.{IsCommand};
 ghost use Rattle.signal_commands.specs.declared.mtc_read.TheConstants.{MAX_BYTES};
 ghost use Rattle.signal_commands.specs.declared.pcm_ltc.TheConstants.{MAX_SAMPLES};
 ghost use Rattle.signal_commands.specs.MtcRead.{along_midi};
 ghost use Rattle.signal_commands.specs.PcmLtc.{along_samples};
 ghost use Rattle.signal_commands.specs.VitcRead.{along_fields};
+ghost use Rattle.signal_commands.specs.WavLtc.{along_sound_file};
 
 use line_file::laws::{
     answers_of_a_front_come_first, bytes_have_one_list_of_answers, what_bytes_show_stays,
 };
 use mtc_reader::laws::earlier_events_stay;
 use pcm_front::laws::distances_of_a_front_come_first;
+use wave_file::laws::what_a_sound_file_shows_stays;
 
 /// Each of them is a command as any other: what it writes comes first and is one, and what bytes show
 /// stays.
 pub fn each_signal_makes_a_command()
     ensures midi { IsCommand along_midi }
     ensures samples { (slicing : Slices) → IsCommand (along_samples slicing) }
+    ensures tracks { (slicing : SlicesWave) → IsCommand (along_sound_file slicing) }
     ensures fields { IsCommand along_fields }
 {
     earlier_events_stay();
     distances_of_a_front_come_first();
+    what_a_sound_file_shows_stays();
     answers_of_a_front_come_first();
     bytes_have_one_list_of_answers();
     what_bytes_show_stays();

@@ -14,8 +14,11 @@
 pub mod laws;
 mod mtc_read;
 mod pcm_ltc;
+mod spelling;
 mod vitc_read;
+mod wav_ltc;
 
 pub use mtc_read::{MAX_BYTES, read_midi};
 pub use pcm_ltc::{MAX_SAMPLES, slice_sound};
 pub use vitc_read::read_fields;
+pub use wav_ltc::slice_track;

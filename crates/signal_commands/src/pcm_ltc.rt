@@ -1,20 +1,15 @@
 //! The engine of `pcm-ltc`: an interval file of the crossings of sound. Next:
 //! `pcm_front/src/slicer.rt`, and then `tc_command/src/gathered.rt`.
-ghost use Rattle.std.specs.Prelude.{◌≡◌, ◌+◌, ◌*◌, ◌≤◌, ◌^◌, ◌++◌, ℕ, List, [], length, take, OnOk, OnErr, IfOk, IfErr, Err};
+ghost use Rattle.std.specs.Prelude.{◌≡◌, ◌+◌, ◌*◌, ◌≤◌, ◌^◌, ◌++◌, ℕ, List, [], length, take, OnOk, IfOk, IfErr, Err};
 ghost use Rattle.std.specs.Io.KnownBytes.{Appends};
-ghost use Rattle.pcm_front.specs.Distance.{pieces_of};
-ghost use Rattle.tc_files.specs.declared.interval_file.header.FileVersion.{FileVersion};
-ghost use Rattle.tc_files.specs.Grammar.{intervals_bytes};
-ghost use Rattle.tc_files.specs.Piece.{spelling};
-ghost use Rattle.tc_io.specs.Sink.{AppendsFront};
 ghost use Rattle.tc_command.specs.Causes.{HasOutCause, HasSourceCause};
 ghost use Rattle.tc_command.specs.Ran.{CameToItsEnd, StoppedBefore};
 ghost use Rattle.signal_commands.specs.KeptSlices.{IsGoing, Slices, Stands};
 ghost use Rattle.signal_commands.specs.PcmLtc.{along_samples};
 ghost use Rattle.tc_command.specs.Stops.{Stops};
 
-use byteorder::{BigEndian, ByteOrder};
-use pcm_front::{MAX_INTERVAL, Slicer, pieces};
+use crate::spelling::spell;
+use pcm_front::Slicer;
 use tc_command::{Engine, Gathered, Stop, work};
 use tc_files::{FileFault, FileVersion, IntervalHeader, interval_header};
 use tc_io::{Sink, Source};
@@ -114,35 +109,6 @@ fn within(bytes: &[u8], samples: u64) -> &[u8]
     } else {
         bytes
     }
-}
-
-/// Spells the intervals of a distance.
-fn spell<K: Sink>(gathered: &mut Gathered, distance: u64, out: &mut K) -> Result<(), Stop>
-    requires least { 1 ≤ distance }
-    requires most { distance ≤ 2 ^ 62 }
-    ensures all { OnOk result ((more : List ℕ) × Appends (K.written out.old) (K.written out.new) more
-        × (gathered.old.room.items ++ intervals_bytes FileVersion.One (pieces_of distance) ≡ more ++ gathered.new.room.items)) }
-    ensures front { OnErr result (AppendsFront (K.written out.old) (K.written out.new)
-        (gathered.old.room.items ++ intervals_bytes FileVersion.One (pieces_of distance))) }
-    ensures why { IfErr result (λ stop. stop ≡ Stop.WriteFault) }
-    ensures cause { HasOutCause (K.faults out.old) (K.faults out.new) result }
-{
-    let (whole, rest) = pieces(distance);
-    'pieces: for _done in 0..whole {
-        gathered.put(&spelling(MAX_INTERVAL), out)?;
-    }
-    gathered.put(&spelling(rest), out)
-}
-
-/// The bytes of an interval.
-fn spelling(x: u32) -> [u8; 4]
-    requires least { 1 ≤ x }
-    requires most { x ≤ MAX_INTERVAL }
-    ensures { result ≡ spelling FileVersion.One x }
-{
-    let mut bytes = [0; 4];
-    BigEndian::write_u32(&mut bytes, x);
-    bytes
 }
 
 impl Engine for SlicedSound {

@@ -304,6 +304,7 @@ header_fault_read bytes (fault.LineLength place) is = absurd is
 header_fault_read bytes (fault.LineCount place) is = absurd is
 header_fault_read bytes (fault.RunCount place) is = absurd is
 header_fault_read bytes (fault.Run place) is = absurd is
+header_fault_read bytes (fault.Sound f) is = absurd is
 header_fault_read bytes (fault.Truncated place) is =
     let read = ends_in_header bytes is.1 in
     (read.0, read.1 ∙ ap (λ (n : ℕ). Some (fault.Truncated n)) (sym is.0))

@@ -122,6 +122,7 @@ in_header_fault bytes (fault.LineLength n) is = absurd is
 in_header_fault bytes (fault.LineCount n) is = absurd is
 in_header_fault bytes (fault.RunCount n) is = absurd is
 in_header_fault bytes (fault.Run n) is = absurd is
+in_header_fault bytes (fault.Sound f) is = absurd is
 
 open_fault : (bytes : List ℕ) (header : IntervalHeader) (intervals : List ℕ) → IsOpen bytes header intervals → (progress_of bytes).fault ≡ None
 open_fault bytes header intervals is =
@@ -142,6 +143,7 @@ rest_fault bytes header intervals (fault.LineLength n) is = absurd is.fails
 rest_fault bytes header intervals (fault.LineCount n) is = absurd is.fails
 rest_fault bytes header intervals (fault.RunCount n) is = absurd is.fails
 rest_fault bytes header intervals (fault.Run n) is = absurd is.fails
+rest_fault bytes header intervals (fault.Sound f) is = absurd is.fails
 
 fault_is : (bytes : List ℕ) (contents : Contents) → Says contents bytes → (progress_of bytes).fault ≡ piece_fault_in contents
 fault_is bytes (file header intervals) says = open_fault bytes header intervals (file_open bytes header intervals says)
@@ -389,6 +391,7 @@ header_alone bytes (faulty header intervals (fault.LineLength n)) says twelve no
 header_alone bytes (faulty header intervals (fault.LineCount n)) says twelve none = absurd says.fails
 header_alone bytes (faulty header intervals (fault.RunCount n)) says twelve none = absurd says.fails
 header_alone bytes (faulty header intervals (fault.Run n)) says twelve none = absurd says.fails
+header_alone bytes (faulty header intervals (fault.Sound f)) says twelve none = absurd says.fails
 
 read_header : (contents : Contents) → (read_of contents).header ≡ header_in contents
 read_header (file header intervals) = refl
@@ -465,6 +468,7 @@ brings bytes byte (no_header (fault.LineLength n)) now are small says with_it = 
 brings bytes byte (no_header (fault.LineCount n)) now are small says with_it = absurd says
 brings bytes byte (no_header (fault.RunCount n)) now are small says with_it = absurd says
 brings bytes byte (no_header (fault.Run n)) now are small says with_it = absurd says
+brings bytes byte (no_header (fault.Sound f)) now are small says with_it = absurd says
 brings bytes byte (faulty header intervals (fault.Truncated n)) now are small says with_it =
     open_brings bytes byte header intervals (faulty header intervals (fault.Truncated n)) now (bytes_too bytes byte are small)
     (cut_open bytes header intervals n says) (refl, refl) with_it
@@ -480,6 +484,7 @@ brings bytes byte (faulty header intervals (fault.LineLength n)) now are small s
 brings bytes byte (faulty header intervals (fault.LineCount n)) now are small says with_it = absurd says.fails
 brings bytes byte (faulty header intervals (fault.RunCount n)) now are small says with_it = absurd says.fails
 brings bytes byte (faulty header intervals (fault.Run n)) now are small says with_it = absurd says.fails
+brings bytes byte (faulty header intervals (fault.Sound f)) now are small says with_it = absurd says.fails
 
 -- ---- the end of the input
 

@@ -71,6 +71,7 @@ is_stuck version place rest (fault.LineLength n) fails = absurd fails
 is_stuck version place rest (fault.LineCount n) fails = absurd fails
 is_stuck version place rest (fault.RunCount n) fails = absurd fails
 is_stuck version place rest (fault.Run n) fails = absurd fails
+is_stuck version place rest (fault.Sound f) fails = absurd fails
 
 end_is_stuck : (version : FileVersion) → IsStuck version []
 end_is_stuck version = λ whole. let wide = widths version [] in let two = wide.0 in absurd (omega (arith, whole, two))

@@ -180,6 +180,7 @@ rest_read d header intervals place rest (fault.LineLength at_byte) is fails = ab
 rest_read d header intervals place rest (fault.LineCount at_byte) is fails = absurd fails
 rest_read d header intervals place rest (fault.RunCount at_byte) is fails = absurd fails
 rest_read d header intervals place rest (fault.Run at_byte) is fails = absurd fails
+rest_read d header intervals place rest (fault.Sound f) is fails = absurd fails
 
 pub rest_fault_read : (bytes : List ℕ) (header : IntervalHeader) (intervals : List ℕ) (first : FileFault) → IsFaulty bytes header intervals first
     → (recording_of bytes ≡ within_limit header intervals (length intervals + whole_in first) (shown first)) × (end_fault_of bytes ≡ Some first)

@@ -1,9 +1,10 @@
--- The faults of an interval file and of a line file: the name of each in notes, and its byte place.
+-- The faults of an interval file, of a line file and of a sound file: the name of each in notes, and its byte place.
 use Rattle.std.specs.Prelude.{ℕ, List}
 use Rattle.tc_files.specs.declared.names.TheConstants as names
 use Rattle.tc_files.specs.declared.fault.FileFault.{FileFault}
 use Rattle.tc_files.specs.declared.fault.FileFault.TheVariants.{Magic, Version, System, Reserved, TickRate, LineLength, Interval, LineCount, RunCount}
-use Rattle.tc_files.specs.declared.fault.FileFault.TheVariants.{Run, Truncated}
+use Rattle.tc_files.specs.declared.fault.FileFault.TheVariants.{Run, Truncated, Sound}
+use Rattle.wave_file.specs.Fault as sound
 
 -- the name that notes print
 abbrev pub name_of : FileFault → List ℕ
@@ -18,6 +19,7 @@ name_of (LineCount _) = names.LINE_COUNT_NAME.now
 name_of (RunCount _) = names.RUN_COUNT_NAME.now
 name_of (Run _) = names.RUN_NAME.now
 name_of (Truncated _) = names.TRUNCATED_NAME.now
+name_of (Sound fault) = sound.name_of fault
 
 -- the byte place at which the fault stands
 abbrev pub place_of : FileFault → ℕ
@@ -32,3 +34,4 @@ place_of (LineCount place) = place
 place_of (RunCount place) = place
 place_of (Run place) = place
 place_of (Truncated place) = place
+place_of (Sound fault) = sound.place_of fault

@@ -8,7 +8,7 @@ use Rattle.byteorder.specs.Endian.{big_number}
 use Rattle.biphase.specs.declared.cell.TheConstants.{MAX_INTERVAL}
 use Rattle.tc_files.specs.declared.fault.FileFault.{FileFault}
 use Rattle.tc_files.specs.declared.fault.FileFault.TheVariants.{Magic, Version, System, Reserved, TickRate, Interval, Truncated, LineLength}
-use Rattle.tc_files.specs.declared.fault.FileFault.TheVariants.{LineCount, RunCount, Run}
+use Rattle.tc_files.specs.declared.fault.FileFault.TheVariants.{LineCount, RunCount, Run, Sound}
 use Rattle.tc_files.specs.declared.interval_file.header.FileVersion.{FileVersion}
 use Rattle.tc_files.specs.declared.interval_file.header.IntervalHeader.{IntervalHeader}
 use Rattle.tc_files.specs.declared.interval_file.header.TheConstants.{MAGIC, HEADER_LENGTH, HEAD_LENGTH}
@@ -80,6 +80,7 @@ IsHeaderFault (LineLength place) bytes = ⊥
 IsHeaderFault (LineCount place) bytes = ⊥
 IsHeaderFault (RunCount place) bytes = ⊥
 IsHeaderFault (Run place) bytes = ⊥
+IsHeaderFault (Sound fault) bytes = ⊥
 IsHeaderFault (Truncated place) bytes = (place ≡ length bytes) × EndsInHeader bytes
 
 -- ---- a fault behind the header

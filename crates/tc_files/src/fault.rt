@@ -1,10 +1,12 @@
-//! The faults of an interval file and of a line file. Next: `tc_top/src/notes.rt`, which prints them.
+//! The faults of an interval file, of a line file and of a sound file. Next: `tc_top/src/notes.rt`, which prints them.
 ghost use Rattle.std.specs.Prelude.{◌≡◌};
 
 use crate::names;
 use thiserror::Error;
+use wave_file::WaveFault;
 
-/// The first fault of an interval file or of a line file, with the byte place, from 0, at which it stands.
+/// The first fault of an interval file, of a line file or of a sound file, with the byte place, from 0, at
+/// which it stands.
 #[derive(Clone, Copy, Debug, PartialEq, Eq, Error)]
 pub enum FileFault {
     /// One of the first four bytes is not that of the magic, `LTCI` or `VITL`.
@@ -40,6 +42,9 @@ pub enum FileFault {
     /// The input ends inside the header, or inside an interval or a field. The place is the number of its bytes.
     #[error("an input that ends too early")]
     Truncated(u64),
+    /// A sound file has a fault of its own.
+    #[error("a fault of a sound file")]
+    Sound(WaveFault),
 }
 
 impl FileFault {
@@ -61,6 +66,7 @@ impl FileFault {
             FileFault::RunCount(_) => names::RUN_COUNT_NAME,
             FileFault::Run(_) => names::RUN_NAME,
             FileFault::Truncated(_) => names::TRUNCATED_NAME,
+            FileFault::Sound(fault) => fault.name(),
         }
     }
 
@@ -80,6 +86,7 @@ impl FileFault {
             | FileFault::RunCount(place)
             | FileFault::Run(place)
             | FileFault::Truncated(place) => place,
+            FileFault::Sound(fault) => fault.place(),
         }
     }
 }

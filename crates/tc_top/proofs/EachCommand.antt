@@ -8,6 +8,7 @@ use Rattle.flywheel.specs.declared.frame.Frame.{Frame}
 use Rattle.tc_words.specs.ChaseRun.{Chasing}
 use Rattle.tc_words.specs.Jam.{Jamming}
 use Rattle.tc_words.specs.Slicing.{Slices}
+use Rattle.tc_words.specs.WaveSlicing.{SlicesWave}
 use Rattle.tc_words.specs.declared.job.Job.{Job}
 use Rattle.tc_words.specs.declared.job.Job.TheVariants.{LtcRead, LtcWorn, LtcRough, LtcFly, LtcMtc, LtcJam, LtcChase, LtcConvert, LtcPcm}
 use Rattle.tc_command.specs.Command.{IsCommand}
@@ -27,8 +28,9 @@ use Rattle.frame_commands.specs.OfFrames.{AreTooMany, FrameText, IsFlightSpent, 
 use Rattle.signal_commands.specs.MtcRead.{along_midi}
 use Rattle.signal_commands.specs.PcmLtc.{along_samples}
 use Rattle.signal_commands.specs.VitcRead.{along_fields}
+use Rattle.signal_commands.specs.WavLtc.{along_sound_file}
 use Rattle.tc_top.specs.Commands.{HasMost, HasOwnLimit, IsLimited, Shape, meaning_by, meaning_of, shape_of}
-use Rattle.tc_top.specs.Commands.{writes_text, along_recording, along_its_frames, along_midi_bytes, along_sound, along_line_file}
+use Rattle.tc_top.specs.Commands.{writes_text, along_recording, along_its_frames, along_midi_bytes, along_sound, along_a_sound_file, along_line_file}
 
 -- a printing has no limit of its own
 abbrev NeverSpent : Printing → Type 0
@@ -53,6 +55,7 @@ pub record CommandLaws : Type 0 where
   pub steps : (run : Chasing) → AddsInOrder (lines_of_steps run)
   pub midi : IsCommand along_midi
   pub samples : (slicing : Slices) → IsCommand (along_samples slicing)
+  pub tracks : (slicing : SlicesWave) → IsCommand (along_sound_file slicing)
   pub fields : IsCommand along_fields
 
 -- each shape
@@ -62,6 +65,7 @@ by_shape laws (along_recording p) brings = along_is_command laws.grow p brings.0
 by_shape laws (along_its_frames limit made) brings = along_is_command laws.grow (along_frames limit made) (laws.frames limit made brings)
 by_shape laws along_midi_bytes brings = laws.midi
 by_shape laws (along_sound slicing) brings = laws.samples slicing
+by_shape laws (along_a_sound_file slicing) brings = laws.tracks slicing
 by_shape laws along_line_file brings = laws.fields
 
 -- what each job brings
@@ -94,6 +98,7 @@ unlimited (along_its_frames limit made) brings none input =
     (recording_of input)
 unlimited along_midi_bytes brings none input = λ spent. spent
 unlimited (along_sound slicing) brings none input = λ spent. spent
+unlimited (along_a_sound_file slicing) brings none input = λ spent. spent
 unlimited along_line_file brings none input = λ spent. spent
 
 pub unlimited_job : CommandLaws → (job : Job) → ¬ HasOwnLimit job → (input : List ℕ) → ¬ Meaning.spent (meaning_of job) input

@@ -9,4 +9,5 @@ mod ReportsTheTape
 mod SentIsRead
 mod SlicedAgain
 mod StoppedAnswer
+mod TrackOfAFile
 mod WordsAnswer

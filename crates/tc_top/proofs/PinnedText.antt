@@ -14,10 +14,15 @@ use Rattle.tc_files.specs.Grammar.{IsFile, file_of}
 use Rattle.tc_files.specs.Recording.{Recording, recording_of}
 use Rattle.tc_words.specs.ChaseRun.{Chasing}
 use Rattle.tc_words.specs.Jam.{Jamming}
+use Rattle.tc_words.specs.WaveSlicing.{SlicesWave}
 use Rattle.tc_words.specs.declared.job.Job.{Job}
 use Rattle.tc_words.specs.declared.job.Job.TheVariants.{LtcRead, LtcWorn, LtcRough, LtcFly, LtcMtc, LtcJam, LtcChase, MtcRead, LtcMake, LtcLoad}
-use Rattle.tc_words.specs.declared.job.Job.TheVariants.{LtcConvert, PcmLtc, LtcPcm, VitcRead, VitcMake, Number, LabelOf}
+use Rattle.tc_words.specs.declared.job.Job.TheVariants.{LtcConvert, PcmLtc, WavLtc, LtcPcm, VitcRead, VitcMake, Number, LabelOf}
 use Rattle.frame_commands.specs.declared.ltc_chase.TheConstants.{MAX_FRAMES}
+use Rattle.pcm_front.specs.Distance.{intervals_by}
+use Rattle.wave_file.specs.declared.format.WaveFormat.{WaveFormat}
+use Rattle.wave_file.specs.Wave.{Reading, reading_of}
+use Rattle.signal_commands.specs.WavLtc.{SlicesTheTrack, track_header, track_settings}
 use Rattle.tc_top.specs.CleanCopy.{IsClean}
 use Rattle.tc_command.specs.Exchange.{Exchange}
 use Rattle.frame_commands.specs.LtcChase.{FollowsTheCode, first_steps}
@@ -78,6 +83,15 @@ one_conversion laws version bytes a b p q =
     let same = laws.one_recording bytes p.header q.header p.intervals q.intervals p.from q.from in
     p.to.are ∙ ap₂ (λ (h : IntervalHeader) (xs : List ℕ). file_of (in_version version h) xs) same.0 same.1 ∙ sym q.to.are
 
+one_format : (r : Reading) (a b : WaveFormat) → r.format ≡ Some a → r.format ≡ Some b → a ≡ b
+one_format r a b p q = cc
+
+one_track : (w : SlicesWave) (bytes a b : List ℕ) → SlicesTheTrack w bytes a → SlicesTheTrack w bytes b → a ≡ b
+one_track w bytes a b p q =
+    let r = reading_of w.track bytes in
+    p.are ∙ ap (λ (f : WaveFormat). file_of (track_header w f) (intervals_by (track_settings w) r.samples)) (one_format r p.format q.format p.begins q.begins)
+    ∙ sym q.are
+
 pub one_text : PinnedLaws → (job : Job) (pulled : List ℕ) (e f : Exchange) → IsPinned job → e.pulled ≡ pulled → f.pulled ≡ pulled
     → Promise job e → Promise job f → e.written ≡ f.written
 one_text laws LtcRead pulled e f is x y p q =
@@ -101,6 +115,9 @@ one_text laws (LtcChase run) pulled e f is x y p q =
 one_text laws (LtcConvert version) pulled e f is x y p q =
     one_conversion laws version pulled e.written f.written (subst (λ (l : List ℕ). ConvertsTheFile version l e.written) x p)
     (subst (λ (l : List ℕ). ConvertsTheFile version l f.written) y q)
+one_text laws (WavLtc slicing) pulled e f is x y p q =
+    one_track slicing pulled e.written f.written (subst (λ (l : List ℕ). SlicesTheTrack slicing l e.written) x p)
+    (subst (λ (l : List ℕ). SlicesTheTrack slicing l f.written) y q)
 one_text laws (LtcMake stripe) pulled e f is x y p q = p.file.are ∙ sym q.file.are
 one_text laws (LtcLoad run) pulled e f is x y p q = p.line ∙ sym q.line
 one_text laws (VitcMake stripe) pulled e f is x y p q = p.are ∙ sym q.are

@@ -4,8 +4,9 @@ use Rattle.biphase.specs.declared.profile.Profile.TheVariants.{Normal, Worn, Rou
 use Rattle.tc_address.specs.Numbering.{number_of}
 use Rattle.tc_words.specs.declared.job.Job.{Job}
 use Rattle.tc_words.specs.declared.job.Job.TheVariants.{LtcRead, LtcWorn, LtcRough, LtcFly, LtcMtc, LtcJam, LtcChase, MtcRead, Number, LabelOf, LtcMake}
-use Rattle.tc_words.specs.declared.job.Job.TheVariants.{LtcConvert, PcmLtc, LtcPcm, LtcLoad, VitcRead, VitcMake}
+use Rattle.tc_words.specs.declared.job.Job.TheVariants.{LtcConvert, PcmLtc, WavLtc, LtcPcm, LtcLoad, VitcRead, VitcMake}
 use Rattle.tc_words.specs.Slicing.{Slices}
+use Rattle.tc_words.specs.WaveSlicing.{SlicesWave}
 use Rattle.tc_command.specs.Meaning.{Meaning, writes}
 use Rattle.interval_commands.specs.Along.{Printing, along_intervals}
 use Rattle.interval_commands.specs.LtcConvert.{conversion}
@@ -23,6 +24,7 @@ use Rattle.made_commands.specs.MadeLines.{made_lines}
 use Rattle.signal_commands.specs.MtcRead.{along_midi}
 use Rattle.signal_commands.specs.PcmLtc.{along_samples}
 use Rattle.signal_commands.specs.VitcRead.{along_fields}
+use Rattle.signal_commands.specs.WavLtc.{along_sound_file}
 
 pub data Shape : Type 1 where
   -- it reads nothing, and writes a text
@@ -35,6 +37,8 @@ pub data Shape : Type 1 where
   along_midi_bytes : Shape
   -- it reads samples of sound, and slices them so
   along_sound : Slices → Shape
+  -- it reads a sound file, and slices one of its tracks so
+  along_a_sound_file : SlicesWave → Shape
   -- it reads a line file
   along_line_file : Shape
 
@@ -45,6 +49,7 @@ meaning_by (along_recording printing) = along_intervals printing
 meaning_by (along_its_frames limit made) = along_intervals (along_frames limit made)
 meaning_by along_midi_bytes = along_midi
 meaning_by (along_sound slicing) = along_samples slicing
+meaning_by (along_a_sound_file slicing) = along_sound_file slicing
 meaning_by along_line_file = along_fields
 
 -- the record of each command
@@ -61,6 +66,7 @@ shape_of (LtcMake stripe) = writes_text (made stripe)
 shape_of (LtcLoad run) = writes_text (load_text run)
 shape_of (LtcConvert version) = along_recording (conversion version)
 shape_of (PcmLtc slicing) = along_sound slicing
+shape_of (WavLtc slicing) = along_a_sound_file slicing
 shape_of (LtcPcm size) = along_recording (made_sound size)
 shape_of VitcRead = along_line_file
 shape_of (VitcMake stripe) = writes_text (made_lines stripe)

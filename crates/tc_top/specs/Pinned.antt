@@ -1,6 +1,6 @@
 -- The commands whose promise names one text: it can be kept by no other bytes.
 use Rattle.tc_words.specs.declared.job.Job.{Job}
-use Rattle.tc_words.specs.declared.job.Job.TheVariants.{LtcRead, LtcWorn, LtcRough, LtcFly, LtcJam, LtcChase, LtcMake, LtcLoad, LtcConvert, VitcMake}
+use Rattle.tc_words.specs.declared.job.Job.TheVariants.{LtcRead, LtcWorn, LtcRough, LtcFly, LtcJam, LtcChase, LtcMake, LtcLoad, LtcConvert, WavLtc, VitcMake}
 
 abbrev pub IsPinned : Job → Type 0
 IsPinned LtcRead = Unit {0}
@@ -12,5 +12,6 @@ IsPinned (LtcChase run) = Unit {0}
 IsPinned (LtcMake stripe) = Unit {0}
 IsPinned (LtcLoad run) = Unit {0}
 IsPinned (LtcConvert version) = Unit {0}
+IsPinned (WavLtc slicing) = Unit {0}
 IsPinned (VitcMake stripe) = Unit {0}
 IsPinned _ = ⊥

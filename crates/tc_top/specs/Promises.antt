@@ -5,7 +5,7 @@ use Rattle.tc_files.specs.Grammar.{AreBytes}
 use Rattle.tc_files.specs.Recording.{recording_of}
 use Rattle.tc_words.specs.declared.job.Job.{Job}
 use Rattle.tc_words.specs.declared.job.Job.TheVariants.{LtcRead, LtcWorn, LtcRough, LtcFly, LtcMtc, LtcJam, LtcChase, MtcRead}
-use Rattle.tc_words.specs.declared.job.Job.TheVariants.{LtcMake, LtcLoad, LtcConvert, PcmLtc, LtcPcm, VitcRead}
+use Rattle.tc_words.specs.declared.job.Job.TheVariants.{LtcMake, LtcLoad, LtcConvert, PcmLtc, WavLtc, LtcPcm, VitcRead}
 use Rattle.tc_words.specs.declared.job.Job.TheVariants.{VitcMake, Number, LabelOf}
 use Rattle.tc_top.specs.CleanCopy.{IsClean}
 use Rattle.tc_top.specs.Commands.{meaning_of}
@@ -17,6 +17,7 @@ use Rattle.frame_commands.specs.LtcFly.{ShowsTheFrames}
 use Rattle.made_commands.specs.Made.{IsReadBack}
 use Rattle.made_commands.specs.MadeLines.{AreReadBack}
 use Rattle.tc_command.specs.Meaning.{Meaning, IsInput}
+use Rattle.signal_commands.specs.WavLtc.{SlicesTheTrack}
 use Rattle.tc_top.specs.SentAgain.{SendsTheFrames}
 use Rattle.tc_top.specs.SoundAgain.{IsSlicedAgain}
 use Rattle.tc_top.specs.Tape.{ReportsTheTape}
@@ -36,6 +37,7 @@ Promise (LtcMake stripe) e = IsReadBack stripe e.written
 Promise (LtcLoad run) e = IsAllRead run e.written
 Promise (LtcConvert version) e = ConvertsTheFile version e.pulled e.written
 Promise (PcmLtc slicing) e = Unit {0}
+Promise (WavLtc slicing) e = SlicesTheTrack slicing e.pulled e.written
 Promise (LtcPcm size) e = IsSlicedAgain size e.pulled e.written
 Promise VitcRead e = Unit {0}
 Promise (VitcMake stripe) e = AreReadBack stripe e.written

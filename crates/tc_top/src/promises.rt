@@ -2,6 +2,7 @@
 ghost use Rattle.std.specs.Prelude.{ℕ};
 ghost use Rattle.tc_files.specs.declared.interval_file.header.FileVersion.{FileVersion};
 ghost use Rattle.tc_words.specs.declared.job.Job.{Job};
+ghost use Rattle.tc_words.specs.WaveSlicing.{SlicesWave};
 ghost use Rattle.tc_top.specs.Promises.{KeepsItsPromise};
 
 use crate::laws::{what_is_chased_follows_the_code, what_is_jammed_is_read};
@@ -18,6 +19,7 @@ use pcm_front::laws::{
 use quarter_frame::laws::what_is_sent_is_read_back;
 use tc_files::laws::{a_file_is_read_as_it_was_written, bytes_are_read_as_the_text_says};
 use tc_words::{Amplitude, ChaseRun, Jam, Job, LineStripe, LoadRun, Stripe};
+use wave_file::laws::samples_are_few_and_behind_a_format;
 
 /// What a job writes of an input that it takes whole is what it promises.
 pub(crate) fn a_promise_is_kept(job: &Job)
@@ -33,6 +35,7 @@ pub(crate) fn a_promise_is_kept(job: &Job)
         Job::LtcLoad { run } => all_is_read(run),
         Job::LtcConvert { .. } => converts_the_file(),
         Job::LtcPcm { amplitude } => is_sliced_again(*amplitude),
+        Job::WavLtc { .. } => slices_the_track(),
         Job::VitcMake { stripe } => are_read_back(stripe),
         Job::MtcRead
         | Job::VitcRead
@@ -111,6 +114,13 @@ fn converts_the_file()
     ensures { (version : FileVersion) → KeepsItsPromise (Job.LtcConvert version) }
 {
     converting_keeps_the_recording();
+}
+
+/// What is pulled has a format, and what is written is the file of its track.
+fn slices_the_track()
+    ensures { (slicing : SlicesWave) → KeepsItsPromise (Job.WavLtc slicing) }
+{
+    samples_are_few_and_behind_a_format();
 }
 
 /// What is made is sliced into its intervals again.

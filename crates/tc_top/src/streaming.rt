@@ -17,7 +17,7 @@ use biphase::Profile;
 use frame_commands::{chase_code, fly_along, jam_sync, send_time_code};
 use interval_commands::{convert_recording, read_recording, sound_recording};
 use made_commands::{make_lines, make_recording, tell_label, tell_load, tell_number};
-use signal_commands::{read_fields, read_midi, slice_sound};
+use signal_commands::{read_fields, read_midi, slice_sound, slice_track};
 use tc_command::{Status, Stop, push_note, stop_note};
 use tc_io::{Sink, Source};
 use tc_words::Job;
@@ -88,6 +88,7 @@ fn work_on<S: Source, K: Sink>(job: &Job, source: &mut S, out: &mut K) -> Result
         Job::LtcLoad { run } => tell_load(run, source, out),
         Job::LtcPcm { amplitude } => sound_recording(*amplitude, source, out),
         Job::PcmLtc { slicing } => slice_sound(slicing, source, out),
+        Job::WavLtc { slicing } => slice_track(slicing, source, out),
         Job::MtcRead => read_midi(source, out),
         Job::VitcRead => read_fields(source, out),
         Job::VitcMake { stripe } => make_lines(stripe, source, out),

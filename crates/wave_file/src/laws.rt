@@ -1,9 +1,10 @@
 //! The numbers that code and definitions share, as the standards give them; and what follows from the
 //! definitions alone.
-ghost use Rattle.std.specs.Prelude.{◌≡◌, ◌^◌, ℕ, ℤ, List, [], ◌∷◌};
+ghost use Rattle.std.specs.Prelude.{◌≡◌, ◌^◌, ℕ, ℤ, List, [], ◌∷◌, ◌++◌};
 ghost use Rattle.byteorder.specs.Endian.{big_number};
 ghost use Rattle.wave_file.specs.declared.chunk.TheConstants as chunk;
 ghost use Rattle.wave_file.specs.declared.stage.TheConstants.{MAX_BYTES, MAX_SAMPLES};
+ghost use Rattle.wave_file.specs.GoesOn.{GoesOn, IsWithin};
 ghost use Rattle.wave_file.specs.StandsFor.{Decoding, StandsFor, IsDecoding, IsTold, format_in_decoding};
 ghost use Rattle.wave_file.specs.Wave.{good, reading_of};
 
@@ -29,4 +30,16 @@ pub fn the_letters_are_these()
 pub fn a_decoder_tells_the_file()
     ensures { (d : Decoding) (bytes : List ℕ) (samples : List ℤ) → IsDecoding d → StandsFor d bytes samples
         → IsTold (reading_of d.track bytes) (format_in_decoding d) samples good }
+{}
+
+/// What bytes show of a sound file they show whatever follows: its format, a fault and the limit stay, and
+/// their samples come first.
+pub fn what_a_sound_file_shows_stays()
+    ensures { (track : ℕ) (bytes more : List ℕ) → GoesOn (reading_of track bytes) (reading_of track (bytes ++ more)) }
+{}
+
+/// Whatever the bytes, no more samples are read than the limit, and before a format there are none, and the
+/// input may not end.
+pub fn samples_are_few_and_behind_a_format()
+    ensures { (track : ℕ) (bytes : List ℕ) → IsWithin (reading_of track bytes) }
 {}

@@ -1,4 +1,5 @@
 use Rattle.signal_commands.proofs.AreCommands.{fields_are_command, midi_is_command, samples_are_command}
+use Rattle.signal_commands.proofs.TrackGoesOn.{track_is_command}
 use Rattle.signal_commands.proofs.laws.each_signal_makes_a_command.Goals as goal
 
 pub returns-clause-midi : goal.returns-clause-midi
@@ -6,6 +7,9 @@ returns-clause-midi c = midi_is_command c.earlier_events_stay.ensures
 
 pub returns-clause-samples : goal.returns-clause-samples
 returns-clause-samples c = samples_are_command c.distances_of_a_front_come_first.ensures
+
+pub returns-clause-tracks : goal.returns-clause-tracks
+returns-clause-tracks c = track_is_command c.distances_of_a_front_come_first.ensures c.what_a_sound_file_shows_stays.ensures
 
 pub returns-clause-fields : goal.returns-clause-fields
 returns-clause-fields c = fields_are_command (record {

@@ -19,5 +19,6 @@ returns-clause-file c = λ job input status none is. by_file (meaning_of job) in
   steps = c.each_sink_of_frames_adds_in_order.ensures.steps;
   midi = c.each_signal_makes_a_command.ensures.midi;
   samples = c.each_signal_makes_a_command.ensures.samples;
+  tracks = c.each_signal_makes_a_command.ensures.tracks;
   fields = c.each_signal_makes_a_command.ensures.fields;
 }) job none input) is

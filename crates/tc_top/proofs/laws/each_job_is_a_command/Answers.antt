@@ -14,5 +14,6 @@ returns c = each_command (record {
   steps = c.each_sink_of_frames_adds_in_order.ensures.steps;
   midi = c.each_signal_makes_a_command.ensures.midi;
   samples = c.each_signal_makes_a_command.ensures.samples;
+  tracks = c.each_signal_makes_a_command.ensures.tracks;
   fields = c.each_signal_makes_a_command.ensures.fields;
 })

@@ -3,7 +3,7 @@ use Rattle.std.specs.Io.KnownBytes.{Appends}
 use Rattle.pcm_front.specs.Distance.{greatest}
 use Rattle.tc_files.specs.declared.interval_file.header.FileVersion.TheVariants.{One}
 use Rattle.tc_files.specs.Grammar.{intervals_bytes}
-use Rattle.signal_commands.proofs.pcm_ltc.spell.Given as goal
+use Rattle.signal_commands.proofs.spelling.spell.Given as goal
 
 -- what was pushed, and what is gathered, are what was gathered before and the greatest intervals so far
 abbrev pub invariant-pieces : goal.invariant-pieces

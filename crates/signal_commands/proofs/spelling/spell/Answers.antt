@@ -6,7 +6,7 @@ use Rattle.tc_files.specs.Piece.{spelling}
 use Rattle.tc_command.specs.KeptWorks.{at_err, on_err, on_ok}
 use Rattle.signal_commands.proofs.PutMore.{last_piece, one_piece, pieces_from}
 use Rattle.tc_command.specs.KeptGathered.{put_front, put_more}
-use Rattle.signal_commands.proofs.pcm_ltc.spell.Goals as goal
+use Rattle.signal_commands.proofs.spelling.spell.Goals as goal
 
 -- what was gathered was not taken
 pub returns-in_err-put-clause-front : goal.returns-in_err-put-clause-front
@@ -24,7 +24,7 @@ returns-in_err-put-clause-front g c =
 pub pieces-preserved : goal.pieces-preserved
 pieces-preserved g c =
     let i = c.pieces.invariant in
-    let e = rw c.spelling.ensures at c.in_ok-put.ensures in
+    let e = rw c.interval_bytes.ensures at c.in_ok-put.ensures in
     record {
       put = put_more _ _ _ c.args.gathered.now.room.items (intervals_bytes One (replicate c.pieces._done greatest)) c.pieces.gathered.room.items
           (spelling One greatest) c.put.new.self.room.items (intervals_bytes One (replicate (c.pieces._done + 1) greatest)) i.put e.all
@@ -39,7 +39,7 @@ returns-clause-all g c =
     let whole = c.pieces-whole.result.0 in
     let rest = c.pieces-whole.result.1 in
     let all : c.pieces._done ≡ whole = omega (arith, c.pieces-test.false, c.pieces.auto._done-end) in
-    let e = rw c.spelling-2.ensures at c.put-2.ensures in
+    let e = rw c.interval_bytes-2.ensures at c.put-2.ensures in
     on_ok c.put-2.result e.all (λ put.
     put_more _ _ _ c.args.gathered.now.room.items (intervals_bytes One (replicate c.pieces._done greatest)) c.pieces.gathered.room.items
     (spelling One rest) c.put-2.new.self.room.items (intervals_bytes One (pieces_of c.args.distance)) i.put put

@@ -1,0 +1,66 @@
+-- The bytes that samples bring are those that each run of them brings, one run after another.
+use Rattle.std.proofs.Common.{◌≡◌, ℕ, ◌+◌, ◌-◌, ◌≤◌, ℤ, List, [], ◌∷◌, ◌++◌, length, take, drop, sym, ◌∙◌, ap, subst, append_assoc, append-nil, arith, Some, None}
+use Rattle.std.specs.declared.option.Option.{Option}
+use Rattle.std.specs.Option.{option_to_list}
+use Rattle.std.specs.List.{flat_map}
+use Rattle.std.proofs.lemmas.Grind.{common_steps, flat_map-append}
+use Rattle.std.proofs.lemmas.List.{take-append-drop, drop-take}
+use Rattle.pcm_front.specs.Distance.{distances_by, pieces_of}
+use Rattle.pcm_front.specs.Settings.{Settings}
+use Rattle.tc_files.specs.declared.interval_file.header.FileVersion.TheVariants.{One}
+use Rattle.tc_files.specs.Grammar.{intervals_bytes}
+use Rattle.tc_files.specs.Piece.{spelling}
+use Rattle.tc_io.specs.Sink.{AppendsFront}
+use Rattle.tc_command.specs.KeptGathered.{IsPut}
+use Rattle.signal_commands.specs.KeptTrack.{AreDue, spelled}
+
+-- what a distance brings
+abbrev pub due_at : Option ℕ → List ℕ
+due_at distance = intervals_bytes One (flat_map pieces_of (option_to_list distance))
+
+pub due_at_some : (distance : Option ℕ) (d : ℕ) → distance ≡ Some d → due_at distance ≡ intervals_bytes One (pieces_of d)
+due_at_some distance d is = ap due_at is ∙ ap (intervals_bytes One) (append-nil (pieces_of d))
+
+pub due_at_none : (distance : Option ℕ) → distance ≡ None → due_at distance ≡ []
+due_at_none distance is = ap due_at is
+
+-- no samples bring nothing
+pub none_due : (s : Settings) (front : List ℤ) → AreDue s front [] []
+none_due s front = ap (spelled s) (append-nil front) ∙ sym (append-nil (spelled s front))
+
+-- a run more
+pub due_more : (s : Settings) (front before run : List ℤ) (due : List ℕ) (distance : Option ℕ) → AreDue s front before due
+    → distances_by s ((front ++ before) ++ run) ≡ distances_by s (front ++ before) ++ option_to_list distance
+    → AreDue s front (before ++ run) (due ++ due_at distance)
+due_more s front before run due distance are brings =
+    let so_far = distances_by s (front ++ before) in
+    ap (spelled s) (sym (append_assoc front before run))
+    ∙ ap (λ (ds : List ℕ). intervals_bytes One (flat_map pieces_of ds)) brings
+    ∙ ap (intervals_bytes One) (flat_map-append pieces_of so_far (option_to_list distance))
+    ∙ flat_map-append (spelling One) (flat_map pieces_of so_far) (flat_map pieces_of (option_to_list distance))
+    ∙ ap (λ (l : List ℕ). l ++ due_at distance) are ∙ append_assoc (spelled s front) due (due_at distance)
+
+-- and what the others bring behind it
+pub due_behind : (s : Settings) (front before rest all : List ℤ) (due more : List ℕ) → before ++ rest ≡ all → AreDue s front before due
+    → AreDue s (front ++ before) rest more → AreDue s front all (due ++ more)
+due_behind s front before rest all due more split are behind =
+    ap (λ (l : List ℤ). spelled s (front ++ l)) (sym split) ∙ ap (spelled s) (sym (append_assoc front before rest)) ∙ behind
+    ∙ ap (λ (l : List ℕ). l ++ more) are ∙ append_assoc (spelled s front) due more
+
+-- a run behind those before a place
+pub cut_run : (k n : ℕ) (xs : List ℤ) → k ≤ length xs → k + n ≤ length xs
+    → take k xs ++ take n (take (length xs - k) (drop k xs)) ≡ take (k + n) xs
+cut_run k n xs within less =
+    let all : take (length xs - k) (drop k xs) ≡ drop k xs = grind (arith, common_steps) in
+    let cut = take-append-drop k (take (k + n) xs) in
+    let behind = drop-take k n xs in
+    let front : take k (take (k + n) xs) ≡ take k xs = grind (arith, common_steps) in
+    rw (all, ← behind, ← front) cut
+
+-- what was not taken of some bytes was not taken of more
+pub front_of_longer : (old new : Option (List ℕ)) (room a b : List ℕ) → AppendsFront old new (room ++ a) → AppendsFront old new (room ++ (a ++ b))
+front_of_longer old new room a b f = (
+  f.0,
+  (f.1.0 ++ b, sym (append_assoc room a b) ∙ ap (λ (l : List ℕ). l ++ b) f.1.1 ∙ append_assoc f.0 f.1.0 b),
+  f.2,
+)

@@ -1,0 +1,290 @@
+-- A file of a track grows by the intervals of the samples that more bytes bring; what stops the reading leaves the file of the samples before it.
+use Rattle.std.proofs.Common.{◌≡◌, ℕ, ◌+◌, ◌*◌, ◌^◌, ◌≤◌, ℤ, List, [], ◌∷◌, ◌++◌, Option, Some, None, length, take, drop, inl, refl, sym, ◌∙◌, ap, ap₂}
+use Rattle.std.proofs.Common.{subst, append_assoc, append-nil, arith, mul-le-mul}
+use Rattle.std.specs.Io.KnownBytes.{Appends}
+use Rattle.std.proofs.KnownBytes.{Appends-nil}
+use Rattle.std.proofs.lemmas.List.{length-append, take-append-drop}
+use Rattle.pcm_front.specs.Settings.{Settings}
+use Rattle.pcm_front.specs.StandsFor as pcm
+use Rattle.pcm_front.specs.StandsFor.{settings_of, tick_of}
+use Rattle.tc_files.specs.declared.fault.FileFault.TheVariants.{Sound}
+use Rattle.tc_files.specs.IntervalHeader.{header_bytes}
+use Rattle.tc_io.specs.Sink.{AppendsFront}
+use Rattle.tc_words.specs.WaveSlicing.{SlicesWave}
+use Rattle.wave_file.specs.declared.decoder.Taken.TheVariants as taken
+use Rattle.wave_file.specs.declared.fault.WaveFault.{WaveFault}
+use Rattle.wave_file.specs.declared.format.WaveFormat.{WaveFormat}
+use Rattle.wave_file.specs.declared.stage.TheConstants.{MAX_BYTES, MAX_SAMPLES}
+use Rattle.wave_file.specs.GoesOn.{IsWithin}
+use Rattle.wave_file.specs.StandsFor.{Decoding, StandsFor, IsTold, StopsAt, bytes_taken, format_in_decoding, no_decoding}
+use Rattle.wave_file.specs.Wave.{Verdict, good, refused, past_limit, reading_of}
+use Rattle.tc_command.specs.declared.stop.Stop.TheVariants as stops
+use Rattle.tc_command.specs.KeptGathered.{IsPut}
+use Rattle.tc_command.specs.Stops.{Stops}
+use Rattle.pcm_front.specs.declared.slicer.Slicer.{Slicer}
+use Rattle.signal_commands.specs.declared.wav_ltc.SlicedTrack.{SlicedTrack}
+use Rattle.signal_commands.specs.KeptTrack.{AreDue, IsGoing, Stands, spelled}
+use Rattle.signal_commands.specs.WavLtc.{along_sound_file, track_file, track_header, track_of, track_settings, verdict_of}
+use Rattle.signal_commands.proofs.TrackGoesOn.{file_with}
+
+-- what holds of whatever bytes say
+abbrev pub Reads : Type 0
+Reads = (track : ℕ) (bytes : List ℕ) → IsWithin (reading_of track bytes)
+
+-- ---- the samples that were read
+
+pub none_yet : Reads → (track : ℕ) (bytes : List ℕ) (format : Option WaveFormat) (samples : List ℤ) (v : Verdict)
+    → IsTold (reading_of track bytes) format samples v → format ≡ None → samples ≡ []
+none_yet reads track bytes format samples v told none =
+    sym told.samples_are ∙ (reads track bytes).none (told.format_is ∙ none)
+
+pub few_samples : Reads → (track : ℕ) (bytes : List ℕ) (format : Option WaveFormat) (samples : List ℤ) (v : Verdict)
+    → IsTold (reading_of track bytes) format samples v → length samples ≤ MAX_SAMPLES
+few_samples reads track bytes format samples v told =
+    let few = (reads track bytes).few in
+    let same = ap length told.samples_are in omega (arith, few, same)
+
+-- ---- the file
+
+nothing_more : (xs due : List ℕ) → xs ≡ xs ++ due → due ≡ []
+nothing_more [] due e = sym e
+nothing_more (x ∷ xs) due e = nothing_more xs due (ap (drop 1) e)
+
+-- a file grows by what is due
+longer_file : (w : SlicesWave) (format : Option WaveFormat) (samples more : List ℤ) (due : List ℕ) → (format ≡ None → samples ++ more ≡ [])
+    → AreDue (track_settings w) samples more due → track_file w format (samples ++ more) ≡ track_file w format samples ++ due
+longer_file w (Some format) samples more due none are = file_with w format samples more due are
+longer_file w None (x ∷ samples) more due none are = let e = none refl in absurd cc
+longer_file w None [] (x ∷ more) due none are = let e = none refl in absurd cc
+longer_file w None [] [] due none are = sym (nothing_more (spelled (track_settings w) []) due are)
+
+-- what was written and what is gathered are the file of the bytes
+file_is : (s : SlicedTrack) (front written : List ℕ) → Stands s front written → written ++ s.gathered.room.items ≡ track_of s.slicing front
+file_is s front written stands =
+    let told = stands.told in stands.are ∙ ap₂ (track_file s.slicing) (sym told.format_is) (sym told.samples_are)
+
+-- ---- more bytes
+
+-- what the decoder says of more bytes
+pub record Decodes (s next : SlicedTrack) (bytes : List ℕ) (samples : List ℤ) : Type 0 where
+  pub slicing : next.slicing ≡ s.slicing
+  pub track : next.decoder.track ≡ s.decoder.track
+  pub within : bytes_taken next.decoder ≤ MAX_BYTES
+  pub stands : (front : List ℕ) (before : List ℤ) → StandsFor s.decoder front before → StandsFor next.decoder (front ++ bytes) (before ++ samples)
+  pub told : (all : List ℕ) (given : List ℤ) → StandsFor next.decoder all given
+      → IsTold (reading_of next.decoder.track all) (format_in_decoding next.decoder) given good
+
+-- and the slicer of the samples in them
+pub record Slices (s next : SlicedTrack) (samples : List ℤ) : Type 0 where
+  pub settings : settings_of next.slicer ≡ settings_of s.slicer
+  pub stands : (before : List ℤ) → pcm.StandsFor s.slicer before → pcm.StandsFor next.slicer (before ++ samples)
+
+same_track : (s next : SlicedTrack) (front written bytes : List ℕ) (samples : List ℤ) → Stands s front written → Decodes s next bytes samples
+    → next.decoder.track ≡ s.slicing.track
+same_track s next front written bytes samples stands decodes = decodes.track ∙ stands.track
+
+pub told_on : (s next : SlicedTrack) (front written bytes : List ℕ) (samples : List ℤ) (stands : Stands s front written) → Decodes s next bytes samples
+    → IsTold (reading_of s.slicing.track (front ++ bytes)) (format_in_decoding next.decoder) (stands.samples ++ samples) good
+told_on s next front written bytes samples stands decodes =
+    subst (λ (t : ℕ). IsTold (reading_of t (front ++ bytes)) (format_in_decoding next.decoder) (stands.samples ++ samples) good)
+    (same_track s next front written bytes samples stands decodes)
+    (decodes.told (front ++ bytes) (stands.samples ++ samples) (decodes.stands front stands.samples stands.decoder))
+
+moved : (s next : SlicedTrack) (front written bytes more : List ℕ) (samples : List ℤ) (stands : Stands s front written)
+    → Decodes s next bytes samples → Slices s next samples
+    → (written ++ more) ++ next.gathered.room.items ≡ track_file s.slicing (format_in_decoding next.decoder) (stands.samples ++ samples)
+    → Stands next (front ++ bytes) (written ++ more)
+moved s next front written bytes more samples stands decodes slices are =
+    let same = decodes.slicing in
+    let told = told_on s next front written bytes samples stands decodes in
+    record {
+      samples = stands.samples ++ samples;
+      settings = slices.settings ∙ stands.settings ∙ ap track_settings (sym same);
+      track = same_track s next front written bytes samples stands decodes ∙ ap (λ (w : SlicesWave). w.track) (sym same);
+      within = decodes.within;
+      decoder = decodes.stands front stands.samples stands.decoder;
+      told = subst (λ (w : SlicesWave). IsTold (reading_of w.track (front ++ bytes)) (format_in_decoding next.decoder) (stands.samples ++ samples) good)
+          (sym same) told;
+      slicer = slices.stands stands.samples stands.slicer;
+      are = are ∙ ap (λ (w : SlicesWave). track_file w (format_in_decoding next.decoder) (stands.samples ++ samples)) (sym same);
+    }
+
+-- the file with the samples in them
+grown_file : Reads → (s next : SlicedTrack) (front written bytes due : List ℕ) (samples : List ℤ) (stands : Stands s front written)
+    → Decodes s next bytes samples → format_in_decoding next.decoder ≡ format_in_decoding s.decoder
+    → AreDue (settings_of s.slicer) stands.samples samples due
+    → written ++ (s.gathered.room.items ++ due) ≡ track_file s.slicing (format_in_decoding next.decoder) (stands.samples ++ samples)
+grown_file reads s next front written bytes due samples stands decodes same are =
+    let told = told_on s next front written bytes samples stands decodes in
+    let none = none_yet reads s.slicing.track (front ++ bytes) (format_in_decoding next.decoder) (stands.samples ++ samples) good told in
+    let by_words = subst (λ (x : Settings). AreDue x stands.samples samples due) stands.settings are in
+    sym (append_assoc written s.gathered.room.items due)
+    ∙ ap (λ (l : List ℕ). l ++ due) (stands.are ∙ ap (λ (f : Option WaveFormat). track_file s.slicing f stands.samples) (sym same))
+    ∙ sym (longer_file s.slicing (format_in_decoding next.decoder) stands.samples samples due none by_words)
+
+-- samples were taken, and what they bring was pushed or is gathered
+pub sliced_on : Reads → (s next : SlicedTrack) (front written bytes due : List ℕ) (samples : List ℤ) (old new : Option (List ℕ))
+    (stands : Stands s front written) → Decodes s next bytes samples → Slices s next samples
+    → format_in_decoding next.decoder ≡ format_in_decoding s.decoder → AreDue (settings_of s.slicer) stands.samples samples due
+    → IsPut old new s.gathered.room.items due next.gathered.room.items
+    → (more : List ℕ) × Appends old new more × Stands next (front ++ bytes) (written ++ more)
+sliced_on reads s next front written bytes due samples old new stands decodes slices same are put = (
+  put.0,
+  put.1,
+  moved s next front written bytes put.0 samples stands decodes slices
+      (append_assoc written put.0 next.gathered.room.items ∙ ap (λ (l : List ℕ). written ++ l) (sym put.2)
+      ∙ grown_file reads s next front written bytes due samples stands decodes same are),
+)
+
+same_slicer : (s next : SlicedTrack) → next.slicer ≡ s.slicer → Slices s next []
+same_slicer s next same = record {
+  settings = ap settings_of same;
+  stands = λ before stands. rw (same, append-nil before) stands;
+}
+
+-- bytes without a sample
+pub passed_on : (s next : SlicedTrack) (front written bytes : List ℕ) (old : Option (List ℕ)) → Stands s front written → Decodes s next bytes []
+    → next.slicer ≡ s.slicer → next.gathered.room.items ≡ s.gathered.room.items → format_in_decoding next.decoder ≡ format_in_decoding s.decoder
+    → (more : List ℕ) × Appends old old more × Stands next (front ++ bytes) (written ++ more)
+passed_on s next front written bytes old stands decodes slicer room same = (
+  [],
+  Appends-nil old,
+  moved s next front written bytes [] [] stands decodes (same_slicer s next slicer)
+      (ap₂ (λ (a b : List ℕ). a ++ b) (append-nil written) room ∙ stands.are
+      ∙ ap₂ (track_file s.slicing) (sym same) (sym (append-nil stands.samples))),
+)
+
+-- the data begin
+pub begun : Reads → (s next : SlicedTrack) (front written bytes : List ℕ) (format : WaveFormat) (old new : Option (List ℕ)) → Stands s front written
+    → Decodes s next bytes [] → next.slicer ≡ s.slicer → format_in_decoding s.decoder ≡ None → format_in_decoding next.decoder ≡ Some format
+    → IsPut old new s.gathered.room.items (header_bytes (track_header s.slicing format)) next.gathered.room.items
+    → (more : List ℕ) × Appends old new more × Stands next (front ++ bytes) (written ++ more)
+begun reads s next front written bytes format old new stands decodes slicer before now put =
+    let none = none_yet reads s.slicing.track front (format_in_decoding s.decoder) stands.samples good stands.told before in
+    let header = header_bytes (track_header s.slicing format) in
+    let empty : written ++ s.gathered.room.items ≡ [] = stands.are ∙ ap (λ (f : Option WaveFormat). track_file s.slicing f stands.samples) before in
+    let file : track_file s.slicing (format_in_decoding next.decoder) (stands.samples ++ []) ≡ header =
+    ap₂ (λ (f : Option WaveFormat) (l : List ℤ). track_file s.slicing f (l ++ [])) now none ∙ append-nil header in (
+      put.0,
+      put.1,
+      moved s next front written bytes put.0 [] stands decodes (same_slicer s next slicer)
+          (append_assoc written put.0 next.gathered.room.items ∙ ap (λ (l : List ℕ). written ++ l) (sym put.2)
+          ∙ sym (append_assoc written s.gathered.room.items header) ∙ ap (λ (l : List ℕ). l ++ header) empty ∙ sym file),
+    )
+
+-- ---- what stops it
+
+-- a push failed: a front of what is due stands
+pub slice_stop : Reads → (s next : SlicedTrack) (front written bytes due : List ℕ) (count : ℕ) (samples : List ℤ) (old new : Option (List ℕ))
+    (stands : Stands s front written) → Decodes s next (take count bytes) samples
+    → format_in_decoding next.decoder ≡ format_in_decoding s.decoder → AreDue (settings_of s.slicer) stands.samples samples due
+    → AppendsFront old new (s.gathered.room.items ++ due) → Stops (along_sound_file s.slicing) stops.WriteFault old new (front ++ bytes) written
+slice_stop reads s next front written bytes due count samples old new stands decodes same are f =
+    let first = front ++ take count bytes in
+    let told = told_on s next front written (take count bytes) samples stands decodes in (
+      f.0,
+      f.2,
+      (
+        first,
+        written ++ (s.gathered.room.items ++ due),
+        (
+          drop count bytes,
+          ap (λ (l : List ℕ). front ++ l) (sym (take-append-drop count bytes)) ∙ sym (append_assoc front (take count bytes) (drop count bytes)),
+        ),
+        grown_file reads s next front written (take count bytes) due samples stands decodes same are
+            ∙ ap₂ (track_file s.slicing) (sym told.format_is) (sym told.samples_are),
+        (f.1.0, ap (λ (l : List ℕ). written ++ l) f.1.1 ∙ sym (append_assoc written f.0 f.1.0)),
+      ),
+    )
+
+-- what is gathered was not taken
+pub gathered_stop : (s : SlicedTrack) (front written bytes : List ℕ) (old new : Option (List ℕ)) → Stands s front written
+    → AppendsFront old new s.gathered.room.items → Stops (along_sound_file s.slicing) stops.WriteFault old new (front ++ bytes) written
+gathered_stop s front written bytes old new stands f = (
+  f.0,
+  f.2,
+  (
+    front,
+    written ++ s.gathered.room.items,
+    (bytes, refl),
+    file_is s front written stands,
+    (f.1.0, ap (λ (l : List ℕ). written ++ l) f.1.1 ∙ sym (append_assoc written f.0 f.1.0)),
+  ),
+)
+
+-- the same at the end of what was pulled
+pub flush_stop : (s : SlicedTrack) (front written : List ℕ) (old new : Option (List ℕ)) → Stands s front written
+    → AppendsFront old new s.gathered.room.items → Stops (along_sound_file s.slicing) stops.WriteFault old new front written
+flush_stop s front written old new stands f =
+    subst (λ (l : List ℕ). Stops (along_sound_file s.slicing) stops.WriteFault old new l written) (append-nil front)
+    (gathered_stop s front written [] old new stands f)
+
+-- what is told of bytes that end the reading
+told_stop : (s : SlicedTrack) (front written all : List ℕ) (v : Verdict) (stands : Stands s front written)
+    → ((more : List ℕ) → IsTold (reading_of s.decoder.track (all ++ more)) (format_in_decoding s.decoder) stands.samples v)
+    → IsTold (reading_of s.slicing.track all) (format_in_decoding s.decoder) stands.samples v
+told_stop s front written all v stands told =
+    subst (λ (t : ℕ). IsTold (reading_of t all) (format_in_decoding s.decoder) stands.samples v) stands.track
+    (subst (λ (l : List ℕ). IsTold (reading_of s.decoder.track l) (format_in_decoding s.decoder) stands.samples v) (append-nil all) (told []))
+
+pub fault_stop : (s : SlicedTrack) (front written bytes : List ℕ) (f : WaveFault) (old new : Option (List ℕ)) (stands : Stands s front written)
+    → StopsAt s.decoder (front ++ bytes) stands.samples (taken.Fault f) → Appends old new s.gathered.room.items
+    → Stops (along_sound_file s.slicing) (stops.Refused (Sound f)) old new (front ++ bytes) written
+fault_stop s front written bytes f old new stands stop pushed =
+    let told = told_stop s front written (front ++ bytes) (refused f) stands stop in (
+      s.gathered.room.items,
+      pushed,
+      (
+        record { is = ap verdict_of told.verdict_is; unspent = λ spent. spent },
+        stands.are ∙ ap₂ (track_file s.slicing) (sym told.format_is) (sym told.samples_are),
+      ),
+    )
+
+pub limit_stop : (s : SlicedTrack) (front written bytes : List ℕ) (old new : Option (List ℕ)) (stands : Stands s front written)
+    → StopsAt s.decoder (front ++ bytes) stands.samples taken.Limit → Appends old new s.gathered.room.items
+    → Stops (along_sound_file s.slicing) stops.Limit old new (front ++ bytes) written
+limit_stop s front written bytes old new stands stop pushed =
+    let told = told_stop s front written (front ++ bytes) past_limit stands stop in (
+      s.gathered.room.items,
+      pushed,
+      inl (
+        record { is = ap verdict_of told.verdict_is; unspent = λ spent. spent },
+        stands.are ∙ ap₂ (track_file s.slicing) (sym told.format_is) (sym told.samples_are),
+      ),
+    )
+
+-- ---- the beginning
+
+-- of no bytes
+pub fresh_stands : (s : SlicedTrack) → settings_of s.slicer ≡ track_settings s.slicing → s.decoder ≡ no_decoding s.slicing.track
+    → StandsFor s.decoder [] [] → pcm.StandsFor s.slicer [] → s.gathered.room.items ≡ [] → Stands s [] []
+fresh_stands s settings decoder stands slicer room = record {
+  samples = [];
+  settings = settings;
+  track = ap (λ (d : Decoding). d.track) decoder;
+  within = rw decoder (omega arith);
+  decoder = stands;
+  told = record { format_is = sym (ap format_in_decoding decoder); samples_are = refl; verdict_is = refl };
+  slicer = slicer;
+  are = room ∙ sym (ap (λ (d : Decoding). track_file s.slicing (format_in_decoding d) []) decoder);
+}
+
+-- ---- the room that the slicer needs
+
+-- each sample that was sliced has its ticks
+tick_is : (slicer : Slicer) (samples : List ℤ) → pcm.StandsFor slicer samples → tick_of slicer ≡ (settings_of slicer).fineness * length samples
+tick_is slicer samples stands = absurd stands.never
+
+-- the ticks of all samples within the limit are few
+pub ticks_fit : Reads → (s next : SlicedTrack) (bytes : List ℕ) (samples : List ℤ) → IsGoing s → Decodes s next bytes samples
+    → tick_of s.slicer + (settings_of s.slicer).fineness * length samples ≤ 2 ^ 62
+ticks_fit reads s next bytes samples going decodes =
+    let stands = going.stands in
+    let told = told_on s next going.bytes going.written bytes samples stands decodes in
+    let few = few_samples reads s.slicing.track (going.bytes ++ bytes) (format_in_decoding next.decoder) (stands.samples ++ samples) good told in
+    let all = length-append stands.samples samples in
+    let fineness : (settings_of s.slicer).fineness ≡ 16 = ap (λ (x : Settings). x.fineness) stands.settings in
+    let tick : tick_of s.slicer ≡ 16 * length stands.samples =
+    tick_is s.slicer stands.samples stands.slicer ∙ ap (λ (n : ℕ). n * length stands.samples) fineness in
+    let more : (settings_of s.slicer).fineness * length samples ≡ 16 * length samples = ap (λ (n : ℕ). n * length samples) fineness in
+    omega (arith, few, all, tick, more)

@@ -1,0 +1,105 @@
+-- What `wav-ltc` writes of some bytes comes first, whatever bytes follow, so it is a command as any other.
+use Rattle.std.proofs.Common.{◌≡◌, ◌⊎◌, inl, inr, ℕ, ℤ, List, [], ◌∷◌, ◌++◌, Option, Some, None, refl, sym, ◌∙◌, ap, subst, append_assoc}
+use Rattle.std.specs.List.{flat_map}
+use Rattle.std.proofs.lemmas.Bool.{false≢true}
+use Rattle.std.proofs.lemmas.Grind.{flat_map-append}
+use Rattle.pcm_front.specs.Distance.{distances_by, pieces_of}
+use Rattle.pcm_front.specs.Settings.{Settings}
+use Rattle.tc_files.specs.declared.fault.FileFault.{FileFault}
+use Rattle.tc_files.specs.declared.interval_file.header.FileVersion.TheVariants.{One}
+use Rattle.tc_files.specs.Grammar.{intervals_bytes}
+use Rattle.tc_files.specs.IntervalHeader.{header_bytes}
+use Rattle.tc_files.specs.Piece.{spelling}
+use Rattle.tc_files.specs.Verdict as verdict
+use Rattle.tc_io.specs.Sink.{IsFront}
+use Rattle.tc_words.specs.WaveSlicing.{SlicesWave}
+use Rattle.wave_file.specs.declared.fault.WaveFault.{WaveFault}
+use Rattle.wave_file.specs.declared.format.WaveFormat.{WaveFormat}
+use Rattle.wave_file.specs.GoesOn.{GoesOn}
+use Rattle.wave_file.specs.Wave.{Reading, Verdict, good, refused, past_limit, reading_of}
+use Rattle.tc_command.specs.Command.{IsCommand}
+use Rattle.signal_commands.specs.KeptTrack.{AreDue, spelled}
+use Rattle.signal_commands.specs.WavLtc.{along_sound_file, track_file, track_header, track_of, track_settings, verdict_of}
+
+-- ---- the file
+
+-- the distances of some samples come first
+abbrev pub DistancesComeFirst : Type 0
+DistancesComeFirst = (settings : Settings) (front more : List ℤ) → (rest : List ℕ) × (distances_by settings (front ++ more) ≡ distances_by settings front ++ rest)
+
+-- so the bytes of their intervals do
+pub due_of : DistancesComeFirst → (s : Settings) (front more : List ℤ) → (due : List ℕ) × AreDue s front more due
+due_of laws s front more =
+    let gaps = laws s front more in
+    let before = distances_by s front in (
+      intervals_bytes One (flat_map pieces_of gaps.0),
+      ap (λ (ds : List ℕ). intervals_bytes One (flat_map pieces_of ds)) gaps.1 ∙ ap (intervals_bytes One) (flat_map-append pieces_of before gaps.0)
+          ∙ flat_map-append (spelling One) (flat_map pieces_of before) (flat_map pieces_of gaps.0),
+    )
+
+-- and the file with them
+pub file_with : (w : SlicesWave) (format : WaveFormat) (samples more : List ℤ) (due : List ℕ) → AreDue (track_settings w) samples more due
+    → track_file w (Some format) (samples ++ more) ≡ track_file w (Some format) samples ++ due
+file_with w format samples more due are =
+    let header = header_bytes (track_header w format) in
+    ap (λ (l : List ℕ). header ++ l) are ∙ sym (append_assoc header (spelled (track_settings w) samples) due)
+
+file_first : DistancesComeFirst → (w : SlicesWave) (r s : Reading) → GoesOn r s → IsFront (track_file w r.format r.samples) (track_file w s.format s.samples)
+file_first laws w r s goes = by_format goes.format
+  where
+    by_same : (format : Option WaveFormat) → IsFront (track_file w format r.samples) (track_file w format s.samples)
+    by_same None = ([], refl)
+    by_same (Some format) =
+        let more = goes.samples in
+        let due = due_of laws (track_settings w) r.samples more.0 in
+        (due.0, ap (track_file w (Some format)) more.1 ∙ file_with w format r.samples more.0 due.0 due.1)
+
+    by_format : (r.format ≡ None) ⊎ (s.format ≡ r.format) → IsFront (track_file w r.format r.samples) (track_file w s.format s.samples)
+    by_format (inl none) =
+        subst (λ (f : Option WaveFormat). IsFront (track_file w f r.samples) (track_file w s.format s.samples)) (sym none)
+        (track_file w s.format s.samples, refl)
+    by_format (inr same) =
+        subst (λ (f : Option WaveFormat). IsFront (track_file w r.format r.samples) (track_file w f s.samples)) (sym same) (by_same r.format)
+
+-- ---- what bytes show
+
+fault_stays : (v u : Verdict) (f : FileFault) → ((g : WaveFault) → v ≡ refused g → u ≡ refused g) → verdict_of v ≡ verdict.refused f
+    → verdict_of u ≡ verdict.refused f
+fault_stays good u f stays e = absurd cc
+fault_stays (refused g) u f stays e = ap verdict_of (stays g refl) ∙ e
+fault_stays past_limit u f stays e = absurd cc
+
+limit_stays : (v u : Verdict) → (v ≡ past_limit → u ≡ past_limit) → verdict_of v ≡ verdict.past_limit → verdict_of u ≡ verdict.past_limit
+limit_stays good u stays e = absurd cc
+limit_stays (refused g) u stays e = absurd cc
+limit_stays past_limit u stays e = ap verdict_of (stays refl)
+
+-- what bytes show stays
+abbrev pub ShowsStay : Type 0
+ShowsStay = (track : ℕ) (bytes more : List ℕ) → GoesOn (reading_of track bytes) (reading_of track (bytes ++ more))
+
+track_first : DistancesComeFirst → ShowsStay → (w : SlicesWave) (front more a b : List ℕ) → a ≡ track_of w front → b ≡ track_of w (front ++ more)
+    → IsFront a b
+track_first laws shows w front more a b one all =
+    let first = file_first laws w (reading_of w.track front) (reading_of w.track (front ++ more)) (shows w.track front more) in
+    (first.0, all ∙ first.1 ∙ ap (λ (l : List ℕ). l ++ first.0) (sym one))
+
+pub track_is_command : DistancesComeFirst → ShowsStay → (w : SlicesWave) → IsCommand (along_sound_file w)
+track_is_command laws shows w = record {
+  first = record {
+    part = λ front more a b one all. track_first laws shows w front more a b one all;
+    output = λ front more a b one all. track_first laws shows w front more a b one all;
+    stays = λ front more spent. spent;
+    limit = λ front more a b spent one all. absurd spent;
+  };
+  one_part = λ bytes a b one all. one ∙ sym all;
+  one_output = λ input a b one all. one ∙ sym all;
+  fault = λ front rest f e. let goes = shows w.track front rest in fault_stays _ _ f goes.fault e;
+  limit = λ front rest e. let goes = shows w.track front rest in limit_stays _ _ goes.limit e;
+  fault_unspent = λ front rest f e spent. spent;
+  limit_unspent = λ front rest e spent. spent;
+  ends = λ bytes f e. refl;
+  idle = λ e all. absurd (false≢true (sym e));
+  idle_part = λ e bytes a b one all. absurd (false≢true (sym e));
+  idle_output = λ e bytes a b one all. absurd (false≢true (sym e));
+}

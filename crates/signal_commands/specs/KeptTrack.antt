@@ -1,0 +1,51 @@
+-- What the engine of `wav-ltc` keeps. No promise speaks of it.
+use Rattle.std.specs.Prelude.{◌≡◌, ℕ, ◌≤◌, ℤ, List, [], ◌++◌}
+use Rattle.std.proofs.Common.{◌∙◌, sym, ap, ap₂, append-nil}
+use Rattle.pcm_front.specs.Distance.{intervals_by}
+use Rattle.pcm_front.specs.Settings.{Settings}
+use Rattle.pcm_front.specs.StandsFor as pcm
+use Rattle.pcm_front.specs.StandsFor.{settings_of}
+use Rattle.tc_files.specs.declared.interval_file.header.FileVersion.TheVariants.{One}
+use Rattle.tc_files.specs.Grammar.{intervals_bytes}
+use Rattle.tc_files.specs.Verdict as verdict
+use Rattle.wave_file.specs.declared.stage.TheConstants.{MAX_BYTES}
+use Rattle.wave_file.specs.StandsFor.{StandsFor, IsTold, bytes_taken, format_in_decoding}
+use Rattle.wave_file.specs.Wave.{good, reading_of}
+use Rattle.signal_commands.specs.declared.wav_ltc.SlicedTrack.{SlicedTrack}
+use Rattle.signal_commands.specs.WavLtc.{along_sound_file, track_file, track_settings, verdict_of}
+use Rattle.tc_command.specs.Meaning.{Meaning, Shows}
+
+-- the bytes of the intervals of samples
+abbrev pub spelled : Settings → List ℤ → List ℕ
+spelled s samples = intervals_bytes One (intervals_by s samples)
+
+-- more samples bring these bytes
+abbrev pub AreDue : Settings → List ℤ → List ℤ → List ℕ → Type 0
+AreDue s front more due = spelled s (front ++ more) ≡ spelled s front ++ due
+
+-- it was given these bytes; what was written, and then what is gathered, are the file of their track
+pub record Stands (s : SlicedTrack) (bytes written : List ℕ) : Type 0 where
+  pub samples : List ℤ
+  pub settings : settings_of s.slicer ≡ track_settings s.slicing
+  pub track : s.decoder.track ≡ s.slicing.track
+  pub within : bytes_taken s.decoder ≤ MAX_BYTES
+  pub decoder : StandsFor s.decoder bytes samples
+  pub told : IsTold (reading_of s.slicing.track bytes) (format_in_decoding s.decoder) samples good
+  pub slicer : pcm.StandsFor s.slicer samples
+  pub are : written ++ s.gathered.room.items ≡ track_file s.slicing (format_in_decoding s.decoder) samples
+
+-- there are bytes for which it stands
+pub record IsGoing (s : SlicedTrack) : Type 0 where
+  pub bytes : List ℕ
+  pub written : List ℕ
+  pub stands : Stands s bytes written
+
+-- what was written is the part of the bytes, where nothing is gathered
+pub stands_well : (s : SlicedTrack) (bytes written : List ℕ) → s.gathered.room.items ≡ [] → Stands s bytes written
+    → Shows (along_sound_file s.slicing) verdict.good bytes × Meaning.part (along_sound_file s.slicing) bytes written
+stands_well s bytes written settled stands =
+    let told = stands.told in (
+      record { is = ap verdict_of told.verdict_is; unspent = λ spent. spent },
+      sym (append-nil written) ∙ ap (λ (l : List ℕ). written ++ l) (sym settled) ∙ stands.are
+          ∙ ap₂ (track_file s.slicing) (sym told.format_is) (sym told.samples_are),
+    )

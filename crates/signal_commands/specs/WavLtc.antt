@@ -1,0 +1,55 @@
+-- `wav-ltc`: a track of a sound file, as an interval file of the distances of its crossings. The first one runs from the place of the first sample,
+-- so that a sixteenth of each tick is a place in the file.
+use Rattle.std.specs.Prelude.{◌≡◌, ℕ, ◌*◌, true, ℤ, List, [], Option, Some, None}
+use Rattle.std.specs.Option.{option_map}
+use Rattle.pcm_front.specs.Distance.{intervals_by}
+use Rattle.pcm_front.specs.Settings.{Settings, from_start}
+use Rattle.tc_files.specs.declared.fault.FileFault.TheVariants.{Sound}
+use Rattle.tc_files.specs.declared.interval_file.header.FileVersion.TheVariants.{One}
+use Rattle.tc_files.specs.declared.interval_file.header.IntervalHeader.{IntervalHeader}
+use Rattle.tc_files.specs.Grammar.{file_of}
+use Rattle.tc_files.specs.Verdict as verdict
+use Rattle.tc_words.specs.WaveSlicing.{SlicesWave}
+use Rattle.wave_file.specs.declared.format.WaveFormat.{WaveFormat}
+use Rattle.wave_file.specs.Wave.{Reading, Verdict, good, refused, past_limit, end_fault_of, reading_of}
+use Rattle.tc_command.specs.Meaning.{Meaning}
+
+-- in 16 ticks a sample, from the place of the first one on
+abbrev pub track_settings : SlicesWave → Settings
+track_settings w = from_start 16 w.threshold w.smooth
+
+-- the header: each sample has so many ticks
+abbrev pub track_header : SlicesWave → WaveFormat → IntervalHeader
+track_header w format = record { version = One; system = w.system; tick_rate = 16 * format.rate }
+
+-- the file of the intervals of samples; there is none where the data have not begun
+abbrev pub track_file : SlicesWave → Option WaveFormat → List ℤ → List ℕ
+track_file w None samples = []
+track_file w (Some format) samples = file_of (track_header w format) (intervals_by (track_settings w) samples)
+
+-- the file of the track of a sound file
+abbrev pub track_of : SlicesWave → List ℕ → List ℕ
+track_of w bytes = track_file w (reading_of w.track bytes).format (reading_of w.track bytes).samples
+
+-- what was written is the file of the distances of the track's samples, whose first one runs from tick 0
+pub record SlicesTheTrack (w : SlicesWave) (bytes written : List ℕ) : Type 0 where
+  pub format : WaveFormat
+  pub begins : (reading_of w.track bytes).format ≡ Some format
+  pub are : written ≡ file_of (track_header w format) (intervals_by (track_settings w) (reading_of w.track bytes).samples)
+
+-- what the bytes of a sound file show, in the terms of every command
+abbrev pub verdict_of : Verdict → verdict.Verdict
+verdict_of good = verdict.good
+verdict_of (refused fault) = verdict.refused (Sound fault)
+verdict_of past_limit = verdict.past_limit
+
+-- what it takes and what it writes: the header stands where the data begin
+abbrev pub along_sound_file : SlicesWave → Meaning
+along_sound_file w = record {
+  reads = true;
+  verdict = λ bytes. verdict_of (reading_of w.track bytes).verdict;
+  end_fault = λ bytes. option_map Sound (end_fault_of w.track bytes);
+  spent = λ bytes. ⊥;
+  part = λ bytes written. written ≡ track_of w bytes;
+  output = λ bytes written. written ≡ track_of w bytes;
+}

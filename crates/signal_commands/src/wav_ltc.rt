@@ -1,0 +1,225 @@
+//! The engine of `wav-ltc`: an interval file of the crossings of a track of a sound file. Next:
+//! `wave_file/src/decoder.rt`, then `pcm_front/src/slicer.rt`, and then `tc_command/src/gathered.rt`.
+ghost use Rattle.std.specs.Prelude.{◌≡◌, ◌+◌, ◌*◌, ◌≤◌, ◌<◌, ◌^◌, ◌++◌, ℕ, ℤ, List, [], length, take, None, OnOk, OnErr, IfOk, IfErr, Err};
+ghost use Rattle.pcm_front.specs.StandsFor as pcm;
+ghost use Rattle.pcm_front.specs.StandsFor.{settings_of, tick_of};
+ghost use Rattle.tc_io.specs.Sink.{AppendsFront};
+ghost use Rattle.tc_command.specs.Causes.{HasOutCause, HasSourceCause};
+ghost use Rattle.tc_command.specs.KeptGathered.{IsPut};
+ghost use Rattle.tc_command.specs.KeptWorks.{Works};
+ghost use Rattle.tc_command.specs.Ran.{CameToItsEnd, StoppedBefore};
+ghost use Rattle.tc_command.specs.Stops.{Stops};
+ghost use Rattle.wave_file.specs.Format.{IsTakenFor};
+ghost use Rattle.wave_file.specs.StandsFor.{bytes_taken};
+ghost use Rattle.signal_commands.specs.KeptTrack.{AreDue, IsGoing, Stands};
+ghost use Rattle.signal_commands.specs.WavLtc.{along_sound_file, track_header};
+ghost use Rattle.tc_files.specs.IntervalHeader.{header_bytes};
+
+use crate::spelling::spell;
+use pcm_front::Slicer;
+use pcm_front::laws::distances_of_a_front_come_first;
+use tc_command::{Engine, Gathered, Stop, work};
+use tc_files::{FileFault, FileVersion, IntervalHeader, interval_header};
+use tc_io::{Sink, Source};
+use tc_words::WaveSlicing;
+use wave_file::laws::{
+    samples_are_few_and_behind_a_format, what_a_sound_file_shows_stays,
+};
+use wave_file::{Taken, WaveDecoder, WaveFormat};
+
+/// So many ticks has a sample.
+const TICKS: u32 = 16;
+
+/// So many samples are decoded at once, at most.
+const ROOM: usize = 2_048;
+
+/// Works `wav-ltc`: an interval file of the distances between the crossings of a track.
+pub fn slice_track<S: Source, K: Sink>(
+    slicing: &WaveSlicing,
+    source: &mut S,
+    out: &mut K,
+) -> Result<(), Stop>
+    ensures ends { OnOk result (CameToItsEnd (along_sound_file slicing.now) (S.left source.old) (S.left source.new)
+        (K.written out.old) (K.written out.new)) }
+    ensures stops { IfErr result (λ stop. StoppedBefore (along_sound_file slicing.now) stop (S.left source.old) (S.left source.new)
+        (K.written out.old) (K.written out.new)) }
+    ensures source { HasSourceCause (S.faults source.old) (S.faults source.new) result }
+    ensures out { HasOutCause (K.faults out.old) (K.faults out.new) result }
+{
+    work(&mut SlicedTrack::new(slicing), source, out)
+}
+
+/// A sound file on its way into intervals.
+#[derive(Drop)]
+struct SlicedTrack {
+    slicing: WaveSlicing,
+    decoder: WaveDecoder,
+    slicer: Slicer,
+    /// Room for samples that are decoded at once. It keeps nothing.
+    room: [i16; ROOM],
+    gathered: Gathered,
+}
+
+impl SlicedTrack {
+    /// Before the first byte.
+    fn new(slicing: &WaveSlicing) -> SlicedTrack
+        ensures choice { result.slicing ≡ slicing.now }
+        ensures going { IsGoing result }
+        ensures stands { Stands result [] [] }
+    {
+        SlicedTrack {
+            slicing: *slicing,
+            decoder: WaveDecoder::new(slicing.track()),
+            slicer: Slicer::from_the_start(TICKS, slicing.threshold(), slicing.smooth()),
+            room: [0; ROOM],
+            gathered: Gathered::holding(&[]),
+        }
+    }
+
+    /// Takes whole blocks at the front of the bytes, none or more of them, and answers on how many bytes.
+    fn take_blocks<K: Sink>(&mut self, bytes: &[u8], out: &mut K) -> Result<usize, Stop>
+        requires { IsGoing self.old }
+        ensures slicing { self.new.slicing ≡ self.old.slicing }
+        ensures within { IfOk result (λ count. count ≤ length bytes.now) }
+        ensures taken { IfOk result (λ count. bytes_taken self.new.decoder ≡ bytes_taken self.old.decoder + count) }
+        ensures works { IfOk result (λ count.
+            Works (Stands self.old) (Stands self.new) (K.written out.old) (K.written out.new) (take count bytes.now)) }
+        ensures stops { IfErr result (λ stop. (front written : List ℕ) → Stands self.old front written
+            → Stops (along_sound_file self.old.slicing) stop (K.written out.old) (K.written out.new) (front ++ bytes.now) written) }
+        ensures cause { HasOutCause (K.faults out.old) (K.faults out.new) result }
+        ensures no_pull { result ≡ Err Stop.ReadFault → ⊥ }
+    {
+        samples_are_few_and_behind_a_format();
+        let (count, samples) = self.decoder.samples(bytes, &mut self.room);
+        let _told = self.decoder.format();
+        let slicer = &mut self.slicer;
+        slice(slicer, &self.room[..samples], &mut self.gathered, out)?;
+        Ok(count)
+    }
+
+    /// Takes a piece of the file at the front of the bytes, or some of it, and answers on how many bytes.
+    fn take_piece<K: Sink>(&mut self, bytes: &[u8], out: &mut K) -> Result<usize, Stop>
+        requires going { IsGoing self.old }
+        requires some { 0 < length bytes.now }
+        ensures slicing { self.new.slicing ≡ self.old.slicing }
+        ensures within { IfOk result (λ count. (1 ≤ count) × (count ≤ length bytes.now)) }
+        ensures taken { IfOk result (λ count. bytes_taken self.new.decoder ≡ bytes_taken self.old.decoder + count) }
+        ensures works { IfOk result (λ count.
+            Works (Stands self.old) (Stands self.new) (K.written out.old) (K.written out.new) (take count bytes.now)) }
+        ensures stops { IfErr result (λ stop. (front written : List ℕ) → Stands self.old front written
+            → Stops (along_sound_file self.old.slicing) stop (K.written out.old) (K.written out.new) (front ++ bytes.now) written) }
+        ensures cause { HasOutCause (K.faults out.old) (K.faults out.new) result }
+        ensures no_pull { result ≡ Err Stop.ReadFault → ⊥ }
+    {
+        samples_are_few_and_behind_a_format();
+        let taken = self.decoder.take(bytes);
+        let _told = self.decoder.format();
+        match taken {
+            Taken::Nothing(count) => Ok(count),
+            Taken::Begin { count, format } => {
+                let header = self.header(&format);
+                self.gathered.put(&header, out)?;
+                Ok(count)
+            }
+            Taken::Sample { count, sample } => {
+                slice(&mut self.slicer, &[sample], &mut self.gathered, out)?;
+                Ok(count)
+            }
+            Taken::Fault(fault) => {
+                self.gathered.push(out)?;
+                Err(Stop::Refused(FileFault::Sound(fault)))
+            }
+            Taken::Limit => {
+                self.gathered.push(out)?;
+                Err(Stop::Limit)
+            }
+        }
+    }
+
+    /// The header of the interval file.
+    fn header(&self, format: &WaveFormat) -> [u8; 12]
+        requires { IsTakenFor self.now.decoder.track format.now }
+        ensures { result ≡ header_bytes (track_header self.now.slicing format.now) }
+    {
+        interval_header(&IntervalHeader {
+            version: FileVersion::One,
+            system: self.slicing.system(),
+            tick_rate: TICKS * format.rate,
+        })
+    }
+}
+
+/// Slices samples, and spells the intervals of their distances.
+fn slice<K: Sink>(
+    slicer: &mut Slicer,
+    samples: &[i16],
+    gathered: &mut Gathered,
+    out: &mut K,
+) -> Result<(), Stop>
+    requires { tick_of slicer.old + (settings_of slicer.old).fineness * length samples.now ≤ 2 ^ 62 }
+    ensures settings { settings_of slicer.new ≡ settings_of slicer.old }
+    ensures stands { OnOk result ((front : List ℤ) → pcm.StandsFor slicer.old front → pcm.StandsFor slicer.new (front ++ samples.now)) }
+    ensures all { OnOk result ((front : List ℤ) → pcm.StandsFor slicer.old front
+        → (due : List ℕ) × AreDue (settings_of slicer.old) front samples.now due
+        × IsPut (K.written out.old) (K.written out.new) gathered.old.room.items due gathered.new.room.items) }
+    ensures front { OnErr result ((front : List ℤ) → pcm.StandsFor slicer.old front
+        → (due : List ℕ) × AreDue (settings_of slicer.old) front samples.now due
+        × AppendsFront (K.written out.old) (K.written out.new) (gathered.old.room.items ++ due)) }
+    ensures why { IfErr result (λ stop. stop ≡ Stop.WriteFault) }
+    ensures cause { HasOutCause (K.faults out.old) (K.faults out.new) result }
+{
+    distances_of_a_front_come_first();
+    let mut at = 0;
+    'samples: while at < samples.len() {
+        let (count, distance) = slicer.run_samples(&samples[at..]);
+        at += count;
+        if let Some(distance) = distance {
+            spell(gathered, distance, out)?;
+        }
+    }
+    Ok(())
+}
+
+impl Engine for SlicedTrack {
+    ghost use Rattle.std.specs.Prelude.{◌-◌, ◌≡◌, [], length};
+    ghost use Rattle.wave_file.specs.declared.stage.TheConstants.{MAX_BYTES};
+    ghost use Rattle.wave_file.specs.StandsFor.{bytes_taken};
+    ghost use Rattle.signal_commands.specs.KeptTrack.{IsGoing, Stands, stands_well};
+    ghost use Rattle.signal_commands.specs.WavLtc.{along_sound_file};
+
+    type Choice = WaveSlicing;
+
+    ghost meaning = { λ slicing. along_sound_file slicing };
+
+    ghost choice = { λ s. s.slicing };
+
+    ghost is_going = { λ s. IsGoing s };
+
+    ghost stands = { λ s bytes written. Stands s bytes written };
+
+    ghost is_settled = { λ s. s.gathered.room.items ≡ [] };
+
+    ghost budget = { λ s. MAX_BYTES - bytes_taken s.decoder };
+
+    ghost stands_well = { λ s bytes written settled stands. stands_well s bytes written settled stands };
+
+    fn take<K: Sink>(&mut self, bytes: &[u8], out: &mut K) -> Result<usize, Stop> {
+        let count = self.take_blocks(bytes, out)?;
+        if count == 0 {
+            self.take_piece(bytes, out)
+        } else {
+            Ok(count)
+        }
+    }
+
+    fn flush<K: Sink>(&mut self, out: &mut K) -> Result<(), Stop> {
+        self.gathered.push(out)
+    }
+
+    fn finish<K: Sink>(&self, _out: &mut K) -> Result<(), Stop> {
+        match self.decoder.finish() {
+            Ok(()) => Ok(()),
+            Err(fault) => Err(Stop::Refused(FileFault::Sound(fault))),
+        }
+    }
+}

@@ -1,0 +1,29 @@
+-- Bytes that are an input of `wav-ltc` have a format, since they may end only behind one.
+use Rattle.std.proofs.Common.{◌≡◌, ℕ, ℤ, Bool, true, false, List, Option, Some, None, refl, sym, ◌∙◌, ap}
+use Rattle.std.specs.Prelude.{if◌then◌else◌}
+use Rattle.std.specs.Option.{option_map}
+use Rattle.tc_files.specs.declared.fault.FileFault.TheVariants.{Sound}
+use Rattle.tc_words.specs.WaveSlicing.{SlicesWave}
+use Rattle.wave_file.specs.declared.fault.WaveFault.{WaveFault}
+use Rattle.wave_file.specs.declared.format.WaveFormat.{WaveFormat}
+use Rattle.wave_file.specs.GoesOn.{IsWithin}
+use Rattle.wave_file.specs.Wave.{Reading, reading_of}
+use Rattle.signal_commands.specs.WavLtc.{SlicesTheTrack, along_sound_file, track_file, track_of}
+use Rattle.tc_command.specs.Meaning.{IsInput}
+
+-- a fault of the end is there where the input may not end
+may_not_end : (b : Bool) (f : WaveFault) → b ≡ false → ¬ (option_map Sound (if b then None else Some f) ≡ None)
+may_not_end true f ends = absurd cc
+may_not_end false f ends = λ none. absurd cc
+
+pub slices_the_track : (w : SlicesWave) (bytes written : List ℕ) → ((track : ℕ) (bytes : List ℕ) → IsWithin (reading_of track bytes))
+    → IsInput (along_sound_file w) bytes → written ≡ track_of w bytes → SlicesTheTrack w bytes written
+slices_the_track w bytes written within input are = by_format (reading_of w.track bytes).format refl
+  where
+    by_format : (format : Option WaveFormat) → (reading_of w.track bytes).format ≡ format → SlicesTheTrack w bytes written
+    by_format (Some format) is = record {
+      format = format;
+      begins = is;
+      are = are ∙ ap (λ (f : Option WaveFormat). track_file w f (reading_of w.track bytes).samples) is;
+    }
+    by_format None is = absurd (may_not_end (reading_of w.track bytes).may_end _ ((within w.track bytes).ends is) input.end)

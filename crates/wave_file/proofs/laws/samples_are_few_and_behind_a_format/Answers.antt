@@ -1,0 +1,5 @@
+use Rattle.wave_file.proofs.WhatStays.{few_samples}
+use Rattle.wave_file.proofs.laws.samples_are_few_and_behind_a_format.Goals as goal
+
+pub returns : goal.returns
+returns c = λ track bytes. few_samples track bytes

@@ -1,0 +1,18 @@
+-- What holds of whatever bytes say of a sound file, and what more bytes may change of it: nothing that is shown.
+use Rattle.std.specs.Prelude.{◌≡◌, ◌⊎◌, ◌≤◌, ℤ, false, List, [], ◌++◌, length, None}
+use Rattle.wave_file.specs.declared.fault.WaveFault.{WaveFault}
+use Rattle.wave_file.specs.declared.stage.TheConstants.{MAX_SAMPLES}
+use Rattle.wave_file.specs.Wave.{Reading, refused, past_limit}
+
+-- a format that is there stays, and so do a fault and the limit; and the samples come first
+pub record GoesOn (front whole : Reading) : Type 0 where
+  pub format : (front.format ≡ None) ⊎ (whole.format ≡ front.format)
+  pub samples : (more : List ℤ) × (whole.samples ≡ front.samples ++ more)
+  pub fault : (f : WaveFault) → front.verdict ≡ refused f → whole.verdict ≡ refused f
+  pub limit : front.verdict ≡ past_limit → whole.verdict ≡ past_limit
+
+-- no more samples than the limit; and none, and no end of the input, before a format
+pub record IsWithin (r : Reading) : Type 0 where
+  pub few : length r.samples ≤ MAX_SAMPLES
+  pub none : r.format ≡ None → r.samples ≡ []
+  pub ends : r.format ≡ None → r.may_end ≡ false
