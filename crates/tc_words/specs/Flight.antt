@@ -16,7 +16,7 @@ flight_of limit profile = record { limit = limit; profile = profile }
 abbrev pub flight_with : Word → Option Profile → Result Flight WordsFault
 flight_with limit profile = value_or 1 (limit_in limit) (λ n. value_or 2 profile (λ p. Ok (flight_of n p)))
 
--- `LIMIT [worn]`: without the last word it is the normal tolerance
+-- `LIMIT [worn|rough]`: without the last word it is the normal tolerance
 abbrev pub flight_in : List Word → Result Flight WordsFault
 flight_in (limit ∷ []) = flight_with limit (Some Normal)
 flight_in (limit ∷ tolerance ∷ []) = flight_with limit (tolerance_in tolerance)

@@ -46,11 +46,11 @@ abbrev pub no_values : Job → List Word → Answer
 no_values job [] = Ok job
 no_values job _ = Err CountOfWords
 
--- `ltc-fly LIMIT [worn]`
+-- `ltc-fly LIMIT [worn|rough]`
 abbrev pub ltc_fly : List Word → Answer
 ltc_fly values = with_flight (flight_in values) (λ flight. jobs.LtcFly flight)
 
--- `ltc-mtc LIMIT [worn]`
+-- `ltc-mtc LIMIT [worn|rough]`
 abbrev pub ltc_mtc : List Word → Answer
 ltc_mtc values = with_flight (flight_in values) (λ flight. jobs.LtcMtc flight)
 
@@ -60,13 +60,13 @@ jammed limit cell tick_rate profile =
     with_value 1 (limit_in limit) (λ n. with_value 2 (between MIN_SHAPED MAX_SHAPED cell) (λ c.
     with_value 3 (between 1 MAX_TICK_RATE tick_rate) (λ r. with_value 4 profile (λ p. Ok (jobs.LtcJam (jamming_of (flight_of n p) c r))))))
 
--- `ltc-jam LIMIT CELL TICK-RATE [worn]`
+-- `ltc-jam LIMIT CELL TICK-RATE [worn|rough]`
 abbrev pub ltc_jam : List Word → Answer
 ltc_jam (limit ∷ cell ∷ tick_rate ∷ []) = jammed limit cell tick_rate (Some Normal)
 ltc_jam (limit ∷ cell ∷ tick_rate ∷ tolerance ∷ []) = jammed limit cell tick_rate (tolerance_in tolerance)
 ltc_jam _ = Err CountOfWords
 
--- `ltc-chase COUNT LABEL LIMIT SEED BOUND [worn]`
+-- `ltc-chase COUNT LABEL LIMIT SEED BOUND [worn|rough]`
 abbrev pub ltc_chase : List Word → Answer
 ltc_chase (count ∷ label ∷ limit ∷ seed ∷ bound ∷ []) = chased count label limit seed bound (Some Normal)
 ltc_chase (count ∷ label ∷ limit ∷ seed ∷ bound ∷ tolerance ∷ []) = chased count label limit seed bound (tolerance_in tolerance)

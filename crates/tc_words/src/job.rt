@@ -30,15 +30,15 @@ pub enum Job {
     LtcWorn,
     /// `ltc-rough`: the same under the tolerance of hissy and dull recordings.
     LtcRough,
-    /// `ltc-fly LIMIT [worn]`: reads an interval file, and writes a line for each frame of its words, with
+    /// `ltc-fly LIMIT [worn|rough]`: reads an interval file, and writes a line for each frame of its words, with
     /// at most so many invented frames in a row.
     LtcFly { flight: Flight },
-    /// `ltc-mtc LIMIT [worn]`: reads an interval file, and writes MIDI Time Code of the same frames.
+    /// `ltc-mtc LIMIT [worn|rough]`: reads an interval file, and writes MIDI Time Code of the same frames.
     LtcMtc { flight: Flight },
-    /// `ltc-jam LIMIT CELL TICK-RATE [worn]`: reads an interval file, and writes the same frames anew as an interval
+    /// `ltc-jam LIMIT CELL TICK-RATE [worn|rough]`: reads an interval file, and writes the same frames anew as an interval
     /// file of cells of one length.
     LtcJam { jam: Jam },
-    /// `ltc-chase COUNT LABEL LIMIT SEED BOUND [worn]`: reads an interval file, and writes the steps of a
+    /// `ltc-chase COUNT LABEL LIMIT SEED BOUND [worn|rough]`: reads an interval file, and writes the steps of a
     /// chase that begins at the label and follows the same frames.
     LtcChase { run: ChaseRun },
     /// `mtc-read`: reads MIDI bytes, and writes a line for each label of MIDI Time Code in them, and for

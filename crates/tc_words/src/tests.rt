@@ -78,6 +78,8 @@ fn the_first_fault_is_told(rt: HostRuntime) -> Result<(), Fail> {
             WordsFault::CountOfWords,
         ),
         ("ltc-worn worn", WordsFault::CountOfWords),
+        ("ltc-rough rough", WordsFault::CountOfWords),
+        ("ltc-fly 2 rougher", WordsFault::Value(2)),
         ("mtc-read x", WordsFault::CountOfWords),
         ("vitc-read 25", WordsFault::CountOfWords),
         ("vitc-make 30 00:00:00:00 1", WordsFault::CountOfWords),
@@ -195,7 +197,8 @@ fn label_text(task: &Task) -> Option<[u8; 11]> {
 
 fn label_text_of(job: &Job) -> Option<[u8; 11]> {
     match job {
-        Job::LtcRead | Job::LtcWorn | Job::LtcRough | Job::LtcFly { .. } | Job::LtcConvert { .. } => None,
+        Job::LtcRead | Job::LtcWorn | Job::LtcRough | Job::LtcFly { .. } | Job::LtcConvert { .. } =>
+            None,
         Job::PcmLtc { .. } | Job::WavLtc { .. } | Job::LtcPcm { .. } => None,
         Job::LtcJam { .. } | Job::VitcRead => None,
         Job::LtcChase { run } => Some(text(&run.label())),
@@ -318,6 +321,7 @@ fn jobs_are_read(rt: HostRuntime) -> Result<(), Fail> {
         ("ltc-fly 0", flown(0, Profile::Normal)),
         ("ltc-fly 255", flown(255, Profile::Normal)),
         ("ltc-fly 2 worn", flown(2, Profile::Worn)),
+        ("ltc-fly 0 rough", flown(0, Profile::Rough)),
         ("ltc-mtc 0", sent(0, Profile::Normal)),
         ("ltc-mtc 255", sent(255, Profile::Normal)),
         ("ltc-mtc 255 worn", sent(255, Profile::Worn)),

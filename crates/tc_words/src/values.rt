@@ -83,12 +83,14 @@ pub fn limit_in(word: &str) -> Option<u8>
     }
 }
 
-/// A tolerance other than the normal one: `worn`, that of worn recordings.
+/// A tolerance other than the normal one: `worn`, that of worn recordings, or `rough`, that of hissy and
+/// dull ones.
 pub fn tolerance_in(word: &str) -> Option<Profile>
     ensures { result ≡ tolerance_in word.now }
 {
     match word {
         "worn" => Some(Profile::Worn),
+        "rough" => Some(Profile::Rough),
         _ => None,
     }
 }

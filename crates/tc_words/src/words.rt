@@ -121,7 +121,7 @@ fn no_values(values: &[&str], job: Job) -> Result<Job, WordsFault>
     }
 }
 
-// `ltc-fly LIMIT [worn]`
+// `ltc-fly LIMIT [worn|rough]`
 fn ltc_fly(values: &[&str]) -> Result<Job, WordsFault>
     ensures { result ≡ ltc_fly (map (λ v. v.now) values.now) }
 {
@@ -129,7 +129,7 @@ fn ltc_fly(values: &[&str]) -> Result<Job, WordsFault>
     Ok(Job::LtcFly { flight })
 }
 
-// `ltc-mtc LIMIT [worn]`
+// `ltc-mtc LIMIT [worn|rough]`
 fn ltc_mtc(values: &[&str]) -> Result<Job, WordsFault>
     ensures { result ≡ ltc_mtc (map (λ v. v.now) values.now) }
 {
@@ -137,7 +137,7 @@ fn ltc_mtc(values: &[&str]) -> Result<Job, WordsFault>
     Ok(Job::LtcMtc { flight })
 }
 
-// `ltc-jam LIMIT CELL TICK-RATE [worn]`
+// `ltc-jam LIMIT CELL TICK-RATE [worn|rough]`
 fn ltc_jam(values: &[&str]) -> Result<Job, WordsFault>
     ensures { result ≡ ltc_jam (map (λ v. v.now) values.now) }
 {
@@ -168,7 +168,7 @@ fn jammed(
     })
 }
 
-// `ltc-chase COUNT LABEL LIMIT SEED BOUND [worn]`
+// `ltc-chase COUNT LABEL LIMIT SEED BOUND [worn|rough]`
 fn ltc_chase(values: &[&str]) -> Result<Job, WordsFault>
     ensures { result ≡ ltc_chase (map (λ v. v.now) values.now) }
 {
