@@ -1,4 +1,5 @@
-//! A cell of biphase mark.
+//! A cell of biphase mark. Next: `direction_reader/src/latest_cells.rt`, which has the latest cells of a
+//! stretch.
 
 /// The greatest length of an interval, in ticks. The least is 1.
 pub const MAX_INTERVAL: u32 = 16_777_215;

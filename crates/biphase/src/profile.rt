@@ -1,5 +1,4 @@
-//! The tolerance profiles, and all their numbers. Next: the states of `cell_tracker`, which act on
-//! what the tests tell.
+//! The tolerance profiles, and all their numbers. Next: `tolerance`.
 ghost use Rattle.std.specs.Prelude.{◌≡◌, ◌*◌, ◌<◌, ◌^◌, ◌↔◌, IsTrue};
 ghost use Rattle.biphase.specs.Profile.{equal_of, unequal_of, IsAtLeast, IsAtMost, IsWithin};
 

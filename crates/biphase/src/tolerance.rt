@@ -1,4 +1,4 @@
-//! The tests of the tolerance, each of what comes after some cells. Next: `profile`.
+//! The tests of the tolerance, each of what comes after some cells. Next: `cell`.
 ghost use Rattle.std.specs.Prelude.{◌≡◌, ◌↔◌, ◌+◌, ◌<◌, ◌^◌, IsTrue};
 ghost use Rattle.biphase.specs.declared.profile.TheConstants.{ROUGH};
 ghost use Rattle.biphase.specs.Profile.{IsAtLeast, IsAtMost, IsWithin};

@@ -1,4 +1,4 @@
-//! The state between stretches. Next: `pair` of `biphase`, and at a lock `at_cell` or `mid_cell`.
+//! The state between stretches. Next: `biphase/src/pair.rt`, and at a lock `at_cell` or `mid_cell`.
 ghost use Rattle.std.specs.Prelude.{◌≡◌, ℕ, ◌≤◌, ◌<◌, List, [], IfSome};
 ghost use Rattle.biphase.specs.declared.cell.TheConstants.{MAX_INTERVAL};
 ghost use Rattle.biphase.specs.Pair.{AreUnequal};

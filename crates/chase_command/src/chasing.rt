@@ -1,5 +1,5 @@
-//! `chase`: a script is read whole, and then its trace is written. Next:
-//! `trace`.
+//! `chase`: a script is read whole, and then its trace is written. Next: `chase_script/src/script.rt`, and
+//! with its rows `trace`.
 ghost use Rattle.std.specs.Prelude.{◌≡◌, ◌⊎◌, ℕ, ◌+◌, ◌<◌, ◌≤◌, List, ◌++◌, length, Some, Ok, OnOk, IfOk, IfErr, Err};
 ghost use Rattle.std.specs.Io.KnownBytes.{Appends, Consumes, IsAtEnd};
 ghost use Rattle.tc_address.specs.declared.count.Count.{Count};

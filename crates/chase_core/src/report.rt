@@ -1,4 +1,4 @@
-//! What a chase says of a frame. Next: `mode.rt`.
+//! What a chase says of a frame. Next: `mode`.
 
 /// What a chase does.
 #[derive(Clone, Copy, Debug, PartialEq, Eq)]

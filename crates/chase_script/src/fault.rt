@@ -1,4 +1,4 @@
-//! Why a script is not read. Next: `row`.
+//! Why a script is not read. Next: `chase_command/src/chasing.rt`.
 use crate::column::Column;
 use std::alloc::AllocError;
 use thiserror::Error;

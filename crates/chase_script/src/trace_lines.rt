@@ -1,4 +1,4 @@
-//! The lines of a trace, one after another. Next: `tc_top`, which pushes them.
+//! The lines of a trace, one after another. Next: `texts`.
 ghost use Rattle.std.specs.Prelude.{◌≡◌, ◌<◌, ◌++◌, [], IfSome, None, length, false, cond};
 ghost use Rattle.chase_script.specs.Answer.{AreRowsFor};
 ghost use Rattle.chase_script.specs.Kept.{text_left, lines_left};

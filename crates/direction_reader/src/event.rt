@@ -1,4 +1,4 @@
-//! What the reader answers. Next: `texts/event` of `tc_files`.
+//! What the reader answers. Next: `tc_files/src/texts/event.rt`, and with a word `flywheel/src/heard.rt`.
 ghost use Rattle.std.specs.Prelude.{◌≡◌};
 
 use ltc_word::LtcWord;

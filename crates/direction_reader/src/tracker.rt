@@ -1,4 +1,5 @@
-//! Where the tracker stands, and what an interval does to it. Next: `state`.
+//! Where the tracker stands, and what an interval does to it. Next: `cell_tracker/src/hunting.rt`, and with
+//! what it answers `latest_cells`.
 ghost use Rattle.std.specs.Prelude.{◌≡◌, ◌≤◌, ◌↔◌, ℕ, List, [], Option, None, IsTrue};
 ghost use Rattle.cell_tracker.specs.Stretch.{Stretch};
 ghost use Rattle.biphase.specs.declared.cell.TheConstants.{MAX_INTERVAL};

@@ -1,4 +1,4 @@
-//! What a flywheel gives. Next: `wheel`.
+//! What a flywheel gives. Next: `frame_commands/src/frame_sink.rt`.
 
 use tc_address::{Direction, Label};
 

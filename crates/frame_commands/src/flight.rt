@@ -1,6 +1,6 @@
 //! The way along the frames of a recording, the same for each command that makes something of them: words
-//! become frames, and a flywheel invents those that are missing. Next: `flywheel/src/wheel.rt`, and
-//! behind it the engines.
+//! become frames, and a flywheel invents those that are missing. Next: `flywheel/src/heard.rt`, and with
+//! the frames `frame_sink`.
 ghost use Rattle.std.specs.Prelude.{◌≡◌, ◌≤◌, ◌<◌, ◌+◌, ◌*◌, ◌^◌, List, ◌∷◌, ◌++◌, [], ℕ, false, OnOk, OnErr, IfOk, IfErr, IfSome};
 ghost use Rattle.std.specs.Io.KnownBytes.{Appends};
 ghost use Rattle.biphase.specs.declared.cell.TheConstants.{MAX_INTERVAL};

@@ -1,4 +1,5 @@
-//! What a command makes of the frames of a recording. Next: `flight`, which gives it the frames.
+//! What a command makes of the frames of a recording. Next: `ltc_fly`, `ltc_spans`, `ltc_mtc`, `jam` and
+//! `ltc_chase`.
 ghost use Rattle.std.specs.Prelude.{◌≡◌, ℕ, true, false, List, [], ◌∷◌, ◌++◌, OnOk, OnErr, IfOk, IfErr};
 ghost use Rattle.std.specs.Io.KnownBytes.{Appends};
 ghost use Rattle.flywheel.specs.declared.frame.Frame.{Frame};

@@ -1,5 +1,5 @@
 //! What `ltc-chase` makes of frames: the steps of a chase that follows them. Next:
-//! `code_chase/src/code_loop.rt`, and then `chase_script/src/texts.rt` for the lines.
+//! `code_chase/src/master.rt`, and then `chase_script/src/texts.rt` for the lines.
 ghost use Rattle.std.specs.Prelude.{◌≡◌, ◌<◌, ◌+◌, OnOk, IfErr};
 ghost use Rattle.chase_script.specs.TraceText.{step_line};
 ghost use Rattle.code_chase.specs.CodeTrace.{next_line};

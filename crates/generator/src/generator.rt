@@ -1,4 +1,5 @@
-//! The generator and its one call. Next: what is made of a value, in the crates above.
+//! The generator and its one call. Next: `code_chase/src/slip.rt` and `made_commands/src/chance.rt`, which
+//! draw its values.
 ghost use Rattle.std.specs.Prelude.{◌≡◌};
 ghost use Rattle.generator.specs.Draw.{drawn};
 

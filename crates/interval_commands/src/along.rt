@@ -1,5 +1,5 @@
 //! The way along an interval file, the same for each command that reads one. Next:
-//! `tc_files/src/interval_file/piece.rt`, and behind it the engines.
+//! `tc_files/src/interval_file/piece.rt`, and then `ltc_read`, `ltc_convert` or `ltc_pcm`.
 ghost use Rattle.std.specs.Prelude.{◌≡◌, ℕ, true, false, ◌+◌, ◌-◌, ◌%◌, ◌<◌, ◌≤◌, List, [], ◌∷◌, ◌++◌, length, take, drop, OnOk, IfOk, IfErr, IsSome, Err};
 ghost use Rattle.std.specs.declared.option.Option.{Option};
 ghost use Rattle.std.specs.Io.KnownBytes.{Appends};

@@ -1,4 +1,4 @@
-//! The decoder of a line file. Next: `texts`, with the answer of a field.
+//! The decoder of a line file. Next: `found`, and with the answer of a field `texts`.
 ghost use Rattle.std.specs.Prelude.{◌≡◌, ◌≢◌, ◌<◌, ◌≤◌, ◌^◌, ◌+◌, ◌++◌, ℕ, List, [], length, Ok, Err, Some, None, IfSome, OnOk, IfErr};
 ghost use Rattle.arrayvec.specs.ArrayVec.{array_vec_len};
 ghost use Rattle.vitc_reader.specs.declared.field.FieldAnswer.{FieldAnswer};

@@ -1,5 +1,4 @@
-//! A field at the front of bytes. Next: `vitc_reader/src/field.rt` with each of its lines, and then
-//! `decoder`.
+//! A field at the front of bytes. Next: `vitc_reader/src/field.rt`, with each of its lines.
 ghost use Rattle.std.specs.Prelude.{◌≡◌, ◌<◌, ◌≤◌, ◌+◌, ◌-◌, ◌*◌, ◌^◌, ◌++◌, ◌∷◌, [], ℕ, List, length, take, drop, slice_index, true};
 ghost use Rattle.vitc_reader.specs.Field.{StandsFor};
 ghost use Rattle.line_file.specs.KeptFront.{front_of, line_of, runs_behind, IsFoundField};

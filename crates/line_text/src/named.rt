@@ -1,4 +1,4 @@
-//! Truth values, flags and directions in a line.
+//! Truth values, flags and directions in a line. Next: `tc_command/src/pushing.rt`, with the whole line.
 ghost use Rattle.std.specs.Prelude.{◌≡◌, ◌+◌, ◌≤◌, ◌<◌, ◌++◌};
 ghost use Rattle.arrayvec.specs.ArrayVec.{array_vec_len};
 ghost use Rattle.line_text.specs.Line.{direction_name, flag_digit, flags_text};

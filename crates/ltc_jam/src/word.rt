@@ -1,4 +1,5 @@
-//! The word that is written for a label. Next: `ltc_word/src/writing.rt`, which spells it, and then `cells`.
+//! The word that is written for a label. Next: `ltc_word/src/writing.rt`, which spells it, and then
+//! `cells`.
 ghost use Rattle.std.specs.Prelude.{◌≡◌, ◌^◌, ◌<◌};
 ghost use Rattle.tc_bits.specs.Fields.{IsFields};
 ghost use Rattle.ltc_word.specs.Spelled.{spelling_of};

@@ -1,4 +1,5 @@
-//! Words that are played backward, and the sync word at the end of a word of either direction.
+//! Words that are played backward, and the sync word at the end of a word of either direction. Next:
+//! `reading`.
 
 ghost use Rattle.std.specs.Prelude.{◌≡◌, ◌-◌, ◌^◌, ◌<◌, ◌↔◌, ℕ, IsTrue};
 ghost use Rattle.std.specs.Int.{bit_at};

@@ -1,4 +1,4 @@
-//! A word and the faults of its bits.
+//! A word and the faults of its bits. Next: `direction_reader/src/event.rt`.
 
 use tc_bits::{FieldFault, Fields};
 use thiserror::Error;

@@ -1,4 +1,4 @@
-//! Writing a word as its 80 bits.
+//! Writing a word as its 80 bits. Next: `ltc_jam/src/cells.rt` and `made_commands/src/ltc_make.rt`.
 
 ghost use Rattle.tc_address.specs.Count.{system_with};
 ghost use Rattle.ltc_word.specs.Spelling.{Spells};

@@ -1,5 +1,5 @@
-//! `ltc-load`: a recording made by chance, and read interval after interval as it is made. Next:
-//! `labels`, which has its line.
+//! `ltc-load`: a recording made by chance, and read interval after interval as it is made. Next: `labels`,
+//! which has its line.
 ghost use Rattle.std.specs.Prelude.{◌≡◌, ◌≤◌, ◌<◌, ◌+◌, ◌*◌, ◌/◌, ◌%◌, ◌^◌, ◌++◌, [], ◌∷◌, List, ℕ, fold, Some};
 ghost use Rattle.arrayvec.specs.ArrayVec.{array_vec_len};
 ghost use Rattle.biphase.specs.Chain.{flat, intervals_of};

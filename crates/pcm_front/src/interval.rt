@@ -1,4 +1,4 @@
-//! The intervals of a distance.
+//! The intervals of a distance. Next: `tc_command/src/gathered.rt`.
 ghost use Rattle.std.specs.Prelude.{◌≡◌, ◌+◌, ◌*◌, ◌≤◌, ◌^◌, [], ◌∷◌, ◌++◌, replicate};
 ghost use Rattle.pcm_front.specs.Distance.{greatest, pieces_of};
 

@@ -1,4 +1,4 @@
-//! The writer of the messages.
+//! The writer of the messages. Next: `half`.
 ghost use Rattle.std.specs.Prelude.{◌≡◌, ◌≤◌, IfSome, List, [], ◌∷◌, ◌++◌, Option, None, Some, true, false, not, take, drop, length};
 ghost use Rattle.tc_address.specs.declared.direction.Direction.{Direction};
 ghost use Rattle.flywheel.specs.declared.frame.Frame.{Frame};

@@ -1,5 +1,6 @@
-//! `tc`, the timecode toolkit of a post-production machine room: the arguments, the standard streams
-//! and the exit number. All else is `tc_top::run`.
+//! `tc`, the timecode toolkit of a post-production machine room: the arguments, the standard streams and
+//! the exit number. All else is `tc_top::run`. Next: `tc_io/src/adapters.rt`, for the streams, and
+//! `tc_top/src/top_call.rt`.
 #![tactic(auto)]
 
 use std::process::ExitCode;

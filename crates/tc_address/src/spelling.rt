@@ -1,5 +1,5 @@
-//! The text of a label, and the label of a text or the text's first fault. Next: `label`, for what is
-//! read.
+//! The text of a label, and the label of a text or the text's first fault. Next: `line_text/src/line.rt`,
+//! with the text of a label.
 ghost use Rattle.std.specs.Prelude.{◌≡◌, ◌+◌, ◌<◌, length, slice_index, IfOk, IfErr, IfSome, IfNone, IsTrue, MatchResult};
 ghost use Rattle.tc_address.specs.Label.{Address, IsLabel};
 ghost use Rattle.tc_address.specs.Spelling.{text_of, label_in, separator, is_digit, may_stand, number_at, IsFirstTextFault, IsFirstWrongPlace, IsGoodBelow};

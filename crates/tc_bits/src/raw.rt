@@ -1,4 +1,4 @@
-//! The digits of a word as they stand in it, whether or not they are an address.
+//! The digits of a word as they stand in it, whether or not they are an address. Next: `checking`.
 
 ghost use Rattle.std.specs.Prelude.{◌≡◌};
 ghost use Rattle.tc_bits.specs.Fields.{digits_of};

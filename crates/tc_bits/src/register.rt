@@ -1,4 +1,4 @@
-//! Reading and writing some neighbouring bits of a register.
+//! Reading and writing some neighbouring bits of a register. Next: `reading` and `writing`.
 
 ghost use Rattle.std.specs.Prelude.{◌≡◌, ◌+◌, ◌^◌, ◌<◌, ◌≤◌};
 ghost use Rattle.tc_bits.specs.Register.{field, Replaces};

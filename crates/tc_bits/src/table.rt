@@ -1,4 +1,4 @@
-//! Where the fields of a word stand in its register. Next: `reading`.
+//! Where the fields of a word stand in its register. Next: `place`.
 
 ghost use Rattle.std.specs.Prelude.{◌≡◌};
 ghost use Rattle.tc_bits.specs.Table.{with_group_flags};

@@ -1,4 +1,5 @@
-//! The user bits of a word: eight groups of four bits each.
+//! The user bits of a word: eight groups of four bits each. Next: `ltc_word/src/word.rt` and
+//! `vitc_line/src/word.rt`.
 
 ghost use Rattle.std.specs.Prelude.{◌≡◌, ◌^◌, ◌<◌};
 

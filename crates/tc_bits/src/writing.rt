@@ -1,4 +1,5 @@
-//! Writing the fields of a word in their places.
+//! Writing the fields of a word in their places. Next: `ltc_word/src/writing.rt` and
+//! `vitc_line/src/writing.rt`.
 
 ghost use Rattle.std.specs.Prelude.{◌≡◌, ◌*◌, ◌^◌, ◌<◌, ◌≤◌, true};
 ghost use Rattle.tc_bits.specs.Row.{sum_of};

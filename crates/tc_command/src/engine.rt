@@ -1,5 +1,5 @@
-//! What every command that reads an input is: an engine that takes what was pulled. Next: `intake`,
-//! which gives it the bytes.
+//! What every command that reads an input is: an engine that takes what was pulled. Next: `intake`, which
+//! gives it the bytes.
 ghost use Rattle.std.specs.Prelude.{◌≡◌, ℕ, ◌<◌, ◌≤◌, List, ◌++◌, length, take, OnOk, IfOk, IfErr, Err};
 ghost use Rattle.std.specs.Io.KnownBytes.{Appends};
 ghost use Rattle.tc_files.specs.Verdict.{good};

@@ -1,5 +1,6 @@
-//! The way of the input into an engine, the same for each command. Next:
-//! `interval_commands/src/along.rt`, and the engines of `signal_commands`.
+//! The way of the input into an engine, the same for each command. Next: `interval_commands/src/along.rt`,
+//! `signal_commands/src/pcm_ltc.rt`, `signal_commands/src/wav_ltc.rt`, `signal_commands/src/mtc_read.rt` or
+//! `signal_commands/src/vitc_read.rt`.
 ghost use Rattle.std.specs.Prelude.{◌≡◌, ℕ, ◌<◌, List, ◌++◌, [], length, true, OnOk, IfErr, Err};
 ghost use Rattle.std.specs.Io.KnownBytes.{Appends};
 ghost use Rattle.tc_files.specs.Grammar.{AreBytes};

@@ -1,4 +1,4 @@
-//! The faults of an interval file, of a line file and of a sound file. Next: `tc_top/src/notes.rt`, which prints them.
+//! The faults of an interval file, of a line file and of a sound file. Next: `names`.
 ghost use Rattle.std.specs.Prelude.{◌≡◌};
 
 use crate::names;

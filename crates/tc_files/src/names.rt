@@ -1,4 +1,5 @@
 //! The names of the faults of an interval file and of a line file, as notes print them. This project's own.
+//! Next: `tc_command/src/notes.rt`, which prints them.
 
 /// The name of `FileFault::Magic`.
 pub const MAGIC_NAME: &str = "magic";

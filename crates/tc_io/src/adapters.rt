@@ -1,4 +1,5 @@
-//! A real reader as a source and a real writer as a sink: the trusted edge.
+//! A real reader as a source and a real writer as a sink: the trusted edge. Last: what is pushed here has
+//! left the program.
 //!
 //! Each call makes one read or one write, and keeps nothing back. What was read or written is known
 //! only by the answer of the operating system, so these two tell no bytes.

@@ -1,4 +1,4 @@
-//! What each job writes of an input keeps its promise.
+//! What each job writes of an input keeps its promise. Next: `laws`.
 ghost use Rattle.std.specs.Prelude.{ℕ};
 ghost use Rattle.tc_files.specs.declared.interval_file.header.FileVersion.{FileVersion};
 ghost use Rattle.tc_words.specs.declared.job.Job.{Job};

@@ -1,4 +1,4 @@
-//! A job along its input. Next: `intake` of `tc_command`, and behind it the crate of the command.
+//! A job along its input. Next: `tc_command/src/intake.rt`, and behind it the crate of the command.
 ghost use Rattle.std.specs.Prelude.{◌≡◌, ◌⊎◌, ℕ, List, Some, false, OnOk, IfErr};
 ghost use Rattle.std.specs.Io.KnownBytes.{Appends};
 ghost use Rattle.tc_io.specs.Sink.{IsFront};

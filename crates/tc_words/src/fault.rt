@@ -1,4 +1,4 @@
-//! The first fault of the words. Next: `tc_top`, which answers it as a status.
+//! The first fault of the words. Next: `tc_command/src/notes.rt`.
 use std::alloc::AllocError;
 use thiserror::Error;
 

@@ -1,5 +1,5 @@
-//! What `ltc-jam` is told: how the frames are had, and what the clean recording is made of.
-//! Next: `tc_top/src/engines/jam.rt`, which makes it.
+//! What `ltc-jam` is told: how the frames are had, and what the clean recording is made of. Next:
+//! `frame_commands/src/jam.rt`, which makes it.
 ghost use Rattle.std.specs.Prelude.{◌≡◌};
 ghost use Rattle.tc_words.specs.Jam.{IsJamming, jamming_of};
 

@@ -1,4 +1,4 @@
-//! What the words name. Next: `tc_top`, which does it.
+//! What the words name. Next: `tc_top/src/streaming.rt`, which does it.
 use crate::amplitude::Amplitude;
 use crate::chase_run::ChaseRun;
 use crate::flight::Flight;

@@ -1,5 +1,5 @@
 //! What `vitc-make` is told: which labels to write to lines, and how long a line lasts. Next:
-//! `tc_top/src/engines/vitc_make.rt`, which makes them.
+//! `made_commands/src/vitc_make.rt`, which makes them.
 ghost use Rattle.std.specs.Prelude.{◌≡◌};
 ghost use Rattle.tc_words.specs.LineStripe.{IsLineStripe, LineStriping, line_stripe_of};
 

@@ -1,5 +1,5 @@
 //! What `ltc-load` is told: a seed, and how many words to make and to read. Next:
-//! `tc_top/src/engines/ltc_load.rt`, which does both.
+//! `made_commands/src/ltc_load.rt`, which does both.
 ghost use Rattle.std.specs.Prelude.{◌≡◌};
 ghost use Rattle.tc_words.specs.Load.{IsLoading, loading_of};
 

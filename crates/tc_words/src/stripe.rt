@@ -1,5 +1,5 @@
 //! What `ltc-make` is told: which labels to write to a tape, and how long its cells last. Next:
-//! `tc_top/src/engines/ltc_make.rt`, which makes it.
+//! `made_commands/src/ltc_make.rt`, which makes it.
 ghost use Rattle.std.specs.Prelude.{◌≡◌, IfSome};
 ghost use Rattle.tc_words.specs.Stripe.{IsStripe, Striping, stripe_of};
 

@@ -1,4 +1,4 @@
-//! The values of the words, one by one. Next: `tc_address`, which reads labels and numbers.
+//! The values of the words, one by one. Next: `tc_address/src/spelling.rt`, which reads labels.
 ghost use Rattle.std.specs.Prelude.{◌≡◌, ◌≤◌, IfSome};
 ghost use Rattle.std.specs.Char.{is_ascii_digit};
 ghost use Rattle.std.specs.List.{list_all};

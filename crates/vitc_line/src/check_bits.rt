@@ -1,5 +1,4 @@
-//! The check of a line: a remainder by the generator `x^8 + 1`, which is eight exclusive ors. Next:
-//! `reading`.
+//! The check of a line: a remainder by the generator `x^8 + 1`, which is eight exclusive ors. Next: `word`.
 
 ghost use Rattle.std.specs.Prelude.{◌≡◌, ℕ, ◌+◌, ◌*◌, ◌^◌, ◌<◌};
 ghost use Rattle.std.specs.Int.{bit_at};

@@ -1,4 +1,5 @@
-//! From the runs of a line to its bits. Next: `vitc_line`, `reading`.
+//! From the runs of a line to its bits. Next: `ones`, and with all bits of a line
+//! `vitc_line/src/reading.rt`.
 
 ghost use Rattle.std.specs.Prelude.{◌≡◌, ℕ, ◌^◌, ◌<◌, ◌≤◌, ◌+◌, ◌*◌, ◌/◌, IfOk, IfErr, IfSome, None};
 ghost use Rattle.vitc_reader.specs.Runs.{IsLineLength, MayBeLine, IsCells, StandFor, IsRunFault, runs_of_bytes};

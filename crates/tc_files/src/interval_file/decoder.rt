@@ -1,4 +1,4 @@
-//! The decoder of an interval file. Next: `direction_reader/src/reader.rt`.
+//! The decoder of an interval file. Next: `interval_commands/src/ltc_read.rt`.
 ghost use Rattle.std.specs.Prelude.{◌≡◌, ◌↔◌, List, ◌<◌, ◌≤◌, ◌^◌, ◌*◌, ◌++◌, ◌+◌, [], ◌∷◌, length, IfErr, IfNone, OnOk, IsTrue, ℕ, ◌-◌, ◌==◌, None};
 ghost use Rattle.std.specs.Prelude.{if◌then◌else◌};
 ghost use Rattle.arrayvec.specs.ArrayVec.{array_vec_len};

@@ -1,4 +1,4 @@
-//! The header of an interval file, and the numbers of its table. Next: `decoder`.
+//! The header of an interval file, and the numbers of its table. Next: `piece`.
 ghost use Rattle.std.specs.Prelude.{◌≡◌, [], Some};
 ghost use Rattle.tc_files.specs.Recording.{recording_of};
 ghost use Rattle.tc_files.specs.Verdict.{good};

@@ -1,4 +1,4 @@
-//! The line of an event. Next: `summary`.
+//! The line of an event. Next: `line_text/src/line.rt`.
 ghost use Rattle.std.specs.Prelude.{◌≡◌, ◌<◌, ◌≤◌, ◌^◌};
 ghost use Rattle.tc_files.specs.IntervalHeader.{IsTickRate};
 ghost use Rattle.tc_files.specs.Texts.{

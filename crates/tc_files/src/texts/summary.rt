@@ -1,4 +1,4 @@
-//! The last lines of the reports.
+//! The last lines of the reports. Next: `line_text/src/line.rt`.
 ghost use Rattle.std.specs.Prelude.{◌≡◌, ◌<◌, ◌^◌};
 ghost use Rattle.tc_files.specs.FrameTexts.{fly_end_line};
 ghost use Rattle.tc_files.specs.Texts.{read_end_line};
