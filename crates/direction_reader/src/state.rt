@@ -1,5 +1,5 @@
-//! The states of the tracker, and what an interval does to each. Next: the states of `cell_tracker`, and
-//! with what they answer `latest_cells`.
+//! The states of the tracker, and what an interval does to each. Next: `cell_tracker/src/hunting.rt`, and
+//! with what it answers `latest_cells`.
 ghost use Rattle.std.specs.Prelude.{◌≡◌, ◌≤◌, ℕ, List, Option};
 ghost use Rattle.cell_tracker.specs.Stretch.{Stretch};
 ghost use Rattle.biphase.specs.declared.cell.TheConstants.{MAX_INTERVAL};

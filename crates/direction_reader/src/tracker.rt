@@ -1,5 +1,4 @@
-//! Where the tracker stands, and what an interval does to it. Next: `cell_tracker/src/hunting.rt`, and with
-//! what it answers `latest_cells`.
+//! Where the tracker stands, and what an interval does to it. Next: `state`.
 ghost use Rattle.std.specs.Prelude.{◌≡◌, ◌≤◌, ◌↔◌, ℕ, List, [], Option, None, IsTrue};
 ghost use Rattle.cell_tracker.specs.Stretch.{Stretch};
 ghost use Rattle.biphase.specs.declared.cell.TheConstants.{MAX_INTERVAL};
