@@ -324,7 +324,7 @@ count-to_come None (Some mark) = refl
 
 count-spans : (tape : Tape) (frames : List Frame) (stands : StandsFor tape frames) → length (spans frames) ≡ tape.spans + of_place (λ _. 1) tape.place
 count-spans tape frames stands =
-    length-map span_of (frames_of_spans frames) ∙ ap (λ (l : List SpanFrames). length l) (split-nil tape frames stands)
+    length-map (frames_of_spans frames) span_of ∙ ap (λ (l : List SpanFrames). length l) (split-nil tape frames stands)
     ∙ length-append stands.done (to_come stands.running [])
     ∙ ap₂ (λ (a b : ℕ). a + b) (sym stands.spans) (count-to_come stands.running (latest_end None stands.done) ∙ ap (of_place (λ _. 1)) (sym stands.place))
 

@@ -2,7 +2,7 @@
 ghost use Rattle.std.specs.Prelude.{◌≡◌, ℕ, ◌+◌, ◌-◌, ◌<◌, ◌≤◌, ◌^◌, List, [], ◌∷◌, ◌++◌, IfSome};
 ghost use Rattle.flywheel.specs.declared.frame.Frame.{Frame};
 ghost use Rattle.tc_address.specs.declared.system.System.{System};
-ghost use Rattle.tape_spans.specs.SpanTexts.{final_lines, last_spans_line, open_line, spans_end_line};
+ghost use Rattle.tape_spans.specs.SpanTexts.{final_lines, last_spans_line, open_line};
 ghost use Rattle.tape_spans.specs.Spans.{spans};
 ghost use Rattle.tape_spans.specs.StandsFor.{cut_lines, ended_lines, StandsFor};
 ghost use Rattle.tape_spans.specs.Tape.{
@@ -27,6 +27,14 @@ use crate::texts::spans_end_text;
 use flywheel::Frame;
 use line_text::Text;
 use std::marker::Model;
+
+/// How many spans there are, and how many frames were heard and bridged in them.
+#[derive(Clone, Copy)]
+struct Counts {
+    spans: u64,
+    heard: u64,
+    bridged: u64,
+}
 
 /// Nothing ends, and nothing begins.
 const NO_CUT: Cut = Cut {
@@ -192,25 +200,42 @@ impl TapeSpans {
         self.place.ended()
     }
 
+    /// The spans and their frames, the open one counted too.
+    fn counts(&self) -> Counts
+        requires room { frames_taken self.now < 2 ^ 40 }
+        ensures spans { result.spans ≡ (counted self.now).spans }
+        ensures heard { result.heard ≡ (counted self.now).heard }
+        ensures bridged { result.bridged ≡ (counted self.now).bridged }
+        ensures most { (result.spans < 2 ^ 40) × (result.heard < 2 ^ 40) × (result.bridged < 2 ^ 40) }
+    {
+        let Place::Within(current) = self.place else {
+            return Counts {
+                spans: self.spans,
+                heard: self.heard,
+                bridged: self.bridged,
+            };
+        };
+        Counts {
+            spans: self.spans + 1,
+            heard: self.heard + current.span.heard,
+            bridged: self.bridged + current.span.bridged,
+        }
+    }
+
     /// The line that counts the spans, the open one too, and the frames that were heard and bridged in
     /// them; with the intervals of the recording and their sum in ticks.
     pub fn end_text(&self, intervals: u64, ticks: u64) -> Text
         requires room { frames_taken self.now < 2 ^ 40 }
         requires intervals { intervals < 2 ^ 40 }
         requires ticks { ticks < 2 ^ 60 }
-        ensures value { let all = counted self.now in
-            result.items ≡ spans_end_line intervals all.spans all.heard all.bridged ticks }
-        ensures line { (frames : List Frame) → StandsFor self.now frames → result.items ≡ last_spans_line intervals (spans frames) ticks }
+        ensures { (frames : List Frame) → StandsFor self.now frames → result.items ≡ last_spans_line intervals (spans frames) ticks }
     {
-        let (open, heard, bridged) = match self.place.ended() {
-            Some(span) => (1, span.heard, span.bridged),
-            None => (0, 0, 0),
-        };
+        let counts = self.counts();
         spans_end_text(
             intervals,
-            self.spans + open,
-            self.heard + heard,
-            self.bridged + bridged,
+            counts.spans,
+            counts.heard,
+            counts.bridged,
             ticks,
         )
     }
