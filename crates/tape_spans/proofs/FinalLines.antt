@@ -136,7 +136,7 @@ told-begins : (rate : ℕ) (system : System) (frames : List Frame) (label : Addr
     (running : Option Running) (before : Option Mark) → latest_end None done ≡ before → Splits frames done running
     → final_lines rate system (frames ++ Heard label direction false tick ∷ [])
     ≡ final_lines rate system frames ++ (ended_lines rate system (ended_at (place_of_tape running before))
-      ++ gap_lines (gap_at (place_of_tape running before) (mark_at label direction tick)))
+    ++ gap_lines (gap_at (place_of_tape running before) (mark_at label direction tick)))
 told-begins rate system frames label direction tick done (Some running) before latest split =
     let line = span_line rate system (span_of (so_far running)) in
     let frame = Heard label direction false tick in
@@ -157,7 +157,7 @@ told-begins rate system frames label direction tick done None before latest spli
     let own = final_behind rate system None done in
     let next : Splits (frames ++ frame ∷ []) done open_one = splits-next frames done frame open_one (begun-is label direction tick) split in
     let same : gap_before (latest_end None done) mark ≡ ended_lines rate system (ended_at (place_of_tape None before))
-        ++ gap_lines (gap_at (place_of_tape None before) mark) =
+    ++ gap_lines (gap_at (place_of_tape None before) mark) =
     ap (λ (m : Option Mark). gap_before m mark) latest ∙ gap-told before mark
     ∙ ap (λ (l : List ℕ). l ++ gap_lines (gap_at (place_of_tape None before) mark)) (sym (nothing-ended rate system before)) in
     let lines : final_lines rate system frames ≡ own = final-split rate system frames done None (split []) ∙ append-nil own in

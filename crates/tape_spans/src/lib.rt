@@ -35,3 +35,5 @@ pub use span::{Mark, Span};
 pub use tape::TapeSpans;
 pub use texts::{SpanText, gap_text, span_text, spans_end_text};
 
+#[cfg(test)]
+mod tests;

@@ -231,12 +231,6 @@ impl TapeSpans {
         ensures { (frames : List Frame) → StandsFor self.now frames → result.items ≡ last_spans_line intervals (spans frames) ticks }
     {
         let counts = self.counts();
-        spans_end_text(
-            intervals,
-            counts.spans,
-            counts.heard,
-            counts.bridged,
-            ticks,
-        )
+        spans_end_text(intervals, counts.spans, counts.heard, counts.bridged, ticks)
     }
 }
