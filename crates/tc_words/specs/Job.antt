@@ -1,6 +1,8 @@
 -- The task of a list of words, or their first fault.
 use Rattle.std.specs.Prelude.{ℕ, List, [], ◌∷◌, Option, Some, None, Result, Ok, Err, if◌then◌else◌, position}
 use Rattle.std.specs.Str.{bytes_eq}
+use Rattle.biphase.specs.declared.profile.Profile.{Profile}
+use Rattle.biphase.specs.declared.profile.Profile.TheVariants.{Normal}
 use Rattle.tc_words.specs.declared.job.Job.{Job}
 use Rattle.tc_words.specs.declared.job.Job.TheVariants as jobs
 use Rattle.tc_words.specs.declared.job.Task.{Task}
@@ -8,16 +10,18 @@ use Rattle.tc_words.specs.declared.job.Task.TheVariants as tasks
 use Rattle.tc_words.specs.declared.commands.TheConstants as commands
 use Rattle.tc_words.specs.declared.fault.WordsFault.{WordsFault}
 use Rattle.tc_words.specs.declared.fault.WordsFault.TheVariants.{Dash, Command, CountOfWords, Value}
+use Rattle.tc_words.specs.declared.flight.Flight.{Flight}
 use Rattle.biphase.specs.declared.shaper.TheConstants.{MIN_SHAPED, MAX_SHAPED}
 use Rattle.tc_words.specs.declared.stripe.TheConstants.{MAX_TICK_RATE}
 use Rattle.tc_words.specs.ChaseWords.{chased}
+use Rattle.tc_words.specs.Flight.{flight_in, flight_of}
 use Rattle.tc_words.specs.Jam.{jamming_of}
 use Rattle.tc_words.specs.Sound.{amplitude_in, following, in_samples, in_ticks}
 use Rattle.tc_words.specs.Tape.{at_one_length, moving, value_or}
 use Rattle.tc_words.specs.declared.load.TheConstants.{MAX_WORDS}
 use Rattle.tc_words.specs.Lines.{in_lines}
 use Rattle.tc_words.specs.Load.{loading_of}
-use Rattle.tc_words.specs.Values.{Word, between, count_in, limit_in, number_in, numbered, spelled, version_in}
+use Rattle.tc_words.specs.Values.{Word, between, count_in, limit_in, number_in, numbered, spelled, tolerance_in, version_in}
 use Rattle.command_words.specs.CommandLine.{begins_with_dash}
 
 -- the job, or the first fault
@@ -29,6 +33,11 @@ abbrev pub with_value : {X : Type 0} → ℕ → Option X → (X → Answer) →
 with_value place None next = Err (Value place)
 with_value place (Some value) next = next value
 
+-- the job of a flight, or the first fault of its words
+abbrev pub with_flight : Result Flight WordsFault → (Flight → Job) → Answer
+with_flight (Err fault) job = Err fault
+with_flight (Ok flight) job = Ok (job flight)
+
 -- ---- the commands: the values of each, and how each is read
 
 -- a command without values
@@ -36,26 +45,30 @@ abbrev pub no_values : Job → List Word → Answer
 no_values job [] = Ok job
 no_values job _ = Err CountOfWords
 
--- `ltc-fly LIMIT`
+-- `ltc-fly LIMIT [worn]`
 abbrev pub ltc_fly : List Word → Answer
-ltc_fly (limit ∷ []) = with_value 1 (limit_in limit) (λ n. Ok (jobs.LtcFly n))
-ltc_fly _ = Err CountOfWords
+ltc_fly values = with_flight (flight_in values) (λ flight. jobs.LtcFly flight)
 
--- `ltc-mtc LIMIT`
+-- `ltc-mtc LIMIT [worn]`
 abbrev pub ltc_mtc : List Word → Answer
-ltc_mtc (limit ∷ []) = with_value 1 (limit_in limit) (λ n. Ok (jobs.LtcMtc n))
-ltc_mtc _ = Err CountOfWords
+ltc_mtc values = with_flight (flight_in values) (λ flight. jobs.LtcMtc flight)
 
--- `ltc-jam LIMIT CELL TICK-RATE`
-abbrev pub ltc_jam : List Word → Answer
-ltc_jam (limit ∷ cell ∷ tick_rate ∷ []) =
+-- the job of three words, and of the tolerance that the fourth says, where it says one
+abbrev pub jammed : Word → Word → Word → Option Profile → Answer
+jammed limit cell tick_rate profile =
     with_value 1 (limit_in limit) (λ n. with_value 2 (between MIN_SHAPED MAX_SHAPED cell) (λ c.
-    with_value 3 (between 1 MAX_TICK_RATE tick_rate) (λ r. Ok (jobs.LtcJam (jamming_of n c r)))))
+    with_value 3 (between 1 MAX_TICK_RATE tick_rate) (λ r. with_value 4 profile (λ p. Ok (jobs.LtcJam (jamming_of (flight_of n p) c r))))))
+
+-- `ltc-jam LIMIT CELL TICK-RATE [worn]`
+abbrev pub ltc_jam : List Word → Answer
+ltc_jam (limit ∷ cell ∷ tick_rate ∷ []) = jammed limit cell tick_rate (Some Normal)
+ltc_jam (limit ∷ cell ∷ tick_rate ∷ tolerance ∷ []) = jammed limit cell tick_rate (tolerance_in tolerance)
 ltc_jam _ = Err CountOfWords
 
--- `ltc-chase COUNT LABEL LIMIT SEED BOUND`
+-- `ltc-chase COUNT LABEL LIMIT SEED BOUND [worn]`
 abbrev pub ltc_chase : List Word → Answer
-ltc_chase (count ∷ label ∷ limit ∷ seed ∷ bound ∷ []) = chased count label limit seed bound
+ltc_chase (count ∷ label ∷ limit ∷ seed ∷ bound ∷ []) = chased count label limit seed bound (Some Normal)
+ltc_chase (count ∷ label ∷ limit ∷ seed ∷ bound ∷ tolerance ∷ []) = chased count label limit seed bound (tolerance_in tolerance)
 ltc_chase _ = Err CountOfWords
 
 -- `ltc-make COUNT DIRECTION LABEL FRAMES CELL TICK-RATE [TO-CELL STEP]`: without the last two words the cells are of one length

@@ -1,5 +1,6 @@
 pub mod ChaseRun
 pub mod ChaseWords
+pub mod Flight
 pub mod Jam
 pub mod Job
 pub mod Slicing

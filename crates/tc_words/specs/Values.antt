@@ -4,6 +4,8 @@ use Rattle.std.specs.Char.{is_ascii_digit}
 use Rattle.std.specs.List.{list_all}
 use Rattle.std.specs.Str.{bytes_eq}
 use Rattle.std.specs.Str.Parse.{digits_value}
+use Rattle.biphase.specs.declared.profile.Profile.{Profile}
+use Rattle.biphase.specs.declared.profile.Profile.TheVariants.{Worn}
 use Rattle.tc_address.specs.declared.count.Count.{Count}
 use Rattle.tc_address.specs.declared.count.Count.TheVariants.{C24, C25, C30, Drop30}
 use Rattle.tc_address.specs.declared.direction.Direction.{Direction}
@@ -57,6 +59,10 @@ number_in word = if is_number word && nat_lt (digits_value 10 word) (2 ^ 64) the
 -- a number up to 255
 abbrev pub limit_in : Word → Option ℕ
 limit_in word = option_and_then (λ n. if nat_le n 255 then Some n else None) (number_in word)
+
+-- a tolerance other than the normal one: `worn`
+abbrev pub tolerance_in : Word → Option Profile
+tolerance_in word = if bytes_eq word (codes "worn") then Some Worn else None
 
 -- `forward` or `backward`
 abbrev pub direction_in : Word → Option Direction

@@ -1,8 +1,9 @@
-//! What `ltc-chase` is told: where the chase begins, how many frames are invented in a row, and how the
+//! What `ltc-chase` is told: where the chase begins, how the frames are had that it follows, and how the
 //! transport slips. Next: `tc_top/src/engines/ltc_chase.rt`, which makes it.
 ghost use Rattle.std.specs.Prelude.{◌≡◌};
 ghost use Rattle.tc_words.specs.ChaseRun.{IsChasing, chasing_of};
 
+use crate::flight::Flight;
 use std::marker::Model;
 use tc_address::Label;
 
@@ -13,7 +14,7 @@ pub const MAX_SLIP: u32 = 1_000;
 #[derive(Clone, Copy, Debug, PartialEq, Eq)]
 pub struct ChaseRun {
     label: Label,
-    limit: u8,
+    flight: Flight,
     seed: u64,
     bound: u32,
 }
@@ -23,23 +24,23 @@ impl Model for ChaseRun {
 
     ghost Value = { Chasing };
 
-    ghost view = { λ c. record { label = c.label; limit = c.limit; seed = c.seed; bound = c.bound } };
+    ghost view = { λ c. record { label = c.label; flight = c.flight; seed = c.seed; bound = c.bound } };
 
-    ghost invariant = { λ c. IsChasing (chasing_of c.label c.limit c.seed c.bound) };
+    ghost invariant = { λ c. IsChasing (chasing_of c.label c.flight c.seed c.bound) };
 
-    ghost inverse = { λ c. record { label = c.label; limit = c.limit; seed = c.seed; bound = c.bound } };
+    ghost inverse = { λ c. record { label = c.label; flight = c.flight; seed = c.seed; bound = c.bound } };
 }
 
 impl ChaseRun {
-    /// From this label on, with at most so many invented frames in a row, and slips from this seed of at
-    /// most so many subframes.
-    pub(crate) fn new(label: Label, limit: u8, seed: u64, bound: u32) -> ChaseRun
-        requires { IsChasing (chasing_of label limit seed bound) }
-        ensures { result ≡ chasing_of label limit seed bound }
+    /// From this label on, over frames that are had so, and with slips from this seed of at most so many
+    /// subframes.
+    pub(crate) fn new(label: Label, flight: Flight, seed: u64, bound: u32) -> ChaseRun
+        requires { IsChasing (chasing_of label flight seed bound) }
+        ensures { result ≡ chasing_of label flight seed bound }
     {
         ChaseRun {
             label,
-            limit,
+            flight,
             seed,
             bound,
         }
@@ -53,11 +54,11 @@ impl ChaseRun {
         self.label
     }
 
-    /// How many frames are invented in a row, at most.
-    pub fn limit(&self) -> u8
-        ensures { result ≡ self.now.limit }
+    /// How the frames are had.
+    pub fn flight(&self) -> Flight
+        ensures { result ≡ self.now.flight }
     {
-        self.limit
+        self.flight
     }
 
     /// The seed of the slips.

@@ -4,10 +4,12 @@ ghost use Rattle.tc_words.specs.ChaseWords.{chased};
 
 use crate::chase_run::{ChaseRun, MAX_SLIP};
 use crate::fault::WordsFault;
+use crate::flight::Flight;
 use crate::job::Job;
 use crate::values::{between, count_in, limit_in, number_in, spelled};
+use biphase::Profile;
 
-/// The job of five words, or their first fault.
+/// The job of five words and the tolerance that the sixth says, or their first fault.
 #[tactic(auto, unfolding(crate::specs::ChaseWords::chased))]
 pub(crate) fn chased(
     count: &str,
@@ -15,15 +17,17 @@ pub(crate) fn chased(
     limit: &str,
     seed: &str,
     bound: &str,
+    profile: Option<Profile>,
 ) -> Result<Job, WordsFault>
-    ensures { result ≡ chased count.now label.now limit.now seed.now bound.now }
+    ensures { result ≡ chased count.now label.now limit.now seed.now bound.now profile }
 {
     let count = count_in(count).ok_or(WordsFault::Value(1))?;
     let label = spelled(count, label).ok_or(WordsFault::Value(2))?;
     let limit = limit_in(limit).ok_or(WordsFault::Value(3))?;
     let seed = number_in(seed).ok_or(WordsFault::Value(4))?;
     let bound = between(0, MAX_SLIP, bound).ok_or(WordsFault::Value(5))?;
+    let profile = profile.ok_or(WordsFault::Value(6))?;
     Ok(Job::LtcChase {
-        run: ChaseRun::new(label, limit, seed, bound),
+        run: ChaseRun::new(label, Flight { limit, profile }, seed, bound),
     })
 }

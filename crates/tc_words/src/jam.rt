@@ -1,14 +1,15 @@
-//! What `ltc-jam` is told: how many frames are invented in a row, and what the clean recording is made of.
+//! What `ltc-jam` is told: how the frames are had, and what the clean recording is made of.
 //! Next: `tc_top/src/engines/jam.rt`, which makes it.
 ghost use Rattle.std.specs.Prelude.{◌≡◌};
 ghost use Rattle.tc_words.specs.Jam.{IsJamming, jamming_of};
 
+use crate::flight::Flight;
 use std::marker::Model;
 
 /// A clean recording that is to be made of a damaged one.
 #[derive(Clone, Copy, Debug, PartialEq, Eq)]
 pub struct Jam {
-    limit: u8,
+    flight: Flight,
     cell: u32,
     tick_rate: u32,
 }
@@ -18,32 +19,31 @@ impl Model for Jam {
 
     ghost Value = { Jamming };
 
-    ghost view = { λ j. record { limit = j.limit; cell = j.cell; tick_rate = j.tick_rate } };
+    ghost view = { λ j. record { flight = j.flight; cell = j.cell; tick_rate = j.tick_rate } };
 
-    ghost invariant = { λ j. IsJamming (jamming_of j.limit j.cell j.tick_rate) };
+    ghost invariant = { λ j. IsJamming (jamming_of j.flight j.cell j.tick_rate) };
 
-    ghost inverse = { λ j. record { limit = j.limit; cell = j.cell; tick_rate = j.tick_rate } };
+    ghost inverse = { λ j. record { flight = j.flight; cell = j.cell; tick_rate = j.tick_rate } };
 }
 
 impl Jam {
-    /// With at most so many invented frames in a row, in cells of so many ticks of a clock of so many
-    /// ticks a second.
-    pub(crate) fn new(limit: u8, cell: u32, tick_rate: u32) -> Jam
-        requires { IsJamming (jamming_of limit cell tick_rate) }
-        ensures { result ≡ jamming_of limit cell tick_rate }
+    /// Of frames that are had so, in cells of so many ticks of a clock of so many ticks a second.
+    pub(crate) fn new(flight: Flight, cell: u32, tick_rate: u32) -> Jam
+        requires { IsJamming (jamming_of flight cell tick_rate) }
+        ensures { result ≡ jamming_of flight cell tick_rate }
     {
         Jam {
-            limit,
+            flight,
             cell,
             tick_rate,
         }
     }
 
-    /// How many frames are invented in a row, at most.
-    pub fn limit(&self) -> u8
-        ensures { result ≡ self.now.limit }
+    /// How the frames are had.
+    pub fn flight(&self) -> Flight
+        ensures { result ≡ self.now.flight }
     {
-        self.limit
+        self.flight
     }
 
     /// How many ticks a cell lasts.

@@ -1,6 +1,7 @@
 //! What the words name. Next: `tc_top`, which does it.
 use crate::amplitude::Amplitude;
 use crate::chase_run::ChaseRun;
+use crate::flight::Flight;
 use crate::jam::Jam;
 use crate::line_stripe::LineStripe;
 use crate::load::LoadRun;
@@ -26,16 +27,16 @@ pub enum Job {
     LtcRead,
     /// `ltc-worn`: the same under the tolerance of worn recordings.
     LtcWorn,
-    /// `ltc-fly LIMIT`: reads an interval file, and writes a line for each frame of its words, with at
-    /// most so many invented frames in a row.
-    LtcFly { limit: u8 },
-    /// `ltc-mtc LIMIT`: reads an interval file, and writes MIDI Time Code of the same frames.
-    LtcMtc { limit: u8 },
-    /// `ltc-jam LIMIT CELL TICK-RATE`: reads an interval file, and writes the same frames anew as an interval
+    /// `ltc-fly LIMIT [worn]`: reads an interval file, and writes a line for each frame of its words, with
+    /// at most so many invented frames in a row.
+    LtcFly { flight: Flight },
+    /// `ltc-mtc LIMIT [worn]`: reads an interval file, and writes MIDI Time Code of the same frames.
+    LtcMtc { flight: Flight },
+    /// `ltc-jam LIMIT CELL TICK-RATE [worn]`: reads an interval file, and writes the same frames anew as an interval
     /// file of cells of one length.
     LtcJam { jam: Jam },
-    /// `ltc-chase COUNT LABEL LIMIT SEED BOUND`: reads an interval file, and writes the steps of a chase that
-    /// begins at the label and follows the same frames.
+    /// `ltc-chase COUNT LABEL LIMIT SEED BOUND [worn]`: reads an interval file, and writes the steps of a
+    /// chase that begins at the label and follows the same frames.
     LtcChase { run: ChaseRun },
     /// `mtc-read`: reads MIDI bytes, and writes a line for each label of MIDI Time Code in them, and for
     /// each address that is no label.

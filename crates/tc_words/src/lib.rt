@@ -7,7 +7,7 @@
 //! the order of `WordsFault`, and want of memory is an answer of its own (`specs/Job.antt`,
 //! `answer_to`). A task is a job that is streamed, or a chase.
 //!
-//! Read `commands`, `fault`, `job`, `stripe`, `tape`, `jam`, `chase_run`, `chase_words`, `line_stripe`, `lines`, `load`, `slicing`, `amplitude`,
+//! Read `commands`, `fault`, `job`, `stripe`, `tape`, `flight`, `jam`, `chase_run`, `chase_words`, `line_stripe`, `lines`, `load`, `slicing`, `amplitude`,
 //! `sound`, `values` and `words`, with `specs/Job.antt` and `specs/Values.antt` beside them: `words` and `Job.antt` have the same
 //! rows. `tc_top` stands on this crate.
 //!
@@ -24,6 +24,7 @@ mod chase_run;
 mod chase_words;
 pub mod commands;
 mod fault;
+mod flight;
 mod jam;
 mod job;
 pub mod laws;
@@ -40,6 +41,7 @@ mod words;
 pub use amplitude::Amplitude;
 pub use chase_run::{ChaseRun, MAX_SLIP};
 pub use fault::WordsFault;
+pub use flight::Flight;
 pub use jam::Jam;
 pub use job::{Job, Task};
 pub use line_stripe::LineStripe;

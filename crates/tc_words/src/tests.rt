@@ -1,5 +1,6 @@
 //! Words as they are typed, and what they say.
 use super::*;
+use biphase::Profile;
 use pcm_front::Threshold;
 use std::alloc::{AllocError, Global};
 use std::test::Fail;
@@ -28,17 +29,17 @@ fn the_first_fault_is_told(rt: HostRuntime) -> Result<(), Fail> {
         ("ltc-fly 256", WordsFault::Value(1)),
         ("ltc-fly two", WordsFault::Value(1)),
         ("ltc-mtc", WordsFault::CountOfWords),
-        ("ltc-mtc 2 2", WordsFault::CountOfWords),
+        ("ltc-mtc 2 2", WordsFault::Value(2)),
         ("ltc-mtc 256", WordsFault::Value(1)),
         ("ltc-jam 2 24", WordsFault::CountOfWords),
-        ("ltc-jam 2 24 48000 1", WordsFault::CountOfWords),
+        ("ltc-jam 2 24 48000 1", WordsFault::Value(4)),
         ("ltc-jam 256 15 0", WordsFault::Value(1)),
         ("ltc-jam 255 15 0", WordsFault::Value(2)),
         ("ltc-jam 255 8388608 0", WordsFault::Value(2)),
         ("ltc-jam 255 8388607 0", WordsFault::Value(3)),
         ("ltc-jam 0 16 100000001", WordsFault::Value(3)),
         ("ltc-chase 25 01:00:00:00 2 1", WordsFault::CountOfWords),
-        ("ltc-chase 25 01:00:00:00 2 1 0 0", WordsFault::CountOfWords),
+        ("ltc-chase 25 01:00:00:00 2 1 0 0", WordsFault::Value(6)),
         ("ltc-chase 29 24:00:00:00 256 x 1001", WordsFault::Value(1)),
         ("ltc-chase 30d 00:01:00;00 256 x 1001", WordsFault::Value(2)),
         ("ltc-chase 30d 00:01:00;02 256 x 1001", WordsFault::Value(3)),
@@ -50,6 +51,32 @@ fn the_first_fault_is_told(rt: HostRuntime) -> Result<(), Fail> {
             "ltc-chase 24 23:59:59:23 255 18446744073709551615 1001",
             WordsFault::Value(5),
         ),
+        ("ltc-fly 256 Worn", WordsFault::Value(1)),
+        ("ltc-fly 255 Worn", WordsFault::Value(2)),
+        ("ltc-fly 2 normal", WordsFault::Value(2)),
+        ("ltc-fly worn 2", WordsFault::Value(1)),
+        ("ltc-fly worn", WordsFault::Value(1)),
+        ("ltc-fly 2 worn worn", WordsFault::CountOfWords),
+        ("ltc-mtc 256 worn", WordsFault::Value(1)),
+        ("ltc-mtc 2 worm", WordsFault::Value(2)),
+        ("ltc-mtc 2 worn 2", WordsFault::CountOfWords),
+        ("ltc-jam 2 24 worn", WordsFault::Value(3)),
+        ("ltc-jam 0 16 100000001 Worn", WordsFault::Value(3)),
+        ("ltc-jam 0 16 100000000 Worn", WordsFault::Value(4)),
+        ("ltc-jam 2 24 48000 worn 1", WordsFault::CountOfWords),
+        (
+            "ltc-chase 25 01:00:00:00 2 1 1001 worm",
+            WordsFault::Value(5),
+        ),
+        (
+            "ltc-chase 25 01:00:00:00 2 1 1000 worm",
+            WordsFault::Value(6),
+        ),
+        (
+            "ltc-chase 25 01:00:00:00 2 1 0 worn 1",
+            WordsFault::CountOfWords,
+        ),
+        ("ltc-worn worn", WordsFault::CountOfWords),
         ("mtc-read x", WordsFault::CountOfWords),
         ("vitc-read 25", WordsFault::CountOfWords),
         ("vitc-make 30 00:00:00:00 1", WordsFault::CountOfWords),
@@ -239,6 +266,18 @@ fn lines_of(job: &Job) -> Option<LineStripe> {
     }
 }
 
+fn flown(limit: u8, profile: Profile) -> Job {
+    Job::LtcFly {
+        flight: Flight { limit, profile },
+    }
+}
+
+fn sent(limit: u8, profile: Profile) -> Job {
+    Job::LtcMtc {
+        flight: Flight { limit, profile },
+    }
+}
+
 #[test]
 fn jobs_are_read(rt: HostRuntime) -> Result<(), Fail> {
     let alloc = rt.alloc();
@@ -249,10 +288,12 @@ fn jobs_are_read(rt: HostRuntime) -> Result<(), Fail> {
     let words = typed(alloc, "mtc-read")?;
     assert_eq!(rt; read_words(alloc, &words), Ok(Task::Stream(Job::MtcRead)));
     for (line, job) in [
-        ("ltc-fly 0", Job::LtcFly { limit: 0 }),
-        ("ltc-fly 255", Job::LtcFly { limit: 255 }),
-        ("ltc-mtc 0", Job::LtcMtc { limit: 0 }),
-        ("ltc-mtc 255", Job::LtcMtc { limit: 255 }),
+        ("ltc-fly 0", flown(0, Profile::Normal)),
+        ("ltc-fly 255", flown(255, Profile::Normal)),
+        ("ltc-fly 2 worn", flown(2, Profile::Worn)),
+        ("ltc-mtc 0", sent(0, Profile::Normal)),
+        ("ltc-mtc 255", sent(255, Profile::Normal)),
+        ("ltc-mtc 255 worn", sent(255, Profile::Worn)),
     ] {
         let words = typed(alloc, line)?;
         assert_eq!(rt;
@@ -305,9 +346,16 @@ fn slicings_and_levels_are_read(rt: HostRuntime) -> Result<(), Fail> {
         assert_eq!(rt; slicing.fineness(), fineness, "at {line}");
         assert_eq!(rt; slicing.tick_rate(), tick_rate, "at {line}");
     }
-    for (line, limit, cell, tick_rate) in [
-        ("ltc-jam 0 16 1", 0, 16, 1),
-        ("ltc-jam 255 8388607 100000000", 255, 8_388_607, 100_000_000),
+    for (line, limit, profile, cell, tick_rate) in [
+        ("ltc-jam 0 16 1", 0, Profile::Normal, 16, 1),
+        (
+            "ltc-jam 255 8388607 100000000",
+            255,
+            Profile::Normal,
+            8_388_607,
+            100_000_000,
+        ),
+        ("ltc-jam 2 24 48000 worn", 2, Profile::Worn, 24, 48_000),
     ] {
         let words = typed(alloc, line)?;
         let Ok(task) = read_words(alloc, &words) else {
@@ -316,15 +364,23 @@ fn slicings_and_levels_are_read(rt: HostRuntime) -> Result<(), Fail> {
         let Some(jam) = jam_in(&task) else {
             return Err("no clean recording".into());
         };
-        assert_eq!(rt; jam.limit(), limit, "at {line}");
+        assert_eq!(rt; jam.flight(), Flight { limit, profile }, "at {line}");
         assert_eq!(rt; jam.cell(), cell, "at {line}");
         assert_eq!(rt; jam.tick_rate(), tick_rate, "at {line}");
     }
-    for (line, limit, seed, bound) in [
-        ("ltc-chase 25 01:00:00:00 0 0 0", 0, 0, 0),
+    for (line, limit, profile, seed, bound) in [
+        ("ltc-chase 25 01:00:00:00 0 0 0", 0, Profile::Normal, 0, 0),
+        (
+            "ltc-chase 25 01:00:00:00 2 7 8 worn",
+            2,
+            Profile::Worn,
+            7,
+            8,
+        ),
         (
             "ltc-chase 30d 00:01:00;02 255 18446744073709551615 1000",
             255,
+            Profile::Normal,
             18_446_744_073_709_551_615,
             1_000,
         ),
@@ -336,7 +392,7 @@ fn slicings_and_levels_are_read(rt: HostRuntime) -> Result<(), Fail> {
         let Some(run) = chase_in(&task) else {
             return Err("no chase".into());
         };
-        assert_eq!(rt; run.limit(), limit, "at {line}");
+        assert_eq!(rt; run.flight(), Flight { limit, profile }, "at {line}");
         assert_eq!(rt; run.seed(), seed, "at {line}");
         assert_eq!(rt; run.bound(), bound, "at {line}");
     }

@@ -3,11 +3,12 @@ ghost use Rattle.std.specs.Prelude.{◌≡◌, ◌≤◌, IfSome};
 ghost use Rattle.std.specs.Char.{is_ascii_digit};
 ghost use Rattle.std.specs.List.{list_all};
 ghost use Rattle.tc_words.specs.Values.{between, count_in, count_with_lines, direction_in, is_number, limit_in, number_in, numbered, spelled};
-ghost use Rattle.tc_words.specs.Values.{system_in, version_in};
+ghost use Rattle.tc_words.specs.Values.{system_in, tolerance_in, version_in};
 ghost use Rattle.tc_address.specs.Count.{system_with};
 ghost use Rattle.tc_address.specs.Label.{IsLabel};
 ghost use Rattle.vitc_line.specs.Places.{HasLines};
 
+use biphase::Profile;
 use tc_address::{Count, Direction, Label, System, day_labels, label_at, read_text};
 use tc_files::FileVersion;
 
@@ -79,6 +80,16 @@ pub fn limit_in(word: &str) -> Option<u8>
         Some(number as u8)
     } else {
         None
+    }
+}
+
+/// A tolerance other than the normal one: `worn`, that of worn recordings.
+pub fn tolerance_in(word: &str) -> Option<Profile>
+    ensures { result ≡ tolerance_in word.now }
+{
+    match word {
+        "worn" => Some(Profile::Worn),
+        _ => None,
     }
 }
 

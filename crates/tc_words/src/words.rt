@@ -3,11 +3,12 @@
 ghost use Rattle.std.specs.Prelude.{◌≡◌, ◌⊎◌, map, position, string_bytes, alloc_error};
 ghost use Rattle.command_words.specs.CommandLine.{begins_with_dash};
 ghost use Rattle.tc_words.specs.Job.{answer_to, without_dashes, job_of, no_values, ltc_fly, ltc_mtc, ltc_jam, ltc_chase, number, label_of, ltc_make};
-ghost use Rattle.tc_words.specs.Job.{ltc_convert, pcm_ltc, ltc_pcm, task_of, chase, ltc_load, vitc_make};
+ghost use Rattle.tc_words.specs.Job.{jammed, ltc_convert, pcm_ltc, ltc_pcm, task_of, chase, ltc_load, vitc_make};
 
 use crate::chase_words::chased;
 use crate::commands;
 use crate::fault::WordsFault;
+use crate::flight::{Flight, flight_in};
 use crate::jam::Jam;
 use crate::job::{Job, Task};
 use crate::lines::in_lines;
@@ -15,8 +16,10 @@ use crate::load::{LoadRun, MAX_WORDS};
 use crate::sound::{amplitude_in, following, in_samples, in_ticks};
 use crate::stripe::MAX_TICK_RATE;
 use crate::tape::{at_one_length, moving};
-use crate::values::{between, count_in, limit_in, number_in, numbered, spelled, version_in};
-use biphase::{MAX_SHAPED, MIN_SHAPED};
+use crate::values::{
+    between, count_in, limit_in, number_in, numbered, spelled, tolerance_in, version_in,
+};
+use biphase::{MAX_SHAPED, MIN_SHAPED, Profile};
 use command_words::CommandLine;
 use std::alloc::Global;
 
@@ -115,49 +118,66 @@ fn no_values(values: &[&str], job: Job) -> Result<Job, WordsFault>
     }
 }
 
-// `ltc-fly LIMIT`
+// `ltc-fly LIMIT [worn]`
 fn ltc_fly(values: &[&str]) -> Result<Job, WordsFault>
     ensures { result ≡ ltc_fly (map (λ v. v.now) values.now) }
 {
-    let [limit] = values else {
-        return Err(WordsFault::CountOfWords);
-    };
-    let limit = limit_in(limit).ok_or(WordsFault::Value(1))?;
-    Ok(Job::LtcFly { limit })
+    let flight = flight_in(values)?;
+    Ok(Job::LtcFly { flight })
 }
 
-// `ltc-mtc LIMIT`
+// `ltc-mtc LIMIT [worn]`
 fn ltc_mtc(values: &[&str]) -> Result<Job, WordsFault>
     ensures { result ≡ ltc_mtc (map (λ v. v.now) values.now) }
 {
-    let [limit] = values else {
-        return Err(WordsFault::CountOfWords);
-    };
-    let limit = limit_in(limit).ok_or(WordsFault::Value(1))?;
-    Ok(Job::LtcMtc { limit })
+    let flight = flight_in(values)?;
+    Ok(Job::LtcMtc { flight })
 }
 
-// `ltc-jam LIMIT CELL TICK-RATE`
+// `ltc-jam LIMIT CELL TICK-RATE [worn]`
 fn ltc_jam(values: &[&str]) -> Result<Job, WordsFault>
     ensures { result ≡ ltc_jam (map (λ v. v.now) values.now) }
 {
-    let [limit, cell, tick_rate] = values else {
-        return Err(WordsFault::CountOfWords);
-    };
+    match values {
+        [limit, cell, tick_rate] => jammed(limit, cell, tick_rate, Some(Profile::Normal)),
+        [limit, cell, tick_rate, tolerance] => {
+            jammed(limit, cell, tick_rate, tolerance_in(tolerance))
+        }
+        _ => Err(WordsFault::CountOfWords),
+    }
+}
+
+// The job of three words and the tolerance that the fourth says, or their first fault.
+fn jammed(
+    limit: &str,
+    cell: &str,
+    tick_rate: &str,
+    profile: Option<Profile>,
+) -> Result<Job, WordsFault>
+    ensures { result ≡ jammed limit.now cell.now tick_rate.now profile }
+{
     let limit = limit_in(limit).ok_or(WordsFault::Value(1))?;
     let cell = between(MIN_SHAPED, MAX_SHAPED, cell).ok_or(WordsFault::Value(2))?;
     let tick_rate = between(1, MAX_TICK_RATE, tick_rate).ok_or(WordsFault::Value(3))?;
+    let profile = profile.ok_or(WordsFault::Value(4))?;
     Ok(Job::LtcJam {
-        jam: Jam::new(limit, cell, tick_rate),
+        jam: Jam::new(Flight { limit, profile }, cell, tick_rate),
     })
 }
 
-// `ltc-chase COUNT LABEL LIMIT SEED BOUND`
+// `ltc-chase COUNT LABEL LIMIT SEED BOUND [worn]`
 fn ltc_chase(values: &[&str]) -> Result<Job, WordsFault>
     ensures { result ≡ ltc_chase (map (λ v. v.now) values.now) }
 {
     match values {
-        [count, label, limit, seed, bound] => chased(count, label, limit, seed, bound),
+        [count, label, limit, seed, bound] => {
+            let normal = Some(Profile::Normal);
+            chased(count, label, limit, seed, bound, normal)
+        }
+        [count, label, limit, seed, bound, tolerance] => {
+            let profile = tolerance_in(tolerance);
+            chased(count, label, limit, seed, bound, profile)
+        }
         _ => Err(WordsFault::CountOfWords),
     }
 }

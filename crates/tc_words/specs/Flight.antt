@@ -1,0 +1,23 @@
+-- How the frames of a recording are had, as words say it.
+use Rattle.std.specs.Prelude.{ℕ, List, [], ◌∷◌, Option, Some, Result, Ok, Err}
+use Rattle.biphase.specs.declared.profile.Profile.{Profile}
+use Rattle.biphase.specs.declared.profile.Profile.TheVariants.{Normal}
+use Rattle.tc_words.specs.declared.fault.WordsFault.{WordsFault}
+use Rattle.tc_words.specs.declared.fault.WordsFault.TheVariants.{CountOfWords}
+use Rattle.tc_words.specs.declared.flight.Flight.{Flight}
+use Rattle.tc_words.specs.Tape.{value_or}
+use Rattle.tc_words.specs.Values.{Word, limit_in, tolerance_in}
+
+-- at most so many invented frames in a row, between words that are read under this tolerance
+abbrev pub flight_of : ℕ → Profile → Flight
+flight_of limit profile = record { limit = limit; profile = profile }
+
+-- the flight of a limit, and of the tolerance that the second word says, where it says one
+abbrev pub flight_with : Word → Option Profile → Result Flight WordsFault
+flight_with limit profile = value_or 1 (limit_in limit) (λ n. value_or 2 profile (λ p. Ok (flight_of n p)))
+
+-- `LIMIT [worn]`: without the last word it is the normal tolerance
+abbrev pub flight_in : List Word → Result Flight WordsFault
+flight_in (limit ∷ []) = flight_with limit (Some Normal)
+flight_in (limit ∷ tolerance ∷ []) = flight_with limit (tolerance_in tolerance)
+flight_in _ = Err CountOfWords

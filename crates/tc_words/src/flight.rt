@@ -1,0 +1,37 @@
+//! How the frames of a recording are had. Next: `frame_commands/src/flight.rt`, which has them.
+ghost use Rattle.std.specs.Prelude.{◌≡◌, map};
+ghost use Rattle.tc_words.specs.Flight.{flight_in, flight_with};
+
+use crate::fault::WordsFault;
+use crate::values::{limit_in, tolerance_in};
+use biphase::Profile;
+
+/// How the frames of a recording are had: under which tolerance its words are read, and how many frames
+/// are invented in a row at most.
+#[derive(Clone, Copy, Debug, PartialEq, Eq)]
+pub struct Flight {
+    /// How many frames are invented in a row, at most.
+    pub limit: u8,
+    /// The tolerance under which words are read.
+    pub profile: Profile,
+}
+
+/// The flight of a limit, and of the word behind it that says the tolerance, if there is one.
+pub(crate) fn flight_in(values: &[&str]) -> Result<Flight, WordsFault>
+    ensures { result ≡ flight_in (map (λ v. v.now) values.now) }
+{
+    match values {
+        [limit] => flight_with(limit, Some(Profile::Normal)),
+        [limit, tolerance] => flight_with(limit, tolerance_in(tolerance)),
+        _ => Err(WordsFault::CountOfWords),
+    }
+}
+
+// The same with the tolerance that the second word says, or with none where it says none.
+fn flight_with(limit: &str, profile: Option<Profile>) -> Result<Flight, WordsFault>
+    ensures { result ≡ flight_with limit.now profile }
+{
+    let limit = limit_in(limit).ok_or(WordsFault::Value(1))?;
+    let profile = profile.ok_or(WordsFault::Value(2))?;
+    Ok(Flight { limit, profile })
+}
