@@ -11,6 +11,7 @@ _tc() {
             ltc-convert:2) values="1 2" ;;
             pcm-ltc:2) values="24 25 30" ;;
             pcm-ltc:6) values="follow" ;;
+            ltc-fly:3 | ltc-mtc:3 | ltc-jam:5 | ltc-chase:7) values="worn" ;;
         esac
     fi
     mapfile -t COMPREPLY < <(compgen -W "$values" -- "$word")

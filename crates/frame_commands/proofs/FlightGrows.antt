@@ -5,7 +5,6 @@ use Rattle.std.specs.declared.option.Option.{Option}
 use Rattle.std.proofs.lemmas.List.Sums.{sum_by-append}
 use Rattle.std.proofs.lemmas.Grind.{flat_map-append}
 use Rattle.biphase.specs.declared.profile.Profile.{Profile}
-use Rattle.biphase.specs.declared.profile.Profile.TheVariants.{Normal}
 use Rattle.tc_address.specs.declared.system.System.{System}
 use Rattle.tc_io.specs.Sink.{AppendsFront}
 use Rattle.direction_reader.specs.declared.event.Event.{Event}
@@ -22,7 +21,8 @@ use Rattle.flywheel.specs.StandsFor as flies
 use Rattle.flywheel.specs.Wheel.{Wheel}
 use Rattle.tc_files.specs.declared.interval_file.header.IntervalHeader.{IntervalHeader}
 use Rattle.std.specs.Io.KnownBytes.{Appends}
-use Rattle.frame_commands.specs.declared.flight.Flight.{Flight}
+use Rattle.tc_words.specs.declared.flight.Flight.{Flight}
+use Rattle.frame_commands.specs.declared.flight.FrameReader.{FrameReader}
 use Rattle.frame_commands.specs.KeptFlight.{Comes, Counts, CountsAll, GivesDue, GivesDueAll, GivesDueAllFirst, GivesDueFirst, Sends, SendsFront, Stands}
 use Rattle.frame_commands.specs.LtcFly.{is_end, is_heard, is_invented}
 use Rattle.frame_commands.specs.OfFrames.{FrameText, IsFlightPart, IsFlightWhole, frames_of, heard_in, words_heard}
@@ -48,10 +48,10 @@ due_alone_first a tick due gives = λ words earlier given stands before.
     subst (λ (ws : List HeardWord). Comes a.limit ws tick (given ++ due)) (sym (append-nil words)) (gives words earlier given stands before)
 
 -- the events of the intervals with one more
-events_now : (system : System) (before next : Reading) (intervals : List ℕ) (events : List Event) (x : ℕ) (own : Events) → before.system ≡ system
-    → profile_of before.tracker ≡ Normal → reads.StandsFor before intervals events → Takes before x next → Reads before next x own → TheEvents
-    → AreEvents system Normal (intervals ++ x ∷ []) (events ++ event_list own)
-events_now system before next intervals events x own same keeps stands takes grows law =
+events_now : (system : System) (profile : Profile) (before next : Reading) (intervals : List ℕ) (events : List Event) (x : ℕ) (own : Events) → before.system ≡ system
+    → profile_of before.tracker ≡ profile → reads.StandsFor before intervals events → Takes before x next → Reads before next x own → TheEvents
+    → AreEvents system profile (intervals ++ x ∷ []) (events ++ event_list own)
+events_now system profile before next intervals events x own same keeps stands takes grows law =
     subst (λ (p : Profile). AreEvents system p (intervals ++ x ∷ []) (events ++ event_list own)) (takes.profile ∙ keeps)
     (subst (λ (y : System). AreEvents y (profile_of next.tracker) (intervals ++ x ∷ []) (events ++ event_list own)) (takes.system ∙ same)
     (law next _ _ (grows intervals events stands)))
@@ -69,18 +69,18 @@ count_of_more : (kind : Frame → Bool) (fs more : List Frame) → count_by kind
 count_of_more kind fs more = sum_by-append (λ (f : Frame). cond (kind f) 1 0) fs more
 
 -- one interval more
-pub flown : {S C : Type 0} (limit : C → ℕ) (made : C → FrameText) (has : Given S C) (f next : Flight) (sink after : S) (choice : C) (header : IntervalHeader)
+pub flown : {S C : Type 0} (flight : C → Flight) (made : C → FrameText) (has : Given S C) (f next : FrameReader) (sink after : S) (choice : C) (header : IntervalHeader)
     (intervals written : List ℕ) (x : ℕ) (own : Events) (more : List Frame) (old new : Option (List ℕ))
-    → Stands limit made has f sink choice header intervals written → Takes f.reader x next.reader → Reads f.reader next.reader x own → TheEvents
+    → Stands flight made has f sink choice header intervals written → Takes f.reader x next.reader → Reads f.reader next.reader x own → TheEvents
     → next.wheel.limit ≡ f.wheel.limit → GivesDueAll f.wheel next.wheel next.reader.tick (words_heard (event_list own)) more
     → Counts f next more
     → Sends made has sink after old new more
-    → (bytes : List ℕ) × Appends old new bytes × Stands limit made has next after choice header (intervals ++ x ∷ []) (written ++ bytes)
-flown limit made has f next sink after choice header intervals written x own more old new s takes grows law same gives counts sends =
+    → (bytes : List ℕ) × Appends old new bytes × Stands flight made has next after choice header (intervals ++ x ∷ []) (written ++ bytes)
+flown flight made has f next sink after choice header intervals written x own more old new s takes grows law same gives counts sends =
     let reader = grows intervals s.events s.reader in
     let given = gives (words_heard s.events) (sum intervals) s.given s.wheel.0 (later f.reader next.reader intervals s.events x s.reader takes) in
-    let limit_is : next.wheel.limit ≡ limit choice = same ∙ s.limit_is in
-    let are_events = events_now header.system f.reader next.reader intervals s.events x own s.system s.keeps s.reader takes grows law in
+    let limit_is : next.wheel.limit ≡ (flight choice).limit = same ∙ s.limit_is in
+    let are_events = events_now header.system (flight choice).profile f.reader next.reader intervals s.events x own s.system s.keeps s.reader takes grows law in
     let wheel = subst (λ (ws : List HeardWord). flies.HasGivenAll next.wheel ws (sum (intervals ++ x ∷ [])) (s.given ++ more)) (sym (words_now s.events own))
     (subst (λ (t : ℕ). flies.HasGivenAll next.wheel (words_heard s.events ++ words_heard (event_list own)) t (s.given ++ more)) reader.sum_is given) in
     let sent = sends choice header s.given s.sent in (
@@ -104,17 +104,17 @@ flown limit made has f next sink after choice header intervals written x own mor
     )
 
 -- the part that is due with one interval more, of which a front was sent
-pub flown_part : {S C : Type 0} (limit : C → ℕ) (made : C → FrameText) (has : Given S C) (f : Flight) (next : Reading) (sink : S) (choice : C)
+pub flown_part : {S C : Type 0} (flight : C → Flight) (made : C → FrameText) (has : Given S C) (f : FrameReader) (next : Reading) (sink : S) (choice : C)
     (header : IntervalHeader) (intervals written : List ℕ) (x : ℕ) (own : Events) (more : List Frame) (old new : Option (List ℕ))
-    → Stands limit made has f sink choice header intervals written → Takes f.reader x next → Reads f.reader next x own → TheEvents
+    → Stands flight made has f sink choice header intervals written → Takes f.reader x next → Reads f.reader next x own → TheEvents
     → GivesDueAllFirst f.wheel next.tick (words_heard (event_list own)) more → SendsFront made has sink old new more
-    → (part : List ℕ) × IsFlightPart (limit choice) (made choice) header (intervals ++ x ∷ []) (written ++ part) × AppendsFront old new part
-flown_part limit made has f next sink choice header intervals written x own more old new s takes grows law gives sends =
+    → (part : List ℕ) × IsFlightPart (flight choice) (made choice) header (intervals ++ x ∷ []) (written ++ part) × AppendsFront old new part
+flown_part flight made has f next sink choice header intervals written x own more old new s takes grows law gives sends =
     let reader = grows intervals s.events s.reader in
     let comes = gives (words_heard s.events) (sum intervals) s.given s.wheel.0 (later f.reader next intervals s.events x s.reader takes) in
     let sent = sends choice header s.given comes.0 s.sent in
     let text = (made choice).text header in
-    let all : frames_of (limit choice) (intervals ++ x ∷ []) (s.events ++ event_list own) ≡ s.given ++ (more ++ comes.0) =
+    let all : frames_of (flight choice).limit (intervals ++ x ∷ []) (s.events ++ event_list own) ≡ s.given ++ (more ++ comes.0) =
     ap (λ (n : ℕ). frames n (words_heard (s.events ++ event_list own)) (sum (intervals ++ x ∷ []))) (sym s.limit_is)
     ∙ ap (λ (ws : List HeardWord). frames f.wheel.limit ws (sum (intervals ++ x ∷ []))) (words_now s.events own)
     ∙ ap (λ (t : ℕ). frames f.wheel.limit (words_heard s.events ++ words_heard (event_list own)) t) (sym reader.sum_is) ∙ comes.1
@@ -122,16 +122,16 @@ flown_part limit made has f next sink choice header intervals written x own more
       sent.0,
       record {
         events = s.events ++ event_list own;
-        are_events = events_now header.system f.reader next intervals s.events x own s.system s.keeps s.reader takes grows law;
+        are_events = events_now header.system (flight choice).profile f.reader next intervals s.events x own s.system s.keeps s.reader takes grows law;
         are = ap (λ (l : List ℕ). l ++ sent.0) s.are ∙ sym sent.1 ∙ ap text (sym all);
       },
       sent.2,
     )
 
 -- what was counted
-pub counted_all : {S C : Type 0} (limit : C → ℕ) (made : C → FrameText) (has : Given S C) (f : Flight) (sink : S) (choice : C) (header : IntervalHeader)
-    (intervals written : List ℕ) (s : Stands limit made has f sink choice header intervals written) → CountsAll f intervals s.given
-counted_all limit made has f sink choice header intervals written s = record {
+pub counted_all : {S C : Type 0} (flight : C → Flight) (made : C → FrameText) (has : Given S C) (f : FrameReader) (sink : S) (choice : C) (header : IntervalHeader)
+    (intervals written : List ℕ) (s : Stands flight made has f sink choice header intervals written) → CountsAll f intervals s.given
+counted_all flight made has f sink choice header intervals written s = record {
   intervals_are = s.reader.count;
   ticks = s.reader.sum_is;
   heard = s.heard;
@@ -140,11 +140,11 @@ counted_all limit made has f sink choice header intervals written s = record {
 }
 
 -- what stands last of the frames given stands last of all
-pub ends_with : {S C : Type 0} (limit : C → ℕ) (made : C → FrameText) (has : Given S C) (f : Flight) (sink : S) (choice : C) (header : IntervalHeader)
-    (intervals written : List ℕ) (s : Stands limit made has f sink choice header intervals written)
-    → IsFlightWhole (limit choice) (made choice) header intervals (written ++ (made choice).last intervals s.given)
-ends_with limit made has f sink choice header intervals written s =
-    let all : s.given ≡ frames_of (limit choice) intervals s.events =
+pub ends_with : {S C : Type 0} (flight : C → Flight) (made : C → FrameText) (has : Given S C) (f : FrameReader) (sink : S) (choice : C) (header : IntervalHeader)
+    (intervals written : List ℕ) (s : Stands flight made has f sink choice header intervals written)
+    → IsFlightWhole (flight choice) (made choice) header intervals (written ++ (made choice).last intervals s.given)
+ends_with flight made has f sink choice header intervals written s =
+    let all : s.given ≡ frames_of (flight choice).limit intervals s.events =
     sym (ap (λ (n : ℕ). frames n (words_heard s.events) (sum intervals)) (sym s.limit_is) ∙ s.wheel.1) in
     record {
       events = s.events;

@@ -9,7 +9,6 @@ use Rattle.std.proofs.lemmas.List.{take-append-le, take_all}
 use Rattle.std.proofs.lemmas.List.Elements.{All-append, All-cons, All-head, All-nil, All-tail}
 use Rattle.std.proofs.lemmas.List.Sums.{sum_by-append}
 use Rattle.biphase.specs.declared.profile.Profile.{Profile}
-use Rattle.biphase.specs.declared.profile.Profile.TheVariants.{Normal}
 use Rattle.chase_core.specs.Trace.{Traced}
 use Rattle.chase_script.specs.TraceText.{step_line, step_lines}
 use Rattle.direction_reader.specs.declared.event.Event.{Event}
@@ -66,11 +65,12 @@ later_words tick (event ∷ events) later =
 sum_of_more : (front more : List ℕ) → sum (front ++ more) ≡ sum front + sum more
 sum_of_more front more = sum_by-append (λ n. n) front more
 
-pub frames_first : FrameLaws → (limit : ℕ) (system : System) (front more : List ℕ) (es all : List Event) → AreEvents system Normal front es
-    → AreEvents system Normal (front ++ more) all → (rest : List Frame) × (frames_of limit (front ++ more) all ≡ frames_of limit front es ++ rest)
-frames_first laws limit system front more es all are too =
-    let first = laws.events system Normal front more es all are too in
-    let later = laws.later system Normal front more es first.0 are (subst (λ l. AreEvents system Normal (front ++ more) l) first.1 too) in
+pub frames_first : FrameLaws → (limit : ℕ) (system : System) (profile : Profile) (front more : List ℕ) (es all : List Event)
+    → AreEvents system profile front es
+    → AreEvents system profile (front ++ more) all → (rest : List Frame) × (frames_of limit (front ++ more) all ≡ frames_of limit front es ++ rest)
+frames_first laws limit system profile front more es all are too =
+    let first = laws.events system profile front more es all are too in
+    let later = laws.later system profile front more es first.0 are (subst (λ l. AreEvents system profile (front ++ more) l) first.1 too) in
     let words : words_heard all ≡ words_heard es ++ words_heard first.0 = ap words_heard first.1 ∙ flat_map-append heard_in es first.0 in
     let total = sum_of_more front more in
     let given = laws.frames limit (sum front) (sum (front ++ more)) (words_heard es) (words_heard first.0) (omega (arith, total))

@@ -16,7 +16,7 @@ use Rattle.flywheel.specs.StandsFor as flies
 use Rattle.flywheel.specs.Wheel.{Wheel, IsPast}
 use Rattle.std.proofs.KnownBytes.{Appends-nil, Appends-trans}
 use Rattle.tc_files.specs.declared.interval_file.header.IntervalHeader.{IntervalHeader}
-use Rattle.frame_commands.specs.declared.flight.Flight.{Flight}
+use Rattle.frame_commands.specs.declared.flight.FrameReader.{FrameReader}
 use Rattle.frame_commands.specs.KeptFlight.{counted, Comes, Counts, GivesAll, GivesDue, GivesDueAll, GivesDueAllFirst, GivesFirst, Sends, SendsFront}
 use Rattle.frame_commands.specs.LtcFly.{is_end, is_heard, is_invented}
 use Rattle.frame_commands.specs.OfFrames.{FrameText, heard_in, words_heard}
@@ -28,7 +28,7 @@ one_of : (kind : Frame → Bool) (frame : Frame) → count_by kind (frame ∷ []
 one_of kind frame = omega (arith, sum_by-cons (λ (f : Frame). cond (kind f) 1 0) frame [])
 
 -- a frame that is counted
-pub one_counted : (before mid after : Flight) (frame : Frame) → mid.heard ≡ before.heard → mid.invented ≡ before.invented → mid.gone ≡ before.gone
+pub one_counted : (before mid after : FrameReader) (frame : Frame) → mid.heard ≡ before.heard → mid.invented ≡ before.invented → mid.gone ≡ before.gone
     → after ≡ counted frame mid → Counts before after (frame ∷ [])
 one_counted before mid after (Heard l d j t) h i g e =
     rw e (record {
@@ -49,14 +49,14 @@ one_counted before mid after (Gone t) h i g e =
       gone = omega (arith, g, one_of is_end (Gone t));
     })
 
-pub none_counted : (f : Flight) → Counts f f []
+pub none_counted : (f : FrameReader) → Counts f f []
 none_counted f = record { heard = omega arith; invented = omega arith; gone = omega arith }
 
 count_of_more : (kind : Frame → Bool) (fs more : List Frame) → count_by kind (fs ++ more) ≡ count_by kind fs + count_by kind more
 count_of_more kind fs more = sum_by-append (λ (f : Frame). cond (kind f) 1 0) fs more
 
 -- some frames and then more
-pub both_counted : (a b c : Flight) (fs more : List Frame) → Counts a b fs → Counts b c more → Counts a c (fs ++ more)
+pub both_counted : (a b c : FrameReader) (fs more : List Frame) → Counts a b fs → Counts b c more → Counts a c (fs ++ more)
 both_counted a b c fs more first second = record {
   heard = omega (arith, first.heard, second.heard, count_of_more is_heard fs more);
   invented = omega (arith, first.invented, second.invented, count_of_more is_invented fs more);
@@ -165,7 +165,7 @@ first_comes_first law a b tick n first second fs same latest gives = λ words gi
 -- ---- frames that are due
 
 -- a frame that is given where one is due is none that was heard
-pub not_heard : (frame : Frame) (tick : ℕ) (f : Flight) → IsPast frame tick
+pub not_heard : (frame : Frame) (tick : ℕ) (f : FrameReader) → IsPast frame tick
     → ((counted frame f).heard ≡ f.heard) × ((counted frame f).invented + (counted frame f).gone ≡ f.invented + f.gone + 1)
 not_heard (Heard l d j t) tick f past = absurd past
 not_heard (Invented l d s t) tick f past = (refl, omega arith)

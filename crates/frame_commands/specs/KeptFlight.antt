@@ -2,7 +2,6 @@
 use Rattle.std.specs.Prelude.{◌≡◌, ℕ, ◌+◌, ◌*◌, ◌≤◌, List, [], ◌++◌, count_by, length, IfSome, sum, Option}
 use Rattle.std.specs.Io.KnownBytes.{Appends}
 use Rattle.std.proofs.Common.{sym, ◌∙◌, ap}
-use Rattle.biphase.specs.declared.profile.Profile.TheVariants.{Normal}
 use Rattle.direction_reader.specs.declared.event.Event.{Event}
 use Rattle.direction_reader.specs.declared.reader.TheConstants.{MAX_INTERVALS}
 use Rattle.direction_reader.specs.ListEvents.{AreEvents}
@@ -15,25 +14,26 @@ use Rattle.flywheel.specs.Frames.{frames}
 use Rattle.flywheel.specs.StandsFor as flies
 use Rattle.flywheel.specs.Wheel.{Wheel, frames_left}
 use Rattle.tc_files.specs.declared.interval_file.header.IntervalHeader.{IntervalHeader}
-use Rattle.frame_commands.specs.declared.flight.Flight.{Flight}
+use Rattle.frame_commands.specs.declared.flight.FrameReader.{FrameReader}
+use Rattle.tc_words.specs.declared.flight.Flight.{Flight}
 use Rattle.tc_io.specs.Sink.{AppendsFront}
 use Rattle.frame_commands.specs.LtcFly.{is_end, is_heard, is_invented}
 use Rattle.frame_commands.specs.OfFrames.{FrameText, IsFlightPart, words_heard}
 
 -- one frame more of its kind
-abbrev pub counted : Frame → Flight → Flight
+abbrev pub counted : Frame → FrameReader → FrameReader
 counted (Heard label direction joined tick) f = record f { heard = f.heard + 1 }
 counted (Invented label direction step tick) f = record f { invented = f.invented + 1 }
 counted (Gone tick) f = record f { gone = f.gone + 1 }
 
 -- each of these frames was counted
-pub record Counts (before after : Flight) (more : List Frame) : Type 0 where
+pub record Counts (before after : FrameReader) (more : List Frame) : Type 0 where
   pub heard : after.heard ≡ before.heard + count_by is_heard more
   pub invented : after.invented ≡ before.invented + count_by is_invented more
   pub gone : after.gone ≡ before.gone + count_by is_end more
 
 -- a word brings so many frames after it at most
-abbrev pub FitsFrames : Flight → Type 0
+abbrev pub FitsFrames : FrameReader → Type 0
 FitsFrames f = f.invented + f.gone + frames_left f.wheel ≤ 256 * f.heard
 
 -- the last word was heard at the tick or before
@@ -41,7 +41,7 @@ abbrev pub HeardBy : ℕ → Wheel → Type 0
 HeardBy tick wheel = IfSome wheel.reference (λ (word : HeardWord). word.tick ≤ tick)
 
 -- the counts fit so many intervals
-pub record FitsFlight (f : Flight) (count : ℕ) : Type 0 where
+pub record FitsFlight (f : FrameReader) (count : ℕ) : Type 0 where
   pub within : count ≤ MAX_INTERVALS
   pub counts : f.reader.intervals ≡ count
   pub words : f.heard ≤ 2 * count
@@ -83,11 +83,11 @@ GivesDueAllFirst before tick more_words more = (words : List HeardWord) (earlier
     → earlier ≤ tick → Comes before.limit (words ++ more_words) tick (given ++ more)
 
 -- before the first interval
-pub record BeginsFlight (f : Flight) (limit : ℕ) (header : IntervalHeader) : Type 0 where
+pub record BeginsFlight (f : FrameReader) (flight : Flight) (header : IntervalHeader) : Type 0 where
   pub system : f.reader.system ≡ header.system
-  pub keeps : profile_of f.reader.tracker ≡ Normal
+  pub keeps : profile_of f.reader.tracker ≡ flight.profile
   pub reader : reads.StandsFor f.reader [] []
-  pub limit_is : f.wheel.limit ≡ limit
+  pub limit_is : f.wheel.limit ≡ flight.limit
   pub wheel : flies.HasGivenAll f.wheel [] 0 []
   pub fits : FitsFlight f 0
   pub heard : f.heard ≡ 0
@@ -110,7 +110,7 @@ SendsFront {S} {C} made given before old new more = (choice : C) (header : Inter
     → (bytes : List ℕ) × ((made choice).text header (frames ++ (more ++ rest)) ≡ (made choice).text header frames ++ bytes) × AppendsFront old new bytes
 
 -- the intervals and frames were counted
-pub record CountsAll (f : Flight) (intervals : List ℕ) (given : List Frame) : Type 0 where
+pub record CountsAll (f : FrameReader) (intervals : List ℕ) (given : List Frame) : Type 0 where
   pub intervals_are : f.reader.intervals ≡ length intervals
   pub ticks : f.reader.tick ≡ sum intervals
   pub heard : f.heard ≡ count_by is_heard given
@@ -118,14 +118,14 @@ pub record CountsAll (f : Flight) (intervals : List ℕ) (given : List Frame) : 
   pub gone : f.gone ≡ count_by is_end given
 
 -- it was given these intervals behind this header, and sent the frames of their words
-pub record Stands {S C : Type 0} (limit : C → ℕ) (made : C → FrameText) (has_given : S → C → IntervalHeader → List Frame → Type 0)
-    (f : Flight) (sink : S) (choice : C) (header : IntervalHeader) (intervals written : List ℕ) : Type 0 where
+pub record Stands {S C : Type 0} (flight : C → Flight) (made : C → FrameText) (has_given : S → C → IntervalHeader → List Frame → Type 0)
+    (f : FrameReader) (sink : S) (choice : C) (header : IntervalHeader) (intervals written : List ℕ) : Type 0 where
   pub system : f.reader.system ≡ header.system
-  pub keeps : profile_of f.reader.tracker ≡ Normal
-  pub limit_is : f.wheel.limit ≡ limit choice
+  pub keeps : profile_of f.reader.tracker ≡ (flight choice).profile
+  pub limit_is : f.wheel.limit ≡ (flight choice).limit
   pub events : List Event
   pub reader : reads.StandsFor f.reader intervals events
-  pub are_events : AreEvents header.system Normal intervals events
+  pub are_events : AreEvents header.system (flight choice).profile intervals events
   pub given : List Frame
   pub wheel : flies.HasGivenAll f.wheel (words_heard events) (sum intervals) given
   pub sent : has_given sink choice header given
@@ -135,10 +135,10 @@ pub record Stands {S C : Type 0} (limit : C → ℕ) (made : C → FrameText) (h
   pub gone : f.gone ≡ count_by is_end given
 
 -- what was written is a part of what the frames make
-pub stands_well : {S C : Type 0} (limit : C → ℕ) (made : C → FrameText) (has_given : S → C → IntervalHeader → List Frame → Type 0)
-    (f : Flight) (sink : S) (choice : C) (header : IntervalHeader) (intervals written : List ℕ)
-    → Stands limit made has_given f sink choice header intervals written → IsFlightPart (limit choice) (made choice) header intervals written
-stands_well limit made has_given f sink choice header intervals written stands = record {
+pub stands_well : {S C : Type 0} (flight : C → Flight) (made : C → FrameText) (has_given : S → C → IntervalHeader → List Frame → Type 0)
+    (f : FrameReader) (sink : S) (choice : C) (header : IntervalHeader) (intervals written : List ℕ)
+    → Stands flight made has_given f sink choice header intervals written → IsFlightPart (flight choice) (made choice) header intervals written
+stands_well flight made has_given f sink choice header intervals written stands = record {
   events = stands.events;
   are_events = stands.are_events;
   are = stands.are ∙ ap ((made choice).text header)

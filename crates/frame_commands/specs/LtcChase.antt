@@ -1,7 +1,6 @@
 -- `ltc-chase`: the steps of a chase over the frames of a recording; and why such a chase loses its lock.
 use Rattle.std.specs.Prelude.{◌≡◌, ℕ, suc, ◌-◌, ◌≤◌, List, length, take, slice_get, Some, None, unsigned_abs}
 use Rattle.std.specs.List.{count_by}
-use Rattle.biphase.specs.declared.profile.Profile.TheVariants.{Normal}
 use Rattle.chase_core.specs.declared.report.State.TheVariants.{Locked}
 use Rattle.chase_core.specs.declared.report.Loss.{Loss}
 use Rattle.chase_core.specs.declared.report.Loss.TheVariants.{NoCode}
@@ -37,7 +36,7 @@ lines_of_steps c = record {
 
 -- what is written
 abbrev pub chased_recording : Chasing → Printing
-chased_recording c = along_frames c.limit (lines_of_steps c)
+chased_recording c = along_frames c.flight (lines_of_steps c)
 
 -- ---- why the lock is lost
 
@@ -70,10 +69,10 @@ pub record FollowsTheCode (c : Chasing) (input : Recording) (written : List ℕ)
   pub header : IntervalHeader
   pub begins : input.header ≡ Some header
   pub events : List Event
-  pub are_events : AreEvents header.system Normal input.intervals events
-  pub all : ¬ IsSpentOf (chased_recording c) input → length (frames_of c.limit input.intervals events) ≤ MAX_FRAMES
-  pub text : written ≡ trace_text c.label.count (first_steps MAX_FRAMES c (frames_of c.limit input.intervals events))
-  pub lock : LosesWithCause c (take MAX_FRAMES (frames_of c.limit input.intervals events))
+  pub are_events : AreEvents header.system c.flight.profile input.intervals events
+  pub all : ¬ IsSpentOf (chased_recording c) input → length (frames_of c.flight.limit input.intervals events) ≤ MAX_FRAMES
+  pub text : written ≡ trace_text c.label.count (first_steps MAX_FRAMES c (frames_of c.flight.limit input.intervals events))
+  pub lock : LosesWithCause c (take MAX_FRAMES (frames_of c.flight.limit input.intervals events))
 
 -- what is written of a whole input is
 abbrev pub ChasesTheInput : Chasing → Type 0

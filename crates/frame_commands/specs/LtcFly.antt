@@ -1,7 +1,6 @@
 -- `ltc-fly`: a line of each frame of a recording.
 use Rattle.std.specs.Prelude.{◌≡◌, ℕ, Bool, true, false, List, ◌++◌, length, count_by, sum, map, Some, None}
 use Rattle.std.specs.List.{flat_map}
-use Rattle.biphase.specs.declared.profile.Profile.TheVariants.{Normal}
 use Rattle.direction_reader.specs.declared.event.Event.{Event}
 use Rattle.direction_reader.specs.ListEvents.{AreEvents}
 use Rattle.flywheel.specs.declared.frame.Frame.{Frame}
@@ -10,6 +9,7 @@ use Rattle.flywheel.specs.Marked.{AreMarked, word_of, words_in}
 use Rattle.tc_files.specs.FrameTexts.{frame_line, fly_end_line}
 use Rattle.tc_files.specs.declared.interval_file.header.IntervalHeader.{IntervalHeader}
 use Rattle.tc_files.specs.Recording.{recording_of}
+use Rattle.tc_words.specs.declared.flight.Flight.{Flight}
 use Rattle.interval_commands.specs.Along.{Printing}
 use Rattle.frame_commands.specs.OfFrames.{FrameText, along_frames, frames_of, words_heard}
 
@@ -41,20 +41,20 @@ last_fly_line intervals fs =
 abbrev pub lines_of_frames : FrameText
 lines_of_frames = record { text = λ header fs. frame_lines fs; last = last_fly_line; most = None }
 
--- what is written with a limit of invented frames
-abbrev pub flight : ℕ → Printing
-flight limit = along_frames limit lines_of_frames
+-- what is written of frames that are had so
+abbrev pub flown_recording : Flight → Printing
+flown_recording flight = along_frames flight lines_of_frames
 
--- what was written are the lines of the frames of the recording, and the line that counts them. The heard frames are its words, one after
--- another, each with its label, its direction and its tick; between two of them, and after the last, at most so many frames are invented, and
+-- what was written are the lines of the frames of the recording, and the line that counts them. The heard frames are its words under the tolerance
+-- of the flight, one after another, each with its label, its direction and its tick; between two of them, and after the last, at most so many frames are invented, and
 -- each has its step in its line
-pub record ShowsTheFrames (limit : ℕ) (bytes written : List ℕ) : Type 0 where
+pub record ShowsTheFrames (flight : Flight) (bytes written : List ℕ) : Type 0 where
   pub header : IntervalHeader
   pub begins : (recording_of bytes).header ≡ Some header
   pub events : List Event
-  pub are_events : AreEvents header.system Normal (recording_of bytes).intervals events
+  pub are_events : AreEvents header.system flight.profile (recording_of bytes).intervals events
   pub frames : List Frame
-  pub are_frames : frames ≡ frames_of limit (recording_of bytes).intervals events
+  pub are_frames : frames ≡ frames_of flight.limit (recording_of bytes).intervals events
   pub are : written ≡ frame_lines frames ++ last_fly_line (recording_of bytes).intervals frames
   pub heard : words_in frames ≡ map word_of (words_heard events)
-  pub marked : AreMarked limit None frames
+  pub marked : AreMarked flight.limit None frames

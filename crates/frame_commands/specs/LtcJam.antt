@@ -28,4 +28,4 @@ file_of_frames j = record { text = clean_file j; last = λ intervals frames. [];
 
 -- what is written
 abbrev pub clean_recording : Jamming → Printing
-clean_recording j = along_frames j.limit (file_of_frames j)
+clean_recording j = along_frames j.flight (file_of_frames j)

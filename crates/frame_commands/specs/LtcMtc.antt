@@ -1,6 +1,7 @@
 -- `ltc-mtc`: the frames of a recording as MIDI Time Code.
-use Rattle.std.specs.Prelude.{ℕ, [], None}
+use Rattle.std.specs.Prelude.{[], None}
 use Rattle.quarter_frame.specs.Runs.{mtc_of}
+use Rattle.tc_words.specs.declared.flight.Flight.{Flight}
 use Rattle.interval_commands.specs.Along.{Printing}
 use Rattle.frame_commands.specs.OfFrames.{FrameText, along_frames}
 
@@ -8,6 +9,6 @@ use Rattle.frame_commands.specs.OfFrames.{FrameText, along_frames}
 abbrev pub messages_of_frames : FrameText
 messages_of_frames = record { text = λ header fs. mtc_of fs; last = λ intervals fs. []; most = None }
 
--- what is written with a limit of invented frames
-abbrev pub time_code : ℕ → Printing
-time_code limit = along_frames limit messages_of_frames
+-- what is written of frames that are had so
+abbrev pub time_code : Flight → Printing
+time_code flight = along_frames flight messages_of_frames

@@ -1,7 +1,6 @@
 -- A command that writes what it makes of the frames of a recording: those of the words heard in it, and those that a flywheel invents between them.
 use Rattle.std.specs.Prelude.{◌≡◌, ℕ, ◌<◌, List, [], ◌∷◌, ◌++◌, length, sum, Option, Some, None}
 use Rattle.std.specs.List.{flat_map}
-use Rattle.biphase.specs.declared.profile.Profile.TheVariants.{Normal}
 use Rattle.direction_reader.specs.declared.event.Event.{Event}
 use Rattle.direction_reader.specs.declared.event.Event.TheVariants as event
 use Rattle.direction_reader.specs.ListEvents.{AreEvents}
@@ -9,6 +8,7 @@ use Rattle.flywheel.specs.declared.frame.Frame.{Frame}
 use Rattle.flywheel.specs.declared.heard.HeardWord.{HeardWord}
 use Rattle.flywheel.specs.Frames.{frames}
 use Rattle.tc_files.specs.declared.interval_file.header.IntervalHeader.{IntervalHeader}
+use Rattle.tc_words.specs.declared.flight.Flight.{Flight}
 use Rattle.interval_commands.specs.Along.{Printing}
 
 -- the word that the flywheel hears of an event, if it is one
@@ -40,24 +40,24 @@ abbrev pub AreTooMany : Option ℕ → List Frame → Type 0
 AreTooMany None fs = ⊥
 AreTooMany (Some most) fs = most < length fs
 
--- before the end: what is made of the frames of the intervals
-pub record IsFlightPart (limit : ℕ) (made : FrameText) (header : IntervalHeader) (intervals written : List ℕ) : Type 0 where
+-- before the end: what is made of the frames of the intervals, whose words are read under the tolerance of the flight
+pub record IsFlightPart (flight : Flight) (made : FrameText) (header : IntervalHeader) (intervals written : List ℕ) : Type 0 where
   pub events : List Event
-  pub are_events : AreEvents header.system Normal intervals events
-  pub are : written ≡ made.text header (frames_of limit intervals events)
+  pub are_events : AreEvents header.system flight.profile intervals events
+  pub are : written ≡ made.text header (frames_of flight.limit intervals events)
 
 -- the whole: this, and what is written last
-pub record IsFlightWhole (limit : ℕ) (made : FrameText) (header : IntervalHeader) (intervals written : List ℕ) : Type 0 where
+pub record IsFlightWhole (flight : Flight) (made : FrameText) (header : IntervalHeader) (intervals written : List ℕ) : Type 0 where
   pub events : List Event
-  pub are_events : AreEvents header.system Normal intervals events
-  pub are : written ≡ made.text header (frames_of limit intervals events) ++ made.last intervals (frames_of limit intervals events)
+  pub are_events : AreEvents header.system flight.profile intervals events
+  pub are : written ≡ made.text header (frames_of flight.limit intervals events) ++ made.last intervals (frames_of flight.limit intervals events)
 
 -- the frames of the intervals are too many
-pub record IsFlightSpent (limit : ℕ) (made : FrameText) (header : IntervalHeader) (intervals : List ℕ) : Type 0 where
+pub record IsFlightSpent (flight : Flight) (made : FrameText) (header : IntervalHeader) (intervals : List ℕ) : Type 0 where
   pub events : List Event
-  pub are_events : AreEvents header.system Normal intervals events
-  pub too_many : AreTooMany made.most (frames_of limit intervals events)
+  pub are_events : AreEvents header.system flight.profile intervals events
+  pub too_many : AreTooMany made.most (frames_of flight.limit intervals events)
 
--- what is written of the frames, with a limit of invented ones
-abbrev pub along_frames : ℕ → FrameText → Printing
-along_frames limit made = record { spent = IsFlightSpent limit made; part = IsFlightPart limit made; whole = IsFlightWhole limit made }
+-- what is written of the frames that are had so
+abbrev pub along_frames : Flight → FrameText → Printing
+along_frames flight made = record { spent = IsFlightSpent flight made; part = IsFlightPart flight made; whole = IsFlightWhole flight made }

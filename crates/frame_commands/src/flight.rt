@@ -35,7 +35,7 @@ ghost use Rattle.frame_commands.specs.KeptFlight.{
 };
 
 use crate::frame_sink::FrameSink;
-use biphase::{MAX_INTERVAL, Profile};
+use biphase::MAX_INTERVAL;
 use direction_reader::laws::{
     a_list_has_one_list_of_events, a_reader_gives_the_events_of_its_list,
 };
@@ -47,10 +47,11 @@ use line_text::Text;
 use tc_command::Stop;
 use tc_files::{IntervalHeader, fly_end_text};
 use tc_io::Sink;
+use tc_words::Flight;
 
 /// The frames of a recording: its reader, its flywheel, and how many frames of each kind were given.
 #[derive(Drop)]
-pub(crate) struct Flight {
+pub(crate) struct FrameReader {
     reader: DirectionReader,
     wheel: Flywheel,
     heard: u64,
@@ -58,14 +59,14 @@ pub(crate) struct Flight {
     gone: u64,
 }
 
-impl Flight {
+impl FrameReader {
     /// Before the first interval.
-    fn new(limit: u8, header: &IntervalHeader) -> Flight
-        ensures { BeginsFlight result limit header.now }
+    fn new(flight: Flight, header: &IntervalHeader) -> FrameReader
+        ensures { BeginsFlight result flight header.now }
     {
-        Flight {
-            reader: DirectionReader::new(header.system, Profile::Normal),
-            wheel: Flywheel::new(limit),
+        FrameReader {
+            reader: DirectionReader::new(header.system, flight.profile),
+            wheel: Flywheel::new(flight.limit),
             heard: 0,
             invented: 0,
             gone: 0,
@@ -330,7 +331,7 @@ impl Flight {
 /// What a command makes of the frames of a recording, along its intervals.
 #[derive(Drop)]
 pub(crate) struct FlightTo<T: FrameSink> {
-    flight: Flight,
+    frames: FrameReader,
     sink: T,
 }
 
@@ -341,16 +342,16 @@ impl<T: FrameSink> Behind for FlightTo<T> {
 
     type Choice = T::Choice;
 
-    ghost printing = { λ choice. along_frames (T.limit choice) (T.made choice) };
+    ghost printing = { λ choice. along_frames (T.flight choice) (T.made choice) };
 
-    ghost fits = { λ s count. FitsFlight s.flight count };
+    ghost fits = { λ s count. FitsFlight s.frames count };
 
-    ghost stands = { λ s choice header intervals written. Stands T.limit T.made T.given s.flight s.sink choice header intervals written };
+    ghost stands = { λ s choice header intervals written. Stands T.flight T.made T.given s.frames s.sink choice header intervals written };
 
     ghost is_settled = { λ _. ⊤ };
 
     ghost stands_well = { λ s choice header intervals written settled stands.
-        stands_well T.limit T.made T.given s.flight s.sink choice header intervals written stands };
+        stands_well T.flight T.made T.given s.frames s.sink choice header intervals written stands };
 
     fn begin<K: Sink>(
         choice: T::Choice,
@@ -358,21 +359,21 @@ impl<T: FrameSink> Behind for FlightTo<T> {
         out: &mut K,
     ) -> Result<FlightTo<T>, Stop> {
         a_reader_gives_the_events_of_its_list();
-        let flight = Flight::new(T::limit(choice), &header);
+        let frames = FrameReader::new(T::flight(choice), &header);
         let sink = T::begin(choice, &header, out)?;
-        Ok(FlightTo { flight, sink })
+        Ok(FlightTo { frames, sink })
     }
 
     #[inline(always)]
     fn interval<K: Sink>(&mut self, x: u32, out: &mut K) -> Result<(), Stop> {
         a_reader_gives_the_events_of_its_list();
         frames_come_in_order();
-        match self.flight.reader.step(x) {
+        match self.frames.reader.step(x) {
             Brought::Nothing => {
-                let tick = self.flight.reader.tick();
-                self.flight.give_due(tick, &mut self.sink, out)
+                let tick = self.frames.reader.tick();
+                self.frames.give_due(tick, &mut self.sink, out)
             }
-            brought => self.flight.hear_all(brought, &mut self.sink, out),
+            brought => self.frames.hear_all(brought, &mut self.sink, out),
         }
     }
 
@@ -388,6 +389,6 @@ impl<T: FrameSink> Behind for FlightTo<T> {
     }
 
     fn finish<K: Sink>(&self, out: &mut K) -> Result<(), Stop> {
-        self.sink.finish(&self.flight, out)
+        self.sink.finish(&self.frames, out)
     }
 }

@@ -4,24 +4,26 @@ ghost use Rattle.std.specs.Io.KnownBytes.{Appends};
 ghost use Rattle.flywheel.specs.declared.frame.Frame.{Frame};
 ghost use Rattle.tc_files.specs.declared.interval_file.header.IntervalHeader.{IntervalHeader};
 ghost use Rattle.tc_files.specs.FrameTexts.{FitsFrameLine};
+ghost use Rattle.tc_words.specs.declared.flight.Flight.{Flight};
 ghost use Rattle.tc_io.specs.Sink.{AppendsFront};
 ghost use Rattle.tc_command.specs.Causes.{HasOutCause};
 ghost use Rattle.frame_commands.specs.KeptFlight.{CountsAll, FitsFlight, Sends, SendsFront};
 ghost use Rattle.frame_commands.specs.OfFrames.{AreTooMany, FrameText};
 
-use crate::flight::Flight;
+use crate::flight::FrameReader;
 use flywheel::Frame;
 use tc_command::Stop;
 use tc_files::IntervalHeader;
 use tc_io::Sink;
+use tc_words::Flight;
 
 /// What a command makes of the frames of a recording, one after another.
 pub(crate) trait FrameSink: Drop {
     /// What the words choose for it.
     type Choice: Copy;
 
-    /// How many frames are invented in a row, at most.
-    ghost limit: { Self.Choice → ℕ };
+    /// How the frames are had.
+    ghost flight: { Self.Choice → Flight };
 
     /// What it writes.
     ghost made: { Self.Choice → FrameText };
@@ -29,9 +31,9 @@ pub(crate) trait FrameSink: Drop {
     /// It was begun with this choice and this header, and was given these frames.
     ghost given: { Self → Self.Choice → IntervalHeader → List Frame → Type 0 };
 
-    /// How many frames are invented in a row, at most.
-    fn limit(choice: Self::Choice) -> u8
-        ensures { result ≡ limit choice };
+    /// How the frames are had.
+    fn flight(choice: Self::Choice) -> Flight
+        ensures { result ≡ flight choice };
 
     /// Writes what stands first.
     fn begin<K: Sink>(
@@ -60,14 +62,14 @@ pub(crate) trait FrameSink: Drop {
         ensures going { result ≡ false → (choice : Self.Choice) (header : IntervalHeader) (frames : List Frame)
             → given self.now choice header frames → ¬ AreTooMany (FrameText.most (made choice)) frames };
 
-    /// Writes what stands last. The flight has counted what was given.
-    fn finish<K: Sink>(&self, flight: &Flight, out: &mut K) -> Result<(), Stop>
-        requires { FitsFlight flight.now flight.now.reader.intervals }
+    /// Writes what stands last. The reader has counted what was given.
+    fn finish<K: Sink>(&self, reader: &FrameReader, out: &mut K) -> Result<(), Stop>
+        requires { FitsFlight reader.now reader.now.reader.intervals }
         ensures ends { OnOk result ((choice : Self.Choice) (header : IntervalHeader) (intervals : List ℕ) (frames : List Frame)
-            → given self.now choice header frames → CountsAll flight.now intervals frames
+            → given self.now choice header frames → CountsAll reader.now intervals frames
             → Appends (K.written out.old) (K.written out.new) (FrameText.last (made choice) intervals frames)) }
         ensures front { OnErr result ((choice : Self.Choice) (header : IntervalHeader) (intervals : List ℕ) (frames : List Frame)
-            → given self.now choice header frames → CountsAll flight.now intervals frames
+            → given self.now choice header frames → CountsAll reader.now intervals frames
             → AppendsFront (K.written out.old) (K.written out.new) (FrameText.last (made choice) intervals frames)) }
         ensures why { IfErr result (λ stop. stop ≡ Stop.WriteFault) }
         ensures cause { HasOutCause (K.faults out.old) (K.faults out.new) result };

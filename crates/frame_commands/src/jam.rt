@@ -8,7 +8,7 @@ ghost use Rattle.tc_command.specs.Ran.{CameToItsEnd, StoppedBefore};
 ghost use Rattle.interval_commands.specs.Along.{along_intervals};
 ghost use Rattle.frame_commands.specs.LtcJam.{clean_recording};
 
-use crate::flight::{Flight, FlightTo};
+use crate::flight::{FrameReader, FlightTo};
 use crate::frame_sink::FrameSink;
 use flywheel::Frame;
 use interval_commands::work_along;
@@ -18,7 +18,7 @@ use made_commands::{push_all, push_interval};
 use tc_command::{PIECE, Piece, Stop, push_piece};
 use tc_files::{FileVersion, IntervalHeader, interval_header};
 use tc_io::{Sink, Source};
-use tc_words::Jam;
+use tc_words::{Flight, Jam};
 
 /// Works `ltc-jam`: a clean recording of the frames of a recording.
 pub fn jam_sync<S: Source, K: Sink>(jam: Jam, source: &mut S, out: &mut K) -> Result<(), Stop>
@@ -44,14 +44,14 @@ impl FrameSink for CleanRecording {
 
     type Choice = Jam;
 
-    ghost limit = { λ jam. jam.limit };
+    ghost flight = { λ jam. jam.flight };
 
     ghost made = { λ jam. file_of_frames jam };
 
     ghost given = { λ s jam header frames. s.jam ≡ jam };
 
-    fn limit(jam: Jam) -> u8 {
-        jam.limit()
+    fn flight(jam: Jam) -> Flight {
+        jam.flight()
     }
 
     /// The header, and the cells by which a reader locks.
@@ -87,7 +87,7 @@ impl FrameSink for CleanRecording {
         false
     }
 
-    fn finish<K: Sink>(&self, _flight: &Flight, _out: &mut K) -> Result<(), Stop> {
+    fn finish<K: Sink>(&self, _reader: &FrameReader, _out: &mut K) -> Result<(), Stop> {
         Ok(())
     }
 }

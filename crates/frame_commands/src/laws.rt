@@ -6,6 +6,7 @@ ghost use Rattle.quarter_frame.specs.Runs.{quarters};
 ghost use Rattle.tc_address.specs.Label.{Address};
 ghost use Rattle.tc_words.specs.ChaseRun.{Chasing};
 ghost use Rattle.tc_words.specs.Jam.{Jamming};
+ghost use Rattle.tc_words.specs.declared.flight.Flight.{Flight};
 ghost use Rattle.interval_commands.specs.KeptCommand.{PrintsInOrder};
 ghost use Rattle.frame_commands.specs.declared.ltc_chase.TheConstants.{MAX_FRAMES};
 ghost use Rattle.frame_commands.specs.KeptFrames.{AddsInOrder};
@@ -25,7 +26,7 @@ use quarter_frame::laws::messages_of_a_front_come_first;
 
 /// What a command prints of frames is in order, where what it makes of frames is.
 pub fn what_is_made_of_frames_is_in_order()
-    ensures { (limit : ℕ) (made : FrameText) → AddsInOrder made → PrintsInOrder (along_frames limit made) }
+    ensures { (flight : Flight) (made : FrameText) → AddsInOrder made → PrintsInOrder (along_frames flight made) }
 {
     a_list_has_one_list_of_events();
     each_list_has_events();

@@ -9,7 +9,7 @@ ghost use Rattle.tc_command.specs.Ran.{CameToItsEnd, StoppedBefore};
 ghost use Rattle.interval_commands.specs.Along.{along_intervals};
 ghost use Rattle.frame_commands.specs.LtcChase.{chased_recording};
 
-use crate::flight::{Flight, FlightTo};
+use crate::flight::{FrameReader, FlightTo};
 use crate::frame_sink::FrameSink;
 use chase_script::{step_end_text, step_text};
 use code_chase::CodeChase;
@@ -22,7 +22,7 @@ use tc_address::Count;
 use tc_command::{Stop, push_line};
 use tc_files::IntervalHeader;
 use tc_io::{Sink, Source};
-use tc_words::ChaseRun;
+use tc_words::{ChaseRun, Flight};
 
 /// How many frames one run follows at most. A further one ends it.
 pub const MAX_FRAMES: u64 = 100_000_000;
@@ -86,14 +86,14 @@ impl FrameSink for StepLines {
 
     type Choice = ChaseRun;
 
-    ghost limit = { λ run. run.limit };
+    ghost flight = { λ run. run.flight };
 
     ghost made = { λ run. lines_of_steps run };
 
     ghost given = { λ s run header frames. HasFollowed MAX_FRAMES run s frames };
 
-    fn limit(run: ChaseRun) -> u8 {
-        run.limit()
+    fn flight(run: ChaseRun) -> Flight {
+        run.flight()
     }
 
     fn begin<K: Sink>(
@@ -127,7 +127,7 @@ impl FrameSink for StepLines {
         self.is_spent
     }
 
-    fn finish<K: Sink>(&self, _flight: &Flight, out: &mut K) -> Result<(), Stop> {
+    fn finish<K: Sink>(&self, _reader: &FrameReader, out: &mut K) -> Result<(), Stop> {
         a_frame_adds_a_line();
         push_line(out, &step_end_text(self.steps, self.losses))
     }

@@ -3,49 +3,50 @@ ghost use Rattle.std.specs.Prelude.{OnOk, IfErr};
 ghost use Rattle.tc_command.specs.Causes.{HasOutCause, HasSourceCause};
 ghost use Rattle.tc_command.specs.Ran.{CameToItsEnd, StoppedBefore};
 ghost use Rattle.interval_commands.specs.Along.{along_intervals};
-ghost use Rattle.frame_commands.specs.LtcFly.{flight};
+ghost use Rattle.frame_commands.specs.LtcFly.{flown_recording};
 
-use crate::flight::{Flight, FlightTo};
+use crate::flight::{FrameReader, FlightTo};
 use crate::frame_sink::FrameSink;
 use flywheel::Frame;
 use interval_commands::work_along;
 use tc_command::{Stop, push_line};
 use tc_files::{IntervalHeader, frame_text};
 use tc_io::{Sink, Source};
+use tc_words::Flight;
 
-/// Works `ltc-fly`: a line for each frame of a recording, with at most so many invented ones in a row.
-pub fn fly_along<S: Source, K: Sink>(limit: u8, source: &mut S, out: &mut K) -> Result<(), Stop>
-    ensures ends { OnOk result (CameToItsEnd (along_intervals (flight limit)) (S.left source.old) (S.left source.new)
+/// Works `ltc-fly`: a line for each frame of a recording, where its frames are had so.
+pub fn fly_along<S: Source, K: Sink>(flight: Flight, source: &mut S, out: &mut K) -> Result<(), Stop>
+    ensures ends { OnOk result (CameToItsEnd (along_intervals (flown_recording flight)) (S.left source.old) (S.left source.new)
         (K.written out.old) (K.written out.new)) }
-    ensures stops { IfErr result (λ stop. StoppedBefore (along_intervals (flight limit)) stop (S.left source.old) (S.left source.new)
+    ensures stops { IfErr result (λ stop. StoppedBefore (along_intervals (flown_recording flight)) stop (S.left source.old) (S.left source.new)
         (K.written out.old) (K.written out.new)) }
     ensures source { HasSourceCause (S.faults source.old) (S.faults source.new) result }
     ensures out { HasOutCause (K.faults out.old) (K.faults out.new) result }
 {
-    work_along::<FlightTo<FrameLines>, S, K>(limit, source, out)
+    work_along::<FlightTo<FrameLines>, S, K>(flight, source, out)
 }
 
-/// The lines of frames. The choice is how many are invented in a row, at most.
+/// The lines of frames. The choice is how the frames are had.
 #[derive(Drop)]
 pub(crate) struct FrameLines;
 
 impl FrameSink for FrameLines {
     ghost use Rattle.frame_commands.specs.LtcFly.{lines_of_frames};
 
-    type Choice = u8;
+    type Choice = Flight;
 
-    ghost limit = { λ choice. choice };
+    ghost flight = { λ choice. choice };
 
     ghost made = { λ choice. lines_of_frames };
 
     ghost given = { λ s choice header frames. Unit {0} };
 
-    fn limit(choice: u8) -> u8 {
+    fn flight(choice: Flight) -> Flight {
         choice
     }
 
     fn begin<K: Sink>(
-        _choice: u8,
+        _choice: Flight,
         _header: &IntervalHeader,
         _out: &mut K,
     ) -> Result<FrameLines, Stop> {
@@ -62,7 +63,7 @@ impl FrameSink for FrameLines {
         false
     }
 
-    fn finish<K: Sink>(&self, flight: &Flight, out: &mut K) -> Result<(), Stop> {
-        push_line(out, &flight.end_text())
+    fn finish<K: Sink>(&self, reader: &FrameReader, out: &mut K) -> Result<(), Stop> {
+        push_line(out, &reader.end_text())
     }
 }

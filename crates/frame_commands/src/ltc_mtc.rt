@@ -5,7 +5,7 @@ ghost use Rattle.tc_command.specs.Ran.{CameToItsEnd, StoppedBefore};
 ghost use Rattle.interval_commands.specs.Along.{along_intervals};
 ghost use Rattle.frame_commands.specs.LtcMtc.{time_code};
 
-use crate::flight::{Flight, FlightTo};
+use crate::flight::{FrameReader, FlightTo};
 use crate::frame_sink::FrameSink;
 use flywheel::Frame;
 use interval_commands::work_along;
@@ -13,24 +13,25 @@ use quarter_frame::QuarterWriter;
 use tc_command::{Stop, push_piece};
 use tc_files::IntervalHeader;
 use tc_io::{Sink, Source};
+use tc_words::Flight;
 
-/// Works `ltc-mtc`: the frames of a recording as MIDI Time Code.
+/// Works `ltc-mtc`: the frames of a recording, where they are had so, as MIDI Time Code.
 pub fn send_time_code<S: Source, K: Sink>(
-    limit: u8,
+    flight: Flight,
     source: &mut S,
     out: &mut K,
 ) -> Result<(), Stop>
-    ensures ends { OnOk result (CameToItsEnd (along_intervals (time_code limit)) (S.left source.old) (S.left source.new)
+    ensures ends { OnOk result (CameToItsEnd (along_intervals (time_code flight)) (S.left source.old) (S.left source.new)
         (K.written out.old) (K.written out.new)) }
-    ensures stops { IfErr result (λ stop. StoppedBefore (along_intervals (time_code limit)) stop (S.left source.old) (S.left source.new)
+    ensures stops { IfErr result (λ stop. StoppedBefore (along_intervals (time_code flight)) stop (S.left source.old) (S.left source.new)
         (K.written out.old) (K.written out.new)) }
     ensures source { HasSourceCause (S.faults source.old) (S.faults source.new) result }
     ensures out { HasOutCause (K.faults out.old) (K.faults out.new) result }
 {
-    work_along::<FlightTo<FrameMessages>, S, K>(limit, source, out)
+    work_along::<FlightTo<FrameMessages>, S, K>(flight, source, out)
 }
 
-/// The messages of frames. The choice is how many frames are invented in a row, at most.
+/// The messages of frames. The choice is how the frames are had.
 #[derive(Drop)]
 pub(crate) struct FrameMessages {
     writer: QuarterWriter,
@@ -40,20 +41,20 @@ impl FrameSink for FrameMessages {
     ghost use Rattle.quarter_frame.specs.StandsFor.{StandsFor};
     ghost use Rattle.frame_commands.specs.LtcMtc.{messages_of_frames};
 
-    type Choice = u8;
+    type Choice = Flight;
 
-    ghost limit = { λ choice. choice };
+    ghost flight = { λ choice. choice };
 
     ghost made = { λ choice. messages_of_frames };
 
     ghost given = { λ s choice header frames. StandsFor s.writer frames };
 
-    fn limit(choice: u8) -> u8 {
+    fn flight(choice: Flight) -> Flight {
         choice
     }
 
     fn begin<K: Sink>(
-        _choice: u8,
+        _choice: Flight,
         _header: &IntervalHeader,
         _out: &mut K,
     ) -> Result<FrameMessages, Stop> {
@@ -75,7 +76,7 @@ impl FrameSink for FrameMessages {
         false
     }
 
-    fn finish<K: Sink>(&self, _flight: &Flight, _out: &mut K) -> Result<(), Stop> {
+    fn finish<K: Sink>(&self, _reader: &FrameReader, _out: &mut K) -> Result<(), Stop> {
         Ok(())
     }
 }

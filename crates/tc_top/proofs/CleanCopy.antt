@@ -77,17 +77,17 @@ behind : CleanLaws → (j : Jamming) → IsJamming j → (input : Recording) (he
     → IsWholeBehind (clean_recording j) header input.intervals written → IsClean j input written
 behind laws j is input None written e whole = absurd whole
 behind laws j is input (Some header) written e whole =
-    let fs = frames_of j.limit input.intervals whole.events in
+    let fs = frames_of j.flight.limit input.intervals whole.events in
     let some = is.some_ticks in
     let most = is.not_too_fast in
-    let heard = words_are header.system whole.events (laws.events header.system Normal input.intervals whole.events whole.are_events) in
+    let heard = words_are header.system whole.events (laws.events header.system j.flight.profile input.intervals whole.events whole.are_events) in
     let file : IsFile written (clean_header j header) (clean_intervals j fs) = record {
       tick_rate = (omega arith, omega arith);
       range = in_file laws j fs is;
       are = whole.are ∙ append-nil (clean_file j header fs);
     } in
     let read = laws.read header.system j.cell fs is.cell
-    (laws.frames header.system j.limit (words_heard whole.events) (sum input.intervals) heard) in
+    (laws.frames header.system j.flight.limit (words_heard whole.events) (sum input.intervals) heard) in
     record {
       header = header;
       begins = e;

@@ -8,6 +8,7 @@ use Rattle.flywheel.specs.declared.frame.Frame.{Frame}
 use Rattle.tc_words.specs.ChaseRun.{Chasing}
 use Rattle.tc_words.specs.Jam.{Jamming}
 use Rattle.tc_words.specs.Slicing.{Slices}
+use Rattle.tc_words.specs.declared.flight.Flight.{Flight}
 use Rattle.tc_words.specs.declared.job.Job.{Job}
 use Rattle.tc_words.specs.declared.job.Job.TheVariants.{LtcRead, LtcWorn, LtcFly, LtcMtc, LtcJam, LtcChase, LtcConvert, LtcPcm}
 use Rattle.tc_command.specs.Command.{IsCommand}
@@ -37,7 +38,7 @@ NeverSpent p = (header : IntervalHeader) (intervals : List ℕ) → ¬ p.spent h
 -- what a command of a shape brings
 abbrev pub Brings : Shape → Type 0
 Brings (along_recording p) = PrintsInOrder p × NeverSpent p
-Brings (along_its_frames limit made) = AddsInOrder made
+Brings (along_its_frames flight made) = AddsInOrder made
 Brings _ = Unit {0}
 
 -- what the laws of the crates of the commands say
@@ -46,7 +47,7 @@ pub record CommandLaws : Type 0 where
   pub report : (profile : Profile) → PrintsInOrder (report profile)
   pub conversion : (version : FileVersion) → PrintsInOrder (conversion version)
   pub sound : (size : ℕ) → PrintsInOrder (made_sound size)
-  pub frames : (limit : ℕ) (made : FrameText) → AddsInOrder made → PrintsInOrder (along_frames limit made)
+  pub frames : (flight : Flight) (made : FrameText) → AddsInOrder made → PrintsInOrder (along_frames flight made)
   pub lines : AddsInOrder lines_of_frames
   pub messages : AddsInOrder messages_of_frames
   pub cells : (jam : Jamming) → AddsInOrder (file_of_frames jam)
@@ -59,7 +60,7 @@ pub record CommandLaws : Type 0 where
 by_shape : CommandLaws → (shape : Shape) → Brings shape → IsCommand (meaning_by shape)
 by_shape laws (writes_text text) brings = text_is_command text
 by_shape laws (along_recording p) brings = along_is_command laws.grow p brings.0
-by_shape laws (along_its_frames limit made) brings = along_is_command laws.grow (along_frames limit made) (laws.frames limit made brings)
+by_shape laws (along_its_frames flight made) brings = along_is_command laws.grow (along_frames flight made) (laws.frames flight made brings)
 by_shape laws along_midi_bytes brings = laws.midi
 by_shape laws (along_sound slicing) brings = laws.samples slicing
 by_shape laws along_line_file brings = laws.fields
@@ -70,8 +71,8 @@ brings laws LtcRead = (laws.report _, λ header intervals spent. spent)
 brings laws LtcWorn = (laws.report _, λ header intervals spent. spent)
 brings laws (LtcConvert version) = (laws.conversion version, λ header intervals spent. spent)
 brings laws (LtcPcm size) = (laws.sound size, λ header intervals spent. spent)
-brings laws (LtcFly limit) = laws.lines
-brings laws (LtcMtc limit) = laws.messages
+brings laws (LtcFly flight) = laws.lines
+brings laws (LtcMtc flight) = laws.messages
 brings laws (LtcJam jam) = laws.cells jam
 brings laws (LtcChase run) = laws.steps run
 brings laws job = tt
@@ -88,8 +89,8 @@ few_enough (Some most) none frames = absurd (none tt)
 unlimited : (shape : Shape) → Brings shape → ¬ IsLimited shape → (input : List ℕ) → ¬ Meaning.spent (meaning_by shape) input
 unlimited (writes_text text) brings none input = λ spent. spent
 unlimited (along_recording p) brings none input = never_spent p brings.1 (recording_of input)
-unlimited (along_its_frames limit made) brings none input =
-    never_spent (along_frames limit made) (λ header intervals (spent : IsFlightSpent limit made header intervals). few_enough made.most none _ spent.too_many)
+unlimited (along_its_frames flight made) brings none input =
+    never_spent (along_frames flight made) (λ header intervals (spent : IsFlightSpent flight made header intervals). few_enough made.most none _ spent.too_many)
     (recording_of input)
 unlimited along_midi_bytes brings none input = λ spent. spent
 unlimited (along_sound slicing) brings none input = λ spent. spent

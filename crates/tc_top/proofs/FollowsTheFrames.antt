@@ -4,7 +4,6 @@ use Rattle.std.proofs.Common.{subst}
 use Rattle.std.specs.Prelude.{sum, unsigned_abs}
 use Rattle.std.proofs.lemmas.Bool.{cases_lt}
 use Rattle.biphase.specs.declared.profile.Profile.{Profile}
-use Rattle.biphase.specs.declared.profile.Profile.TheVariants.{Normal}
 use Rattle.chase_core.specs.declared.report.State.TheVariants.{Locked}
 use Rattle.chase_core.specs.declared.report.Loss.{Loss}
 use Rattle.chase_core.specs.declared.report.Loss.TheVariants.{NoCode}
@@ -94,11 +93,11 @@ behind : ChaseLaws → (c : Chasing) → IsChasing c → (input : Recording) (he
     → IsWholeBehind (chased_recording c) header input.intervals written → FollowsTheCode c input written
 behind laws c is input None written e whole = absurd whole
 behind laws c is input (Some header) written e whole =
-    let fs = frames_of c.limit input.intervals whole.events in
+    let fs = frames_of c.flight.limit input.intervals whole.events in
     let first = take MAX_FRAMES fs in
-    let heard = words_are header.system whole.events (laws.events header.system Normal input.intervals whole.events whole.are_events) in
-    let labels = laws.labels header.system c.limit (words_heard whole.events) (sum input.intervals) heard in
-    let on = laws.go_on c.limit (sum input.intervals) (words_heard whole.events) in
+    let heard = words_are header.system whole.events (laws.events header.system c.flight.profile input.intervals whole.events whole.are_events) in
+    let labels = laws.labels header.system c.flight.limit (words_heard whole.events) (sum input.intervals) heard in
+    let on = laws.go_on c.flight.limit (sum input.intervals) (words_heard whole.events) in
     record {
       header = header;
       begins = e;

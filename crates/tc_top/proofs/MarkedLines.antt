@@ -4,10 +4,11 @@ use Rattle.std.specs.Prelude.{sum}
 use Rattle.flywheel.specs.declared.heard.HeardWord.{HeardWord}
 use Rattle.flywheel.specs.Frames.{frames}
 use Rattle.flywheel.specs.Marked.{AreMarked, word_of, words_in}
+use Rattle.tc_words.specs.declared.flight.Flight.{Flight}
 use Rattle.tc_files.specs.declared.interval_file.header.IntervalHeader.{IntervalHeader}
 use Rattle.tc_files.specs.Recording.{recording_of}
 use Rattle.interval_commands.specs.Along.{IsWholeBehind, IsWholeOf}
-use Rattle.frame_commands.specs.LtcFly.{flight, ShowsTheFrames}
+use Rattle.frame_commands.specs.LtcFly.{flown_recording, ShowsTheFrames}
 use Rattle.frame_commands.specs.OfFrames.{frames_of, words_heard}
 
 -- the frames of words are marked, and the words stand in them
@@ -15,23 +16,23 @@ pub record FramesLaws : Type 0 where
   pub marked : (limit last : ℕ) (words : List HeardWord) → AreMarked limit None (frames limit words last)
   pub heard : (limit last : ℕ) (words : List HeardWord) → words_in (frames limit words last) ≡ map word_of words
 
-behind : FramesLaws → (limit : ℕ) (bytes written : List ℕ) (header : Option IntervalHeader) → (recording_of bytes).header ≡ header
-    → IsWholeBehind (flight limit) header (recording_of bytes).intervals written → ShowsTheFrames limit bytes written
-behind laws limit bytes written None begins is = absurd is
-behind laws limit bytes written (Some header) begins is =
+behind : FramesLaws → (flight : Flight) (bytes written : List ℕ) (header : Option IntervalHeader) → (recording_of bytes).header ≡ header
+    → IsWholeBehind (flown_recording flight) header (recording_of bytes).intervals written → ShowsTheFrames flight bytes written
+behind laws flight bytes written None begins is = absurd is
+behind laws flight bytes written (Some header) begins is =
     let intervals = (recording_of bytes).intervals in
     record {
       header = header;
       begins = begins;
       events = is.events;
       are_events = is.are_events;
-      frames = frames_of limit intervals is.events;
+      frames = frames_of flight.limit intervals is.events;
       are_frames = refl;
       are = is.are;
-      heard = laws.heard limit (sum intervals) (words_heard is.events);
-      marked = laws.marked limit (sum intervals) (words_heard is.events);
+      heard = laws.heard flight.limit (sum intervals) (words_heard is.events);
+      marked = laws.marked flight.limit (sum intervals) (words_heard is.events);
     }
 
-pub shows_the_frames : FramesLaws → (limit : ℕ) (bytes written : List ℕ) → IsWholeOf (flight limit) (recording_of bytes) written
-    → ShowsTheFrames limit bytes written
-shows_the_frames laws limit bytes written output = behind laws limit bytes written _ refl output
+pub shows_the_frames : FramesLaws → (flight : Flight) (bytes written : List ℕ) → IsWholeOf (flown_recording flight) (recording_of bytes) written
+    → ShowsTheFrames flight bytes written
+shows_the_frames laws flight bytes written output = behind laws flight bytes written _ refl output

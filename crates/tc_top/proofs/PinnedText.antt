@@ -14,6 +14,7 @@ use Rattle.tc_files.specs.Grammar.{IsFile, file_of}
 use Rattle.tc_files.specs.Recording.{Recording, recording_of}
 use Rattle.tc_words.specs.ChaseRun.{Chasing}
 use Rattle.tc_words.specs.Jam.{Jamming}
+use Rattle.tc_words.specs.declared.flight.Flight.{Flight}
 use Rattle.tc_words.specs.declared.job.Job.{Job}
 use Rattle.tc_words.specs.declared.job.Job.TheVariants.{LtcRead, LtcWorn, LtcFly, LtcMtc, LtcJam, LtcChase, MtcRead, LtcMake, LtcLoad}
 use Rattle.tc_words.specs.declared.job.Job.TheVariants.{LtcConvert, PcmLtc, LtcPcm, VitcRead, VitcMake, Number, LabelOf}
@@ -52,26 +53,26 @@ one_report laws profile bytes a b p q =
     let events = same_events laws profile list p.header q.header p.events q.events header p.are_events q.are_events in
     p.are ∙ ap₂ (λ (h : IntervalHeader) (es : List Event). lines h es ++ last_line list es) header events ∙ sym q.are
 
-one_flight : PinnedLaws → (limit : ℕ) (bytes a b : List ℕ) → ShowsTheFrames limit bytes a → ShowsTheFrames limit bytes b → a ≡ b
-one_flight laws limit bytes a b p q =
+one_flight : PinnedLaws → (flight : Flight) (bytes a b : List ℕ) → ShowsTheFrames flight bytes a → ShowsTheFrames flight bytes b → a ≡ b
+one_flight laws flight bytes a b p q =
     let list = (recording_of bytes).intervals in
     let header = one_header (recording_of bytes) p.header q.header p.begins q.begins in
-    let events = same_events laws Normal list p.header q.header p.events q.events header p.are_events q.are_events in
-    let frames = p.are_frames ∙ ap (frames_of limit list) events ∙ sym q.are_frames in
+    let events = same_events laws flight.profile list p.header q.header p.events q.events header p.are_events q.are_events in
+    let frames = p.are_frames ∙ ap (frames_of flight.limit list) events ∙ sym q.are_frames in
     p.are ∙ ap (λ (fs : List Frame). frame_lines fs ++ last_fly_line list fs) frames ∙ sym q.are
 
 one_copy : PinnedLaws → (j : Jamming) (input : Recording) (a b : List ℕ) → IsClean j input a → IsClean j input b → a ≡ b
 one_copy laws j input a b p q =
     let header = one_header input p.header q.header p.begins q.begins in
-    let events = same_events laws Normal input.intervals p.header q.header p.events q.events header p.are_events q.are_events in
-    let frames = p.are_frames ∙ ap (frames_of j.limit input.intervals) events ∙ sym q.are_frames in
+    let events = same_events laws j.flight.profile input.intervals p.header q.header p.events q.events header p.are_events q.are_events in
+    let frames = p.are_frames ∙ ap (frames_of j.flight.limit input.intervals) events ∙ sym q.are_frames in
     p.file.are ∙ ap₂ (clean_file j) header frames ∙ sym q.file.are
 
 one_trace : PinnedLaws → (c : Chasing) (input : Recording) (a b : List ℕ) → FollowsTheCode c input a → FollowsTheCode c input b → a ≡ b
 one_trace laws c input a b p q =
     let header = one_header input p.header q.header p.begins q.begins in
-    let events = same_events laws Normal input.intervals p.header q.header p.events q.events header p.are_events q.are_events in
-    p.text ∙ ap (λ (es : List Event). trace_text c.label.count (first_steps MAX_FRAMES c (frames_of c.limit input.intervals es))) events ∙ sym q.text
+    let events = same_events laws c.flight.profile input.intervals p.header q.header p.events q.events header p.are_events q.are_events in
+    p.text ∙ ap (λ (es : List Event). trace_text c.label.count (first_steps MAX_FRAMES c (frames_of c.flight.limit input.intervals es))) events ∙ sym q.text
 
 one_conversion : PinnedLaws → (version : FileVersion) (bytes a b : List ℕ) → ConvertsTheFile version bytes a → ConvertsTheFile version bytes b → a ≡ b
 one_conversion laws version bytes a b p q =
@@ -86,9 +87,9 @@ one_text laws LtcRead pulled e f is x y p q =
 one_text laws LtcWorn pulled e f is x y p q =
     one_report laws Worn pulled e.written f.written (subst (λ (l : List ℕ). ReportsTheTape Worn l e.written) x p)
     (subst (λ (l : List ℕ). ReportsTheTape Worn l f.written) y q)
-one_text laws (LtcFly limit) pulled e f is x y p q =
-    one_flight laws limit pulled e.written f.written (subst (λ (l : List ℕ). ShowsTheFrames limit l e.written) x p)
-    (subst (λ (l : List ℕ). ShowsTheFrames limit l f.written) y q)
+one_text laws (LtcFly flight) pulled e f is x y p q =
+    one_flight laws flight pulled e.written f.written (subst (λ (l : List ℕ). ShowsTheFrames flight l e.written) x p)
+    (subst (λ (l : List ℕ). ShowsTheFrames flight l f.written) y q)
 one_text laws (LtcJam jam) pulled e f is x y p q =
     one_copy laws jam (recording_of pulled) e.written f.written (subst (λ (l : List ℕ). IsClean jam (recording_of l) e.written) x p)
     (subst (λ (l : List ℕ). IsClean jam (recording_of l) f.written) y q)
@@ -101,7 +102,7 @@ one_text laws (LtcConvert version) pulled e f is x y p q =
 one_text laws (LtcMake stripe) pulled e f is x y p q = p.file.are ∙ sym q.file.are
 one_text laws (LtcLoad run) pulled e f is x y p q = p.line ∙ sym q.line
 one_text laws (VitcMake stripe) pulled e f is x y p q = p.are ∙ sym q.are
-one_text laws (LtcMtc limit) pulled e f is x y p q = absurd is
+one_text laws (LtcMtc flight) pulled e f is x y p q = absurd is
 one_text laws (LtcPcm size) pulled e f is x y p q = absurd is
 one_text laws MtcRead pulled e f is x y p q = absurd is
 one_text laws VitcRead pulled e f is x y p q = absurd is

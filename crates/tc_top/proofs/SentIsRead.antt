@@ -7,7 +7,6 @@ use Rattle.std.proofs.lemmas.List.Sums.{sum_by-append, sum_by-cons}
 use Rattle.flywheel.specs.declared.frame.Frame.{Frame}
 use Rattle.flywheel.specs.declared.heard.HeardWord.{HeardWord}
 use Rattle.flywheel.specs.Frames.{frames}
-use Rattle.biphase.specs.declared.profile.Profile.TheVariants.{Normal}
 use Rattle.mtc_reader.specs.declared.event.MtcEvent.{MtcEvent}
 use Rattle.mtc_reader.specs.declared.event.MtcEvent.TheVariants.{Full, Quarter, RefusedFull, RefusedQuarter}
 use Rattle.mtc_reader.specs.Events.{events_in}
@@ -15,6 +14,7 @@ use Rattle.mtc_reader.specs.Laws.{at_no_place}
 use Rattle.mtc_reader.specs.Texts.{end_line}
 use Rattle.quarter_frame.specs.ReadAgain.{all_placed, pairs_read, placed, read_from, read_of, run_read, AreLabelled, Placed}
 use Rattle.quarter_frame.specs.Runs.{begins_run, goes_on, is_end, mtc_of}
+use Rattle.tc_words.specs.declared.flight.Flight.{Flight}
 use Rattle.tc_files.specs.declared.interval_file.header.IntervalHeader.{IntervalHeader}
 use Rattle.tc_files.specs.Recording.{recording_of}
 use Rattle.interval_commands.specs.Along.{IsWholeBehind, IsWholeOf}
@@ -99,15 +99,15 @@ last_is bytes fs read =
     ap₂ (λ (f q : ℕ). end_line (length bytes) f q (count_by is_refused (events_in bytes))) full quarter
     ∙ ap (end_line (length bytes) (count_by is_full (read_of fs)) (count_by is_quarter (read_of fs))) refused
 
-behind : AreReadBack → (limit : ℕ) (bytes written : List ℕ) (header : Option IntervalHeader) → (recording_of bytes).header ≡ header
-    → IsWholeBehind (time_code limit) header (recording_of bytes).intervals written → SendsTheFrames limit bytes written
-behind law limit bytes written None begins is = absurd is
-behind law limit bytes written (Some header) begins is =
+behind : AreReadBack → (flight : Flight) (bytes written : List ℕ) (header : Option IntervalHeader) → (recording_of bytes).header ≡ header
+    → IsWholeBehind (time_code flight) header (recording_of bytes).intervals written → SendsTheFrames flight bytes written
+behind law flight bytes written None begins is = absurd is
+behind law flight bytes written (Some header) begins is =
     let intervals = (recording_of bytes).intervals in
-    let fs = frames_of limit intervals is.events in
+    let fs = frames_of flight.limit intervals is.events in
     let read : map at_no_place (events_in written) ≡ read_of fs =
     ap (λ (l : List ℕ). map at_no_place (events_in l)) (is.are ∙ append-nil (mtc_of fs))
-    ∙ law limit (sum intervals) (words_heard is.events) (labels_heard header.system Normal intervals is.events is.are_events) in
+    ∙ law flight.limit (sum intervals) (words_heard is.events) (labels_heard header.system flight.profile intervals is.events is.are_events) in
     record {
       header = header;
       begins = begins;
@@ -119,6 +119,6 @@ behind law limit bytes written (Some header) begins is =
       report = λ text output. output ∙ ap (λ (l : List ℕ). event_lines (events_in written) ++ l) (last_is written fs read);
     }
 
-pub sends_the_frames : AreReadBack → (limit : ℕ) (bytes written : List ℕ) → IsWholeOf (time_code limit) (recording_of bytes) written
-    → SendsTheFrames limit bytes written
-sends_the_frames law limit bytes written output = behind law limit bytes written _ refl output
+pub sends_the_frames : AreReadBack → (flight : Flight) (bytes written : List ℕ) → IsWholeOf (time_code flight) (recording_of bytes) written
+    → SendsTheFrames flight bytes written
+sends_the_frames law flight bytes written output = behind law flight bytes written _ refl output

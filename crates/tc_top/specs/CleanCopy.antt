@@ -25,9 +25,9 @@ pub record IsClean (j : Jamming) (input : Recording) (written : List ℕ) : Type
   pub header : IntervalHeader
   pub begins : input.header ≡ Some header
   pub events : List Event
-  pub are_events : AreEvents header.system Normal input.intervals events
+  pub are_events : AreEvents header.system j.flight.profile input.intervals events
   pub frames : List Frame
-  pub are_frames : frames ≡ frames_of j.limit input.intervals events
+  pub are_frames : frames ≡ frames_of j.flight.limit input.intervals events
   pub file : IsFile written (clean_header j header) (clean_intervals j frames)
   pub read : AreEvents header.system Normal (clean_intervals j frames) (clean_events j.cell frames)
   pub report : (text : List ℕ) → length (clean_intervals j frames) ≤ MAX_INTERVALS

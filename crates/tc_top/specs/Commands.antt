@@ -2,6 +2,7 @@
 use Rattle.std.specs.Prelude.{ℕ, List, Option, Some, None}
 use Rattle.biphase.specs.declared.profile.Profile.TheVariants.{Normal, Worn}
 use Rattle.tc_address.specs.Numbering.{number_of}
+use Rattle.tc_words.specs.declared.flight.Flight.{Flight}
 use Rattle.tc_words.specs.declared.job.Job.{Job}
 use Rattle.tc_words.specs.declared.job.Job.TheVariants.{LtcRead, LtcWorn, LtcFly, LtcMtc, LtcJam, LtcChase, MtcRead, Number, LabelOf, LtcMake}
 use Rattle.tc_words.specs.declared.job.Job.TheVariants.{LtcConvert, PcmLtc, LtcPcm, LtcLoad, VitcRead, VitcMake}
@@ -29,8 +30,8 @@ pub data Shape : Type 1 where
   writes_text : List ℕ → Shape
   -- it reads an interval file, and writes of its header and its intervals
   along_recording : Printing → Shape
-  -- it reads an interval file, and writes of the frames of its words, with at most so many invented ones in a row
-  along_its_frames : ℕ → FrameText → Shape
+  -- it reads an interval file, and writes of the frames of its words, which are had so
+  along_its_frames : Flight → FrameText → Shape
   -- it reads MIDI bytes
   along_midi_bytes : Shape
   -- it reads samples of sound, and slices them so
@@ -42,7 +43,7 @@ pub data Shape : Type 1 where
 abbrev pub meaning_by : Shape → Meaning
 meaning_by (writes_text text) = writes text
 meaning_by (along_recording printing) = along_intervals printing
-meaning_by (along_its_frames limit made) = along_intervals (along_frames limit made)
+meaning_by (along_its_frames flight made) = along_intervals (along_frames flight made)
 meaning_by along_midi_bytes = along_midi
 meaning_by (along_sound slicing) = along_samples slicing
 meaning_by along_line_file = along_fields
@@ -51,10 +52,10 @@ meaning_by along_line_file = along_fields
 abbrev pub shape_of : Job → Shape
 shape_of LtcRead = along_recording (report Normal)
 shape_of LtcWorn = along_recording (report Worn)
-shape_of (LtcFly limit) = along_its_frames limit lines_of_frames
-shape_of (LtcMtc limit) = along_its_frames limit messages_of_frames
-shape_of (LtcJam jam) = along_its_frames jam.limit (file_of_frames jam)
-shape_of (LtcChase run) = along_its_frames run.limit (lines_of_steps run)
+shape_of (LtcFly flight) = along_its_frames flight lines_of_frames
+shape_of (LtcMtc flight) = along_its_frames flight messages_of_frames
+shape_of (LtcJam jam) = along_its_frames jam.flight (file_of_frames jam)
+shape_of (LtcChase run) = along_its_frames run.flight (lines_of_steps run)
 shape_of MtcRead = along_midi_bytes
 shape_of (LtcMake stripe) = writes_text (made stripe)
 shape_of (LtcLoad run) = writes_text (load_text run)
@@ -77,7 +78,7 @@ HasMost (Some most) = Unit {0}
 
 -- a command of this shape has a limit of its own
 abbrev pub IsLimited : Shape → Type 0
-IsLimited (along_its_frames limit made) = HasMost made.most
+IsLimited (along_its_frames flight made) = HasMost made.most
 IsLimited _ = ⊥
 
 -- the jobs with a limit of the command's own

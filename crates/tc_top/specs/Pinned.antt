@@ -5,7 +5,7 @@ use Rattle.tc_words.specs.declared.job.Job.TheVariants.{LtcRead, LtcWorn, LtcFly
 abbrev pub IsPinned : Job → Type 0
 IsPinned LtcRead = Unit {0}
 IsPinned LtcWorn = Unit {0}
-IsPinned (LtcFly limit) = Unit {0}
+IsPinned (LtcFly flight) = Unit {0}
 IsPinned (LtcJam jam) = Unit {0}
 IsPinned (LtcChase run) = Unit {0}
 IsPinned (LtcMake stripe) = Unit {0}

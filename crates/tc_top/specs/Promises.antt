@@ -26,8 +26,8 @@ use Rattle.tc_top.specs.Tape.{ReportsTheTape}
 abbrev pub Promise : Job → Exchange → Type 0
 Promise LtcRead e = ReportsTheTape Normal e.pulled e.written
 Promise LtcWorn e = ReportsTheTape Worn e.pulled e.written
-Promise (LtcFly limit) e = ShowsTheFrames limit e.pulled e.written
-Promise (LtcMtc limit) e = SendsTheFrames limit e.pulled e.written
+Promise (LtcFly flight) e = ShowsTheFrames flight e.pulled e.written
+Promise (LtcMtc flight) e = SendsTheFrames flight e.pulled e.written
 Promise (LtcJam jam) e = IsClean jam (recording_of e.pulled) e.written
 Promise (LtcChase run) e = FollowsTheCode run (recording_of e.pulled) e.written
 Promise MtcRead e = Unit {0}

@@ -1,6 +1,5 @@
 -- What `ltc-mtc` sends of a recording is what `mtc-read` reads in it: the frames of the recording.
 use Rattle.std.specs.Prelude.{◌≡◌, ℕ, List, ◌++◌, length, map, count_by, Some}
-use Rattle.biphase.specs.declared.profile.Profile.TheVariants.{Normal}
 use Rattle.direction_reader.specs.declared.event.Event.{Event}
 use Rattle.direction_reader.specs.ListEvents.{AreEvents}
 use Rattle.mtc_reader.specs.declared.event.MtcEvent.{MtcEvent}
@@ -10,6 +9,7 @@ use Rattle.mtc_reader.specs.Texts.{end_line}
 use Rattle.quarter_frame.specs.ReadAgain.{read_of}
 use Rattle.tc_files.specs.declared.interval_file.header.IntervalHeader.{IntervalHeader}
 use Rattle.tc_files.specs.Recording.{recording_of}
+use Rattle.tc_words.specs.declared.flight.Flight.{Flight}
 use Rattle.tc_words.specs.declared.job.Job.TheVariants.{MtcRead}
 use Rattle.tc_top.specs.Commands.{meaning_of}
 use Rattle.tc_command.specs.Meaning.{Meaning}
@@ -20,16 +20,16 @@ use Rattle.frame_commands.specs.OfFrames.{frames_of}
 abbrev pub none_refused : List ℕ → List MtcEvent → List ℕ
 none_refused bytes labels = end_line (length bytes) (count_by is_full labels) (count_by is_quarter labels) 0
 
--- the labels that a reader finds in what was written are those of the frames of the recording, with a limit of invented ones: run by run a full
+-- the labels that a reader finds in what was written are those of the frames of the recording, which are had so: run by run a full
 -- message with the first label, and then one label for each two frames. And the report of `mtc-read` of it is known: a line for each of these
 -- labels, with the place where it is complete, and the last line that counts them
-pub record SendsTheFrames (limit : ℕ) (bytes written : List ℕ) : Type 0 where
+pub record SendsTheFrames (flight : Flight) (bytes written : List ℕ) : Type 0 where
   pub header : IntervalHeader
   pub begins : (recording_of bytes).header ≡ Some header
   pub events : List Event
-  pub are_events : AreEvents header.system Normal (recording_of bytes).intervals events
+  pub are_events : AreEvents header.system flight.profile (recording_of bytes).intervals events
   pub labels : List MtcEvent
-  pub are_labels : labels ≡ read_of (frames_of limit (recording_of bytes).intervals events)
+  pub are_labels : labels ≡ read_of (frames_of flight.limit (recording_of bytes).intervals events)
   pub read : map at_no_place (events_in written) ≡ labels
   pub report : (text : List ℕ) → Meaning.output (meaning_of MtcRead) written text
       → text ≡ event_lines (events_in written) ++ none_refused written labels

@@ -1,6 +1,6 @@
 //! What each job writes of an input keeps its promise.
-ghost use Rattle.std.specs.Prelude.{ℕ};
 ghost use Rattle.tc_files.specs.declared.interval_file.header.FileVersion.{FileVersion};
+ghost use Rattle.tc_words.specs.declared.flight.Flight.{Flight};
 ghost use Rattle.tc_words.specs.declared.job.Job.{Job};
 ghost use Rattle.tc_top.specs.Promises.{KeepsItsPromise};
 
@@ -54,14 +54,14 @@ fn reports_the_tape()
 
 /// The lines are those of the frames of the file: its words, and invented frames that are marked and bounded.
 fn shows_the_frames()
-    ensures { (limit : ℕ) → KeepsItsPromise (Job.LtcFly limit) }
+    ensures { (flight : Flight) → KeepsItsPromise (Job.LtcFly flight) }
 {
     invention_is_bounded_and_marked();
 }
 
 /// What is sent is read as the frames of the file, and reported so.
 fn sends_the_frames()
-    ensures { (limit : ℕ) → KeepsItsPromise (Job.LtcMtc limit) }
+    ensures { (flight : Flight) → KeepsItsPromise (Job.LtcMtc flight) }
 {
     what_is_sent_is_read_back();
 }

@@ -78,8 +78,8 @@ fn work_on<S: Source, K: Sink>(job: &Job, source: &mut S, out: &mut K) -> Result
     match job {
         Job::LtcRead => read_recording(Profile::Normal, source, out),
         Job::LtcWorn => read_recording(Profile::Worn, source, out),
-        Job::LtcFly { limit } => fly_along(*limit, source, out),
-        Job::LtcMtc { limit } => send_time_code(*limit, source, out),
+        Job::LtcFly { flight } => fly_along(*flight, source, out),
+        Job::LtcMtc { flight } => send_time_code(*flight, source, out),
         Job::LtcJam { jam } => jam_sync(*jam, source, out),
         Job::LtcChase { run } => chase_code(*run, source, out),
         Job::LtcMake { stripe } => make_recording(stripe, source, out),

@@ -10,11 +10,11 @@ use Rattle.frame_commands.proofs.flight.FlightToBehind.interval.Goals as goal
 -- no word came: the frames that were due were sent
 pub returns-in-Nothing-clause-works : goal.returns-in-Nothing-clause-works
 returns-in-Nothing-clause-works g c =
-    let f = c.args.self.now.flight in
+    let f = c.args.self.now.frames in
     let next = c.give_due.new.self in
     let reader = c.give_due.ensures.reader in
     on_ok c.give_due.result c.give_due.ensures.gives (λ h choice header intervals written stands.
-    flown g.T.FrameSink.limit g.T.FrameSink.made g.T.FrameSink.given f next c.args.self.now.sink c.give_due.new.sink choice header intervals written c.args.x
+    flown g.T.FrameSink.flight g.T.FrameSink.made g.T.FrameSink.given f next c.args.self.now.sink c.give_due.new.sink choice header intervals written c.args.x
     no_events h.0 _ _ stands
     (subst (λ (r : Reading). Takes f.reader c.args.x r) (sym reader) c.step.ensures.next)
     (subst (λ (r : Reading). Reads f.reader r c.args.x no_events) (sym reader) (λ xs es st. c.in-Nothing.ensures.stands xs es no_events st refl))
@@ -26,11 +26,11 @@ returns-in-Nothing-clause-works g c =
 -- a front of them was
 pub returns-in-Nothing-clause-front : goal.returns-in-Nothing-clause-front
 returns-in-Nothing-clause-front g c =
-    let f = c.args.self.now.flight in
+    let f = c.args.self.now.frames in
     if_err c.give_due.result (err_both _ _ c.give_due.result c.give_due.ensures.why c.give_due.ensures.front) (λ stop h. (
       h.0,
       (λ choice header intervals written stands.
-          flown_part g.T.FrameSink.limit g.T.FrameSink.made g.T.FrameSink.given f c.step.new.self c.args.self.now.sink choice header intervals written c.args.x
+          flown_part g.T.FrameSink.flight g.T.FrameSink.made g.T.FrameSink.given f c.step.new.self c.args.self.now.sink choice header intervals written c.args.x
           no_events h.1.0 _ _ stands c.step.ensures.next
           (λ xs es st. c.in-Nothing.ensures.stands xs es no_events st refl) c.a_reader_gives_the_events_of_its_list.ensures
           (subst (λ (t : ℕ). GivesDueAllFirst f.wheel t [] h.1.0) c.tick-tick.ensures.value (due_alone_first f.wheel c.tick-tick.result h.1.0 h.1.2))
@@ -54,11 +54,11 @@ returns-in_default-clause-fits g c =
 -- the frames that were due, and those of the words, were sent
 pub returns-in_default-clause-works : goal.returns-in_default-clause-works
 returns-in_default-clause-works g c =
-    let f = c.args.self.now.flight in
+    let f = c.args.self.now.frames in
     let next = c.hear_all.new.self in
     let reader = c.hear_all.ensures.reader in
     on_ok c.hear_all.result c.hear_all.ensures.gives (λ h choice header intervals written stands.
-    flown g.T.FrameSink.limit g.T.FrameSink.made g.T.FrameSink.given f next c.args.self.now.sink c.hear_all.new.sink choice header intervals written c.args.x
+    flown g.T.FrameSink.flight g.T.FrameSink.made g.T.FrameSink.given f next c.args.self.now.sink c.hear_all.new.sink choice header intervals written c.args.x
     h.0 h.1 _ _ stands
     (subst (λ (r : Reading). Takes f.reader c.args.x r) (sym reader) c.step.ensures.next)
     (subst (λ (r : Reading). Reads f.reader r c.args.x h.0) (sym reader) (λ xs es st. c.step.ensures.stands xs es h.0 st h.2))
@@ -69,12 +69,12 @@ returns-in_default-clause-works g c =
 -- a front of them was
 pub returns-in_default-clause-front : goal.returns-in_default-clause-front
 returns-in_default-clause-front g c =
-    let f = c.args.self.now.flight in
+    let f = c.args.self.now.frames in
     if_err c.hear_all.result (err_both _ _ c.hear_all.result c.hear_all.ensures.why c.hear_all.ensures.front) (λ stop h. (
       h.0,
       (λ choice header intervals written stands.
           let e = h.1 in
-          flown_part g.T.FrameSink.limit g.T.FrameSink.made g.T.FrameSink.given f c.step.new.self c.args.self.now.sink choice header intervals written c.args.x
+          flown_part g.T.FrameSink.flight g.T.FrameSink.made g.T.FrameSink.given f c.step.new.self c.args.self.now.sink choice header intervals written c.args.x
           e.0 e.1 _ _ stands c.step.ensures.next
           (λ xs es st. c.step.ensures.stands xs es e.0 st e.2) c.a_reader_gives_the_events_of_its_list.ensures e.4 e.3),
     ))

@@ -2,7 +2,7 @@ use Rattle.std.proofs.Common.{[], List, sym, subst, append-nil}
 use Rattle.flywheel.specs.declared.frame.Frame.{Frame}
 use Rattle.flywheel.specs.StandsFor as flies
 use Rattle.frame_commands.proofs.FramesInOrder.{none_counted, sends_none}
-use Rattle.frame_commands.proofs.flight.Flight.give_due.Goals as goal
+use Rattle.frame_commands.proofs.flight.FrameReader.give_due.Goals as goal
 
 -- nothing is due
 pub returns-else-due-clause-gives : goal.returns-else-due-clause-gives

@@ -2,10 +2,10 @@ use Rattle.std.proofs.Common.{◌≡◌, ◌++◌, ◌∷◌, [], ℕ, List, ref
 use Rattle.flywheel.specs.declared.frame.Frame.{Frame}
 use Rattle.flywheel.specs.Frames.{frames}
 use Rattle.flywheel.specs.StandsFor as flies
-use Rattle.frame_commands.specs.declared.flight.Flight.{Flight}
+use Rattle.frame_commands.specs.declared.flight.FrameReader.{FrameReader}
 use Rattle.tc_command.specs.KeptWorks.{at_err}
 use Rattle.frame_commands.proofs.FramesInOrder.{both_counted, none_counted, not_heard, one_counted, sends_both, sends_none, sends_then_front}
-use Rattle.frame_commands.proofs.flight.Flight.pass.Goals as goal
+use Rattle.frame_commands.proofs.flight.FrameReader.pass.Goals as goal
 
 -- nothing was sent yet
 pub due-init : goal.due-init
@@ -35,13 +35,13 @@ due-preserved g c =
     let m = i.given in
     let frame = c.in-Some.frame in
     let e = c.in_ok-push.ensures in
-    let mid : Flight = record c.due.self { wheel = c.passed.new.self } in
+    let mid : FrameReader = record c.due.self { wheel = c.passed.new.self } in
     let kind = not_heard frame c.args.tick mid c.in-Some.ensures.past in
-    let heard : c.push.new.self.heard ≡ c.due.self.heard = ap (λ (f : Flight). f.heard) e.counted ∙ kind.0 in
+    let heard : c.push.new.self.heard ≡ c.due.self.heard = ap (λ (f : FrameReader). f.heard) e.counted ∙ kind.0 in
     let fewer = c.in-Some.ensures.fewer in
     let fits = i.fits in
-    let invented = ap (λ (f : Flight). f.invented) e.counted in
-    let gone = ap (λ (f : Flight). f.gone) e.counted in
+    let invented = ap (λ (f : FrameReader). f.invented) e.counted in
+    let gone = ap (λ (f : FrameReader). f.gone) e.counted in
     record {
       reader = e.reader ∙ i.reader;
       heard = heard ∙ i.heard;

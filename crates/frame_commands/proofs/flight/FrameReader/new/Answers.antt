@@ -2,7 +2,7 @@ use Rattle.std.proofs.Common.{refl, ap, arith}
 use Rattle.direction_reader.specs.Reader.{Reading}
 use Rattle.direction_reader.specs.Tracker.{profile_of}
 use Rattle.flywheel.specs.Wheel.{Wheel}
-use Rattle.frame_commands.proofs.flight.Flight.new.Goals as goal
+use Rattle.frame_commands.proofs.flight.FrameReader.new.Goals as goal
 
 -- nothing was read and no frame was given
 pub returns : goal.returns

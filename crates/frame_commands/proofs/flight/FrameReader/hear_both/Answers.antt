@@ -5,7 +5,7 @@ use Rattle.frame_commands.specs.KeptFlight.{GivesAll, GivesFirst}
 use Rattle.frame_commands.specs.OfFrames.{words_heard}
 use Rattle.tc_command.specs.KeptWorks.{on_ok, on_err, at_err}
 use Rattle.frame_commands.proofs.FramesInOrder.{both_counted, first_comes_first, gives_both, all_come_first, sends_both, sends_then_front, words_of_both}
-use Rattle.frame_commands.proofs.flight.Flight.hear_both.Goals as goal
+use Rattle.frame_commands.proofs.flight.FrameReader.hear_both.Goals as goal
 
 -- the frame of the first event was not taken
 pub returns-in_err-hear-clause-front : goal.returns-in_err-hear-clause-front

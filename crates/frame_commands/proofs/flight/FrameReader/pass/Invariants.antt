@@ -4,7 +4,7 @@ use Rattle.flywheel.specs.declared.heard.HeardWord.{HeardWord}
 use Rattle.flywheel.specs.StandsFor as flies
 use Rattle.flywheel.specs.Wheel.{frames_left}
 use Rattle.frame_commands.specs.KeptFlight.{Counts, FitsFrames, HeardBy, Sends}
-use Rattle.frame_commands.proofs.flight.Flight.pass.Given as goal
+use Rattle.frame_commands.proofs.flight.FrameReader.pass.Given as goal
 
 -- the frames that were due so far were counted and sent
 abbrev pub invariant-due : goal.invariant-due

@@ -1,6 +1,6 @@
 use Rattle.std.proofs.Common.{[]}
 use Rattle.frame_commands.proofs.FramesInOrder.{gives_none, none_counted, sends_none}
-use Rattle.frame_commands.proofs.flight.Flight.hear.Goals as goal
+use Rattle.frame_commands.proofs.flight.FrameReader.hear.Goals as goal
 
 -- no word
 pub returns-in-Some-Refused-clause-gives : goal.returns-in-Some-Refused-clause-gives

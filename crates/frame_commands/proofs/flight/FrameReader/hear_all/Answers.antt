@@ -4,7 +4,7 @@ use Rattle.frame_commands.specs.KeptFlight.{GivesDueAll, GivesDueAllFirst}
 use Rattle.frame_commands.specs.OfFrames.{words_heard}
 use Rattle.tc_command.specs.KeptWorks.{on_ok, on_err, at_err}
 use Rattle.frame_commands.proofs.FramesInOrder.{both_counted, both_later, due_and_first, due_and_words, sends_both, sends_then_front}
-use Rattle.frame_commands.proofs.flight.Flight.hear_all.Goals as goal
+use Rattle.frame_commands.proofs.flight.FrameReader.hear_all.Goals as goal
 
 -- a frame that was due was not taken
 pub returns-in_err-give_due-clause-front : goal.returns-in_err-give_due-clause-front

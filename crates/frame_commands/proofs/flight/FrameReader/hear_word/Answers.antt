@@ -1,6 +1,6 @@
 use Rattle.std.proofs.Common.{refl, arith}
 use Rattle.frame_commands.proofs.FramesInOrder.{one_counted}
-use Rattle.frame_commands.proofs.flight.Flight.hear_word.Goals as goal
+use Rattle.frame_commands.proofs.flight.FrameReader.hear_word.Goals as goal
 
 -- the word is heard, counted and sent
 pub returns-clause-gives : goal.returns-clause-gives
