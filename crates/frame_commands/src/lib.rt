@@ -20,8 +20,10 @@ pub mod laws;
 mod ltc_chase;
 mod ltc_fly;
 mod ltc_mtc;
+mod ltc_spans;
 
 pub use jam::jam_sync;
 pub use ltc_chase::{MAX_FRAMES, chase_code};
 pub use ltc_fly::fly_along;
 pub use ltc_mtc::send_time_code;
+pub use ltc_spans::tell_spans;

@@ -8,5 +8,6 @@ mod PinnedText
 mod ReportsTheTape
 mod SentIsRead
 mod SlicedAgain
+mod SpansOfTheTape
 mod StoppedAnswer
 mod WordsAnswer

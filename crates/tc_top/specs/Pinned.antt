@@ -1,11 +1,12 @@
 -- The commands whose promise names one text: it can be kept by no other bytes.
 use Rattle.tc_words.specs.declared.job.Job.{Job}
-use Rattle.tc_words.specs.declared.job.Job.TheVariants.{LtcRead, LtcWorn, LtcFly, LtcJam, LtcChase, LtcMake, LtcLoad, LtcConvert, VitcMake}
+use Rattle.tc_words.specs.declared.job.Job.TheVariants.{LtcRead, LtcWorn, LtcFly, LtcSpans, LtcJam, LtcChase, LtcMake, LtcLoad, LtcConvert, VitcMake}
 
 abbrev pub IsPinned : Job → Type 0
 IsPinned LtcRead = Unit {0}
 IsPinned LtcWorn = Unit {0}
 IsPinned (LtcFly flight) = Unit {0}
+IsPinned (LtcSpans flight) = Unit {0}
 IsPinned (LtcJam jam) = Unit {0}
 IsPinned (LtcChase run) = Unit {0}
 IsPinned (LtcMake stripe) = Unit {0}
