@@ -9,7 +9,7 @@ ghost use Rattle.tc_command.specs.Ran.{CameToItsEnd, StoppedBefore};
 ghost use Rattle.interval_commands.specs.Along.{along_intervals};
 ghost use Rattle.frame_commands.specs.LtcChase.{chased_recording};
 
-use crate::flight::{FrameReader, FlightTo};
+use crate::flight::{FlightTo, FrameReader};
 use crate::frame_sink::FrameSink;
 use chase_script::{step_end_text, step_text};
 use code_chase::CodeChase;

@@ -5,7 +5,7 @@ ghost use Rattle.tc_command.specs.Ran.{CameToItsEnd, StoppedBefore};
 ghost use Rattle.interval_commands.specs.Along.{along_intervals};
 ghost use Rattle.frame_commands.specs.LtcFly.{flown_recording};
 
-use crate::flight::{FrameReader, FlightTo};
+use crate::flight::{FlightTo, FrameReader};
 use crate::frame_sink::FrameSink;
 use flywheel::Frame;
 use interval_commands::work_along;
@@ -15,7 +15,11 @@ use tc_io::{Sink, Source};
 use tc_words::Flight;
 
 /// Works `ltc-fly`: a line for each frame of a recording, where its frames are had so.
-pub fn fly_along<S: Source, K: Sink>(flight: Flight, source: &mut S, out: &mut K) -> Result<(), Stop>
+pub fn fly_along<S: Source, K: Sink>(
+    flight: Flight,
+    source: &mut S,
+    out: &mut K,
+) -> Result<(), Stop>
     ensures ends { OnOk result (CameToItsEnd (along_intervals (flown_recording flight)) (S.left source.old) (S.left source.new)
         (K.written out.old) (K.written out.new)) }
     ensures stops { IfErr result (λ stop. StoppedBefore (along_intervals (flown_recording flight)) stop (S.left source.old) (S.left source.new)

@@ -5,7 +5,7 @@ ghost use Rattle.tc_command.specs.Ran.{CameToItsEnd, StoppedBefore};
 ghost use Rattle.interval_commands.specs.Along.{along_intervals};
 ghost use Rattle.frame_commands.specs.LtcMtc.{time_code};
 
-use crate::flight::{FrameReader, FlightTo};
+use crate::flight::{FlightTo, FrameReader};
 use crate::frame_sink::FrameSink;
 use flywheel::Frame;
 use interval_commands::work_along;
