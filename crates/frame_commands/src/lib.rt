@@ -10,7 +10,7 @@
 //!   `ltc-chase` each loss has its cause (`specs/LtcChase.antt`).
 //! - What they make of frames comes first, whatever frames follow (`laws`).
 //!
-//! Read `frame_sink`, `flight`, and then `ltc_fly`, `ltc_mtc`, `jam` and `ltc_chase`.
+//! Read `frame_sink`, `flight`, and then `ltc_fly`, `ltc_spans`, `ltc_mtc`, `jam` and `ltc_chase`.
 #![tactic(auto)]
 
 mod flight;
