@@ -2,12 +2,12 @@
 """A second reading of `ltc-spans`: makes the spans from the lines of `ltc-fly`, and compares.
 
     bench/spans_by_hand.py [PROGRAM [DAMAGED [FOLDER...]]]      bin/tc, 1000 and examples/ where none are named
-    bench/spans_by_hand.py --lines FILE.ltci LIMIT [worn]       prints the lines that are wanted
+    bench/spans_by_hand.py --words FILE.ltci REPORT LIMIT       prints the lines wanted of the words in a report of `ltc-read`
 
 Each recording (.ltci) of the folders is read in both versions, with several limits and both tolerances; and so are so many
 damaged ones, made of them by chance: intervals are dropped, lengthened, shortened and put in, and pieces of one recording
-are put behind those of another. It shares no code with the program but `ltc-fly`, whose lines it takes as they are. The
-seed is 1, or the environment's SEED.
+are put behind those of another. It shares no code with the program but `ltc-fly`, whose lines it takes as they are; with
+`--words` it flies by itself, by the rule in docs/FORMATS.md. The seed is 1, or the environment's SEED.
 """
 import os
 import random
@@ -127,6 +127,47 @@ def wanted(data, flight):
     return "".join(line + "\n" for line in written)
 
 
+# ---- frames, from the words of a report
+
+def moved(label, steps, rate):
+    """The label so many further, or back."""
+    day = day_of(rate, ";" in label)
+    number = (day[tuple(int(part) for part in label.replace(";", ":").split(":"))] + steps) % len(day)
+    if (rate, ";" in label) not in LISTS:
+        LISTS[rate, ";" in label] = list(day)
+    hours, minutes, seconds, frames = LISTS[rate, ";" in label][number]
+    return f"{hours:02}:{minutes:02}:{seconds:02}{';' if ';' in label else ':'}{frames:02}"
+
+
+LISTS = {}
+
+
+def flown(report, limit, rate):
+    """The lines of `ltc-fly`, from those of `ltc-read`."""
+    lines, before = [], None
+    total = int(report.splitlines()[-1].split()[-1])
+    words = [line.split() for line in report.splitlines() if line.startswith("word ")]
+    for direction, label, tick, length in [(w[1], w[2], int(w[w.index("tick") + 1]), int(w[w.index("length") + 1])) for w in words] + [
+            (None, None, total, 0)]:
+        steps, is_gone = 0, False
+        if before:
+            way, last, ended, lasted = before
+            sign = 1 if way == "forward" else -1
+            while 2 * (tick - ended) >= (2 * steps + 3) * lasted and not is_gone:
+                steps += 1
+                is_gone = steps > limit
+                lines.append(f"gone tick {ended + steps * lasted}" if is_gone else
+                             f"invented {way} {moved(last, sign * steps, rate)} step {steps} tick {ended + steps * lasted}")
+        if label:
+            joins = before and not is_gone and way == direction and moved(last, sign * (steps + 1), rate) == label
+            lines.append(f"heard {direction} {label} joined {int(bool(joins))} tick {tick}")
+            before = direction, label, tick, length
+    kinds = [line.split()[0] for line in lines]
+    intervals = report.splitlines()[-1].split()[2]
+    lines.append(f"end intervals {intervals} heard {kinds.count('heard')} invented {kinds.count('invented')} gone {kinds.count('gone')} ticks {total}")
+    return "".join(line + "\n" for line in lines)
+
+
 # ---- recordings
 
 def intervals_of(data):
@@ -197,10 +238,10 @@ def recordings_in(folders):
 
 def main():
     words = sys.argv[1:]
-    if words and words[0] == "--lines":
-        with open(words[1], "rb") as data:
-            read = data.read()
-        print(wanted(read, run(os.path.join(TOP, "bin", "tc"), ["ltc-fly", *words[2:]], read)[0]), end="")
+    if words and words[0] == "--words":
+        with open(words[1], "rb") as data, open(words[2], encoding="ascii") as report:
+            header = data.read(12)
+            print(wanted(header, flown(report.read(), int(words[3]), header[5])), end="")
         return
     program = words[0] if words else os.path.join(TOP, "bin", "tc")
     count = int(words[1]) if len(words) > 1 else 1000
