@@ -48,7 +48,8 @@ def kinds(program):
                   made(program, "ltc-make 30d backward 00:01:00;02 6 20 48000 40 1")]
     recordings += [made(program, "ltc-convert 2", one) for one in recordings]
     along = [("ltc-read", REPORT), ("ltc-worn", REPORT), ("ltc-rough", REPORT), ("ltc-fly 2", FLIGHT), ("ltc-fly 255", FLIGHT),
-             ("ltc-fly 2 worn", FLIGHT), ("ltc-fly 2 rough", FLIGHT), ("ltc-mtc 0", None), ("ltc-jam 2 20 48000", None),
+             ("ltc-fly 2 worn", FLIGHT), ("ltc-fly 2 rough", FLIGHT),
+             ("ltc-mtc 0", None), ("ltc-jam 2 20 48000", None),
              ("ltc-convert 1", None), ("ltc-convert 2", None), ("ltc-pcm 100", None),
              ("ltc-chase 25 17:17:17:17 2 1 8", TRACE), ("ltc-chase 30d 12:09:57;00 255 1795798542 1000", TRACE)]
     script = b"play,,00:00:00:00,forward,0\n,,00:00:00:01,forward,8\nlocate,00:00:02:00,,,-3\nwait,,,,\n,,00:00:00:03,backward,\n"

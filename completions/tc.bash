@@ -2,7 +2,7 @@
 _tc() {
     local word=${COMP_WORDS[COMP_CWORD]} command=${COMP_WORDS[1]} values=
     if [ "$COMP_CWORD" -eq 1 ]; then
-        values="ltc-read ltc-worn ltc-rough ltc-fly ltc-mtc ltc-jam ltc-make ltc-load ltc-convert pcm-ltc ltc-pcm mtc-read vitc-read vitc-make chase ltc-chase number label"
+        values="ltc-read ltc-worn ltc-rough ltc-fly ltc-spans ltc-mtc ltc-jam ltc-make ltc-load ltc-convert pcm-ltc ltc-pcm mtc-read vitc-read vitc-make chase ltc-chase number label"
     else
         case $command:$COMP_CWORD in
             number:2 | label:2 | ltc-make:2 | chase:2 | ltc-chase:2) values="24 25 30 30d" ;;
@@ -12,6 +12,7 @@ _tc() {
             pcm-ltc:2) values="24 25 30" ;;
             pcm-ltc:6) values="follow" ;;
             ltc-fly:3 | ltc-mtc:3 | ltc-jam:5 | ltc-chase:7) values="worn" ;;
+            ltc-fly:3 | ltc-spans:3 | ltc-mtc:3 | ltc-jam:5 | ltc-chase:7) values="worn" ;;
         esac
     fi
     mapfile -t COMPREPLY < <(compgen -W "$values" -- "$word")

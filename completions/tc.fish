@@ -4,6 +4,7 @@ complete -c tc -n '__fish_is_first_arg' -a ltc-read -d 'the words of a recording
 complete -c tc -n '__fish_is_first_arg' -a ltc-worn -d 'the same with the tolerance of worn tapes'
 complete -c tc -n '__fish_is_first_arg' -a ltc-rough -d 'the same with the tolerance of hissy and dull tapes'
 complete -c tc -n '__fish_is_first_arg' -a ltc-fly -d 'the frames, missing ones invented and marked'
+complete -c tc -n '__fish_is_first_arg' -a ltc-spans -d 'what is on a tape: its spans and the gaps between them'
 complete -c tc -n '__fish_is_first_arg' -a ltc-mtc -d 'these frames as MIDI Time Code'
 complete -c tc -n '__fish_is_first_arg' -a ltc-jam -d 'a clean recording of these frames'
 complete -c tc -n '__fish_is_first_arg' -a ltc-make -d 'a recording of a run of labels'
@@ -25,5 +26,8 @@ complete -c tc -n '__fish_seen_subcommand_from ltc-convert; and test (count (com
 complete -c tc -n '__fish_seen_subcommand_from pcm-ltc; and test (count (commandline -opc)) -eq 2' -a '24 25 30'
 complete -c tc -n '__fish_seen_subcommand_from pcm-ltc; and test (count (commandline -opc)) -eq 6' -a follow
 complete -c tc -n '__fish_seen_subcommand_from ltc-fly ltc-mtc; and test (count (commandline -opc)) -eq 3' -a worn
+complete -c tc -n '__fish_seen_subcommand_from ltc-jam; and test (count (commandline -opc)) -eq 5' -a worn
+complete -c tc -n '__fish_seen_subcommand_from ltc-chase; and test (count (commandline -opc)) -eq 7' -a worn
+complete -c tc -n '__fish_seen_subcommand_from ltc-fly ltc-spans ltc-mtc; and test (count (commandline -opc)) -eq 3' -a worn
 complete -c tc -n '__fish_seen_subcommand_from ltc-jam; and test (count (commandline -opc)) -eq 5' -a worn
 complete -c tc -n '__fish_seen_subcommand_from ltc-chase; and test (count (commandline -opc)) -eq 7' -a worn

@@ -142,13 +142,13 @@ counted_all flight made has f sink choice header intervals written s = record {
 -- what stands last of the frames given stands last of all
 pub ends_with : {S C : Type 0} (flight : C → Flight) (made : C → FrameText) (has : Given S C) (f : FrameReader) (sink : S) (choice : C) (header : IntervalHeader)
     (intervals written : List ℕ) (s : Stands flight made has f sink choice header intervals written)
-    → IsFlightWhole (flight choice) (made choice) header intervals (written ++ (made choice).last intervals s.given)
+    → IsFlightWhole (flight choice) (made choice) header intervals (written ++ (made choice).last header intervals s.given)
 ends_with flight made has f sink choice header intervals written s =
     let all : s.given ≡ frames_of (flight choice).limit intervals s.events =
     sym (ap (λ (n : ℕ). frames n (words_heard s.events) (sum intervals)) (sym s.limit_is) ∙ s.wheel.1) in
     record {
       events = s.events;
       are_events = s.are_events;
-      are = ap (λ (l : List ℕ). l ++ (made choice).last intervals s.given) s.are
-          ∙ ap (λ (fs : List Frame). (made choice).text header fs ++ (made choice).last intervals fs) all;
+      are = ap (λ (l : List ℕ). l ++ (made choice).last header intervals s.given) s.are
+          ∙ ap (λ (fs : List Frame). (made choice).text header fs ++ (made choice).last header intervals fs) all;
     }

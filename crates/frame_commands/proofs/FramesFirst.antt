@@ -26,7 +26,9 @@ use Rattle.tc_files.specs.declared.interval_file.header.IntervalHeader.{Interval
 use Rattle.tc_words.specs.ChaseRun.{Chasing}
 use Rattle.tc_words.specs.Jam.{Jamming}
 use Rattle.frame_commands.specs.LtcChase.{lines_of_steps, steps_over}
+use Rattle.tape_spans.specs.SpanTexts.{final_lines}
 use Rattle.frame_commands.specs.LtcFly.{lines_of_frames}
+use Rattle.frame_commands.specs.LtcSpans.{lines_of_spans}
 use Rattle.frame_commands.specs.LtcJam.{file_of_frames}
 use Rattle.frame_commands.specs.LtcMtc.{messages_of_frames}
 use Rattle.frame_commands.specs.KeptFrames.{AddsInOrder, IsAddedTo}
@@ -131,6 +133,17 @@ no_step_more c header fs more many =
 
 pub lines_in_order : AddsInOrder lines_of_frames
 lines_in_order = record { added = lines_are_added; none_more = λ header fs more many. absurd many }
+
+-- what the law of final lines says
+abbrev pub FinalLinesFirst : Type 0
+FinalLinesFirst = (tick_rate : ℕ) (system : System) (frames more : List Frame)
+    → (rest : List ℕ) × (final_lines tick_rate system (frames ++ more) ≡ final_lines tick_rate system frames ++ rest)
+
+pub spans_in_order : FinalLinesFirst → AddsInOrder lines_of_spans
+spans_in_order law = record {
+  added = λ header fs more. law header.tick_rate header.system fs more;
+  none_more = λ header fs more many. absurd many;
+}
 
 pub messages_in_order : ((fs more : List Frame) → (rest : List ℕ) × (mtc_of (fs ++ more) ≡ mtc_of fs ++ rest)) → AddsInOrder messages_of_frames
 messages_in_order law = record { added = messages_are_added law; none_more = λ header fs more many. absurd many }

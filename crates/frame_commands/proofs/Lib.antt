@@ -5,4 +5,5 @@ mod FramesFirst
 mod FramesInOrder
 mod LinesOfFrames
 mod MadeInOrder
+mod SpansOfFrames
 mod StepsGrow

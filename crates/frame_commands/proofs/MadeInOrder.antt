@@ -21,14 +21,14 @@ frames_in_order laws some one_list flight made adds = record {
       let frames = frames_first laws flight.limit header.system flight.profile front more one.events all.events one.are_events all.are_events in
       let text = adds.added header (frames_of flight.limit front one.events) frames.0 in
       let all_frames = frames_of flight.limit (front ++ more) all.events in
-      let last = made.last (front ++ more) all_frames in
+      let last = made.last header (front ++ more) all_frames in
       subst (IsFront a) (sym all.are)
       (front_of_more a (made.text header all_frames) text.0 last (ap (made.text header) frames.1 ∙ text.1 ∙ ap (λ l. l ++ text.0) (sym one.are)));
   one_part = λ header intervals a b one all.
       let part = λ (es : List Event). made.text header (frames_of flight.limit intervals es) in
       one.are ∙ ap part (one_list header.system flight.profile intervals _ _ one.are_events all.are_events) ∙ sym all.are;
   one_whole = λ header intervals a b one all.
-      let whole = λ (es : List Event). made.text header (frames_of flight.limit intervals es) ++ made.last intervals (frames_of flight.limit intervals es) in
+      let whole = λ (es : List Event). made.text header (frames_of flight.limit intervals es) ++ made.last header intervals (frames_of flight.limit intervals es) in
       one.are ∙ ap whole (one_list header.system flight.profile intervals _ _ one.are_events all.are_events) ∙ sym all.are;
   stays = λ header front more spent. flight_spent_stays laws some flight made header front more spent;
   limit = λ header front more a b spent part all.

@@ -1,8 +1,10 @@
 pub mod KeptFlight
 pub mod KeptFrames
+pub mod KeptSpans
 pub mod KeptSteps
 pub mod LtcChase
 pub mod LtcFly
 pub mod LtcJam
 pub mod LtcMtc
+pub mod LtcSpans
 pub mod OfFrames

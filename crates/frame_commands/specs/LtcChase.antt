@@ -30,7 +30,7 @@ first_steps most c frames = steps_over c (take most frames)
 abbrev pub lines_of_steps : Chasing → FrameText
 lines_of_steps c = record {
   text = λ header frames. step_lines c.label.count 1 (first_steps MAX_FRAMES c frames);
-  last = λ intervals frames. step_end_line (length (first_steps MAX_FRAMES c frames)) (count_by loses (first_steps MAX_FRAMES c frames));
+  last = λ header intervals frames. step_end_line (length (first_steps MAX_FRAMES c frames)) (count_by loses (first_steps MAX_FRAMES c frames));
   most = Some MAX_FRAMES;
 }
 

@@ -39,7 +39,7 @@ last_fly_line intervals fs =
 
 -- the lines of the frames, and the last line
 abbrev pub lines_of_frames : FrameText
-lines_of_frames = record { text = λ header fs. frame_lines fs; last = last_fly_line; most = None }
+lines_of_frames = record { text = λ header fs. frame_lines fs; last = λ header. last_fly_line; most = None }
 
 -- what is written of frames that are had so
 abbrev pub flown_recording : Flight → Printing

@@ -24,7 +24,7 @@ clean_file j header frames = file_of (clean_header j header) (clean_intervals j 
 
 -- this file, and nothing last
 abbrev pub file_of_frames : Jamming → FrameText
-file_of_frames j = record { text = clean_file j; last = λ intervals frames. []; most = None }
+file_of_frames j = record { text = clean_file j; last = λ header intervals frames. []; most = None }
 
 -- what is written
 abbrev pub clean_recording : Jamming → Printing

@@ -7,7 +7,7 @@ use Rattle.frame_commands.specs.OfFrames.{FrameText, along_frames}
 
 -- the messages of the frames, and nothing last
 abbrev pub messages_of_frames : FrameText
-messages_of_frames = record { text = λ header fs. mtc_of fs; last = λ intervals fs. []; most = None }
+messages_of_frames = record { text = λ header fs. mtc_of fs; last = λ header intervals fs. []; most = None }
 
 -- what is written of frames that are had so
 abbrev pub time_code : Flight → Printing

@@ -30,8 +30,8 @@ frames_of limit intervals events = frames limit (words_heard events) (sum interv
 pub record FrameText : Type 0 where
   -- what is written behind the header and these frames, before their end
   pub text : IntervalHeader → List Frame → List ℕ
-  -- what is written last, of the intervals and all of their frames
-  pub last : List ℕ → List Frame → List ℕ
+  -- what is written last behind this header, of the intervals and all of their frames
+  pub last : IntervalHeader → List ℕ → List Frame → List ℕ
   -- how many frames it takes at most, where it has a limit
   pub most : Option ℕ
 
@@ -50,7 +50,7 @@ pub record IsFlightPart (flight : Flight) (made : FrameText) (header : IntervalH
 pub record IsFlightWhole (flight : Flight) (made : FrameText) (header : IntervalHeader) (intervals written : List ℕ) : Type 0 where
   pub events : List Event
   pub are_events : AreEvents header.system flight.profile intervals events
-  pub are : written ≡ made.text header (frames_of flight.limit intervals events) ++ made.last intervals (frames_of flight.limit intervals events)
+  pub are : written ≡ made.text header (frames_of flight.limit intervals events) ++ made.last header intervals (frames_of flight.limit intervals events)
 
 -- the frames of the intervals are too many
 pub record IsFlightSpent (flight : Flight) (made : FrameText) (header : IntervalHeader) (intervals : List ℕ) : Type 0 where

@@ -1,7 +1,7 @@
 //! The way along the frames of a recording, the same for each command that makes something of them: words
 //! become frames, and a flywheel invents those that are missing. Next: `flywheel/src/heard.rt`, and with
 //! the frames `frame_sink`.
-ghost use Rattle.std.specs.Prelude.{◌≡◌, ◌≤◌, ◌<◌, ◌+◌, ◌*◌, ◌^◌, List, ◌∷◌, ◌++◌, [], ℕ, false, OnOk, OnErr, IfOk, IfErr, IfSome};
+ghost use Rattle.std.specs.Prelude.{◌≡◌, ◌≤◌, ◌<◌, ◌+◌, ◌-◌, ◌*◌, ◌^◌, List, ◌∷◌, ◌++◌, [], ℕ, false, OnOk, OnErr, IfOk, IfErr, IfSome};
 ghost use Rattle.std.specs.Io.KnownBytes.{Appends};
 ghost use Rattle.biphase.specs.declared.cell.TheConstants.{MAX_INTERVAL};
 ghost use Rattle.direction_reader.specs.declared.reader.TheConstants.{MAX_INTERVALS};
@@ -20,6 +20,7 @@ ghost use Rattle.frame_commands.specs.OfFrames.{words_heard};
 ghost use Rattle.frame_commands.specs.KeptFlight.{
   BeginsFlight,
   counted,
+  frames_counted,
   Counts,
   FitsFlight,
   FitsFrames,
@@ -81,9 +82,10 @@ impl FrameReader {
         out: &mut K,
     ) -> Result<(), Stop>
         requires line { FitsFrameLine frame.now }
-        requires heard { self.old.heard < 2 ^ 40 }
-        requires others { self.old.invented + self.old.gone < 2 ^ 40 }
+        requires few { frames_counted self.old < 2 ^ 40 - 1 }
+        requires room { T.taken sink.old ≤ frames_counted self.old }
         ensures counted { self.new ≡ counted frame.now self.old }
+        ensures room { T.taken sink.new ≤ frames_counted self.new }
         ensures reader { self.new.reader ≡ self.old.reader }
         ensures wheel { self.new.wheel ≡ self.old.wheel }
         ensures sends { OnOk result (Sends T.made T.given sink.old sink.new (K.written out.old) (K.written out.new) (frame.now ∷ [])) }
@@ -112,6 +114,8 @@ impl FrameReader {
         requires heard_by { HeardBy tick self.old.wheel }
         requires fits { FitsFrames self.old }
         requires few { self.old.heard ≤ 2 * MAX_INTERVALS }
+        requires room { T.taken sink.old ≤ frames_counted self.old }
+        ensures room { T.taken sink.new ≤ frames_counted self.new }
         ensures reader { self.new.reader ≡ self.old.reader }
         ensures heard { self.new.heard ≡ self.old.heard }
         ensures limit { self.new.wheel.limit ≡ self.old.wheel.limit }
@@ -148,6 +152,8 @@ impl FrameReader {
         requires none_due { has_frame_due self.old.wheel tick ≡ false }
         requires fits { FitsFrames self.old }
         requires few { self.old.heard ≤ 2 * MAX_INTERVALS + 1 }
+        requires room { T.taken sink.old ≤ frames_counted self.old }
+        ensures room { T.taken sink.new ≤ frames_counted self.new }
         ensures reader { self.new.reader ≡ self.old.reader }
         ensures heard { self.new.heard ≤ self.old.heard + 1 }
         ensures limit { self.new.wheel.limit ≡ self.old.wheel.limit }
@@ -195,6 +201,8 @@ impl FrameReader {
         requires none_due { has_frame_due self.old.wheel word.now.tick ≡ false }
         requires fits { FitsFrames self.old }
         requires few { self.old.heard ≤ 2 * MAX_INTERVALS + 1 }
+        requires room { T.taken sink.old ≤ frames_counted self.old }
+        ensures room { T.taken sink.new ≤ frames_counted self.new }
         ensures reader { self.new.reader ≡ self.old.reader }
         ensures heard { self.new.heard ≡ self.old.heard + 1 }
         ensures limit { self.new.wheel.limit ≡ self.old.wheel.limit }
@@ -226,6 +234,8 @@ impl FrameReader {
         requires none_due { has_frame_due self.old.wheel tick ≡ false }
         requires fits { FitsFrames self.old }
         requires few { self.old.heard ≤ 2 * MAX_INTERVALS }
+        requires room { T.taken sink.old ≤ frames_counted self.old }
+        ensures room { T.taken sink.new ≤ frames_counted self.new }
         ensures reader { self.new.reader ≡ self.old.reader }
         ensures heard { OnOk result (self.new.heard ≤ self.old.heard + 2) }
         ensures limit { self.new.wheel.limit ≡ self.old.wheel.limit }
@@ -256,6 +266,8 @@ impl FrameReader {
         requires heard_by { HeardBy tick self.old.wheel }
         requires fits { FitsFrames self.old }
         requires few { self.old.heard ≤ 2 * MAX_INTERVALS }
+        requires room { T.taken sink.old ≤ frames_counted self.old }
+        ensures room { T.taken sink.new ≤ frames_counted self.new }
         ensures reader { self.new.reader ≡ self.old.reader }
         ensures heard { self.new.heard ≡ self.old.heard }
         ensures limit { self.new.wheel.limit ≡ self.old.wheel.limit }
@@ -291,6 +303,8 @@ impl FrameReader {
         requires heard_by { HeardBy self.old.reader.tick self.old.wheel }
         requires fits { FitsFrames self.old }
         requires few { self.old.heard ≤ 2 * MAX_INTERVALS }
+        requires room { T.taken sink.old ≤ frames_counted self.old }
+        ensures room { T.taken sink.new ≤ frames_counted self.new }
         ensures reader { self.new.reader ≡ self.old.reader }
         ensures heard { OnOk result (self.new.heard ≤ self.old.heard + 2) }
         ensures limit { self.new.wheel.limit ≡ self.old.wheel.limit }
@@ -310,6 +324,22 @@ impl FrameReader {
         let events = self.reader.events(brought);
         self.give_due(tick, sink, out)?;
         self.hear_both(events, tick, sink, out)
+    }
+
+    /// How many intervals were read.
+    pub(crate) fn intervals(&self) -> u64
+        ensures value { result ≡ self.now.reader.intervals }
+        ensures most { result < 2 ^ 40 }
+    {
+        self.reader.intervals()
+    }
+
+    /// Their sum in ticks.
+    pub(crate) fn ticks(&self) -> u64
+        ensures value { result ≡ self.now.reader.tick }
+        ensures most { result < 2 ^ 60 }
+    {
+        self.reader.tick()
     }
 
     /// The line that counts what was given.
@@ -337,14 +367,14 @@ pub(crate) struct FlightTo<T: FrameSink> {
 
 impl<T: FrameSink> Behind for FlightTo<T> {
     ghost use Rattle.std.specs.Prelude.{⊤};
-    ghost use Rattle.frame_commands.specs.KeptFlight.{FitsFlight, Stands, stands_well};
+    ghost use Rattle.frame_commands.specs.KeptFlight.{FitsSink, Stands, stands_well};
     ghost use Rattle.frame_commands.specs.OfFrames.{along_frames};
 
     type Choice = T::Choice;
 
     ghost printing = { λ choice. along_frames (T.flight choice) (T.made choice) };
 
-    ghost fits = { λ s count. FitsFlight s.frames count };
+    ghost fits = { λ s count. FitsSink s.frames (T.taken s.sink) count };
 
     ghost stands = { λ s choice header intervals written. Stands T.flight T.made T.given s.frames s.sink choice header intervals written };
 

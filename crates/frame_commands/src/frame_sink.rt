@@ -1,6 +1,6 @@
 //! What a command makes of the frames of a recording. Next: `ltc_fly`, `ltc_spans`, `ltc_mtc`, `jam` and
 //! `ltc_chase`.
-ghost use Rattle.std.specs.Prelude.{◌≡◌, ℕ, true, false, List, [], ◌∷◌, ◌++◌, OnOk, OnErr, IfOk, IfErr};
+ghost use Rattle.std.specs.Prelude.{◌≡◌, ℕ, true, false, List, [], ◌∷◌, ◌++◌, ◌+◌, ◌-◌, ◌<◌, ◌≤◌, ◌^◌, OnOk, OnErr, IfOk, IfErr};
 ghost use Rattle.std.specs.Io.KnownBytes.{Appends};
 ghost use Rattle.flywheel.specs.declared.frame.Frame.{Frame};
 ghost use Rattle.tc_files.specs.declared.interval_file.header.IntervalHeader.{IntervalHeader};
@@ -32,6 +32,9 @@ pub(crate) trait FrameSink: Drop {
     /// It was begun with this choice and this header, and was given these frames.
     ghost given: { Self → Self.Choice → IntervalHeader → List Frame → Type 0 };
 
+    /// How many frames it has counted, at most as many as it was given.
+    ghost taken: { Self → ℕ };
+
     /// How the frames are had.
     fn flight(choice: Self::Choice) -> Flight
         ensures { result ≡ flight choice };
@@ -44,13 +47,16 @@ pub(crate) trait FrameSink: Drop {
     ) -> Result<Self, Stop>
         ensures begins { IfOk result (λ sink. given sink choice header.now []
             × Appends (K.written out.old) (K.written out.new) (FrameText.text (made choice) header.now [])) }
+        ensures none { IfOk result (λ sink. taken sink ≡ 0) }
         ensures front { IfErr result (λ stop. (stop ≡ Stop.WriteFault)
             × AppendsFront (K.written out.old) (K.written out.new) (FrameText.text (made choice) header.now [])) }
         ensures cause { HasOutCause (K.faults out.old) (K.faults out.new) result };
 
     /// Writes what the next frame brings.
     fn frame<K: Sink>(&mut self, frame: &Frame, out: &mut K) -> Result<(), Stop>
-        requires { FitsFrameLine frame.now }
+        requires line { FitsFrameLine frame.now }
+        requires room { taken self.old < 2 ^ 40 - 1 }
+        ensures taken { taken self.new ≤ taken self.old + 1 }
         ensures sends { OnOk result (Sends made given self.old self.new (K.written out.old) (K.written out.new) (frame.now ∷ [])) }
         ensures front { OnErr result (SendsFront made given self.old (K.written out.old) (K.written out.new) (frame.now ∷ [])) }
         ensures why { IfErr result (λ stop. stop ≡ Stop.WriteFault) }
@@ -65,13 +71,14 @@ pub(crate) trait FrameSink: Drop {
 
     /// Writes what stands last. The reader has counted what was given.
     fn finish<K: Sink>(&self, reader: &FrameReader, out: &mut K) -> Result<(), Stop>
-        requires { FitsFlight reader.now reader.now.reader.intervals }
+        requires fits { FitsFlight reader.now reader.now.reader.intervals }
+        requires room { taken self.now < 2 ^ 40 }
         ensures ends { OnOk result ((choice : Self.Choice) (header : IntervalHeader) (intervals : List ℕ) (frames : List Frame)
             → given self.now choice header frames → CountsAll reader.now intervals frames
-            → Appends (K.written out.old) (K.written out.new) (FrameText.last (made choice) intervals frames)) }
+            → Appends (K.written out.old) (K.written out.new) (FrameText.last (made choice) header intervals frames)) }
         ensures front { OnErr result ((choice : Self.Choice) (header : IntervalHeader) (intervals : List ℕ) (frames : List Frame)
             → given self.now choice header frames → CountsAll reader.now intervals frames
-            → AppendsFront (K.written out.old) (K.written out.new) (FrameText.last (made choice) intervals frames)) }
+            → AppendsFront (K.written out.old) (K.written out.new) (FrameText.last (made choice) header intervals frames)) }
         ensures why { IfErr result (λ stop. stop ≡ Stop.WriteFault) }
         ensures cause { HasOutCause (K.faults out.old) (K.faults out.new) result };
 }

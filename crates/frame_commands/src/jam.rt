@@ -50,6 +50,8 @@ impl FrameSink for CleanRecording {
 
     ghost given = { λ s jam header frames. s.jam ≡ jam };
 
+    ghost taken = { λ _. 0 };
+
     fn flight(jam: Jam) -> Flight {
         jam.flight()
     }

@@ -14,6 +14,7 @@ ghost use Rattle.frame_commands.specs.LtcChase.{lines_of_steps};
 ghost use Rattle.frame_commands.specs.LtcFly.{lines_of_frames};
 ghost use Rattle.frame_commands.specs.LtcJam.{file_of_frames};
 ghost use Rattle.frame_commands.specs.LtcMtc.{messages_of_frames};
+ghost use Rattle.frame_commands.specs.LtcSpans.{lines_of_spans};
 ghost use Rattle.frame_commands.specs.OfFrames.{FrameText, along_frames};
 
 use code_chase::laws::a_frame_adds_a_line;
@@ -23,6 +24,7 @@ use direction_reader::laws::{
 use flywheel::laws::frames_of_a_front_come_first;
 use ltc_jam::laws::a_clean_recording_is_written_frame_by_frame;
 use quarter_frame::laws::messages_of_a_front_come_first;
+use tape_spans::laws::final_lines_come_first;
 
 /// What a command prints of frames is in order, where what it makes of frames is.
 pub fn what_is_made_of_frames_is_in_order()
@@ -38,6 +40,7 @@ pub fn what_is_made_of_frames_is_in_order()
 /// of its own it adds nothing.
 pub fn each_sink_of_frames_adds_in_order()
     ensures lines { AddsInOrder lines_of_frames }
+    ensures spans { AddsInOrder lines_of_spans }
     ensures messages { AddsInOrder messages_of_frames }
     ensures cells { (jam : Jamming) → AddsInOrder (file_of_frames jam) }
     ensures steps { (run : Chasing) → AddsInOrder (lines_of_steps run) }
@@ -45,6 +48,7 @@ pub fn each_sink_of_frames_adds_in_order()
     messages_of_a_front_come_first();
     a_clean_recording_is_written_frame_by_frame();
     a_frame_adds_a_line();
+    final_lines_come_first();
 }
 
 /// `ltc-chase` follows a hundred million frames, and no more.

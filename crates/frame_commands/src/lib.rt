@@ -10,7 +10,7 @@
 //!   `ltc-chase` each loss has its cause (`specs/LtcChase.antt`).
 //! - What they make of frames comes first, whatever frames follow (`laws`).
 //!
-//! Read `frame_sink`, `flight`, and then `ltc_fly`, `ltc_mtc`, `jam` and `ltc_chase`.
+//! Read `frame_sink`, `flight`, and then `ltc_fly`, `ltc_spans`, `ltc_mtc`, `jam` and `ltc_chase`.
 #![tactic(auto)]
 
 mod flight;
@@ -20,8 +20,10 @@ pub mod laws;
 mod ltc_chase;
 mod ltc_fly;
 mod ltc_mtc;
+mod ltc_spans;
 
 pub use jam::jam_sync;
 pub use ltc_chase::{MAX_FRAMES, chase_code};
 pub use ltc_fly::fly_along;
 pub use ltc_mtc::send_time_code;
+pub use ltc_spans::tell_spans;

@@ -92,6 +92,8 @@ impl FrameSink for StepLines {
 
     ghost given = { λ s run header frames. HasFollowed MAX_FRAMES run s frames };
 
+    ghost taken = { λ _. 0 };
+
     fn flight(run: ChaseRun) -> Flight {
         run.flight()
     }

@@ -45,6 +45,8 @@ impl FrameSink for FrameLines {
 
     ghost given = { λ s choice header frames. Unit {0} };
 
+    ghost taken = { λ _. 0 };
+
     fn flight(choice: Flight) -> Flight {
         choice
     }

@@ -49,6 +49,8 @@ impl FrameSink for FrameMessages {
 
     ghost given = { λ s choice header frames. StandsFor s.writer frames };
 
+    ghost taken = { λ _. 0 };
+
     fn flight(choice: Flight) -> Flight {
         choice
     }

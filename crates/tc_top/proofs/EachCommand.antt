@@ -10,8 +10,9 @@ use Rattle.tc_words.specs.Jam.{Jamming}
 use Rattle.tc_words.specs.Slicing.{Slices}
 use Rattle.tc_words.specs.WaveSlicing.{SlicesWave}
 use Rattle.tc_words.specs.declared.flight.Flight.{Flight}
+use Rattle.tc_words.specs.declared.flight.Flight.{Flight}
 use Rattle.tc_words.specs.declared.job.Job.{Job}
-use Rattle.tc_words.specs.declared.job.Job.TheVariants.{LtcRead, LtcWorn, LtcRough, LtcFly, LtcMtc, LtcJam, LtcChase, LtcConvert, LtcPcm}
+use Rattle.tc_words.specs.declared.job.Job.TheVariants.{LtcRead, LtcWorn, LtcRough, LtcFly, LtcSpans, LtcMtc, LtcJam, LtcChase, LtcConvert, LtcPcm}
 use Rattle.tc_command.specs.Command.{IsCommand}
 use Rattle.tc_command.specs.KeptText.{text_is_command}
 use Rattle.tc_command.specs.Meaning.{Meaning}
@@ -25,6 +26,7 @@ use Rattle.frame_commands.specs.LtcChase.{lines_of_steps}
 use Rattle.frame_commands.specs.LtcFly.{lines_of_frames}
 use Rattle.frame_commands.specs.LtcJam.{file_of_frames}
 use Rattle.frame_commands.specs.LtcMtc.{messages_of_frames}
+use Rattle.frame_commands.specs.LtcSpans.{lines_of_spans}
 use Rattle.frame_commands.specs.OfFrames.{AreTooMany, FrameText, IsFlightSpent, along_frames}
 use Rattle.signal_commands.specs.MtcRead.{along_midi}
 use Rattle.signal_commands.specs.PcmLtc.{along_samples}
@@ -51,6 +53,7 @@ pub record CommandLaws : Type 0 where
   pub sound : (size : ℕ) → PrintsInOrder (made_sound size)
   pub frames : (flight : Flight) (made : FrameText) → AddsInOrder made → PrintsInOrder (along_frames flight made)
   pub lines : AddsInOrder lines_of_frames
+  pub spans : AddsInOrder lines_of_spans
   pub messages : AddsInOrder messages_of_frames
   pub cells : (jam : Jamming) → AddsInOrder (file_of_frames jam)
   pub steps : (run : Chasing) → AddsInOrder (lines_of_steps run)
@@ -77,6 +80,7 @@ brings laws LtcRough = (laws.report _, λ header intervals spent. spent)
 brings laws (LtcConvert version) = (laws.conversion version, λ header intervals spent. spent)
 brings laws (LtcPcm size) = (laws.sound size, λ header intervals spent. spent)
 brings laws (LtcFly flight) = laws.lines
+brings laws (LtcSpans flight) = laws.spans
 brings laws (LtcMtc flight) = laws.messages
 brings laws (LtcJam jam) = laws.cells jam
 brings laws (LtcChase run) = laws.steps run

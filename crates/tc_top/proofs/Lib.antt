@@ -8,6 +8,7 @@ mod PinnedText
 mod ReportsTheTape
 mod SentIsRead
 mod SlicedAgain
+mod SpansOfTheTape
 mod StoppedAnswer
 mod TrackOfAFile
 mod WordsAnswer

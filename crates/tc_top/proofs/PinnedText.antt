@@ -1,4 +1,4 @@
--- A promise names one text: the events of the file are one list, so whoever keeps the promise of a report, of lines of frames, of a copy, of a trace,
+-- A promise names one text: the events of the file are one list, so whoever keeps the promise of a report, of lines of frames or spans, of a copy, of a trace,
 -- of a file that is made or converted, or of a load run has written the same bytes.
 use Rattle.std.proofs.Common.{◌≡◌, ℕ, List, ◌++◌, Some, sym, ◌∙◌, ap, ap₂, subst}
 use Rattle.biphase.specs.declared.profile.Profile.{Profile}
@@ -16,8 +16,9 @@ use Rattle.tc_words.specs.ChaseRun.{Chasing}
 use Rattle.tc_words.specs.Jam.{Jamming}
 use Rattle.tc_words.specs.WaveSlicing.{SlicesWave}
 use Rattle.tc_words.specs.declared.flight.Flight.{Flight}
+use Rattle.tc_words.specs.declared.flight.Flight.{Flight}
 use Rattle.tc_words.specs.declared.job.Job.{Job}
-use Rattle.tc_words.specs.declared.job.Job.TheVariants.{LtcRead, LtcWorn, LtcRough, LtcFly, LtcMtc, LtcJam, LtcChase, MtcRead, LtcMake, LtcLoad}
+use Rattle.tc_words.specs.declared.job.Job.TheVariants.{LtcRead, LtcWorn, LtcRough, LtcFly, LtcSpans, LtcMtc, LtcJam, LtcChase, MtcRead, LtcMake, LtcLoad}
 use Rattle.tc_words.specs.declared.job.Job.TheVariants.{LtcConvert, PcmLtc, WavLtc, LtcPcm, VitcRead, VitcMake, Number, LabelOf}
 use Rattle.frame_commands.specs.declared.ltc_chase.TheConstants.{MAX_FRAMES}
 use Rattle.pcm_front.specs.Distance.{intervals_by}
@@ -31,6 +32,7 @@ use Rattle.interval_commands.specs.LtcConvert.{ConvertsTheFile, in_version}
 use Rattle.frame_commands.specs.LtcFly.{ShowsTheFrames, frame_lines, last_fly_line}
 use Rattle.frame_commands.specs.LtcJam.{clean_file}
 use Rattle.interval_commands.specs.LtcRead.{last_line, lines}
+use Rattle.frame_commands.specs.LtcSpans.{ShowsTheSpans, span_lines, spans_counted}
 use Rattle.frame_commands.specs.OfFrames.{frames_of}
 use Rattle.tc_top.specs.Pinned.{IsPinned}
 use Rattle.tc_top.specs.Promises.{Promise}
@@ -65,6 +67,14 @@ one_flight laws flight bytes a b p q =
     let events = same_events laws flight.profile list p.header q.header p.events q.events header p.are_events q.are_events in
     let frames = p.are_frames ∙ ap (frames_of flight.limit list) events ∙ sym q.are_frames in
     p.are ∙ ap (λ (fs : List Frame). frame_lines fs ++ last_fly_line list fs) frames ∙ sym q.are
+
+one_tape : PinnedLaws → (flight : Flight) (bytes a b : List ℕ) → ShowsTheSpans flight bytes a → ShowsTheSpans flight bytes b → a ≡ b
+one_tape laws flight bytes a b p q =
+    let list = (recording_of bytes).intervals in
+    let header = one_header (recording_of bytes) p.header q.header p.begins q.begins in
+    let events = same_events laws flight.profile list p.header q.header p.events q.events header p.are_events q.are_events in
+    let frames = p.are_frames ∙ ap (frames_of flight.limit list) events ∙ sym q.are_frames in
+    p.are ∙ ap₂ (λ (h : IntervalHeader) (fs : List Frame). span_lines h fs ++ spans_counted list fs) header frames ∙ sym q.are
 
 one_copy : PinnedLaws → (j : Jamming) (input : Recording) (a b : List ℕ) → IsClean j input a → IsClean j input b → a ≡ b
 one_copy laws j input a b p q =
@@ -107,6 +117,9 @@ one_text laws LtcRough pulled e f is x y p q =
 one_text laws (LtcFly flight) pulled e f is x y p q =
     one_flight laws flight pulled e.written f.written (subst (λ (l : List ℕ). ShowsTheFrames flight l e.written) x p)
     (subst (λ (l : List ℕ). ShowsTheFrames flight l f.written) y q)
+one_text laws (LtcSpans flight) pulled e f is x y p q =
+    one_tape laws flight pulled e.written f.written (subst (λ (l : List ℕ). ShowsTheSpans flight l e.written) x p)
+    (subst (λ (l : List ℕ). ShowsTheSpans flight l f.written) y q)
 one_text laws (LtcJam jam) pulled e f is x y p q =
     one_copy laws jam (recording_of pulled) e.written f.written (subst (λ (l : List ℕ). IsClean jam (recording_of l) e.written) x p)
     (subst (λ (l : List ℕ). IsClean jam (recording_of l) f.written) y q)

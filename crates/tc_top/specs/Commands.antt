@@ -4,7 +4,7 @@ use Rattle.biphase.specs.declared.profile.Profile.TheVariants.{Normal, Worn, Rou
 use Rattle.tc_address.specs.Numbering.{number_of}
 use Rattle.tc_words.specs.declared.flight.Flight.{Flight}
 use Rattle.tc_words.specs.declared.job.Job.{Job}
-use Rattle.tc_words.specs.declared.job.Job.TheVariants.{LtcRead, LtcWorn, LtcRough, LtcFly, LtcMtc, LtcJam, LtcChase, MtcRead, Number, LabelOf, LtcMake}
+use Rattle.tc_words.specs.declared.job.Job.TheVariants.{LtcRead, LtcWorn, LtcRough, LtcFly, LtcSpans, LtcMtc, LtcJam, LtcChase, MtcRead, Number, LabelOf, LtcMake}
 use Rattle.tc_words.specs.declared.job.Job.TheVariants.{LtcConvert, PcmLtc, WavLtc, LtcPcm, LtcLoad, VitcRead, VitcMake}
 use Rattle.tc_words.specs.Slicing.{Slices}
 use Rattle.tc_words.specs.WaveSlicing.{SlicesWave}
@@ -17,6 +17,7 @@ use Rattle.frame_commands.specs.LtcChase.{lines_of_steps}
 use Rattle.frame_commands.specs.LtcFly.{lines_of_frames}
 use Rattle.frame_commands.specs.LtcJam.{file_of_frames}
 use Rattle.frame_commands.specs.LtcMtc.{messages_of_frames}
+use Rattle.frame_commands.specs.LtcSpans.{lines_of_spans}
 use Rattle.frame_commands.specs.OfFrames.{FrameText, along_frames}
 use Rattle.made_commands.specs.Labels.{number_line, label_line}
 use Rattle.made_commands.specs.Load.{load_text}
@@ -59,6 +60,7 @@ shape_of LtcRead = along_recording (report Normal)
 shape_of LtcWorn = along_recording (report Worn)
 shape_of LtcRough = along_recording (report Rough)
 shape_of (LtcFly flight) = along_its_frames flight lines_of_frames
+shape_of (LtcSpans flight) = along_its_frames flight lines_of_spans
 shape_of (LtcMtc flight) = along_its_frames flight messages_of_frames
 shape_of (LtcJam jam) = along_its_frames jam.flight (file_of_frames jam)
 shape_of (LtcChase run) = along_its_frames run.flight (lines_of_steps run)

@@ -4,7 +4,7 @@ use Rattle.biphase.specs.declared.profile.Profile.TheVariants.{Normal, Worn, Rou
 use Rattle.tc_files.specs.Grammar.{AreBytes}
 use Rattle.tc_files.specs.Recording.{recording_of}
 use Rattle.tc_words.specs.declared.job.Job.{Job}
-use Rattle.tc_words.specs.declared.job.Job.TheVariants.{LtcRead, LtcWorn, LtcRough, LtcFly, LtcMtc, LtcJam, LtcChase, MtcRead}
+use Rattle.tc_words.specs.declared.job.Job.TheVariants.{LtcRead, LtcWorn, LtcRough, LtcFly, LtcSpans, LtcMtc, LtcJam, LtcChase, MtcRead}
 use Rattle.tc_words.specs.declared.job.Job.TheVariants.{LtcMake, LtcLoad, LtcConvert, PcmLtc, WavLtc, LtcPcm, VitcRead}
 use Rattle.tc_words.specs.declared.job.Job.TheVariants.{VitcMake, Number, LabelOf}
 use Rattle.tc_top.specs.CleanCopy.{IsClean}
@@ -14,6 +14,7 @@ use Rattle.made_commands.specs.Load.{IsAllRead}
 use Rattle.frame_commands.specs.LtcChase.{FollowsTheCode}
 use Rattle.interval_commands.specs.LtcConvert.{ConvertsTheFile}
 use Rattle.frame_commands.specs.LtcFly.{ShowsTheFrames}
+use Rattle.frame_commands.specs.LtcSpans.{ShowsTheSpans}
 use Rattle.made_commands.specs.Made.{IsReadBack}
 use Rattle.made_commands.specs.MadeLines.{AreReadBack}
 use Rattle.tc_command.specs.Meaning.{Meaning, IsInput}
@@ -29,6 +30,7 @@ Promise LtcRead e = ReportsTheTape Normal e.pulled e.written
 Promise LtcWorn e = ReportsTheTape Worn e.pulled e.written
 Promise LtcRough e = ReportsTheTape Rough e.pulled e.written
 Promise (LtcFly flight) e = ShowsTheFrames flight e.pulled e.written
+Promise (LtcSpans flight) e = ShowsTheSpans flight e.pulled e.written
 Promise (LtcMtc flight) e = SendsTheFrames flight e.pulled e.written
 Promise (LtcJam jam) e = IsClean jam (recording_of e.pulled) e.written
 Promise (LtcChase run) e = FollowsTheCode run (recording_of e.pulled) e.written

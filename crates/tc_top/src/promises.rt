@@ -9,7 +9,7 @@ use crate::laws::{what_is_chased_follows_the_code, what_is_jammed_is_read};
 use direction_reader::laws::{
     events_find_the_tape_again, events_mirror_the_tape, events_tell_the_tape,
 };
-use flywheel::laws::invention_is_bounded_and_marked;
+use flywheel::laws::{a_frame_that_goes_on_is_the_next, invention_is_bounded_and_marked};
 use interval_commands::laws::converting_keeps_the_recording;
 use made_commands::is_all_read;
 use made_commands::laws::{lines_that_are_made_are_read_back, what_is_made_is_read_whole};
@@ -17,6 +17,7 @@ use pcm_front::laws::{
     a_sound_is_sliced_into_its_intervals, samples_are_read_as_they_were_written,
 };
 use quarter_frame::laws::what_is_sent_is_read_back;
+use tape_spans::laws::{spans_share_the_frames_out, the_open_span_has_the_last_line};
 use tc_files::laws::{a_file_is_read_as_it_was_written, bytes_are_read_as_the_text_says};
 use tc_words::{Amplitude, ChaseRun, Jam, Job, LineStripe, LoadRun, Stripe};
 use wave_file::laws::samples_are_few_and_behind_a_format;
@@ -28,6 +29,7 @@ pub(crate) fn a_promise_is_kept(job: &Job)
     match job {
         Job::LtcRead | Job::LtcWorn | Job::LtcRough => reports_the_tape(),
         Job::LtcFly { .. } => shows_the_frames(),
+        Job::LtcSpans { .. } => shows_the_spans(),
         Job::LtcMtc { .. } => sends_the_frames(),
         Job::LtcJam { jam } => is_clean(jam),
         Job::LtcChase { run } => follows_the_code(run),
@@ -61,6 +63,16 @@ fn shows_the_frames()
     ensures { (flight : Flight) → KeepsItsPromise (Job.LtcFly flight) }
 {
     invention_is_bounded_and_marked();
+}
+
+/// The lines are those of the spans of the file's frames, which share out the frames.
+fn shows_the_spans()
+    ensures { (flight : Flight) → KeepsItsPromise (Job.LtcSpans flight) }
+{
+    invention_is_bounded_and_marked();
+    a_frame_that_goes_on_is_the_next();
+    spans_share_the_frames_out();
+    the_open_span_has_the_last_line();
 }
 
 /// What is sent is read as the frames of the file, and reported so.

@@ -14,7 +14,7 @@ ghost use Rattle.tc_top.specs.Commands.{meaning_of};
 use crate::laws::each_job_is_a_command;
 use crate::promises::a_promise_is_kept;
 use biphase::Profile;
-use frame_commands::{chase_code, fly_along, jam_sync, send_time_code};
+use frame_commands::{chase_code, fly_along, jam_sync, send_time_code, tell_spans};
 use interval_commands::{convert_recording, read_recording, sound_recording};
 use made_commands::{make_lines, make_recording, tell_label, tell_load, tell_number};
 use signal_commands::{read_fields, read_midi, slice_sound, slice_track};
@@ -80,6 +80,7 @@ fn work_on<S: Source, K: Sink>(job: &Job, source: &mut S, out: &mut K) -> Result
         Job::LtcWorn => read_recording(Profile::Worn, source, out),
         Job::LtcRough => read_recording(Profile::Rough, source, out),
         Job::LtcFly { flight } => fly_along(*flight, source, out),
+        Job::LtcSpans { flight } => tell_spans(*flight, source, out),
         Job::LtcMtc { flight } => send_time_code(*flight, source, out),
         Job::LtcJam { jam } => jam_sync(*jam, source, out),
         Job::LtcChase { run } => chase_code(*run, source, out),

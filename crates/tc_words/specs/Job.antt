@@ -50,6 +50,10 @@ no_values job _ = Err CountOfWords
 abbrev pub ltc_fly : List Word → Answer
 ltc_fly values = with_flight (flight_in values) (λ flight. jobs.LtcFly flight)
 
+-- `ltc-spans LIMIT [worn]`
+abbrev pub ltc_spans : List Word → Answer
+ltc_spans values = with_flight (flight_in values) (λ flight. jobs.LtcSpans flight)
+
 -- `ltc-mtc LIMIT [worn|rough]`
 abbrev pub ltc_mtc : List Word → Answer
 ltc_mtc values = with_flight (flight_in values) (λ flight. jobs.LtcMtc flight)
@@ -137,6 +141,7 @@ job_of command values =
     else if bytes_eq command commands.LTC_WORN.now then no_values jobs.LtcWorn values
     else if bytes_eq command commands.LTC_ROUGH.now then no_values jobs.LtcRough values
     else if bytes_eq command commands.LTC_FLY.now then ltc_fly values
+    else if bytes_eq command commands.LTC_SPANS.now then ltc_spans values
     else if bytes_eq command commands.LTC_MTC.now then ltc_mtc values
     else if bytes_eq command commands.LTC_JAM.now then ltc_jam values
     else if bytes_eq command commands.LTC_CHASE.now then ltc_chase values

@@ -16,6 +16,9 @@ pub const LTC_ROUGH: &str = "ltc-rough";
 /// The word of `Job::LtcFly`.
 pub const LTC_FLY: &str = "ltc-fly";
 
+/// The word of `Job::LtcSpans`.
+pub const LTC_SPANS: &str = "ltc-spans";
+
 /// The word of `Job::LtcMtc`.
 pub const LTC_MTC: &str = "ltc-mtc";
 

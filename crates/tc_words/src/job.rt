@@ -33,6 +33,9 @@ pub enum Job {
     /// `ltc-fly LIMIT [worn|rough]`: reads an interval file, and writes a line for each frame of its words, with
     /// at most so many invented frames in a row.
     LtcFly { flight: Flight },
+    /// `ltc-spans LIMIT [worn]`: reads an interval file, and writes a line for each span of the same frames,
+    /// and for each gap between two.
+    LtcSpans { flight: Flight },
     /// `ltc-mtc LIMIT [worn|rough]`: reads an interval file, and writes MIDI Time Code of the same frames.
     LtcMtc { flight: Flight },
     /// `ltc-jam LIMIT CELL TICK-RATE [worn|rough]`: reads an interval file, and writes the same frames anew as an interval

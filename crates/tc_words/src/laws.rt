@@ -14,6 +14,7 @@ pub fn each_command_has_its_word()
     ensures ltc_worn { commands.LTC_WORN.now ≡ codes "ltc-worn" }
     ensures ltc_rough { commands.LTC_ROUGH.now ≡ codes "ltc-rough" }
     ensures ltc_fly { commands.LTC_FLY.now ≡ codes "ltc-fly" }
+    ensures ltc_spans { commands.LTC_SPANS.now ≡ codes "ltc-spans" }
     ensures ltc_mtc { commands.LTC_MTC.now ≡ codes "ltc-mtc" }
     ensures ltc_jam { commands.LTC_JAM.now ≡ codes "ltc-jam" }
     ensures ltc_chase { commands.LTC_CHASE.now ≡ codes "ltc-chase" }

@@ -2,7 +2,7 @@
 //! `job`.
 ghost use Rattle.std.specs.Prelude.{◌≡◌, ◌⊎◌, map, position, string_bytes, alloc_error};
 ghost use Rattle.command_words.specs.CommandLine.{begins_with_dash};
-ghost use Rattle.tc_words.specs.Job.{answer_to, without_dashes, job_of, no_values, ltc_fly, ltc_mtc, ltc_jam, ltc_chase, number, label_of, ltc_make};
+ghost use Rattle.tc_words.specs.Job.{answer_to, without_dashes, job_of, no_values, ltc_fly, ltc_spans, ltc_mtc, ltc_jam, ltc_chase, number, label_of, ltc_make};
 ghost use Rattle.tc_words.specs.Job.{ltc_convert, pcm_ltc, wav_ltc, ltc_pcm, task_of, chase, ltc_load, vitc_make, jammed};
 
 use crate::chase_words::chased;
@@ -93,6 +93,7 @@ fn job_of(command: &str, values: &[&str]) -> Result<Job, WordsFault>
         commands::LTC_WORN => no_values(values, Job::LtcWorn),
         commands::LTC_ROUGH => no_values(values, Job::LtcRough),
         commands::LTC_FLY => ltc_fly(values),
+        commands::LTC_SPANS => ltc_spans(values),
         commands::LTC_MTC => ltc_mtc(values),
         commands::LTC_JAM => ltc_jam(values),
         commands::LTC_CHASE => ltc_chase(values),
@@ -127,6 +128,14 @@ fn ltc_fly(values: &[&str]) -> Result<Job, WordsFault>
 {
     let flight = flight_in(values)?;
     Ok(Job::LtcFly { flight })
+}
+
+// `ltc-spans LIMIT [worn]`
+fn ltc_spans(values: &[&str]) -> Result<Job, WordsFault>
+    ensures { result ≡ ltc_spans (map (λ v. v.now) values.now) }
+{
+    let flight = flight_in(values)?;
+    Ok(Job::LtcSpans { flight })
 }
 
 // `ltc-mtc LIMIT [worn|rough]`

@@ -1,8 +1,11 @@
-use Rattle.frame_commands.proofs.FramesFirst.{cells_in_order, lines_in_order, messages_in_order, steps_in_order}
+use Rattle.frame_commands.proofs.FramesFirst.{cells_in_order, lines_in_order, messages_in_order, spans_in_order, steps_in_order}
 use Rattle.frame_commands.proofs.laws.each_sink_of_frames_adds_in_order.Goals as goal
 
 pub returns-clause-lines : goal.returns-clause-lines
 returns-clause-lines c = lines_in_order
+
+pub returns-clause-spans : goal.returns-clause-spans
+returns-clause-spans c = spans_in_order c.final_lines_come_first.ensures
 
 pub returns-clause-messages : goal.returns-clause-messages
 returns-clause-messages c = messages_in_order c.messages_of_a_front_come_first.ensures

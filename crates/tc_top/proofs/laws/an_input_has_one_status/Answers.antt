@@ -14,6 +14,7 @@ returns-clause-file c = λ job input status none is. by_file (meaning_of job) in
   sound = c.what_is_printed_is_in_order.ensures.sound;
   frames = c.what_is_made_of_frames_is_in_order.ensures;
   lines = c.each_sink_of_frames_adds_in_order.ensures.lines;
+  spans = c.each_sink_of_frames_adds_in_order.ensures.spans;
   messages = c.each_sink_of_frames_adds_in_order.ensures.messages;
   cells = c.each_sink_of_frames_adds_in_order.ensures.cells;
   steps = c.each_sink_of_frames_adds_in_order.ensures.steps;

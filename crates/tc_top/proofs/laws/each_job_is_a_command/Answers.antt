@@ -9,6 +9,7 @@ returns c = each_command (record {
   sound = c.what_is_printed_is_in_order.ensures.sound;
   frames = c.what_is_made_of_frames_is_in_order.ensures;
   lines = c.each_sink_of_frames_adds_in_order.ensures.lines;
+  spans = c.each_sink_of_frames_adds_in_order.ensures.spans;
   messages = c.each_sink_of_frames_adds_in_order.ensures.messages;
   cells = c.each_sink_of_frames_adds_in_order.ensures.cells;
   steps = c.each_sink_of_frames_adds_in_order.ensures.steps;

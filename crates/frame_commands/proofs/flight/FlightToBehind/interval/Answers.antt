@@ -44,11 +44,14 @@ returns-in_default-clause-fits g c =
     let e = c.hear_all.ensures in
     let one = c.step.ensures.next.intervals in
     on_ok result (both_ok _ _ result (both_ok _ _ result e.heard e.fits) e.heard_by) (λ h count fits. record {
-      within = (let has = c.requires.fits in let same = has.2.counts in let now = fits.counts in let below = has.1 in omega arith);
-      counts = ap (λ (r : Reading). r.intervals) e.reader ∙ one ∙ ap (λ (n : ℕ). n + 1) fits.counts;
-      words = (let before = fits.words in omega (arith, h.0.0));
-      more_frames = h.0.1;
-      heard_by = rw e.reader h.1;
+      flight = record {
+        within = (let has = c.requires.fits in let same = has.2.flight.counts in let now = fits.flight.counts in let below = has.1 in omega arith);
+        counts = ap (λ (r : Reading). r.intervals) e.reader ∙ one ∙ ap (λ (n : ℕ). n + 1) fits.flight.counts;
+        words = (let before = fits.flight.words in omega (arith, h.0.0));
+        more_frames = h.0.1;
+        heard_by = rw e.reader h.1;
+      };
+      taken = e.room;
     })
 
 -- the frames that were due, and those of the words, were sent

@@ -3,7 +3,7 @@ use Rattle.flywheel.specs.declared.frame.Frame.{Frame}
 use Rattle.flywheel.specs.declared.heard.HeardWord.{HeardWord}
 use Rattle.flywheel.specs.StandsFor as flies
 use Rattle.flywheel.specs.Wheel.{frames_left}
-use Rattle.frame_commands.specs.KeptFlight.{Counts, FitsFrames, HeardBy, Sends}
+use Rattle.frame_commands.specs.KeptFlight.{Counts, frames_counted, FitsFrames, HeardBy, Sends}
 use Rattle.frame_commands.proofs.flight.FrameReader.pass.Given as goal
 
 -- the frames that were due so far were counted and sent
@@ -13,6 +13,7 @@ invariant-due g l = record {
   heard : l.self.heard ≡ l.fn.self.heard;
   limit : l.self.wheel.limit ≡ l.fn.self.wheel.limit;
   fits : FitsFrames l.self;
+  room : g.T.FrameSink.taken l.sink ≤ frames_counted l.self;
   heard_by : HeardBy l.fn.tick l.self.wheel;
   same : g.K.Sink.faults l.out ≡ g.K.Sink.faults l.fn.out;
   given : (more : List Frame) × Counts l.fn.self l.self more

@@ -1,0 +1,62 @@
+-- The lines of spans are those of the header's tick rate and system, and the last line counts what was read.
+use Rattle.std.proofs.Common.{◌≡◌, ℕ, ◌<◌, ◌^◌, List, [], ◌∷◌, ◌++◌, length, refl, sym, ◌∙◌, ap, ap₂, append_assoc}
+use Rattle.std.specs.Prelude.{sum}
+use Rattle.tc_address.specs.declared.system.System.{System}
+use Rattle.flywheel.specs.declared.frame.Frame.{Frame}
+use Rattle.flywheel.specs.declared.frame.Frame.TheVariants.{Heard, Invented, Gone}
+use Rattle.tape_spans.specs.declared.place.Cut.{Cut}
+use Rattle.tape_spans.specs.Spans.{frames_of_spans, spans}
+use Rattle.tape_spans.specs.SpanTexts.{final_behind, final_lines, last_spans_line, open_line}
+use Rattle.tape_spans.specs.StandsFor.{StandsFor, cut_lines}
+use Rattle.tape_spans.specs.Tape.{FitsTick, Tape}
+use Rattle.tc_files.specs.declared.interval_file.header.IntervalHeader.{IntervalHeader}
+use Rattle.tc_files.specs.FrameTexts.{FitsFrameLine}
+use Rattle.frame_commands.specs.declared.flight.FrameReader.{FrameReader}
+use Rattle.frame_commands.specs.KeptFlight.{CountsAll}
+use Rattle.frame_commands.specs.KeptSpans.{HasTold}
+use Rattle.frame_commands.specs.LtcSpans.{spans_counted}
+use Rattle.frame_commands.proofs.FramesFirst.{FinalLinesFirst}
+
+-- a frame that fits its line has a tick that fits
+pub fits_tick : (frame : Frame) → FitsFrameLine frame → FitsTick frame
+fits_tick (Heard label direction joined tick) fits = fits
+fits_tick (Invented label direction step tick) fits = fits.0
+fits_tick (Gone tick) fits = fits
+
+-- of no frame there is no line
+pub no_lines : (rate : ℕ) (system : System) → final_lines rate system [] ≡ []
+unfolding final_behind frames_of_spans
+no_lines rate system = refl
+
+-- the lines with the header's rate and system are those with the rate and system that are kept
+same_cut : (rate own : ℕ) (system its : System) (cut : Cut) → rate ≡ own → system ≡ its → cut_lines own its cut ≡ cut_lines rate system cut
+same_cut rate own system its cut r s = sym (ap₂ (λ (n : ℕ) (y : System). cut_lines n y cut) r s)
+
+-- a frame adds the lines of what it tells
+pub cut_added : (tape : Tape) (rate : ℕ) (system : System) (header : IntervalHeader) (frames : List Frame) (frame : Frame) (cut : Cut)
+    → HasTold tape rate system header frames
+    → final_lines header.tick_rate header.system (frames ++ frame ∷ [])
+    ≡ final_lines header.tick_rate header.system frames ++ cut_lines header.tick_rate header.system cut
+    → final_lines header.tick_rate header.system (frames ++ frame ∷ []) ≡ final_lines header.tick_rate header.system frames ++ cut_lines rate system cut
+cut_added tape rate system header frames frame cut told lines =
+    lines ∙ ap (λ (l : List ℕ). final_lines header.tick_rate header.system frames ++ l) (same_cut rate _ system _ cut told.rate_is told.system_is)
+
+-- and whatever frames follow, these come next
+pub cut_first : FinalLinesFirst → (header : IntervalHeader) (frames : List Frame) (frame : Frame) (rest : List Frame) (lines : List ℕ)
+    → final_lines header.tick_rate header.system (frames ++ frame ∷ []) ≡ final_lines header.tick_rate header.system frames ++ lines
+    → (more : List ℕ) × (final_lines header.tick_rate header.system (frames ++ (frame ∷ [] ++ rest))
+    ≡ final_lines header.tick_rate header.system frames ++ (lines ++ more))
+cut_first law header frames frame rest lines added =
+    let all = final_lines header.tick_rate header.system in
+    let later = law header.tick_rate header.system (frames ++ frame ∷ []) rest in
+    (later.0, ap all (sym (append_assoc frames (frame ∷ []) rest)) ∙ later.1 ∙ ap (λ (l : List ℕ). l ++ later.0) added ∙ append_assoc (all frames) lines later.0)
+
+-- the last lines: that of the open span, and that which counts all
+pub last_lines : (tape : Tape) (rate : ℕ) (system : System) (header : IntervalHeader) (frames : List Frame) (f : FrameReader) (intervals : List ℕ)
+    (first second : List ℕ) → HasTold tape rate system header frames → CountsAll f intervals frames
+    → open_line rate system frames ≡ first → second ≡ last_spans_line f.reader.intervals (spans frames) f.reader.tick
+    → first ++ second ≡ open_line header.tick_rate header.system frames ++ spans_counted intervals frames
+last_lines tape rate system header frames f intervals first second told counts opened counted =
+    ap₂ (λ (a b : List ℕ). a ++ b)
+    (sym opened ∙ ap₂ (λ (n : ℕ) (y : System). open_line n y frames) told.rate_is told.system_is)
+    (counted ∙ ap₂ (λ (n t : ℕ). last_spans_line n (spans frames) t) counts.intervals_are counts.ticks)

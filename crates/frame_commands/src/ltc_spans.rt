@@ -1,0 +1,143 @@
+//! What `ltc-spans` makes of frames: a line of each span, and of each gap between two. Next:
+//! `tape_spans/src/tape.rt`, and then its `texts.rt` for the lines.
+ghost use Rattle.std.specs.Prelude.{◌≡◌, ◌<◌, ◌^◌, OnOk, OnErr, IfErr, IfSome};
+ghost use Rattle.std.specs.Io.KnownBytes.{Appends};
+ghost use Rattle.tape_spans.specs.StandsFor.{cut_lines, ended_lines, gap_lines};
+ghost use Rattle.tape_spans.specs.Tape.{FitsCut, FitsSpan};
+ghost use Rattle.tc_io.specs.Sink.{AppendsFront};
+ghost use Rattle.tc_command.specs.Causes.{HasOutCause, HasSourceCause};
+ghost use Rattle.tc_command.specs.Ran.{CameToItsEnd, StoppedBefore};
+ghost use Rattle.interval_commands.specs.Along.{along_intervals};
+ghost use Rattle.frame_commands.specs.LtcSpans.{spanned_recording};
+
+use crate::flight::{FlightTo, FrameReader};
+use crate::frame_sink::FrameSink;
+use flywheel::Frame;
+use interval_commands::work_along;
+use tape_spans::laws::final_lines_come_first;
+use tape_spans::{Cut, Gap, Span, TapeSpans, gap_text, span_text};
+use tc_address::System;
+use tc_command::{Stop, push_line, push_piece};
+use tc_files::IntervalHeader;
+use tc_io::{Sink, Source};
+use tc_words::Flight;
+
+/// Works `ltc-spans`: a line for each span of a recording, where its frames are had so, and between two
+/// of them one for the gap.
+pub fn tell_spans<S: Source, K: Sink>(
+    flight: Flight,
+    source: &mut S,
+    out: &mut K,
+) -> Result<(), Stop>
+    ensures ends { OnOk result (CameToItsEnd (along_intervals (spanned_recording flight)) (S.left source.old) (S.left source.new)
+        (K.written out.old) (K.written out.new)) }
+    ensures stops { IfErr result (λ stop. StoppedBefore (along_intervals (spanned_recording flight)) stop (S.left source.old) (S.left source.new)
+        (K.written out.old) (K.written out.new)) }
+    ensures source { HasSourceCause (S.faults source.old) (S.faults source.new) result }
+    ensures out { HasOutCause (K.faults out.old) (K.faults out.new) result }
+{
+    work_along::<FlightTo<SpanLines>, S, K>(flight, source, out)
+}
+
+/// The lines of spans, which say the speed at the header's tick rate and system.
+#[derive(Drop)]
+pub(crate) struct SpanLines {
+    tape: TapeSpans,
+    tick_rate: u32,
+    system: System,
+}
+
+/// Writes the line of a gap, if there is one.
+fn push_gap<K: Sink>(gap: Option<Gap>, out: &mut K) -> Result<(), Stop>
+    requires { IfSome gap (λ gap. gap.ticks < 2 ^ 60) }
+    ensures all { OnOk result (Appends (K.written out.old) (K.written out.new) (gap_lines gap)) }
+    ensures front { OnErr result (AppendsFront (K.written out.old) (K.written out.new) (gap_lines gap)) }
+    ensures why { IfErr result (λ stop. stop ≡ Stop.WriteFault) }
+    ensures cause { HasOutCause (K.faults out.old) (K.faults out.new) result }
+{
+    match gap {
+        Some(gap) => push_line(out, &gap_text(&gap)),
+        None => Ok(()),
+    }
+}
+
+impl SpanLines {
+    /// Writes the line of a span, if there is one.
+    fn push_span<K: Sink>(&self, span: Option<Span>, out: &mut K) -> Result<(), Stop>
+        requires { IfSome span FitsSpan }
+        ensures all { OnOk result (Appends (K.written out.old) (K.written out.new) (ended_lines self.now.tick_rate self.now.system span)) }
+        ensures front { OnErr result (AppendsFront (K.written out.old) (K.written out.new) (ended_lines self.now.tick_rate self.now.system span)) }
+        ensures why { IfErr result (λ stop. stop ≡ Stop.WriteFault) }
+        ensures cause { HasOutCause (K.faults out.old) (K.faults out.new) result }
+    {
+        match span {
+            Some(span) => push_piece(out, &span_text(&span, self.tick_rate, self.system)),
+            None => Ok(()),
+        }
+    }
+
+    /// Writes what a frame tells: the span that ended, and the gap behind it.
+    fn push_cut<K: Sink>(&self, cut: Cut, out: &mut K) -> Result<(), Stop>
+        requires { FitsCut cut }
+        ensures all { OnOk result (Appends (K.written out.old) (K.written out.new) (cut_lines self.now.tick_rate self.now.system cut)) }
+        ensures front { OnErr result (AppendsFront (K.written out.old) (K.written out.new) (cut_lines self.now.tick_rate self.now.system cut)) }
+        ensures why { IfErr result (λ stop. stop ≡ Stop.WriteFault) }
+        ensures cause { HasOutCause (K.faults out.old) (K.faults out.new) result }
+    {
+        self.push_span(cut.ended, out)?;
+        push_gap(cut.gap, out)
+    }
+}
+
+impl FrameSink for SpanLines {
+    ghost use Rattle.tape_spans.specs.Tape.{frames_taken};
+    ghost use Rattle.frame_commands.specs.KeptSpans.{HasTold};
+    ghost use Rattle.frame_commands.specs.LtcSpans.{lines_of_spans};
+
+    type Choice = Flight;
+
+    ghost flight = { λ choice. choice };
+
+    ghost made = { λ choice. lines_of_spans };
+
+    ghost given = { λ s choice header frames. HasTold s.tape s.tick_rate s.system header frames };
+
+    ghost taken = { λ s. frames_taken s.tape };
+
+    fn flight(choice: Flight) -> Flight {
+        choice
+    }
+
+    fn begin<K: Sink>(
+        _choice: Flight,
+        header: &IntervalHeader,
+        _out: &mut K,
+    ) -> Result<SpanLines, Stop> {
+        Ok(SpanLines {
+            tape: TapeSpans::new(),
+            tick_rate: header.tick_rate,
+            system: header.system,
+        })
+    }
+
+    #[tactic(auto, using(crate::proofs::SpansOfFrames::fits_tick))]
+    fn frame<K: Sink>(&mut self, frame: &Frame, out: &mut K) -> Result<(), Stop> {
+        final_lines_come_first();
+        let cut = self.tape.frame(frame);
+        self.push_cut(cut, out)
+    }
+
+    /// It has no limit of its own.
+    #[inline(always)]
+    fn is_spent(&self) -> bool {
+        false
+    }
+
+    fn finish<K: Sink>(&self, reader: &FrameReader, out: &mut K) -> Result<(), Stop> {
+        self.push_span(self.tape.current(), out)?;
+        push_line(
+            out,
+            &self.tape.end_text(reader.intervals(), reader.ticks()),
+        )
+    }
+}

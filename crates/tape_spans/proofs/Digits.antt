@@ -1,0 +1,7 @@
+-- A number below a power of ten has so many decimal digits at most.
+use Rattle.std.proofs.Common.{ℕ, ◌<◌, ◌≤◌, ◌^◌, length, arith}
+use Rattle.std.specs.Prelude.{decimal}
+use Rattle.std.proofs.lemmas.Fmt.{length-decimal-le_wide}
+
+pub digits_of_speed : (n : ℕ) → n < 10 ^ 25 → length (decimal n) ≤ 25
+digits_of_speed n p = length-decimal-le_wide 25 n (omega arith) (omega arith) (omega arith)

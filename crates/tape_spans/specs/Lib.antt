@@ -1,0 +1,11 @@
+pub use Rattle.flywheel.specs.Frames
+pub use Rattle.flywheel.specs.GoOn
+pub use Rattle.line_text.specs.Line
+pub use Rattle.tc_address.specs.Circle
+pub use Rattle.tc_address.specs.Numbering
+pub mod Gap
+pub mod Shared
+pub mod Spans
+pub mod SpanTexts
+pub mod StandsFor
+pub mod Tape

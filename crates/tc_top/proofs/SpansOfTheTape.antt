@@ -1,0 +1,55 @@
+-- The lines of spans are those of all spans of the recording's frames, and these share out the frames.
+use Rattle.std.proofs.Common.{◌≡◌, ℕ, All, List, ◌++◌, map, Option, Some, None, refl, sym, ◌∙◌, ap, append_assoc}
+use Rattle.std.specs.Prelude.{sum}
+use Rattle.std.specs.List.{flat_map}
+use Rattle.tc_address.specs.declared.system.System.{System}
+use Rattle.flywheel.specs.declared.frame.Frame.{Frame}
+use Rattle.flywheel.specs.declared.heard.HeardWord.{HeardWord}
+use Rattle.flywheel.specs.Frames.{frames}
+use Rattle.flywheel.specs.GoOn.{GoOn}
+use Rattle.flywheel.specs.Marked.{word_of, words_in}
+use Rattle.tape_spans.specs.Shared.{HoldsTogether, frames_in, present}
+use Rattle.tape_spans.specs.Spans.{frames_of_spans, spans}
+use Rattle.tape_spans.specs.SpanTexts.{final_lines, lines_behind, open_line}
+use Rattle.tc_words.specs.declared.flight.Flight.{Flight}
+use Rattle.tc_files.specs.declared.interval_file.header.IntervalHeader.{IntervalHeader}
+use Rattle.tc_files.specs.Recording.{recording_of}
+use Rattle.interval_commands.specs.Along.{IsWholeBehind, IsWholeOf}
+use Rattle.frame_commands.specs.LtcSpans.{ShowsTheSpans, spanned_recording, spans_counted}
+use Rattle.frame_commands.specs.OfFrames.{frames_of, words_heard}
+
+-- what the laws of frames and of spans say
+pub record SpansLaws : Type 0 where
+  pub heard : (limit last : ℕ) (words : List HeardWord) → words_in (frames limit words last) ≡ map word_of words
+  pub go_on : (limit last : ℕ) (words : List HeardWord) → GoOn None (frames limit words last)
+  pub all : (fs : List Frame) → GoOn None fs → present fs ≡ flat_map frames_in (frames_of_spans fs)
+  pub within : (fs : List Frame) → GoOn None fs → All HoldsTogether (frames_of_spans fs)
+  pub last : (tick_rate : ℕ) (system : System) (fs : List Frame)
+      → final_lines tick_rate system fs ++ open_line tick_rate system fs ≡ lines_behind tick_rate system None (spans fs)
+
+behind : SpansLaws → (flight : Flight) (bytes written : List ℕ) (header : Option IntervalHeader) → (recording_of bytes).header ≡ header
+    → IsWholeBehind (spanned_recording flight) header (recording_of bytes).intervals written → ShowsTheSpans flight bytes written
+behind laws flight bytes written None begins is = absurd is
+behind laws flight bytes written (Some header) begins is =
+    let intervals = (recording_of bytes).intervals in
+    let words = words_heard is.events in
+    let fs = frames_of flight.limit intervals is.events in
+    let on = laws.go_on flight.limit (sum intervals) words in
+    let last = spans_counted intervals fs in
+    record {
+      header = header;
+      begins = begins;
+      events = is.events;
+      are_events = is.are_events;
+      frames = fs;
+      are_frames = refl;
+      are = is.are ∙ sym (append_assoc (final_lines header.tick_rate header.system fs) (open_line header.tick_rate header.system fs) last)
+          ∙ ap (λ (l : List ℕ). l ++ last) (laws.last header.tick_rate header.system fs);
+      heard = laws.heard flight.limit (sum intervals) words;
+      all = laws.all fs on;
+      together = laws.within fs on;
+    }
+
+pub shows_the_spans : SpansLaws → (flight : Flight) (bytes written : List ℕ) → IsWholeOf (spanned_recording flight) (recording_of bytes) written
+    → ShowsTheSpans flight bytes written
+shows_the_spans laws flight bytes written output = behind laws flight bytes written _ refl output
