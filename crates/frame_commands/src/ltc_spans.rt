@@ -1,5 +1,5 @@
 //! What `ltc-spans` makes of frames: a line of each span, and of each gap between two. Next:
-//! `tape_spans/src/tape.rt`, and then its `texts.rt` for the lines.
+//! `tape_spans/src/tape.rt`, and then `tape_spans/src/texts.rt` for the lines.
 ghost use Rattle.std.specs.Prelude.{◌≡◌, ◌<◌, ◌^◌, OnOk, OnErr, IfErr, IfSome};
 ghost use Rattle.std.specs.Io.KnownBytes.{Appends};
 ghost use Rattle.tape_spans.specs.StandsFor.{cut_lines, ended_lines, gap_lines};
