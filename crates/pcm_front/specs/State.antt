@@ -82,6 +82,10 @@ fresh_window smooth = record { smooth = smooth; kept = replicate (smooth - 1) (p
 abbrev pub window_after : WindowState → ℤ → WindowState
 window_after window sample = record { smooth = window.smooth; kept = drop 1 (window.kept ++ sample ∷ []) }
 
+-- each sample stands for itself, and none is kept
+abbrev pub IsAlone : WindowState → Type 0
+IsAlone window = (window.smooth ≡ 1) × (window.kept ≡ [])
+
 -- what a window keeps is in its range
 pub record IsWindow (window : WindowState) : Type 0 where
   pub least : 1 ≤ window.smooth
