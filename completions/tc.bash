@@ -10,7 +10,7 @@ _tc() {
             ltc-make:3) values="forward backward" ;;
             ltc-convert:2) values="1 2" ;;
             pcm-ltc:2) values="24 25 30" ;;
-            pcm-ltc:6) values="follow" ;;
+            pcm-ltc:6) values="follow deep" ;;
             ltc-fly:3 | ltc-mtc:3 | ltc-jam:5 | ltc-chase:7) values="worn" ;;
             ltc-fly:3 | ltc-spans:3 | ltc-mtc:3 | ltc-jam:5 | ltc-chase:7) values="worn" ;;
         esac
