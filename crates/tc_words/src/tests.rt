@@ -158,7 +158,8 @@ fn label_text(task: &Task) -> Option<[u8; 11]> {
 
 fn label_text_of(job: &Job) -> Option<[u8; 11]> {
     match job {
-        Job::LtcRead | Job::LtcWorn | Job::LtcRough | Job::LtcFly { .. } | Job::LtcConvert { .. } => None,
+        Job::LtcRead | Job::LtcWorn | Job::LtcRough | Job::LtcFly { .. } | Job::LtcConvert { .. } =>
+            None,
         Job::PcmLtc { .. } | Job::LtcPcm { .. } => None,
         Job::LtcJam { .. } | Job::VitcRead => None,
         Job::LtcChase { run } => Some(text(&run.label())),
