@@ -59,6 +59,7 @@ impl AtCell {
     }
 
     /// Takes the next interval, of `x` ticks, with the four lengths beside this state.
+    #[inline(always)]
     pub fn feed(self, four: &mut LatestFour, x: u32) -> FromAtCell
         requires least { 1 ≤ x }
         requires most { x ≤ MAX_INTERVAL }

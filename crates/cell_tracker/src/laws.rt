@@ -81,9 +81,9 @@ pub fn a_recording_is_found_again_behind_anything()
         → AreFrom (length before + second) (cells_from cells cut kept second) stretches }
 {}
 
-/// Mirror, for the same tolerances: where a recording and the same intervals in the other order of time are both within the
-/// tolerance, their cells are the same between the greater intervals of the first and of the last
-/// unequal pair, each in its order. The lock of the mirror is the number of intervals behind them.
+/// Mirror, for the same tolerances: where a recording and the same intervals in the other order of
+/// time are both within the tolerance, their cells are the same between the greater intervals of the
+/// first and of the last unequal pair, each in its order. The lock of the mirror is the number of intervals behind them.
 pub fn a_mirrored_recording_has_the_mirrored_cells()
     ensures { (profile : Profile) → LooksAtLast profile → (intervals : List ℕ) (cells others : List Cell)
         (cut place first last : ℕ)

@@ -74,6 +74,7 @@ impl MidCell {
     }
 
     /// Takes the next interval, of `y` ticks, with the four lengths beside this state.
+    #[inline(always)]
     pub fn feed(self, four: &mut LatestFour, y: u32) -> FromMidCell
         requires least { 1 ≤ y }
         requires most { y ≤ MAX_INTERVAL }

@@ -122,8 +122,9 @@ pub fn events_tell_the_tape()
     a_recording_within_the_tolerance_is_one_stretch();
 }
 
-/// Resynchronisation, where a cell is compared with the one before it alone: whatever stands before a recording within the tolerance, from the greater
-/// interval of its second unequal pair on the events are those of the tape's own windows.
+/// Resynchronisation, where a cell is compared with the one before it alone: whatever stands before a
+/// recording within the tolerance, from the greater interval of its second unequal pair on the events
+/// are those of the tape's own windows.
 pub fn events_find_the_tape_again()
     ensures { (system : System) (profile : Profile) (intervals : List ℕ) (events : List Event)
         → AreEvents system profile intervals events
@@ -132,9 +133,9 @@ pub fn events_find_the_tape_again()
     a_recording_is_found_again_behind_anything();
 }
 
-/// Mirror, for the same tolerances: the events of a recording and of its intervals in the other order of time, both within
-/// the tolerance, are the same words between the greater intervals of the first and of the last
-/// unequal pair, each met from its other end.
+/// Mirror, for the same tolerances: the events of a recording and of its intervals in the other order
+/// of time, both within the tolerance, are the same words between the greater intervals of the first
+/// and of the last unequal pair, each met from its other end.
 pub fn events_mirror_the_tape()
     ensures { (system : System) (profile : Profile) (intervals : List ℕ)
         (events mirrored : List Event) → AreEvents system profile intervals events
