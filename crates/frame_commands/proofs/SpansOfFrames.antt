@@ -51,12 +51,14 @@ cut_first law header frames frame rest lines added =
     let later = law header.tick_rate header.system (frames ++ frame ∷ []) rest in
     (later.0, ap all (sym (append_assoc frames (frame ∷ []) rest)) ∙ later.1 ∙ ap (λ (l : List ℕ). l ++ later.0) added ∙ append_assoc (all frames) lines later.0)
 
--- the last lines: that of the open span, and that which counts all
-pub last_lines : (tape : Tape) (rate : ℕ) (system : System) (header : IntervalHeader) (frames : List Frame) (f : FrameReader) (intervals : List ℕ)
-    (first second : List ℕ) → HasTold tape rate system header frames → CountsAll f intervals frames
-    → open_line rate system frames ≡ first → second ≡ last_spans_line f.reader.intervals (spans frames) f.reader.tick
-    → first ++ second ≡ open_line header.tick_rate header.system frames ++ spans_counted intervals frames
-last_lines tape rate system header frames f intervals first second told counts opened counted =
-    ap₂ (λ (a b : List ℕ). a ++ b)
-    (sym opened ∙ ap₂ (λ (n : ℕ) (y : System). open_line n y frames) told.rate_is told.system_is)
-    (counted ∙ ap₂ (λ (n t : ℕ). last_spans_line n (spans frames) t) counts.intervals_are counts.ticks)
+-- the line of the open span, with the header's rate and system
+pub open_is : (tape : Tape) (rate : ℕ) (system : System) (header : IntervalHeader) (frames : List Frame) (first : List ℕ)
+    → HasTold tape rate system header frames → open_line rate system frames ≡ first → first ≡ open_line header.tick_rate header.system frames
+open_is tape rate system header frames first told opened =
+    sym opened ∙ ap₂ (λ (n : ℕ) (y : System). open_line n y frames) told.rate_is told.system_is
+
+-- the last line counts what was read
+pub counted_is : (f : FrameReader) (frames : List Frame) (intervals second : List ℕ) (count ticks : ℕ) → CountsAll f intervals frames
+    → second ≡ last_spans_line count (spans frames) ticks → count ≡ f.reader.intervals → ticks ≡ f.reader.tick → second ≡ spans_counted intervals frames
+counted_is f frames intervals second count ticks counts counted same same_ticks =
+    counted ∙ ap₂ (λ (n t : ℕ). last_spans_line n (spans frames) t) (same ∙ counts.intervals_are) (same_ticks ∙ counts.ticks)

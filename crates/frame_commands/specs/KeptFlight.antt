@@ -53,9 +53,9 @@ abbrev pub frames_counted : FrameReader → ℕ
 frames_counted f = f.heard + f.invented + f.gone
 
 -- and so do those of a sink, which counts no more frames than it was given
-pub record FitsSink (f : FrameReader) (taken count : ℕ) : Type 0 where
+pub record FitsSink (f : FrameReader) (own count : ℕ) : Type 0 where
   pub flight : FitsFlight f count
-  pub taken : taken ≤ frames_counted f
+  pub taken : own ≤ frames_counted f
 
 -- these frames come first among those of the words up to the tick
 abbrev pub Comes : ℕ → List HeardWord → ℕ → List Frame → Type 0

@@ -15,7 +15,7 @@ use crate::frame_sink::FrameSink;
 use flywheel::Frame;
 use interval_commands::work_along;
 use tape_spans::laws::final_lines_come_first;
-use tape_spans::{Cut, Gap, Span, TapeSpans, gap_text, span_text};
+use tape_spans::{Cut, Gap, Span, SpanText, TapeSpans, gap_text, span_text};
 use tc_address::System;
 use tc_command::{Stop, push_line, push_piece};
 use tc_files::IntervalHeader;
@@ -47,6 +47,16 @@ pub(crate) struct SpanLines {
     system: System,
 }
 
+/// Writes the line of a span.
+fn push_span_line<K: Sink>(out: &mut K, line: &SpanText) -> Result<(), Stop>
+    ensures all { OnOk result (Appends (K.written out.old) (K.written out.new) line.now.items) }
+    ensures front { OnErr result (AppendsFront (K.written out.old) (K.written out.new) line.now.items) }
+    ensures why { IfErr result (λ stop. stop ≡ Stop.WriteFault) }
+    ensures cause { HasOutCause (K.faults out.old) (K.faults out.new) result }
+{
+    push_piece(out, line)
+}
+
 /// Writes the line of a gap, if there is one.
 fn push_gap<K: Sink>(gap: Option<Gap>, out: &mut K) -> Result<(), Stop>
     requires { IfSome gap (λ gap. gap.ticks < 2 ^ 60) }
@@ -71,7 +81,7 @@ impl SpanLines {
         ensures cause { HasOutCause (K.faults out.old) (K.faults out.new) result }
     {
         match span {
-            Some(span) => push_piece(out, &span_text(&span, self.tick_rate, self.system)),
+            Some(span) => push_span_line(out, &span_text(&span, self.tick_rate, self.system)),
             None => Ok(()),
         }
     }
@@ -135,9 +145,6 @@ impl FrameSink for SpanLines {
 
     fn finish<K: Sink>(&self, reader: &FrameReader, out: &mut K) -> Result<(), Stop> {
         self.push_span(self.tape.current(), out)?;
-        push_line(
-            out,
-            &self.tape.end_text(reader.intervals(), reader.ticks()),
-        )
+        push_line(out, &self.tape.end_text(reader.intervals(), reader.ticks()))
     }
 }
