@@ -10,7 +10,7 @@ _tc() {
             ltc-make:3) values="forward backward" ;;
             ltc-convert:2) values="1 2" ;;
             pcm-ltc:2) values="24 25 30" ;;
-            pcm-ltc:6) values="follow" ;;
+            pcm-ltc:6) values="follow deep" ;;
         esac
     fi
     mapfile -t COMPREPLY < <(compgen -W "$values" -- "$word")

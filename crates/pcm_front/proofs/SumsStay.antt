@@ -70,7 +70,7 @@ last-one front x =
     let place : length (front ++ x ∷ []) - 1 ≡ length front = omega (arith, length_push front x) in
     ap (λ n. drop n (front ++ x ∷ [])) place ∙ drop-append_seam front (x ∷ [])
 
-alone : (x : ℤ) → total (x ∷ []) ≡ x
+pub alone : (x : ℤ) → total (x ∷ []) ≡ x
 unfolding total
 alone x = grind (arith, ints)
 

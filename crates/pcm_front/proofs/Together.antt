@@ -1,5 +1,5 @@
 -- Samples that were taken one after another, and the distance that they brought.
-use Rattle.std.proofs.Common.{◌≡◌, true, ℕ, zero, suc, ◌+◌, ◌-◌, ◌*◌, ◌<◌, ◌≤◌, ℤ, pos, List, [], ◌∷◌, ◌++◌, length, take, get_or, ◌^◌, Option, None, Some}
+use Rattle.std.proofs.Common.{◌≡◌, true, ℕ, zero, suc, ◌+◌, ◌-◌, ◌*◌, ◌<◌, ◌≤◌, ℤ, pos, List, [], ◌∷◌, ◌++◌, length, take, drop, get_or, ◌^◌, Option, None, Some}
 use Rattle.std.proofs.Common.{refl, ap, ap₂, subst, sym, ◌∙◌, append-nil, append_assoc, add-one, mul-add, mul-suc, mul-le-mul_left, arith}
 use Rattle.std.specs.Option.{option_to_list}
 use Rattle.std.proofs.lemmas.List.{length-append, length-take-le}
@@ -7,16 +7,17 @@ use Rattle.pcm_front.specs.declared.level.Level.{Level}
 use Rattle.pcm_front.specs.declared.side.Side.{Side}
 use Rattle.pcm_front.specs.declared.start.Start.{Start}
 use Rattle.pcm_front.specs.declared.threshold.Threshold.{Threshold}
+use Rattle.pcm_front.specs.declared.threshold.Threshold.TheVariants.{Fixed}
 use Rattle.pcm_front.specs.Distance.{distances_by, distances_since}
 use Rattle.pcm_front.specs.Level.{next_level, threshold_by}
 use Rattle.pcm_front.specs.Settings.{Settings}
 use Rattle.pcm_front.specs.Side.{side_of, stays}
 use Rattle.pcm_front.specs.StandsFor.{distances_in, Finds, Stand}
-use Rattle.pcm_front.specs.State.{between, distance_at, level_in, state_after, state_of, window_after, FinderState, WindowState}
+use Rattle.pcm_front.specs.State.{between, distance_at, level_in, state_after, state_of, window_after, FinderState, IsAlone, WindowState}
 use Rattle.pcm_front.specs.Sums.{sums, total}
 use Rattle.pcm_front.proofs.Sides.{stays_apart, stays_there}
 use Rattle.pcm_front.proofs.StandsStill.{brings_distance, stands_still}
-use Rattle.pcm_front.proofs.SumsStay.{sum_of, sums-more}
+use Rattle.pcm_front.proofs.SumsStay.{alone, sum_of, sums-more}
 use Rattle.pcm_front.proofs.Windows.{kept-more, sum-now}
 
 abbrev settings : ℕ → Threshold → ℕ → Start → Settings
@@ -196,3 +197,29 @@ distances_and_one was now front xs at s distance same within is brings none =
     ∙ ap (λ how. distances_by how ((front ++ take at xs) ++ s ∷ [])) (sym same)
     ∙ brings
     ∙ ap (λ ds. ds ++ option_to_list distance) (ap (λ how. distances_by how (front ++ take at xs)) same ∙ none)
+
+-- ---- the same where each sample stands for itself
+
+one_sample : (window : WindowState) (s : ℤ) → IsAlone window → s ≡ total (window.kept ++ s ∷ [])
+one_sample window s is = sym (ap (λ kept. total (kept ++ s ∷ [])) is.1 ∙ alone s)
+
+none_kept : (window : WindowState) (s : ℤ) → IsAlone window → window_after window s ≡ window
+none_kept window s is = ap (λ kept. record { smooth = window.smooth; kept = drop 1 (kept ++ s ∷ []) }) is.1
+    ∙ ap (λ kept. record { smooth = window.smooth; kept = kept }) (sym is.1)
+
+-- at a fixed threshold, the level stays too
+pub alone_to : (start state : FinderState) (at f t : ℕ) (xs : List ℤ) (s : ℤ) → at < length xs → s ≡ get_or xs at (pos 0)
+    → state.threshold ≡ Fixed t → stays state.side (side_of t s) ≡ true → f ≡ state.fineness
+    → ((window : WindowState) → IsAlone window → RunsTo start state window window (take at xs) None)
+    → (window : WindowState) → IsAlone window
+    → RunsTo start (state_of state.fineness state.threshold state.start (state.tick + f) s state.level state.side state.latest) window window (take (at + 1) xs) None
+alone_to start state at f t xs s within s_is fixed is f_is runs window single =
+    let level : state.level ≡ level_in state s = ap (λ h. next_level h state.level s) (sym fixed) in
+    let still : IsStill state s = ap (λ h. stays state.side (side_of (threshold_by h (next_level h state.level s)) s)) fixed ∙ is in
+    still_to start state window window window at f xs s s state.level within s_is (omega (arith, single.0)) (one_sample window s single) still f_is level
+    (sym (none_kept window s single)) (runs window single)
+
+-- the tick with one sample more, and the room for it
+pub one_tick : (f g tick start at : ℕ) → g ≡ f → tick ≡ start + f * at → tick + g ≡ start + f * (at + 1)
+one_tick f g tick start at same is =
+    let one : f * (at + 1) ≡ f * at + f = ap (λ k. f * k) (add-one at) ∙ mul-suc f at in omega (arith, same, is, one)

@@ -6,6 +6,8 @@ use Rattle.pcm_front.specs.declared.level.Level.{Level}
 use Rattle.pcm_front.specs.declared.side.Side.{Side}
 use Rattle.pcm_front.specs.declared.start.Start.{Start}
 use Rattle.pcm_front.specs.declared.start.Start.TheVariants.{Crossing, Tick}
+use Rattle.pcm_front.specs.declared.threshold.Following.{Following}
+use Rattle.pcm_front.specs.declared.threshold.Following.TheVariants.{Half, Quarter}
 use Rattle.pcm_front.specs.declared.threshold.Threshold.{Threshold}
 use Rattle.pcm_front.specs.declared.threshold.Threshold.TheVariants.{Fixed, Follow, Deep}
 use Rattle.pcm_front.specs.Level.{silent, next_level, threshold_by, HasSixteenBits, IsInRange, IsSum}
@@ -52,6 +54,11 @@ IsThreshold (Fixed threshold) = (1 ≤ threshold) × (threshold ≤ 524_272)
 IsThreshold (Follow least) = (1 ≤ least) × (least ≤ 524_272)
 IsThreshold (Deep least) = (1 ≤ least) × (least ≤ 524_272)
 
+-- the threshold that one that follows is
+abbrev pub threshold_of : Following → Threshold
+threshold_of (Half least) = Follow least
+threshold_of (Quarter least) = Deep least
+
 -- what is kept is in its range
 pub record IsKept (state : FinderState) : Type 0 where
   pub least : 1 ≤ state.fineness
@@ -81,6 +88,10 @@ fresh_window smooth = record { smooth = smooth; kept = replicate (smooth - 1) (p
 -- the window after a sample: the oldest of those kept goes
 abbrev pub window_after : WindowState → ℤ → WindowState
 window_after window sample = record { smooth = window.smooth; kept = drop 1 (window.kept ++ sample ∷ []) }
+
+-- each sample stands for itself, and none is kept
+abbrev pub IsAlone : WindowState → Type 0
+IsAlone window = (window.smooth ≡ 1) × (window.kept ≡ [])
 
 -- what a window keeps is in its range
 pub record IsWindow (window : WindowState) : Type 0 where

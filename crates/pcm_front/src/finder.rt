@@ -2,7 +2,7 @@
 ghost use Rattle.std.specs.Prelude.{◌≡◌, ℕ, ℤ, ◌+◌, ◌*◌, ◌<◌, ◌≤◌, ◌^◌, List, [], ◌++◌, length, take, IfSome};
 ghost use Rattle.pcm_front.specs.Level.{IsInRange, IsSum};
 ghost use Rattle.pcm_front.specs.StandsFor.{distances_in, Stand};
-ghost use Rattle.pcm_front.specs.State.{between, crossing_after, distance_at, fresh, late_start, state_after, IsThreshold};
+ghost use Rattle.pcm_front.specs.State.{between, crossing_after, distance_at, fresh, late_start, state_after, IsAlone, IsThreshold, WindowState};
 
 use crate::crossing::tick_to;
 use crate::level::Level;
@@ -131,14 +131,17 @@ impl Finder {
             → distances_in self.old window.old (front ++ take result (S.list samples.now))
             ≡ distances_in self.old window.old front }
     {
-        let (threshold, side, fineness) = (self.threshold, self.side, u64::from(self.fineness));
+        let Some(following) = self.threshold.following() else {
+            return self.still_alone(window, samples);
+        };
+        let (side, fineness) = (self.side, u64::from(self.fineness));
         let (mut tick, mut before, mut level) = (self.tick, self.before, self.level);
         let mut at = 0;
         'samples: while at < samples.count() {
             let sample = samples.at(at);
             let sum = window.sum_with(sample);
-            let next = threshold.next_level(level, sum);
-            if !stays(side, threshold.at(next), sum) {
+            let next = following.next_level(level, sum);
+            if !stays(side, following.at(next), sum) {
                 break;
             }
             window.push(sample);
@@ -150,6 +153,56 @@ impl Finder {
         self.tick = tick;
         self.before = before;
         self.level = level;
+        at
+    }
+    /// The same at a fixed threshold, where each sample stands for itself. Sums of several samples are
+    /// left to be taken one by one.
+    fn still_alone<S: Samples>(&mut self, window: &Window, samples: &S) -> usize
+        requires { self.old.tick + self.old.fineness * length (S.list samples.now) ≤ 2 ^ 62 }
+        ensures within { result ≤ length (S.list samples.now) }
+        ensures tick { self.new.tick ≡ self.old.tick + self.old.fineness * result }
+        ensures fineness { self.new.fineness ≡ self.old.fineness }
+        ensures threshold { self.new.threshold ≡ self.old.threshold }
+        ensures start { self.new.start ≡ self.old.start }
+        ensures stands { (front : List ℤ) → Stand self.old window.now front
+            → Stand self.new window.now (front ++ take result (S.list samples.now)) }
+        ensures none { (front : List ℤ) → Stand self.old window.now front
+            → distances_in self.old window.now (front ++ take result (S.list samples.now)) ≡ distances_in self.old window.now front }
+    {
+        match self.threshold {
+            Threshold::Fixed(threshold) if window.is_alone() => self.still_at(threshold, samples),
+            _ => 0,
+        }
+    }
+
+    /// The same at such a threshold: then nothing else changes.
+    fn still_at<S: Samples>(&mut self, threshold: u32, samples: &S) -> usize
+        requires fixed { self.old.threshold ≡ Threshold.Fixed threshold }
+        requires room { self.old.tick + self.old.fineness * length (S.list samples.now) ≤ 2 ^ 62 }
+        ensures within { result ≤ length (S.list samples.now) }
+        ensures tick { self.new.tick ≡ self.old.tick + self.old.fineness * result }
+        ensures fineness { self.new.fineness ≡ self.old.fineness }
+        ensures threshold { self.new.threshold ≡ self.old.threshold }
+        ensures start { self.new.start ≡ self.old.start }
+        ensures stands { (window : WindowState) (front : List ℤ) → IsAlone window → Stand self.old window front
+            → Stand self.new window (front ++ take result (S.list samples.now)) }
+        ensures none { (window : WindowState) (front : List ℤ) → IsAlone window → Stand self.old window front
+            → distances_in self.old window (front ++ take result (S.list samples.now)) ≡ distances_in self.old window front }
+    {
+        let (side, fineness) = (self.side, u64::from(self.fineness));
+        let (mut tick, mut before) = (self.tick, self.before);
+        let mut at = 0;
+        'samples: while at < samples.count() {
+            let sum = i32::from(samples.at(at));
+            if !stays(side, threshold, sum) {
+                break;
+            }
+            at += 1;
+            tick += fineness;
+            before = sum;
+        }
+        self.tick = tick;
+        self.before = before;
         at
     }
 }

@@ -29,9 +29,9 @@ impl Level {
     {
         let size = sum.unsigned_abs();
         let peak = if self.peak < size {
-            self.peak + (size - self.peak).div_ceil(4)
+            self.peak + (size - self.peak + 3) / 4
         } else {
-            self.peak - self.peak.div_ceil(1_024)
+            self.peak - (self.peak + 1_023) / 1_024
         };
         Level {
             peak,

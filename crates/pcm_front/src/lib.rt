@@ -5,24 +5,27 @@
 //! neighbouring crossings are the intervals of the recording. With a fineness of one they are counted
 //! in whole samples. A finer slicer places each crossing on the straight line from sample to sample,
 //! in so many ticks a sample, which keeps the shape of cells that have few samples. A threshold is
-//! fixed, or follows the level of the sound, at a half or a quarter of its height. The finer form and
-//! the thresholds that follow are this project's own.
+//! fixed, or follows the level of the sound, at a half or a quarter of its height. Sums of the latest
+//! samples may be sliced in place of the samples, against hiss. The first distance begins at the first
+//! crossing, or at tick 0, the place of the first sample. The finer form, the thresholds that follow
+//! and the sums are this project's own.
 //!
 //! What this crate promises:
-//! - `Slicer::sample` gives exactly the distances of the crossings of the samples so far
-//!   (`specs/Distance.antt`, `distances`), without keeping the samples (`specs/StandsFor.antt`, clause
-//!   `stands`). They come first, whatever samples follow (`laws`).
-//! - `Slicer::run` takes the whole samples of bytes (`specs/Samples.antt`, `samples_of`), up to one that
-//!   brings a distance.
+//! - `Slicer::sample` gives exactly the distances of the crossings of the sums of the samples so far
+//!   (`specs/Distance.antt`, `distances_by`, and `specs/Sums.antt`, `sums`), and keeps but the latest of
+//!   the samples (`specs/StandsFor.antt`, clause `stands`). They come first, whatever samples follow
+//!   (`laws`). Sums of one are the samples.
+//! - `Slicer::run_samples` takes many samples, and `Slicer::run` the whole samples of bytes
+//!   (`specs/Samples.antt`, `samples_of`), up to one that may bring a distance.
 //! - `pieces` writes a distance as intervals of at most `MAX_INTERVAL` (`specs/Distance.antt`,
 //!   `pieces_of`).
 //! - Moments rise, from crossing to crossing the ticks differ from those of whole samples by less than
 //!   a sample, and runs of samples are sliced into their lengths (`laws`).
 //! - Sound that is made of intervals is sliced into them again (`specs/Sound.antt`, `sound`; `laws`).
 //!
-//! Read `threshold`, `level`, `side`, `crossing`, `slicer` and `interval`, in this order, and
-//! `specs/Level.antt`, `Side.antt`, `Crossing.antt` and `Distance.antt` beside them. Nothing here
-//! allocates or fails.
+//! Read `start`, `samples`, `window`, `threshold`, `level`, `side`, `crossing`, `finder`, `slicer` and
+//! `interval`, in this order, and `specs/Sums.antt`, `Level.antt`, `Side.antt`, `Crossing.antt` and
+//! `Distance.antt` beside them. Nothing here allocates or fails.
 #![tactic(auto)]
 
 mod crossing;

@@ -1,7 +1,7 @@
 //! The sums of the latest samples. Next: `level`.
-ghost use Rattle.std.specs.Prelude.{◌≡◌, ◌≤◌, ◌+◌, ◌*◌, ◌==◌, cond, unsigned_abs, ◌+ℤ◌, ◌-ℤ◌, ◌++◌, [], ◌∷◌};
+ghost use Rattle.std.specs.Prelude.{◌≡◌, ◌≤◌, ◌+◌, ◌*◌, ◌==◌, true, cond, unsigned_abs, ◌+ℤ◌, ◌-ℤ◌, ◌++◌, [], ◌∷◌};
 ghost use Rattle.pcm_front.specs.Level.{IsSum};
-ghost use Rattle.pcm_front.specs.State.{fresh_window, window_after};
+ghost use Rattle.pcm_front.specs.State.{fresh_window, window_after, IsAlone};
 ghost use Rattle.pcm_front.specs.Sums.{total};
 
 use std::marker::Model;
@@ -73,6 +73,13 @@ impl Window {
             oldest: 0,
             sum: 0,
         }
+    }
+
+    /// Whether each sample stands for itself.
+    pub(crate) fn is_alone(&self) -> bool
+        ensures { result ≡ true → IsAlone self.now }
+    {
+        self.smooth == 1
     }
 
     /// The sum of the latest samples, this one among them.

@@ -10,9 +10,9 @@ use Rattle.line_file.specs.Texts.{field_line}
 use Rattle.mtc_reader.specs.declared.event.MtcEvent.{MtcEvent}
 use Rattle.mtc_reader.specs.Events.{events_in}
 use Rattle.mtc_reader.specs.Texts.{event_line as mtc_line}
-use Rattle.pcm_front.specs.declared.threshold.Threshold.{Threshold}
-use Rattle.pcm_front.specs.Distance.{distances, pieces_of}
+use Rattle.pcm_front.specs.Distance.{distances_by, pieces_of}
 use Rattle.pcm_front.specs.Samples.{sample_in, samples_of}
+use Rattle.pcm_front.specs.Settings.{Settings}
 use Rattle.tc_files.specs.declared.fault.FileFault.{FileFault}
 use Rattle.tc_files.specs.declared.interval_file.header.IntervalHeader.{IntervalHeader}
 use Rattle.tc_files.specs.Grammar.{file_of, intervals_bytes}
@@ -27,7 +27,7 @@ use Rattle.tc_command.specs.KeptFirst.{front_of_more}
 use Rattle.signal_commands.specs.declared.mtc_read.TheConstants.{MAX_BYTES}
 use Rattle.signal_commands.specs.declared.pcm_ltc.TheConstants.{MAX_SAMPLES}
 use Rattle.signal_commands.specs.MtcRead.{along_midi, event_lines, last_mtc_line}
-use Rattle.signal_commands.specs.PcmLtc.{along_samples, sliced, sliced_header}
+use Rattle.signal_commands.specs.PcmLtc.{along_samples, settings_for, sliced, sliced_header}
 use Rattle.signal_commands.specs.VitcRead.{along_fields, answer_lines, field_report, last_field_line}
 use Rattle.signal_commands.proofs.MidiLimit.{never_refused, past_within}
 use Rattle.signal_commands.proofs.SlicedOn.{never_refused as no_fault_yet, past_within as past_samples}
@@ -84,8 +84,8 @@ midi_is_command laws = record {
 
 -- the distances of some samples come first
 abbrev pub DistancesComeFirst : Type 0
-DistancesComeFirst = (fineness : ℕ) (threshold : Threshold) (front more : List ℤ)
-    → (rest : List ℕ) × (distances fineness threshold (front ++ more) ≡ distances fineness threshold front ++ rest)
+DistancesComeFirst = (settings : Settings) (front more : List ℤ)
+    → (rest : List ℕ) × (distances_by settings (front ++ more) ≡ distances_by settings front ++ rest)
 
 samples_first : (front more : List ℕ) → (rest : List ℤ) × (samples_of (front ++ more) ≡ samples_of front ++ rest)
 unfolding samples_of
@@ -105,8 +105,8 @@ file_first header xs more = (
 
 sliced_first : DistancesComeFirst → (s : Slices) (front more : List ℤ) → IsFront (sliced s front) (sliced s (front ++ more))
 sliced_first laws s front more =
-    let gaps = laws s.fineness s.threshold front more in
-    let before = distances s.fineness s.threshold front in
+    let gaps = laws (settings_for s) front more in
+    let before = distances_by (settings_for s) front in
     let file = file_first (sliced_header s) (flat_map pieces_of before) (flat_map pieces_of gaps.0) in (
       file.0,
       ap (λ ds. file_of (sliced_header s) (flat_map pieces_of ds)) gaps.1

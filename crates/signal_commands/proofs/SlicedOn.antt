@@ -8,8 +8,9 @@ use Rattle.std.specs.Io.KnownBytes.{Appends}
 use Rattle.std.proofs.lemmas.Bool.{ltb-true, lt-ltb}
 use Rattle.std.proofs.lemmas.Grind.{flat_map-append}
 use Rattle.std.proofs.lemmas.List.{length-append, length-take, length-take-le, take-append-drop, take-append-le, take-take, take_all}
-use Rattle.pcm_front.specs.Distance.{distances, pieces_of}
+use Rattle.pcm_front.specs.Distance.{distances_by, pieces_of}
 use Rattle.pcm_front.specs.Samples.{samples_of}
+use Rattle.pcm_front.specs.Settings.{Settings}
 use Rattle.pcm_front.specs.StandsFor as pcm
 use Rattle.tc_files.specs.declared.fault.FileFault.{FileFault}
 use Rattle.tc_files.specs.declared.interval_file.header.FileVersion.TheVariants.{One}
@@ -23,12 +24,11 @@ use Rattle.signal_commands.specs.declared.pcm_ltc.SlicedSound.{SlicedSound}
 use Rattle.signal_commands.specs.declared.pcm_ltc.TheConstants.{MAX_SAMPLES}
 use Rattle.std.specs.Prelude.{IfErr, Ok, Err}
 use Rattle.std.specs.declared.result.Result.{Result}
-use Rattle.pcm_front.specs.declared.threshold.Threshold.{Threshold}
 use Rattle.tc_command.specs.declared.stop.Stop.{Stop}
 use Rattle.tc_command.specs.declared.stop.Stop.TheVariants as stops
 use Rattle.signal_commands.specs.KeptSlices.{Slices, Stands, half_is_none, length-samples, samples_of-append}
 use Rattle.tc_files.specs.declared.fault.FileFault.TheVariants.{Truncated}
-use Rattle.signal_commands.specs.PcmLtc.{along_samples, odd_fault, samples_within, sliced, sliced_header}
+use Rattle.signal_commands.specs.PcmLtc.{along_samples, odd_fault, samples_within, settings_for, sliced, sliced_header}
 use Rattle.tc_command.specs.Stops.{Stops}
 use Rattle.tc_command.specs.KeptWorks.{first_and_rest, first_only}
 
@@ -84,10 +84,10 @@ abbrev pub due : Option ℕ → List ℕ
 due distance = intervals_bytes One (flat_map pieces_of (option_to_list distance))
 
 longer_file : (s : words.Slices) (samples more : List ℤ) (distance : Option ℕ)
-    → distances s.fineness s.threshold (samples ++ more) ≡ distances s.fineness s.threshold samples ++ option_to_list distance
+    → distances_by (settings_for s) (samples ++ more) ≡ distances_by (settings_for s) samples ++ option_to_list distance
     → sliced s (samples ++ more) ≡ sliced s samples ++ due distance
 longer_file s samples more distance brings =
-    let before = distances s.fineness s.threshold samples in
+    let before = distances_by (settings_for s) samples in
     ap (λ (ds : List ℕ). file_of (sliced_header s) (flat_map pieces_of ds)) brings
     ∙ ap (λ (xs : List ℕ). file_of (sliced_header s) xs) (flat_map-append pieces_of before (option_to_list distance))
     ∙ ap (λ (bytes : List ℕ). header_bytes (sliced_header s) ++ bytes)
@@ -101,8 +101,8 @@ pub record Grows (s next : SlicedSound) (taken : List ℕ) (distance : Option �
   pub slicing : next.slicing ≡ s.slicing
   pub stands : (samples : List ℤ) → pcm.StandsFor s.slicer samples → pcm.StandsFor next.slicer (samples ++ samples_of taken)
   pub brings : (samples : List ℤ) → pcm.StandsFor s.slicer samples
-      → distances s.slicing.fineness s.slicing.threshold (samples ++ samples_of taken)
-      ≡ distances s.slicing.fineness s.slicing.threshold samples ++ option_to_list distance
+      → distances_by (settings_for s.slicing) (samples ++ samples_of taken)
+      ≡ distances_by (settings_for s.slicing) samples ++ option_to_list distance
 
 -- the file of the bytes with more
 grown_file : (s next : SlicedSound) (whole written taken : List ℕ) (distance : Option ℕ) → Slices s whole written → Grows s next taken distance
@@ -239,26 +239,26 @@ no_longer s bytes inner is = omega (arith, ap length is, length-take (2 * (MAX_S
 pub grows : (s next : SlicedSound) (bytes inner : List ℕ) (count k : ℕ) (distance : Option ℕ)
     → inner ≡ take (2 * (MAX_SAMPLES - s.samples)) bytes → count ≤ length inner → count ≡ 2 * k
     → next.samples ≡ s.samples + count / 2 → next.slicing ≡ s.slicing → s.samples ≤ MAX_SAMPLES
-    → s.slicer.fineness ≡ s.slicing.fineness → s.slicer.threshold ≡ s.slicing.threshold
+    → pcm.settings_of s.slicer ≡ settings_for s.slicing
     → ((samples : List ℤ) → pcm.StandsFor s.slicer samples → pcm.StandsFor next.slicer (samples ++ samples_of (take count inner)))
-    → ((samples : List ℤ) → pcm.StandsFor s.slicer samples → distances s.slicer.fineness s.slicer.threshold (samples ++ samples_of (take count inner))
-    ≡ distances s.slicer.fineness s.slicer.threshold samples ++ option_to_list distance)
+    → ((samples : List ℤ) → pcm.StandsFor s.slicer samples → distances_by (pcm.settings_of s.slicer) (samples ++ samples_of (take count inner))
+    ≡ distances_by (pcm.settings_of s.slicer) samples ++ option_to_list distance)
     → Grows s next (take count bytes) distance
-grows s next bytes inner count k distance is within whole counted same_slicing few same_fineness same_threshold stands brings =
+grows s next bytes inner count k distance is within whole counted same_slicing few same_settings stands brings =
     let most = 2 * (MAX_SAMPLES - s.samples) in
     let short = no_longer s bytes inner is in
     let inside : length inner ≤ length bytes = omega (arith, ap length is, length-take most bytes) in
     let same : take count inner ≡ take count bytes = ap (take count) is ∙ take-take count most bytes (omega (arith, within, short)) in
     let long : length (take count bytes) ≡ count = length-take-le count bytes (omega (arith, within, inside)) in
-    let by_words : (xs : List ℤ) → distances s.slicer.fineness s.slicer.threshold xs ≡ distances s.slicing.fineness s.slicing.threshold xs =
-    λ xs. ap₂ (λ (f : ℕ) (t : Threshold). distances f t xs) same_fineness same_threshold in
+    let by_words : (xs : List ℤ) → distances_by (pcm.settings_of s.slicer) xs ≡ distances_by (settings_for s.slicing) xs =
+    λ xs. ap (λ (how : Settings). distances_by how xs) same_settings in
     record {
       count = omega (arith, long, whole, counted);
       within = omega (arith, whole, counted, within, short, few);
       slicing = same_slicing;
       stands = λ samples is_for. subst (λ (b : List ℕ). pcm.StandsFor next.slicer (samples ++ samples_of b)) same (stands samples is_for);
       brings = λ samples is_for. sym (by_words (samples ++ samples_of (take count bytes)))
-          ∙ ap (λ (b : List ℕ). distances s.slicer.fineness s.slicer.threshold (samples ++ samples_of b)) (sym same) ∙ brings samples is_for
+          ∙ ap (λ (b : List ℕ). distances_by (pcm.settings_of s.slicer) (samples ++ samples_of b)) (sym same) ∙ brings samples is_for
           ∙ ap (λ (l : List ℕ). l ++ option_to_list distance) (by_words samples);
     }
 

@@ -12,15 +12,14 @@ use Rattle.tc_words.specs.declared.slicing.TheConstants.{MAX_FINENESS}
 use Rattle.signal_commands.specs.declared.pcm_ltc.SlicedSound.{SlicedSound}
 use Rattle.signal_commands.specs.declared.pcm_ltc.TheConstants.{MAX_SAMPLES}
 use Rattle.tc_command.specs.Meaning.{Meaning, Shows}
-use Rattle.signal_commands.specs.PcmLtc.{along_samples, sliced}
+use Rattle.signal_commands.specs.PcmLtc.{along_samples, settings_for, sliced}
 
 -- the slicer is that of the words, and counts the samples
 pub record IsGoing (s : SlicedSound) : Type 0 where
   pub within : s.samples ≤ MAX_SAMPLES
   pub fine : s.slicing.fineness ≤ MAX_FINENESS
-  pub fineness : s.slicer.fineness ≡ s.slicing.fineness
-  pub threshold : s.slicer.threshold ≡ s.slicing.threshold
-  pub tick : s.slicer.tick ≡ s.slicing.fineness * s.samples
+  pub settings : pcm.settings_of s.slicer ≡ settings_for s.slicing
+  pub tick : pcm.tick_of s.slicer ≡ s.slicing.fineness * s.samples
 
 -- it was given the samples of these whole bytes; what was written, and then what is gathered, are their file
 pub record Slices (s : SlicedSound) (whole written : List ℕ) : Type 0 where

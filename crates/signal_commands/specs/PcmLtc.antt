@@ -1,7 +1,8 @@
 -- `pcm-ltc`: samples of sound, as an interval file of the distances of their crossings.
 use Rattle.std.specs.Prelude.{◌≡◌, ℕ, ◌*◌, ◌%◌, ◌==◌, true, cond, nat_lt, ℤ, List, length, take, Option, Some, None}
-use Rattle.pcm_front.specs.Distance.{intervals}
+use Rattle.pcm_front.specs.Distance.{intervals_by}
 use Rattle.pcm_front.specs.Samples.{samples_of}
+use Rattle.pcm_front.specs.Settings.{from_crossing, Settings}
 use Rattle.tc_files.specs.declared.fault.FileFault.{FileFault}
 use Rattle.tc_files.specs.declared.fault.FileFault.TheVariants.{Truncated}
 use Rattle.tc_files.specs.declared.interval_file.header.FileVersion.TheVariants.{One}
@@ -16,9 +17,13 @@ use Rattle.tc_command.specs.Meaning.{Meaning}
 abbrev pub sliced_header : Slices → IntervalHeader
 sliced_header s = record { version = One; system = s.system; tick_rate = s.rate * s.fineness }
 
+-- how samples are sliced: from the first crossing on
+abbrev pub settings_for : Slices → Settings
+settings_for s = from_crossing s.fineness s.threshold s.smooth
+
 -- the file of the intervals of samples
 abbrev pub sliced : Slices → List ℤ → List ℕ
-sliced s samples = file_of (sliced_header s) (intervals s.fineness s.threshold samples)
+sliced s samples = file_of (sliced_header s) (intervals_by (settings_for s) samples)
 
 -- so many whole samples are taken, at most
 abbrev pub samples_within : ℕ → List ℕ → Verdict

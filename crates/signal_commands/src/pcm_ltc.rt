@@ -60,7 +60,11 @@ impl SlicedSound {
         });
         SlicedSound {
             slicing: *slicing,
-            slicer: Slicer::finer(slicing.fineness(), slicing.threshold()),
+            slicer: Slicer::summing(
+                slicing.fineness(),
+                slicing.threshold(),
+                slicing.smooth(),
+            ),
             samples: 0,
             half: None,
             gathered: Gathered::holding(&header),

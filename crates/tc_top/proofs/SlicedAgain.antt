@@ -4,9 +4,10 @@ use Rattle.std.specs.List.{flat_map, AllByRecursion}
 use Rattle.direction_reader.specs.declared.reader.TheConstants.{MAX_INTERVALS}
 use Rattle.pcm_front.specs.declared.threshold.Threshold.{Threshold}
 use Rattle.pcm_front.specs.declared.threshold.Threshold.TheVariants.{Fixed}
-use Rattle.pcm_front.specs.Distance.{distances, intervals, pieces_of, IsInterval}
+use Rattle.pcm_front.specs.Distance.{distances, intervals, intervals_by, pieces_of, IsInterval}
 use Rattle.pcm_front.specs.Samples.{bytes_of, samples_of}
 use Rattle.pcm_front.specs.Sound.{sound}
+use Rattle.pcm_front.specs.Sums.{sums}
 use Rattle.std.specs.Prelude.{ℤ}
 use Rattle.tc_files.specs.declared.interval_file.header.IntervalHeader.{IntervalHeader}
 use Rattle.tc_files.specs.Grammar.{AreBytes, AreIntervals, IsFile, file_of}
@@ -15,7 +16,8 @@ use Rattle.tc_files.specs.Verdict.{good}
 use Rattle.interval_commands.specs.Along.{IsWholeOf, along_intervals}
 use Rattle.interval_commands.specs.LtcPcm.{made_sound}
 use Rattle.tc_command.specs.Meaning.{IsInput}
-use Rattle.signal_commands.specs.PcmLtc.{sliced_header}
+use Rattle.signal_commands.specs.PcmLtc.{settings_for, sliced_header}
+use Rattle.tc_words.specs.Slicing.{Slices}
 use Rattle.tc_top.specs.SoundAgain.{times, IsSlicedAgain}
 
 -- what the laws of the files, of samples and of sound say
@@ -29,6 +31,12 @@ pub record SoundLaws : Type 0 where
       → distances fineness (Fixed threshold) (sound size xs) ≡ map (λ interval. fineness * interval) xs
   pub sliced : (threshold size : ℕ) (xs : List ℕ) → 1 ≤ threshold → threshold ≤ size → AllByRecursion IsInterval xs
       → intervals 1 (Fixed threshold) (sound size xs) ≡ xs
+  pub alone : (samples : List ℤ) → sums 1 samples ≡ samples
+
+-- a sample that stands for itself is no sum
+for_itself : SoundLaws → (s : Slices) (samples : List ℤ) → s.smooth ≡ 1 → intervals_by (settings_for s) samples ≡ intervals s.fineness s.threshold samples
+for_itself laws s samples one =
+    ap (λ (n : ℕ). intervals s.fineness s.threshold (sums n samples)) one ∙ ap (intervals s.fineness s.threshold) (laws.alone samples)
 
 all_intervals : (xs : List ℕ) → AreIntervals xs → AllByRecursion IsInterval xs
 all_intervals [] are = tt
@@ -51,10 +59,12 @@ sliced_again laws size below bytes made are input whole =
       apart = apart;
       finer = λ slicing again s.
           s.output
+          ∙ ap (file_of (sliced_header slicing)) (for_itself laws slicing (samples_of made) s.alone)
           ∙ ap (λ (t : Threshold). file_of (sliced_header slicing) (intervals slicing.fineness t (samples_of made))) s.fixed
           ∙ ap (λ (l : List ℕ). file_of (sliced_header slicing) (flat_map pieces_of l)) (apart slicing.fineness s.threshold s.some s.most);
       whole = λ slicing again s one.
           s.output
+          ∙ ap (file_of (sliced_header slicing)) (for_itself laws slicing (samples_of made) s.alone)
           ∙ ap₂ (λ (fineness : ℕ) (t : Threshold). file_of (sliced_header slicing) (intervals fineness t (samples_of made))) one s.fixed
           ∙ ap (λ (l : List ℤ). file_of (sliced_header slicing) (intervals 1 (Fixed s.threshold) l)) read
           ∙ ap (file_of (sliced_header slicing)) (laws.sliced s.threshold size xs s.some s.most all ∙ sym same);

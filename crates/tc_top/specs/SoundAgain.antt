@@ -16,9 +16,10 @@ use Rattle.signal_commands.specs.PcmLtc.{sliced_header}
 abbrev pub times : ℕ → List ℕ → List ℕ
 times fineness intervals = map (λ interval. fineness * interval) intervals
 
--- `pcm-ltc` takes the sound whole, at a fixed threshold of at most the size of its samples, and writes this
+-- `pcm-ltc` takes the sound whole, each sample for itself, at a fixed threshold of at most the size of the samples, and writes this
 pub record SlicesTo (size : ℕ) (slicing : Slices) (sound written : List ℕ) : Type 0 where
   pub threshold : ℕ
+  pub alone : slicing.smooth ≡ 1
   pub fixed : slicing.threshold ≡ Fixed threshold
   pub some : 1 ≤ threshold
   pub most : threshold ≤ size

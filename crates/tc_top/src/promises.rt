@@ -15,6 +15,7 @@ use made_commands::is_all_read;
 use made_commands::laws::{lines_that_are_made_are_read_back, what_is_made_is_read_whole};
 use pcm_front::laws::{
     a_sound_is_sliced_into_its_intervals, samples_are_read_as_they_were_written,
+    sums_of_one_are_the_samples,
 };
 use quarter_frame::laws::what_is_sent_is_read_back;
 use tc_files::laws::{a_file_is_read_as_it_was_written, bytes_are_read_as_the_text_says};
@@ -130,5 +131,6 @@ fn is_sliced_again(amplitude: Amplitude)
     bytes_are_read_as_the_text_says();
     samples_are_read_as_they_were_written();
     a_sound_is_sliced_into_its_intervals();
+    sums_of_one_are_the_samples();
     let _size = amplitude.size();
 }

@@ -9,4 +9,5 @@ returns c = λ e are input output. sliced_again (record {
   samples = c.samples_are_read_as_they_were_written.ensures.sound;
   apart = c.a_sound_is_sliced_into_its_intervals.ensures.distances;
   sliced = c.a_sound_is_sliced_into_its_intervals.ensures.intervals;
+  alone = c.sums_of_one_are_the_samples.ensures.sums;
 }) c.args.amplitude (let valid = c.size-size.ensures.valid in omega (arith, valid.1)) e.pulled e.written are input output

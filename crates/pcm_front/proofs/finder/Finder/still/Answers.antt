@@ -6,7 +6,7 @@ use Rattle.pcm_front.specs.declared.threshold.Threshold.{Threshold}
 use Rattle.pcm_front.specs.Level.{next_level, threshold_by}
 use Rattle.pcm_front.specs.Side.{side_of, stays}
 use Rattle.pcm_front.specs.StandsFor.{Stand}
-use Rattle.pcm_front.specs.State.{FinderState}
+use Rattle.pcm_front.specs.State.{threshold_of, FinderState}
 use Rattle.pcm_front.proofs.Together.{room_for_one, still_is, still_to, RunsTo}
 use Rattle.pcm_front.proofs.finder.Finder.still.Goals as goal
 
@@ -36,7 +36,7 @@ samples-preserved g c =
     let next = rw (to_z-of_z fits) at c.next_level-next.ensures.value in
     let stayed = rw (to_z-of_z fits) at c.stays.ensures in
     let pushed = rw (to_z-of_z fits_too) at c.push.ensures in
-    let is = still_is state sum c.self.inside.side c.self.inside.threshold c.next_level-next.result c.at.result i.side i.fixed next c.at.ensures.value
+    let is = still_is state sum c.self.inside.side (threshold_of c.in-Some.following) c.next_level-next.result c.at.result i.side i.fixed next c.at.ensures.value
     (sym stayed ∙ c.if-not-stays.false) in
     record {
       within = within;

@@ -11,7 +11,7 @@ returns-clause-stands c = record {
   slices = record {
     within = omega arith;
     count = refl;
-    slicer = c.finer.ensures.stands;
+    slicer = c.summing.ensures.stands;
     are = c.holding.ensures ∙ (rw (c.system.ensures, c.tick_rate.ensures.value) at c.interval_header-header.ensures.bytes)
         ∙ sym (no_samples c.args.slicing.now);
   };

@@ -1,5 +1,6 @@
 use Rattle.std.proofs.Common.{◌+◌, ◌/◌, ◌++◌, [], take, length, ap, refl, subst, sym, ◌∙◌, append-nil, arith, length-append}
 use Rattle.std.proofs.KnownBytes.{Appends-nil}
+use Rattle.pcm_front.specs.Settings.{Settings}
 use Rattle.tc_io.specs.Sink.{AppendsFront}
 use Rattle.tc_command.specs.KeptWorks.{through}
 use Rattle.signal_commands.proofs.SlicedOn.{at_limit, due_is, gathered_part, grown, grown_part, grows, no_longer, none_due, ticks_fit}
@@ -22,7 +23,8 @@ run-count-requires g c =
     let s = c.args.self.now in
     let going = c.requires.going in
     let short = no_longer s c.args.bytes.now c.within.result.now c.within.ensures.front in
-    ticks_fit s.slicing.fineness s.samples s.slicer.tick s.slicer.fineness (length c.within.result.now) going.tick going.fineness going.fine going.within
+    ticks_fit s.slicing.fineness s.samples s.slicer.finder.tick s.slicer.finder.fineness (length c.within.result.now) going.tick
+    (ap (λ (how : Settings). how.fineness) going.settings) going.fine going.within
     (omega (arith, short))
 
 -- the intervals of a distance were not taken
@@ -36,7 +38,7 @@ returns-in_err-spell-clause-stops g c =
     through c.from_residual-in_err-spell.result c.from_residual-in_err-spell.ensures.1 (λ stop same whole written rest slices.
     rw (same, c.in_err-spell.ensures.why) (grown_part s next whole written c.args.bytes.now rest count c.run-count.result.1 _ _ slices
     (grows s next c.args.bytes.now c.within.result.now count e.tick.0 c.run-count.result.1 c.within.ensures.front e.within e.tick.1 refl refl going.within
-    going.fineness going.threshold e.stands e.distances)
+    going.settings e.stands e.distances)
     (subst (λ b. AppendsFront (g.K.Sink.written c.args.out.now) (g.K.Sink.written c.spell.new.out) (s.gathered.room.items ++ b))
     (sym (due_is c.run-count.result.1 c.in-Some.distance c.in-Some.is)) c.in_err-spell.ensures.front)))
 
@@ -53,7 +55,7 @@ returns-in_ok-spell-clause-works g c = λ whole written slices.
       put.1,
       grown s next whole written (take count c.args.bytes.now) put.0 c.run-count.result.1 slices
           (grows s next c.args.bytes.now c.within.result.now count e.tick.0 c.run-count.result.1 c.within.ensures.front e.within e.tick.1 refl refl going.within
-          going.fineness going.threshold e.stands e.distances)
+          going.settings e.stands e.distances)
           (ap (λ b. s.gathered.room.items ++ b) (due_is c.run-count.result.1 c.in-Some.distance c.in-Some.is) ∙ put.2),
     )
 
@@ -69,6 +71,6 @@ returns-in_default-clause-works g c = λ whole written slices.
       Appends-nil _,
       grown s next whole written (take count c.args.bytes.now) [] c.run-count.result.1 slices
           (grows s next c.args.bytes.now c.within.result.now count e.tick.0 c.run-count.result.1 c.within.ensures.front e.within e.tick.1 refl refl going.within
-          going.fineness going.threshold e.stands e.distances)
+          going.settings e.stands e.distances)
           (ap (λ b. s.gathered.room.items ++ b) (none_due c.run-count.result.1 c.in_default.is) ∙ append-nil s.gathered.room.items),
     )

@@ -1,0 +1,20 @@
+use Rattle.std.proofs.Common.{◌≡◌, ◌+◌, ◌-◌, ◌*◌, ◌≤◌, ℕ, None, take, length}
+use Rattle.pcm_front.specs.Level.{IsSum}
+use Rattle.pcm_front.specs.State.{FinderState, IsAlone, WindowState}
+use Rattle.pcm_front.proofs.Together.{RunsTo}
+use Rattle.pcm_front.proofs.finder.Finder.still_at.Given as goal
+
+-- the samples so far were taken, and the sound stayed on its side
+abbrev pub invariant-samples : goal.invariant-samples
+invariant-samples g l = record {
+  within : l.at ≤ length (g.S.Samples.list l.samples);
+  before : IsSum l.before;
+  side : l.side ≡ l.fn.self.side;
+  fineness : l.fineness ≡ l.fn.self.fineness;
+  tick : l.tick ≡ l.fn.self.tick + l.fn.self.fineness * l.at;
+  runs : (window : WindowState) → IsAlone window
+      → RunsTo l.fn.self (record l.fn.self { tick = l.tick; before = l.before }) window window (take l.at (g.S.Samples.list l.samples)) None;
+}
+
+abbrev pub decreases-samples : goal.decreases-samples
+decreases-samples g l = length (g.S.Samples.list l.samples) - l.at
