@@ -22,7 +22,7 @@ use Rattle.tc_io.specs.Sink.{AppendsFront}
 use Rattle.tc_words.specs.Slicing as words
 use Rattle.signal_commands.specs.declared.pcm_ltc.SlicedSound.{SlicedSound}
 use Rattle.signal_commands.specs.declared.pcm_ltc.TheConstants.{MAX_SAMPLES}
-use Rattle.std.specs.Prelude.{IfErr, Ok, Err}
+use Rattle.std.specs.Prelude.{IfErr, IfOk, Ok, Err}
 use Rattle.std.specs.declared.result.Result.{Result}
 use Rattle.tc_command.specs.declared.stop.Stop.{Stop}
 use Rattle.tc_command.specs.declared.stop.Stop.TheVariants as stops
@@ -299,3 +299,8 @@ no_half front whole half are is = are ∙ ap (λ (h : Option ℕ). whole ++ opti
 pub err_to : {T : Type 0} {P Q : Stop → Type 0} (result : Result T Stop) → IfErr result P → ((stop : Stop) → P stop → Q stop) → IfErr result Q
 err_to (Ok done) says to = tt
 err_to (Err stop) says to = to stop says
+
+-- and one of what is right
+pub ok_to : {T : Type 0} {P Q : T → Type 0} (result : Result T Stop) → IfOk result P → ((value : T) → P value → Q value) → IfOk result Q
+ok_to (Ok value) says to = to value says
+ok_to (Err stop) says to = tt

@@ -60,11 +60,7 @@ impl SlicedSound {
         });
         SlicedSound {
             slicing: *slicing,
-            slicer: Slicer::summing(
-                slicing.fineness(),
-                slicing.threshold(),
-                slicing.smooth(),
-            ),
+            slicer: Slicer::summing(slicing.fineness(), slicing.threshold(), slicing.smooth()),
             samples: 0,
             half: None,
             gathered: Gathered::holding(&header),

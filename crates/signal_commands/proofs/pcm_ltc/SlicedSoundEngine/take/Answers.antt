@@ -1,11 +1,13 @@
-use Rattle.std.proofs.Common.{◌++◌, [], ◌∷◌, List, ℕ, Some, None, drop, get_or, ap, subst, sym, ◌∙◌, append-nil}
+use Rattle.std.proofs.Common.{◌++◌, [], ◌∷◌, List, ℕ, Some, None, drop, get_or, take, ap, subst, sym, ◌∙◌, append-nil}
 use Rattle.std.proofs.KnownBytes.{Appends-nil}
 use Rattle.std.proofs.lemmas.List.{take_all}
+use Rattle.std.specs.declared.option.Option.{Option}
+use Rattle.std.specs.Option.{option_to_list}
 use Rattle.signal_commands.specs.KeptSlices.{Slices}
 use Rattle.signal_commands.specs.PcmLtc.{along_samples}
 use Rattle.tc_command.specs.Stops.{Stops}
 use Rattle.tc_command.specs.KeptWorks.{first_only, through}
-use Rattle.signal_commands.proofs.SlicedOn.{any_half, err_to, half_first, half_then, no_half}
+use Rattle.signal_commands.proofs.SlicedOn.{any_half, err_to, half_first, half_then, no_half, ok_to}
 use Rattle.signal_commands.proofs.pcm_ltc.SlicedSoundEngine.take.Goals as goal
 
 -- the sample that the first byte completes stops the command
@@ -64,3 +66,20 @@ returns-clause-stops g c =
     (ap (λ (l : List ℕ). stands.whole ++ l) (append-nil bytes)
     ∙ ap (λ (l : List ℕ). l ++ bytes) (sym (no_half front stands.whole s.half stands.are c.in_default.is)))
     (stopped stands.whole written [] stands.slices))
+
+pub returns-clause-works : goal.returns-clause-works
+returns-clause-works g c =
+    let s = c.args.self.now in
+    let bytes = c.args.bytes.now in
+    ok_to c.slice-2.result c.slice-2.ensures.works (λ count works front written stands.
+    let w = works stands.whole written stands.slices in
+    let all = stands.whole ++ take count bytes in (
+      w.0,
+      w.1,
+      record {
+        whole = all;
+        slices = w.2;
+        are = ap (λ (l : List ℕ). l ++ take count bytes) (no_half front stands.whole s.half stands.are c.in_default.is)
+            ∙ sym (append-nil all) ∙ ap (λ (h : Option ℕ). all ++ option_to_list h) (sym (c.slice-2.ensures.half ∙ c.in_default.is));
+      },
+    ))
