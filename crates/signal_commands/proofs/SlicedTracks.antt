@@ -1,9 +1,11 @@
 -- A file of a track grows by the intervals of the samples that more bytes bring; what stops the reading leaves the file of the samples before it.
-use Rattle.std.proofs.Common.{◌≡◌, ℕ, ◌+◌, ◌*◌, ◌^◌, ◌≤◌, ℤ, List, [], ◌∷◌, ◌++◌, Option, Some, None, length, take, drop, inl, refl, sym, ◌∙◌, ap, ap₂}
-use Rattle.std.proofs.Common.{subst, append_assoc, append-nil, arith, mul-le-mul}
+use Rattle.std.proofs.Common.{◌≡◌, ℕ, ◌+◌, ◌-◌, ◌*◌, ◌^◌, ◌≤◌, ◌<◌, ℤ, List, [], ◌∷◌, ◌++◌, Option, Some, None, length, take, drop, inl, refl, sym, ◌∙◌, ap, ap₂}
+use Rattle.std.proofs.Common.{subst, append_assoc, append-nil, arith}
 use Rattle.std.specs.Io.KnownBytes.{Appends}
+use Rattle.std.specs.Option.{option_map}
 use Rattle.std.proofs.KnownBytes.{Appends-nil}
 use Rattle.std.proofs.lemmas.List.{length-append, take-append-drop}
+use Rattle.std.proofs.lemmas.List.FromFn.{length-map-range_with_len}
 use Rattle.pcm_front.specs.Settings.{Settings}
 use Rattle.pcm_front.specs.StandsFor as pcm
 use Rattle.pcm_front.specs.StandsFor.{settings_of, tick_of}
@@ -16,11 +18,16 @@ use Rattle.wave_file.specs.declared.fault.WaveFault.{WaveFault}
 use Rattle.wave_file.specs.declared.format.WaveFormat.{WaveFormat}
 use Rattle.wave_file.specs.declared.stage.TheConstants.{MAX_BYTES, MAX_SAMPLES}
 use Rattle.wave_file.specs.GoesOn.{IsWithin}
-use Rattle.wave_file.specs.StandsFor.{Decoding, StandsFor, IsTold, StopsAt, bytes_taken, format_in_decoding, no_decoding}
-use Rattle.wave_file.specs.Wave.{Verdict, good, refused, past_limit, reading_of}
+use Rattle.wave_file.specs.StandsFor.{StandsFor, IsTold, StopsAt, bytes_taken, format_in_decoding}
+use Rattle.wave_file.specs.Wave.{Verdict, good, refused, past_limit, end_fault_of, reading_of}
+use Rattle.tc_command.specs.declared.gathered.Gathered.{Gathered}
+use Rattle.std.specs.Prelude.{IfErr, IfOk, OnOk, Ok, Err}
+use Rattle.std.specs.declared.result.Result.{Result}
+use Rattle.tc_command.specs.declared.stop.Stop.{Stop}
 use Rattle.tc_command.specs.declared.stop.Stop.TheVariants as stops
+use Rattle.tc_command.specs.KeptWorks.{Works, stops_on}
 use Rattle.tc_command.specs.KeptGathered.{IsPut}
-use Rattle.tc_command.specs.Stops.{Stops}
+use Rattle.tc_command.specs.Stops.{IsStop, Stops}
 use Rattle.pcm_front.specs.declared.slicer.Slicer.{Slicer}
 use Rattle.signal_commands.specs.declared.wav_ltc.SlicedTrack.{SlicedTrack}
 use Rattle.signal_commands.specs.KeptTrack.{AreDue, IsGoing, Stands, spelled}
@@ -253,27 +260,13 @@ limit_stop s front written bytes old new stands stop pushed =
       ),
     )
 
--- ---- the beginning
-
--- of no bytes
-pub fresh_stands : (s : SlicedTrack) → settings_of s.slicer ≡ track_settings s.slicing → s.decoder ≡ no_decoding s.slicing.track
-    → StandsFor s.decoder [] [] → pcm.StandsFor s.slicer [] → s.gathered.room.items ≡ [] → Stands s [] []
-fresh_stands s settings decoder stands slicer room = record {
-  samples = [];
-  settings = settings;
-  track = ap (λ (d : Decoding). d.track) decoder;
-  within = rw decoder (omega arith);
-  decoder = stands;
-  told = record { format_is = sym (ap format_in_decoding decoder); samples_are = refl; verdict_is = refl };
-  slicer = slicer;
-  are = room ∙ sym (ap (λ (d : Decoding). track_file s.slicing (format_in_decoding d) []) decoder);
-}
-
 -- ---- the room that the slicer needs
 
 -- each sample that was sliced has its ticks
 tick_is : (slicer : Slicer) (samples : List ℤ) → pcm.StandsFor slicer samples → tick_of slicer ≡ (settings_of slicer).fineness * length samples
-tick_is slicer samples stands = absurd stands.never
+tick_is slicer samples stands =
+    let finds = stands.finds in
+    finds.tick ∙ ap (λ (n : ℕ). slicer.finder.fineness * n) (length-map-range_with_len _ 0 (length samples))
 
 -- the ticks of all samples within the limit are few
 pub ticks_fit : Reads → (s next : SlicedTrack) (bytes : List ℕ) (samples : List ℤ) → IsGoing s → Decodes s next bytes samples
@@ -288,3 +281,69 @@ ticks_fit reads s next bytes samples going decodes =
     tick_is s.slicer stands.samples stands.slicer ∙ ap (λ (n : ℕ). n * length stands.samples) fineness in
     let more : (settings_of s.slicer).fineness * length samples ≡ 16 * length samples = ap (λ (n : ℕ). n * length samples) fineness in
     omega (arith, few, all, tick, more)
+
+-- ---- what is gathered, and the end
+
+-- some of what is gathered was pushed
+pub pushed_on : (s : SlicedTrack) (left : Gathered) (front written more : List ℕ) → more ++ left.room.items ≡ s.gathered.room.items
+    → Stands s front written → Stands (record s { gathered = left }) front (written ++ more)
+pushed_on s left front written more all stands = record {
+  samples = stands.samples;
+  settings = stands.settings;
+  track = stands.track;
+  within = stands.within;
+  decoder = stands.decoder;
+  told = stands.told;
+  slicer = stands.slicer;
+  are = append_assoc written more left.room.items ∙ ap (λ (l : List ℕ). written ++ l) all ∙ stands.are;
+}
+
+-- the fault of the end, in the terms of every command
+pub end_is : (s : SlicedTrack) (front written : List ℕ) (end : Option WaveFault) → Stands s front written → end_fault_of s.decoder.track front ≡ end
+    → (along_sound_file s.slicing).end_fault front ≡ option_map Sound end
+end_is s front written end stands is =
+    ap (option_map Sound) (subst (λ (t : ℕ). end_fault_of t front ≡ end) stands.track is)
+
+-- ---- the way of the engine
+
+-- what was worked on leaves it going
+pub going_on : (s next : SlicedTrack) (old new : Option (List ℕ)) (bytes : List ℕ) → IsGoing s → Works (Stands s) (Stands next) old new bytes → IsGoing next
+going_on s next old new bytes going works =
+    let work = works going.bytes going.written going.stands in
+    record { bytes = going.bytes ++ bytes; written = going.written ++ work.0; stands = work.2 }
+
+pub falls : (s next : SlicedTrack) (before count : ℕ) → IsGoing next → bytes_taken next.decoder ≡ before + count → before ≡ bytes_taken s.decoder → 1 ≤ count
+    → MAX_BYTES - bytes_taken next.decoder < MAX_BYTES - bytes_taken s.decoder
+falls s next before count going is same some =
+    let stands = going.stands in
+    let within = stands.within in omega (arith, is, same, some, within)
+
+pub ok_both : (P Q : ℕ → Type 0) (result : Result ℕ Stop) → IfOk result P → IfOk result Q → IfOk result (λ n. P n × Q n)
+ok_both P Q (Ok n) p q = (p, q)
+ok_both P Q (Err stop) p q = tt
+
+pub ok_to : (P : ℕ → Type 0) (Q : Type 0) (result : Result ℕ Stop) → IfOk result P → ((n : ℕ) → P n → Q) → OnOk result Q
+ok_to P Q (Ok n) p to = to n p
+ok_to P Q (Err stop) p to = tt
+
+pub ok_if : (P Q : ℕ → Type 0) (result : Result ℕ Stop) → IfOk result P → ((n : ℕ) → P n → Q n) → IfOk result Q
+ok_if P Q (Ok n) p to = to n p
+ok_if P Q (Err stop) p to = tt
+
+pub err_if : (P Q : Stop → Type 0) (result : Result ℕ Stop) → IfErr result P → ((stop : Stop) → P stop → Q stop) → IfErr result Q
+err_if P Q (Ok n) p to = tt
+err_if P Q (Err stop) p to = to stop p
+
+-- nothing of some bytes
+pub nothing_taken : (before after : List ℕ → List ℕ → Type 0) (old new : Option (List ℕ)) (count : ℕ) (bytes : List ℕ) → count ≡ 0
+    → Works before after old new (take count bytes) → Works before after old new []
+nothing_taken before after old new count bytes none works = subst (λ (n : ℕ). Works before after old new (take n bytes)) none works
+
+-- what stops it behind nothing
+pub stop_behind : (s mid : SlicedTrack) (stop : Stop) (old between new : Option (List ℕ)) (bytes : List ℕ) → mid.slicing ≡ s.slicing
+    → Works (Stands s) (Stands mid) old between []
+    → ((front written : List ℕ) → Stands mid front written → Stops (along_sound_file mid.slicing) stop between new (front ++ bytes) written)
+    → (front written : List ℕ) → Stands s front written → Stops (along_sound_file s.slicing) stop old new (front ++ bytes) written
+stop_behind s mid stop old between new bytes same works stops =
+    stops_on (IsStop (along_sound_file s.slicing) stop) (Stands s) (Stands mid) old between new [] bytes works (λ front written stands.
+    subst (λ (w : SlicesWave). Stops (along_sound_file w) stop between new (front ++ bytes) written) same (stops front written stands))

@@ -1,14 +1,15 @@
-//! The commands that read what is no interval file: samples of sound (`pcm-ltc`), MIDI bytes (`mtc-read`)
-//! and the lines of vertical interval time code (`vitc-read`).
+//! The commands that read what is no interval file: samples of sound (`pcm-ltc`), sound files (`wav-ltc`),
+//! MIDI bytes (`mtc-read`) and the lines of vertical interval time code (`vitc-read`).
 //!
 //! What this crate promises, for all sources and sinks:
 //! - `pcm-ltc` writes the interval file of the distances between the crossings of the samples
-//!   (`specs/PcmLtc.antt`), `mtc-read` a line for each label in the bytes (`specs/MtcRead.antt`), and
+//!   (`specs/PcmLtc.antt`), `wav-ltc` the same of a track of a sound file, whose first interval runs from
+//!   the first sample (`specs/WavLtc.antt`), `mtc-read` a line for each label in the bytes (`specs/MtcRead.antt`), and
 //!   `vitc-read` a line for each field of a line file (`specs/VitcRead.antt`).
 //! - Each is a command as any other (`laws`): what it writes comes first, there is one output of an input,
 //!   and what bytes show stays.
 //!
-//! Read `pcm_ltc`, `mtc_read` and `vitc_read`, each by itself.
+//! Read `pcm_ltc`, `wav_ltc`, `mtc_read` and `vitc_read`, each by itself.
 #![tactic(auto)]
 
 pub mod laws;

@@ -1,0 +1,65 @@
+use Rattle.std.proofs.Common.{ℕ, List, ℤ, Option, take, refl, subst}
+use Rattle.wave_file.specs.declared.format.WaveFormat.{WaveFormat}
+use Rattle.wave_file.specs.StandsFor.{IsTold}
+use Rattle.wave_file.specs.Wave.{good, reading_of}
+use Rattle.signal_commands.specs.declared.wav_ltc.SlicedTrack.{SlicedTrack}
+use Rattle.tc_command.specs.KeptWorks.{through}
+use Rattle.signal_commands.proofs.SlicedTracks.{Decodes, Slices, slice_stop, sliced_on, ticks_fit}
+use Rattle.signal_commands.proofs.wav_ltc.SlicedTrack.take_blocks.Goals as goal
+
+-- the ticks of the samples are few
+pub slice-requires : goal.slice-requires
+slice-requires g c =
+    let s = c.args.self.now in
+    let adds = c.samples-count.ensures.adds in
+    let more = take c.samples-count.result.1 c.samples-count.new.room in
+    let next = record s { decoder = c.samples-count.new.self } in
+    let decodes : Decodes s next (take c.samples-count.result.0 c.args.bytes.now) more = record {
+      slicing = refl;
+      track = adds.track;
+      within = c.format-told.ensures.within;
+      stands = adds.stands;
+      told = λ all given stands. subst (λ (f : Option WaveFormat). IsTold (reading_of c.samples-count.new.self.track all) f given good)
+          c.format-told.ensures.value (c.format-told.ensures.told all given stands);
+    } in
+    ticks_fit c.samples_are_few_and_behind_a_format.ensures s next (take c.samples-count.result.0 c.args.bytes.now) more c.requires decodes
+
+-- what they bring was not taken
+pub returns-in_err-slice-clause-stops : goal.returns-in_err-slice-clause-stops
+returns-in_err-slice-clause-stops g c =
+    let s = c.args.self.now in
+    let adds = c.samples-count.ensures.adds in
+    let more = take c.samples-count.result.1 c.samples-count.new.room in
+    let next = record s { decoder = c.samples-count.new.self } in
+    let decodes : Decodes s next (take c.samples-count.result.0 c.args.bytes.now) more = record {
+      slicing = refl;
+      track = adds.track;
+      within = c.format-told.ensures.within;
+      stands = adds.stands;
+      told = λ all given stands. subst (λ (f : Option WaveFormat). IsTold (reading_of c.samples-count.new.self.track all) f given good)
+          c.format-told.ensures.value (c.format-told.ensures.told all given stands);
+    } in
+    through c.from_residual.result c.from_residual.ensures.1 (λ stop same front written stands.
+    let f = c.in_err-slice.ensures.front stands.samples stands.slicer in
+    rw (same, c.in_err-slice.ensures.why) (slice_stop c.samples_are_few_and_behind_a_format.ensures s next front written c.args.bytes.now f.0
+    c.samples-count.result.0 more _ _ stands decodes adds.format f.1 f.2))
+
+-- it was pushed, or is gathered
+pub returns-clause-works : goal.returns-clause-works
+returns-clause-works g c = λ front written stands.
+    let s = c.args.self.now in
+    let adds = c.samples-count.ensures.adds in
+    let more = take c.samples-count.result.1 c.samples-count.new.room in
+    let next = record s { decoder = c.samples-count.new.self; slicer = c.slice.new.slicer; room = c.samples-count.new.room; gathered = c.slice.new.gathered } in
+    let decodes : Decodes s next (take c.samples-count.result.0 c.args.bytes.now) more = record {
+      slicing = refl;
+      track = adds.track;
+      within = c.format-told.ensures.within;
+      stands = adds.stands;
+      told = λ all given stands. subst (λ (f : Option WaveFormat). IsTold (reading_of c.samples-count.new.self.track all) f given good)
+          c.format-told.ensures.value (c.format-told.ensures.told all given stands);
+    } in
+    let slices : Slices s next more = record { settings = c.in_ok-slice.ensures.settings; stands = c.in_ok-slice.ensures.stands } in
+    let all = c.in_ok-slice.ensures.all stands.samples stands.slicer in
+    sliced_on c.samples_are_few_and_behind_a_format.ensures s next front written (take c.samples-count.result.0 c.args.bytes.now) all.0 more _ _ stands
+    decodes slices adds.format all.1 all.2

@@ -1,0 +1,134 @@
+use Rattle.std.specs.Int.{w16}
+use Rattle.std.proofs.Common.{FitsSigned, rules, to_z-of_z, ℕ, ℤ, List, [], ◌∷◌, Option, take, refl, subst}
+use Rattle.wave_file.specs.declared.format.WaveFormat.{WaveFormat}
+use Rattle.wave_file.specs.StandsFor.{IsTold}
+use Rattle.wave_file.specs.Wave.{good, reading_of}
+use Rattle.signal_commands.specs.declared.wav_ltc.SlicedTrack.{SlicedTrack}
+use Rattle.tc_command.specs.KeptWorks.{through}
+use Rattle.signal_commands.proofs.SlicedTracks.{Decodes, Slices, begun, fault_stop, gathered_stop, limit_stop, passed_on, slice_stop, sliced_on, ticks_fit}
+use Rattle.signal_commands.proofs.wav_ltc.SlicedTrack.take_piece.Goals as goal
+
+-- bytes without a sample
+pub returns-in-Nothing-clause-works : goal.returns-in-Nothing-clause-works
+returns-in-Nothing-clause-works g c = λ front written stands.
+    let s = c.args.self.now in
+    let takes = c.in-Nothing.ensures.takes in
+    let adds = takes.0 in
+    let next = record s { decoder = c.take-taken.new.self } in
+    let decodes : Decodes s next (take c.in-Nothing.count c.args.bytes.now) [] = record {
+      slicing = refl;
+      track = adds.track;
+      within = c.format-told.ensures.within;
+      stands = adds.stands;
+      told = λ all given stands. subst (λ (f : Option WaveFormat). IsTold (reading_of c.take-taken.new.self.track all) f given good)
+          c.format-told.ensures.value (c.format-told.ensures.told all given stands);
+    } in
+    passed_on s next front written (take c.in-Nothing.count c.args.bytes.now) _ stands decodes refl refl takes.1
+
+-- the header
+pub returns-in_err-put-in-Begin-clause-stops : goal.returns-in_err-put-in-Begin-clause-stops
+returns-in_err-put-in-Begin-clause-stops g c = through c.from_residual.result c.from_residual.ensures.1 (λ stop same front written stands.
+    rw (same, c.in_err-put-in-Begin.ensures.why)
+    (gathered_stop c.args.self.now front written c.args.bytes.now _ _ stands c.in_err-put-in-Begin.ensures.front))
+
+pub returns-in_ok-put-in-Begin-clause-works : goal.returns-in_ok-put-in-Begin-clause-works
+returns-in_ok-put-in-Begin-clause-works g c = λ front written stands.
+    let s = c.args.self.now in
+    let takes = c.in-Begin.ensures.takes in
+    let adds = takes.0 in
+    let next = record s { decoder = c.take-taken.new.self; gathered = c.put.new.self } in
+    let decodes : Decodes s next (take c.in-Begin.count c.args.bytes.now) [] = record {
+      slicing = refl;
+      track = adds.track;
+      within = c.format-told.ensures.within;
+      stands = adds.stands;
+      told = λ all given stands. subst (λ (f : Option WaveFormat). IsTold (reading_of c.take-taken.new.self.track all) f given good)
+          c.format-told.ensures.value (c.format-told.ensures.told all given stands);
+    } in
+    begun c.samples_are_few_and_behind_a_format.ensures s next front written (take c.in-Begin.count c.args.bytes.now) c.in-Begin.format _ _ stands decodes
+    refl takes.1 takes.2 (rw c.header-header.ensures at c.in_ok-put-in-Begin.ensures.all)
+
+-- a sample
+pub slice-requires : goal.slice-requires
+slice-requires g c =
+    let s = c.args.self.now in
+    let takes = c.in-Sample.ensures.takes in
+    let adds = takes.0 in
+    let next = record s { decoder = c.take-taken.new.self } in
+    let decodes : Decodes s next (take c.in-Sample.count c.args.bytes.now) (c.in-Sample.sample ∷ []) = record {
+      slicing = refl;
+      track = adds.track;
+      within = c.format-told.ensures.within;
+      stands = adds.stands;
+      told = λ all given stands. subst (λ (f : Option WaveFormat). IsTold (reading_of c.take-taken.new.self.track all) f given good)
+          c.format-told.ensures.value (c.format-told.ensures.told all given stands);
+    } in
+    ticks_fit c.samples_are_few_and_behind_a_format.ensures s next (take c.in-Sample.count c.args.bytes.now) (c.in-Sample.sample ∷ []) c.requires.going decodes
+
+pub returns-in_err-slice-in-Sample-clause-stops : goal.returns-in_err-slice-in-Sample-clause-stops
+returns-in_err-slice-in-Sample-clause-stops g c =
+    let s = c.args.self.now in
+    let takes = c.in-Sample.ensures.takes in
+    let adds = takes.0 in
+    let next = record s { decoder = c.take-taken.new.self } in
+    let decodes : Decodes s next (take c.in-Sample.count c.args.bytes.now) (c.in-Sample.sample ∷ []) = record {
+      slicing = refl;
+      track = adds.track;
+      within = c.format-told.ensures.within;
+      stands = adds.stands;
+      told = λ all given stands. subst (λ (f : Option WaveFormat). IsTold (reading_of c.take-taken.new.self.track all) f given good)
+          c.format-told.ensures.value (c.format-told.ensures.told all given stands);
+    } in
+    through c.from_residual-in_err-slice-in-Sample.result c.from_residual-in_err-slice-in-Sample.ensures.1 (λ stop same front written stands.
+    let fits : FitsSigned w16 c.in-Sample.sample = search rules in
+    let f = (rw (to_z-of_z fits) at c.in_err-slice-in-Sample.ensures.front) stands.samples stands.slicer in
+    rw (same, c.in_err-slice-in-Sample.ensures.why) (slice_stop c.samples_are_few_and_behind_a_format.ensures s next front written c.args.bytes.now f.0
+    c.in-Sample.count (c.in-Sample.sample ∷ []) _ _ stands decodes takes.1 f.1 f.2))
+
+pub returns-in_ok-slice-in-Sample-clause-works : goal.returns-in_ok-slice-in-Sample-clause-works
+returns-in_ok-slice-in-Sample-clause-works g c = λ front written stands.
+    let s = c.args.self.now in
+    let takes = c.in-Sample.ensures.takes in
+    let adds = takes.0 in
+    let more = c.in-Sample.sample ∷ [] in
+    let next = record s { decoder = c.take-taken.new.self; slicer = c.slice.new.slicer; gathered = c.slice.new.gathered } in
+    let decodes : Decodes s next (take c.in-Sample.count c.args.bytes.now) more = record {
+      slicing = refl;
+      track = adds.track;
+      within = c.format-told.ensures.within;
+      stands = adds.stands;
+      told = λ all given stands. subst (λ (f : Option WaveFormat). IsTold (reading_of c.take-taken.new.self.track all) f given good)
+          c.format-told.ensures.value (c.format-told.ensures.told all given stands);
+    } in
+    let fits : FitsSigned w16 c.in-Sample.sample = search rules in
+    let slices : Slices s next more = record {
+      settings = c.in_ok-slice-in-Sample.ensures.settings;
+      stands = rw (to_z-of_z fits) at c.in_ok-slice-in-Sample.ensures.stands;
+    } in
+    let all = (rw (to_z-of_z fits) at c.in_ok-slice-in-Sample.ensures.all) stands.samples stands.slicer in
+    sliced_on c.samples_are_few_and_behind_a_format.ensures s next front written (take c.in-Sample.count c.args.bytes.now) all.0 more _ _ stands
+    decodes slices takes.1 all.1 all.2
+
+-- a fault
+pub returns-in_err-push-in-Fault-clause-stops : goal.returns-in_err-push-in-Fault-clause-stops
+returns-in_err-push-in-Fault-clause-stops g c =
+    through c.from_residual-in_err-push-in-Fault.result c.from_residual-in_err-push-in-Fault.ensures.1 (λ stop same front written stands.
+    rw (same, c.in_err-push-in-Fault.ensures.why)
+    (gathered_stop c.args.self.now front written c.args.bytes.now _ _ stands c.in_err-push-in-Fault.ensures.front))
+
+pub returns-in_ok-push-in-Fault-clause-stops : goal.returns-in_ok-push-in-Fault-clause-stops
+returns-in_ok-push-in-Fault-clause-stops g c = λ front written stands.
+    fault_stop c.args.self.now front written c.args.bytes.now c.in-Fault.fault _ _ stands (c.in-Fault.ensures.stops front stands.samples stands.decoder)
+    c.in_ok-push-in-Fault.ensures.all
+
+-- the limit
+pub returns-in_err-push-in-Limit-clause-stops : goal.returns-in_err-push-in-Limit-clause-stops
+returns-in_err-push-in-Limit-clause-stops g c =
+    through c.from_residual-in_err-push-in-Limit.result c.from_residual-in_err-push-in-Limit.ensures.1 (λ stop same front written stands.
+    rw (same, c.in_err-push-in-Limit.ensures.why)
+    (gathered_stop c.args.self.now front written c.args.bytes.now _ _ stands c.in_err-push-in-Limit.ensures.front))
+
+pub returns-in_ok-push-in-Limit-clause-stops : goal.returns-in_ok-push-in-Limit-clause-stops
+returns-in_ok-push-in-Limit-clause-stops g c = λ front written stands.
+    limit_stop c.args.self.now front written c.args.bytes.now _ _ stands (c.in-Limit.ensures.stops front stands.samples stands.decoder)
+    c.in_ok-push-in-Limit.ensures.all
