@@ -1,4 +1,8 @@
 //! Values from outside.
+ghost use Rattle.std.specs.Prelude.{◌≡◌, ◌*◌, ◌≤◌};
+ghost use Rattle.biphase.specs.declared.cell.TheConstants.{MAX_INTERVAL};
+ghost use Rattle.biphase.specs.Tolerance.{Fits};
+
 use crate::{AtCell, FromAtCell, FromHunting, FromMidCell, Hunting, MidCell};
 use biphase::{LatestFour, Profile};
 
@@ -7,8 +11,20 @@ const NORMAL: Profile = Profile::Normal;
 const ROUGH: Profile = Profile::Rough;
 
 /// At the end of a cell, by the number that the profile compares with.
-fn at_cell(profile: Profile, reference: u32) -> AtCell {
+fn at_cell(profile: Profile, reference: u32) -> AtCell
+    ensures { result ≡ record { profile = profile; reference = reference } }
+{
     AtCell::new(profile, reference)
+}
+
+/// At the first cell of a rough stretch, with the lengths beside it.
+fn locked(c: u32) -> (AtCell, LatestFour)
+    requires { c ≤ 2 * MAX_INTERVAL }
+    ensures { Fits result.0.profile result.0.reference result.1 }
+{
+    let mut four = LatestFour::new();
+    let reference = ROUGH.at_lock(&mut four, c);
+    (AtCell::new(ROUGH, reference), four)
 }
 
 #[test]
@@ -54,19 +70,25 @@ fn a_stretch_goes_on_or_breaks(rt: HostRuntime) {
 
 #[test]
 fn a_rough_stretch_keeps_the_latest_four(rt: HostRuntime) {
-    let four = &mut LatestFour::new();
-    let half = MidCell::new(ROUGH, 400, 50);
+    let mut four = LatestFour::new();
     assert_eq!(rt;
-        Hunting::after(ROUGH, 100).feed(four, 50),
-        FromHunting::StartMid(half, 100)
+        Hunting::after(ROUGH, 100).feed(&mut four, 50),
+        FromHunting::StartMid(MidCell::new(ROUGH, 400, 50), 100)
     );
-    let behind = at_cell(ROUGH, 400);
-    assert_eq!(rt; half.feed(four, 50), FromMidCell::One(behind, 50, 50));
+    let (behind, lengths) = locked(100);
+    assert_eq!(rt; (behind.reference(), lengths), (400, four));
+    let mut four = lengths;
+    let half = MidCell::new(ROUGH, behind.reference(), 50);
+    assert_eq!(rt;
+        half.feed(&mut four, 50),
+        FromMidCell::One(at_cell(ROUGH, 400), 50, 50)
+    );
+    let mut four = lengths;
     let broken = FromAtCell::Broken(Hunting::after(ROUGH, 74));
-    assert_eq!(rt; behind.feed(four, 74), broken);
-    let next = at_cell(ROUGH, 375);
-    assert_eq!(rt; behind.feed(four, 75), FromAtCell::Zero(next));
-    let late = FromAtCell::Broken(Hunting::after(ROUGH, 118));
-    assert_eq!(rt; next.feed(four, 118), late);
-    assert_eq!(rt; next.feed(four, 117), FromAtCell::Zero(at_cell(ROUGH, 392)));
+    assert_eq!(rt; behind.feed(&mut four, 74), broken);
+    let mut four = lengths;
+    assert_eq!(rt;
+        behind.feed(&mut four, 75),
+        FromAtCell::Zero(at_cell(ROUGH, 375))
+    );
 }
