@@ -15,7 +15,11 @@ use tc_command::{Gathered, Stop};
 use tc_io::Sink;
 
 /// Spells the intervals of a distance.
-pub(crate) fn spell<K: Sink>(gathered: &mut Gathered, distance: u64, out: &mut K) -> Result<(), Stop>
+pub(crate) fn spell<K: Sink>(
+    gathered: &mut Gathered,
+    distance: u64,
+    out: &mut K,
+) -> Result<(), Stop>
     requires least { 1 ≤ distance }
     requires most { distance ≤ 2 ^ 62 }
     ensures all { OnOk result ((more : List ℕ) × Appends (K.written out.old) (K.written out.new) more

@@ -22,9 +22,7 @@ use tc_command::{Engine, Gathered, Stop, work};
 use tc_files::{FileFault, FileVersion, IntervalHeader, interval_header};
 use tc_io::{Sink, Source};
 use tc_words::WaveSlicing;
-use wave_file::laws::{
-    samples_are_few_and_behind_a_format, what_a_sound_file_shows_stays,
-};
+use wave_file::laws::{samples_are_few_and_behind_a_format, what_a_sound_file_shows_stays};
 use wave_file::{Taken, WaveDecoder, WaveFormat};
 
 /// So many ticks has a sample.

@@ -17,9 +17,12 @@ returns-clause-going g c = on_ok c.push.result c.push.ensures.empty (λ empty.
 
 pub returns-clause-works : goal.returns-clause-works
 returns-clause-works g c = on_ok c.push.result (both_ok _ _ c.push.result c.push.ensures.empty c.push.ensures.all) (λ h bytes written stands.
-    let s = c.args.self.now in
-    (s.gathered.room.items, h.1, pushed_on s c.push.new.self bytes written s.gathered.room.items
-    (ap (λ (l : List ℕ). s.gathered.room.items ++ l) h.0 ∙ append-nil s.gathered.room.items) stands))
+    let s = c.args.self.now in (
+      s.gathered.room.items,
+      h.1,
+      pushed_on s c.push.new.self bytes written s.gathered.room.items
+          (ap (λ (l : List ℕ). s.gathered.room.items ++ l) h.0 ∙ append-nil s.gathered.room.items) stands,
+    ))
 
 -- it was not taken
 pub returns-clause-stops : goal.returns-clause-stops
