@@ -10,12 +10,13 @@ ghost use Rattle.direction_reader.specs.Tracking.{tracking_with, StateFits};
 use biphase::{LatestFour, MAX_INTERVAL};
 use cell_tracker::{AtCell, FromAtCell, FromHunting, FromMidCell, Hunting, MidCell};
 
-/// A state of the tracker. Most intervals find it at the end of a cell.
+/// A state of the tracker. Most intervals find it at the end of a cell, and the compiler asks for the
+/// last variant first.
 #[derive(Clone, Copy, Debug, PartialEq, Eq)]
 pub enum State {
-    AtCell(AtCell),
-    MidCell(MidCell),
     Hunting(Hunting),
+    MidCell(MidCell),
+    AtCell(AtCell),
 }
 
 /// What an interval brought to the stretch.

@@ -2,4 +2,3 @@ pub mod CleanIsRead
 pub mod LabelsOfSystem
 pub mod Steady
 pub mod WordOfLabel
-mod Examples
