@@ -1,18 +1,11 @@
 -- The exit number of the program.
 use Rattle.std.specs.Prelude.{ℕ, Result, Ok, Err}
-use Rattle.std_io.specs.declared.io.kind.ErrorKind.{ErrorKind}
-use Rattle.std_io.specs.declared.io.kind.ErrorKind.TheVariants.{OutOfMemory}
 use Rattle.tc_command.specs.declared.status.Status.{Status}
 use Rattle.tc_command.specs.declared.status.Status.TheVariants as statuses
 use Rattle.tc_command.specs.Status.{code_of}
 use Rattle.tc_top.specs.declared.exit.NoArguments.{NoArguments}
 use Rattle.tc_top.specs.declared.exit.NoArguments.TheVariants.{Memory, Other}
 use Rattle.tc_top.specs.declared.exit.TheConstants.{NO_ARGUMENTS}
-
--- why there are no arguments, by the kind of the error in their place
-abbrev pub why_none : ErrorKind → NoArguments
-why_none OutOfMemory = Memory
-why_none _ = Other
 
 -- the number of the status; without arguments that of want of memory, or the program's own
 abbrev pub exit_number : Result Status NoArguments → ℕ

@@ -1,6 +1,6 @@
 //! The exit number of the program. Next: `tc/src/main.rt`, which ends with it.
 ghost use Rattle.std.specs.Prelude.{◌≡◌};
-ghost use Rattle.tc_top.specs.Exit.{exit_number, why_none};
+ghost use Rattle.tc_top.specs.Exit.{exit_number};
 
 use std::io::ErrorKind;
 use tc_command::Status;
@@ -20,7 +20,8 @@ pub enum NoArguments {
 impl NoArguments {
     /// By the kind of the error that std answers in place of the arguments.
     pub fn by_kind(kind: ErrorKind) -> NoArguments
-        ensures { result ≡ why_none kind }
+        ensures memory { kind ≡ ErrorKind.OutOfMemory → result ≡ NoArguments.Memory }
+        ensures other { ¬ kind ≡ ErrorKind.OutOfMemory → result ≡ NoArguments.Other }
     {
         match kind {
             ErrorKind::OutOfMemory => NoArguments::Memory,

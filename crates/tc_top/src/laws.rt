@@ -1,6 +1,5 @@
 //! What follows from the definitions alone.
 ghost use Rattle.std.specs.Prelude.{◌≡◌, List, ℕ, ◌++◌, map, Ok, Err};
-ghost use Rattle.std_io.specs.declared.io.kind.ErrorKind.{ErrorKind};
 ghost use Rattle.biphase.specs.Chain.{flat};
 ghost use Rattle.tc_words.specs.declared.job.Job.{Job};
 ghost use Rattle.tc_words.specs.ChaseRun.{Chasing, IsChasing};
@@ -20,7 +19,7 @@ ghost use Rattle.made_commands.specs.MadeLines.{made_lines, made_words};
 ghost use Rattle.signal_commands.specs.VitcRead.{field_report};
 ghost use Rattle.tc_top.specs.CleanCopy.{CleansTheInput};
 ghost use Rattle.tc_top.specs.declared.exit.NoArguments.{NoArguments};
-ghost use Rattle.tc_top.specs.Exit.{exit_number, why_none};
+ghost use Rattle.tc_top.specs.Exit.{exit_number};
 ghost use Rattle.tc_top.specs.Commands.{HasOwnLimit, meaning_of};
 ghost use Rattle.tc_top.specs.Pinned.{IsPinned};
 ghost use Rattle.tc_top.specs.Promises.{Promise};
@@ -50,8 +49,6 @@ pub fn exit_numbers_are_these()
     ensures memory { (exit_number (Ok Status.Memory) ≡ 6) × (exit_number (Err NoArguments.Memory) ≡ 6) }
     ensures limit { exit_number (Ok Status.Limit) ≡ 7 }
     ensures no_arguments { exit_number (Err NoArguments.Other) ≡ 8 }
-    ensures memory_alone { why_none ErrorKind.OutOfMemory ≡ NoArguments.Memory }
-    ensures no_text { why_none ErrorKind.InvalidData ≡ NoArguments.Other }
 {}
 
 /// What holds of every command holds of each job: what it writes of some bytes comes first, whatever bytes
