@@ -1,0 +1,98 @@
+"""A copy of a file with the timecode of its first sample: BWF's TimeReference for a sound file, the timecode of the container else."""
+import os
+import shutil
+import struct
+import subprocess
+
+from .labels import FirstSample
+from .sound import NO_SIZE, NoSound, Sound
+
+# Where the reference stands in `bext` (EBU Tech 3285): behind description, originator, its reference, date and time.
+REFERENCE_AT = 256 + 32 + 32 + 10 + 8
+BEXT_SIZE = 602
+PIECE = 1 << 20
+
+
+def bext_of(reference):
+    """A chunk `bext`, version 1, that says only where the file begins."""
+    body = bytearray(BEXT_SIZE)
+    struct.pack_into("<QH", body, REFERENCE_AT, reference, 1)
+    return b"bext" + struct.pack("<I", BEXT_SIZE) + bytes(body)
+
+
+def copy_bytes(source, target, count=None):
+    """Copies so many bytes, or all that are left."""
+    while count is None or count > 0:
+        data = source.read(PIECE if count is None else min(PIECE, count))
+        if not data:
+            return
+        target.write(data)
+        if count is not None:
+            count -= len(data)
+
+
+def stamp_sound(sound: Sound, reference: int, target):
+    """Writes the copy of a sound file."""
+    have = next((chunk for chunk in sound.chunks if chunk.name == b"bext"), None)
+    if have is not None and have.size < REFERENCE_AT + 8:
+        raise NoSound("its chunk bext is too short for a reference")
+    data = next(chunk for chunk in sound.chunks if chunk.name == b"data")
+    with open(sound.path, "rb") as source:
+        if have is not None:
+            copy_bytes(source, target, have.place + REFERENCE_AT)
+            target.write(struct.pack("<Q", reference))
+            source.seek(8, os.SEEK_CUR)
+            copy_bytes(source, target)
+            return
+        head = bytearray(source.read(data.place - 8))
+        chunk = bext_of(reference)
+        lengthen(head, sound, len(chunk))
+        target.write(head + chunk)
+        copy_bytes(source, target)
+
+
+def lengthen(head, sound: Sound, more):
+    """Says in the head of a file that it is so many bytes longer, where it says its length."""
+    size = struct.unpack_from("<I", head, 4)[0]
+    sizes = next((chunk for chunk in sound.chunks if chunk.name == b"ds64"), None)
+    if size == NO_SIZE and head[:4] != b"RIFF" and sizes is not None:
+        long_size = struct.unpack_from("<Q", head, sizes.place)[0]
+        struct.pack_into("<Q", head, sizes.place, long_size + more if long_size else 0)
+    elif 0 < size < NO_SIZE:
+        if size + more >= NO_SIZE:
+            raise NoSound("it is too long for one chunk more; as RF64 it could be stamped")
+        struct.pack_into("<I", head, 4, size + more)
+
+
+def stamp(sound: Sound, first: FirstSample, out: str):
+    """Writes the copy under another name first, so that a copy that stands is whole. No file is changed in place."""
+    if os.path.exists(out) and os.path.samefile(sound.path, out):
+        raise NoSound("the copy would be the file itself")
+    half = out + ".part"
+    try:
+        if sound.streams[0].number is None:
+            with open(half, "wb") as target:
+                stamp_sound(sound, first.reference, target)
+        else:
+            stamp_container(sound, first.label, half, out)
+        os.replace(half, out)
+    finally:
+        if os.path.exists(half):
+            os.remove(half)
+
+
+def stamp_container(sound: Sound, label: str, half: str, out: str):
+    """MOV, MP4, MXF and what else takes a timecode, by ffmpeg."""
+    form = {"mov": "mov", "mp4": "mp4", "m4v": "mp4", "mxf": "mxf"}.get(out.rpartition(".")[2].lower())
+    if form is None:
+        raise NoSound("the copy of a video file is to end in .mov, .mp4 or .mxf")
+    if not shutil.which("ffmpeg"):
+        raise NoSound("ffmpeg is not installed")
+    ran = subprocess.run(
+        ["ffmpeg", "-v", "error", "-nostdin", "-y", "-i", sound.path, "-map", "0", "-map", "-0:d", "-c", "copy"]
+        + ["-timecode", label, "-f", form, half],
+        stderr=subprocess.PIPE,
+        check=False,
+    )
+    if ran.returncode != 0:
+        raise NoSound("ffmpeg: " + ran.stderr.decode("utf-8", "replace").strip())
