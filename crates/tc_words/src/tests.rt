@@ -3,6 +3,7 @@ use super::*;
 use biphase::Profile;
 use pcm_front::Threshold;
 use std::alloc::{AllocError, Global};
+use std::process::Abort;
 use std::test::Fail;
 use tc_address::text;
 use tc_files::FileVersion;
@@ -15,9 +16,15 @@ fn typed(alloc: Global, line: &str) -> Result<Vec<String>, AllocError> {
     Ok(words)
 }
 
+/// The first fault of a line is this one.
+fn is_refused(rt: &impl Abort, alloc: Global, line: &str, fault: WordsFault) -> Result<(), Fail> {
+    let words = typed(alloc, line)?;
+    assert_eq!(rt; read_words(alloc, &words), Err(fault), "at {line}");
+    Ok(())
+}
+
 #[test]
-fn the_first_fault_is_told(rt: HostRuntime) -> Result<(), Fail> {
-    let alloc = rt.alloc();
+fn the_first_fault_of_a_command_is_told(rt: HostRuntime) -> Result<(), Fail> {
     for (line, fault) in [
         ("", WordsFault::Command),
         ("--help", WordsFault::Dash(0)),
@@ -26,13 +33,28 @@ fn the_first_fault_is_told(rt: HostRuntime) -> Result<(), Fail> {
         ("ltc-read x", WordsFault::CountOfWords),
         ("ltc-worn 25", WordsFault::CountOfWords),
         ("ltc-rough 25", WordsFault::CountOfWords),
+        ("ltc-span 2", WordsFault::Command),
+        ("ltc-worn worn", WordsFault::CountOfWords),
+        ("ltc-rough rough", WordsFault::CountOfWords),
+        ("mtc-read x", WordsFault::CountOfWords),
+        ("vitc-read 25", WordsFault::CountOfWords),
+        ("-", WordsFault::Dash(0)),
+        ("LTC-READ", WordsFault::Command),
+    ] {
+        is_refused(&rt, rt.alloc(), line, fault)?;
+    }
+    Ok(())
+}
+
+#[test]
+fn the_first_fault_is_told_along_frames(rt: HostRuntime) -> Result<(), Fail> {
+    for (line, fault) in [
         ("ltc-fly", WordsFault::CountOfWords),
         ("ltc-fly 256", WordsFault::Value(1)),
         ("ltc-fly two", WordsFault::Value(1)),
         ("ltc-spans", WordsFault::CountOfWords),
         ("ltc-spans 256 Worn", WordsFault::Value(1)),
         ("ltc-spans 2 Worn", WordsFault::Value(2)),
-        ("ltc-span 2", WordsFault::Command),
         ("ltc-mtc", WordsFault::CountOfWords),
         ("ltc-mtc 2 2", WordsFault::Value(2)),
         ("ltc-mtc 256", WordsFault::Value(1)),
@@ -81,11 +103,16 @@ fn the_first_fault_is_told(rt: HostRuntime) -> Result<(), Fail> {
             "ltc-chase 25 01:00:00:00 2 1 0 worn 1",
             WordsFault::CountOfWords,
         ),
-        ("ltc-worn worn", WordsFault::CountOfWords),
-        ("ltc-rough rough", WordsFault::CountOfWords),
         ("ltc-fly 2 rougher", WordsFault::Value(2)),
-        ("mtc-read x", WordsFault::CountOfWords),
-        ("vitc-read 25", WordsFault::CountOfWords),
+    ] {
+        is_refused(&rt, rt.alloc(), line, fault)?;
+    }
+    Ok(())
+}
+
+#[test]
+fn the_first_fault_is_told_of_what_is_made(rt: HostRuntime) -> Result<(), Fail> {
+    for (line, fault) in [
         ("vitc-make 30 00:00:00:00 1", WordsFault::CountOfWords),
         ("vitc-make 24 00:00:00:00 1 460", WordsFault::Value(1)),
         ("vitc-make 24 00:00:00:30 0 459", WordsFault::Value(1)),
@@ -142,6 +169,15 @@ fn the_first_fault_is_told(rt: HostRuntime) -> Result<(), Fail> {
         ("ltc-convert", WordsFault::CountOfWords),
         ("ltc-convert 3", WordsFault::Value(1)),
         ("ltc-convert 01", WordsFault::Value(1)),
+    ] {
+        is_refused(&rt, rt.alloc(), line, fault)?;
+    }
+    Ok(())
+}
+
+#[test]
+fn the_first_fault_is_told_of_sound(rt: HostRuntime) -> Result<(), Fail> {
+    for (line, fault) in [
         ("pcm-ltc 25 48000", WordsFault::CountOfWords),
         ("pcm-ltc 30d 0 0 0 follows", WordsFault::Value(1)),
         ("pcm-ltc 25 100000001 0 0 follows", WordsFault::Value(2)),
@@ -169,6 +205,15 @@ fn the_first_fault_is_told(rt: HostRuntime) -> Result<(), Fail> {
         ("ltc-pcm", WordsFault::CountOfWords),
         ("ltc-pcm 0", WordsFault::Value(1)),
         ("ltc-pcm 32768", WordsFault::Value(1)),
+    ] {
+        is_refused(&rt, rt.alloc(), line, fault)?;
+    }
+    Ok(())
+}
+
+#[test]
+fn the_first_fault_is_told_of_labels(rt: HostRuntime) -> Result<(), Fail> {
+    for (line, fault) in [
         ("number 30d", WordsFault::CountOfWords),
         ("number 29 00:01:00;02", WordsFault::Value(1)),
         ("number 30d 00:01:00;00", WordsFault::Value(2)),
@@ -178,15 +223,12 @@ fn the_first_fault_is_told(rt: HostRuntime) -> Result<(), Fail> {
         ("chase 25", WordsFault::CountOfWords),
         ("chase 29 00:00:00:00", WordsFault::Value(1)),
         ("chase 30d 00:01:00;00", WordsFault::Value(2)),
-        ("-", WordsFault::Dash(0)),
-        ("LTC-READ", WordsFault::Command),
         (
             "label 25 1 2 3 4 5 6 7 8 9 10 11 12 13 14 15 16 17 18",
             WordsFault::CountOfWords,
         ),
     ] {
-        let words = typed(alloc, line)?;
-        assert_eq!(rt; read_words(alloc, &words), Err(fault), "at {line}");
+        is_refused(&rt, rt.alloc(), line, fault)?;
     }
     Ok(())
 }
