@@ -15,10 +15,12 @@ BASHDIR = $(PREFIX)/share/bash-completion/completions
 ZSHDIR = $(PREFIX)/share/zsh/site-functions
 FISHDIR = $(PREFIX)/share/fish/vendor_completions.d
 DOCDIR = $(PREFIX)/share/doc/$(PROGRAM)
+# The tools for tapes and archives, as PROGRAM-tape and PROGRAM-archive, and their parts.
+LIBDIR = $(PREFIX)/lib/$(PROGRAM)
 EXAMPLES = $(wildcard examples/*)
-# README.md, docs/ and examples/ lie to each other as in the repository; the scripts of tools/ that draw and that turn pixels into
-# runs are examples too.
-DOCUMENTS = $(wildcard docs/*)
+# README.md, docs/, examples/ and conformance/ lie to each other as in the repository; the scripts of tools/ that draw and that turn
+# pixels into runs are examples too.
+DOCUMENTS = $(shell find docs conformance -type f)
 TOOLS = tools/draw_report tools/plot_chase tools/line_runs tools/line_rows
 
 # The name under which it is installed, in place of tc where the text speaks of the program.
@@ -43,7 +45,7 @@ install:
 	@[ -x bin/tc ] || { echo "bin/tc is not built: run make first" >&2; exit 1; }
 	install -d "$(DESTDIR)$(BINDIR)" "$(DESTDIR)$(MANDIR)/man1" "$(DESTDIR)$(MANDIR)/man5" "$(DESTDIR)$(BASHDIR)" \
 	    "$(DESTDIR)$(ZSHDIR)" "$(DESTDIR)$(FISHDIR)" "$(DESTDIR)$(DOCDIR)/examples" "$(DESTDIR)$(DOCDIR)/examples/tools" \
-	    "$(DESTDIR)$(DOCDIR)/docs"
+	    "$(DESTDIR)$(LIBDIR)/tape_report"
 	$(INSTALL_PROGRAM) bin/tc "$(DESTDIR)$(BINDIR)/$(PROGRAM)"
 	$(RENAME_MAN) man/tc.1 > "$(DESTDIR)$(MANDIR)/man1/$(PROGRAM).1"
 	$(RENAME_MAN) man/tc-formats.5 > "$(DESTDIR)$(MANDIR)/man5/$(PROGRAM)-formats.5"
@@ -53,9 +55,15 @@ install:
 	chmod 644 "$(DESTDIR)$(MANDIR)/man1/$(PROGRAM).1" "$(DESTDIR)$(MANDIR)/man5/$(PROGRAM)-formats.5" \
 	    "$(DESTDIR)$(BASHDIR)/$(PROGRAM)" "$(DESTDIR)$(ZSHDIR)/_$(PROGRAM)" "$(DESTDIR)$(FISHDIR)/$(PROGRAM).fish"
 	install -m 644 README.md "$(DESTDIR)$(DOCDIR)"
-	install -m 644 $(DOCUMENTS) "$(DESTDIR)$(DOCDIR)/docs"
+	for file in $(DOCUMENTS); do install -D -m 644 "$$file" "$(DESTDIR)$(DOCDIR)/$$file"; done
 	install -m 644 $(EXAMPLES) "$(DESTDIR)$(DOCDIR)/examples"
 	install -m 755 $(TOOLS) "$(DESTDIR)$(DOCDIR)/examples/tools"
+	install -m 755 tools/tape tools/archive tools/draw_report "$(DESTDIR)$(LIBDIR)"
+	install -m 644 $(wildcard tools/tape_report/*.*) "$(DESTDIR)$(LIBDIR)/tape_report"
+	ln -sf ../lib/$(PROGRAM)/tape "$(DESTDIR)$(BINDIR)/$(PROGRAM)-tape"
+	ln -sf ../lib/$(PROGRAM)/archive "$(DESTDIR)$(BINDIR)/$(PROGRAM)-archive"
+	$(RENAME_MAN) man/tc-tape.1 > "$(DESTDIR)$(MANDIR)/man1/$(PROGRAM)-tape.1"
+	$(RENAME_MAN) man/tc-archive.1 > "$(DESTDIR)$(MANDIR)/man1/$(PROGRAM)-archive.1"
 
 install-strip:
 	$(MAKE) INSTALL_PROGRAM="install -s -m 755" install
@@ -63,4 +71,6 @@ install-strip:
 uninstall:
 	rm -f "$(DESTDIR)$(BINDIR)/$(PROGRAM)" "$(DESTDIR)$(MANDIR)/man1/$(PROGRAM).1" "$(DESTDIR)$(MANDIR)/man5/$(PROGRAM)-formats.5" \
 	    "$(DESTDIR)$(BASHDIR)/$(PROGRAM)" "$(DESTDIR)$(ZSHDIR)/_$(PROGRAM)" "$(DESTDIR)$(FISHDIR)/$(PROGRAM).fish"
-	rm -rf "$(DESTDIR)$(DOCDIR)"
+	rm -f "$(DESTDIR)$(BINDIR)/$(PROGRAM)-tape" "$(DESTDIR)$(BINDIR)/$(PROGRAM)-archive" \
+	    "$(DESTDIR)$(MANDIR)/man1/$(PROGRAM)-tape.1" "$(DESTDIR)$(MANDIR)/man1/$(PROGRAM)-archive.1"
+	rm -rf "$(DESTDIR)$(DOCDIR)" "$(DESTDIR)$(LIBDIR)"

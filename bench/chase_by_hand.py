@@ -1,5 +1,5 @@
 #!/usr/bin/env python3
-"""Random scripts through `tc chase`, against a second reading of the tables in docs/FORMATS.md.
+"""Random scripts through `tc chase`, against a second reading of the tables in docs/reference/formats.md.
 
     bench/chase_by_hand.py [SCRIPTS] [SEED]
 

@@ -1,5 +1,5 @@
 #!/usr/bin/env python3
-"""Recordings through `tc ltc-chase`, against a second reading of the tables in docs/FORMATS.md.
+"""Recordings through `tc ltc-chase`, against a second reading of the tables in docs/reference/formats.md.
 
     bench/code_chase_by_hand.py [RECORDING..]
 

@@ -1,5 +1,5 @@
 #!/usr/bin/env python3
-"""Reads damaged recordings a second time, by docs/FORMATS.md alone, and compares the lines with the program's.
+"""Reads damaged recordings a second time, by docs/reference/formats.md alone, and compares the lines with the program's.
 
     bench/read_by_hand.py [COUNT [PROGRAM]]      a thousand recordings and bin/tc where none are named
 

@@ -1,5 +1,5 @@
 #!/usr/bin/env bash
-# The table of docs/SOUND.md: how many words of sound that libltc made and sox hurt are read, by `tc` and by libltc's own decoder. Behind a
+# The table of docs/reference/sound.md: how many words of sound that libltc made and sox hurt are read, by `tc` and by libltc's own decoder. Behind a
 # plus sign stand the false ones: words with an address that was never encoded.
 #
 #     bench/sound.sh [TC [FRAMES]]
@@ -52,17 +52,16 @@ words() { "$tc" "$1" | awk '$1 == "word" { sub(";", ":", $3); print $3 }'; }
 row() { # NAME RATE
     local name=$1 rate=$2 cells
     cells="| $name | $("$room/sound" read "$fps" "$rate" < "$room/now" | counted)"
-    for how in "1000" "1000 16" "250 16 follow"; do
-        for command in ltc-read ltc-worn ltc-rough; do
-            # shellcheck disable=SC2086
-            cells="$cells | $("$tc" pcm-ltc "$system" "$rate" $how < "$room/now" | words "$command" | counted)"
-        done
+    for way in "1000,ltc-read" "1000 16,ltc-worn" "250 16 follow,ltc-read" "250 16 follow,ltc-worn" "250 16 follow,ltc-rough" \
+        "250 16 follow 3,ltc-rough" "250 16 deep,ltc-rough" "250 16 deep 3,ltc-rough"; do
+        # shellcheck disable=SC2086
+        cells="$cells | $("$tc" pcm-ltc "$system" "$rate" ${way%,*} < "$room/now" | words "${way#*,}" | counted)"
     done
     echo "$cells |"
 }
 
-echo "| Sound of $frames frames | libltc | whole samples | worn | rough | sixteenths | worn | rough | following | worn | rough |"
-echo "|---|---|---|---|---|---|---|---|---|---|---|"
+echo "| Sound of $frames frames | libltc | whole, read | fixed, worn | follow, read | follow, worn | follow, rough | follow 3, rough | deep, rough | deep 3, rough |"
+echo "|---|---|---|---|---|---|---|---|---|---|"
 "$room/sound" make "$fps" 48000 "$frames" > "$room/clean" 2> "$room/addresses"
 cp "$room/clean" "$room/now" && row "as it was made" 48000
 # The edges of a tape are not square, and it hisses: what follows was hurt so first.

@@ -7,7 +7,7 @@
 Each recording (.ltci) of the folders is read in both versions, with several limits and both tolerances; and so are so many
 damaged ones, made of them by chance: intervals are dropped, lengthened, shortened and put in, and pieces of one recording
 are put behind those of another. It shares no code with the program but `ltc-fly`, whose lines it takes as they are; with
-`--words` it flies by itself, by the rule in docs/FORMATS.md. The seed is 1, or the environment's SEED.
+`--words` it flies by itself, by the rule in docs/reference/formats.md. The seed is 1, or the environment's SEED.
 """
 import os
 import random

@@ -1,5 +1,5 @@
 #!/usr/bin/env python3
-"""A second reading of `wav-ltc`, from docs/FORMATS.md and docs/SOUND.md alone, on whole lists and without tc.
+"""A second reading of `wav-ltc`, from docs/reference/formats.md and docs/reference/sound.md alone, on whole lists and without tc.
 
     bench/wave_by_hand.py SYSTEM TRACK THRESHOLD [SMOOTH [deep]] < FILE > INTERVALS
 

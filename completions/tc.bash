@@ -2,7 +2,7 @@
 _tc() {
     local word=${COMP_WORDS[COMP_CWORD]} command=${COMP_WORDS[1]} values=
     if [ "$COMP_CWORD" -eq 1 ]; then
-        values="ltc-read ltc-worn ltc-rough ltc-fly ltc-spans ltc-mtc ltc-jam ltc-make ltc-load ltc-convert pcm-ltc ltc-pcm mtc-read vitc-read vitc-make chase ltc-chase number label"
+        values="ltc-read ltc-worn ltc-rough ltc-fly ltc-spans ltc-mtc ltc-jam ltc-make ltc-load ltc-convert pcm-ltc wav-ltc ltc-pcm mtc-read vitc-read vitc-make chase ltc-chase number label"
     else
         case $command:$COMP_CWORD in
             number:2 | label:2 | ltc-make:2 | chase:2 | ltc-chase:2) values="24 25 30 30d" ;;
@@ -11,8 +11,9 @@ _tc() {
             ltc-convert:2) values="1 2" ;;
             pcm-ltc:2) values="24 25 30" ;;
             pcm-ltc:6) values="follow deep" ;;
-            ltc-fly:3 | ltc-mtc:3 | ltc-jam:5 | ltc-chase:7) values="worn" ;;
-            ltc-fly:3 | ltc-spans:3 | ltc-mtc:3 | ltc-jam:5 | ltc-chase:7) values="worn" ;;
+            ltc-fly:3 | ltc-spans:3 | ltc-mtc:3 | ltc-jam:5 | ltc-chase:7) values="worn rough" ;;
+            wav-ltc:2) values="24 25 30" ;;
+            wav-ltc:6) values="deep" ;;
         esac
     fi
     mapfile -t COMPREPLY < <(compgen -W "$values" -- "$word")

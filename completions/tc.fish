@@ -11,6 +11,7 @@ complete -c tc -n '__fish_is_first_arg' -a ltc-make -d 'a recording of a run of 
 complete -c tc -n '__fish_is_first_arg' -a ltc-load -d 'a generated recording, read'
 complete -c tc -n '__fish_is_first_arg' -a ltc-convert -d 'a recording in the other version of the file'
 complete -c tc -n '__fish_is_first_arg' -a pcm-ltc -d 'sound as a recording'
+complete -c tc -n '__fish_is_first_arg' -a wav-ltc -d 'a track of a sound file as a recording'
 complete -c tc -n '__fish_is_first_arg' -a ltc-pcm -d 'a recording as sound'
 complete -c tc -n '__fish_is_first_arg' -a mtc-read -d 'the labels in MIDI bytes'
 complete -c tc -n '__fish_is_first_arg' -a vitc-read -d 'the fields of vertical interval time code'
@@ -25,9 +26,8 @@ complete -c tc -n '__fish_seen_subcommand_from ltc-make; and test (count (comman
 complete -c tc -n '__fish_seen_subcommand_from ltc-convert; and test (count (commandline -opc)) -eq 2' -a '1 2'
 complete -c tc -n '__fish_seen_subcommand_from pcm-ltc; and test (count (commandline -opc)) -eq 2' -a '24 25 30'
 complete -c tc -n '__fish_seen_subcommand_from pcm-ltc; and test (count (commandline -opc)) -eq 6' -a 'follow deep'
-complete -c tc -n '__fish_seen_subcommand_from ltc-fly ltc-mtc; and test (count (commandline -opc)) -eq 3' -a worn
-complete -c tc -n '__fish_seen_subcommand_from ltc-jam; and test (count (commandline -opc)) -eq 5' -a worn
-complete -c tc -n '__fish_seen_subcommand_from ltc-chase; and test (count (commandline -opc)) -eq 7' -a worn
-complete -c tc -n '__fish_seen_subcommand_from ltc-fly ltc-spans ltc-mtc; and test (count (commandline -opc)) -eq 3' -a worn
-complete -c tc -n '__fish_seen_subcommand_from ltc-jam; and test (count (commandline -opc)) -eq 5' -a worn
-complete -c tc -n '__fish_seen_subcommand_from ltc-chase; and test (count (commandline -opc)) -eq 7' -a worn
+complete -c tc -n '__fish_seen_subcommand_from wav-ltc; and test (count (commandline -opc)) -eq 2' -a '24 25 30'
+complete -c tc -n '__fish_seen_subcommand_from wav-ltc; and test (count (commandline -opc)) -eq 6' -a deep
+complete -c tc -n '__fish_seen_subcommand_from ltc-jam; and test (count (commandline -opc)) -eq 5' -a 'worn rough'
+complete -c tc -n '__fish_seen_subcommand_from ltc-chase; and test (count (commandline -opc)) -eq 7' -a 'worn rough'
+complete -c tc -n '__fish_seen_subcommand_from ltc-fly ltc-spans ltc-mtc; and test (count (commandline -opc)) -eq 3' -a 'worn rough'

@@ -2,7 +2,6 @@
 import os
 import shutil
 import subprocess
-import sys
 import tempfile
 from dataclasses import dataclass, field
 
@@ -23,10 +22,12 @@ class NoProgram(Exception):
 
 def program():
     """The path of `tc`: that of TC, of the repository, beside this tool, or of the shell."""
-    here = os.path.dirname(os.path.dirname(os.path.abspath(__file__)))
-    beside = os.path.dirname(os.path.abspath(sys.argv[0]))
-    for path in (os.environ.get("TC"), os.path.join(os.path.dirname(here), "bin", "tc"), os.path.join(beside, "tc")):
-        if path and os.access(path, os.X_OK):
+    tools = os.path.dirname(os.path.dirname(os.path.realpath(__file__)))
+    # In the repository tools/ stands beside bin/; installed, lib/NAME stands beside bin/NAME.
+    top, name = os.path.split(tools)
+    installed = os.path.join(os.path.dirname(top), "bin", name)
+    for path in (os.environ.get("TC"), os.path.join(top, "bin", "tc"), installed):
+        if path and os.path.isfile(path) and os.access(path, os.X_OK):
             return path
     path = shutil.which("tc")
     if path is None:

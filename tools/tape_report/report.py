@@ -127,7 +127,7 @@ def advice(level: Level, sound: Sound):
         return "far more crossings than code has: hiss, or sound that is no code; try --smooth 3"
     if level.crossings < cells / 4:
         return "far fewer crossings than code has: speech or music, or code played slowly"
-    return "as many crossings as code may have: try --threshold higher or lower, --smooth 3, or a filter (docs/SOUND.md)"
+    return "as many crossings as code may have: try --threshold higher or lower, --smooth 3, or a filter (docs/reference/sound.md)"
 
 
 def empty_report(name, sound: Sound, levels: dict[int, Level], notes: list[str]):
