@@ -25,11 +25,12 @@ TOOLS = tools/draw_report tools/plot_chase tools/line_runs tools/line_rows
 
 # The name under which it is installed, in place of tc where the text speaks of the program.
 RENAME = sed -e 's/_tc\b/_$(PROGRAM)/g' -e 's/\b_tc_/_$(PROGRAM)_/g' -e 's/^\#compdef tc$$/\#compdef $(PROGRAM)/' \
-	-e 's/\(complete .*\) tc$$/\1 $(PROGRAM)/' -e 's/complete -c tc\b/complete -c $(PROGRAM)/g' -e 's/completion of tc:/completion of $(PROGRAM):/'
+	-e 's/\(complete .*\) tc$$/\1 $(PROGRAM)/' -e 's/complete -c tc\b/complete -c $(PROGRAM)/g' -e 's/completion of tc:/completion of $(PROGRAM):/' \
+	-e 's/\btc-\(tape\|archive\)\b/$(PROGRAM)-\1/g'
 UPPER = $(shell echo $(PROGRAM) | tr a-z A-Z)
 # tc as a word of its own, and not where a note begins with it.
 RENAME_MAN = sed -e 's/^\.Dt TC/.Dt $(UPPER)/' -e 's/\(^\|\\fB\|[ \x27]\)tc\( \|\\fP\|$$\)/\1$(PROGRAM)\2/g' \
-	-e 's/^\(\.Nm\|\.Xr\) tc-formats/\1 $(PROGRAM)-formats/'
+	-e 's/^\(\.Nm\|\.Xr\) tc-\(formats\|tape\|archive\)/\1 $(PROGRAM)-\2/' -e 's/tc-\(tape\|archive\) --/$(PROGRAM)-\1 --/g'
 
 INSTALL_PROGRAM = install -m 755
 
@@ -52,6 +53,11 @@ install:
 	$(RENAME) completions/tc.bash > "$(DESTDIR)$(BASHDIR)/$(PROGRAM)"
 	$(RENAME) completions/_tc > "$(DESTDIR)$(ZSHDIR)/_$(PROGRAM)"
 	$(RENAME) completions/tc.fish > "$(DESTDIR)$(FISHDIR)/$(PROGRAM).fish"
+	$(RENAME) completions/tc-tape.bash > "$(DESTDIR)$(BASHDIR)/$(PROGRAM)-tape"
+	ln -sf $(PROGRAM)-tape "$(DESTDIR)$(BASHDIR)/$(PROGRAM)-archive"
+	$(RENAME) completions/_tc-tape > "$(DESTDIR)$(ZSHDIR)/_$(PROGRAM)-tape"
+	$(RENAME) completions/tc-tape.fish > "$(DESTDIR)$(FISHDIR)/$(PROGRAM)-tape.fish"
+	ln -sf $(PROGRAM)-tape.fish "$(DESTDIR)$(FISHDIR)/$(PROGRAM)-archive.fish"
 	chmod 644 "$(DESTDIR)$(MANDIR)/man1/$(PROGRAM).1" "$(DESTDIR)$(MANDIR)/man5/$(PROGRAM)-formats.5" \
 	    "$(DESTDIR)$(BASHDIR)/$(PROGRAM)" "$(DESTDIR)$(ZSHDIR)/_$(PROGRAM)" "$(DESTDIR)$(FISHDIR)/$(PROGRAM).fish"
 	install -m 644 README.md "$(DESTDIR)$(DOCDIR)"
@@ -71,6 +77,8 @@ install-strip:
 uninstall:
 	rm -f "$(DESTDIR)$(BINDIR)/$(PROGRAM)" "$(DESTDIR)$(MANDIR)/man1/$(PROGRAM).1" "$(DESTDIR)$(MANDIR)/man5/$(PROGRAM)-formats.5" \
 	    "$(DESTDIR)$(BASHDIR)/$(PROGRAM)" "$(DESTDIR)$(ZSHDIR)/_$(PROGRAM)" "$(DESTDIR)$(FISHDIR)/$(PROGRAM).fish"
+	rm -f "$(DESTDIR)$(BASHDIR)/$(PROGRAM)-tape" "$(DESTDIR)$(BASHDIR)/$(PROGRAM)-archive" "$(DESTDIR)$(ZSHDIR)/_$(PROGRAM)-tape" \
+	    "$(DESTDIR)$(FISHDIR)/$(PROGRAM)-tape.fish" "$(DESTDIR)$(FISHDIR)/$(PROGRAM)-archive.fish"
 	rm -f "$(DESTDIR)$(BINDIR)/$(PROGRAM)-tape" "$(DESTDIR)$(BINDIR)/$(PROGRAM)-archive" \
 	    "$(DESTDIR)$(MANDIR)/man1/$(PROGRAM)-tape.1" "$(DESTDIR)$(MANDIR)/man1/$(PROGRAM)-archive.1"
 	rm -rf "$(DESTDIR)$(DOCDIR)" "$(DESTDIR)$(LIBDIR)"

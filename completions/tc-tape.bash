@@ -1,0 +1,22 @@
+# bash completion of tc-tape and tc-archive: options, and files.
+_tc_tape() {
+    local word=${COMP_WORDS[COMP_CWORD]} before=${COMP_WORDS[COMP_CWORD - 1]}
+    local options="--track --system --limit --threshold --smooth --deep"
+    case ${COMP_WORDS[0]##*/} in
+        *-archive) options+=" --jobs --hosts --resume --part" ;;
+        *) options+=" --csv --picture --page --stamp" ;;
+    esac
+    case $before in
+        --system) mapfile -t COMPREPLY < <(compgen -W "24 25 30" -- "$word") ;;
+        --track | --limit | --threshold | --smooth | --jobs | --part) COMPREPLY=() ;;
+        *)
+            if [[ $word == -* ]]; then
+                mapfile -t COMPREPLY < <(compgen -W "$options" -- "$word")
+            else
+                compopt -o filenames 2> /dev/null
+                mapfile -t COMPREPLY < <(compgen -f -- "$word")
+            fi
+            ;;
+    esac
+}
+complete -F _tc_tape tc-tape tc-archive
