@@ -1,5 +1,5 @@
--- From the recording's second unequal pair on the last stretch has the tape's own cells, so its windows that begin there are the tape's. All
--- other words end before the first of these, and the stretches before it are broken by then.
+-- From the second unequal pair of a piece of the tape on the last stretch has the tape's own cells, so its windows that begin there are the
+-- tape's. All other words begin before, and the stretches before it are broken by then. What the recording has behind the piece comes later.
 use Rattle.std.proofs.Common.{◌≡◌, ◌<◌, ◌≤◌, ℕ, ◌+◌, ◌-◌, zero, suc, List, [], ◌∷◌, ◌++◌, length, take, drop, sum, Option, Some, None, MatchOption}
 use Rattle.std.proofs.Common.{ap, arith, append_assoc, append-nil, length-append, inl, inr, refl, subst, sym, ◌∙◌, All, IsSomeAnd}
 use Rattle.std.proofs.lemmas.Bool.{cases_lt}
@@ -9,11 +9,10 @@ use Rattle.std.proofs.lemmas.List.{drop-drop, drop_at}
 use Rattle.std.proofs.lemmas.List.Elements.{All-nil, All-cons, All-append, All-head, All-tail, All-same}
 use Rattle.std.proofs.lemmas.List.Sums.{sum_by-append, sum_by-take-drop, sum_by-cons}
 use Rattle.biphase.specs.declared.cell.Cell.{Cell}
-use Rattle.biphase.specs.declared.cell.Cell.TheVariants.{Zero, One}
 use Rattle.biphase.specs.declared.profile.Profile.{Profile}
 use Rattle.biphase.specs.Latest.{Latest}
-use Rattle.biphase.specs.Tolerance.{LooksAtLast, kept_at_lock, kept_next}
-use Rattle.biphase.specs.Chain.{intervals_of, flat, kept_of, Follow, FollowOn}
+use Rattle.biphase.specs.Tolerance.{LooksAtLast}
+use Rattle.biphase.specs.Chain.{intervals_of, flat, kept_of}
 use Rattle.biphase.specs.Laws.{half_or_not}
 use Rattle.cell_tracker.specs.FoundAgain.{IsSecondLock, AreFrom, BreaksBy}
 use Rattle.cell_tracker.specs.Kept.{IsPiece, cells_from}
@@ -25,14 +24,14 @@ use Rattle.direction_reader.specs.declared.event.Event.{Event}
 use Rattle.direction_reader.specs.declared.event.Event.TheVariants.{Word, Refused, Lost}
 use Rattle.direction_reader.specs.declared.event.Events.{Events}
 use Rattle.direction_reader.specs.Candidate.{IsEventOf, AreEventsOf}
-use Rattle.direction_reader.specs.Events.{listed, event_list}
+use Rattle.direction_reader.specs.Events.{listed, event_list, tick_of}
 use Rattle.direction_reader.specs.ListEvents.{CellWindow, duration, windows, begin_of, break_events, AreEventsOfWindows, AreEventsOfStretch}
 use Rattle.direction_reader.specs.ListEvents.{AreEventsOfStretches, AreEvents}
-use Rattle.direction_reader.specs.Tape.{EndsBefore, TellFrom, FindsTheTape}
+use Rattle.direction_reader.specs.Tape.{EndsBy, TellFrom, FindsTheTape}
 use Rattle.direction_reader.specs.Tape as tape
 use Rattle.direction_reader.proofs.OneList.{in_sync_or_not}
 use Rattle.direction_reader.proofs.WindowsGrow.{few}
-use Rattle.direction_reader.proofs.WindowsFromCells.{duration_of, windows_cons, AllLast, last_behind, front_less, front_most, front_within}
+use Rattle.direction_reader.proofs.WindowsFromCells.{duration_of, windows_cons, front_longer, front_most, front_within}
 
 -- the stretches are the tape's from a place on
 abbrev pub IsFoundAgain : Type 0
@@ -42,55 +41,55 @@ IsFoundAgain = (profile : Profile) → LooksAtLast profile → (before kept : Li
 
 -- ---- the events of a window come at its end
 
--- words alone, each of which ends before a tick; breaks are none of them
-abbrev AreWordsBefore : ℕ → List Event → Type 0
-AreWordsBefore end events = All (λ (e : Event). EndsBefore end e × ((from : ℕ) → tape.BreaksBy from e)) events
+-- words alone, each of which ends at a tick at the latest; breaks are none of them
+abbrev AreWordsBy : ℕ → List Event → Type 0
+AreWordsBy end events = All (λ (e : Event). EndsBy end e × ((from : ℕ) → tape.BreaksBy from e)) events
 
-none_before : (end : ℕ) → AreWordsBefore end []
-none_before end = All-nil (λ (e : Event). EndsBefore end e × ((from : ℕ) → tape.BreaksBy from e))
+none_by : (end : ℕ) → AreWordsBy end []
+none_by end = All-nil (λ (e : Event). EndsBy end e × ((from : ℕ) → tape.BreaksBy from e))
 
-both_before : (end : ℕ) (one two : List Event) → AreWordsBefore end one → AreWordsBefore end two → AreWordsBefore end (one ++ two)
-both_before end one two = All-append (λ (e : Event). EndsBefore end e × ((from : ℕ) → tape.BreaksBy from e)) one two
+both_by : (end : ℕ) (one two : List Event) → AreWordsBy end one → AreWordsBy end two → AreWordsBy end (one ++ two)
+both_by end one two = All-append (λ (e : Event). EndsBy end e × ((from : ℕ) → tape.BreaksBy from e)) one two
 
-one_before : (end : ℕ) (e : Event) → EndsBefore end e → ((from : ℕ) → tape.BreaksBy from e) → AreWordsBefore end (e ∷ [])
-one_before end e ends breaks =
-    All-cons (λ (e : Event). EndsBefore end e × ((from : ℕ) → tape.BreaksBy from e)) e [] (ends, breaks) (none_before end)
+one_by : (end : ℕ) (e : Event) → EndsBy end e → ((from : ℕ) → tape.BreaksBy from e) → AreWordsBy end (e ∷ [])
+one_by end e ends breaks =
+    All-cons (λ (e : Event). EndsBy end e × ((from : ℕ) → tape.BreaksBy from e)) e [] (ends, breaks) (none_by end)
 
-same_before : (end : ℕ) (one two : List Event) → one ≡ two → AreWordsBefore end two → AreWordsBefore end one
-same_before end one two same = All-same (λ (e : Event). EndsBefore end e × ((from : ℕ) → tape.BreaksBy from e)) one two same
+same_by : (end : ℕ) (one two : List Event) → one ≡ two → AreWordsBy end two → AreWordsBy end one
+same_by end one two same = All-same (λ (e : Event). EndsBy end e × ((from : ℕ) → tape.BreaksBy from e)) one two same
 
-heard : (system : System) (direction : Direction) (bits at length end : ℕ) (o : Option Event) → at < end
-    → IsSomeAnd o (IsEventOf system direction bits at length) → AreWordsBefore end (listed o)
+heard : (system : System) (direction : Direction) (bits at length end : ℕ) (o : Option Event) → at ≤ end
+    → IsSomeAnd o (IsEventOf system direction bits at length) → AreWordsBy end (listed o)
 heard system direction bits at length end None less is = absurd is
 heard system direction bits at length end (Some (Word d w t n)) less is =
-    let tick = is.2 in one_before end (Word d w t n) (omega (arith, tick)) (λ from. tt)
+    let tick = is.2 in one_by end (Word d w t n) (omega (arith, tick)) (λ from. tt)
 heard system direction bits at length end (Some (Refused d f t)) less is =
-    let tick = is.2 in one_before end (Refused d f t) (omega (arith, tick)) (λ from. tt)
+    let tick = is.2 in one_by end (Refused d f t) (omega (arith, tick)) (λ from. tt)
 heard system direction bits at length end (Some (Lost p t)) less is = absurd is
 
-unheard : (end : ℕ) (o : Option Event) → o ≡ None → AreWordsBefore end (listed o)
-unheard end o none = rw none (none_before end)
+unheard : (end : ℕ) (o : Option Event) → o ≡ None → AreWordsBy end (listed o)
+unheard end o none = rw none (none_by end)
 
-window_before : (system : System) (bits at length end : ℕ) (own : Events) → at < end → AreEventsOf system bits at length own
-    → AreWordsBefore end (event_list own)
-window_before system bits at length end own less are =
+window_by : (system : System) (bits at length end : ℕ) (own : Events) → at ≤ end → AreEventsOf system bits at length own
+    → AreWordsBy end (event_list own)
+window_by system bits at length end own less are =
     let back = reversed_bits bits in
     let first = listed own.first in
     let second = listed own.second in
     elim (in_sync_or_not bits) [
       | inl forward ↦ elim (in_sync_or_not back) [
-        | inl backward ↦ both_before end first second (heard _ _ _ _ _ end own.first less (are.forward forward))
+        | inl backward ↦ both_by end first second (heard _ _ _ _ _ end own.first less (are.forward forward))
             (heard _ _ _ _ _ end own.second less (are.both forward backward))
-        | inr not_back ↦ both_before end first second (heard _ _ _ _ _ end own.first less (are.forward forward))
+        | inr not_back ↦ both_by end first second (heard _ _ _ _ _ end own.first less (are.forward forward))
             (unheard end own.second (are.one forward not_back))
       ]
       | inr not_forward ↦ elim (in_sync_or_not back) [
         | inl backward ↦ (
             let mine = are.backward backward not_forward in
-            both_before end first second (heard _ _ _ _ _ end own.first less mine.0) (unheard end own.second mine.1))
+            both_by end first second (heard _ _ _ _ _ end own.first less mine.0) (unheard end own.second mine.1))
         | inr not_back ↦ (
             let mine = are.none not_forward not_back in
-            both_before end first second (unheard end own.first mine.0) (unheard end own.second mine.1))
+            both_by end first second (unheard end own.first mine.0) (unheard end own.second mine.1))
       ]
     ]
 
@@ -100,19 +99,19 @@ no_windows : (system : System) (tick : ℕ) (cells : List Cell) (es : List Event
 no_windows system tick cells es less are =
     subst (λ (ws : List CellWindow). AreEventsOfWindows system ws es) (few tick cells less) are
 
-words_before : (system : System) (tick : ℕ) (cells : List Cell) (end : ℕ) (es : List Event) → tick + duration cells < end
-    → AreEventsOfWindows system (windows tick cells) es → AreWordsBefore end es
-words_before system tick [] end es less are =
-    same_before end es [] (no_windows system tick [] es (omega arith) are) (none_before end)
-words_before system tick (cell ∷ cells) end es less are =
+words_by : (system : System) (tick : ℕ) (cells : List Cell) (end : ℕ) (es : List Event) → tick + duration cells ≤ end
+    → AreEventsOfWindows system (windows tick cells) es → AreWordsBy end es
+words_by system tick [] end es less are =
+    same_by end es [] (no_windows system tick [] es (omega arith) are) (none_by end)
+words_by system tick (cell ∷ cells) end es less are =
     elim (cases_lt (length (cell ∷ cells)) 80) [
-      | inl fewer ↦ same_before end es [] (no_windows system tick (cell ∷ cells) es fewer are) (none_before end)
+      | inl fewer ↦ same_by end es [] (no_windows system tick (cell ∷ cells) es fewer are) (none_by end)
       | inr many ↦ (
           let split = subst (λ (ws : List CellWindow). AreEventsOfWindows system ws es) (windows_cons tick cell cells (omega arith)) are in
-          let ends : tick + duration (take 80 (cell ∷ cells)) < end = omega (arith, front_within 80 (cell ∷ cells)) in
-          same_before end es _ split.4 (both_before end (event_list split.0) split.1
-          (window_before system _ _ _ end split.0 ends split.2)
-          (words_before system (tick + duration (cell ∷ [])) cells end split.1 (omega (arith, duration_of cell cells)) split.3)))
+          let ends : tick + duration (take 80 (cell ∷ cells)) ≤ end = omega (arith, front_within 80 (cell ∷ cells)) in
+          same_by end es _ split.4 (both_by end (event_list split.0) split.1
+          (window_by system _ _ _ end split.0 ends split.2)
+          (words_by system (tick + duration (cell ∷ [])) cells end split.1 (omega (arith, duration_of cell cells)) split.3)))
     ]
 
 -- ---- the windows that begin at a cell or later
@@ -122,25 +121,25 @@ record Split (system : System) (tick : ℕ) (older cells : List Cell) (events : 
   later : List Event
   are : events ≡ past ++ later
   words : AreEventsOfWindows system (windows (tick + duration older) cells) later
-  before : 80 ≤ length cells → AreWordsBefore (tick + duration older + duration (take 80 cells)) past
+  before : AreWordsBy (tick + duration older + duration (take 79 cells)) past
   no_break : (from : ℕ) → All (tape.BreaksBy from) past
 
-words_alone : (end : ℕ) (es : List Event) → AreWordsBefore end es → (from : ℕ) → All (tape.BreaksBy from) es
+words_alone : (end : ℕ) (es : List Event) → AreWordsBy end es → (from : ℕ) → All (tape.BreaksBy from) es
 words_alone end es are from = λ k d within. (are k d within).1 from
 
-split : (system : System) (tick : ℕ) (older cells : List Cell) (es : List Event) → AllLast (older ++ cells)
+split : (system : System) (tick : ℕ) (older cells : List Cell) (es : List Event)
     → AreEventsOfWindows system (windows tick (older ++ cells)) es → Split system tick older cells es
-split system tick [] cells es last are =
+split system tick [] cells es are =
     let same : tick ≡ tick + duration [] = omega arith in
     record {
       past = [];
       later = es;
       are = refl;
       words = subst (λ t. AreEventsOfWindows system (windows t cells) es) same are;
-      before = λ _. none_before _;
+      before = none_by _;
       no_break = λ from. All-nil (tape.BreaksBy from);
     }
-split system tick (cell ∷ older) cells es last are =
+split system tick (cell ∷ older) cells es are =
     let long = length-append older cells in
     elim (cases_lt (length (older ++ cells)) 79) [
       | inl fewer ↦ (
@@ -151,48 +150,33 @@ split system tick (cell ∷ older) cells es last are =
             are = none;
             words = subst (λ (ws : List CellWindow). AreEventsOfWindows system ws [])
                 (sym (few (tick + duration (cell ∷ older)) cells (omega arith))) refl;
-            before = λ _. none_before _;
+            before = none_by _;
             no_break = λ from. All-nil (tape.BreaksBy from);
           })
       | inr many ↦ (
           let begin = tick + duration (cell ∷ []) in
           let first = subst (λ (ws : List CellWindow). AreEventsOfWindows system ws es) (windows_cons tick cell (older ++ cells) many) are in
-          let more = split system begin older cells first.1 last.1 first.3 in
+          let more = split system begin older cells first.1 first.3 in
           let place : begin + duration older ≡ tick + duration (cell ∷ older) = omega (arith, duration_of cell older) in
           let own = event_list first.0 in
           let window_end = tick + duration (take 80 (cell ∷ (older ++ cells))) in
-          let alone = words_alone (window_end + 1) own (window_before system _ _ _ (window_end + 1) first.0 (omega arith) first.2) in
+          let alone = words_alone window_end own (window_by system _ _ _ window_end first.0 (omega arith) first.2) in
           record {
             past = own ++ more.past;
             later = more.later;
             are = first.4 ∙ ap (λ (e : List Event). own ++ e) more.are ∙ sym (append_assoc own more.past more.later);
             words = subst (λ t. AreEventsOfWindows system (windows t cells) more.later) place more.words;
-            before = λ eighty.
-                let end = tick + duration (cell ∷ older) + duration (take 80 cells) in
-                let less : duration (take (80 - length (cell ∷ older)) cells) < duration (take 80 cells) =
-                front_less cells (80 - length (cell ∷ older)) 80 (last_behind (cell ∷ older) cells last) (omega arith) eighty in
-                let ends : window_end < end = omega (arith, front_most 80 (cell ∷ older) cells, less) in
-                both_before end own more.past (window_before system _ _ _ end first.0 ends first.2)
-                (subst (λ t. AreWordsBefore (t + duration (take 80 cells)) more.past) place (more.before eighty));
+            before =
+                let end = tick + duration (cell ∷ older) + duration (take 79 cells) in
+                let fewer = front_longer cells (80 - length (cell ∷ older)) 79 (omega arith) in
+                let ends : window_end ≤ end = omega (arith, front_most 80 (cell ∷ older) cells, fewer) in
+                both_by end own more.past (window_by system _ _ _ end first.0 ends first.2)
+                (subst (λ t. AreWordsBy (t + duration (take 79 cells)) more.past) place more.before);
             no_break = λ from. All-append (tape.BreaksBy from) own more.past (alone from) (more.no_break from);
           })
     ]
 
 -- ---- the places of a stretch and their ticks
-
-last_after : (profile : Profile) (c : Latest) (cells : List Cell) → Follow profile c cells → AllLast cells
-last_after profile c [] chain = tt
-last_after profile c (Zero x ∷ cells) chain =
-    let ticks : 1 ≤ x = chain.0 in (omega arith, last_after profile (kept_next profile c x) cells chain.2)
-last_after profile c (One a b ∷ cells) chain =
-    let ticks : 1 ≤ a = chain.0.0 in (omega arith, last_after profile (kept_next profile c (a + b)) cells chain.2)
-
-chain_lasts : (profile : Profile) (cells : List Cell) → FollowOn profile cells → AllLast cells
-chain_lasts profile [] chain = tt
-chain_lasts profile (Zero x ∷ cells) chain =
-    let ticks : 1 ≤ x = chain.0 in (omega arith, last_after profile (kept_at_lock profile x) cells chain.1)
-chain_lasts profile (One a b ∷ cells) chain =
-    let ticks : 1 ≤ a = chain.0.0 in (omega arith, last_after profile (kept_at_lock profile (a + b)) cells chain.1)
 
 -- the sum of a list up to the end of some intervals of it
 pub sum_at : (l xs rest : List ℕ) (lock : ℕ) → drop lock l ≡ xs ++ rest → sum (take (lock + length xs) l) ≡ sum (take lock l) + sum xs
@@ -251,30 +235,30 @@ record Parted (system : System) (profile : Profile) (l : List ℕ) (from : ℕ) 
   are : events ≡ past ++ later
   is : IsStretch profile l last
   last_are : AreEventsOfStretch system l last later
-  before : (end : ℕ) → sum (take from l) < end → All (EndsBefore end) past
+  before : (end : ℕ) → sum (take from l) ≤ end → All (EndsBy end) past
   no_break : All (tape.BreaksBy from) past
 
-words_before_all : (end : ℕ) (es : List Event) → AreWordsBefore end es → All (EndsBefore end) es
-words_before_all end es are = λ k d within. (are k d within).0
+words_by_all : (end : ℕ) (es : List Event) → AreWordsBy end es → All (EndsBy end) es
+words_by_all end es are = λ k d within. (are k d within).0
 
 -- what has a stretch behind it is broken, and its events come before
 of_broken : (system : System) (profile : Profile) (l : List ℕ) (from p : ℕ) (s : Stretch) (es : List Event) → IsStretch profile l s
     → s.broken_at ≡ Some p → p ≤ from → AreEventsOfStretch system l s es
-    → ((end : ℕ) → sum (take from l) < end → All (EndsBefore end) es) × All (tape.BreaksBy from) es
+    → ((end : ℕ) → sum (take from l) ≤ end → All (EndsBy end) es) × All (tape.BreaksBy from) es
 of_broken system profile l from p s es is some by (own, are, join) =
     let lost = Lost p (sum (take (p + 1) l)) in
     let all : es ≡ own ++ (lost ∷ []) = join ∙ ap (λ o. own ++ break_events l o) some in
     let ends = break_behind profile (kept_of profile s.cells) (end_of s) (drop (end_of s) l) s.broken_at p is.broken some in
     let tick = end_tick profile l s is in
     let later = sum_later l (end_of s) from (omega (arith, ends, by)) in
-    let words : (end : ℕ) → sum (take from l) < end → AreWordsBefore end own =
-    λ end less. words_before system (begin_of l s) s.cells end own (omega (arith, tick, later, less)) are in (
-      λ end less. All-same (EndsBefore end) es (own ++ (lost ∷ [])) all
-          (All-append (EndsBefore end) own (lost ∷ []) (words_before_all end own (words end less))
-          (All-cons (EndsBefore end) lost [] tt (All-nil (EndsBefore end)))),
+    let words : (end : ℕ) → sum (take from l) ≤ end → AreWordsBy end own =
+    λ end less. words_by system (begin_of l s) s.cells end own (omega (arith, tick, later, less)) are in (
+      λ end less. All-same (EndsBy end) es (own ++ (lost ∷ [])) all
+          (All-append (EndsBy end) own (lost ∷ []) (words_by_all end own (words end less))
+          (All-cons (EndsBy end) lost [] tt (All-nil (EndsBy end)))),
       All-same (tape.BreaksBy from) es (own ++ (lost ∷ [])) all
           (All-append (tape.BreaksBy from) own (lost ∷ [])
-          (words_alone (sum (take from l) + 1) own (words (sum (take from l) + 1) (omega arith)) from)
+          (words_alone (sum (take from l)) own (words (sum (take from l)) (omega arith)) from)
           (All-cons (tape.BreaksBy from) lost [] by (All-nil (tape.BreaksBy from)))),
     )
 
@@ -291,7 +275,7 @@ parted system profile l start from [] last es stretches broken (own, rest, is, n
   are = join ∙ ap (λ (e : List Event). own ++ e) none ∙ append-nil own;
   is = stretches.1;
   last_are = is;
-  before = λ end less. All-nil (EndsBefore end);
+  before = λ end less. All-nil (EndsBy end);
   no_break = All-nil (tape.BreaksBy from);
 }
 parted system profile l start from (s ∷ earlier) last es stretches broken (own, rest, is, others, join) =
@@ -305,15 +289,24 @@ parted system profile l start from (s ∷ earlier) last es stretches broken (own
       are = join ∙ ap (λ (e : List Event). own ++ e) more.are ∙ sym (append_assoc own more.past more.later);
       is = more.is;
       last_are = more.last_are;
-      before = λ end less. All-append (EndsBefore end) own more.past (mine.0 end less) (more.before end less);
+      before = λ end less. All-append (EndsBy end) own more.past (mine.0 end less) (more.before end less);
       no_break = All-append (tape.BreaksBy from) own more.past mine.1 more.no_break;
     }
 
 -- ---- the tape
 
-tell_from : (system : System) (profile : Profile) (l : List ℕ) (from : ℕ) (cells : List Cell) (ss : List Stretch) (es : List Event)
-    → AreStretches profile l ss → AreFrom from cells ss → AreEventsOfStretches system l ss es → TellFrom system l from cells es
-tell_from system profile l from cells ss es stretches found are =
+-- in the intervals alone, and nothing behind them
+record TellTo (system : System) (l : List ℕ) (from : ℕ) (cells : List Cell) (events : List Event) : Type 0 where
+  past : List Event
+  later : List Event
+  are : events ≡ past ++ later
+  words : AreEventsOfWindows system (windows (sum (take from l)) cells) later
+  no_other_word : All (EndsBy (sum (take from l) + duration (take 79 cells))) past
+  no_other_break : All (tape.BreaksBy from) past
+
+tell_to : (system : System) (profile : Profile) (l : List ℕ) (from : ℕ) (cells : List Cell) (ss : List Stretch) (es : List Event)
+    → AreStretches profile l ss → AreFrom from cells ss → AreEventsOfStretches system l ss es → TellTo system l from cells es
+tell_to system profile l from cells ss es stretches found are =
     let last = found.last in
     let all = found.earlier ++ last ∷ [] in
     let parts = parted system profile l 0 from found.earlier last es
@@ -323,8 +316,7 @@ tell_from system profile l from cells ss es stretches found are =
     let later : parts.later ≡ own =
     parts.last_are.2 ∙ ap (λ o. own ++ break_events l o) found.open_yet ∙ append-nil own in
     let begin = begin_of l last in
-    let lasts : AllLast (found.older ++ cells) = subst AllLast found.cells_are (chain_lasts profile last.cells parts.is.chain.chain) in
-    let both = split system begin found.older cells own lasts
+    let both = split system begin found.older cells own
     (subst (λ (cs : List Cell). AreEventsOfWindows system (windows begin cs) own) found.cells_are parts.last_are.1) in
     let joined : drop last.lock l ≡ flat found.older ++ (flat cells ++ parts.is.chain.front.0) =
     parts.is.chain.front.1
@@ -340,19 +332,49 @@ tell_from system profile l from cells ss es stretches found are =
       are = parts.are ∙ ap (λ (e : List Event). parts.past ++ e) (later ∙ both.are)
           ∙ sym (append_assoc parts.past both.past both.later);
       words = subst (λ t. AreEventsOfWindows system (windows t cells) both.later) place both.words;
-      no_other_word = λ eighty.
-          let end = sum (take from l) + duration (take 80 cells) in
-          let some : duration (take 0 cells) < duration (take 80 cells) =
-          front_less cells 0 80 (last_behind found.older cells lasts) (omega arith) eighty in
-          All-append (EndsBefore end) parts.past both.past (parts.before end (omega arith))
-          (words_before_all end both.past
-          (subst (λ t. AreWordsBefore (t + duration (take 80 cells)) both.past) place (both.before eighty)));
+      no_other_word =
+          let end = sum (take from l) + duration (take 79 cells) in
+          All-append (EndsBy end) parts.past both.past (parts.before end (omega arith))
+          (words_by_all end both.past
+          (subst (λ t. AreWordsBy (t + duration (take 79 cells)) both.past) place both.before));
       no_other_break = All-append (tape.BreaksBy from) parts.past both.past parts.no_break (both.no_break from);
     }
 
-pub finds_the_tape : IsFoundAgain → (system : System) (profile : Profile) (l : List ℕ) (es : List Event)
+-- what the events of a front have behind them
+abbrev pub IsFrontFirst : Type 0
+IsFrontFirst = (system : System) (profile : Profile) (front more : List ℕ) (events all : List Event) → AreEvents system profile front events
+    → AreEvents system profile (front ++ more) all → (rest : List Event) × (all ≡ events ++ rest)
+
+abbrev pub IsLater : Type 0
+IsLater = (system : System) (profile : Profile) (front more : List ℕ) (events rest : List Event) → AreEvents system profile front events
+    → AreEvents system profile (front ++ more) (events ++ rest) → All (λ event. sum front ≤ tick_of event) rest
+
+abbrev pub EventsExist : Type 0
+EventsExist = (system : System) (profile : Profile) (intervals : List ℕ) → (events : List Event) × AreEvents system profile intervals events
+
+pub record Fronts : Type 0 where
+  pub exist : EventsExist
+  pub first : IsFrontFirst
+  pub later : IsLater
+
+pub finds_the_tape : IsFoundAgain → Fronts → (system : System) (profile : Profile) (l : List ℕ) (es : List Event)
     → AreEvents system profile l es → FindsTheTape system profile l es
-finds_the_tape law system profile l es (ss, stretches, are) = λ looks before kept cells cut second same piece is2.
-    let here : AreStretches profile (before ++ kept) ss = subst (λ (xs : List ℕ). AreStretches profile xs ss) same stretches in
-    tell_from system profile l (length before + second) (cells_from cells cut kept second) ss es stretches
-    (law profile looks before kept cells cut second ss piece is2 here) are
+finds_the_tape law fronts system profile l es are = λ looks before kept behind cells cut second same piece is2.
+    let front = before ++ kept in
+    let whole = subst (λ (xs : List ℕ). AreEvents system profile xs es) same are in
+    let mine = fronts.exist system profile front in
+    let rest = fronts.first system profile front behind mine.0 es mine.1 whole in
+    let late = fronts.later system profile front behind mine.0 rest.0 mine.1
+    (subst (λ (e : List Event). AreEvents system profile (front ++ behind) e) rest.1 whole) in
+    let found = tell_to system profile front (length before + second) (cells_from cells cut kept second) mine.1.0 mine.0 mine.1.1
+    (law profile looks before kept cells cut second mine.1.0 piece is2 mine.1.1) mine.1.2 in
+    record {
+      past = found.past;
+      later = found.later;
+      behind = rest.0;
+      are = rest.1 ∙ ap (λ (e : List Event). e ++ rest.0) found.are;
+      words = found.words;
+      no_other_word = found.no_other_word;
+      no_other_break = found.no_other_break;
+      none_before_the_end = late;
+    }

@@ -31,14 +31,18 @@ StretchesGoOn = (profile : Profile) (front more : List ℕ) (stretches later : L
 
 -- ---- the windows of a front of cells
 
-pub windows_first : (tick : ℕ) (cells more : List Cell) → Begins (windows tick cells) (windows tick (cells ++ more))
-windows_first tick cells more =
+pub windows_split : (tick : ℕ) (cells more : List Cell)
+    → windows tick (cells ++ more) ≡ windows tick cells ++ drop (length cells - 79) (windows tick (cells ++ more))
+windows_split tick cells more =
     let all = windows tick (cells ++ more) in
     let n = length cells - 79 in
     let fewer : n ≤ length (cells ++ more) - 79 = omega (arith, length-append cells more) in
     let front : take n all ≡ windows tick cells =
     take-map-range_with_len (window_at tick (cells ++ more)) 0 (length (cells ++ more) - 79) n fewer ∙ windows_stay tick cells more in
-    (drop n all, sym (take-append-drop n all) ∙ ap (λ ws. ws ++ drop n all) front)
+    sym (take-append-drop n all) ∙ ap (λ ws. ws ++ drop n all) front
+
+pub windows_first : (tick : ℕ) (cells more : List Cell) → Begins (windows tick cells) (windows tick (cells ++ more))
+windows_first tick cells more = (drop (length cells - 79) (windows tick (cells ++ more)), windows_split tick cells more)
 
 -- the events of one list, and those of it and a longer one
 joined : (own own' rest rest' all : List Event) → own' ≡ own → Begins rest rest' → all ≡ own' ++ rest' → Begins (own ++ rest) all

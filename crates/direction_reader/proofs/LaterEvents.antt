@@ -39,7 +39,7 @@ use Rattle.direction_reader.proofs.OneList.{IsExact, in_sync_or_not}
 use Rattle.direction_reader.proofs.OneListOfEvents.{of_windows}
 
 -- the event has this tick or a later one
-abbrev IsFrom : ℕ → Event → Type 0
+abbrev pub IsFrom : ℕ → Event → Type 0
 IsFrom tick event = tick ≤ tick_of event
 
 -- ---- the events of a window come at its end
@@ -81,11 +81,11 @@ window_from system bits end length tick own from are =
     ]
 
 -- the window ends at this tick or later
-abbrev EndsFrom : ℕ → CellWindow → Type 0
+abbrev pub EndsFrom : ℕ → CellWindow → Type 0
 EndsFrom tick window = tick ≤ window.end
 
 -- the events of windows
-windows_from : (system : System) (tick : ℕ) (ws : List CellWindow) (es : List Event) → All (EndsFrom tick) ws → AreEventsOfWindows system ws es
+pub windows_from : (system : System) (tick : ℕ) (ws : List CellWindow) (es : List Event) → All (EndsFrom tick) ws → AreEventsOfWindows system ws es
     → All (IsFrom tick) es
 windows_from system tick [] es from are = All-same (IsFrom tick) es [] are (All-nil (IsFrom tick))
 windows_from system tick (w ∷ ws) es from (own, rest, is, others, join) =
@@ -95,14 +95,14 @@ windows_from system tick (w ∷ ws) es from (own, rest, is, others, join) =
     (windows_from system tick ws rest (All-tail (EndsFrom tick) w ws from) others))
 
 -- the events of some windows, and of others behind them
-record BothWindows (system : System) (ws vs : List CellWindow) (events : List Event) : Type 0 where
-  one : List Event
-  two : List Event
-  are : events ≡ one ++ two
-  ones : AreEventsOfWindows system ws one
-  twos : AreEventsOfWindows system vs two
+pub record BothWindows (system : System) (ws vs : List CellWindow) (events : List Event) : Type 0 where
+  pub one : List Event
+  pub two : List Event
+  pub are : events ≡ one ++ two
+  pub ones : AreEventsOfWindows system ws one
+  pub twos : AreEventsOfWindows system vs two
 
-both_windows : (system : System) (ws vs : List CellWindow) (es : List Event) → AreEventsOfWindows system (ws ++ vs) es
+pub both_windows : (system : System) (ws vs : List CellWindow) (es : List Event) → AreEventsOfWindows system (ws ++ vs) es
     → BothWindows system ws vs es
 both_windows system [] vs es are = record { one = []; two = es; are = refl; ones = refl; twos = are }
 both_windows system (w ∷ ws) vs es (own, rest, is, others, join) =

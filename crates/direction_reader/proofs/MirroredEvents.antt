@@ -1,12 +1,13 @@
 -- A window read forward and the window in the other order read backward are one candidate. So the events of windows and of those in the other
 -- order are the same, each met from its other end.
-use Rattle.std.proofs.Common.{◌≡◌, ◌<◌, ◌≤◌, ℕ, ◌+◌, ◌-◌, ◌^◌, List, [], ◌∷◌, ◌++◌, length, take, drop, map, reverse, sum, Option, Some, None, IsSomeAnd}
-use Rattle.std.proofs.Common.{ap, arith, append_assoc, append-nil, length-append, inl, inr, refl, subst, sym, ◌∙◌}
-use Rattle.std.specs.List.{AllZip}
+use Rattle.std.proofs.Common.{◌≡◌, ◌<◌, ◌≤◌, ℕ, ◌+◌, ◌-◌, ◌^◌, List, [], ◌∷◌, ◌++◌, length, take, drop, map, reverse, sum, get_or, Option, Some, None, IsSomeAnd}
+use Rattle.std.proofs.Common.{ap, arith, append_assoc, append-nil, length-append, inl, inr, refl, subst, sym, ◌∙◌, All}
+use Rattle.std.specs.List.{AllZip, range_with_len}
 use Rattle.std.proofs.Math.Seq.{take-append_seam}
 use Rattle.std.proofs.lemmas.Bool.{cases_lt}
 use Rattle.std.proofs.lemmas.Grind.{flat_map-append, reverse_onto}
-use Rattle.std.proofs.lemmas.List.{length-reverse, reverse-append, take-append-drop, length-take}
+use Rattle.std.proofs.lemmas.List.{length-reverse, reverse-append, take-append-drop, length-take, length-drop, get_or-drop}
+use Rattle.std.proofs.lemmas.List.FromFn.{get_or-map-range_with_len, length-map-range_with_len}
 use Rattle.std.proofs.lemmas.List.Sums.{sum_by-append}
 use Rattle.biphase.specs.declared.cell.Cell.{Cell}
 use Rattle.biphase.specs.declared.profile.Profile.{Profile}
@@ -25,15 +26,16 @@ use Rattle.direction_reader.specs.declared.event.Event.TheVariants.{Word, Refuse
 use Rattle.direction_reader.specs.declared.event.Events.{Events}
 use Rattle.direction_reader.specs.Candidate.{IsEventOf, AreEventsOf}
 use Rattle.direction_reader.specs.Events.{listed, event_list}
-use Rattle.direction_reader.specs.ListEvents.{CellWindow, duration, windows, AreEventsOfWindows, AreEvents}
+use Rattle.direction_reader.specs.ListEvents.{CellWindow, duration, window_at, windows, AreEventsOfWindows, AreEvents}
 use Rattle.direction_reader.specs.Mirror.{mirror_window, turned, IsMirrorOf, MirrorsTheTape}
 use Rattle.direction_reader.proofs.EventsExist.{window_below}
 use Rattle.direction_reader.proofs.OneList.{IsExact, in_sync_or_not}
 use Rattle.direction_reader.proofs.OneListOfEvents.{HasOneList}
 use Rattle.direction_reader.proofs.TellsTheTape.{IsOneStretch, tells_the_tape}
-use Rattle.direction_reader.proofs.FrontsFirst.{windows_first}
+use Rattle.direction_reader.proofs.FrontsFirst.{windows_split}
+use Rattle.direction_reader.proofs.LaterEvents.{IsFrom, EndsFrom, windows_from, both_windows}
 use Rattle.direction_reader.proofs.MirroredWindows.{mirrored_windows, sum_reverse}
-use Rattle.direction_reader.proofs.WindowsFromCells.{duration_of, windows_cons, front_within}
+use Rattle.direction_reader.proofs.WindowsFromCells.{duration_of, windows_cons, front_longer, front_within}
 use Rattle.direction_reader.proofs.WindowsGrow.{few}
 
 -- bits in the other order twice are the bits
@@ -224,25 +226,44 @@ AreTheSame = (profile : Profile) → LooksAtLast profile → (intervals : List �
     → IsPiece profile (reverse intervals) others place → IsLock profile intervals 0 first → IsLock profile (reverse intervals) 0 last
     → BeginMirrored (cells_from cells cut intervals first) (cells_from others place (reverse intervals) last) first last (length intervals)
 
--- the events of the first of some windows
-first_events : (system : System) (ws vs : List CellWindow) (es : List Event) → AreEventsOfWindows system (ws ++ vs) es
-    → (mine : List Event) × (more : List Event) × (es ≡ mine ++ more) × AreEventsOfWindows system ws mine
-first_events system [] vs es are = ([], es, refl, refl)
-first_events system (w ∷ ws) vs es (own, rest, is, others, join) =
-    let more = first_events system ws vs rest others in (
-      event_list own ++ more.0,
-      more.1,
-      join ∙ ap (λ (e : List Event). event_list own ++ e) more.2 ∙ sym (append_assoc (event_list own) more.0 more.1),
-      (own, more.0, is, more.3, refl),
-    )
+-- the windows of cells that do not stand in a front of them end behind it
+behind_front : (tick : ℕ) (middle more : List Cell)
+    → All (EndsFrom (tick + duration middle)) (drop (length middle - 79) (windows tick (middle ++ more)))
+behind_front tick middle more i d within =
+    let cells = middle ++ more in
+    let k = length middle - 79 in
+    let count = length cells - 79 in
+    let at = window_at tick cells in
+    let all = map at (range_with_len 0 count) in
+    let long : length all ≡ count = length-map-range_with_len at 0 count in
+    let inside : k + i < count = omega (arith, length-drop k all) in
+    let window : get_or (drop k all) i d ≡ at (k + i) =
+    get_or-drop k all i d ∙ get_or-map-range_with_len at 0 count (k + i) (k + i) d inside (omega arith) in
+    let whole : duration (take (length middle) cells) ≡ duration middle = ap duration (take-append_seam middle more) in
+    rw window (omega (arith, whole, front_longer cells (length middle) (k + i + 80) (omega arith)))
+
+-- the events of the windows of a front of cells, and what comes behind it
+record FrontEvents (system : System) (tick : ℕ) (middle : List Cell) (events : List Event) : Type 0 where
+  mine : List Event
+  more : List Event
+  are : events ≡ mine ++ more
+  mine_are : AreEventsOfWindows system (windows tick middle) mine
+  late : All (IsFrom (tick + duration middle)) more
 
 events_of_front : (system : System) (tick : ℕ) (cells middle more : List Cell) (es : List Event) → cells ≡ middle ++ more
-    → AreEventsOfWindows system (windows tick cells) es
-    → (mine : List Event) × (others : List Event) × (es ≡ mine ++ others) × AreEventsOfWindows system (windows tick middle) mine
+    → AreEventsOfWindows system (windows tick cells) es → FrontEvents system tick middle es
 events_of_front system tick cells middle more es same are =
-    let first = windows_first tick middle more in
-    let split : windows tick cells ≡ windows tick middle ++ first.0 = ap (windows tick) same ∙ first.1 in
-    first_events system (windows tick middle) first.0 es (subst (λ (ws : List CellWindow). AreEventsOfWindows system ws es) split are)
+    let others = drop (length middle - 79) (windows tick (middle ++ more)) in
+    let split : windows tick cells ≡ windows tick middle ++ others = ap (windows tick) same ∙ windows_split tick middle more in
+    let both = both_windows system (windows tick middle) others es
+    (subst (λ (ws : List CellWindow). AreEventsOfWindows system ws es) split are) in
+    record {
+      mine = both.one;
+      more = both.two;
+      are = both.are;
+      mine_are = both.ones;
+      late = windows_from system (tick + duration middle) others both.two (behind_front tick middle more) both.twos;
+    }
 
 -- the sums before, in and behind the middle
 sums : (l middle tail : List ℕ) (first last : ℕ) → drop first l ≡ middle ++ tail → first + length middle + last ≡ length l → first ≤ length l
@@ -286,8 +307,8 @@ mirrors_the_tape exact back law stretch one system profile l es fs are too = λ 
     sums l (flat middle) (flat m.more ++ front.0) first last there m.many (omega (arith, m.many)) in
     let same : windows other_tick (mirrored middle) ≡ reverse (map (mirror_window (sum l)) (windows tick middle)) =
     mirrored_windows (sum l) tick other_tick middle total in
-    let theirs_are : AreEventsOfWindows system (reverse (map (mirror_window (sum l)) (windows tick middle))) theirs.0 =
-    subst (λ (ws : List CellWindow). AreEventsOfWindows system ws theirs.0) same theirs.3 in
+    let theirs_are : AreEventsOfWindows system (reverse (map (mirror_window (sum l)) (windows tick middle))) theirs.mine =
+    subst (λ (ws : List CellWindow). AreEventsOfWindows system ws theirs.mine) same theirs.mine_are in
     record {
       between = middle;
       behind = m.more;
@@ -295,14 +316,16 @@ mirrors_the_tape exact back law stretch one system profile l es fs are too = λ 
       cells_are = m.cells_are;
       others_are = m.others_are;
       many = m.many;
-      mine = mine.0;
-      more = mine.1;
-      events_are = mine.2;
-      mine_are = mine.3;
-      theirs = theirs.0;
-      others_more = theirs.1;
-      mirrored_are = theirs.2;
+      mine = mine.mine;
+      more = mine.more;
+      events_are = mine.are;
+      mine_are = mine.mine_are;
+      none_between = mine.late;
+      theirs = theirs.mine;
+      others_more = theirs.more;
+      mirrored_are = theirs.are;
       theirs_are = theirs_are;
-      same = all_mirror exact back system (sum l) (windows tick middle) mine.0 theirs.0
-          (windows_fit (sum l) tick middle (omega (arith, total))) mine.3 theirs_are;
+      no_other_between = theirs.late;
+      same = all_mirror exact back system (sum l) (windows tick middle) mine.mine theirs.mine
+          (windows_fit (sum l) tick middle (omega (arith, total))) mine.mine_are theirs_are;
     }

@@ -39,28 +39,6 @@ windows_cons tick cell cells many =
 
 -- ---- how long fronts of cells last
 
--- each cell lasts a tick or more
-abbrev pub AllLast : List Cell → Type 0
-AllLast [] = Unit {0}
-AllLast (cell ∷ cells) = (1 ≤ duration (cell ∷ [])) × AllLast cells
-
-pub last_behind : (one two : List Cell) → AllLast (one ++ two) → AllLast two
-last_behind [] two last = last
-last_behind (cell ∷ one) two last = last_behind one two last.1
-
--- a longer front lasts longer
-pub front_less : (cells : List Cell) (a b : ℕ) → AllLast cells → a < b → b ≤ length cells → duration (take a cells) < duration (take b cells)
-front_less [] a b last less within = absurd (omega arith)
-front_less (cell ∷ cells) a zero last less within = absurd (omega arith)
-front_less (cell ∷ cells) zero (suc b) last less within = omega (arith, duration_of cell (take b cells), last.0)
-front_less (cell ∷ cells) (suc a) (suc b) last less within =
-    omega (
-      arith,
-      duration_of cell (take a cells),
-      duration_of cell (take b cells),
-      front_less cells a b last.1 (omega arith) (omega arith),
-    )
-
 -- a front of two lists of cells
 pub front_most : (n : ℕ) (one two : List Cell) → duration (take n (one ++ two)) ≤ duration one + duration (take (n - length one) two)
 front_most n [] two =
@@ -69,6 +47,14 @@ front_most zero (cell ∷ one) two = omega arith
 front_most (suc n) (cell ∷ one) two =
     let fewer : suc n - length (cell ∷ one) ≡ n - length one = omega arith in
     rw fewer (omega (arith, duration_of cell (take n (one ++ two)), duration_of cell one, front_most n one two))
+
+-- a front of as many cells or more lasts as long or longer
+pub front_longer : (cells : List Cell) (a b : ℕ) → a ≤ b → duration (take a cells) ≤ duration (take b cells)
+front_longer cells zero b fewer = omega arith
+front_longer cells (suc a) zero fewer = absurd (omega arith)
+front_longer [] (suc a) (suc b) fewer = omega arith
+front_longer (cell ∷ cells) (suc a) (suc b) fewer =
+    omega (arith, duration_of cell (take a cells), duration_of cell (take b cells), front_longer cells a b (omega arith))
 
 -- a front is no longer than the cells
 pub front_within : (n : ℕ) (cells : List Cell) → duration (take n cells) ≤ duration cells

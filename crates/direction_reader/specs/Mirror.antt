@@ -1,5 +1,5 @@
 -- The same tape from its other end: what a recording and its intervals in the other order of time have in common.
-use Rattle.std.specs.Prelude.{◌≡◌, ℕ, ◌+◌, ◌-◌, List, ◌++◌, length, map, reverse, take, sum}
+use Rattle.std.specs.Prelude.{◌≡◌, ℕ, ◌+◌, ◌-◌, ◌≤◌, List, ◌++◌, length, map, reverse, take, sum, All}
 use Rattle.std.specs.List.{AllZip}
 use Rattle.biphase.specs.declared.cell.Cell.{Cell}
 use Rattle.biphase.specs.declared.profile.Profile.{Profile}
@@ -14,7 +14,8 @@ use Rattle.tc_address.specs.declared.direction.Direction.TheVariants.{Forward, B
 use Rattle.tc_address.specs.declared.system.System.{System}
 use Rattle.direction_reader.specs.declared.event.Event.{Event}
 use Rattle.direction_reader.specs.declared.event.Event.TheVariants.{Word, Refused}
-use Rattle.direction_reader.specs.ListEvents.{CellWindow, windows, AreEventsOfWindows}
+use Rattle.direction_reader.specs.Events.{tick_of}
+use Rattle.direction_reader.specs.ListEvents.{CellWindow, duration, windows, AreEventsOfWindows}
 
 -- a window in the other order of time, in intervals of this sum: its bits in the other order, and the tick at its other end
 abbrev pub mirror_window : ℕ → CellWindow → CellWindow
@@ -40,7 +41,7 @@ IsMirrorOf total event other = ⊥
 
 -- between the `first` intervals before and the `last` intervals behind them, the windows of the cells are those of the other cells in the other
 -- order of time, all of them. So the events of both begin with those of these windows, and from the last one to the first one they are the same
--- words, good or refused, each met from its other end
+-- words, good or refused, each met from its other end. Further events come at the end of these cells or later
 pub record TellMirrored (system : System) (intervals : List ℕ) (first last : ℕ) (cells others : List Cell) (events mirrored_events : List Event) : Type 0 where
   pub between : List Cell
   pub behind : List Cell
@@ -52,11 +53,13 @@ pub record TellMirrored (system : System) (intervals : List ℕ) (first last : �
   pub more : List Event
   pub events_are : events ≡ mine ++ more
   pub mine_are : AreEventsOfWindows system (windows (sum (take first intervals)) between) mine
+  pub none_between : All (λ event. sum (take first intervals) + duration between ≤ tick_of event) more
   pub theirs : List Event
   pub others_more : List Event
   pub mirrored_are : mirrored_events ≡ theirs ++ others_more
   pub theirs_are : AreEventsOfWindows system
       (reverse (map (mirror_window (sum intervals)) (windows (sum (take first intervals)) between))) theirs
+  pub no_other_between : All (λ event. sum (take last (reverse intervals)) + duration (mirrored between) ≤ tick_of event) others_more
   pub same : AllZip (IsMirrorOf (sum intervals)) mine (reverse theirs)
 
 -- where a cell is compared with the one before it alone, the events of a recording and of its mirror, both within the tolerance, are so between

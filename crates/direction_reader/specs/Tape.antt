@@ -1,5 +1,5 @@
 -- The truth of a reading: what the events of a recording within the tolerance say of the tape.
-use Rattle.std.specs.Prelude.{◌≡◌, ℕ, ◌+◌, ◌<◌, ◌≤◌, List, [], ◌++◌, length, take, sum, count_by, All}
+use Rattle.std.specs.Prelude.{◌≡◌, ℕ, ◌+◌, ◌≤◌, List, [], ◌++◌, length, take, sum, count_by, All}
 use Rattle.biphase.specs.declared.cell.Cell.{Cell}
 use Rattle.biphase.specs.declared.profile.Profile.{Profile}
 use Rattle.biphase.specs.Tolerance.{LooksAtLast}
@@ -9,7 +9,7 @@ use Rattle.cell_tracker.specs.Lock.{IsLock, HasNoLock}
 use Rattle.tc_address.specs.declared.system.System.{System}
 use Rattle.direction_reader.specs.declared.event.Event.{Event}
 use Rattle.direction_reader.specs.declared.event.Event.TheVariants.{Word, Refused, Lost}
-use Rattle.direction_reader.specs.Events.{is_lost}
+use Rattle.direction_reader.specs.Events.{is_lost, tick_of}
 use Rattle.direction_reader.specs.ListEvents.{CellWindow, duration, windows, AreEventsOfWindows}
 
 -- the tape's windows from a place on: each 80 neighbouring cells of the tape that lie wholly in the recording and begin there or later. The
@@ -26,11 +26,11 @@ pub record TellsTheTape (system : System) (profile : Profile) (intervals : List 
       → AreEventsOfWindows system (windows_of_tape tape cut intervals lock) events
   pub no_break : IsKept profile intervals → count_by is_lost events ≡ 0
 
--- a word, good or refused, ends before the tick `end`
-abbrev pub EndsBefore : ℕ → Event → Type 0
-EndsBefore end (Word direction word tick length) = tick < end
-EndsBefore end (Refused direction fault tick) = tick < end
-EndsBefore end (Lost interval tick) = Unit {0}
+-- a word, good or refused, ends at the tick `end` at the latest
+abbrev pub EndsBy : ℕ → Event → Type 0
+EndsBy end (Word direction word tick length) = tick ≤ end
+EndsBy end (Refused direction fault tick) = tick ≤ end
+EndsBy end (Lost interval tick) = Unit {0}
 
 -- a break stands at the place `from` at the latest
 abbrev pub BreaksBy : ℕ → Event → Type 0
@@ -38,19 +38,24 @@ BreaksBy from (Word direction word tick length) = Unit {0}
 BreaksBy from (Refused direction fault tick) = Unit {0}
 BreaksBy from (Lost interval tick) = interval ≤ from
 
--- from the place `from` on the events are those of the windows of these cells and nothing else: before them come words that end before the first
--- of these windows, and breaks at this place at the latest
-pub record TellFrom (system : System) (intervals : List ℕ) (from : ℕ) (cells : List Cell) (events : List Event) : Type 0 where
+-- in the intervals `front` and what comes behind them, the events are from the place `from` to the end of `front` those of the windows of these
+-- cells and nothing else. Before them come words that begin before this place, so that at most 79 of their cells stand behind it, and breaks at
+-- this place at the latest; and behind them what comes at the end of `front` or later
+pub record TellFrom (system : System) (front : List ℕ) (from : ℕ) (cells : List Cell) (events : List Event) : Type 0 where
   pub past : List Event
   pub later : List Event
-  pub are : events ≡ past ++ later
-  pub words : AreEventsOfWindows system (windows (sum (take from intervals)) cells) later
-  pub no_other_word : 80 ≤ length cells → All (EndsBefore (sum (take from intervals) + duration (take 80 cells))) past
+  pub behind : List Event
+  pub are : events ≡ past ++ later ++ behind
+  pub words : AreEventsOfWindows system (windows (sum (take from front)) cells) later
+  pub no_other_word : All (EndsBy (sum (take from front) + duration (take 79 cells))) past
   pub no_other_break : All (BreaksBy from) past
+  pub none_before_the_end : All (λ event. sum front ≤ tick_of event) behind
 
--- where a cell is compared with the one before it alone, the events find the tape again, whatever stands before it: where the recording ends in
--- a piece of the tape, they are from the greater interval of the piece's second unequal pair on those of the tape's windows, and nothing else
+-- where a cell is compared with the one before it alone, the events find the tape again, whatever stands before it and whatever comes behind:
+-- where a part of the recording is a piece of the tape, they are from the greater interval of the piece's second unequal pair to the end of the
+-- piece those of the tape's windows, and nothing else
 abbrev pub FindsTheTape : System → Profile → List ℕ → List Event → Type 0
-FindsTheTape system profile intervals events = LooksAtLast profile → (before kept : List ℕ) (tape : List Cell) (cut second : ℕ) → intervals ≡ before ++ kept
+FindsTheTape system profile intervals events = LooksAtLast profile
+    → (before kept behind : List ℕ) (tape : List Cell) (cut second : ℕ) → intervals ≡ before ++ kept ++ behind
     → IsPiece profile kept tape cut → IsSecondLock profile kept second
-    → TellFrom system intervals (length before + second) (cells_from tape cut kept second) events
+    → TellFrom system (before ++ kept) (length before + second) (cells_from tape cut kept second) events

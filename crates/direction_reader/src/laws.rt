@@ -122,15 +122,17 @@ pub fn events_tell_the_tape()
     a_recording_within_the_tolerance_is_one_stretch();
 }
 
-/// Resynchronisation, where a cell is compared with the one before it alone: whatever stands before a
-/// recording within the tolerance, from the greater interval of its second unequal pair on the events
-/// are those of the tape's own windows.
+/// Resynchronisation, where a cell is compared with the one before it alone: whatever stands before
+/// and behind a part of a recording that keeps the tolerance, from the greater interval of its second
+/// unequal pair to its end the events are those of the tape's own windows.
 pub fn events_find_the_tape_again()
     ensures { (system : System) (profile : Profile) (intervals : List ℕ) (events : List Event)
         → AreEvents system profile intervals events
         → FindsTheTape system profile intervals events }
 {
     a_recording_is_found_again_behind_anything();
+    each_list_has_events();
+    events_of_a_front_come_first();
 }
 
 /// Mirror, for the same tolerances: the events of a recording and of its intervals in the other order

@@ -2,4 +2,8 @@ use Rattle.direction_reader.proofs.FindsTheTape.{finds_the_tape}
 use Rattle.direction_reader.proofs.laws.events_find_the_tape_again.Goals as goal
 
 pub returns : goal.returns
-returns c = finds_the_tape c.a_recording_is_found_again_behind_anything.ensures
+returns c = finds_the_tape c.a_recording_is_found_again_behind_anything.ensures (record {
+  exist = c.each_list_has_events.ensures;
+  first = c.events_of_a_front_come_first.ensures.first;
+  later = c.events_of_a_front_come_first.ensures.later;
+})
