@@ -121,3 +121,16 @@ pub fn rough_recordings_have_these_stretches()
     ensures third { AreStretches Rough (99 ∷ 33 ∷ []) (begun 0 99 ∷ []) }
     ensures less { AreStretches Rough (100 ∷ 33 ∷ []) [] }
 {}
+
+/// A recording that is found again behind anything, and keeps the normal tolerance in both orders of
+/// time: a zero, a one, two zeros and a one of 24 ticks each. Its second unequal pair is that of the
+/// one's second half and the zero behind it.
+pub fn a_small_recording_is_kept_in_both_orders()
+    ensures piece { IsPiece Normal (24 ∷ 12 ∷ 12 ∷ 24 ∷ 24 ∷ 12 ∷ 12 ∷ [])
+        (Zero 24 ∷ One 12 12 ∷ Zero 24 ∷ Zero 24 ∷ One 12 12 ∷ []) 0 }
+    ensures second { IsSecondLock Normal (24 ∷ 12 ∷ 12 ∷ 24 ∷ 24 ∷ 12 ∷ 12 ∷ []) 3 }
+    ensures mirrored { IsPiece Normal (reverse (24 ∷ 12 ∷ 12 ∷ 24 ∷ 24 ∷ 12 ∷ 12 ∷ []))
+        (One 12 12 ∷ Zero 24 ∷ Zero 24 ∷ One 12 12 ∷ Zero 24 ∷ []) 0 }
+    ensures lock { IsLock Normal (24 ∷ 12 ∷ 12 ∷ 24 ∷ 24 ∷ 12 ∷ 12 ∷ []) 0 0 }
+    ensures last { IsLock Normal (reverse (24 ∷ 12 ∷ 12 ∷ 24 ∷ 24 ∷ 12 ∷ 12 ∷ [])) 0 2 }
+{}
