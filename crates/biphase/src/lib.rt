@@ -31,8 +31,6 @@ pub mod laws;
 mod pair;
 mod profile;
 mod shaper;
-#[cfg(test)]
-mod tests;
 mod tolerance;
 
 pub use cell::{Cell, MAX_INTERVAL};

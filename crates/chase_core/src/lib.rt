@@ -29,8 +29,6 @@ pub mod laws;
 mod mode;
 mod outcome;
 mod report;
-#[cfg(test)]
-mod tests;
 
 pub use chase::Chase;
 pub use closed_loop::ClosedLoop;

@@ -34,6 +34,3 @@ pub use row::ScriptRow;
 pub use script::{Script, script_rows};
 pub use texts::{step_end_text, step_text};
 pub use trace_lines::TraceLines;
-
-#[cfg(test)]
-mod tests;

@@ -23,6 +23,3 @@ mod master;
 mod slip;
 
 pub use code_loop::CodeChase;
-
-#[cfg(test)]
-mod tests;

@@ -45,6 +45,3 @@ pub use candidates::window_events;
 pub use event::{Event, Events};
 pub use reader::{DirectionReader, MAX_INTERVALS};
 pub use window::{Filling, FromFilling, Full};
-
-#[cfg(test)]
-mod tests;

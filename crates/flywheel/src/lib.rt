@@ -28,6 +28,3 @@ mod wheel;
 pub use frame::Frame;
 pub use heard::HeardWord;
 pub use wheel::Flywheel;
-
-#[cfg(test)]
-mod tests;

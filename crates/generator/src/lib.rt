@@ -13,6 +13,3 @@
 mod generator;
 
 pub use generator::Generator;
-
-#[cfg(test)]
-mod tests;

@@ -24,6 +24,3 @@ mod word;
 
 pub use cells::{frame_cells, lead};
 pub use word::{played_bits, word_of};
-
-#[cfg(test)]
-mod tests;

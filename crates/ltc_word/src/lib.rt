@@ -33,6 +33,3 @@ pub use reading::decode;
 pub use reversal::{begins_in_reversed_sync, ends_in_sync, reversed};
 pub use word::{LtcWord, WordFault};
 pub use writing::encode;
-
-#[cfg(test)]
-mod tests;

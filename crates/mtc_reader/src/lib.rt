@@ -30,6 +30,3 @@ mod texts;
 pub use event::MtcEvent;
 pub use reader::MtcReader;
 pub use texts::{mtc_end_text, mtc_text, push_mtc_text};
-
-#[cfg(test)]
-mod tests;

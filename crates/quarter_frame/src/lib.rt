@@ -28,6 +28,3 @@ mod writer;
 
 pub use message::{full, quarter};
 pub use writer::QuarterWriter;
-
-#[cfg(test)]
-mod tests;

@@ -34,6 +34,3 @@ pub use place::{Cut, OpenSpan, Place};
 pub use span::{Mark, Span};
 pub use tape::TapeSpans;
 pub use texts::{SpanText, gap_text, span_text, spans_end_text};
-
-#[cfg(test)]
-mod tests;

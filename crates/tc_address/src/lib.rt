@@ -41,6 +41,3 @@ pub use label::{Label, LabelFault};
 pub use numbering::{advance, day_labels, day_subframes, label_at, number};
 pub use spelling::{TextFault, read_text, text};
 pub use system::{System, rate};
-
-#[cfg(test)]
-mod tests;

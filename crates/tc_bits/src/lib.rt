@@ -50,6 +50,3 @@ pub use register::{get_field, put_field};
 pub use table::Table;
 pub use user_bits::UserBits;
 pub use writing::field_bits;
-
-#[cfg(test)]
-mod tests;

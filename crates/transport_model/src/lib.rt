@@ -17,8 +17,6 @@
 #![tactic(auto)]
 
 pub mod laws;
-#[cfg(test)]
-mod tests;
 mod transport;
 
 pub use transport::Transport;

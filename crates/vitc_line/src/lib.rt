@@ -31,6 +31,3 @@ mod writing;
 pub use reading::decode;
 pub use word::{LineFault, VitcWord};
 pub use writing::encode;
-
-#[cfg(test)]
-mod tests;

@@ -28,6 +28,3 @@ pub use fault::{ReadFault, RunFault};
 pub use field::{FieldAnswer, FieldReader};
 pub use reading::read_runs;
 pub use writing::runs_of;
-
-#[cfg(test)]
-mod tests;

@@ -33,6 +33,3 @@ pub use decoder::{Taken, WaveDecoder};
 pub use fault::WaveFault;
 pub use format::{MAX_RATE, MAX_TRACKS, WaveFormat};
 pub use stage::{MAX_BYTES, MAX_SAMPLES};
-
-#[cfg(test)]
-mod tests;

@@ -1,8 +1,10 @@
 //! Digits with their labels and faults, and registers with their fields.
 
-use super::*;
 use std::test::Fail;
 use tc_address::{Count, Label, System};
+use tc_bits::{
+    FieldFault, Fields, Flags, RawFields, UserBits, check_fields, get_field, put_field, raw_of,
+};
 
 /// The fault of the digits of hours, minutes, seconds and frames, tens first.
 fn fault_of(system: System, drop_frame: bool, digits: [u32; 8]) -> Option<FieldFault> {

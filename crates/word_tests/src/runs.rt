@@ -4,11 +4,11 @@ ghost use Rattle.std.specs.Prelude.{◌≡◌, true};
 ghost use Rattle.tc_address.specs.Count.{system_with};
 ghost use Rattle.vitc_line.specs.Places.{HasLines};
 
-use super::*;
 use std::test::Fail;
 use tc_address::{Count, Label, System};
 use tc_bits::{FieldFault, Fields, Flags, UserBits};
 use vitc_line::{LineFault, VitcWord, decode, encode};
+use vitc_reader::{FieldAnswer, FieldReader, ReadFault, RunFault, read_runs, runs_of};
 
 /// The count, the label, the user bits, the flags in the order of a report and the field mark.
 type Said = (Count, [u32; 4], u32, [bool; 5], bool);

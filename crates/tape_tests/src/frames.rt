@@ -1,5 +1,5 @@
 //! Values from outside.
-use crate::{Flywheel, Frame, HeardWord};
+use flywheel::{Flywheel, Frame, HeardWord};
 use std::marker::Model;
 use std::test::Fail;
 use tc_address::{Count, Direction, read_text, text};

@@ -1,10 +1,10 @@
 //! Tapes whose spans were told by hand.
 ghost use Rattle.std.specs.Prelude.{◌≡◌, IfOk};
 
-use super::*;
 use flywheel::Frame;
 use std::marker::Model;
 use std::test::Fail;
+use tape_spans::{Cut, Gap, Mark, Relation, Span, TapeSpans, gap_between, gap_text, span_text};
 use tc_address::{Count, Direction, System, read_text};
 
 const FORWARD: Direction = Direction::Forward;

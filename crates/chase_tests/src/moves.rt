@@ -1,6 +1,6 @@
 //! Moves of a transport that were worked out by hand.
-use super::*;
 use tc_address::{Count, day_subframes};
+use transport_model::Transport;
 
 #[test]
 fn positions_after_a_move(rt: HostRuntime) {

@@ -1,5 +1,5 @@
 //! Bytes made by other software or by hand, with the addresses that were put in.
-use crate::{MtcReader, mtc_end_text, mtc_text};
+use mtc_reader::{MtcReader, mtc_end_text, mtc_text};
 
 /// Bytes, and the lines of their events.
 type Read = (&'static [u8], &'static [&'static [u8]]);

@@ -1,8 +1,8 @@
 //! Files of sox 14.4.2 and ffmpeg 5.1, headers made by hand from the standards, and every cut of them.
 ghost use Rattle.std.specs.Prelude.{◌≤◌};
 
-use super::*;
 use arrayvec::ArrayVec;
+use wave_file::{Taken, WaveDecoder, WaveFault, WaveFormat};
 
 /// Eight samples of 8 bits, by `sox -n -r 8000 -c 1 -b 8 out.wav synth 0.001 sine 1000`.
 const SOX_EIGHT: &[u8] =

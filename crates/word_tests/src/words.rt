@@ -1,6 +1,8 @@
 //! Words that other software wrote, and words with one thing wrong.
 
-use super::*;
+use ltc_word::{
+    LtcWord, WordFault, begins_in_reversed_sync, decode, encode, ends_in_sync, reversed,
+};
 use std::test::Fail;
 use tc_address::{Count, Label, System, system_of};
 use tc_bits::{FieldFault, Fields, Flags, UserBits};

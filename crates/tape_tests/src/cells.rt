@@ -1,5 +1,5 @@
 //! Values from outside.
-use crate::{
+use biphase::{
     Cell, LatestFour, MAX_INTERVAL, PairKind, Profile, ShapeFault, Shaper, is_one, is_zero, kind,
     may_begin_one,
 };

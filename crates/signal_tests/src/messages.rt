@@ -1,6 +1,6 @@
 //! Values from outside.
-use crate::{QuarterWriter, full, quarter};
 use flywheel::Frame;
+use quarter_frame::{QuarterWriter, full, quarter};
 use std::test::Fail;
 use tc_address::{Count, Direction, Label, advance, read_text};
 

@@ -1,6 +1,6 @@
 //! Values from outside: words worked out by hand (`ltc_word`, `laws`), spelled cell by cell.
-use crate::{frame_cells, lead};
 use flywheel::Frame;
+use ltc_jam::{frame_cells, lead};
 use std::test::Fail;
 use tc_address::{Count, Direction, read_text};
 

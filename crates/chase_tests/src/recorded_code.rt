@@ -1,6 +1,6 @@
 //! Frames of a damaged recording, followed by hand.
-use super::*;
 use chase_core::{Loss, State};
+use code_chase::CodeChase;
 use flywheel::Frame;
 use std::process::Abort;
 use tc_address::{Count, Direction, Label};

@@ -3,12 +3,12 @@ ghost use Rattle.std.specs.Prelude.{◌<◌, IfSome};
 ghost use Rattle.tc_address.specs.Numbering.{day_length};
 ghost use Rattle.chase_core.specs.Step.{IsCommandOf};
 
-use super::*;
 use Command::{Locate, Play, Wait};
 use Count::{C24, C25, C30, Drop30};
 use Direction::{Backward, Forward};
 use Loss::{NoCode, Window};
 use State::{Locating, Locked, Pulling, Waiting};
+use chase_core::{Chase, Command, Loss, Master, Report, State};
 use std::process::Abort;
 use tc_address::{Count, Direction, day_labels, day_subframes};
 use transport_model::Transport;

@@ -1,6 +1,9 @@
 //! Labels, numbers and texts that are known from outside, and each label of each day.
-use super::*;
 use std::test::Fail;
+use tc_address::{
+    Count, Label, LabelFault, TextFault, advance, day_labels, day_subframes, label_at, number,
+    rate, read_text, shortest, system_of, text,
+};
 
 /// Each count with its frames of a second and its labels of a day.
 const DAYS: [(Count, u32, u32); 4] = [

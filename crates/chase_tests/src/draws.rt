@@ -1,5 +1,5 @@
 //! Values that Python's whole numbers give for the same rule.
-use super::*;
+use generator::Generator;
 
 #[test]
 fn the_first_values_of_three_seeds(rt: HostRuntime) {

@@ -4,10 +4,10 @@ ghost use Rattle.std.specs.Prelude.{◌≡◌, true};
 ghost use Rattle.tc_address.specs.Count.{system_with};
 ghost use Rattle.vitc_line.specs.Places.{HasLines};
 
-use super::*;
 use std::test::Fail;
 use tc_address::{Count, Label, System};
 use tc_bits::{FieldFault, Fields, Flags, UserBits};
+use vitc_line::{LineFault, VitcWord, decode, encode};
 
 /// The count, the label, the user bits, the flags in the order of a report, the field mark and the bits.
 type Row = (Count, [u32; 4], u32, [bool; 5], bool, u128);

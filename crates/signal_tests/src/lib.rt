@@ -1,0 +1,15 @@
+//! MIDI Time Code and sound files from outside.
+//!
+//! What no clause says of a crate, or what was known before it: values from standards, from other
+//! software, and worked out by hand, a module for each crate. They stand here since a crate with tests
+//! in it is proved twice.
+//!
+//! Nothing stands on this crate.
+#![tactic(auto)]
+
+#[cfg(test)]
+mod messages;
+#[cfg(test)]
+mod midi_bytes;
+#[cfg(test)]
+mod sound_files;

@@ -1,0 +1,19 @@
+//! Words from outside: labels, fields, words of linear time code, lines of vertical interval code.
+//!
+//! What no clause says of a crate, or what was known before it: values from standards, from other
+//! software, and worked out by hand, a module for each crate. They stand here since a crate with tests
+//! in it is proved twice.
+//!
+//! Nothing stands on this crate.
+#![tactic(auto)]
+
+#[cfg(test)]
+mod fields;
+#[cfg(test)]
+mod labels;
+#[cfg(test)]
+mod lines;
+#[cfg(test)]
+mod runs;
+#[cfg(test)]
+mod words;
