@@ -54,6 +54,23 @@ abbrev pub chase_ended : {T : Type 0} → Result T ChaseStop → Status
 chase_ended (Ok _) = status.Done
 chase_ended (Err stop) = status_of_chase stop
 
+-- ---- the end of the input
+
+-- so many pulls of a chase stood at the end of its input or behind it: no row is judged before the end, and nothing is pulled behind it.
+-- Memory may be wanted at either
+abbrev pub ChaseEndsSeen : Status → ℕ → Type 0
+ChaseEndsSeen status.Done ends = ends ≡ 1
+ChaseEndsSeen status.Usage ends = ends ≡ 0
+ChaseEndsSeen status.Refused ends = ends ≡ 1
+ChaseEndsSeen status.ReadFault ends = ends ≡ 0
+ChaseEndsSeen status.WriteFault ends = ends ≡ 1
+ChaseEndsSeen status.Memory ends = ends ≤ 1
+ChaseEndsSeen status.Limit ends = ends ≡ 0
+
+-- along a source that was not at its end before
+abbrev pub ChaseSeesOneEnd : Status → ℕ → ℕ → Type 0
+ChaseSeesOneEnd status before now = before ≡ 0 → ChaseEndsSeen status now
+
 -- ---- the status of a whole input
 
 abbrev pub status_of_script : Script → Status

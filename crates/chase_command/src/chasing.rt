@@ -1,17 +1,17 @@
 //! `chase`: a script is read whole, and then its trace is written. Next: `chase_script/src/script.rt`, and
 //! with its rows `trace`.
-ghost use Rattle.std.specs.Prelude.{◌≡◌, ◌⊎◌, ℕ, ◌+◌, ◌<◌, ◌≤◌, List, ◌++◌, length, Some, Ok, OnOk, IfOk, IfErr, Err};
+ghost use Rattle.std.specs.Prelude.{◌≡◌, ◌⊎◌, ℕ, ◌+◌, ◌<◌, ◌≤◌, List, ◌++◌, length, Some, Ok, OnOk, OnErr, IfOk, IfErr, Err};
 ghost use Rattle.std.specs.Io.KnownBytes.{Appends, Consumes, IsAtEnd};
 ghost use Rattle.tc_address.specs.declared.count.Count.{Count};
 ghost use Rattle.tc_io.specs.Sink.{IsFront};
-ghost use Rattle.tc_io.specs.Source.{Rose};
+ghost use Rattle.tc_io.specs.Source.{ends_after, Rose};
 ghost use Rattle.chase_script.specs.declared.row.ScriptRow.{ScriptRow};
 ghost use Rattle.chase_script.specs.Answer.{AreRowsFor};
 ghost use Rattle.chase_script.specs.Lock.{KeepsItsLock};
 ghost use Rattle.chase_script.specs.Script.{script_in};
 ghost use Rattle.chase_command.specs.Chase.{IsChaseAnswer};
 ghost use Rattle.tc_command.specs.Causes.{SourceCause, OutCause};
-ghost use Rattle.chase_command.specs.Chase.{IsChaseStop, IsTraced, chase_ended, chase_output, chase_status_on};
+ghost use Rattle.chase_command.specs.Chase.{ChaseSeesOneEnd, IsChaseStop, IsTraced, chase_ended, chase_output, chase_status_on};
 ghost use Rattle.tc_command.specs.Exchange.{Exchange, IsPulled, IsWritten, IsNoted};
 ghost use Rattle.chase_command.specs.KeptScript.{IsGatherStop, IsPullStop, IsRowStop};
 
@@ -48,8 +48,9 @@ pub fn chase<S: Source, K: Sink, N: Sink>(
     ensures no_usage { result ≡ Status.Usage → ⊥ }
     ensures no_memory { result ≡ Status.Memory → out.new ≡ out.old }
 
-    // A read fault and a write fault come only where a count of faults rose.
+    // A read fault and a write fault come only where a count of faults rose, and the end of the input is seen once.
     ensures source { SourceCause result (S.faults source.old) (S.faults source.new) }
+    ensures once { ChaseSeesOneEnd result (S.ends source.old) (S.ends source.new) }
     ensures out { OutCause result (K.faults out.old) (K.faults out.new) }
 
     // Where no count of faults rises, the whole input leaves one status, want of memory aside.
@@ -86,6 +87,7 @@ fn trace_script<S: Source, K: Sink>(
         × Consumes (S.left source.old) (S.left source.new) pulled × Appends (K.written out.old) (K.written out.new) written
         × IsChaseStop label.now stop (S.left source.new) pulled written) }
     ensures source { SourceCause (chase_ended result) (S.faults source.old) (S.faults source.new) }
+    ensures once { ChaseSeesOneEnd (chase_ended result) (S.ends source.old) (S.ends source.new) }
     ensures out { OutCause (chase_ended result) (K.faults out.old) (K.faults out.new) }
     ensures no_memory { result ≡ Err ChaseStop.Memory → out.new ≡ out.old }
 {
@@ -117,6 +119,7 @@ fn gather<S: Source>(alloc: Global, source: &mut S) -> Result<Vec<u8>, ChaseStop
     ensures stops { IfErr result (λ stop. (pulled : List ℕ) × Consumes (S.left source.old) (S.left source.new) pulled
         × IsGatherStop stop pulled) }
     ensures source { SourceCause (chase_ended result) (S.faults source.old) (S.faults source.new) }
+    ensures once { ChaseSeesOneEnd (chase_ended result) (S.ends source.old) (S.ends source.new) }
 {
     let mut script = Vec::new(alloc);
     let mut buf = [0; PULLED];
@@ -145,6 +148,8 @@ fn pull_behind<S: Source>(
     ensures stops { IfErr result (λ stop. (bytes : List ℕ) × Consumes (S.left source.old) (S.left source.new) bytes
         × IsPullStop stop (length room.old) bytes) }
     ensures source { SourceCause (chase_ended result) (S.faults source.old) (S.faults source.new) }
+    ensures seen { OnOk result (S.ends source.new ≡ ends_after (S.ends source.old) result (length room.old)) }
+    ensures unseen { OnErr result (ChaseSeesOneEnd (chase_ended result) (S.ends source.old) (S.ends source.new)) }
 {
     let Ok(count) = source.pull(room) else {
         return Err(ChaseStop::ReadFault);

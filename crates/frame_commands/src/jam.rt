@@ -4,6 +4,7 @@ ghost use Rattle.std.specs.Prelude.{◌≡◌, ◌≤◌, ◌+◌, ◌*◌, ◌+
 ghost use Rattle.arrayvec.specs.ArrayVec.{array_vec_len};
 ghost use Rattle.made_commands.specs.Made.{interval_bytes};
 ghost use Rattle.tc_command.specs.Causes.{HasOutCause, HasSourceCause};
+ghost use Rattle.tc_command.specs.Ends.{SeesOneEnd};
 ghost use Rattle.tc_command.specs.Ran.{CameToItsEnd, StoppedBefore};
 ghost use Rattle.interval_commands.specs.Along.{along_intervals};
 ghost use Rattle.frame_commands.specs.LtcJam.{clean_recording};
@@ -27,6 +28,7 @@ pub fn jam_sync<S: Source, K: Sink>(jam: Jam, source: &mut S, out: &mut K) -> Re
     ensures stops { IfErr result (λ stop. StoppedBefore (along_intervals (clean_recording jam)) stop (S.left source.old) (S.left source.new)
         (K.written out.old) (K.written out.new)) }
     ensures source { HasSourceCause (S.faults source.old) (S.faults source.new) result }
+    ensures once { SeesOneEnd (S.ends source.old) (S.ends source.new) result }
     ensures out { HasOutCause (K.faults out.old) (K.faults out.new) result }
 {
     work_along::<FlightTo<CleanRecording>, S, K>(jam, source, out)

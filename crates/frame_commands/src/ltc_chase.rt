@@ -5,6 +5,7 @@ ghost use Rattle.chase_script.specs.TraceText.{step_line};
 ghost use Rattle.code_chase.specs.CodeTrace.{next_line};
 ghost use Rattle.frame_commands.specs.KeptSteps.{stepped};
 ghost use Rattle.tc_command.specs.Causes.{HasOutCause, HasSourceCause};
+ghost use Rattle.tc_command.specs.Ends.{SeesOneEnd};
 ghost use Rattle.tc_command.specs.Ran.{CameToItsEnd, StoppedBefore};
 ghost use Rattle.interval_commands.specs.Along.{along_intervals};
 ghost use Rattle.frame_commands.specs.LtcChase.{chased_recording};
@@ -38,6 +39,7 @@ pub fn chase_code<S: Source, K: Sink>(
     ensures stops { IfErr result (λ stop. StoppedBefore (along_intervals (chased_recording run)) stop (S.left source.old) (S.left source.new)
         (K.written out.old) (K.written out.new)) }
     ensures source { HasSourceCause (S.faults source.old) (S.faults source.new) result }
+    ensures once { SeesOneEnd (S.ends source.old) (S.ends source.new) result }
     ensures out { HasOutCause (K.faults out.old) (K.faults out.new) result }
 {
     work_along::<FlightTo<StepLines>, S, K>(run, source, out)

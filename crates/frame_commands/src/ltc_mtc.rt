@@ -1,6 +1,7 @@
 //! What `ltc-mtc` makes of frames: MIDI Time Code. Next: `quarter_frame/src/writer.rt`.
 ghost use Rattle.std.specs.Prelude.{OnOk, IfErr};
 ghost use Rattle.tc_command.specs.Causes.{HasOutCause, HasSourceCause};
+ghost use Rattle.tc_command.specs.Ends.{SeesOneEnd};
 ghost use Rattle.tc_command.specs.Ran.{CameToItsEnd, StoppedBefore};
 ghost use Rattle.interval_commands.specs.Along.{along_intervals};
 ghost use Rattle.frame_commands.specs.LtcMtc.{time_code};
@@ -26,6 +27,7 @@ pub fn send_time_code<S: Source, K: Sink>(
     ensures stops { IfErr result (λ stop. StoppedBefore (along_intervals (time_code flight)) stop (S.left source.old) (S.left source.new)
         (K.written out.old) (K.written out.new)) }
     ensures source { HasSourceCause (S.faults source.old) (S.faults source.new) result }
+    ensures once { SeesOneEnd (S.ends source.old) (S.ends source.new) result }
     ensures out { HasOutCause (K.faults out.old) (K.faults out.new) result }
 {
     work_along::<FlightTo<FrameMessages>, S, K>(flight, source, out)

@@ -6,6 +6,7 @@ ghost use Rattle.tape_spans.specs.StandsFor.{cut_lines, ended_lines, gap_lines};
 ghost use Rattle.tape_spans.specs.Tape.{FitsCut, FitsSpan};
 ghost use Rattle.tc_io.specs.Sink.{AppendsFront};
 ghost use Rattle.tc_command.specs.Causes.{HasOutCause, HasSourceCause};
+ghost use Rattle.tc_command.specs.Ends.{SeesOneEnd};
 ghost use Rattle.tc_command.specs.Ran.{CameToItsEnd, StoppedBefore};
 ghost use Rattle.interval_commands.specs.Along.{along_intervals};
 ghost use Rattle.frame_commands.specs.LtcSpans.{spanned_recording};
@@ -34,6 +35,7 @@ pub fn tell_spans<S: Source, K: Sink>(
     ensures stops { IfErr result (λ stop. StoppedBefore (along_intervals (spanned_recording flight)) stop (S.left source.old) (S.left source.new)
         (K.written out.old) (K.written out.new)) }
     ensures source { HasSourceCause (S.faults source.old) (S.faults source.new) result }
+    ensures once { SeesOneEnd (S.ends source.old) (S.ends source.new) result }
     ensures out { HasOutCause (K.faults out.old) (K.faults out.new) result }
 {
     work_along::<FlightTo<SpanLines>, S, K>(flight, source, out)

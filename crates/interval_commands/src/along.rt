@@ -11,6 +11,7 @@ ghost use Rattle.tc_files.specs.Recording.{IsBetween, Recording};
 ghost use Rattle.tc_io.specs.Sink.{AppendsFront};
 ghost use Rattle.interval_commands.specs.Along.{IsPartOf, IsSpentOf, Printing, along_intervals};
 ghost use Rattle.tc_command.specs.Causes.{HasOutCause, HasSourceCause, OutCause};
+ghost use Rattle.tc_command.specs.Ends.{SeesOneEnd};
 ghost use Rattle.tc_command.specs.Ran.{CameToItsEnd, StoppedBefore};
 ghost use Rattle.tc_command.specs.Status.{status_of};
 ghost use Rattle.tc_command.specs.Stops.{Stops};
@@ -138,6 +139,7 @@ pub fn work_along<B: Behind, S: Source, K: Sink>(
     ensures stops { IfErr result (λ stop. StoppedBefore (along_intervals (B.printing choice)) stop (S.left source.old) (S.left source.new)
         (K.written out.old) (K.written out.new)) }
     ensures source { HasSourceCause (S.faults source.old) (S.faults source.new) result }
+    ensures once { SeesOneEnd (S.ends source.old) (S.ends source.new) result }
     ensures out { HasOutCause (K.faults out.old) (K.faults out.new) result }
 {
     work(&mut Along::<B>::new(choice), source, out)

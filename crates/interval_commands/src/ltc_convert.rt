@@ -2,6 +2,7 @@
 //! `tc_files/src/interval_file/piece.rt`, and then `tc_command/src/gathered.rt`.
 ghost use Rattle.std.specs.Prelude.{OnOk, IfErr};
 ghost use Rattle.tc_command.specs.Causes.{HasOutCause, HasSourceCause};
+ghost use Rattle.tc_command.specs.Ends.{SeesOneEnd};
 ghost use Rattle.tc_command.specs.Ran.{CameToItsEnd, StoppedBefore};
 ghost use Rattle.interval_commands.specs.Along.{along_intervals};
 ghost use Rattle.interval_commands.specs.LtcConvert.{conversion};
@@ -22,6 +23,7 @@ pub fn convert_recording<S: Source, K: Sink>(
     ensures stops { IfErr result (λ stop. StoppedBefore (along_intervals (conversion version)) stop (S.left source.old) (S.left source.new)
         (K.written out.old) (K.written out.new)) }
     ensures source { HasSourceCause (S.faults source.old) (S.faults source.new) result }
+    ensures once { SeesOneEnd (S.ends source.old) (S.ends source.new) result }
     ensures out { HasOutCause (K.faults out.old) (K.faults out.new) result }
 {
     work_along::<Conversion, S, K>(version, source, out)

@@ -9,6 +9,7 @@ ghost use Rattle.mtc_reader.specs.StandsFor.{events_of};
 ghost use Rattle.mtc_reader.specs.Texts.{event_line};
 ghost use Rattle.tc_io.specs.Sink.{AppendsFront};
 ghost use Rattle.tc_command.specs.Causes.{HasOutCause, HasSourceCause};
+ghost use Rattle.tc_command.specs.Ends.{SeesOneEnd};
 ghost use Rattle.tc_command.specs.Ran.{CameToItsEnd, StoppedBefore};
 ghost use Rattle.signal_commands.specs.KeptMtc.{counted, FitsReport, Stands};
 ghost use Rattle.signal_commands.specs.MtcRead.{along_midi};
@@ -28,6 +29,7 @@ pub fn read_midi<S: Source, K: Sink>(source: &mut S, out: &mut K) -> Result<(), 
     ensures stops { IfErr result (λ stop. StoppedBefore (along_midi) stop (S.left source.old) (S.left source.new)
         (K.written out.old) (K.written out.new)) }
     ensures source { HasSourceCause (S.faults source.old) (S.faults source.new) result }
+    ensures once { SeesOneEnd (S.ends source.old) (S.ends source.new) result }
     ensures out { HasOutCause (K.faults out.old) (K.faults out.new) result }
 {
     work(&mut MtcReport::new(), source, out)

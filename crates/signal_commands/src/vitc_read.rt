@@ -6,6 +6,7 @@ ghost use Rattle.line_file.specs.declared.decoder.TheConstants.{MAX_FIELDS};
 ghost use Rattle.line_file.specs.Texts.{field_line};
 ghost use Rattle.tc_io.specs.Sink.{AppendsFront};
 ghost use Rattle.tc_command.specs.Causes.{HasOutCause, HasSourceCause};
+ghost use Rattle.tc_command.specs.Ends.{SeesOneEnd};
 ghost use Rattle.tc_command.specs.Ran.{CameToItsEnd, StoppedBefore};
 ghost use Rattle.signal_commands.specs.KeptFields.{counted, FitsFields, Stands};
 ghost use Rattle.signal_commands.specs.VitcRead.{along_fields};
@@ -23,6 +24,7 @@ pub fn read_fields<S: Source, K: Sink>(source: &mut S, out: &mut K) -> Result<()
     ensures stops { IfErr result (λ stop. StoppedBefore (along_fields) stop (S.left source.old) (S.left source.new)
         (K.written out.old) (K.written out.new)) }
     ensures source { HasSourceCause (S.faults source.old) (S.faults source.new) result }
+    ensures once { SeesOneEnd (S.ends source.old) (S.ends source.new) result }
     ensures out { HasOutCause (K.faults out.old) (K.faults out.new) result }
 {
     work(&mut FieldReport::new(), source, out)

@@ -5,6 +5,7 @@ ghost use Rattle.pcm_front.specs.StandsFor as pcm;
 ghost use Rattle.pcm_front.specs.StandsFor.{settings_of, tick_of};
 ghost use Rattle.tc_io.specs.Sink.{AppendsFront};
 ghost use Rattle.tc_command.specs.Causes.{HasOutCause, HasSourceCause};
+ghost use Rattle.tc_command.specs.Ends.{SeesOneEnd};
 ghost use Rattle.tc_command.specs.KeptGathered.{IsPut};
 ghost use Rattle.tc_command.specs.KeptWorks.{Works};
 ghost use Rattle.tc_command.specs.Ran.{CameToItsEnd, StoppedBefore};
@@ -42,6 +43,7 @@ pub fn slice_track<S: Source, K: Sink>(
     ensures stops { IfErr result (λ stop. StoppedBefore (along_sound_file slicing.now) stop (S.left source.old) (S.left source.new)
         (K.written out.old) (K.written out.new)) }
     ensures source { HasSourceCause (S.faults source.old) (S.faults source.new) result }
+    ensures once { SeesOneEnd (S.ends source.old) (S.ends source.new) result }
     ensures out { HasOutCause (K.faults out.old) (K.faults out.new) result }
 {
     work(&mut SlicedTrack::new(slicing), source, out)

@@ -1,2 +1,3 @@
 mod BytesPulled
 mod Digits
+mod OneEnd

@@ -1,6 +1,7 @@
 pub mod Causes
 pub mod ComesFirst
 pub mod Command
+pub mod Ends
 pub mod Exchange
 pub mod KeptFirst
 pub mod KeptGathered

@@ -2,7 +2,7 @@
 use Rattle.std.specs.Prelude.{ℕ, ◌%◌, ◌-◌, min, max, Bool, if◌then◌else◌, ◌==◌, ◌&&◌, ◌||◌, not}
 use Rattle.std.specs.Prelude.{List, [], ◌++◌, length, take, drop, slice_index, Result, Ok, Err}
 use Rattle.std.specs.List.{list_any}
-use Rattle.tc_io.specs.Source.{one_more}
+use Rattle.tc_io.specs.Source.{ends_after, one_more}
 use Rattle.tc_io.specs.declared.failed.Failed.{Failed}
 
 -- the call after so many calls is one that shall fail
@@ -12,7 +12,7 @@ is_failing failing calls = list_any (λ number. number == one_more calls) failin
 -- ---- a source
 
 -- the bytes that are left, the lengths of the pieces and the numbers of the calls that fail, and how
--- many calls, pulls that succeeded and faults there were
+-- many calls, pulls that succeeded, faults, and pulls at the end or behind it there were
 pub record SourceInMemory : Type 0 where
   pub left : List ℕ
   pub pieces : List ℕ
@@ -20,11 +20,12 @@ pub record SourceInMemory : Type 0 where
   pub calls : ℕ
   pub pulls : ℕ
   pub faults : ℕ
+  pub ends : ℕ
 
 -- a source as it is made
 abbrev pub new_source : List ℕ → List ℕ → List ℕ → SourceInMemory
 new_source bytes pieces failing =
-    record { left = bytes; pieces = pieces; failing = failing; calls = 0; pulls = 0; faults = 0 }
+    record { left = bytes; pieces = pieces; failing = failing; calls = 0; pulls = 0; faults = 0; ends = 0 }
 
 -- the most that a pull gives into so much room: the pieces go round, and a piece of 0 counts as 1
 abbrev pub piece_of : List ℕ → ℕ → ℕ → ℕ
@@ -39,12 +40,35 @@ given s room = min (piece_of s.pieces s.pulls room) (length s.left)
 abbrev pub pull_answer : SourceInMemory → ℕ → Result ℕ Failed
 pull_answer s room = if is_failing s.failing s.calls then Err (record {}) else Ok (given s room)
 
+-- how many pulls stood at the end or behind it, after the next
+abbrev pub ends_now : SourceInMemory → ℕ → ℕ
+ends_now s room = ends_after s.ends (pull_answer s room) room
+
 -- the source after it: a failed pull counts as a call and as a fault, and leaves the bytes
 abbrev pub after_pull : SourceInMemory → ℕ → SourceInMemory
 after_pull s room =
     if is_failing s.failing s.calls
-    then record s { calls = one_more s.calls; faults = one_more s.faults }
-    else record s { left = drop (given s room) s.left; calls = one_more s.calls; pulls = one_more s.pulls }
+    then record s { calls = one_more s.calls; faults = one_more s.faults; ends = ends_now s room }
+    else record s { left = drop (given s room) s.left; calls = one_more s.calls; pulls = one_more s.pulls; ends = ends_now s room }
+
+-- ---- a source that never fails
+
+-- the bytes that are left, and how many pulls stood at the end or behind it
+pub record SteadyInMemory : Type 0 where
+  pub left : List ℕ
+  pub ends : ℕ
+
+-- a source as it is made
+abbrev pub new_steady : List ℕ → SteadyInMemory
+new_steady bytes = record { left = bytes; ends = 0 }
+
+-- the answer of the next pull into so much room: what fits
+abbrev pub steady_answer : SteadyInMemory → ℕ → Result ℕ Failed
+steady_answer s room = Ok (min room (length s.left))
+
+-- the source after it
+abbrev pub after_steady : SteadyInMemory → ℕ → SteadyInMemory
+after_steady s room = record { left = drop room s.left; ends = ends_after s.ends (steady_answer s room) room }
 
 -- ---- a sink
 

@@ -1,5 +1,6 @@
--- What a call on a source or a sink says of the object's own count of faults.
-use Rattle.std.specs.Prelude.{◌≡◌, ℕ, ◌+◌, ◌-◌, ◌^◌, ◌≤◌, min, Result, OnOk, OnErr}
+-- What a call on a source or a sink says of the object's own count of faults, and a pull of the end of the input.
+use Rattle.std.specs.Prelude.{◌≡◌, ℕ, ◌+◌, ◌-◌, ◌^◌, ◌≤◌, min, Result, Ok, Err, OnOk, OnErr}
+use Rattle.std.specs.Prelude.{Bool, false, if◌then◌else◌, ◌==◌, ◌&&◌, ◌||◌, not}
 
 -- one more, up to the last value of a `u64`
 abbrev pub one_more : ℕ → ℕ
@@ -14,3 +15,12 @@ pub record HasCause {T E : Type 0} (before now : ℕ) (result : Result T E) : Ty
   pub later : before ≤ now
   pub same : OnOk result (now ≡ before)
   pub failed : OnErr result (Rose before now)
+
+-- the answer of a pull into so much room is the end of the input: no byte, though there was room
+abbrev pub is_end : {E : Type 0} → Result ℕ E → ℕ → Bool
+is_end (Ok given) room = (given == 0) && not (room == 0)
+is_end (Err _) room = false
+
+-- the pulls that stood at the end or behind it, after one more pull: the one that came to the end, and each behind it
+abbrev pub ends_after : {E : Type 0} → ℕ → Result ℕ E → ℕ → ℕ
+ends_after ends result room = if not (ends == 0) || is_end result room then one_more ends else ends

@@ -6,12 +6,12 @@
 ghost use Rattle.std.specs.Prelude.{◌≡◌, ℕ, length, None, OnOk, OnErr};
 ghost use Rattle.std.specs.Io.{ReadsAtMost, WritesAtMost};
 ghost use Rattle.std.specs.Io.KnownBytes.{ReadConsumes, WriteAppends};
-ghost use Rattle.tc_io.specs.Source.{HasCause, one_more};
+ghost use Rattle.tc_io.specs.Source.{HasCause, ends_after, one_more};
 ghost use Rattle.tc_io.specs.Sink.{TakesSome};
 
 use crate::failed::Failed;
 use crate::sink::Sink;
-use crate::source::Source;
+use crate::source::{Source, ends_after};
 use std::io::{Read, Write};
 use std::marker::Model;
 
@@ -20,22 +20,27 @@ use std::marker::Model;
 pub struct ReadSource<R> {
     reader: R,
     faults: u64,
+    ends: u64,
 }
 
 impl<R> Model for ReadSource<R> {
-    ghost use Rattle.tc_io.specs.Adapters.{Adapted};
+    ghost use Rattle.tc_io.specs.Adapters.{AdaptedReader};
 
-    ghost Value = { Adapted R };
+    ghost Value = { AdaptedReader R };
 
-    ghost view = { λ s. record { inner = s.reader; faults = s.faults } };
+    ghost view = { λ s. record { inner = s.reader; faults = s.faults; ends = s.ends } };
 }
 
 impl<R> ReadSource<R> {
     /// A source that reads from here.
     pub fn new(reader: R) -> ReadSource<R>
-        ensures { result ≡ record { inner = reader; faults = 0 } }
+        ensures { result ≡ record { inner = reader; faults = 0; ends = 0 } }
     {
-        ReadSource { reader, faults: 0 }
+        ReadSource {
+            reader,
+            faults: 0,
+            ends: 0,
+        }
     }
 }
 
@@ -44,22 +49,27 @@ impl<R: Read> Source for ReadSource<R> {
 
     ghost faults = { λ s. s.faults };
 
+    ghost ends = { λ s. s.ends };
+
     fn pull(&mut self, buf: &mut [u8]) -> Result<usize, Failed>
         ensures bound { ReadsAtMost result buf.new }
         ensures bytes { ReadConsumes None None result buf.new }
         ensures cause { HasCause self.old.faults self.new.faults result }
+        ensures end { self.new.ends ≡ ends_after self.old.ends result (length buf.old) }
 
         // What the reader gave is what the source gives, and each error counts one.
         ensures passes { ReadConsumes (R.remaining self.old.inner) (R.remaining self.new.inner) result buf.new }
         ensures counts { OnErr result (self.new.faults ≡ one_more self.old.faults) }
     {
-        match self.reader.read(buf) {
+        let answer = match self.reader.read(buf) {
             Ok(given) => Ok(given),
             Err(_) => {
                 self.faults = self.faults.saturating_add(1);
                 Err(Failed)
             }
-        }
+        };
+        self.ends = ends_after(self.ends, &answer, buf.len());
+        answer
     }
 }
 
@@ -72,9 +82,9 @@ pub struct WriteSink<W> {
 }
 
 impl<W> Model for WriteSink<W> {
-    ghost use Rattle.tc_io.specs.Adapters.{Adapted};
+    ghost use Rattle.tc_io.specs.Adapters.{AdaptedWriter};
 
-    ghost Value = { Adapted W };
+    ghost Value = { AdaptedWriter W };
 
     ghost view = { λ s. record { inner = s.writer; faults = s.faults } };
 }

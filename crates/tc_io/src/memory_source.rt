@@ -2,11 +2,11 @@
 ghost use Rattle.std.specs.Prelude.{◌≡◌, ℕ, List, ◌++◌, length, take, drop, Some, IfOk, OnErr};
 ghost use Rattle.std.specs.Io.{ReadsAtMost};
 ghost use Rattle.std.specs.Io.KnownBytes.{ReadConsumes};
-ghost use Rattle.tc_io.specs.Source.{HasCause};
+ghost use Rattle.tc_io.specs.Source.{HasCause, ends_after};
 ghost use Rattle.tc_io.specs.Memory.{SourceInMemory, piece_of, pull_answer, after_pull, new_source};
 
 use crate::failed::Failed;
-use crate::source::Source;
+use crate::source::{Source, ends_after};
 use circular_buffer::HeapCircularBuffer;
 use std::alloc::{AllocError, Global};
 use std::marker::Model;
@@ -20,6 +20,7 @@ pub struct MemorySource {
     calls: u64,
     pulls: u64,
     faults: u64,
+    ends: u64,
 }
 
 impl Model for MemorySource {
@@ -32,6 +33,7 @@ impl Model for MemorySource {
       calls = s.calls;
       pulls = s.pulls;
       faults = s.faults;
+      ends = s.ends;
     } };
 }
 
@@ -40,7 +42,7 @@ impl MemorySource {
     ///
     /// The k-th pull that succeeds, from 0, gives at most `pieces[k mod pieces.len()]` bytes, where 0
     /// counts as 1; without pieces there is no such bound. A pull whose number, from 1, stands in
-    /// `failing` fails. Both numbers stop at `u64::MAX`, as the count of faults does.
+    /// `failing` fails. Both numbers stop at `u64::MAX`, as its counts do.
     pub fn new(
         alloc: Global,
         bytes: &[u8],
@@ -58,6 +60,7 @@ impl MemorySource {
             calls: 0,
             pulls: 0,
             faults: 0,
+            ends: 0,
         })
     }
 }
@@ -67,10 +70,13 @@ impl Source for MemorySource {
 
     ghost faults = { λ s. s.faults };
 
+    ghost ends = { λ s. s.ends };
+
     fn pull(&mut self, buf: &mut [u8]) -> Result<usize, Failed>
         ensures bound { ReadsAtMost result buf.new }
         ensures bytes { ReadConsumes (Some self.old.left) (Some self.new.left) result buf.new }
         ensures cause { HasCause self.old.faults self.new.faults result }
+        ensures end { self.new.ends ≡ ends_after self.old.ends result (length buf.old) }
 
         // Which answer it is, and what stands afterwards.
         ensures answer { result ≡ pull_answer self.old (length buf.old) }
@@ -79,13 +85,16 @@ impl Source for MemorySource {
         ensures untouched { OnErr result (buf.new ≡ buf.old) }
     {
         self.calls = self.calls.saturating_add(1);
-        if self.failing.contains(&self.calls) {
+        let answer = if self.failing.contains(&self.calls) {
             self.faults = self.faults.saturating_add(1);
-            return Err(Failed);
-        }
-        let most = piece(&self.pieces, self.pulls, buf.len());
-        self.pulls = self.pulls.saturating_add(1);
-        Ok(self.bytes.read_into(&mut buf[..most]))
+            Err(Failed)
+        } else {
+            let most = piece(&self.pieces, self.pulls, buf.len());
+            self.pulls = self.pulls.saturating_add(1);
+            Ok(self.bytes.read_into(&mut buf[..most]))
+        };
+        self.ends = ends_after(self.ends, &answer, buf.len());
+        answer
     }
 }
 
@@ -120,6 +129,7 @@ mod tests {
             calls: 0,
             pulls: 0,
             faults: 0,
+            ends: 0,
         };
         let mut buf = *b"....";
         assert_eq!(rt; source.pull(&mut buf), Ok(3));
@@ -141,11 +151,13 @@ mod tests {
             calls: u64::MAX - 1,
             pulls: 0,
             faults: u64::MAX - 1,
+            ends: u64::MAX - 1,
         };
         let mut buf = *b".";
         for _ in 0..3 {
             assert_eq!(rt; source.pull(&mut buf), Err(Failed));
             assert_eq!(rt; (source.calls, source.faults), (u64::MAX, u64::MAX));
+            assert_eq!(rt; source.ends, u64::MAX);
         }
         Ok(())
     }

@@ -3,7 +3,8 @@ ghost use Rattle.std.specs.Prelude.{◌≡◌, ◌⊎◌, ℕ, List, Some, false
 ghost use Rattle.std.specs.Io.KnownBytes.{Appends};
 ghost use Rattle.tc_io.specs.Sink.{IsFront};
 ghost use Rattle.tc_io.specs.Source.{Rose};
-ghost use Rattle.tc_command.specs.Causes.{SourceCause, OutCause, HasSourceCause, HasOutCause};
+ghost use Rattle.tc_command.specs.Causes.{SourceCause, OutCause, HasSourceCause, HasOutCause, ended_with};
+ghost use Rattle.tc_command.specs.Ends.{EndsSeen};
 ghost use Rattle.tc_command.specs.Exchange.{Exchange, IsPulled, IsWritten, IsNoted};
 ghost use Rattle.tc_command.specs.Meaning.{Meaning, IsOutput};
 ghost use Rattle.tc_command.specs.Ran.{CameToItsEnd, StoppedBefore};
@@ -40,6 +41,9 @@ pub fn stream<S: Source, K: Sink, N: Sink>(
     ensures source { SourceCause result (S.faults source.old) (S.faults source.new) }
     ensures out { OutCause result (K.faults out.old) (K.faults out.new) }
 
+    // The end of the input is seen once, and nothing is pulled behind it.
+    ensures once { S.ends source.old ≡ 0 → EndsSeen (Meaning.reads (meaning_of job.now)) result (S.ends source.new) }
+
     // A job that reads nothing leaves the source, and stops only where the output fails.
     ensures idle { Meaning.reads (meaning_of job.now) ≡ false → source.new ≡ source.old }
     ensures writes { Meaning.reads (meaning_of job.now) ≡ false → (result ≡ Status.Done) ⊎ (result ≡ Status.WriteFault) }
@@ -71,6 +75,8 @@ fn work_on<S: Source, K: Sink>(job: &Job, source: &mut S, out: &mut K) -> Result
     ensures stops { IfErr result (λ stop. StoppedBefore (meaning_of job.now) stop (S.left source.old) (S.left source.new)
         (K.written out.old) (K.written out.new)) }
     ensures source { HasSourceCause (S.faults source.old) (S.faults source.new) result }
+    ensures once { S.ends source.old ≡ 0
+        → EndsSeen (Meaning.reads (meaning_of job.now)) (ended_with result) (S.ends source.new) }
     ensures out { HasOutCause (K.faults out.old) (K.faults out.new) result }
     ensures idle { Meaning.reads (meaning_of job.now) ≡ false → source.new ≡ source.old }
     ensures writes { Meaning.reads (meaning_of job.now) ≡ false → IfErr result (λ stop. stop ≡ Stop.WriteFault) }

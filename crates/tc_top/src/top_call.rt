@@ -12,7 +12,8 @@ ghost use Rattle.tc_words.specs.Job.{answer_to};
 ghost use Rattle.tc_top.specs.Answer.{IsRunAnswer};
 ghost use Rattle.tc_command.specs.WholeInput.{HasStatus};
 ghost use Rattle.tc_command.specs.Causes.{SourceCause, OutCause};
-ghost use Rattle.chase_command.specs.Chase.{chase_output, chase_status_on};
+ghost use Rattle.tc_command.specs.Ends.{EndsSeen};
+ghost use Rattle.chase_command.specs.Chase.{ChaseSeesOneEnd, chase_output, chase_status_on};
 ghost use Rattle.tc_top.specs.Commands.{meaning_of};
 ghost use Rattle.tc_command.specs.Exchange.{Exchange, IsPulled, IsWritten, IsNoted};
 ghost use Rattle.tc_command.specs.Meaning.{Meaning, IsOutput};
@@ -51,6 +52,12 @@ pub fn run<S: Source, K: Sink, N: Sink>(
     // A read fault and a write fault come only where a count of faults rose.
     ensures source { SourceCause result (S.faults source.old) (S.faults source.new) }
     ensures out { OutCause result (K.faults out.old) (K.faults out.new) }
+
+    // The end of the input is seen once, and nothing is pulled behind it.
+    ensures once { (job : Job) → answer_to (map string_bytes words.now) ≡ Ok (Task.Stream job)
+        → S.ends source.old ≡ 0 → EndsSeen (Meaning.reads (meaning_of job)) result (S.ends source.new) }
+    ensures chase_once { (label : Address) → answer_to (map string_bytes words.now) ≡ Ok (Task.Chase label)
+        → ChaseSeesOneEnd result (S.ends source.old) (S.ends source.new) }
 
     // A job that reads nothing leaves the source, and stops only where the output fails.
     ensures idle { (job : Job) → answer_to (map string_bytes words.now) ≡ Ok (Task.Stream job) → Meaning.reads (meaning_of job) ≡ false

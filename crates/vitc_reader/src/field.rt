@@ -130,6 +130,7 @@ impl FieldReader {
         ensures same { (self.new.system ≡ self.old.system) × (self.new.length ≡ self.old.length) }
         ensures next { (lines : List (List ℕ)) → StandsFor self.old lines → StandsFor self.new (lines ++ runs_of_bytes bytes.now ∷ []) }
         ensures reads { result ≡ true → IsLineLength self.old.length × ((bits : ℕ) × StandFor self.old.length (runs_of_bytes bytes.now) bits) }
+        ensures only { (bits : ℕ) → StandFor self.old.length (runs_of_bytes bytes.now) bits → result ≡ true }
     {
         let read = read_bytes(self.length, self.factor, bytes);
         let is_read = read.is_ok();

@@ -112,6 +112,7 @@ pub(crate) fn read_bytes(length: u32, factor: u64, bytes: &[u8]) -> Result<u128,
     requires small { factor ≤ 2 ^ 54 }
     requires runs { MayBeLine (runs_of_bytes bytes.now) }
     ensures reads { IfOk result (λ bits. StandFor length (runs_of_bytes bytes.now) bits) }
+    ensures only { (bits : ℕ) → StandFor length (runs_of_bytes bytes.now) bits → result ≡ Ok bits }
     ensures refuses { IfErr result (λ fault. IsRunFault length (runs_of_bytes bytes.now) fault) }
     ensures width { IfOk result (λ bits. bits < 2 ^ 90) }
 {

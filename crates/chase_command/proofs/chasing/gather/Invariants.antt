@@ -8,6 +8,7 @@ abbrev pub invariant-pulls : goal.invariant-pulls
 invariant-pulls g l = record {
   short : length l.script.items ≤ MAX_SCRIPT;
   pulled : Consumes (g.S.Source.left l.fn.source) (g.S.Source.left l.source) l.script.items;
+  open_end : g.S.Source.ends l.fn.source ≡ 0 → g.S.Source.ends l.source ≡ 0;
   same : g.S.Source.faults l.source ≡ g.S.Source.faults l.fn.source;
 }
 

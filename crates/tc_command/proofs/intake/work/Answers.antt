@@ -2,6 +2,7 @@ use Rattle.std.proofs.Common.{◌++◌, ◌∙◌, take, arith, refl}
 use Rattle.std.proofs.KnownBytes.{Appends-trans, Consumes-trans}
 use Rattle.tc_command.specs.KeptWorks.{ended_at, on_ok, if_err, through, along, along_at_end, still_consumed}
 use Rattle.tc_command.proofs.BytesPulled.{are_more}
+use Rattle.tc_command.proofs.OneEnd.{at_the_end, brought_before, failed_before, seen_at_end, seen_by, unseen_by}
 use Rattle.tc_command.proofs.intake.work.Goals as goal
 
 -- what was gathered was not taken
@@ -73,6 +74,28 @@ returns-in_err-feed-clause-stops g c =
       rw (same, ← same_choice) (along _ c.in_err-feed.field-0.0 _ _ _ last.2),
     ))
 
+-- no pull stood at the end before, and the last one did where it brought no byte
+pub returns-in_err-flush-clause-once : goal.returns-in_err-flush-clause-once
+returns-in_err-flush-clause-once g c = λ none_yet.
+    unseen_by c.from_residual.result _ c.from_residual.ensures.0 (c.pulls.invariant.open_end none_yet)
+
+pub returns-in_default-clause-once : goal.returns-in_default-clause-once
+returns-in_default-clause-once g c = λ none_yet.
+    c.in_default.ensures.end ∙ failed_before _ 0 (record {}) (c.pulls.invariant.open_end none_yet)
+
+pub returns-then-count-eq0-clause-once : goal.returns-then-count-eq0-clause-once
+returns-then-count-eq0-clause-once g c = λ none_yet.
+    let w = c.pulls.invariant.worked in
+    let f = c.in_ok-flush.ensures.works w.0 w.1 w.4 in
+    seen_by c.finish.result _ c.finish.ensures.stops (λ stop stops. seen_at_end _ stop _ _ (stops w.0 (w.1 ++ f.0) f.2).2)
+    (c.in-Ok.ensures.end ∙ at_the_end _ _ c.in-Ok.count (c.pulls.invariant.open_end none_yet) c.if-count-eq0.true
+    (omega (arith, c.pull.auto.buf)))
+
+pub returns-in_err-feed-clause-once : goal.returns-in_err-feed-clause-once
+returns-in_err-feed-clause-once g c = λ none_yet.
+    unseen_by c.from_residual-in_err-feed.result _ c.from_residual-in_err-feed.ensures.0
+    (c.in-Ok.ensures.end ∙ brought_before _ _ c.in-Ok.count (c.pulls.invariant.open_end none_yet) c.if-count-eq0.false)
+
 -- what was pulled was worked on
 pub pulls-preserved : goal.pulls-preserved
 pulls-preserved g c =
@@ -85,6 +108,7 @@ pulls-preserved g c =
     record {
       going = e.going;
       choice = e.choice ∙ c.in_ok-flush.ensures.choice ∙ i.choice;
+      open_end = λ none_yet. c.in-Ok.ensures.end ∙ brought_before _ _ c.in-Ok.count (i.open_end none_yet) c.if-count-eq0.false;
       source = c.in-Ok.ensures.cause.same ∙ i.source;
       out = e.cause ∙ c.in_ok-flush.ensures.cause ∙ i.out;
       worked = (

@@ -9,6 +9,7 @@ invariant-pulls g l = record {
   going : g.E.Engine.is_going l.engine;
   choice : g.E.Engine.choice l.engine ≡ g.E.Engine.choice l.fn.engine;
   source : g.S.Source.faults l.source ≡ g.S.Source.faults l.fn.source;
+  open_end : g.S.Source.ends l.fn.source ≡ 0 → g.S.Source.ends l.source ≡ 0;
   out : g.K.Sink.faults l.out ≡ g.K.Sink.faults l.fn.out;
   worked : (pulled written : List ℕ)
       × Consumes (g.S.Source.left l.fn.source) (g.S.Source.left l.source) pulled

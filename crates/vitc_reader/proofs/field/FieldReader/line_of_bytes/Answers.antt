@@ -1,4 +1,5 @@
-use Rattle.std.proofs.Common.{◌++◌, ◌∷◌, []}
+use Rattle.std.proofs.Common.{◌++◌, ◌∷◌, [], ◌∙◌, ap}
+use Rattle.std.specs.Prelude.{is_ok}
 use Rattle.vitc_reader.specs.Runs.{runs_of_bytes}
 use Rattle.vitc_reader.proofs.AnswerGrows.{AreSaid-last}
 use Rattle.vitc_reader.proofs.TurnedSoFar.{told_success}
@@ -20,3 +21,7 @@ returns-clause-reads c =
       c.self.invariant.1,
       told_success c.read_bytes-read.result c.is_ok-is_read.result c.is_ok-is_read.ensures.value c.read_bytes-read.ensures.reads read,
     ))
+
+pub returns-clause-only : goal.returns-clause-only
+returns-clause-only c =
+    rw (← c.self.view_is) (λ bits stand. c.is_ok-is_read.ensures.value ∙ ap is_ok (c.read_bytes-read.ensures.only bits stand))
