@@ -1,5 +1,5 @@
 -- What a command along the frames of a recording keeps. No promise speaks of it.
-use Rattle.std.specs.Prelude.{◌≡◌, ℕ, ◌+◌, ◌*◌, ◌≤◌, List, [], ◌++◌, count_by, length, IfSome, sum, Option}
+use Rattle.std.specs.Prelude.{◌≡◌, ℕ, ◌+◌, ◌*◌, ◌^◌, ◌<◌, ◌≤◌, List, [], ◌++◌, count_by, length, IfSome, sum, Option}
 use Rattle.std.specs.Io.KnownBytes.{Appends}
 use Rattle.std.proofs.Common.{sym, ◌∙◌, ap}
 use Rattle.direction_reader.specs.declared.event.Event.{Event}
@@ -56,6 +56,26 @@ frames_counted f = f.heard + f.invented + f.gone
 pub record FitsSink (f : FrameReader) (own count : ℕ) : Type 0 where
   pub flight : FitsFlight f count
   pub taken : own ≤ frames_counted f
+
+-- at a tick, the flywheel has heard its last word, and the counts have room for the frames of more words; of these at most so many were
+-- heard. A sink has counted no more frames than it was given
+pub record IsReady (f : FrameReader) (taken tick most : ℕ) : Type 0 where
+  pub below : tick < 2 ^ 60
+  pub heard_by : HeardBy tick f.wheel
+  pub fits : FitsFrames f
+  pub few : f.heard ≤ most
+  pub room : taken ≤ frames_counted f
+
+-- it is left so
+pub record StaysReady (f : FrameReader) (tick : ℕ) : Type 0 where
+  pub heard_by : HeardBy tick f.wheel
+  pub fits : FitsFrames f
+
+-- frames were given, and no interval was read
+pub record KeepsReading (before after : FrameReader) (taken : ℕ) : Type 0 where
+  pub reader : after.reader ≡ before.reader
+  pub limit : after.wheel.limit ≡ before.wheel.limit
+  pub room : taken ≤ frames_counted after
 
 -- these frames come first among those of the words up to the tick
 abbrev pub Comes : ℕ → List HeardWord → ℕ → List Frame → Type 0

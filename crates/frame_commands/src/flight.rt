@@ -30,9 +30,11 @@ ghost use Rattle.frame_commands.specs.KeptFlight.{
   GivesDueAllFirst,
   GivesDueFirst,
   GivesFirst,
-  HeardBy,
+  IsReady,
+  KeepsReading,
   Sends,
   SendsFront,
+  StaysReady,
 };
 
 use crate::frame_sink::FrameSink;
@@ -110,17 +112,10 @@ impl FrameReader {
         sink: &mut T,
         out: &mut K,
     ) -> Result<(), Stop>
-        requires below { tick < 2 ^ 60 }
-        requires heard_by { HeardBy tick self.old.wheel }
-        requires fits { FitsFrames self.old }
-        requires few { self.old.heard ≤ 2 * MAX_INTERVALS }
-        requires room { T.taken sink.old ≤ frames_counted self.old }
-        ensures room { T.taken sink.new ≤ frames_counted self.new }
-        ensures reader { self.new.reader ≡ self.old.reader }
+        requires ready { IsReady self.old (T.taken sink.old) tick (2 * MAX_INTERVALS) }
+        ensures keeps { KeepsReading self.old self.new (T.taken sink.new) }
         ensures heard { self.new.heard ≡ self.old.heard }
-        ensures limit { self.new.wheel.limit ≡ self.old.wheel.limit }
-        ensures fits { OnOk result (FitsFrames self.new) }
-        ensures heard_by { OnOk result (HeardBy tick self.new.wheel) }
+        ensures ready { OnOk result (StaysReady self.new tick) }
         ensures none_due { OnOk result (has_frame_due self.new.wheel tick ≡ false) }
         ensures gives { OnOk result ((more : List Frame) × Counts self.old self.new more
             × Sends T.made T.given sink.old sink.new (K.written out.old) (K.written out.new) more × GivesDue self.old.wheel self.new.wheel tick more) }
@@ -146,19 +141,12 @@ impl FrameReader {
         sink: &mut T,
         out: &mut K,
     ) -> Result<(), Stop>
-        requires below { tick < 2 ^ 60 }
+        requires ready { IsReady self.old (T.taken sink.old) tick (2 * MAX_INTERVALS + 1) }
         requires latest { IfSome event (IsLatest self.old.reader.intervals tick) }
-        requires heard_by { HeardBy tick self.old.wheel }
         requires none_due { has_frame_due self.old.wheel tick ≡ false }
-        requires fits { FitsFrames self.old }
-        requires few { self.old.heard ≤ 2 * MAX_INTERVALS + 1 }
-        requires room { T.taken sink.old ≤ frames_counted self.old }
-        ensures room { T.taken sink.new ≤ frames_counted self.new }
-        ensures reader { self.new.reader ≡ self.old.reader }
+        ensures keeps { KeepsReading self.old self.new (T.taken sink.new) }
         ensures heard { self.new.heard ≤ self.old.heard + 1 }
-        ensures limit { self.new.wheel.limit ≡ self.old.wheel.limit }
-        ensures fits { FitsFrames self.new }
-        ensures heard_by { HeardBy tick self.new.wheel }
+        ensures ready { StaysReady self.new tick }
         ensures none_due { has_frame_due self.new.wheel tick ≡ false }
         ensures gives { (more : List Frame) × Counts self.old self.new more × GivesAll self.old.wheel self.new.wheel tick (words_heard (listed event)) more
             × OnOk result (Sends T.made T.given sink.old sink.new (K.written out.old) (K.written out.new) more)
@@ -196,18 +184,12 @@ impl FrameReader {
         sink: &mut T,
         out: &mut K,
     ) -> Result<(), Stop>
+        requires ready { IsReady self.old (T.taken sink.old) word.now.tick (2 * MAX_INTERVALS + 1) }
         requires range { IsInRange word.now }
-        requires heard_by { HeardBy word.now.tick self.old.wheel }
         requires none_due { has_frame_due self.old.wheel word.now.tick ≡ false }
-        requires fits { FitsFrames self.old }
-        requires few { self.old.heard ≤ 2 * MAX_INTERVALS + 1 }
-        requires room { T.taken sink.old ≤ frames_counted self.old }
-        ensures room { T.taken sink.new ≤ frames_counted self.new }
-        ensures reader { self.new.reader ≡ self.old.reader }
+        ensures keeps { KeepsReading self.old self.new (T.taken sink.new) }
         ensures heard { self.new.heard ≡ self.old.heard + 1 }
-        ensures limit { self.new.wheel.limit ≡ self.old.wheel.limit }
-        ensures fits { FitsFrames self.new }
-        ensures heard_by { HeardBy word.now.tick self.new.wheel }
+        ensures ready { StaysReady self.new word.now.tick }
         ensures none_due { has_frame_due self.new.wheel word.now.tick ≡ false }
         ensures gives { (frame : Frame) × Counts self.old self.new (frame ∷ [])
             × GivesAll self.old.wheel self.new.wheel word.now.tick (word.now ∷ []) (frame ∷ [])
@@ -228,19 +210,12 @@ impl FrameReader {
         sink: &mut T,
         out: &mut K,
     ) -> Result<(), Stop>
-        requires below { tick < 2 ^ 60 }
+        requires ready { IsReady self.old (T.taken sink.old) tick (2 * MAX_INTERVALS) }
         requires brings { Brings self.old.reader.intervals tick events }
-        requires heard_by { HeardBy tick self.old.wheel }
         requires none_due { has_frame_due self.old.wheel tick ≡ false }
-        requires fits { FitsFrames self.old }
-        requires few { self.old.heard ≤ 2 * MAX_INTERVALS }
-        requires room { T.taken sink.old ≤ frames_counted self.old }
-        ensures room { T.taken sink.new ≤ frames_counted self.new }
-        ensures reader { self.new.reader ≡ self.old.reader }
+        ensures keeps { KeepsReading self.old self.new (T.taken sink.new) }
         ensures heard { OnOk result (self.new.heard ≤ self.old.heard + 2) }
-        ensures limit { self.new.wheel.limit ≡ self.old.wheel.limit }
-        ensures fits { OnOk result (FitsFrames self.new) }
-        ensures heard_by { OnOk result (HeardBy tick self.new.wheel) }
+        ensures ready { OnOk result (StaysReady self.new tick) }
         ensures gives { OnOk result ((more : List Frame) × Counts self.old self.new more
             × Sends T.made T.given sink.old sink.new (K.written out.old) (K.written out.new) more
             × GivesAll self.old.wheel self.new.wheel tick (words_heard (event_list events)) more) }
@@ -262,17 +237,10 @@ impl FrameReader {
         sink: &mut T,
         out: &mut K,
     ) -> Result<(), Stop>
-        requires below { tick < 2 ^ 60 }
-        requires heard_by { HeardBy tick self.old.wheel }
-        requires fits { FitsFrames self.old }
-        requires few { self.old.heard ≤ 2 * MAX_INTERVALS }
-        requires room { T.taken sink.old ≤ frames_counted self.old }
-        ensures room { T.taken sink.new ≤ frames_counted self.new }
-        ensures reader { self.new.reader ≡ self.old.reader }
+        requires ready { IsReady self.old (T.taken sink.old) tick (2 * MAX_INTERVALS) }
+        ensures keeps { KeepsReading self.old self.new (T.taken sink.new) }
         ensures heard { self.new.heard ≡ self.old.heard }
-        ensures limit { self.new.wheel.limit ≡ self.old.wheel.limit }
-        ensures fits { OnOk result (FitsFrames self.new) }
-        ensures heard_by { OnOk result (HeardBy tick self.new.wheel) }
+        ensures ready { OnOk result (StaysReady self.new tick) }
         ensures none_due { OnOk result (has_frame_due self.new.wheel tick ≡ false) }
         ensures gives { OnOk result ((more : List Frame) × Counts self.old self.new more
             × Sends T.made T.given sink.old sink.new (K.written out.old) (K.written out.new) more × GivesDue self.old.wheel self.new.wheel tick more) }
@@ -297,19 +265,12 @@ impl FrameReader {
         sink: &mut T,
         out: &mut K,
     ) -> Result<(), Stop>
+        requires ready { IsReady self.old (T.taken sink.old) self.old.reader.tick (2 * MAX_INTERVALS) }
         requires taken { 1 ≤ self.old.reader.intervals }
         requires may { MayTell self.old.reader brought }
-        requires below { self.old.reader.tick < 2 ^ 60 }
-        requires heard_by { HeardBy self.old.reader.tick self.old.wheel }
-        requires fits { FitsFrames self.old }
-        requires few { self.old.heard ≤ 2 * MAX_INTERVALS }
-        requires room { T.taken sink.old ≤ frames_counted self.old }
-        ensures room { T.taken sink.new ≤ frames_counted self.new }
-        ensures reader { self.new.reader ≡ self.old.reader }
+        ensures keeps { KeepsReading self.old self.new (T.taken sink.new) }
         ensures heard { OnOk result (self.new.heard ≤ self.old.heard + 2) }
-        ensures limit { self.new.wheel.limit ≡ self.old.wheel.limit }
-        ensures fits { OnOk result (FitsFrames self.new) }
-        ensures heard_by { OnOk result (HeardBy self.old.reader.tick self.new.wheel) }
+        ensures ready { OnOk result (StaysReady self.new self.old.reader.tick) }
         ensures gives { OnOk result ((own : Events) × (more : List Frame) × Tells self.old.reader brought own × Counts self.old self.new more
             × Sends T.made T.given sink.old sink.new (K.written out.old) (K.written out.new) more
             × GivesDueAll self.old.wheel self.new.wheel self.old.reader.tick (words_heard (event_list own)) more) }

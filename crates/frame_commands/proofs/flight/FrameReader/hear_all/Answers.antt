@@ -52,5 +52,5 @@ returns-clause-front g c =
       c.events-events.ensures.told c.requires.may,
       sends_then_front g.T.FrameSink.made g.T.FrameSink.given c.args.sink.now c.give_due.new.sink _ _ _ due.0 h.0 due.2 h.1,
       subst (λ (t : ℕ). GivesDueAllFirst f.wheel t (words_heard (event_list own)) (due.0 ++ h.0)) c.tick-tick.ensures.value
-          (due_and_first f.wheel c.give_due.new.self.wheel c.tick-tick.result (words_heard (event_list own)) due.0 h.0 c.give_due.ensures.limit due.3 h.2),
+          (due_and_first f.wheel c.give_due.new.self.wheel c.tick-tick.result (words_heard (event_list own)) due.0 h.0 c.give_due.ensures.keeps.limit due.3 h.2),
     ))

@@ -16,7 +16,7 @@ returns-in_err-hear-clause-front g c =
       e.0,
       e.4,
       first_comes_first c.frames_come_in_order.ensures.word c.args.self.now.wheel c.hear.new.self.wheel c.args.tick
-          c.args.self.now.reader.intervals own.first own.second e.0 c.hear.ensures.limit c.requires.brings.second e.2,
+          c.args.self.now.reader.intervals own.first own.second e.0 c.hear.ensures.keeps.limit c.requires.brings.second e.2,
     )
 
 -- the frames of both
@@ -49,5 +49,5 @@ returns-clause-front g c =
       (subst (λ (ws : List HeardWord). GivesFirst c.args.self.now.wheel c.args.tick ws (first.0 ++ second.0))
           (sym (words_of_both own.first own.second))
           (all_come_first c.args.self.now.wheel c.hear-2.new.self.wheel c.args.tick _ (first.0 ++ second.0)
-          (c.hear-2.ensures.limit ∙ c.hear.ensures.limit) both)),
+          (c.hear-2.ensures.keeps.limit ∙ c.hear.ensures.keeps.limit) both)),
     ))

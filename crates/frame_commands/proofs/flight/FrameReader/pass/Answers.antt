@@ -13,9 +13,9 @@ due-init g c = record {
   reader = refl;
   heard = refl;
   limit = refl;
-  fits = c.requires.fits;
-  room = c.requires.room;
-  heard_by = c.requires.heard_by;
+  fits = c.requires.ready.fits;
+  room = c.requires.ready.room;
+  heard_by = c.requires.ready.heard_by;
   same = refl;
   given = (
     [],

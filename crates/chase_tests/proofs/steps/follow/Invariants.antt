@@ -1,5 +1,5 @@
 use Rattle.std.proofs.Common.{◌≡◌}
-use Rattle.chase_core.proofs.tests.follow.Given as goal
+use Rattle.chase_tests.proofs.steps.follow.Given as goal
 
 -- chase and transport keep their count
 abbrev pub invariant-loop-row : goal.invariant-loop-row
