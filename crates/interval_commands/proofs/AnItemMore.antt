@@ -1,7 +1,7 @@
 -- What an item of an interval file does to a command along it: nothing, a header or an interval more leaves it standing, and else this is
 -- why it stops, whatever bytes follow.
 use Rattle.std.proofs.Common.{◌≡◌, ℕ, inl, inr, ◌+◌, ◌-◌, ◌<◌, ◌≤◌, List, [], ◌∷◌, ◌++◌, length, take, drop, Ok, Err, Bool, true, false, Some, None}
-use Rattle.std.proofs.Common.{refl, sym, ◌∙◌, ap, subst, append_assoc, append-nil, fold, arith, length-append}
+use Rattle.std.proofs.Common.{refl, sym, ◌∙◌, ap, ap₂, subst, append_assoc, append-nil, fold, arith, length-append}
 use Rattle.std.specs.Prelude.{nat_lt, if◌then◌else◌}
 use Rattle.std.proofs.lemmas.List.{take-append-drop}
 use Rattle.std.specs.declared.option.Option.{Option}
@@ -19,7 +19,9 @@ use Rattle.tc_files.specs.declared.interval_file.header.FileVersion.TheVariants.
 use Rattle.tc_files.specs.IntervalFile.{after, answer}
 use Rattle.tc_files.specs.Piece.{AreWhole}
 use Rattle.tc_files.specs.Progress.{Progress}
-use Rattle.tc_files.specs.Recording.{Recording, Decoding, IsBetween, with_byte, with_item, with_taken, with_number, decoding_of, recording_of}
+use Rattle.tc_files.specs.Decoding.{Decoding, IsBetween, ReadsWhatIsSaid, decoded, decoding_of, with_byte, with_item}
+use Rattle.tc_files.specs.Decoding.{with_number, with_taken}
+use Rattle.tc_files.specs.Recording.{Recording, recording_of}
 use Rattle.tc_files.specs.Verdict.{Verdict, good, refused, past_limit}
 use Rattle.tc_command.specs.declared.stop.Stop.{Stop}
 use Rattle.tc_command.specs.declared.stop.Stop.TheVariants.{Refused, ReadFault, WriteFault, Limit}
@@ -29,11 +31,12 @@ use Rattle.interval_commands.specs.KeptAlong.{HasHeader, IntervalStops, Printed,
 use Rattle.tc_command.specs.Status.{status_of}
 use Rattle.tc_command.specs.Stops.{Stops}
 use Rattle.tc_command.specs.KeptWorks.{cut_at}
-use Rattle.interval_commands.proofs.VerdictStays.{good_step, more_bytes, past_stays, refused_stays}
+use Rattle.interval_commands.proofs.VerdictStays.{good_step, more_bytes, past_is_all, refused_is_all}
 
 -- these bytes complete this item behind a front
 abbrev pub Completes : List ℕ → List ℕ → Taken → Progress → Type 0
-Completes front bytes item next = decoding_of (front ++ bytes) ≡ record { progress = next; recording = with_taken (recording_of front) item }
+Completes front bytes item next = ((decoding_of (front ++ bytes)).progress ≡ next)
+    × (recording_of (front ++ bytes) ≡ with_taken (recording_of front) item)
 
 -- the relation of a command
 abbrev pub Relation : Type 0 → Type 0 → Type 1
@@ -42,7 +45,7 @@ Relation B C = B → C → IntervalHeader → List ℕ → List ℕ → Type 0
 -- the recording with the item
 completed : (front bytes : List ℕ) (item : Taken) (next : Progress) → Completes front bytes item next → (recording_of front).verdict ≡ good
     → recording_of (front ++ bytes) ≡ with_item (recording_of front) item
-completed front bytes item next is still = ap (λ (d : Decoding). d.recording) is ∙ good_step (recording_of front) item still
+completed front bytes item next is still = is.1 ∙ good_step (recording_of front) item still
 
 -- ---- the command goes on
 
@@ -52,7 +55,7 @@ pub nothing_more : {B C : Type 0} (stands : Relation B C) (decoder next : Progre
 nothing_more stands decoder next behind count choice front bytes written s is =
     let same = completed front bytes Nothing next is s.good in
     record {
-      progress = ap (λ (d : Decoding). d.progress) (sym is);
+      progress = sym is.0;
       good = ap (λ (r : Recording). r.verdict) same ∙ s.good;
       counts = s.counts ∙ ap (λ (r : Recording). length r.intervals) (sym same);
       printed = subst (λ (w : List ℕ). Printed stands behind choice (recording_of (front ++ bytes)) w) (sym (append-nil written))
@@ -71,7 +74,7 @@ a_header stands decoder next None behind count choice header front bytes written
     let head : (recording_of (front ++ bytes)).header ≡ Some header = ap (λ (r : Recording). r.header) same ∙ rw p.0 refl in
     let none : (recording_of (front ++ bytes)).intervals ≡ [] = ap (λ (r : Recording). r.intervals) same ∙ p.1 in
     record {
-      progress = ap (λ (d : Decoding). d.progress) (sym is);
+      progress = sym is.0;
       good = ap (λ (r : Recording). r.verdict) same ∙ s.good;
       counts = s.counts ∙ ap length p.1 ∙ ap length (sym none);
       printed = (
@@ -99,7 +102,7 @@ pub an_interval : {B C : Type 0} (stands : Relation B C) (decoder next : Progres
 an_interval stands decoder next before behind count now choice x front bytes written after s is below one printed =
     let same = one_longer stands decoder next before count choice x front bytes written s is below in
     record {
-      progress = ap (λ (d : Decoding). d.progress) (sym is);
+      progress = sym is.0;
       good = ap (λ (r : Recording). r.verdict) same ∙ s.good;
       counts = one ∙ ap (λ (n : ℕ). n + 1) s.counts ∙ sym (length-append (recording_of front).intervals (x ∷ []))
           ∙ ap (λ (r : Recording). length r.intervals) (sym same);
@@ -108,25 +111,26 @@ an_interval stands decoder next before behind count now choice x front bytes wri
 
 -- ---- the command stops
 
--- the recording of more bytes
-and_rest : (front bytes rest : List ℕ) → decoding_of (front ++ (bytes ++ rest)) ≡ fold with_byte (decoding_of (front ++ bytes)) rest
-and_rest front bytes rest = ap decoding_of (sym (append_assoc front bytes rest)) ∙ more_bytes (front ++ bytes) rest
-
 -- a fault, or an interval past the limit: nothing that follows is looked at
 abbrev verdict_now : Recording → Verdict → Recording
 verdict_now r v = record { header = r.header; intervals = r.intervals; verdict = v }
 
-ends_refused : (front bytes rest : List ℕ) (f : FileFault) (r : Recording) → recording_of (front ++ bytes) ≡ verdict_now r (refused f)
-    → recording_of (front ++ (bytes ++ rest)) ≡ verdict_now r (refused f)
-ends_refused front bytes rest f r e =
-    ap (λ (d : Decoding). d.recording) (and_rest front bytes rest)
-    ∙ refused_stays (decoding_of (front ++ bytes)) f rest (ap (λ (s : Recording). s.verdict) e) ∙ e
+-- what is read of the bytes is what is read of more
+and_rest : (front bytes rest : List ℕ) → recording_of ((front ++ bytes) ++ rest) ≡ recording_of (front ++ bytes)
+    → recording_of (front ++ (bytes ++ rest)) ≡ recording_of (front ++ bytes)
+and_rest front bytes rest same = ap recording_of (sym (append_assoc front bytes rest)) ∙ same
 
-ends_past : (front bytes rest : List ℕ) (r : Recording) → recording_of (front ++ bytes) ≡ verdict_now r past_limit
+ends_refused : ReadsWhatIsSaid → (front bytes rest : List ℕ) (f : FileFault) (r : Recording)
+    → recording_of (front ++ bytes) ≡ verdict_now r (refused f)
+    → recording_of (front ++ (bytes ++ rest)) ≡ verdict_now r (refused f)
+ends_refused said front bytes rest f r e =
+    and_rest front bytes rest (refused_is_all said (front ++ bytes) rest f (ap (λ (s : Recording). s.verdict) e)) ∙ e
+
+ends_past : ReadsWhatIsSaid → (front bytes rest : List ℕ) (r : Recording)
+    → recording_of (front ++ bytes) ≡ verdict_now r past_limit
     → recording_of (front ++ (bytes ++ rest)) ≡ verdict_now r past_limit
-ends_past front bytes rest r e =
-    ap (λ (d : Decoding). d.recording) (and_rest front bytes rest)
-    ∙ past_stays (decoding_of (front ++ bytes)) rest (ap (λ (s : Recording). s.verdict) e) ∙ e
+ends_past said front bytes rest r e =
+    and_rest front bytes rest (past_is_all said (front ++ bytes) rest (ap (λ (s : Recording). s.verdict) e)) ∙ e
 
 -- the verdict says nothing of the header and the intervals
 at_verdict : {B C : Type 0} (stands : Relation B C) (behind : Option B) (choice : C) (r : Recording) (v : Verdict) (written : List ℕ)
@@ -142,37 +146,38 @@ printed_now stands behind choice r s v written printed e =
     (subst (λ (t : Recording). Printed stands behind choice t written) (sym e) (at_verdict stands behind choice r v written printed))
 
 -- past the limit
-pub a_limit : {B C : Type 0} (p : Printing) (stands : Relation B C)
+pub a_limit : ReadsWhatIsSaid → {B C : Type 0} (p : Printing) (stands : Relation B C)
     → (decoder next : Progress) (behind : Option B) (count : ℕ) (choice : C) (x : ℕ) (front bytes rest written : List ℕ)
     → Stands stands decoder behind count choice front written → Completes front bytes (Interval x) next → count ≡ MAX_INTERVALS
     → IsHalt p stands behind choice Limit (front ++ (bytes ++ rest)) (written ++ [])
-a_limit p stands decoder next behind count choice x front bytes rest written s is full =
+a_limit said p stands decoder next behind count choice x front bytes rest written s is full =
     let r = recording_of front in
     let past : with_item r (Interval x) ≡ verdict_now r past_limit =
     rw (le-ltb (length r.intervals) MAX_INTERVALS (let counts = s.counts in omega arith)) refl in
-    let now = ends_past front bytes rest r (completed front bytes (Interval x) next is s.good ∙ past) in
+    let now = ends_past said front bytes rest r (completed front bytes (Interval x) next is s.good ∙ past) in
     inl (ap (λ (t : Recording). t.verdict) now, printed_now stands behind choice r _ past_limit written s.printed now)
 
 -- a fault
-at_fault : {B C : Type 0} (p : Printing) (stands : Relation B C)
+at_fault : ReadsWhatIsSaid → {B C : Type 0} (p : Printing) (stands : Relation B C)
     → (behind : Option B) (choice : C) (f : FileFault) (front bytes rest written : List ℕ) (below : Bool)
     → Printed stands behind choice (recording_of front) written
     → recording_of (front ++ bytes) ≡ verdict_now (recording_of front) (if below then refused f else past_limit)
     → IsHalt p stands behind choice (if below then Refused f else Limit) (front ++ (bytes ++ rest)) (written ++ [])
-at_fault p stands behind choice f front bytes rest written true printed e =
-    let now = ends_refused front bytes rest f (recording_of front) e in
+at_fault said p stands behind choice f front bytes rest written true printed e =
+    let now = ends_refused said front bytes rest f (recording_of front) e in
     (ap (λ (t : Recording). t.verdict) now, printed_now stands behind choice (recording_of front) _ (refused f) written printed now)
-at_fault p stands behind choice f front bytes rest written false printed e =
-    let now = ends_past front bytes rest (recording_of front) e in
+at_fault said p stands behind choice f front bytes rest written false printed e =
+    let now = ends_past said front bytes rest (recording_of front) e in
     inl (ap (λ (t : Recording). t.verdict) now, printed_now stands behind choice (recording_of front) _ past_limit written printed now)
 
-pub a_fault : {B C : Type 0} (p : Printing) (stands : Relation B C)
+pub a_fault : ReadsWhatIsSaid → {B C : Type 0} (p : Printing) (stands : Relation B C)
     → (decoder next : Progress) (behind : Option B) (count : ℕ) (choice : C) (f : FileFault) (front bytes rest written : List ℕ)
     → Stands stands decoder behind count choice front written → Completes front bytes (Fault f) next
     → IsHalt p stands behind choice (stop_at count f) (front ++ (bytes ++ rest)) (written ++ [])
-a_fault p stands decoder next behind count choice f front bytes rest written s is =
+a_fault said p stands decoder next behind count choice f front bytes rest written s is =
     subst (λ (n : ℕ). IsHalt p stands behind choice (stop_at n f) (front ++ (bytes ++ rest)) (written ++ [])) (sym s.counts)
-    (at_fault p stands behind choice f front bytes rest written (nat_lt (length (recording_of front).intervals) MAX_INTERVALS) s.printed
+    (at_fault said p stands behind choice f front bytes rest written
+    (nat_lt (length (recording_of front).intervals) MAX_INTERVALS) s.printed
     (completed front bytes (Fault f) next is s.good))
 
 -- a push that failed: a front of what was due with the item was written
@@ -217,36 +222,52 @@ a_header_fault printing stands decoder next None count choice header old new fro
 
 -- ---- the bytes of an item
 
+-- what the decoder makes of them behind a front is what is read of both
+completes : ReadsWhatIsSaid → (front bytes : List ℕ) (item : Taken) (next : Progress)
+    → fold with_byte (decoding_of front) bytes ≡ record { progress = next; recording = with_taken (decoded front) item }
+    → Completes front bytes item next
+completes said front bytes item next is =
+    let all = more_bytes front bytes ∙ is in (
+      ap (λ (d : Decoding). d.progress) all,
+      sym (said.recording (front ++ bytes)) ∙ ap (λ (d : Decoding). d.recording) all
+          ∙ ap (λ (r : Recording). with_taken r item) (said.recording front),
+    )
+
 -- a byte
-pub by_byte : (decoder : Progress) (front : List ℕ) (byte : ℕ) (item : Taken) → decoder ≡ (decoding_of front).progress → item ≡ answer decoder byte
-    → Completes front (byte ∷ []) item (after decoder byte)
-by_byte decoder front byte item same says =
-    subst (λ (i : Taken). decoding_of (front ++ byte ∷ []) ≡ record { progress = after decoder byte; recording = with_taken (recording_of front) i }) (sym says)
-    (subst (λ (p : Progress). decoding_of (front ++ byte ∷ []) ≡ record {
-      progress = after p byte;
-      recording = with_taken (recording_of front) (answer p byte);
-    })
-    (sym same) (more_bytes front (byte ∷ [])))
+pub by_byte : ReadsWhatIsSaid → (decoder : Progress) (front : List ℕ) (byte : ℕ) (item : Taken)
+    → decoder ≡ (decoding_of front).progress
+    → item ≡ answer decoder byte → Completes front (byte ∷ []) item (after decoder byte)
+by_byte said decoder front byte item same says =
+    completes said front (byte ∷ []) item (after decoder byte)
+    (ap₂ (λ (p : Progress) (i : Taken). record { progress = after p byte; recording = with_taken (decoded front) i })
+    (sym same) (ap (λ (p : Progress). answer p byte) (sym same) ∙ sym says))
 
 -- why an interval stops the command
-pub interval_stops : {B C : Type 0} (printing : C → Printing) (stands : Relation B C)
+pub interval_stops : ReadsWhatIsSaid → {B C : Type 0} (printing : C → Printing) (stands : Relation B C)
     → (decoder next : Progress) (behind after : Option B) (count : ℕ) (choice : C) (x : ℕ) (old new : Option (List ℕ)) (front bytes rest written : List ℕ)
     (stop : Stop) → HasHeader behind decoder.taken → 12 ≤ decoder.taken
     → Stands stands decoder behind count choice front written → Completes front bytes (Interval x) next
     → IntervalStops (printing choice) stands behind count choice old new x stop → (stop ≡ Limit → after ≡ behind)
     → Halts (printing choice) stands after choice stop old new (front ++ (bytes ++ rest)) written
-interval_stops printing stands decoder next behind now count choice x old new front bytes rest written Limit has late s is why stays = (
-  [],
-  why.1,
-  subst (λ (b : Option _). IsHalt (printing choice) stands b choice Limit (front ++ (bytes ++ rest)) (written ++ [])) (sym (stays refl))
-      (a_limit (printing choice) stands decoder next behind count choice x front bytes rest written s is why.0),
-)
-interval_stops printing stands decoder next None now count choice x old new front bytes rest written WriteFault has late s is why stays =
+interval_stops said printing stands decoder next behind now count choice x old new front bytes rest written
+    Limit has late s is why stays = (
+      [],
+      why.1,
+      subst (λ (b : Option _). IsHalt (printing choice) stands b choice Limit (front ++ (bytes ++ rest)) (written ++ [])) (sym (stays refl))
+          (a_limit said (printing choice) stands decoder next behind count choice x front bytes rest written s is why.0),
+    )
+interval_stops said printing stands decoder next None now count choice x old new front bytes rest written
+    WriteFault has late s is why stays =
     absurd (omega (arith, has, late))
-interval_stops printing stands decoder next (Some b) now count choice x old new front bytes rest written WriteFault has late s is why stays =
+interval_stops said printing stands decoder next (Some b) now count choice x old new front bytes rest written
+    WriteFault has late s is why stays =
     a_write_fault printing stands decoder next b count choice x old new front bytes rest written s is why
-interval_stops printing stands decoder next behind now count choice x old new front bytes rest written ReadFault has late s is why stays = absurd why
-interval_stops printing stands decoder next behind now count choice x old new front bytes rest written (Refused f) has late s is why stays = absurd why
+interval_stops said printing stands decoder next behind now count choice x old new front bytes rest written
+    ReadFault has late s is why stays =
+    absurd why
+interval_stops said printing stands decoder next behind now count choice x old new front bytes rest written
+    (Refused f) has late s is why stays =
+    absurd why
 
 -- ---- what is gathered is pushed
 
@@ -358,25 +379,27 @@ no_cause ReadFault before now other cause = cause
 no_cause WriteFault before now other cause = absurd (other refl)
 
 -- the bytes of an interval, so many
-pub by_number : (decoder : Progress) (front bytes : List ℕ) (width x : ℕ) → decoder ≡ (decoding_of front).progress
+pub by_number : ReadsWhatIsSaid → (decoder : Progress) (front bytes : List ℕ) (width x : ℕ)
+    → decoder ≡ (decoding_of front).progress
     → fold with_byte (decoding_of front) bytes ≡ with_number (decoding_of front) width (Ok x)
     → Completes front bytes (Interval x) (record decoder { taken = decoder.taken + width })
-by_number decoder front bytes width x same is =
-    subst (λ (p : Progress). decoding_of (front ++ bytes) ≡ record {
+by_number said decoder front bytes width x same is =
+    completes said front bytes (Interval x) (record decoder { taken = decoder.taken + width })
+    (is ∙ ap (λ (p : Progress). record {
       progress = record p { taken = p.taken + width };
-      recording = with_taken (recording_of front) (Interval x);
-    })
-    (sym same) (more_bytes front bytes ∙ is)
+      recording = with_taken (decoded front) (Interval x);
+    }) (sym same))
 
-pub by_bad_number : (decoder : Progress) (front bytes : List ℕ) (width : ℕ) (f : FileFault) → decoder ≡ (decoding_of front).progress
+pub by_bad_number : ReadsWhatIsSaid → (decoder : Progress) (front bytes : List ℕ) (width : ℕ) (f : FileFault)
+    → decoder ≡ (decoding_of front).progress
     → fold with_byte (decoding_of front) bytes ≡ with_number (decoding_of front) width (Err f)
     → Completes front bytes (Fault f) (record decoder { taken = decoder.taken + width; fault = Some f })
-by_bad_number decoder front bytes width f same is =
-    subst (λ (p : Progress). decoding_of (front ++ bytes) ≡ record {
+by_bad_number said decoder front bytes width f same is =
+    completes said front bytes (Fault f) (record decoder { taken = decoder.taken + width; fault = Some f })
+    (is ∙ ap (λ (p : Progress). record {
       progress = record p { taken = p.taken + width; fault = Some f };
-      recording = with_taken (recording_of front) (Fault f);
-    })
-    (sym same) (more_bytes front bytes ∙ is)
+      recording = with_taken (decoded front) (Fault f);
+    }) (sym same))
 
 -- whole intervals and more of them are whole intervals
 pub more_whole : (version : FileVersion) (one two : ℕ) → AreWhole version one → AreWhole version two → AreWhole version (one + two)

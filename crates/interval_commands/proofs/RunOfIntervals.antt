@@ -9,6 +9,7 @@ use Rattle.direction_reader.specs.declared.reader.TheConstants.{MAX_INTERVALS}
 use Rattle.tc_files.specs.declared.fault.FileFault.{FileFault}
 use Rattle.tc_files.specs.declared.interval_file.decoder.Taken.TheVariants.{Fault}
 use Rattle.tc_files.specs.declared.interval_file.header.IntervalHeader.{IntervalHeader}
+use Rattle.tc_files.specs.Decoding.{ReadsWhatIsSaid}
 use Rattle.tc_files.specs.Progress.{Progress}
 use Rattle.tc_command.specs.declared.stop.Stop.{Stop}
 use Rattle.tc_command.specs.declared.stop.Stop.TheVariants.{Refused, WriteFault}
@@ -40,14 +41,14 @@ cut_through k n m bytes within less =
     (cut_some k n bytes (omega (arith, within)))
 
 -- within the limit an interval out of range is refused
-pub a_refusal : {B C : Type 0} (p : Printing) (stands : Relation B C)
+pub a_refusal : ReadsWhatIsSaid → {B C : Type 0} (p : Printing) (stands : Relation B C)
     → (decoder next : Progress) (behind : Option B) (count : ℕ) (choice : C) (f : FileFault) (front bytes rest written : List ℕ)
     → count < MAX_INTERVALS → Stands stands decoder behind count choice front written → Completes front bytes (Fault f) next
     → IsHalt p stands behind choice (Refused f) (front ++ (bytes ++ rest)) (written ++ [])
-a_refusal p stands decoder next behind count choice f front bytes rest written below s is =
+a_refusal said p stands decoder next behind count choice f front bytes rest written below s is =
     let refused : stop_at count f ≡ Refused f = rw (lt-ltb count MAX_INTERVALS below) refl in
     subst (λ (stop : Stop). IsHalt p stands behind choice stop (front ++ (bytes ++ rest)) (written ++ [])) refused
-    (a_fault p stands decoder next behind count choice f front bytes rest written s is)
+    (a_fault said p stands decoder next behind count choice f front bytes rest written s is)
 
 -- the output of an interval was not taken, as the command itself says it
 pub behind_stops : {B C : Type 0} (printing : C → Printing) (stands : Relation B C) (b : B) (count : ℕ) (choice : C) (x : ℕ)

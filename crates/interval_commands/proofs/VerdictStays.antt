@@ -1,6 +1,7 @@
 -- A verdict that is not good stays, whatever bytes follow, and so does all that the bytes say of the recording. Where it is good, more intervals may
 -- follow, behind the same header.
-use Rattle.std.proofs.Common.{◌≡◌, ℕ, List, [], ◌∷◌, ◌++◌, Bool, true, false, Some, refl, sym, ◌∙◌, ap, subst, fold, length, append-nil, append_assoc}
+use Rattle.std.proofs.Common.{◌≡◌, ℕ, List, [], ◌∷◌, ◌++◌, Bool, true, false, refl, sym, ◌∙◌, ap, subst, fold, length}
+use Rattle.std.proofs.Common.{append-nil, append_assoc}
 use Rattle.std.specs.Prelude.{nat_lt, if◌then◌else◌}
 use Rattle.std.specs.declared.option.Option.{Option}
 use Rattle.std.proofs.lemmas.List.Sums.{fold-append}
@@ -10,7 +11,9 @@ use Rattle.tc_files.specs.declared.interval_file.decoder.Taken.{Taken}
 use Rattle.tc_files.specs.declared.interval_file.decoder.Taken.TheVariants.{Nothing, Header, Interval, Fault}
 use Rattle.tc_files.specs.declared.interval_file.header.IntervalHeader.{IntervalHeader}
 use Rattle.tc_files.specs.IntervalFile.{answer}
-use Rattle.tc_files.specs.Recording.{Recording, Decoding, no_decoding, with_byte, with_header, with_item, with_taken, decoding_of, recording_of}
+use Rattle.tc_files.specs.Decoding.{Decoding, ReadsWhatIsSaid, decoded, decoding_of, no_decoding, with_byte}
+use Rattle.tc_files.specs.Decoding.{with_header, with_item, with_taken}
+use Rattle.tc_files.specs.Recording.{Recording, recording_of}
 use Rattle.tc_files.specs.Verdict.{Verdict, good, refused, past_limit}
 use Rattle.interval_commands.specs.KeptCommand.{Grows, RecordingsGrow}
 
@@ -37,14 +40,15 @@ at_past r item good e = absurd cc
 at_past r item (refused g) e = absurd cc
 at_past r item past_limit e = refl
 
-pub refused_stays : (d : Decoding) (f : FileFault) (more : List ℕ) → d.recording.verdict ≡ refused f
+refused_stays : (d : Decoding) (f : FileFault) (more : List ℕ) → d.recording.verdict ≡ refused f
     → (fold with_byte d more).recording ≡ d.recording
 refused_stays d f [] e = refl
 refused_stays d f (x ∷ more) e =
     let same = at_refused d.recording (answer d.progress x) f d.recording.verdict e in
     refused_stays (with_byte d x) f more (ap (λ (r : Recording). r.verdict) same ∙ e) ∙ same
 
-pub past_stays : (d : Decoding) (more : List ℕ) → d.recording.verdict ≡ past_limit → (fold with_byte d more).recording ≡ d.recording
+past_stays : (d : Decoding) (more : List ℕ) → d.recording.verdict ≡ past_limit
+    → (fold with_byte d more).recording ≡ d.recording
 past_stays d [] e = refl
 past_stays d (x ∷ more) e =
     let same = at_past d.recording (answer d.progress x) d.recording.verdict e in
@@ -84,16 +88,33 @@ decoding_grows d (x ∷ more) =
     grows_on d.recording (with_byte d x).recording (fold with_byte d (x ∷ more)).recording
     (taken_grows d.recording (answer d.progress x) d.recording.verdict) (decoding_grows (with_byte d x) more)
 
-pub recording_grows : (front more : List ℕ) → Grows (recording_of front) (recording_of (front ++ more))
-recording_grows front more =
-    subst (λ (d : Decoding). Grows (recording_of front) d.recording) (sym (more_bytes front more)) (decoding_grows (decoding_of front) more)
+decoded_grows : (front more : List ℕ) → Grows (decoded front) (decoded (front ++ more))
+decoded_grows front more =
+    subst (λ (d : Decoding). Grows (decoded front) d.recording) (sym (more_bytes front more))
+    (decoding_grows (decoding_of front) more)
+
+pub recording_grows : ReadsWhatIsSaid → (front more : List ℕ)
+    → Grows (recording_of front) (recording_of (front ++ more))
+recording_grows said front more =
+    subst (λ (r : Recording). Grows r (recording_of (front ++ more))) (said.recording front)
+    (subst (λ (r : Recording). Grows (decoded front) r) (said.recording (front ++ more)) (decoded_grows front more))
 
 -- behind a fault and behind the limit it stays as it is
-pub refused_is_all : (front more : List ℕ) (f : FileFault) → (recording_of front).verdict ≡ refused f → recording_of (front ++ more) ≡ recording_of front
-refused_is_all front more f e = ap (λ (d : Decoding). d.recording) (more_bytes front more) ∙ refused_stays (decoding_of front) f more e
+as_decoded : ReadsWhatIsSaid → (front more : List ℕ) → decoded (front ++ more) ≡ decoded front
+    → recording_of (front ++ more) ≡ recording_of front
+as_decoded said front more same = sym (said.recording (front ++ more)) ∙ same ∙ said.recording front
 
-pub past_is_all : (front more : List ℕ) → (recording_of front).verdict ≡ past_limit → recording_of (front ++ more) ≡ recording_of front
-past_is_all front more e = ap (λ (d : Decoding). d.recording) (more_bytes front more) ∙ past_stays (decoding_of front) more e
+pub refused_is_all : ReadsWhatIsSaid → (front more : List ℕ) (f : FileFault) → (recording_of front).verdict ≡ refused f
+    → recording_of (front ++ more) ≡ recording_of front
+refused_is_all said front more f e =
+    as_decoded said front more (ap (λ (d : Decoding). d.recording) (more_bytes front more)
+    ∙ refused_stays (decoding_of front) f more (ap (λ (r : Recording). r.verdict) (said.recording front) ∙ e))
 
-pub recordings_grow : RecordingsGrow
-recordings_grow = record { grows = recording_grows; refused = refused_is_all; past = past_is_all }
+pub past_is_all : ReadsWhatIsSaid → (front more : List ℕ) → (recording_of front).verdict ≡ past_limit
+    → recording_of (front ++ more) ≡ recording_of front
+past_is_all said front more e =
+    as_decoded said front more (ap (λ (d : Decoding). d.recording) (more_bytes front more)
+    ∙ past_stays (decoding_of front) more (ap (λ (r : Recording). r.verdict) (said.recording front) ∙ e))
+
+pub recordings_grow : ReadsWhatIsSaid → RecordingsGrow
+recordings_grow said = record { grows = recording_grows said; refused = refused_is_all said; past = past_is_all said }

@@ -8,7 +8,8 @@ use Rattle.tc_files.specs.declared.fault.FileFault.{FileFault}
 use Rattle.tc_files.specs.declared.interval_file.header.IntervalHeader.{IntervalHeader}
 use Rattle.tc_files.specs.declared.interval_file.header.TheConstants.{HEADER_LENGTH}
 use Rattle.tc_files.specs.Progress.{Progress}
-use Rattle.tc_files.specs.Recording.{Recording, decoding_of, recording_of, FitsBytes}
+use Rattle.tc_files.specs.Decoding.{decoding_of, FitsBytes}
+use Rattle.tc_files.specs.Recording.{Recording, recording_of}
 use Rattle.tc_files.specs.Verdict.{good, refused, past_limit}
 use Rattle.tc_command.specs.declared.stop.Stop.{Stop}
 use Rattle.tc_command.specs.declared.stop.Stop.TheVariants.{Refused, ReadFault, WriteFault, Limit}

@@ -7,7 +7,8 @@ ghost use Rattle.biphase.specs.declared.cell.TheConstants.{MAX_INTERVAL};
 ghost use Rattle.direction_reader.specs.declared.reader.TheConstants.{MAX_INTERVALS};
 ghost use Rattle.tc_files.specs.declared.interval_file.header.IntervalHeader.{IntervalHeader};
 ghost use Rattle.tc_files.specs.IntervalHeader.{IsTickRate};
-ghost use Rattle.tc_files.specs.Recording.{IsBetween, Recording};
+ghost use Rattle.tc_files.specs.Decoding.{IsBetween};
+ghost use Rattle.tc_files.specs.Recording.{Recording};
 ghost use Rattle.tc_io.specs.Sink.{AppendsFront};
 ghost use Rattle.interval_commands.specs.Along.{IsPartOf, IsSpentOf, Printing, along_intervals};
 ghost use Rattle.tc_command.specs.Causes.{HasOutCause, HasSourceCause, OutCause};
@@ -32,6 +33,7 @@ ghost use Rattle.interval_commands.specs.KeptAlong.{
 use biphase::MAX_INTERVAL;
 use direction_reader::MAX_INTERVALS;
 use tc_command::{Engine, Stop, work};
+use tc_files::laws::the_decoder_reads_what_is_said;
 use tc_files::{
     FileFault, FileVersion, IntervalDecoder, IntervalHeader, Next, Taken, most_width, next_interval,
 };
@@ -271,6 +273,7 @@ impl<B: Behind> Along<B> {
         ensures cause { HasOutCause (K.faults out.old) (K.faults out.new) result }
         ensures no_pull { result ≡ Err Stop.ReadFault → ⊥ }
     {
+        the_decoder_reads_what_is_said();
         match self.decoder.byte(byte) {
             Taken::Nothing => Ok(()),
             Taken::Header(header) => {
@@ -338,6 +341,7 @@ impl<B: Behind> Along<B> {
         ensures cause { HasOutCause (K.faults out.old) (K.faults out.new) result }
         ensures no_pull { result ≡ Err Stop.ReadFault → ⊥ }
     {
+        the_decoder_reads_what_is_said();
         let first = self.decoder.taken();
         let widest = most_width(version);
         let end = bytes.len().saturating_sub(widest - 1);
@@ -408,7 +412,7 @@ impl<B: Behind> Along<B> {
 }
 
 impl<B: Behind> Engine for Along<B> {
-    ghost use Rattle.tc_files.specs.Recording.{too_many_bytes};
+    ghost use Rattle.tc_files.specs.Decoding.{too_many_bytes};
     ghost use Rattle.interval_commands.specs.Along.{along_intervals};
     ghost use Rattle.interval_commands.specs.KeptAlong.{IsGoing, IsSettled, StandsWithin, printed_well};
 
@@ -449,6 +453,7 @@ impl<B: Behind> Engine for Along<B> {
     }
 
     fn finish<K: Sink>(&self, out: &mut K) -> Result<(), Stop> {
+        the_decoder_reads_what_is_said();
         if let Err(fault) = self.decoder.finish() {
             return Err(Stop::Refused(fault));
         }

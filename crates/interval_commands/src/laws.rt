@@ -13,13 +13,18 @@ ghost use Rattle.interval_commands.specs.LtcPcm.{made_sound};
 ghost use Rattle.interval_commands.specs.LtcRead.{report};
 
 use direction_reader::laws::{a_list_has_one_list_of_events, events_of_a_front_come_first};
-use tc_files::laws::{a_file_is_read_as_it_was_written, bytes_are_read_as_the_text_says};
+use tc_files::laws::{
+    a_file_is_read_as_it_was_written, bytes_are_read_as_the_text_says,
+    the_decoder_reads_what_is_said,
+};
 
 /// What bytes say of a recording grows with more bytes, and stays as it is behind a fault and behind the
 /// limit.
 pub fn recordings_grow()
     ensures { RecordingsGrow }
-{}
+{
+    the_decoder_reads_what_is_said();
+}
 
 /// What each command prints behind some intervals comes first, whatever intervals follow, and is one.
 pub fn what_is_printed_is_in_order()

@@ -11,7 +11,7 @@ use Rattle.tc_files.specs.Grammar.{AreBytes, InRange, IsFile}
 use Rattle.tc_files.specs.Next.{next_of, next_with}
 use Rattle.tc_files.specs.NextByte.{BringNext}
 use Rattle.tc_files.specs.Piece.{number_in, piece_width}
-use Rattle.tc_files.proofs.EachText.{in_range_or_not, is_spelled}
+use Rattle.tc_files.proofs.FrontOfBytes.{in_range_or_not, is_spelled}
 use Rattle.tc_files.proofs.FrontInterval.{least}
 use Rattle.tc_files.proofs.OneByteMore.{file_more, in_range_is}
 use Rattle.tc_files.proofs.RestFault.{wrong_interval}

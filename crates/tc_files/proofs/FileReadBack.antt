@@ -21,10 +21,12 @@ use Rattle.tc_files.specs.IntervalFile.{end, fault_in, header_answer}
 use Rattle.tc_files.specs.IntervalHeader.{IsTickRate, header_bytes}
 use Rattle.tc_files.specs.Piece.{spelling}
 use Rattle.tc_files.specs.Progress.{Progress}
-use Rattle.tc_files.specs.Recording.{Decoding, IsBetween, Recording, decoding_of, end_fault_of, fault_at_end, no_decoding, no_recording, recording_of}
-use Rattle.tc_files.specs.Recording.{with_byte, with_taken}
+use Rattle.tc_files.specs.Decoding.{Decoding, IsBetween, decoding_of, decoded_end, fault_at_end, no_decoding}
+use Rattle.tc_files.specs.Decoding.{no_recording, decoded}
+use Rattle.tc_files.specs.Recording.{Recording}
+use Rattle.tc_files.specs.Decoding.{with_byte, with_taken}
 use Rattle.tc_files.specs.Verdict.{Verdict, good, past_limit}
-use Rattle.tc_files.specs.WithinLimit.{within_limit}
+use Rattle.tc_files.specs.Recording.{within_limit}
 use Rattle.tc_files.proofs.ReadBack.{spelling_back}
 
 -- ---- the header
@@ -36,13 +38,13 @@ behind_header version system rate item = record {
   recording = with_taken no_recording item;
 }
 
-abbrev begins : FileVersion → System → ℕ → Decoding
+abbrev pub begins : FileVersion → System → ℕ → Decoding
 begins version system rate = record {
   progress = record { taken = 12; version = version; system = Some system; part = []; fault = None };
   recording = record { header = Some (record { version = version; system = system; tick_rate = rate }); intervals = []; verdict = good };
 }
 
-in_range : (version : FileVersion) (system : System) (n rate : ℕ) → n ≡ rate → IsTickRate rate
+pub in_range : (version : FileVersion) (system : System) (n rate : ℕ) → n ≡ rate → IsTickRate rate
     → behind_header version system rate (header_answer version (Some system) n) ≡ begins version system rate
 in_range version system n rate same range = rw (same, le-leb 1 rate range.0, le-leb rate MAX_TICK_RATE range.1) refl
 
@@ -77,7 +79,7 @@ pub past : (header : IntervalHeader) (intervals : List ℕ) (whole : ℕ) (verdi
 past header intervals whole verdict above = rw (lt-leb whole MAX_INTERVALS above) refl
 
 -- an interval more
-one_taken : (header : IntervalHeader) (intervals : List ℕ) (x : ℕ)
+pub one_taken : (header : IntervalHeader) (intervals : List ℕ) (x : ℕ)
     → with_taken (so_far header intervals) (Interval x) ≡ so_far header (intervals ++ x ∷ [])
 one_taken header intervals x = by_order (cases_order (length intervals) MAX_INTERVALS)
   where
@@ -169,17 +171,11 @@ file_good bytes header intervals is =
     (subst (λ (n : ℕ). IsGood (decoding_of (file_of header intervals)) header intervals n) long all)
 
 -- it may end there
-may_end : (p : Progress) → IsBetween p → fault_at_end (end p) ≡ None
+pub may_end : (p : Progress) → IsBetween p → fault_at_end (end p) ≡ None
 may_end p between = rw (between.no_fault, le-leb 12 p.taken between.header, between.no_part) refl
 
 pub whole_file_read : (bytes : List ℕ) (header : IntervalHeader) (intervals : List ℕ) → IsFile bytes header intervals
-    → (recording_of bytes ≡ so_far header intervals) × (end_fault_of bytes ≡ None)
+    → (decoded bytes ≡ so_far header intervals) × (decoded_end bytes ≡ None)
 whole_file_read bytes header intervals is =
     let read = file_good bytes header intervals is in
     (read.says, may_end (decoding_of bytes).progress read.between)
-
-pub file_read : (bytes : List ℕ) (header : IntervalHeader) (intervals : List ℕ) → IsFile bytes header intervals → length intervals ≤ MAX_INTERVALS
-    → (recording_of bytes ≡ record { header = Some header; intervals = intervals; verdict = good }) × (end_fault_of bytes ≡ None)
-file_read bytes header intervals is few =
-    let read = whole_file_read bytes header intervals is in
-    (read.0 ∙ within header intervals (length intervals) good few few, read.1)

@@ -8,7 +8,7 @@ use Rattle.tc_files.specs.declared.fault.FileFault.TheVariants as fault
 use Rattle.tc_files.specs.declared.interval_file.header.FileVersion.{FileVersion}
 use Rattle.tc_files.specs.declared.interval_file.header.FileVersion.TheVariants.{One, Two}
 use Rattle.tc_files.specs.declared.interval_file.piece.Next.TheVariants.{Short}
-use Rattle.tc_files.specs.Recording.{with_byte, with_number}
+use Rattle.tc_files.specs.Decoding.{with_byte, with_number}
 use Rattle.tc_files.specs.Next.{IsNext, Makes, next_of, next_with}
 use Rattle.tc_files.specs.Piece.{AreWhole, interval_in, least_in, number_in, piece_width}
 use Rattle.tc_files.proofs.WholeNumbers.{whole_number}

@@ -16,14 +16,17 @@ use Rattle.tc_files.specs.declared.interval_file.decoder.Taken.TheVariants.{Noth
 use Rattle.tc_files.specs.declared.interval_file.header.FileVersion.{FileVersion}
 use Rattle.tc_files.specs.declared.interval_file.header.FileVersion.TheVariants.{One}
 use Rattle.tc_files.specs.declared.interval_file.header.TheConstants.{MAGIC, MAX_TICK_RATE}
+use Rattle.tc_files.specs.Contents.{fault_at}
 use Rattle.tc_files.specs.Grammar.{EndsInHeader, IsFirstWrong, IsHeaderFault, IsWrongRate, MayStand, may_stand}
 use Rattle.tc_files.specs.IntervalFile.{after, answer, end, fault_in, head_answer, header_answer, version_or}
 use Rattle.tc_files.specs.IntervalHeader.{IsTickRate, system_at, version_at}
 use Rattle.tc_files.specs.Progress.{Progress}
-use Rattle.tc_files.specs.Recording.{Decoding, Recording, decoding_of, end_fault_of, fault_at_end, no_decoding, no_recording, recording_of, with_byte}
-use Rattle.tc_files.specs.Recording.{with_item, with_taken}
+use Rattle.tc_files.specs.Decoding.{Decoding, decoding_of, decoded_end, fault_at_end, no_decoding, no_recording}
+use Rattle.tc_files.specs.Decoding.{decoded, with_byte}
+use Rattle.tc_files.specs.Recording.{Recording}
+use Rattle.tc_files.specs.Decoding.{with_item, with_taken}
 use Rattle.tc_files.specs.Verdict.{Verdict, good, refused, past_limit}
-use Rattle.tc_files.specs.WithinLimit.{shown}
+use Rattle.tc_files.specs.Recording.{shown}
 
 -- ---- behind a fault nothing changes
 
@@ -57,19 +60,11 @@ stays (byte ∷ more) d first met over =
 -- ---- the first eight bytes
 
 -- a decoder at this place of them, without a fault
-abbrev head_at : ℕ → FileVersion → Option System → Decoding
+abbrev pub head_at : ℕ → FileVersion → Option System → Decoding
 head_at place version system = record {
   progress = record { taken = place; version = version; system = system; part = []; fault = None };
   recording = no_recording;
 }
-
--- the fault of the byte at a place
-abbrev pub fault_at : ℕ → FileFault
-fault_at place =
-    if nat_lt place 4 then fault.Magic place
-    else if place == 4 then fault.Version place
-    else if place == 5 then fault.System place
-    else fault.Reserved place
 
 abbrev pub tested_as : Bool → ℕ → Taken
 tested_as may place = if may then Nothing else Fault (fault_at place)
@@ -144,7 +139,8 @@ reaches bytes place may there low =
     let walked = walks (take place bytes) 0 One None may (omega (arith, long)) in
     (walked.0, walked.1, walked.2 ∙ ap (λ (k : ℕ). head_at k walked.0 walked.1) (omega (arith, long)))
 
-split_fold : (bytes : List ℕ) (place : ℕ) → decoding_of bytes ≡ fold with_byte (fold with_byte no_decoding (take place bytes)) (drop place bytes)
+pub split_fold : (bytes : List ℕ) (place : ℕ)
+    → decoding_of bytes ≡ fold with_byte (fold with_byte no_decoding (take place bytes)) (drop place bytes)
 split_fold bytes place = ap decoding_of (sym (take-append-drop place bytes)) ∙ fold-append with_byte no_decoding (take place bytes) (drop place bytes)
 
 -- ---- what is read, and the fault at the end
@@ -153,7 +149,7 @@ abbrev pub nothing_with : Verdict → Recording
 nothing_with verdict = record { header = None; intervals = []; verdict = verdict }
 
 abbrev IsRead : List ℕ → Verdict → FileFault → Type 0
-IsRead bytes verdict first = (recording_of bytes ≡ nothing_with verdict) × (end_fault_of bytes ≡ Some first)
+IsRead bytes verdict first = (decoded bytes ≡ nothing_with verdict) × (decoded_end bytes ≡ Some first)
 
 abbrev ending : Decoding → Option FileFault
 ending d = fault_at_end (end d.progress)
@@ -174,13 +170,13 @@ wrong_byte bytes place low is =
     (ap (λ (d : Decoding). d.recording) all, ap ending all)
 
 -- a decoder behind the tick rate
-abbrev rate_behind : FileVersion → Option System → Taken → Decoding
+abbrev pub rate_behind : FileVersion → Option System → Taken → Decoding
 rate_behind version system item = record {
   progress = record { taken = 12; version = version; system = system; part = []; fault = fault_in item };
   recording = with_taken no_recording item;
 }
 
-rate_read : (version : FileVersion) (system : Option System) (a b c e : ℕ)
+pub rate_read : (version : FileVersion) (system : Option System) (a b c e : ℕ)
     → fold with_byte (head_at 8 version system) (a ∷ b ∷ c ∷ e ∷ [])
     ≡ rate_behind version system (header_answer version system (big_number 4 (a ∷ b ∷ c ∷ e ∷ [])))
 rate_read version system a b c e = refl

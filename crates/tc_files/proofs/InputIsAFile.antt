@@ -1,15 +1,14 @@
 -- Where the verdict is good and the input may end, the bytes are a file within the limit.
-use Rattle.std.proofs.Common.{◌≡◌, ℕ, ◌≤◌, List, length, None, refl, sym, ◌∙◌, ap, Bool, true, false}
+use Rattle.std.proofs.Common.{◌≡◌, ℕ, ◌≤◌, List, length, None, refl, Bool, true, false}
 use Rattle.std.specs.Prelude.{nat_le, if◌then◌else◌}
 use Rattle.std.proofs.lemmas.Bool.{leb-true}
 use Rattle.direction_reader.specs.declared.reader.TheConstants.{MAX_INTERVALS}
 use Rattle.tc_files.specs.declared.interval_file.header.IntervalHeader.{IntervalHeader}
+use Rattle.tc_files.specs.Contents.{contents_of}
 use Rattle.tc_files.specs.Grammar.{AreBytes, Contents, IsFile, Says, fault_of, faulty, file, no_header}
-use Rattle.tc_files.specs.Recording.{Recording, end_fault_of, recording_of}
+use Rattle.tc_files.specs.Recording.{end_fault_of, read_of, recording_of}
 use Rattle.tc_files.specs.Verdict.{good, past_limit}
-use Rattle.tc_files.specs.WithinLimit.{read_of}
-use Rattle.tc_files.proofs.EachText.{each_text}
-use Rattle.tc_files.proofs.OneText.{reads}
+use Rattle.tc_files.proofs.DecoderReads.{they_say_it}
 
 abbrev IsWithin : List ℕ → Type 0
 IsWithin bytes = (header : IntervalHeader) × (intervals : List ℕ) × IsFile bytes header intervals × (length intervals ≤ MAX_INTERVALS)
@@ -25,7 +24,5 @@ by_contents bytes (no_header first) says verdict none = (cc)
 by_contents bytes (faulty header intervals first) says verdict none = (cc)
 
 pub input_is_a_file : (bytes : List ℕ) → AreBytes bytes → (recording_of bytes).verdict ≡ good → end_fault_of bytes ≡ None → IsWithin bytes
-input_is_a_file bytes are verdict none =
-    let text = each_text bytes are in
-    let read = reads bytes text.0 text.1 in
-    by_contents bytes text.0 text.1 (ap (λ (r : Recording). r.verdict) (sym read.0) ∙ verdict) (sym read.1 ∙ none)
+unfolding recording_of end_fault_of
+input_is_a_file bytes are verdict none = by_contents bytes (contents_of bytes) (they_say_it bytes are) verdict none

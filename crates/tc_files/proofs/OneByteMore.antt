@@ -19,6 +19,7 @@ use Rattle.tc_files.specs.declared.interval_file.header.FileVersion.{FileVersion
 use Rattle.tc_files.specs.declared.interval_file.header.FileVersion.TheVariants.{One, Two}
 use Rattle.tc_files.specs.declared.interval_file.header.IntervalHeader.{IntervalHeader}
 use Rattle.tc_files.specs.declared.interval_file.header.TheConstants.{MAX_TICK_RATE}
+use Rattle.tc_files.specs.Contents.{fault_at}
 use Rattle.tc_files.specs.Grammar.{AreBytes, AreIntervals, Contents, EndsInHeader, InRange, IsFaulty, IsFile, IsHeaderFault, Says, fault_of, faulty}
 use Rattle.tc_files.specs.Grammar.{file, intervals_bytes, may_stand, no_header}
 use Rattle.tc_files.specs.IntervalFile.{after, answer, end, fault_in, header_answer, interval_answer, no_progress, progress_of}
@@ -26,12 +27,15 @@ use Rattle.tc_files.specs.IntervalHeader.{header_bytes}
 use Rattle.tc_files.specs.NextByte.{Brings, end_of_text, header_in, intervals_in, piece_fault_in, staying}
 use Rattle.tc_files.specs.Piece.{interval_in, least_in, number_in, piece_width, spelling}
 use Rattle.tc_files.specs.Progress.{Progress}
-use Rattle.tc_files.specs.Recording.{Decoding, Recording, decoding_of, end_fault_of, fault_at_end, no_decoding, with_byte, with_taken}
-use Rattle.tc_files.specs.WithinLimit.{read_of}
-use Rattle.tc_files.proofs.EachText.{in_range_or_not, is_spelled}
+use Rattle.tc_files.specs.Decoding.{Decoding, decoding_of, decoded_end, fault_at_end, no_decoding, with_byte}
+use Rattle.tc_files.specs.Decoding.{with_taken}
+use Rattle.tc_files.specs.Recording.{Recording}
+use Rattle.tc_files.specs.Recording.{read_of}
+use Rattle.tc_files.proofs.FrontOfBytes.{in_range_or_not, is_spelled}
 use Rattle.tc_files.proofs.FileReadBack.{file_good}
 use Rattle.tc_files.proofs.FrontInterval.{least, widths}
-use Rattle.tc_files.proofs.InTheHeader.{InHeader, fault_at, fault_stays, header_fault_read, in_header, tested, tested_as, within_header}
+use Rattle.tc_files.proofs.InTheHeader.{InHeader, fault_stays, header_fault_read, in_header, tested, tested_as}
+use Rattle.tc_files.proofs.InTheHeader.{within_header}
 use Rattle.tc_files.proofs.OneText.{one_answer, reads, some_is}
 use Rattle.tc_files.proofs.RestFault.{rest_fault_read, stays_open, wrong_interval}
 use Rattle.tc_files.proofs.WholeNumbers.{at, completes, is_between, leaves_open}
@@ -102,7 +106,8 @@ met_by first None false n stays e =
     let none : staying first ≡ None = ap staying (sym cut) in
     cc
 
-met : (bytes : List ℕ) (first : FileFault) → staying first ≡ Some first → end_fault_of bytes ≡ Some first → (progress_of bytes).fault ≡ Some first
+met : (bytes : List ℕ) (first : FileFault) → staying first ≡ Some first → decoded_end bytes ≡ Some first
+    → (progress_of bytes).fault ≡ Some first
 met bytes first stays e =
     let p = (decoding_of bytes).progress in
     ap (λ (q : Progress). q.fault) (sym (progress_is bytes))

@@ -17,8 +17,9 @@ use Rattle.tc_files.specs.declared.interval_file.header.IntervalHeader.{Interval
 use Rattle.tc_files.specs.Grammar.{AreIntervals, Contents, InRange, IsFaulty, IsFile, IsRestFault, Says, fault_of, faulty, file, intervals_bytes, no_header}
 use Rattle.tc_files.specs.IntervalHeader.{header_bytes}
 use Rattle.tc_files.specs.Piece.{number_in, piece_width, spelling}
-use Rattle.tc_files.specs.Recording.{Recording, end_fault_of, recording_of}
-use Rattle.tc_files.specs.WithinLimit.{read_of}
+use Rattle.tc_files.specs.Decoding.{decoded_end, decoded}
+use Rattle.tc_files.specs.Recording.{Recording}
+use Rattle.tc_files.specs.Recording.{read_of}
 use Rattle.tc_files.proofs.FileReadBack.{whole_file_read}
 use Rattle.tc_files.proofs.FrontInterval.{widths}
 use Rattle.tc_files.proofs.InTheHeader.{header_fault_read}
@@ -27,7 +28,7 @@ use Rattle.tc_files.proofs.RestFault.{rest_fault_read}
 -- ---- what the decoder reads of a text
 
 pub reads : (bytes : List ℕ) (contents : Contents) → Says contents bytes
-    → (recording_of bytes ≡ read_of contents) × (end_fault_of bytes ≡ fault_of contents)
+    → (decoded bytes ≡ read_of contents) × (decoded_end bytes ≡ fault_of contents)
 reads bytes (file header intervals) says = whole_file_read bytes header intervals says
 reads bytes (no_header first) says = header_fault_read bytes first says
 reads bytes (faulty header intervals first) says = rest_fault_read bytes header intervals first says

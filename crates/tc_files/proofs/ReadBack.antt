@@ -11,7 +11,7 @@ use Rattle.tc_files.specs.declared.fault.FileFault.{FileFault}
 use Rattle.tc_files.specs.declared.interval_file.header.FileVersion.{FileVersion}
 use Rattle.tc_files.specs.declared.interval_file.header.FileVersion.TheVariants.{One, Two}
 use Rattle.tc_files.specs.Piece.{interval_in, piece_width, spelling}
-use Rattle.tc_files.specs.Recording.{Decoding, IsBetween, with_byte, with_number}
+use Rattle.tc_files.specs.Decoding.{Decoding, IsBetween, with_byte, with_number}
 use Rattle.tc_files.proofs.WholeNumbers.{whole_number}
 
 -- bytes that are read as an interval, all of them

@@ -20,10 +20,12 @@ use Rattle.tc_files.specs.declared.interval_file.header.IntervalHeader.{Interval
 use Rattle.tc_files.specs.Grammar.{InRange, IsFaulty, IsRestFault}
 use Rattle.tc_files.specs.IntervalFile.{end}
 use Rattle.tc_files.specs.Piece.{interval_in, least_in, number_in, piece_width}
-use Rattle.tc_files.specs.Recording.{Decoding, Recording, decoding_of, end_fault_of, fault_at_end, no_decoding, recording_of, with_byte, with_number}
-use Rattle.tc_files.specs.Recording.{with_taken}
+use Rattle.tc_files.specs.Decoding.{Decoding, decoding_of, decoded_end, fault_at_end, no_decoding, decoded, with_byte}
+use Rattle.tc_files.specs.Decoding.{with_number}
+use Rattle.tc_files.specs.Recording.{Recording}
+use Rattle.tc_files.specs.Decoding.{with_taken}
 use Rattle.tc_files.specs.Verdict.{good, refused, past_limit}
-use Rattle.tc_files.specs.WithinLimit.{shown, whole_in, within_limit}
+use Rattle.tc_files.specs.Recording.{shown, whole_in, within_limit}
 use Rattle.tc_files.proofs.FileReadBack.{IsGood, file_good, past, plain, so_far, within}
 use Rattle.tc_files.proofs.InTheHeader.{IsOver, stays}
 use Rattle.tc_files.proofs.WholeNumbers.{adds, at, is_between, whole_number}
@@ -76,7 +78,8 @@ wrong_interval version place rest wrong =
     wrong (leb-true (least_in version rest) (number_in version rest) parts.0, leb-true (number_in version rest) MAX_INTERVAL parts.1)) in
     rw not_both refl
 
-interval_fails : (d : Decoding) (header : IntervalHeader) (intervals : List ℕ) (place : ℕ) (rest : List ℕ) → IsGood d header intervals place
+pub interval_fails : (d : Decoding) (header : IntervalHeader) (intervals : List ℕ) (place : ℕ) (rest : List ℕ)
+    → IsGood d header intervals place
     → piece_width header.version rest ≤ length rest → ¬ InRange header.version rest
     → IsRead (fold with_byte d rest) (within_limit header intervals (length intervals + 1) (refused (fault.Interval place))) (fault.Interval place)
 interval_fails d header intervals place rest is whole wrong =
@@ -138,7 +141,8 @@ ends_open : (taken : ℕ) (version : FileVersion) (system : Option System) (part
     → fault_at_end (end (at taken version system part r).progress) ≡ Some (fault.Truncated taken)
 ends_open taken version system part r late some = rw (le-leb 12 taken late, ne_eqb (length part) 0 (λ e. omega (arith, some, e))) refl
 
-cut_off : (d : Decoding) (header : IntervalHeader) (intervals : List ℕ) (place : ℕ) (rest : List ℕ) → IsGood d header intervals place
+pub cut_off : (d : Decoding) (header : IntervalHeader) (intervals : List ℕ) (place : ℕ) (rest : List ℕ)
+    → IsGood d header intervals place
     → 0 < length rest → length rest < piece_width header.version rest
     → IsRead (fold with_byte d rest) (so_far header intervals) (fault.Truncated (place + length rest))
 cut_off d header intervals place rest is some short =
@@ -183,7 +187,8 @@ rest_read d header intervals place rest (fault.Run at_byte) is fails = absurd fa
 rest_read d header intervals place rest (fault.Sound f) is fails = absurd fails
 
 pub rest_fault_read : (bytes : List ℕ) (header : IntervalHeader) (intervals : List ℕ) (first : FileFault) → IsFaulty bytes header intervals first
-    → (recording_of bytes ≡ within_limit header intervals (length intervals + whole_in first) (shown first)) × (end_fault_of bytes ≡ Some first)
+    → (decoded bytes ≡ within_limit header intervals (length intervals + whole_in first) (shown first))
+    × (decoded_end bytes ≡ Some first)
 rest_fault_read bytes header intervals first is =
     let front = decoding_of is.front in
     let all : decoding_of bytes ≡ fold with_byte front is.rest = ap decoding_of is.are ∙ fold-append with_byte no_decoding is.front is.rest in

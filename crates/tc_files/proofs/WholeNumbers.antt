@@ -15,7 +15,8 @@ use Rattle.tc_files.specs.declared.interval_file.header.FileVersion.TheVariants.
 use Rattle.tc_files.specs.IntervalFile.{after, answer, interval_answer, fault_in}
 use Rattle.tc_files.specs.Piece.{interval_in, piece_width}
 use Rattle.tc_files.specs.Progress.{Progress}
-use Rattle.tc_files.specs.Recording.{Recording, Decoding, IsBetween, with_byte, with_number, with_taken}
+use Rattle.tc_files.specs.Decoding.{Decoding, IsBetween, with_byte, with_number, with_taken}
+use Rattle.tc_files.specs.Recording.{Recording}
 use Rattle.tc_files.specs.Verdict.{Verdict, good, refused, past_limit}
 
 -- so many bytes without a fault, with this part of an interval

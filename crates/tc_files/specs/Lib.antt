@@ -1,3 +1,5 @@
+pub mod Contents
+pub mod Decoding
 pub mod Fault
 pub mod FrameTexts
 pub mod Grammar
@@ -10,4 +12,3 @@ pub mod Progress
 pub mod Recording
 pub mod Texts
 pub mod Verdict
-pub mod WithinLimit

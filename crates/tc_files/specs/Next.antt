@@ -6,7 +6,7 @@ use Rattle.tc_files.specs.declared.interval_file.header.FileVersion.{FileVersion
 use Rattle.tc_files.specs.declared.interval_file.piece.Next.{Next}
 use Rattle.tc_files.specs.declared.interval_file.piece.Next.TheVariants.{Short, Interval, Fault}
 use Rattle.tc_files.specs.Piece.{AreWhole, interval_in, piece_width}
-use Rattle.tc_files.specs.Recording.{Decoding, IsBetween, with_byte, with_number}
+use Rattle.tc_files.specs.Decoding.{Decoding, IsBetween, with_byte, with_number}
 
 -- an interval of so many bytes, or its fault
 abbrev pub next_with : ℕ → Result ℕ FileFault → Next

@@ -1,13 +1,12 @@
--- What the bytes of an interval file say of its recording, as far as they go.
-use Rattle.std.specs.Prelude.{◌≡◌, ℕ, ◌+◌, ◌*◌, ◌≤◌, List, [], ◌∷◌, ◌++◌, length, Option, Some, None, Result, Ok, Err, nat_lt, fold, if◌then◌else◌}
+-- What bytes say of a recording, as far as they go, to a command that takes so many intervals at most: the limit is the
+-- command's, and no matter of the grammar.
+use Rattle.std.specs.Prelude.{ℕ, ◌+◌, List, [], length, take, Option, Some, None, nat_le, if◌then◌else◌}
 use Rattle.direction_reader.specs.declared.reader.TheConstants.{MAX_INTERVALS}
 use Rattle.tc_files.specs.declared.fault.FileFault.{FileFault}
-use Rattle.tc_files.specs.declared.interval_file.decoder.Taken.{Taken}
-use Rattle.tc_files.specs.declared.interval_file.decoder.Taken.TheVariants.{Nothing, Header, Interval, Fault}
+use Rattle.tc_files.specs.declared.fault.FileFault.TheVariants.{Interval, Truncated}
 use Rattle.tc_files.specs.declared.interval_file.header.IntervalHeader.{IntervalHeader}
-use Rattle.tc_files.specs.declared.interval_file.header.TheConstants.{HEADER_LENGTH}
-use Rattle.tc_files.specs.IntervalFile.{no_progress, answer, after, end}
-use Rattle.tc_files.specs.Progress.{Progress}
+use Rattle.tc_files.specs.Contents.{contents_of}
+use Rattle.tc_files.specs.Grammar.{Contents, file, no_header, faulty, fault_of}
 use Rattle.tc_files.specs.Verdict.{Verdict, good, refused, past_limit}
 
 -- the header where it is whole, the whole intervals before a fault and within the limit, and whether
@@ -17,90 +16,34 @@ pub record Recording : Type 0 where
   pub intervals : List ℕ
   pub verdict : Verdict
 
--- of no bytes
-abbrev pub no_recording : Recording
-no_recording = record { header = None; intervals = []; verdict = good }
+-- the verdict on bytes with this first fault, whatever follows them: what is cut off may go on
+abbrev pub shown : FileFault → Verdict
+shown (Truncated end) = good
+shown fault = refused fault
 
--- the header comes once
-abbrev pub with_header : Option IntervalHeader → IntervalHeader → Option IntervalHeader
-with_header None header = Some header
-with_header (Some first) header = Some first
+-- how many whole intervals a fault is: one that is out of range
+abbrev pub whole_in : FileFault → ℕ
+whole_in (Interval first) = 1
+whole_in fault = 0
 
--- with one item more. An interval past the limit is not looked at, so its fault is none
-abbrev pub with_item : Recording → Taken → Recording
-with_item r Nothing = r
-with_item r (Header header) = record r { header = with_header r.header header }
-with_item r (Interval x) =
-    if nat_lt (length r.intervals) MAX_INTERVALS then record r { intervals = r.intervals ++ x ∷ [] } else record r { verdict = past_limit }
-with_item r (Fault first) = record r { verdict = if nat_lt (length r.intervals) MAX_INTERVALS then refused first else past_limit }
+-- of so many whole intervals, those within the limit are read, and one more is past it, whatever its length is
+abbrev pub within_limit : IntervalHeader → List ℕ → ℕ → Verdict → Recording
+within_limit header intervals whole verdict = record {
+  header = Some header;
+  intervals = take MAX_INTERVALS intervals;
+  verdict = if nat_le whole MAX_INTERVALS then verdict else past_limit;
+}
 
--- behind a fault or the limit nothing is looked at
-abbrev pub with_taken : Recording → Taken → Recording
-with_taken r taken = elim r.verdict [
-  | good ↦ with_item r taken
-  | refused fault ↦ r
-  | past_limit ↦ r
-]
+-- what is read of a text
+abbrev pub read_of : Contents → Recording
+read_of (file header intervals) = within_limit header intervals (length intervals) good
+read_of (no_header fault) = record { header = None; intervals = []; verdict = shown fault }
+read_of (faulty header intervals fault) = within_limit header intervals (length intervals + whole_in fault) (shown fault)
 
--- how far bytes have come, and what they say
-pub record Decoding : Type 0 where
-  pub progress : Progress
-  pub recording : Recording
-
-abbrev pub no_decoding : Decoding
-no_decoding = record { progress = no_progress; recording = no_recording }
-
--- with one byte more
-abbrev pub with_byte : Decoding → ℕ → Decoding
-with_byte d byte = record { progress = after d.progress byte; recording = with_taken d.recording (answer d.progress byte) }
-
-abbrev pub decoding_of : List ℕ → Decoding
-decoding_of bytes = fold with_byte no_decoding bytes
-
-abbrev pub recording_of : List ℕ → Recording
-recording_of bytes = (decoding_of bytes).recording
-
--- the fault in the answer at the end of the input
-abbrev pub fault_at_end : Result Unit FileFault → Option FileFault
-fault_at_end (Ok _) = None
-fault_at_end (Err fault) = Some fault
+-- what is read of bytes
+unfoldable pub recording_of : List ℕ → Recording
+recording_of bytes = read_of (contents_of bytes)
 
 -- the fault of bytes after which the input may not end
-abbrev pub end_fault_of : List ℕ → Option FileFault
-end_fault_of bytes = fault_at_end (end (decoding_of bytes).progress)
-
--- ---- by the number of the bytes
-
--- more bytes than a file within the limit may have, with a part of one more interval: an interval has six bytes at most
-abbrev pub too_many_bytes : ℕ
-too_many_bytes = HEADER_LENGTH + 6 * MAX_INTERVALS + 6
-
--- so many intervals account for the bytes that were taken
-abbrev pub FitsBytes : Progress → ℕ → Type 0
-FitsBytes p count = p.taken ≤ HEADER_LENGTH + 6 * count + length p.part
-
--- how many intervals an item is, one out of range among them
-abbrev pub interval_count : Taken → ℕ
-interval_count Nothing = 0
-interval_count (Header header) = 0
-interval_count (Interval x) = 1
-interval_count (Fault first) = 1
-
--- ---- whole intervals
-
--- the bytes so far end between two intervals
-pub record IsBetween (p : Progress) : Type 0 where
-  pub no_fault : p.fault ≡ None
-  pub header : HEADER_LENGTH ≤ p.taken
-  pub no_part : p.part ≡ []
-
--- with the bytes of an interval more, so many
-abbrev pub with_number : Decoding → ℕ → Result ℕ FileFault → Decoding
-with_number d width (Ok x) = record {
-  progress = record d.progress { taken = d.progress.taken + width };
-  recording = with_taken d.recording (Interval x);
-}
-with_number d width (Err fault) = record {
-  progress = record d.progress { taken = d.progress.taken + width; fault = Some fault };
-  recording = with_taken d.recording (Fault fault);
-}
+unfoldable pub end_fault_of : List ℕ → Option FileFault
+end_fault_of bytes = fault_of (contents_of bytes)

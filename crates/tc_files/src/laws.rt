@@ -3,10 +3,11 @@
 ghost use Rattle.std.specs.Prelude.{◌≡◌, ◌≤◌, ℕ, List, [], ◌∷◌, length, Some, None, codes};
 ghost use Rattle.direction_reader.specs.declared.reader.TheConstants.{MAX_INTERVALS};
 ghost use Rattle.tc_files.specs.declared.interval_file.header.IntervalHeader.{IntervalHeader};
+ghost use Rattle.tc_files.specs.Contents.{contents_of};
+ghost use Rattle.tc_files.specs.Decoding.{ReadsWhatIsSaid};
 ghost use Rattle.tc_files.specs.Grammar.{AreBytes, Contents, IsFile, Says, fault_of};
-ghost use Rattle.tc_files.specs.Recording.{end_fault_of, recording_of};
+ghost use Rattle.tc_files.specs.Recording.{end_fault_of, read_of, recording_of};
 ghost use Rattle.tc_files.specs.Verdict.{good};
-ghost use Rattle.tc_files.specs.WithinLimit.{read_of};
 ghost use Rattle.tc_files.specs.declared.interval_file.header.TheConstants as header;
 ghost use Rattle.tc_files.specs.declared.interval_file.piece.TheConstants as piece;
 ghost use Rattle.tc_files.specs.declared.names.TheConstants as names;
@@ -38,21 +39,27 @@ pub fn each_fault_has_its_name()
     ensures truncated { names.TRUNCATED_NAME.now ≡ codes "truncated" }
 {}
 
-/// Every list of bytes says one thing, and one alone: it is a file, of one header and one list of
-/// intervals; or it has one first fault, before the header is whole, or behind a header and intervals.
+/// Every list of bytes says one thing, and one alone, which is what is read from its front: it is a
+/// file, of one header and one list of intervals; or it has one first fault, before the header is
+/// whole, or behind a header and intervals.
 pub fn each_list_of_bytes_says_one_thing()
-    ensures some { (bytes : List ℕ) → AreBytes bytes → (contents : Contents) × Says contents bytes }
+    ensures some { (bytes : List ℕ) → AreBytes bytes → Says (contents_of bytes) bytes }
     ensures one { (bytes : List ℕ) (a b : Contents) → Says a bytes → Says b bytes → a ≡ b }
 {}
 
-/// What the decoder's steps make of bytes is what the text says: its header, its intervals within the
-/// limit and its first fault. The fault at the end is the first fault of the whole text. So an input
-/// that a command takes whole is a file within the limit.
+/// What is read of bytes is what the text says: its header, its intervals within the limit and its
+/// first fault. The fault at the end is the first fault of the whole text. So an input that a command
+/// takes whole is a file within the limit.
 pub fn bytes_are_read_as_the_text_says()
     ensures recording { (bytes : List ℕ) (contents : Contents) → Says contents bytes → recording_of bytes ≡ read_of contents }
     ensures fault { (bytes : List ℕ) (contents : Contents) → Says contents bytes → end_fault_of bytes ≡ fault_of contents }
     ensures input { (bytes : List ℕ) → AreBytes bytes → (recording_of bytes).verdict ≡ good → end_fault_of bytes ≡ None
         → (header : IntervalHeader) × (intervals : List ℕ) × IsFile bytes header intervals × (length intervals ≤ MAX_INTERVALS) }
+{}
+
+/// The decoder's steps make of bytes what is read of them, and it ends with their fault.
+pub fn the_decoder_reads_what_is_said()
+    ensures { ReadsWhatIsSaid }
 {}
 
 /// The file of a recording is read as its header and its intervals, and the input may end there. So

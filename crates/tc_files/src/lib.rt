@@ -9,11 +9,12 @@
 //!   yet, or the first fault with its byte place (`specs/IntervalFile.antt`, `answer` and `after`;
 //!   `CompletesAt` says at which places). `next_interval` takes the bytes of an interval at once, and
 //!   answers what the bytes one by one would (`specs/Next.antt`).
-//! - What the bytes of a file say so far is one value: the header, the intervals, and whether they
-//!   are good, refused or past the limit (`specs/Recording.antt`, `recording_of`).
-//! - As a whole text, every list of bytes is a file or has one first fault (`specs/Grammar.antt`,
-//!   `Says`), and this is what the steps read, within the limit of a command
-//!   (`specs/WithinLimit.antt`, `read_of`; `laws`). Each single answer is what the byte, the bytes or
+//! - What the bytes of a file say, read from their front, is one value: a file, or its first fault
+//!   (`specs/Contents.antt`, `contents_of`); and within the limit of a command the header, the
+//!   intervals, and whether they are good, refused or past the limit (`specs/Recording.antt`,
+//!   `recording_of`). The decoder reads this, byte after byte (`specs/Decoding.antt`; `laws`).
+//! - As a whole text, every list of bytes is a file or has one first fault, which is what is read of
+//!   it (`specs/Grammar.antt`, `Says`; `laws`). Each single answer is what the byte, the bytes or
 //!   the end of the input bring to this text (`specs/NextByte.antt`, clauses `text`).
 //! - `event_text` and `read_end_text` give their lines byte for byte (`specs/Texts.antt`), and
 //!   `interval_header` the twelve bytes of a header.

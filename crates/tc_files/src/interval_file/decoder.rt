@@ -24,7 +24,7 @@ ghost use Rattle.tc_files.specs.IntervalHeader.{system_at, version_at};
 ghost use Rattle.tc_files.specs.NextByte.{Brings, end_of_text};
 ghost use Rattle.tc_files.specs.Piece.{AreWhole, interval_in};
 ghost use Rattle.tc_files.specs.Progress.{IsBoundary, IsProgress, IsWholeAt};
-ghost use Rattle.tc_files.specs.Recording.{FitsBytes, IsBetween, interval_count};
+ghost use Rattle.tc_files.specs.Decoding.{FitsBytes, IsBetween, interval_count};
 
 use crate::fault::FileFault;
 use crate::interval_file::header::{

@@ -6,7 +6,7 @@ ghost use Rattle.tc_files.specs.Grammar.{IsFile};
 ghost use Rattle.tc_files.specs.Next.{IsNext, next_of};
 ghost use Rattle.tc_files.specs.NextByte.{BringNext};
 ghost use Rattle.tc_files.specs.declared.interval_file.header.IntervalHeader.{IntervalHeader};
-ghost use Rattle.tc_files.specs.Recording.{Decoding, IsBetween, with_byte, with_number};
+ghost use Rattle.tc_files.specs.Decoding.{Decoding, IsBetween, with_byte, with_number};
 
 use crate::fault::FileFault;
 use crate::interval_file::header::FileVersion;

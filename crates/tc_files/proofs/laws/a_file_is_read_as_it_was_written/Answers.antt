@@ -1,5 +1,5 @@
 use Rattle.std.proofs.Common.{◌∙◌, sym}
-use Rattle.tc_files.proofs.FileReadBack.{file_read}
+use Rattle.tc_files.proofs.DecoderReads.{file_read}
 use Rattle.tc_files.proofs.OneText.{one_recording}
 use Rattle.tc_files.proofs.laws.a_file_is_read_as_it_was_written.Goals as goal
 

@@ -13,7 +13,8 @@ returns-in-Nothing-clause-works g c = λ front written stands.
       [],
       Appends-nil _,
       rw c.byte.ensures.next (nothing_more g.B.Behind.stands s.decoder _ s.behind s.intervals s.choice front (c.args.byte ∷ []) written stands
-          (by_byte s.decoder front c.args.byte _ stands.progress c.in-Nothing.ensures.answers)),
+          (by_byte c.the_decoder_reads_what_is_said.ensures s.decoder front c.args.byte _ stands.progress
+          c.in-Nothing.ensures.answers)),
     )
 
 -- the output of the header was not taken
@@ -25,7 +26,8 @@ returns-in_err-begin-in-Header-clause-stops g c =
     through c.from_residual.result c.from_residual.ensures.1 (λ stop same front written rest stands.
     rw (same, f.0) (a_header_fault g.B.Behind.printing g.B.Behind.stands s.decoder _ s.behind s.intervals s.choice c.in-Header.header
     _ _ front (c.args.byte ∷ []) rest written f.1.0 c.requires.header twelve.0 stands
-    (by_byte s.decoder front c.args.byte _ stands.progress c.in-Header.ensures.answers) f.1.1 f.1.2))
+    (by_byte c.the_decoder_reads_what_is_said.ensures s.decoder front c.args.byte _ stands.progress
+    c.in-Header.ensures.answers) f.1.1 f.1.2))
 
 -- the byte completes an interval
 pub returns-in-Interval-clause-works : goal.returns-in-Interval-clause-works
@@ -39,7 +41,8 @@ returns-in-Interval-clause-works g c =
       rw (c.interval.ensures.decoder, c.interval.ensures.choice, c.byte.ensures.next)
           (an_interval g.B.Behind.stands s.decoder (after s.decoder c.args.byte) s.behind c.interval.new.self.behind s.intervals c.interval.new.self.intervals
           s.choice c.in-Interval.x front (c.args.byte ∷ []) written (written ++ w.0) stands
-          (by_byte s.decoder front c.args.byte _ stands.progress c.in-Interval.ensures.answers) h.0.0 h.0.1
+          (by_byte c.the_decoder_reads_what_is_said.ensures s.decoder front c.args.byte _ stands.progress
+          c.in-Interval.ensures.answers) h.0.0 h.0.1
           (rw c.interval.ensures.choice at w.2)),
     ))
 
@@ -49,9 +52,11 @@ returns-in-Interval-clause-stops g c =
     let s = c.args.self.now in
     let late = rw c.requires.good at c.in-Interval.ensures.completes in
     if_err c.interval.result c.interval.ensures.stops (λ stop why front written rest stands.
-    interval_stops g.B.Behind.printing g.B.Behind.stands s.decoder _ s.behind c.interval.new.self.behind s.intervals s.choice
+    interval_stops c.the_decoder_reads_what_is_said.ensures g.B.Behind.printing g.B.Behind.stands
+    s.decoder _ s.behind c.interval.new.self.behind s.intervals s.choice
     c.in-Interval.x _ _ front (c.args.byte ∷ []) rest written stop c.requires.header (omega (arith, late.0)) stands
-    (by_byte s.decoder front c.args.byte _ stands.progress c.in-Interval.ensures.answers) why.0 why.1)
+    (by_byte c.the_decoder_reads_what_is_said.ensures s.decoder front c.args.byte _ stands.progress
+    c.in-Interval.ensures.answers) why.0 why.1)
 
 -- the byte completes a fault
 pub returns-in-Fault-clause-stops : goal.returns-in-Fault-clause-stops
@@ -59,6 +64,9 @@ returns-in-Fault-clause-stops g c = λ front written rest stands.
     let s = c.args.self.now in (
       [],
       Appends-nil _,
-      rw c.stop_at.ensures (a_fault (g.B.Behind.printing s.choice) g.B.Behind.stands s.decoder _ s.behind s.intervals s.choice c.in-Fault.fault
-          front (c.args.byte ∷ []) rest written stands (by_byte s.decoder front c.args.byte _ stands.progress c.in-Fault.ensures.answers)),
+      rw c.stop_at.ensures (a_fault c.the_decoder_reads_what_is_said.ensures (g.B.Behind.printing s.choice)
+          g.B.Behind.stands s.decoder _ s.behind s.intervals s.choice c.in-Fault.fault
+          front (c.args.byte ∷ []) rest written stands
+          (by_byte c.the_decoder_reads_what_is_said.ensures s.decoder front c.args.byte _ stands.progress
+          c.in-Fault.ensures.answers)),
     )

@@ -2,7 +2,8 @@ use Rattle.std.proofs.Common.{refl, ◌≡◌, ◌+◌, ◌-◌, ◌++◌, ◌�
 use Rattle.std.proofs.KnownBytes.{Appends-nil}
 use Rattle.direction_reader.specs.declared.reader.TheConstants.{MAX_INTERVALS}
 use Rattle.tc_files.specs.Progress.{Progress}
-use Rattle.tc_files.specs.Recording.{recording_of, decoding_of}
+use Rattle.tc_files.specs.Decoding.{decoding_of}
+use Rattle.tc_files.specs.Recording.{recording_of}
 use Rattle.tc_command.specs.declared.stop.Stop.TheVariants.{Refused, WriteFault}
 use Rattle.interval_commands.specs.Along.{along_intervals}
 use Rattle.tc_command.specs.Stops.{IsStop, Stops}
@@ -44,7 +45,8 @@ returns-in_err-interval-in-Interval-clause-stops g c =
     old mid new (take at bytes) (take width window ++ rest) i.works
     (λ f w then. a_write_fault g.B.Behind.printing g.B.Behind.stands virtual _ c.run.behind c.run.intervals s.choice c.in-Interval.ticks
     mid new f (take width window) rest w then
-    (by_number virtual f (take width window) width c.in-Interval.ticks then.progress
+    (by_number c.the_decoder_reads_what_is_said.ensures virtual f
+    (take width window) width c.in-Interval.ticks then.progress
     (makes.5 (decoding_of f) (rw (← then.progress) between) (rw (← then.progress) c.requires.version) (rw (← then.progress, c.taken-first.ensures) refl)))
     (behind_stops g.B.Behind.printing g.B.Behind.stands c.run.behind c.run.intervals s.choice c.in-Interval.ticks mid new room (fault.1 s.choice)))
     front written stands)))
@@ -79,8 +81,10 @@ returns-in-Fault-clause-stops g c = λ front written stands.
     (λ f w then. (
       [],
       Appends-nil _,
-      a_refusal p g.B.Behind.stands virtual _ (Some c.run.behind) c.run.intervals s.choice c.in-Fault.fault f (take width window) rest w room then
-          (by_bad_number virtual f (take width window) width c.in-Fault.fault then.progress
+      a_refusal c.the_decoder_reads_what_is_said.ensures p g.B.Behind.stands virtual _
+          (Some c.run.behind) c.run.intervals s.choice c.in-Fault.fault f (take width window) rest w room then
+          (by_bad_number c.the_decoder_reads_what_is_said.ensures virtual f
+          (take width window) width c.in-Fault.fault then.progress
           (makes.2 (decoding_of f) (rw (← then.progress) between) (rw (← then.progress) c.requires.version)
           (rw (← then.progress, c.taken-first.ensures) refl))),
     ))
@@ -132,7 +136,8 @@ run-preserved g c =
                 (f ++ take width window) (w ++ more.0)) sum
                 (an_interval g.B.Behind.stands virtual (record virtual { taken = virtual.taken + width }) (Some c.run.behind) (Some c.interval.new.self)
                 count (count + 1) s.choice c.in-Interval.ticks f (take width window) w (w ++ more.0) then
-                (by_number virtual f (take width window) width c.in-Interval.ticks then.progress
+                (by_number c.the_decoder_reads_what_is_said.ensures virtual f
+                (take width window) width c.in-Interval.ticks then.progress
                 (makes.5 (decoding_of f) (rw (← then.progress) between) (rw (← then.progress) c.requires.version)
                 (rw (← then.progress, c.taken-first.ensures) refl)))
                 room refl (header, then.printed.1, more.2)),

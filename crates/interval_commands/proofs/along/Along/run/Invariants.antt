@@ -2,7 +2,7 @@ use Rattle.std.proofs.Common.{◌≡◌, ◌+◌, ◌-◌, ◌≤◌, take, leng
 use Rattle.std.specs.Prelude.{Some}
 use Rattle.direction_reader.specs.declared.reader.TheConstants.{MAX_INTERVALS}
 use Rattle.tc_files.specs.Piece.{AreWhole}
-use Rattle.tc_files.specs.Recording.{FitsBytes}
+use Rattle.tc_files.specs.Decoding.{FitsBytes}
 use Rattle.interval_commands.specs.KeptAlong.{FitsBehind, Stands}
 use Rattle.tc_command.specs.KeptWorks.{Works}
 use Rattle.interval_commands.proofs.along.Along.run.Given as goal

@@ -4,7 +4,8 @@ use Rattle.std.proofs.KnownBytes.{Appends-nil}
 use Rattle.tc_files.specs.declared.interval_file.header.IntervalHeader.{IntervalHeader}
 use Rattle.tc_files.specs.IntervalFile.{end}
 use Rattle.tc_files.specs.Progress.{Progress}
-use Rattle.tc_files.specs.Recording.{fault_at_end, recording_of}
+use Rattle.tc_files.specs.Decoding.{fault_at_end}
+use Rattle.tc_files.specs.Recording.{recording_of}
 use Rattle.interval_commands.specs.Along.{IsWholeBehind}
 use Rattle.interval_commands.specs.KeptAlong.{Printed, printed_well}
 use Rattle.tc_command.specs.KeptWorks.{if_err}
@@ -18,7 +19,9 @@ returns-in-Err-clause-stops g c = λ bytes written stands.
       Appends-nil _,
       (
         record { is = stands.stands.good; unspent = stands.unspent },
-        subst (λ (p : Progress). fault_at_end (end p) ≡ Some c.in-Err.fault) stands.stands.progress (ap fault_at_end (sym c.in-Err.ensures.answers)),
+        sym (c.the_decoder_reads_what_is_said.ensures.fault bytes)
+            ∙ subst (λ (p : Progress). fault_at_end (end p) ≡ Some c.in-Err.fault) stands.stands.progress
+            (ap fault_at_end (sym c.in-Err.ensures.answers)),
         rw (append-nil written) (printed_well g.B.Behind.printing g.B.Behind.stands g.B.Behind.is_settled g.B.Behind.stands_well s.behind s.choice
             (recording_of bytes) written c.requires.settled stands.stands.printed),
       ),
@@ -33,7 +36,9 @@ returns-clause-stops g c =
     let p = subst (λ (b : Option _). Printed g.B.Behind.stands b s.choice r written) c.in-Some.is stands.stands.printed in
     let last = h.1 s.choice p.0 r.intervals written p.2 in
     let f = last.2 in
-    let ends = subst (λ (p : Progress). fault_at_end (end p) ≡ None) stands.stands.progress (ap fault_at_end (sym c.in_default.ensures.answers)) in
+    let ends = sym (c.the_decoder_reads_what_is_said.ensures.fault bytes)
+    ∙ subst (λ (p : Progress). fault_at_end (end p) ≡ None) stands.stands.progress
+    (ap fault_at_end (sym c.in_default.ensures.answers)) in
     let whole = subst (λ (o : Option IntervalHeader). IsWholeBehind (g.B.Behind.printing s.choice) o r.intervals (written ++ last.0)) (sym p.1) last.1 in
     let e : written ++ last.0 ≡ (written ++ f.0) ++ f.1.0 = ap (λ (l : List ℕ). written ++ l) f.1.1 ∙ sym (append_assoc written f.0 f.1.0) in
     (f.0, f.2, rw h.0 (record { verdict = stands.stands.good; unspent = stands.unspent; end = ends }, (written ++ last.0, whole, (f.1.0, e)))))

@@ -1,9 +1,12 @@
--- Each list of bytes is a file or has a fault: one looks at the first eight bytes, at the tick rate, and at one interval after another, up to the first
--- that fails.
-use Rattle.std.proofs.Common.{◌≡◌, ◌⊎◌, inl, inr, ℕ, zero, suc, ◌+◌, ◌/◌, ◌%◌, ◌<◌, ◌≤◌, List, [], ◌∷◌, ◌++◌, length, take, drop, slice_index, refl}
-use Rattle.std.proofs.Common.{sym, ◌∙◌, ap, ap₂, subst, arith, Bool, true, false, append_assoc, append-nil}
-use Rattle.std.specs.Prelude.{◌==◌, is_some, if◌then◌else◌}
-use Rattle.std.proofs.lemmas.Bool.{cases_Bool, cases_eq, cases_lt, eqb-true, false≢true, le-ltb, lt-ltb, ne_eqb}
+-- What is read from the front of bytes: the fault of their first eight or of the tick rate, or a header, and what
+-- stands behind it. And the bytes of an interval in range are those that a recorder writes for it.
+use Rattle.std.proofs.Common.{◌≡◌, ◌⊎◌, inl, inr, ℕ, zero, suc, ◌+◌, ◌/◌, ◌%◌, ◌<◌, ◌≤◌, List, [], ◌∷◌, ◌++◌, length}
+use Rattle.std.proofs.Common.{take, drop, slice_index, Some, None, refl}
+use Rattle.std.proofs.Common.{sym, ◌∙◌, ap, ap₂, subst, arith, Bool, true, false}
+use Rattle.std.specs.Prelude.{◌==◌, ◌&&◌, is_some, nat_le, if◌then◌else◌}
+use Rattle.std.specs.declared.option.Option.{Option}
+use Rattle.std.proofs.lemmas.Bool.{cases_Bool, cases_eq, cases_lt, eqb-true, false≢true, le-leb, le-ltb, lt-leb, lt-ltb}
+use Rattle.std.proofs.lemmas.Bool.{ne_eqb}
 use Rattle.std.proofs.lemmas.List.{drop-drop, get_or-take, length-drop, length-take, length-take-le, take-append-drop, take-take}
 use Rattle.byteorder.specs.Endian.{big_bytes, big_number}
 use Rattle.biphase.specs.declared.cell.TheConstants.{MAX_INTERVAL}
@@ -16,52 +19,75 @@ use Rattle.tc_files.specs.declared.interval_file.header.FileVersion.{FileVersion
 use Rattle.tc_files.specs.declared.interval_file.header.FileVersion.TheVariants.{One, Two}
 use Rattle.tc_files.specs.declared.interval_file.header.IntervalHeader.{IntervalHeader}
 use Rattle.tc_files.specs.declared.interval_file.header.TheConstants.{MAGIC, MAX_TICK_RATE}
-use Rattle.tc_files.specs.Grammar.{AreBytes, AreIntervals, Contents, InRange, IsFirstWrong, IsHeaderFault, IsRestFault, MayStand, Says, faulty, file}
-use Rattle.tc_files.specs.Grammar.{file_of, intervals_bytes, may_stand, no_header}
+use Rattle.tc_files.specs.Contents.{contents_behind, contents_of, fault_at, first_wrong, header_of, header_with}
+use Rattle.tc_files.specs.Grammar.{AreBytes, Contents, InRange, IsFirstWrong, IsHeaderFault, MayStand}
+use Rattle.tc_files.specs.Grammar.{may_stand, no_header}
 use Rattle.tc_files.specs.IntervalHeader.{IsTickRate, header_bytes, system_at, version_at, version_byte}
 use Rattle.tc_files.specs.Piece.{least_in, number_in, piece_width, spelling}
-use Rattle.tc_files.proofs.FrontInterval.{least, widths}
 
 -- ---- the first eight bytes
 
--- all may stand, or one is the first that may not
+-- all may stand, or one is the first that may not, and its fault is read
 abbrev StandOrNot : ℕ → List ℕ → Type 0
 StandOrNot place list =
-    MayStand place list ⊎ ((k : ℕ) × (k < length list) × (may_stand (place + k) (slice_index list k) ≡ false) × MayStand place (take k list))
+    (MayStand place list × (first_wrong place list ≡ None))
+    ⊎ ((k : ℕ) × (k < length list) × (may_stand (place + k) (slice_index list k) ≡ false) × MayStand place (take k list)
+    × (first_wrong place list ≡ Some (fault_at (place + k))))
 
 stand_or_not : (list : List ℕ) (place : ℕ) → StandOrNot place list
-stand_or_not [] place = inl tt
+stand_or_not [] place = inl (tt, refl)
 stand_or_not (byte ∷ more) place = by_test (cases_Bool (may_stand place byte)) (stand_or_not more (place + 1))
   where
+    read_as : (may : Bool) → may_stand place byte ≡ may
+        → first_wrong place (byte ∷ more) ≡ (if may then first_wrong (place + 1) more else Some (fault_at place))
+    read_as may e = ap (λ (b : Bool). if b then first_wrong (place + 1) more else Some (fault_at place)) e
+
     by_rest : may_stand place byte ≡ true → StandOrNot (place + 1) more → StandOrNot place (byte ∷ more)
-    by_rest may (inl all) = inl (may, all)
+    by_rest may (inl all) = inl ((may, all.0), read_as true may ∙ all.1)
     by_rest may (inr found) =
         let k = found.0 in
         let below = found.1 in
         let there : place + 1 + k ≡ place + suc k = omega arith in
         let wrong = subst (λ (n : ℕ). may_stand n (slice_index more k) ≡ false) there found.2 in
-        inr (suc k, omega (arith, below), wrong, (may, found.3))
+        let first = read_as true may ∙ found.4 ∙ ap (λ (n : ℕ). Some (fault_at n)) there in
+        inr (suc k, omega (arith, below), wrong, (may, found.3), first)
 
     by_test : (may_stand place byte ≡ true) ⊎ (may_stand place byte ≡ false) → StandOrNot (place + 1) more → StandOrNot place (byte ∷ more)
     by_test (inl may) rest = by_rest may rest
     by_test (inr wrong) rest =
         let here : place ≡ place + 0 = omega arith in
-        inr (0, omega arith, subst (λ (n : ℕ). may_stand n byte ≡ false) here wrong, tt)
+        inr (
+          0,
+          omega arith,
+          subst (λ (n : ℕ). may_stand n byte ≡ false) here wrong,
+          tt,
+          read_as false wrong ∙ ap (λ (n : ℕ). Some (fault_at n)) here,
+        )
 
 -- the fault of the first that may not
-wrong_place : (bytes : List ℕ) (place : ℕ) → place < 8 → IsFirstWrong place bytes → (first : FileFault) × IsHeaderFault first bytes
+wrong_place : (bytes : List ℕ) (place : ℕ) → place < 8 → IsFirstWrong place bytes
+    → (first : FileFault) × IsHeaderFault first bytes × (fault_at place ≡ first)
 wrong_place bytes place low is = by_row (cases_lt place 4) (cases_eq place 4) (cases_eq place 5)
   where
-    by_row : (place < 4) ⊎ (4 ≤ place) → (place ≡ 4) ⊎ (place ≡ 4 → ⊥) → (place ≡ 5) ⊎ (place ≡ 5 → ⊥) → (first : FileFault) × IsHeaderFault first bytes
-    by_row (inl magic) four five = (fault.Magic place, (magic, is))
-    by_row (inr more) (inl four) five = (fault.Version place, (four, is))
-    by_row (inr more) (inr not_four) (inl five) = (fault.System place, (five, is))
-    by_row (inr more) (inr not_four) (inr not_five) = (fault.Reserved place, (omega (arith, more, not_four, not_five), low, is))
+    by_row : (place < 4) ⊎ (4 ≤ place) → (place ≡ 4) ⊎ (place ≡ 4 → ⊥) → (place ≡ 5) ⊎ (place ≡ 5 → ⊥)
+        → (first : FileFault) × IsHeaderFault first bytes × (fault_at place ≡ first)
+    by_row (inl magic) four five = (fault.Magic place, (magic, is), rw (lt-ltb place 4 magic) refl)
+    by_row (inr more) (inl four) five = (fault.Version place, (four, is), rw four refl)
+    by_row (inr more) (inr not_four) (inl five) = (fault.System place, (five, is), rw five refl)
+    by_row (inr more) (inr not_four) (inr not_five) = (
+      fault.Reserved place,
+      (omega (arith, more, not_four, not_five), low, is),
+      rw (le-ltb place 4 more, ne_eqb place 4 not_four, ne_eqb place 5 not_five) refl,
+    )
 
-head_or_fault : (bytes : List ℕ) → MayStand 0 (take 8 bytes) ⊎ ((first : FileFault) × IsHeaderFault first bytes)
+abbrev HeadOrFault : List ℕ → Type 0
+HeadOrFault bytes = (MayStand 0 (take 8 bytes) × (first_wrong 0 (take 8 bytes) ≡ None))
+    ⊎ ((first : FileFault) × IsHeaderFault first bytes × (first_wrong 0 (take 8 bytes) ≡ Some first))
+
+head_or_fault : (bytes : List ℕ) → HeadOrFault bytes
 head_or_fault bytes = by_answer (stand_or_not (take 8 bytes) 0)
   where
-    by_answer : StandOrNot 0 (take 8 bytes) → MayStand 0 (take 8 bytes) ⊎ ((first : FileFault) × IsHeaderFault first bytes)
+    by_answer : StandOrNot 0 (take 8 bytes) → HeadOrFault bytes
     by_answer (inl may) = inl may
     by_answer (inr found) =
         let k = found.0 in
@@ -73,7 +99,10 @@ head_or_fault bytes = by_answer (stand_or_not (take 8 bytes) 0)
         let tested = subst (λ (n : ℕ). may_stand n (slice_index (take 8 bytes) k) ≡ false) here found.2 in
         let wrong : may_stand k (slice_index bytes k) ≡ false = ap (λ (b : ℕ). may_stand k b) (sym byte) ∙ tested in
         let before = subst (λ (l : List ℕ). MayStand 0 l) (take-take k 8 bytes (omega (arith, low))) found.3 in
-        inr (wrong_place bytes k low (record { there = omega (arith, below, long); wrong = wrong; before = before }))
+        let is : IsFirstWrong k bytes = record { there = omega (arith, below, long); wrong = wrong; before = before } in
+        let place = wrong_place bytes k low is in
+        let first = subst (λ (n : ℕ). first_wrong 0 (take 8 bytes) ≡ Some (fault_at n)) here found.4 in
+        inr (place.0, place.1, subst (λ (f : FileFault). first_wrong 0 (take 8 bytes) ≡ Some f) place.2 first)
 
 -- ---- the header
 
@@ -117,7 +146,7 @@ system_says byte says = by_row (cases_eq byte 24) (cases_eq byte 25) (cases_eq b
         absurd (false≢true (sym none ∙ says))
 
 -- eight bytes that may stand
-abbrev head_of : FileVersion → System → List ℕ
+abbrev pub head_of : FileVersion → System → List ℕ
 head_of version system = MAGIC ++ version_byte version ∷ rate_of system ∷ 0 ∷ 0 ∷ []
 
 head_is : (l : List ℕ) → length l ≡ 8 → MayStand 0 l → (version : FileVersion) × (system : System) × (l ≡ head_of version system)
@@ -143,7 +172,7 @@ head_is (a ∷ b ∷ c ∷ e ∷ v ∷ s ∷ y ∷ z ∷ []) long may =
     let same_system = system.1 in
     (version.0, system.0, (cc))
 
-bytes_behind : (n : ℕ) (bytes : List ℕ) → AreBytes bytes → AreBytes (drop n bytes)
+pub bytes_behind : (n : ℕ) (bytes : List ℕ) → AreBytes bytes → AreBytes (drop n bytes)
 bytes_behind zero bytes are = are
 bytes_behind (suc n) [] are = are
 bytes_behind (suc n) (byte ∷ more) are = bytes_behind n more are.1
@@ -157,18 +186,44 @@ rate_is (a ∷ b ∷ c ∷ []) long are = absurd (omega (arith, long))
 rate_is (a ∷ b ∷ c ∷ e ∷ more) long are =
     ap (λ (l : List ℕ). l ++ more) (sym (four_bytes a b c e are.0 are.1.0 are.1.1.0 are.1.1.1.0))
 
--- a header whose pieces may stand
-header_is : (bytes : List ℕ) → AreBytes bytes → 12 ≤ length bytes → MayStand 0 (take 8 bytes) → IsTickRate (big_number 4 (drop 8 bytes))
-    → (header : IntervalHeader) × IsTickRate header.tick_rate × (bytes ≡ header_bytes header ++ drop 12 bytes)
-header_is bytes are long may range =
-    let head = head_is (take 8 bytes) (length-take-le 8 bytes (omega (arith, long))) may in
+version_back : (version : FileVersion) → version_at (version_byte version) ≡ Some version
+version_back One = refl
+version_back Two = refl
+
+system_back : (system : System) → system_at (rate_of system) ≡ Some system
+system_back F24 = refl
+system_back F25 = refl
+system_back F30 = refl
+
+-- bytes that begin with a header
+pub record Begins (header : IntervalHeader) (bytes : List ℕ) : Type 0 where
+  pub long : 12 ≤ length bytes
+  pub head : take 8 bytes ≡ head_of header.version header.system
+  pub rate : big_number 4 (drop 8 bytes) ≡ header.tick_rate
+  pub range : IsTickRate header.tick_rate
+
+pub header_is : (bytes : List ℕ) (header : IntervalHeader) → AreBytes bytes → Begins header bytes
+    → bytes ≡ header_bytes header ++ drop 12 bytes
+header_is bytes header are begins =
+    let long = begins.long in
     let behind = length-drop 8 bytes in
-    let rate = rate_is (drop 8 bytes) (omega (arith, long, behind)) (bytes_behind 8 bytes are) in
+    let rate = rate_is (drop 8 bytes) (omega (arith, long, behind)) (bytes_behind 8 bytes are)
+    ∙ ap (λ (n : ℕ). big_bytes 4 n ++ drop 4 (drop 8 bytes)) begins.rate in
     let four = drop-drop 4 8 bytes in
-    let number = big_number 4 (drop 8 bytes) in
-    let all : bytes ≡ head_of head.0 head.1 ++ (big_bytes 4 number ++ drop 12 bytes) =
-    sym (take-append-drop 8 bytes) ∙ ap₂ (λ (l r : List ℕ). l ++ r) head.2 (rate ∙ ap (λ (l : List ℕ). big_bytes 4 number ++ l) four) in
-    (record { version = head.0; system = head.1; tick_rate = number }, range, all)
+    sym (take-append-drop 8 bytes)
+    ∙ ap₂ (λ (l r : List ℕ). l ++ r) begins.head (rate ∙ ap (λ (l : List ℕ). big_bytes 4 header.tick_rate ++ l) four)
+
+-- the header that is read from them
+header_read : (bytes : List ℕ) (version : FileVersion) (system : System) → take 8 bytes ≡ head_of version system
+    → header_of bytes ≡ header_with (Some version) (Some system) (big_number 4 (drop 8 bytes))
+header_read bytes version system head =
+    let fifth : version_at (slice_index bytes 4) ≡ Some version =
+    ap version_at (sym (get_or-take 8 bytes 4 0 (omega arith)) ∙ ap (λ (l : List ℕ). slice_index l 4) head)
+    ∙ version_back version in
+    let sixth : system_at (slice_index bytes 5) ≡ Some system =
+    ap system_at (sym (get_or-take 8 bytes 5 0 (omega arith)) ∙ ap (λ (l : List ℕ). slice_index l 5) head)
+    ∙ system_back system in
+    ap₂ (λ (v : Option FileVersion) (s : Option System). header_with v s (big_number 4 (drop 8 bytes))) fifth sixth
 
 -- ---- the intervals
 
@@ -227,89 +282,70 @@ in_range_or_not version rest = by_order (cases_lt (number_in version rest) (leas
     by_order (inr low) (inl high) = inr (λ range. let most = range.1 in omega (arith, high, most))
     by_order (inr low) (inr high) = inl (low, high)
 
--- intervals, and then the end or a fault
-abbrev Ends : FileVersion → List ℕ → Type 0
-Ends version rest = (rest ≡ []) ⊎ ((place : ℕ) → (first : FileFault) × IsRestFault version place rest first)
+-- ---- what is read from the front
 
-abbrev IsRead : FileVersion → List ℕ → Type 0
-IsRead version rest =
-    (intervals : List ℕ) × (tail : List ℕ) × AreIntervals intervals × (rest ≡ intervals_bytes version intervals ++ tail) × Ends version tail
+out_of_range : (rate : ℕ) → (nat_le 1 rate && nat_le rate MAX_TICK_RATE) ≡ false → ¬ IsTickRate rate
+out_of_range rate wrong range =
+    let both : (nat_le 1 rate && nat_le rate MAX_TICK_RATE) ≡ true =
+    rw (le-leb 1 rate range.0, le-leb rate MAX_TICK_RATE range.1) refl in
+    false≢true (sym wrong ∙ both)
 
-all_read : (fuel : ℕ) (version : FileVersion) (rest : List ℕ) → length rest ≤ fuel → AreBytes rest → IsRead version rest
-all_read fuel version [] few are = ([], [], tt, refl, inl refl)
-all_read zero version (x ∷ more) few are = absurd (omega (arith, few))
-all_read (suc fuel) version (x ∷ more) few are =
-    by_width (cases_lt (length (x ∷ more)) (piece_width version (x ∷ more))) (in_range_or_not version (x ∷ more)) (all_read fuel version)
-  where
-    by_width : (length (x ∷ more) < piece_width version (x ∷ more)) ⊎ (piece_width version (x ∷ more) ≤ length (x ∷ more))
-        → InRange version (x ∷ more) ⊎ (¬ InRange version (x ∷ more))
-        → ((rest : List ℕ) → length rest ≤ fuel → AreBytes rest → IsRead version rest) → IsRead version (x ∷ more)
-    by_width (inl short) range next =
-        ([], x ∷ more, tt, refl, inr (λ place. (fault.Truncated (place + length (x ∷ more)), (refl, omega arith, short))))
-    by_width (inr whole) (inr wrong) next = ([], x ∷ more, tt, refl, inr (λ place. (fault.Interval place, (refl, whole, wrong))))
-    by_width (inr whole) (inl range) next =
-        let bytes = x ∷ more in
-        let width = piece_width version bytes in
-        let wide = widths version bytes in
-        let two = wide.0 in
-        let left = length-drop width bytes in
-        let rest = next (drop width bytes) (omega (arith, few, two, left)) (bytes_behind width bytes are) in
-        let some = least version bytes in
-        let low = range.0 in
-        let spelled = is_spelled version bytes whole are range in
-        let all : bytes ≡ (spelling version (number_in version bytes) ++ intervals_bytes version rest.0) ++ rest.1 =
-        sym (take-append-drop width bytes) ∙ ap₂ (λ (l r : List ℕ). l ++ r) spelled rest.3
-        ∙ sym (append_assoc (spelling version (number_in version bytes)) (intervals_bytes version rest.0) rest.1) in
-        (number_in version bytes ∷ rest.0, rest.1, (omega (arith, some, low), range.1, rest.2), all, rest.4)
-
--- ---- any list of bytes
-
-abbrev HasAnswer : List ℕ → Type 0
-HasAnswer bytes = (contents : Contents) × Says contents bytes
-
-behind_header : (bytes : List ℕ) (header : IntervalHeader) → IsTickRate header.tick_rate → bytes ≡ header_bytes header ++ drop 12 bytes
-    → IsRead header.version (drop 12 bytes) → HasAnswer bytes
-behind_header bytes header rate begins read = by_end read.4
-  where
-    all : bytes ≡ file_of header read.0 ++ read.1
-    all =
-        begins ∙ ap (λ (l : List ℕ). header_bytes header ++ l) read.3
-        ∙ sym (append_assoc (header_bytes header) (intervals_bytes header.version read.0) read.1)
-
-    by_end : Ends header.version read.1 → HasAnswer bytes
-    by_end (inl none) =
-        let whole = all ∙ ap (λ (l : List ℕ). file_of header read.0 ++ l) none ∙ append-nil (file_of header read.0) in
-        (file header read.0, record { tick_rate = rate; range = read.2; are = whole })
-    by_end (inr fails) =
-        let front = file_of header read.0 in
-        let first = fails (length front) in (
-          faulty header read.0 first.0,
-          record {
-            front = front;
-            rest = read.1;
-            are = all;
-            file = record { tick_rate = rate; range = read.2; are = refl };
-            fails = first.1;
-          },
-        )
-
-rate_or_not : (rate : ℕ) → IsTickRate rate ⊎ (¬ IsTickRate rate)
+rate_or_not : (rate : ℕ) → IsTickRate rate ⊎ ((nat_le 1 rate && nat_le rate MAX_TICK_RATE) ≡ false)
 rate_or_not rate = by_order (cases_lt rate 1) (cases_lt MAX_TICK_RATE rate)
   where
-    by_order : (rate < 1) ⊎ (1 ≤ rate) → (MAX_TICK_RATE < rate) ⊎ (rate ≤ MAX_TICK_RATE) → IsTickRate rate ⊎ (¬ IsTickRate rate)
-    by_order (inl low) high = inr (λ range. let some = range.0 in omega (arith, low, some))
-    by_order (inr low) (inl high) = inr (λ range. let most = range.1 in omega (arith, high, most))
+    by_order : (rate < 1) ⊎ (1 ≤ rate) → (MAX_TICK_RATE < rate) ⊎ (rate ≤ MAX_TICK_RATE)
+        → IsTickRate rate ⊎ ((nat_le 1 rate && nat_le rate MAX_TICK_RATE) ≡ false)
+    by_order (inl low) high = inr (rw (lt-leb 1 rate low) refl)
+    by_order (inr low) (inl high) = inr (rw (le-leb 1 rate low, lt-leb rate MAX_TICK_RATE high) refl)
     by_order (inr low) (inr high) = inl (low, high)
 
-pub each_text : (bytes : List ℕ) → AreBytes bytes → HasAnswer bytes
-each_text bytes are = by_head (head_or_fault bytes) (cases_lt (length bytes) 12) (rate_or_not (big_number 4 (drop 8 bytes)))
+-- a fault and no header, or a header and what stands behind it
+abbrev pub IsReadAs : List ℕ → Type 0
+IsReadAs bytes = ((first : FileFault) × (contents_of bytes ≡ no_header first) × IsHeaderFault first bytes)
+    ⊎ ((header : IntervalHeader) × (contents_of bytes ≡ contents_behind (length bytes) header [] 12 (drop 12 bytes))
+    × Begins header bytes)
+
+pub read_front : (bytes : List ℕ) → IsReadAs bytes
+read_front bytes = by_head (head_or_fault bytes) (cases_lt (length bytes) 12)
   where
-    by_head : MayStand 0 (take 8 bytes) ⊎ ((first : FileFault) × IsHeaderFault first bytes) → (length bytes < 12) ⊎ (12 ≤ length bytes)
-        → IsTickRate (big_number 4 (drop 8 bytes)) ⊎ (¬ IsTickRate (big_number 4 (drop 8 bytes))) → HasAnswer bytes
-    by_head (inr found) long rate = (no_header found.0, found.1)
-    by_head (inl may) (inl short) rate = (no_header (fault.Truncated (length bytes)), (refl, record { short = short; before = may }))
-    by_head (inl may) (inr long) (inr wrong) = (no_header (fault.TickRate 8), (refl, record { whole = long; wrong = wrong; before = may }))
-    by_head (inl may) (inr long) (inl range) =
-        let header = header_is bytes are long may range in
-        let rest = drop 12 bytes in
-        behind_header bytes header.0 header.1 header.2 (all_read (length rest) header.0.version rest (omega arith) (bytes_behind 12 bytes are))
+    rate : ℕ
+    rate = big_number 4 (drop 8 bytes)
+
+    with_header : Option IntervalHeader → Contents
+    with_header header = elim header [
+      | None ↦ no_header (fault.TickRate 8)
+      | Some header ↦ contents_behind (length bytes) header [] 12 (drop 12 bytes)
+    ]
+
+    by_rate : MayStand 0 (take 8 bytes) → 12 ≤ length bytes
+        → (version : FileVersion) × (system : System) × (take 8 bytes ≡ head_of version system)
+        → contents_of bytes ≡ with_header (header_of bytes)
+        → IsTickRate rate ⊎ ((nat_le 1 rate && nat_le rate MAX_TICK_RATE) ≡ false) → IsReadAs bytes
+    by_rate may long head read (inr wrong) =
+        let none : header_with (Some head.0) (Some head.1) rate ≡ None = rw wrong refl in
+        inl (
+          fault.TickRate 8,
+          read ∙ ap with_header (header_read bytes head.0 head.1 head.2 ∙ none),
+          (refl, record { whole = long; wrong = out_of_range rate wrong; before = may }),
+        )
+    by_rate may long head read (inl range) =
+        let header : IntervalHeader = record { version = head.0; system = head.1; tick_rate = rate } in
+        let some : header_with (Some head.0) (Some head.1) rate ≡ Some header =
+        rw (le-leb 1 rate range.0, le-leb rate MAX_TICK_RATE range.1) refl in
+        inr (
+          header,
+          read ∙ ap with_header (header_read bytes head.0 head.1 head.2 ∙ some),
+          record { long = long; head = head.2; rate = refl; range = range },
+        )
+
+    by_head : HeadOrFault bytes → (length bytes < 12) ⊎ (12 ≤ length bytes) → IsReadAs bytes
+    by_head (inr found) long = inl (found.0, rw found.2 refl, found.1)
+    by_head (inl may) (inl short) =
+        inl (
+          fault.Truncated (length bytes),
+          rw (may.1, lt-ltb (length bytes) 12 short) refl,
+          (refl, record { short = short; before = may.0 }),
+        )
+    by_head (inl may) (inr long) =
+        by_rate may.0 long (head_is (take 8 bytes) (length-take-le 8 bytes (omega (arith, long))) may.0)
+        (rw (may.1, le-ltb (length bytes) 12 long) refl) (rate_or_not rate)

@@ -1,0 +1,11 @@
+use Rattle.std.proofs.Common.{refl}
+use Rattle.tc_files.specs.Recording.{recording_of}
+use Rattle.interval_commands.proofs.along.Along.new.Goals as goal
+
+-- no byte says anything
+pub returns-clause-stands : goal.returns-clause-stands
+unfolding recording_of
+returns-clause-stands g c = record {
+  stands = record { progress = c.new.ensures; good = refl; counts = refl; printed = (refl, refl, refl) };
+  unspent = λ spent. spent;
+}
