@@ -1,12 +1,14 @@
 # make               proves and builds bin/tc
-# make check         the gate: proves every crate from nothing, tries the must-fail edits, runs tests and program
+# make check         the quick checks, in a minute: doors, documents, trail, made pages, and the examples on bin/tc
+# make gate          the gate (rt ci): proves every crate, tries the must-fail edits, runs tests and program
+# make dist          tc-VERSION.tar.gz of the last commit, which builds, tests and installs by itself
 # make install       program, manual pages, completions, documents and examples, under PREFIX (and DESTDIR, for packagers)
 # make install-strip the same, with the program stripped of its symbols
 # make uninstall     removes what install put there
 #
 # iproute2 has a program of the name tc too. PROGRAM=tcode installs this one, its manual pages and completions as tcode;
-# the notes on standard error begin with "tc:" all the same. A package (PREFIX=/usr) has to take another name: bash's completion
-# of both stands in the same file.
+# the notes on standard error begin with "tc:" and the help names the manual of tc all the same. A package (PREFIX=/usr) has to
+# take another name: bash's completion of both stands in the same file.
 PREFIX ?= /usr/local
 PROGRAM ?= tc
 BINDIR = $(PREFIX)/bin
@@ -34,13 +36,31 @@ RENAME_MAN = sed -e 's/^\.Dt TC/.Dt $(UPPER)/' -e 's/\(^\|\\fB\|[ \x27]\)tc\( \|
 
 INSTALL_PROGRAM = install -m 755
 
-.PHONY: all check install install-strip uninstall
+VERSION := $(shell cat VERSION)
+DIST = tc-$(VERSION)
+
+.PHONY: all check gate dist install install-strip uninstall
 
 all:
 	./build
 
 check:
+	./doors
+	tools/check_docs
+	tools/trail
+	tools/list_calls --check
+	tools/make_formats_page --check
+	tools/trusted --check
+	@[ -x bin/tc ] || { echo "bin/tc is not built: run make first" >&2; exit 1; }
+	tools/run_examples
+
+gate:
 	.ci/run
+
+dist:
+	@[ -z "$$(git status --porcelain)" ] || { echo "what is not committed is left out:" >&2; git status --short >&2; }
+	git archive --format=tar --prefix=$(DIST)/ HEAD | gzip -9n > $(DIST).tar.gz.part
+	mv $(DIST).tar.gz.part $(DIST).tar.gz
 
 install:
 	@[ -x bin/tc ] || { echo "bin/tc is not built: run make first" >&2; exit 1; }
@@ -60,7 +80,7 @@ install:
 	ln -sf $(PROGRAM)-tape.fish "$(DESTDIR)$(FISHDIR)/$(PROGRAM)-archive.fish"
 	chmod 644 "$(DESTDIR)$(MANDIR)/man1/$(PROGRAM).1" "$(DESTDIR)$(MANDIR)/man5/$(PROGRAM)-formats.5" \
 	    "$(DESTDIR)$(BASHDIR)/$(PROGRAM)" "$(DESTDIR)$(ZSHDIR)/_$(PROGRAM)" "$(DESTDIR)$(FISHDIR)/$(PROGRAM).fish"
-	install -m 644 README.md "$(DESTDIR)$(DOCDIR)"
+	install -m 644 README.md CHANGELOG.md VERSION "$(DESTDIR)$(DOCDIR)"
 	for file in $(DOCUMENTS); do install -D -m 644 "$$file" "$(DESTDIR)$(DOCDIR)/$$file"; done
 	install -m 644 $(EXAMPLES) "$(DESTDIR)$(DOCDIR)/examples"
 	install -m 755 $(TOOLS) "$(DESTDIR)$(DOCDIR)/examples/tools"

@@ -2,7 +2,7 @@
 _tc() {
     local word=${COMP_WORDS[COMP_CWORD]} command=${COMP_WORDS[1]} values=
     if [ "$COMP_CWORD" -eq 1 ]; then
-        values="ltc-read ltc-worn ltc-rough ltc-fly ltc-spans ltc-mtc ltc-jam ltc-make ltc-load ltc-convert pcm-ltc wav-ltc ltc-pcm mtc-read vitc-read vitc-make chase ltc-chase number label"
+        values="ltc-read ltc-worn ltc-rough ltc-fly ltc-spans ltc-mtc ltc-jam ltc-make ltc-load ltc-convert pcm-ltc wav-ltc ltc-pcm mtc-read vitc-read vitc-make chase ltc-chase number label help version"
     else
         case $command:$COMP_CWORD in
             number:2 | label:2 | ltc-make:2 | chase:2 | ltc-chase:2) values="24 25 30 30d" ;;

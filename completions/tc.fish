@@ -20,6 +20,8 @@ complete -c tc -n '__fish_is_first_arg' -a chase -d 'the trace of a chase script
 complete -c tc -n '__fish_is_first_arg' -a ltc-chase -d 'the trace of a chase that follows a recording'
 complete -c tc -n '__fish_is_first_arg' -a number -d 'the number of a label'
 complete -c tc -n '__fish_is_first_arg' -a label -d 'the label of a number'
+complete -c tc -n '__fish_is_first_arg' -a help -d 'how each command is typed'
+complete -c tc -n '__fish_is_first_arg' -a version -d 'which version of tc this is'
 complete -c tc -n '__fish_seen_subcommand_from number label ltc-make chase ltc-chase; and test (count (commandline -opc)) -eq 2' -a '24 25 30 30d'
 complete -c tc -n '__fish_seen_subcommand_from vitc-make; and test (count (commandline -opc)) -eq 2' -a '25 30 30d'
 complete -c tc -n '__fish_seen_subcommand_from ltc-make; and test (count (commandline -opc)) -eq 3' -a 'forward backward'

@@ -1,3 +1,4 @@
+pub mod About
 pub mod KeptIntervals
 pub mod KeptLine
 pub mod KeptLines

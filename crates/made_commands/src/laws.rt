@@ -1,11 +1,13 @@
 //! What follows from the definitions alone.
-ghost use Rattle.std.specs.Prelude.{◌≡◌, ◌≤◌, length, None, Some};
+ghost use Rattle.std.specs.Prelude.{◌≡◌, ◌≤◌, codes, length, None, Some};
 ghost use Rattle.biphase.specs.Chain.{flat};
 ghost use Rattle.tc_files.specs.Recording.{end_fault_of, recording_of};
 ghost use Rattle.tc_files.specs.Verdict.{good};
+ghost use Rattle.tc_words.specs.declared.commands.TheConstants as commands;
 ghost use Rattle.tc_words.specs.LineStripe.{IsLineStripe, LineStriping};
 ghost use Rattle.tc_words.specs.Stripe.{IsStripe, Striping};
 ghost use Rattle.made_commands.specs.declared.chance.TheConstants as chance;
+ghost use Rattle.made_commands.specs.About.{usage_line, version_line};
 ghost use Rattle.made_commands.specs.Made.{made, made_cells, made_header, IsReadBack};
 ghost use Rattle.made_commands.specs.MadeLines.{made_lines, AreReadBack};
 
@@ -25,6 +27,12 @@ pub fn the_lengths_of_a_load_run_are_these()
     ensures first { chance.FIRST_LENGTH ≡ 512 }
     ensures least { chance.LEAST_LENGTH ≡ 64 }
     ensures greatest { chance.GREATEST_LENGTH ≡ 4096 }
+{}
+
+/// The line of `version`, and a line of `help` with its values, letter by letter.
+pub fn what_the_program_tells_is_this()
+    ensures version { version_line ≡ codes "tc 1.0.0\n" }
+    ensures usage { usage_line (commands.LTC_FLY.now, codes " LIMIT") ≡ codes "ltc-fly LIMIT\n" }
 {}
 
 /// What `ltc-make` makes is within the limit of a reading, and is read as its header and its intervals,

@@ -1,16 +1,18 @@
 //! The commands that read nothing and make something: a recording (`ltc-make`), a line file (`vitc-make`),
-//! the line of a load run (`ltc-load`), and those of `number` and `label`.
+//! the line of a load run (`ltc-load`), those of `number` and `label`, and what the program tells of itself
+//! (`help`, `version`).
 //!
 //! What this crate promises, for all sinks:
 //! - Each command pulls nothing, and writes its text whole, or a front of it where the sink failed: what it
-//!   makes stands in `specs/Made.antt`, `MadeLines.antt`, `Load.antt` and `Labels.antt`.
+//!   makes stands in `specs/Made.antt`, `MadeLines.antt`, `Load.antt`, `Labels.antt` and `About.antt`.
 //! - What `ltc-make` and `vitc-make` make is read back, frame by frame and field by field, and of what
 //!   `ltc-load` makes each word is read (`laws`).
 //!
-//! Read `ltc_make`, `vitc_make`, `ltc_load` over `chance`, and `labels`. `frame_commands` stands on this
+//! Read `ltc_make`, `vitc_make`, `ltc_load` over `chance`, `labels` and `about`. `frame_commands` stands on this
 //! crate, since a recording of frames is spelled as one that is made.
 #![tactic(auto)]
 
+mod about;
 mod chance;
 mod labels;
 pub mod laws;
@@ -18,6 +20,7 @@ mod ltc_load;
 mod ltc_make;
 mod vitc_make;
 
+pub use about::{MANUAL, VERSION, tell_help, tell_version};
 pub use labels::{tell_label, tell_load, tell_number};
 pub use ltc_load::is_all_read;
 pub use ltc_make::{make_recording, push_all, push_interval};

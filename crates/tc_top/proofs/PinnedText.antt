@@ -19,7 +19,7 @@ use Rattle.tc_words.specs.declared.flight.Flight.{Flight}
 use Rattle.tc_words.specs.declared.flight.Flight.{Flight}
 use Rattle.tc_words.specs.declared.job.Job.{Job}
 use Rattle.tc_words.specs.declared.job.Job.TheVariants.{LtcRead, LtcWorn, LtcRough, LtcFly, LtcSpans, LtcMtc, LtcJam, LtcChase, MtcRead, LtcMake, LtcLoad}
-use Rattle.tc_words.specs.declared.job.Job.TheVariants.{LtcConvert, PcmLtc, WavLtc, LtcPcm, VitcRead, VitcMake, Number, LabelOf}
+use Rattle.tc_words.specs.declared.job.Job.TheVariants.{LtcConvert, PcmLtc, WavLtc, LtcPcm, VitcRead, VitcMake, Number, LabelOf, Help, Version}
 use Rattle.frame_commands.specs.declared.ltc_chase.TheConstants.{MAX_FRAMES}
 use Rattle.pcm_front.specs.Distance.{intervals_by}
 use Rattle.wave_file.specs.declared.format.WaveFormat.{WaveFormat}
@@ -142,3 +142,5 @@ one_text laws VitcRead pulled e f is x y p q = absurd is
 one_text laws (PcmLtc slicing) pulled e f is x y p q = absurd is
 one_text laws (Number label) pulled e f is x y p q = absurd is
 one_text laws (LabelOf label) pulled e f is x y p q = absurd is
+one_text laws Help pulled e f is x y p q = absurd is
+one_text laws Version pulled e f is x y p q = absurd is

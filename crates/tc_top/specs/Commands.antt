@@ -5,7 +5,7 @@ use Rattle.tc_address.specs.Numbering.{number_of}
 use Rattle.tc_words.specs.declared.flight.Flight.{Flight}
 use Rattle.tc_words.specs.declared.job.Job.{Job}
 use Rattle.tc_words.specs.declared.job.Job.TheVariants.{LtcRead, LtcWorn, LtcRough, LtcFly, LtcSpans, LtcMtc, LtcJam, LtcChase, MtcRead, Number, LabelOf, LtcMake}
-use Rattle.tc_words.specs.declared.job.Job.TheVariants.{LtcConvert, PcmLtc, WavLtc, LtcPcm, LtcLoad, VitcRead, VitcMake}
+use Rattle.tc_words.specs.declared.job.Job.TheVariants.{LtcConvert, PcmLtc, WavLtc, LtcPcm, LtcLoad, VitcRead, VitcMake, Help, Version}
 use Rattle.tc_words.specs.Slicing.{Slices}
 use Rattle.tc_words.specs.WaveSlicing.{SlicesWave}
 use Rattle.tc_command.specs.Meaning.{Meaning, writes}
@@ -19,6 +19,7 @@ use Rattle.frame_commands.specs.LtcJam.{file_of_frames}
 use Rattle.frame_commands.specs.LtcMtc.{messages_of_frames}
 use Rattle.frame_commands.specs.LtcSpans.{lines_of_spans}
 use Rattle.frame_commands.specs.OfFrames.{FrameText, along_frames}
+use Rattle.made_commands.specs.About.{help_text, version_line}
 use Rattle.made_commands.specs.Labels.{number_line, label_line}
 use Rattle.made_commands.specs.Load.{load_text}
 use Rattle.made_commands.specs.Made.{made}
@@ -75,6 +76,8 @@ shape_of VitcRead = along_line_file
 shape_of (VitcMake stripe) = writes_text (made_lines stripe)
 shape_of (Number label) = writes_text (number_line (number_of label))
 shape_of (LabelOf label) = writes_text (label_line label)
+shape_of Help = writes_text help_text
+shape_of Version = writes_text version_line
 
 -- what a job takes and writes
 abbrev pub meaning_of : Job → Meaning

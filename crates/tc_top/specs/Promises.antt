@@ -6,7 +6,7 @@ use Rattle.tc_files.specs.Recording.{recording_of}
 use Rattle.tc_words.specs.declared.job.Job.{Job}
 use Rattle.tc_words.specs.declared.job.Job.TheVariants.{LtcRead, LtcWorn, LtcRough, LtcFly, LtcSpans, LtcMtc, LtcJam, LtcChase, MtcRead}
 use Rattle.tc_words.specs.declared.job.Job.TheVariants.{LtcMake, LtcLoad, LtcConvert, PcmLtc, WavLtc, LtcPcm, VitcRead}
-use Rattle.tc_words.specs.declared.job.Job.TheVariants.{VitcMake, Number, LabelOf}
+use Rattle.tc_words.specs.declared.job.Job.TheVariants.{VitcMake, Number, LabelOf, Help, Version}
 use Rattle.tc_top.specs.CleanCopy.{IsClean}
 use Rattle.tc_top.specs.Commands.{meaning_of}
 use Rattle.tc_command.specs.Exchange.{Exchange}
@@ -23,8 +23,8 @@ use Rattle.tc_top.specs.SentAgain.{SendsTheFrames}
 use Rattle.tc_top.specs.SoundAgain.{IsSlicedAgain}
 use Rattle.tc_top.specs.Tape.{ReportsTheTape}
 
--- the promise of a job. Of `mtc-read`, `vitc-read`, `pcm-ltc`, `number` and `label` the meaning says all: each line or
--- interval is what the definition of a crate below makes of the bytes pulled, and no more is known of these
+-- the promise of a job. Of `mtc-read`, `vitc-read`, `pcm-ltc`, `number`, `label`, `help` and `version` the meaning says all: each
+-- line or interval is what the definition of a crate below makes of the bytes pulled, and no more is known of these
 abbrev pub Promise : Job → Exchange → Type 0
 Promise LtcRead e = ReportsTheTape Normal e.pulled e.written
 Promise LtcWorn e = ReportsTheTape Worn e.pulled e.written
@@ -45,6 +45,8 @@ Promise VitcRead e = Unit {0}
 Promise (VitcMake stripe) e = AreReadBack stripe e.written
 Promise (Number label) e = Unit {0}
 Promise (LabelOf label) e = Unit {0}
+Promise Help e = Unit {0}
+Promise Version e = Unit {0}
 
 -- what the job writes of each input keeps its promise
 abbrev pub KeepsItsPromise : Job → Type 0

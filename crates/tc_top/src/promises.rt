@@ -44,7 +44,9 @@ pub(crate) fn a_promise_is_kept(job: &Job)
         | Job::VitcRead
         | Job::PcmLtc { .. }
         | Job::Number { .. }
-        | Job::LabelOf { .. } => (),
+        | Job::LabelOf { .. }
+        | Job::Help
+        | Job::Version => (),
     }
 }
 

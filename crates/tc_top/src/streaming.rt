@@ -17,7 +17,9 @@ use crate::promises::a_promise_is_kept;
 use biphase::Profile;
 use frame_commands::{chase_code, fly_along, jam_sync, send_time_code, tell_spans};
 use interval_commands::{convert_recording, read_recording, sound_recording};
-use made_commands::{make_lines, make_recording, tell_label, tell_load, tell_number};
+use made_commands::{
+    make_lines, make_recording, tell_help, tell_label, tell_load, tell_number, tell_version,
+};
 use signal_commands::{read_fields, read_midi, slice_sound, slice_track};
 use tc_command::{Status, Stop, push_note, stop_note};
 use tc_io::{Sink, Source};
@@ -101,5 +103,7 @@ fn work_on<S: Source, K: Sink>(job: &Job, source: &mut S, out: &mut K) -> Result
         Job::VitcMake { stripe } => make_lines(stripe, source, out),
         Job::Number { label } => tell_number(label, source, out),
         Job::LabelOf { label } => tell_label(label, source, out),
+        Job::Help => tell_help(source, out),
+        Job::Version => tell_version(source, out),
     }
 }

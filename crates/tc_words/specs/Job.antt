@@ -156,6 +156,8 @@ job_of command values =
     else if bytes_eq command commands.VITC_MAKE.now then vitc_make values
     else if bytes_eq command commands.NUMBER.now then number values
     else if bytes_eq command commands.LABEL.now then label_of values
+    else if bytes_eq command commands.HELP.now then no_values jobs.Help values
+    else if bytes_eq command commands.VERSION.now then no_values jobs.Version values
     else Err Command
 
 -- ---- the tasks

@@ -10,6 +10,7 @@ pub mod LineStripe
 pub mod Load
 pub mod Stripe
 pub mod Tape
+pub mod Usages
 pub mod Values
 pub mod Wave
 pub mod WaveSlicing

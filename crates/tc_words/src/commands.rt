@@ -60,3 +60,9 @@ pub const NUMBER: &str = "number";
 
 /// The word of `Job::LabelOf`.
 pub const LABEL: &str = "label";
+
+/// The word of `Job::Help`.
+pub const HELP: &str = "help";
+
+/// The word of `Job::Version`.
+pub const VERSION: &str = "version";

@@ -70,4 +70,8 @@ pub enum Job {
     Number { label: Label },
     /// `label COUNT NUMBER`: writes the label of that number of the day.
     LabelOf { label: Label },
+    /// `help`: writes how each command is typed, and where the manual is.
+    Help,
+    /// `version`: writes which version of the program this is.
+    Version,
 }

@@ -1,11 +1,12 @@
 //! The words of the commands, letter by letter: what holds the constants of `commands`.
-ghost use Rattle.std.specs.Prelude.{◌≡◌, ◌-◌, ◌^◌, codes};
+ghost use Rattle.std.specs.Prelude.{◌≡◌, ◌-◌, ◌^◌, codes, true};
 ghost use Rattle.tc_words.specs.declared.commands.TheConstants as commands;
 ghost use Rattle.tc_words.specs.declared.chase_run.TheConstants.{MAX_SLIP};
 ghost use Rattle.tc_words.specs.declared.slicing.TheConstants.{MAX_FINENESS, MAX_SIZE};
 ghost use Rattle.tc_words.specs.declared.load.TheConstants.{MAX_WORDS};
 ghost use Rattle.tc_words.specs.declared.stripe.TheConstants.{MAX_FRAMES, MAX_TICK_RATE};
 ghost use Rattle.tc_words.specs.declared.wave_slicing.TheConstants.{MAX_TRACKS};
+ghost use Rattle.tc_words.specs.Usages.{HaveUsages, are_commands};
 
 /// Each command has its word.
 pub fn each_command_has_its_word()
@@ -29,6 +30,14 @@ pub fn each_command_has_its_word()
     ensures vitc_make { commands.VITC_MAKE.now ≡ codes "vitc-make" }
     ensures number { commands.NUMBER.now ≡ codes "number" }
     ensures label { commands.LABEL.now ≡ codes "label" }
+    ensures help { commands.HELP.now ≡ codes "help" }
+    ensures version { commands.VERSION.now ≡ codes "version" }
+{}
+
+/// The table of usages has a row for each command, and no other.
+pub fn each_command_has_its_usage()
+    ensures each { HaveUsages }
+    ensures only { are_commands ≡ true }
 {}
 
 /// A run makes a million frames at most, in ticks of a clock of a hundred million a second at most; a

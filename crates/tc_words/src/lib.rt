@@ -17,6 +17,7 @@
 //! - its word, a constant (`commands`), spelled again by a line of `each_command_has_its_word` (`laws`);
 //! - its row in `job_of`, in `words` and in `specs/Job.antt`, which is `no_values` with its job where it
 //!   has none, and else a function there and there, which reads its values;
+//! - its row in `USAGES` (`usages`), which `help` prints; the law `each_command_has_its_usage` misses none;
 //! - its lines in the tables of `tests`.
 #![tactic(auto)]
 
@@ -36,6 +37,7 @@ mod slicing;
 mod sound;
 mod stripe;
 mod tape;
+pub mod usages;
 mod values;
 mod wave;
 mod wave_slicing;

@@ -38,6 +38,8 @@ fn the_first_fault_of_a_command_is_told(rt: HostRuntime) -> Result<(), Fail> {
         ("ltc-rough rough", WordsFault::CountOfWords),
         ("mtc-read x", WordsFault::CountOfWords),
         ("vitc-read 25", WordsFault::CountOfWords),
+        ("help ltc-read", WordsFault::CountOfWords),
+        ("version 1", WordsFault::CountOfWords),
         ("-", WordsFault::Dash(0)),
         ("LTC-READ", WordsFault::Command),
     ] {
@@ -250,6 +252,7 @@ fn label_text_of(job: &Job) -> Option<[u8; 11]> {
         Job::LtcChase { run } => Some(text(&run.label())),
         Job::LtcSpans { .. } | Job::LtcMtc { .. } => None,
         Job::MtcRead | Job::LtcLoad { .. } => None,
+        Job::Help | Job::Version => None,
         Job::LtcMake { stripe } => Some(text(&stripe.label())),
         Job::VitcMake { stripe } => Some(text(&stripe.label())),
         Job::Number { label } => Some(text(label)),
@@ -364,6 +367,10 @@ fn jobs_are_read(rt: HostRuntime) -> Result<(), Fail> {
     assert_eq!(rt; read_words(alloc, &words), Ok(Task::Stream(Job::LtcRough)));
     let words = typed(alloc, "mtc-read")?;
     assert_eq!(rt; read_words(alloc, &words), Ok(Task::Stream(Job::MtcRead)));
+    let words = typed(alloc, "help")?;
+    assert_eq!(rt; read_words(alloc, &words), Ok(Task::Stream(Job::Help)));
+    let words = typed(alloc, "version")?;
+    assert_eq!(rt; read_words(alloc, &words), Ok(Task::Stream(Job::Version)));
     for (line, job) in [
         ("ltc-fly 0", flown(0, Profile::Normal)),
         ("ltc-fly 255", flown(255, Profile::Normal)),

@@ -108,6 +108,8 @@ fn job_of(command: &str, values: &[&str]) -> Result<Job, WordsFault>
         commands::VITC_MAKE => vitc_make(values),
         commands::NUMBER => number(values),
         commands::LABEL => label_of(values),
+        commands::HELP => no_values(values, Job::Help),
+        commands::VERSION => no_values(values, Job::Version),
         _ => Err(WordsFault::Command),
     }
 }

@@ -32,3 +32,9 @@ returns-in-VitcMake-clause-stops g c = rw c.in-VitcMake.is c.make_lines.ensures.
 
 pub returns-in-LabelOf-clause-stops : goal.returns-in-LabelOf-clause-stops
 returns-in-LabelOf-clause-stops g c = rw c.in-LabelOf.is c.tell_label.ensures.stops
+
+pub returns-in-Help-clause-stops : goal.returns-in-Help-clause-stops
+returns-in-Help-clause-stops g c = rw c.in-Help.is c.tell_help.ensures.stops
+
+pub returns-in-Version-clause-stops : goal.returns-in-Version-clause-stops
+returns-in-Version-clause-stops g c = rw c.in-Version.is c.tell_version.ensures.stops

@@ -1,0 +1,29 @@
+-- What the program tells of itself: `help` and `version`.
+use Rattle.std.specs.Prelude.{ℕ, List, ◌++◌, codes, map}
+use Rattle.std.specs.List.{flat_map}
+use Rattle.made_commands.specs.declared.about.TheConstants.{MANUAL, VERSION}
+use Rattle.tc_words.specs.declared.usages.TheConstants.{USAGES}
+
+-- the word of a command, and what stands behind it in its line
+abbrev pub Usage : Type 0
+Usage = List ℕ × List ℕ
+
+-- the line of a command
+abbrev pub usage_line : Usage → List ℕ
+usage_line usage = usage.0 ++ usage.1 ++ codes "\n"
+
+-- a line each
+abbrev pub usage_lines : List Usage → List ℕ
+usage_lines usages = flat_map usage_line usages
+
+-- the table of usages
+abbrev pub usages : List Usage
+usages = map (λ row. (row.0.now, row.1.now)) USAGES
+
+-- a line a command, and where the manual is
+unfoldable pub help_text : List ℕ
+help_text = usage_lines usages ++ MANUAL.now ++ codes "\n"
+
+-- the line of `version`
+abbrev pub version_line : List ℕ
+version_line = codes "tc " ++ VERSION.now ++ codes "\n"

@@ -1,0 +1,119 @@
+//! The commands that tell of the program itself: `help` and `version`.
+//! Next: `tc_command/src/making.rt`.
+ghost use Rattle.std.specs.Prelude.{◌≡◌, ◌+◌, ◌≤◌, ◌++◌, length, map, OnOk, IfErr};
+ghost use Rattle.arrayvec.specs.ArrayVec.{array_vec_len};
+ghost use Rattle.made_commands.specs.About.{help_text, usage_line, usage_lines, version_line};
+ghost use Rattle.made_commands.specs.KeptLine.{rest_of};
+ghost use Rattle.tc_command.specs.Causes.{HasOutCause};
+ghost use Rattle.tc_command.specs.Meaning.{writes};
+ghost use Rattle.tc_command.specs.Ran.{CameToItsEnd, StoppedBefore};
+
+use crate::ltc_make::push_all;
+use tc_command::{Maker, PIECE, Piece, Stop, make};
+use tc_io::{Sink, Source};
+use tc_words::usages::USAGES;
+
+/// The number of this version, which stands in the file `VERSION` at the top too.
+pub const VERSION: &str = "1.0.0";
+
+/// The last line of `help`.
+pub const MANUAL: &str = "The manual: man 1 tc, and of files and lines man 5 tc-formats.";
+
+/// Works `help`: how each command is typed, and where the manual is.
+pub fn tell_help<S: Source, K: Sink>(source: &mut S, out: &mut K) -> Result<(), Stop>
+    ensures ends { OnOk result (CameToItsEnd (writes help_text) (S.left source.old) (S.left source.new)
+        (K.written out.old) (K.written out.new)) }
+    ensures stops { IfErr result (λ stop. StoppedBefore (writes help_text) stop (S.left source.old) (S.left source.new)
+        (K.written out.old) (K.written out.new)) }
+    ensures idle { source.new ≡ source.old }
+    ensures why { IfErr result (λ stop. stop ≡ Stop.WriteFault) }
+    ensures out { HasOutCause (K.faults out.old) (K.faults out.new) result }
+{
+    make(&mut Page::help(), source, out)
+}
+
+/// Works `version`: which version this is.
+pub fn tell_version<S: Source, K: Sink>(source: &mut S, out: &mut K) -> Result<(), Stop>
+    ensures ends { OnOk result (CameToItsEnd (writes version_line) (S.left source.old) (S.left source.new)
+        (K.written out.old) (K.written out.new)) }
+    ensures stops { IfErr result (λ stop. StoppedBefore (writes version_line) stop (S.left source.old) (S.left source.new)
+        (K.written out.old) (K.written out.new)) }
+    ensures idle { source.new ≡ source.old }
+    ensures why { IfErr result (λ stop. stop ≡ Stop.WriteFault) }
+    ensures out { HasOutCause (K.faults out.old) (K.faults out.new) result }
+{
+    make(&mut Page::version(), source, out)
+}
+
+/// An output of one piece.
+#[derive(Drop)]
+struct Page {
+    text: Option<Piece>,
+}
+
+impl Page {
+    /// A line a command, and the line of the manual.
+    #[tactic(auto, unfolding(crate::specs::About::help_text))]
+    fn help() -> Page
+        ensures { rest_of result.text ≡ help_text }
+    {
+        let mut text = Piece::new();
+        push_usages(&USAGES, &mut text);
+        push_all(&mut text, MANUAL.as_bytes());
+        push_all(&mut text, b"\n");
+        Page { text: Some(text) }
+    }
+
+    /// The name of the program and the number.
+    fn version() -> Page
+        ensures { rest_of result.text ≡ version_line }
+    {
+        let mut text = Piece::new();
+        push_all(&mut text, b"tc ");
+        push_all(&mut text, VERSION.as_bytes());
+        push_all(&mut text, b"\n");
+        Page { text: Some(text) }
+    }
+}
+
+/// The lines of rows of the table.
+fn push_usages(usages: &[(&str, &str)], room: &mut Piece)
+    requires { array_vec_len room.old + length (usage_lines (map (λ row. (row.0.now, row.1.now)) usages.now)) ≤ PIECE }
+    ensures items { room.new.items ≡ room.old.items ++ usage_lines (map (λ row. (row.0.now, row.1.now)) usages.now) }
+    ensures len { array_vec_len room.new
+        ≡ array_vec_len room.old + length (usage_lines (map (λ row. (row.0.now, row.1.now)) usages.now)) }
+{
+    if let Some(((command, values), more)) = usages.split_first() {
+        push_usage(command, values, room);
+        push_usages(more, room);
+    }
+}
+
+/// The line of a row.
+fn push_usage(command: &str, values: &str, room: &mut Piece)
+    requires { array_vec_len room.old + length (usage_line (command.now, values.now)) ≤ PIECE }
+    ensures items { room.new.items ≡ room.old.items ++ usage_line (command.now, values.now) }
+    ensures len { array_vec_len room.new ≡ array_vec_len room.old + length (usage_line (command.now, values.now)) }
+{
+    push_all(room, command.as_bytes());
+    push_all(room, values.as_bytes());
+    push_all(room, b"\n");
+}
+
+impl Maker for Page {
+    ghost use Rattle.made_commands.specs.KeptLine.{rest_of, pieces_of};
+
+    ghost rest = { λ s. rest_of s.text };
+
+    ghost pieces = { λ s. pieces_of s.text };
+
+    fn give(&mut self, room: &mut Piece) -> bool {
+        match self.text.take() {
+            Some(text) => {
+                *room = text;
+                true
+            }
+            None => false,
+        }
+    }
+}
