@@ -56,8 +56,8 @@ chase_ended (Err stop) = status_of_chase stop
 
 -- ---- the end of the input
 
--- so many pulls of a chase stood at the end of its input or behind it: no row is judged before the end, and nothing is pulled behind it.
--- Memory may be wanted at either
+-- so many pulls of a chase stood at the end of its input or behind it: no row is judged before the end, and nothing is
+-- pulled behind it. Memory may be wanted before it or at it
 abbrev pub ChaseEndsSeen : Status → ℕ → Type 0
 ChaseEndsSeen status.Done ends = ends ≡ 1
 ChaseEndsSeen status.Usage ends = ends ≡ 0

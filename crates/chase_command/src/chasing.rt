@@ -1,6 +1,7 @@
 //! `chase`: a script is read whole, and then its trace is written. Next: `chase_script/src/script.rt`, and
 //! with its rows `trace`.
-ghost use Rattle.std.specs.Prelude.{◌≡◌, ◌⊎◌, ℕ, ◌+◌, ◌<◌, ◌≤◌, List, ◌++◌, length, Some, Ok, OnOk, OnErr, IfOk, IfErr, Err};
+ghost use Rattle.std.specs.Prelude.{◌≡◌, ◌⊎◌, ℕ, ◌+◌, ◌<◌, ◌≤◌, List, ◌++◌, length, Some, Ok, Err};
+ghost use Rattle.std.specs.Prelude.{OnOk, OnErr, IfOk, IfErr};
 ghost use Rattle.std.specs.Io.KnownBytes.{Appends, Consumes, IsAtEnd};
 ghost use Rattle.tc_address.specs.declared.count.Count.{Count};
 ghost use Rattle.tc_io.specs.Sink.{IsFront};
@@ -9,9 +10,9 @@ ghost use Rattle.chase_script.specs.declared.row.ScriptRow.{ScriptRow};
 ghost use Rattle.chase_script.specs.Answer.{AreRowsFor};
 ghost use Rattle.chase_script.specs.Lock.{KeepsItsLock};
 ghost use Rattle.chase_script.specs.Script.{script_in};
-ghost use Rattle.chase_command.specs.Chase.{IsChaseAnswer};
+ghost use Rattle.chase_command.specs.Chase.{ChaseSeesOneEnd, IsChaseAnswer};
 ghost use Rattle.tc_command.specs.Causes.{SourceCause, OutCause};
-ghost use Rattle.chase_command.specs.Chase.{ChaseSeesOneEnd, IsChaseStop, IsTraced, chase_ended, chase_output, chase_status_on};
+ghost use Rattle.chase_command.specs.Chase.{IsChaseStop, IsTraced, chase_ended, chase_output, chase_status_on};
 ghost use Rattle.tc_command.specs.Exchange.{Exchange, IsPulled, IsWritten, IsNoted};
 ghost use Rattle.chase_command.specs.KeptScript.{IsGatherStop, IsPullStop, IsRowStop};
 

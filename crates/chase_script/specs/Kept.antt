@@ -1,9 +1,9 @@
 -- What the lines of a trace keep while they are given; no promise speaks of it.
-use Rattle.std.specs.Prelude.{ℕ, ◌+◌, Bool, true, false, List, [], ◌++◌, length, map}
+use Rattle.std.specs.Prelude.{ℕ, ◌+◌, Bool, true, false, List, [], ◌∷◌, ◌++◌, length, map}
 use Rattle.std.specs.List.{count_by}
-use Rattle.chase_core.specs.Trace.{Loop, trace}
+use Rattle.chase_core.specs.Trace.{Loop, trace, traced}
 use Rattle.chase_script.specs.declared.row.ScriptRow.{ScriptRow}
-use Rattle.chase_script.specs.TraceText.{row_of, loses, step_lines, step_end_line}
+use Rattle.chase_script.specs.TraceText.{row_of, loses, step_line, step_lines, step_end_line}
 
 -- what is left of a trace: the loop before the rows that are still to be worked, and what was counted before them
 pub record TraceLeft : Type 0 where
@@ -22,6 +22,14 @@ abbrev pub text_left : TraceLeft → List ℕ
 text_left t = text_before_end t.is_ended
     (step_lines t.place.chase.count (t.steps + 1) (trace t.place (map row_of t.rows))
     ++ step_end_line (t.steps + length t.rows) (t.losses + count_by loses (trace t.place (map row_of t.rows))))
+
+-- the first line of it: that of the next row, or the last one
+abbrev pub line_before : TraceLeft → List ScriptRow → List ℕ
+line_before t [] = step_end_line t.steps t.losses
+line_before t (row ∷ rows) = step_line t.place.chase.count (t.steps + 1) (traced t.place (row_of row))
+
+abbrev pub first_line : TraceLeft → List ℕ
+first_line t = line_before t t.rows
 
 -- how many lines it has
 abbrev pub last_lines : Bool → ℕ

@@ -1,7 +1,7 @@
 //! The lines of a trace, one after another. Next: `texts`.
 ghost use Rattle.std.specs.Prelude.{◌≡◌, ◌<◌, ◌++◌, [], IfSome, None, length, false, cond};
 ghost use Rattle.chase_script.specs.Answer.{AreRowsFor};
-ghost use Rattle.chase_script.specs.Kept.{text_left, lines_left};
+ghost use Rattle.chase_script.specs.Kept.{first_line, text_left, lines_left};
 ghost use Rattle.chase_script.specs.Lock.{KeepsItsLock};
 ghost use Rattle.chase_core.specs.Trace.{after_row, traced};
 ghost use Rattle.chase_script.specs.Script.{IsRowFor};
@@ -71,6 +71,7 @@ impl TraceLines {
 
     /// The next line, if there is one. A row is worked when its line is asked for.
     pub fn next_line(&mut self) -> Option<Text>
+        ensures one { IfSome result (λ line. line.items ≡ first_line self.old) }
         ensures line { IfSome result (λ line. text_left self.old ≡ line.items ++ text_left self.new) }
         ensures fewer { IfSome result (λ line. lines_left self.new < lines_left self.old) }
         ensures all { result ≡ None → text_left self.old ≡ [] }
@@ -90,6 +91,7 @@ impl TraceLines {
     fn step_line(&mut self) -> Text
         requires some { 0 < length self.old.rows }
         requires going { self.old.is_ended ≡ false }
+        ensures one { result.items ≡ first_line self.old }
         ensures line { text_left self.old ≡ result.items ++ text_left self.new }
         ensures fewer { lines_left self.new < lines_left self.old }
     {

@@ -50,3 +50,22 @@ fn the_longest_line(rt: HostRuntime) -> Result<(), Fail> {
     );
     Ok(())
 }
+
+#[test]
+fn what_is_refused_or_long_wants_no_memory(rt: HostRuntime) -> Result<(), Fail> {
+    let alloc = rt.alloc();
+    let mut script = Vec::new(alloc);
+    for row in 0..300u64 {
+        let Ok(rows) = script_rows(alloc, &script, Count::C25) else {
+            return Err("rows of blanks are refused".into());
+        };
+        assert_eq!(rt; rows.len() as u64, row);
+        script.extend_from_slice(b",,,,\n")?;
+    }
+    script.extend_from_slice(b",,,,x\n")?;
+    let Err(ScriptFault::Row(fault)) = script_rows(alloc, &script, Count::C25) else {
+        return Err("the slip is not refused".into());
+    };
+    assert_eq!(rt; (fault.row, fault.column), (301, Column::Slip));
+    Ok(())
+}

@@ -1,5 +1,5 @@
 //! The ticks at the latest boundaries of cells. Next: `candidates`, with a window that is one.
-ghost use Rattle.std.specs.Prelude.{◌≡◌, ◌+◌, ◌%◌, ◌<◌, length, slice_index};
+ghost use Rattle.std.specs.Prelude.{◌≡◌, ◌+◌, ◌%◌, ◌<◌, length, replicate, slice_index};
 ghost use Rattle.direction_reader.specs.Boundaries.{with_tick};
 
 use std::marker::Model;
@@ -28,6 +28,7 @@ impl Model for Boundaries {
 impl Boundaries {
     /// Zeros only.
     pub fn new() -> Boundaries
+        ensures value { result ≡ replicate BOUNDARIES 0 }
         ensures all { length result ≡ BOUNDARIES }
     {
         Boundaries {

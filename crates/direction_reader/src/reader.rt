@@ -5,6 +5,7 @@ ghost use Rattle.direction_reader.specs.Brings.{Brings};
 ghost use Rattle.direction_reader.specs.declared.event.Event.{Event};
 ghost use Rattle.direction_reader.specs.declared.event.Events.{Events};
 ghost use Rattle.direction_reader.specs.Events.{event_list};
+ghost use Rattle.direction_reader.specs.LatestBits.{EndsInCandidate};
 ghost use Rattle.direction_reader.specs.LatestCells.{no_cells};
 ghost use Rattle.direction_reader.specs.ListEvents.{AreEvents};
 ghost use Rattle.direction_reader.specs.Mirror.{MirrorsTheTape};
@@ -134,6 +135,7 @@ impl DirectionReader {
         ensures within { self.new.tick ≤ self.new.intervals * MAX_INTERVAL }
         ensures taken { 1 ≤ self.new.intervals }
         ensures may { MayTell self.new result }
+        ensures candidate { result ≡ Brought.Candidate → EndsInCandidate self.new.cells.bits }
         ensures stands { (intervals : List ℕ) (events : List Event) (own : Events)
             → StandsFor self.old intervals events → Tells self.new result own
             → StandsFor self.new (intervals ++ x ∷ []) (events ++ event_list own) }

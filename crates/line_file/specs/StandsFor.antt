@@ -1,5 +1,6 @@
 -- Which bytes a decoder of a line file stands for. No promise but its clauses speaks of it.
-use Rattle.std.specs.Prelude.{◌≡◌, ⊤, ℕ, ◌+◌, ◌-◌, ◌*◌, ◌<◌, ◌≤◌, List, [], ◌∷◌, ◌++◌, length, take, Option, Some, None, IfSome}
+use Rattle.std.specs.Prelude.{◌≡◌, ◌⊎◌, ⊤, ℕ, ◌+◌, ◌-◌, ◌*◌, ◌<◌, ◌≤◌, List, [], ◌∷◌, ◌++◌, length, take}
+use Rattle.std.specs.Prelude.{Option, Some, None, IfSome}
 use Rattle.vitc_reader.specs.declared.field.FieldAnswer.{FieldAnswer}
 use Rattle.line_file.specs.declared.decoder.TheConstants.{FIELD_ROOM, MAX_FIELDS}
 use Rattle.line_file.specs.declared.header.LineHeader.{LineHeader}
@@ -80,6 +81,13 @@ AddsTaken old new bytes (Nothing count) = Adds old new bytes count []
 AddsTaken old new bytes (Field count answer) = Adds old new bytes count (answer ∷ [])
 AddsTaken old new bytes (Fault f) = new ≡ old
 AddsTaken old new bytes Limit = new ≡ old
+
+-- all of the bytes were taken, or those up to the end of the header or of a field
+abbrev pub TakesAll : Decoding → List ℕ → Taken → Type 0
+TakesAll new bytes (Nothing count) = (new.part ≡ []) ⊎ (count ≡ length bytes)
+TakesAll new bytes (Field count answer) = new.part ≡ []
+TakesAll new bytes (Fault f) = ⊤
+TakesAll new bytes Limit = ⊤
 
 -- what was read shows this, and the fields have these answers
 abbrev pub IsTold : Reading → Verdict → List FieldAnswer → Type 0

@@ -6,7 +6,7 @@ ghost use Rattle.line_file.specs.KeptFront.{IsPiece};
 ghost use Rattle.line_file.specs.declared.decoder.Piece.TheVariants as pieces;
 ghost use Rattle.line_file.specs.LineFile.{end_fault_of};
 ghost use Rattle.line_file.specs.LineHeader.{IsHeader};
-ghost use Rattle.line_file.specs.StandsFor.{StandsFor, no_decoding, AddsTaken, FitsFields, StopsAt};
+ghost use Rattle.line_file.specs.StandsFor.{StandsFor, no_decoding, AddsTaken, TakesAll, FitsFields, StopsAt};
 
 use crate::field::{FoundField, field_in};
 use crate::header::{FoundHeader, HEADER_LENGTH, LineHeader, header_in};
@@ -90,6 +90,7 @@ impl LineDecoder {
     pub fn take(&mut self, bytes: &[u8]) -> Taken
         requires { 0 < length bytes.now }
         ensures takes { AddsTaken self.old self.new bytes.now result }
+        ensures all { TakesAll self.new bytes.now result }
         ensures bounds { FitsFields self.new }
         ensures stops { (front : List ℕ) (answers : List FieldAnswer) → StandsFor self.old front answers
             → StopsAt (front ++ bytes.now) answers result }

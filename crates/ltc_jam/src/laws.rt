@@ -5,9 +5,11 @@ ghost use Rattle.biphase.specs.declared.profile.Profile.{Profile};
 ghost use Rattle.biphase.specs.declared.profile.Profile.TheVariants.{Normal};
 ghost use Rattle.biphase.specs.Chain.{flat};
 ghost use Rattle.biphase.specs.Shape.{shape_with, shaped, IsShaped};
+ghost use Rattle.tc_address.specs.declared.count.Count.TheVariants.{C25, C30, Drop30};
+ghost use Rattle.tc_address.specs.declared.direction.Direction.TheVariants.{Forward};
 ghost use Rattle.tc_address.specs.declared.system.System.{System};
 ghost use Rattle.tc_address.specs.Count.{system_with};
-ghost use Rattle.tc_address.specs.Label.{Address, IsLabel};
+ghost use Rattle.tc_address.specs.Label.{Address, IsLabel, address};
 ghost use Rattle.tc_address.specs.Numbering.{step};
 ghost use Rattle.ltc_word.specs.Spelled.{spelling_of};
 ghost use Rattle.ltc_word.specs.Spelling.{Spells};
@@ -18,11 +20,11 @@ ghost use Rattle.flywheel.specs.declared.heard.HeardWord.{HeardWord};
 ghost use Rattle.flywheel.specs.Frames.{frames};
 ghost use Rattle.ltc_jam.specs.Cells.{clean_cells, clean_events, intervals_of_frame, intervals_of_lead, steady_cells};
 ghost use Rattle.ltc_jam.specs.Labels.{AreEventsOf, AreFramesOf, AreHeardOf};
-ghost use Rattle.ltc_jam.specs.Word.{word_of};
+ghost use Rattle.ltc_jam.specs.Word.{time_bits, word_of};
 
 use biphase::laws::shaped_cells_are_a_chain;
 use direction_reader::laws::played_words_are_read;
-use ltc_word::laws::each_word_has_its_spelling;
+use ltc_word::laws::{each_word_has_its_spelling, spelling_is_exact, words_of_round_labels};
 use tc_address::laws::number_and_label_are_inverse;
 
 /// Cells of one length are those of a shape that stays.
@@ -41,6 +43,18 @@ pub fn words_of_labels_are_spelled()
     ensures { (label : Address) → IsLabel label → Spells (system_with label.count) (word_of label) (spelling_of (word_of label)) }
 {
     each_word_has_its_spelling();
+}
+
+/// The words that are written for labels of nothing but zeros and for one hour in drop-frame, as 80 bits: no user bit
+/// is set, no flag but that of drop-frame, and the polarity correction where the word wants it to be balanced.
+pub fn words_of_round_labels_are_written_so()
+    ensures zero_at_30 { time_bits Forward (address C30 0 0 0 0) ≡ 0xbffc0000000008000000 }
+    ensures zero_at_25 { time_bits Forward (address C25 0 0 0 0) ≡ 0xbffc0800000000000000 }
+    ensures one_hour { time_bits Forward (address Drop30 1 0 0 0) ≡ 0xbffc0001000008000400 }
+{
+    words_of_round_labels();
+    words_of_labels_are_spelled();
+    spelling_is_exact();
 }
 
 /// A step from a label leads to a label of its count.

@@ -22,7 +22,8 @@ pub brought_before : (ends room count : ℕ) → ends ≡ 0 → ¬ (count ≡ 0)
 brought_before ends room count none_yet some = rw (none_yet, ne_eqb count 0 some) refl
 
 -- the first that brings none is
-pub at_the_end : (ends room count : ℕ) → ends ≡ 0 → count ≡ 0 → 0 < room → ends_after {E = Failed} ends (Ok count) room ≡ 1
+pub at_the_end : (ends room count : ℕ) → ends ≡ 0 → count ≡ 0 → 0 < room
+    → ends_after {E = Failed} ends (Ok count) room ≡ 1
 at_the_end ends room count none_yet none some = rw (none_yet, none, ne_eqb room 0 (λ e. omega (arith, e, some))) refl
 
 -- a stop before the end
@@ -38,7 +39,8 @@ unseen_by (Ok done) ends says none_yet = absurd cc
 unseen_by (Err stop) ends says none_yet = rw none_yet (unseen stop)
 
 -- a stop at the end
-pub seen_at_end : (m : Meaning) (stop : Stop) (pulled written : List ℕ) → IsEndStop m stop pulled written → EndsSeen true (status_of stop) 1
+pub seen_at_end : (m : Meaning) (stop : Stop) (pulled written : List ℕ) → IsEndStop m stop pulled written
+    → EndsSeen true (status_of stop) 1
 seen_at_end m (Refused fault) pulled written is = omega arith
 seen_at_end m ReadFault pulled written is = absurd is
 seen_at_end m WriteFault pulled written is = omega arith

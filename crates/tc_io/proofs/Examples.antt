@@ -31,7 +31,7 @@ first_call = refl
 pub nothing_fits : push_answer (new_sink 0 []) 0 ≡ Ok 0
 nothing_fits = refl
 
--- the pull that comes to the end is counted, and each behind it; no byte into no room is no end, and neither is a failure
+-- the pull that comes to the end is counted, and each behind it; no byte into no room is no end, and no failure is
 pub the_end : ends_after {E = Failed} 0 (Ok 0) 4 ≡ 1
 the_end = refl
 

@@ -49,7 +49,12 @@ abbrev pub after_pull : SourceInMemory → ℕ → SourceInMemory
 after_pull s room =
     if is_failing s.failing s.calls
     then record s { calls = one_more s.calls; faults = one_more s.faults; ends = ends_now s room }
-    else record s { left = drop (given s room) s.left; calls = one_more s.calls; pulls = one_more s.pulls; ends = ends_now s room }
+    else record s {
+      left = drop (given s room) s.left;
+      calls = one_more s.calls;
+      pulls = one_more s.pulls;
+      ends = ends_now s room;
+    }
 
 -- ---- a source that never fails
 

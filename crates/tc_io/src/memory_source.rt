@@ -140,6 +140,19 @@ mod tests {
     }
 
     #[test]
+    fn what_is_pulled_behind_the_end_is_counted(rt: HostRuntime) -> Result<(), Fail> {
+        let mut source = MemorySource::new(rt.alloc(), b"a", &[], &[4])?;
+        let mut none = *b"";
+        let mut buf = *b"..";
+        assert_eq!(rt; (source.pull(&mut buf), source.ends), (Ok(1), 0));
+        assert_eq!(rt; (source.pull(&mut none), source.ends), (Ok(0), 0));
+        assert_eq!(rt; (source.pull(&mut buf), source.ends), (Ok(0), 1));
+        assert_eq!(rt; (source.pull(&mut buf), source.ends), (Err(Failed), 2));
+        assert_eq!(rt; (source.pull(&mut none), source.ends), (Ok(0), 3));
+        Ok(())
+    }
+
+    #[test]
     fn counts_stop_at_their_last_value(rt: HostRuntime) -> Result<(), Fail> {
         let alloc = rt.alloc();
         let mut ring = HeapCircularBuffer::with_capacity(alloc, 1)?;

@@ -87,7 +87,8 @@ pub returns-then-count-eq0-clause-once : goal.returns-then-count-eq0-clause-once
 returns-then-count-eq0-clause-once g c = λ none_yet.
     let w = c.pulls.invariant.worked in
     let f = c.in_ok-flush.ensures.works w.0 w.1 w.4 in
-    seen_by c.finish.result _ c.finish.ensures.stops (λ stop stops. seen_at_end _ stop _ _ (stops w.0 (w.1 ++ f.0) f.2).2)
+    seen_by c.finish.result _ c.finish.ensures.stops
+    (λ stop stops. seen_at_end _ stop _ _ (stops w.0 (w.1 ++ f.0) f.2).2)
     (c.in-Ok.ensures.end ∙ at_the_end _ _ c.in-Ok.count (c.pulls.invariant.open_end none_yet) c.if-count-eq0.true
     (omega (arith, c.pull.auto.buf)))
 
@@ -108,7 +109,8 @@ pulls-preserved g c =
     record {
       going = e.going;
       choice = e.choice ∙ c.in_ok-flush.ensures.choice ∙ i.choice;
-      open_end = λ none_yet. c.in-Ok.ensures.end ∙ brought_before _ _ c.in-Ok.count (i.open_end none_yet) c.if-count-eq0.false;
+      open_end = λ none_yet.
+          c.in-Ok.ensures.end ∙ brought_before _ _ c.in-Ok.count (i.open_end none_yet) c.if-count-eq0.false;
       source = c.in-Ok.ensures.cause.same ∙ i.source;
       out = e.cause ∙ c.in_ok-flush.ensures.cause ∙ i.out;
       worked = (

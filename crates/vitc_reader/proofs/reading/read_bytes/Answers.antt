@@ -24,12 +24,13 @@ returns-in_err-line-clause-refuses c =
 pub returns-in_err-line-clause-only : goal.returns-in_err-line-clause-only
 returns-in_err-line-clause-only c = λ bits stand.
     let bytes = c.args.bytes.now in
+    let runs = runs_of_bytes bytes in
     let there = c.runs-test.true in
     let least = c.requires.length.0 in
     let lt : c.runs.index < length (runs_of_bytes bytes) = rw (count_of bytes) there in
     let run : c.read_u16-run.result ≡ get_or (runs_of_bytes bytes) c.runs.index 0 =
     c.read_u16-run.ensures ∙ ap (big_number 2) (take_rest bytes (2 * c.runs.index)) ∙ pair_at c.runs.index bytes there in
-    absurd (not_read c.args.length (runs_of_bytes bytes) c.runs.index c.read_u16-run.result c.runs.line c.in_err-line.field-0.0 bits
+    absurd (not_read c.args.length runs c.runs.index c.read_u16-run.result c.runs.line c.in_err-line.field-0.0 bits
     (omega (arith, least)) c.runs.invariant lt run c.in_err-line.ensures.refuses stand)
 
 pub runs-preserved : goal.runs-preserved
@@ -50,11 +51,11 @@ returns-clause-reads c =
 
 pub returns-clause-only : goal.returns-clause-only
 returns-clause-only c = λ bits stand.
-    let bytes = c.args.bytes.now in
+    let runs = runs_of_bytes c.args.bytes.now in
     let least = c.requires.length.0 in
-    let here = turned_stands c.args.length (runs_of_bytes bytes) c.runs.index c.runs.line.bits c.runs.line.cells c.runs.invariant
-    (rw (count_of bytes) c.runs-test.false) c.requires.runs.0 in
-    ap (λ (n : ℕ). Ok n) (only c.args.length (runs_of_bytes bytes) c.runs.line.bits bits (omega (arith, least)) here stand)
+    let here = turned_stands c.args.length runs c.runs.index c.runs.line.bits c.runs.line.cells c.runs.invariant
+    (rw (count_of c.args.bytes.now) c.runs-test.false) c.requires.runs.0 in
+    ap (λ (n : ℕ). Ok n) (only c.args.length runs c.runs.line.bits bits (omega (arith, least)) here stand)
 
 pub returns-clause-width : goal.returns-clause-width
 returns-clause-width c =

@@ -1,8 +1,10 @@
-use Rattle.std.proofs.Common.{refl, sym, subst, arith}
+use Rattle.std.proofs.Common.{◌≡◌, ◌+◌, ◌∙◌, length, take, refl, sym, ap, subst, arith, inr}
+use Rattle.std.proofs.lemmas.List.{length-append, length-take-le}
 use Rattle.line_file.specs.StandsFor.{Decoding, StandsFor}
 use Rattle.line_file.proofs.DecoderTakes.{at_header, header_there, at_field, at_short, at_fault, waits_less, waits_none, header_added, field_added}
 use Rattle.line_file.proofs.DecoderTakes.{fault_there, limit_there}
 use Rattle.line_file.proofs.decoder.LineDecoder.take.Goals as goal
+use Rattle.line_file.proofs.decoder.LineDecoder.take.Goals.{then-bytes-room, else-bytes-room}
 
 -- the header begins with what was kept
 pub overflow_sub-result : goal.overflow_sub-result
@@ -114,3 +116,23 @@ returns-in-Limit-clause-stops c = λ front answers stands.
     let d = c.self.inside in
     let s = subst (λ (x : Decoding). StandsFor x front answers) (sym c.self.view_is) stands in
     limit_there d.header d.place d.fields d.part.items front c.args.bytes.now _ answers s c.in-Limit.ensures.piece c.requires
+
+-- a piece that is not whole is less than the room for one, so the room cut nothing off
+pub returns-in-Short-clause-all : goal.returns-in-Short-clause-all
+returns-in-Short-clause-all c =
+    let d = c.self.inside in
+    let kept = c.in-Short.ensures.kept refl in
+    let is = rw (← kept) at c.in-Short.ensures.piece in
+    let waits = at_short d.header d.place d.fields d.part.items c.take_piece.new.part.items c.self.invariant.waits is in
+    let less = waits_less d.header d.place d.fields c.take_piece.new.part.items waits in
+    let count = c.if-bytes-room.count in
+    let bytes = c.args.bytes.now in
+    let long : length c.take_piece.new.part.items ≡ length d.part.items + length (take count bytes) =
+    ap length kept ∙ length-append d.part.items (take count bytes) in
+    let before = c.len-before.ensures.value in
+    elim c.if-bytes-room.branch [
+      | then-bytes-room w ↦ inr w.count-is
+      | else-bytes-room w ↦
+          let all = length-take-le count bytes (omega (arith, w.count-is, w.if-bytes-room.false)) in
+          absurd (omega (arith, less, long, all, before, w.count-is))
+    ]

@@ -24,4 +24,5 @@ returns-clause-reads c =
 
 pub returns-clause-only : goal.returns-clause-only
 returns-clause-only c =
-    rw (← c.self.view_is) (λ bits stand. c.is_ok-is_read.ensures.value ∙ ap is_ok (c.read_bytes-read.ensures.only bits stand))
+    rw (← c.self.view_is) (λ bits stand.
+    c.is_ok-is_read.ensures.value ∙ ap is_ok (c.read_bytes-read.ensures.only bits stand))
