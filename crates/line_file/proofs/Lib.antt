@@ -8,5 +8,6 @@ pub mod HeaderBytes
 pub mod OwnBytes
 pub mod PieceByPiece
 pub mod Pushed
+pub mod ReadWhole
 pub mod RunsFit
 pub mod RunsInBytes

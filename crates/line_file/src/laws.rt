@@ -1,7 +1,8 @@
 //! The numbers that code and definitions share, as the table of a line file gives them; and what follows
 //! from the definitions alone.
-ghost use Rattle.std.specs.Prelude.{◌≡◌, ◌≤◌, ℕ, List, [], ◌∷◌, ◌++◌, length, Some, true};
+ghost use Rattle.std.specs.Prelude.{◌≡◌, ◌≤◌, ℕ, List, [], ◌∷◌, ◌++◌, length, Some, None, true};
 ghost use Rattle.tc_files.specs.declared.fault.FileFault.{FileFault};
+ghost use Rattle.tc_files.specs.Grammar.{AreBytes};
 ghost use Rattle.tc_files.specs.Verdict.{good, refused, past_limit};
 ghost use Rattle.vitc_reader.specs.declared.field.FieldAnswer.{FieldAnswer};
 ghost use Rattle.line_file.specs.declared.decoder.TheConstants as decoder;
@@ -10,7 +11,7 @@ ghost use Rattle.line_file.specs.declared.header.TheConstants as header;
 ghost use Rattle.line_file.specs.declared.header.LineHeader.{LineHeader};
 ghost use Rattle.line_file.specs.Answers.{AreAnswersOf};
 ghost use Rattle.line_file.specs.Grammar.{file_of, AreFields, AreRuns};
-ghost use Rattle.line_file.specs.LineFile.{reading_of};
+ghost use Rattle.line_file.specs.LineFile.{end_fault_of, reading_of};
 ghost use Rattle.line_file.specs.LineHeader.{IsHeader};
 ghost use Rattle.vitc_reader.specs.Runs.{IsLineLength, StandFor};
 ghost use Rattle.line_file.specs.StandsFor.{Decoding, StandsFor, IsTold};
@@ -63,6 +64,13 @@ pub fn answers_of_a_front_come_first()
 pub fn a_file_is_read_as_it_was_written()
     ensures { (header : LineHeader) (fields : List (List (List ℕ))) → IsHeader header → AreFields fields → length fields ≤ decoder.MAX_FIELDS
         → reading_of (file_of header fields) ≡ record { header = Some header; fields = fields; verdict = good; is_whole = true } }
+{}
+
+/// Each input that is taken whole is the file of a header and fields within the limit.
+pub fn what_is_read_whole_is_a_file()
+    ensures { (bytes : List ℕ) → AreBytes bytes → (reading_of bytes).verdict ≡ good → end_fault_of bytes ≡ None
+        → (header : LineHeader) × (fields : List (List (List ℕ))) × IsHeader header × AreFields fields
+        × (length fields ≤ decoder.MAX_FIELDS) × (bytes ≡ file_of header fields) }
 {}
 
 /// Runs that stand for the bits of a line last a tick or more, and each of them fits its two bytes.

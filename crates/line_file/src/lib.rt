@@ -13,6 +13,8 @@
 //!   limit exactly where they have it.
 //! - A fault and the limit stay, whatever bytes follow. Bytes have one list of answers, and those of some
 //!   bytes come first, whatever bytes follow (`laws`).
+//! - Each input that is taken whole is the file of a header and fields (`specs/Grammar.antt`, `file_of`),
+//!   and such a file is read as these (`laws`).
 //! - `line_header` writes the twelve bytes of a header, and they are read back.
 //! - `field_text` and `field_end_text` give the lines of a report byte for byte (`specs/Texts.antt`).
 //!
