@@ -7,3 +7,4 @@ mod MadeIsRead
 mod MadeIsShort
 mod MadeLinesAreRead
 mod MadeLinesInPieces
+mod UsageLines

@@ -83,9 +83,8 @@ fn push_usages(usages: &[(&str, &str)], room: &mut Piece)
     ensures len { array_vec_len room.new
         ≡ array_vec_len room.old + length (usage_lines (map (λ row. (row.0.now, row.1.now)) usages.now)) }
 {
-    if let Some(((command, values), more)) = usages.split_first() {
+    'usages: for (command, values) in usages {
         push_usage(command, values, room);
-        push_usages(more, room);
     }
 }
 
