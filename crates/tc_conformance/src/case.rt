@@ -79,7 +79,6 @@ fn numbers_of(alloc: Global, cell: &str) -> Result<Vec<usize>, AllocError> {
 impl Case {
     /// The run whose pulls give so many bytes, and in which nothing else fails than what the row says: where
     /// nothing may be pulled the first pull fails, and where the status is a read fault the one behind the input.
-    /// In each other run the pull behind the end fails, which no run makes.
     pub fn trial<'a>(&'a self, pieces: &'a [usize; 1]) -> Trial<'a> {
         let [piece] = *pieces;
         let failing_pull = if self.is_unread {
@@ -87,7 +86,7 @@ impl Case {
         } else if self.status == READ_FAULT {
             Some(pull_behind(self.input.len(), piece))
         } else {
-            Some(pull_behind(self.input.len(), piece).saturating_add(1))
+            None
         };
         Trial {
             pieces,

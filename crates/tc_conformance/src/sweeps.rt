@@ -96,10 +96,17 @@ fn told(run: &'static str, number: usize, part: Option<&'static str>) -> Option<
     part.map(|part| Wrong { run, number, part })
 }
 
-/// The same comes of each cutting of the input: by pulls as long as they can be first.
+/// The same comes of each cutting of the input: by pulls as long as they can be first. The pull behind the end would
+/// fail, which no run makes.
 fn in_pieces(runner: &mut Runner, case: &Case) -> Verdict {
     for piece in [LONGEST_PULL].into_iter().chain(PIECES) {
-        let ended = runner.run(&case.trial(&[piece]))?;
+        let pieces = [piece];
+        let trial = case.trial(&pieces);
+        let behind_the_end = pull_behind(case.input.len(), piece).saturating_add(1);
+        let ended = runner.run(&Trial {
+            failing_pull: trial.failing_pull.or(Some(behind_the_end)),
+            ..trial
+        })?;
         let part = difference(&ended, case.status, &case.note, &case.output);
         if part.is_some() {
             return Ok(told("in pieces of", piece, part));
