@@ -8,7 +8,7 @@ Sound of code, a silence, and code again are written to `pcm-ltc` at the time at
 comes. Told of each run, in milliseconds:
 - words: the time from the block with the last sample of a word to its line, the median and the greatest;
 - invented, gone: the greatest time from when a frame was due to its line. A frame is due half a frame after it should have ended;
-- bound: a quarter of a frame and a block, which `live` keeps, and 20 for the machine.
+- bound: a quarter of a frame and a block, which `live` keeps, and 20 for the machine. The median of the words keeps these 20.
 
 The silences have 80 ms, 1 s, and so many seconds as LONGEST says. The last one is tried with one size of blocks alone.
 """
@@ -90,7 +90,7 @@ def tell(seconds, block, live, found):
     heard, invented, gone = found
     bound = 1_000 * (FRAME / 4 / TICK_RATE + block / RATE) + SLACK
     most = max(invented + gone, default=0.0)
-    kept = not live or (most <= bound and max(heard) <= SLACK)
+    kept = not live or (most <= bound and statistics.median(heard) <= SLACK)
     print(f"{seconds:6.2f} s  {block:5} samples  {'live' if live else '-':4}  words {statistics.median(heard):6.2f} {max(heard):6.2f}  "
           f"invented {max(invented, default=0.0):8.1f}  gone {max(gone, default=0.0):8.1f}  bound {bound:6.1f}  "
           f"{'kept' if kept else 'NOT KEPT'}", flush=True)
