@@ -1,7 +1,7 @@
 #!/usr/bin/env python3
 """A second reading of `wav-ltc`, from docs/reference/formats.md and docs/reference/sound.md alone, on whole lists and without tc.
 
-    bench/wave_by_hand.py SYSTEM TRACK THRESHOLD [SMOOTH [deep]] < FILE > INTERVALS
+    bench/wave_by_hand.py SYSTEM TRACK THRESHOLD [SMOOTH [deep]] [live] < FILE > INTERVALS
 
 Writes the interval file, and on standard error what tc says of a file that is refused.
 """
@@ -105,8 +105,9 @@ def samples_of(data, body, announced, found, track):
     return rate, samples, None if may_end else Refused("truncated", len(data))
 
 
-def distances(samples, least, smooth, deep):
-    """The distances of the crossings in sixteenths of a sample, the first one from the first sample."""
+def intervals(samples, least, smooth, deep, piece):
+    """The intervals between the crossings in sixteenths of a sample, the first one from the first sample. Where there is a piece, so
+    many ticks of silence are an interval as soon as they have passed."""
     peak = total = 0
     side = None
     before = 0
@@ -122,24 +123,30 @@ def distances(samples, least, smooth, deep):
         height = max(0, peak - total // 1024) // (4 if deep else 2)
         threshold = max(smooth * least, height)
         now = 1 if y >= threshold else -1 if y <= -threshold else None
-        if now is None:
-            before = y
-            continue
-        if side is not None and side != now:
+        if now is not None and side is not None and side != now:
             # the line from the sample before to this one meets the threshold of this side there
             rise, need = now * (y - before), now * (now * threshold - before)
             tick = 1 if need <= 0 else -(-16 * need // rise)
             moment = 16 * (place - 1) + tick
+            while moment - latest > (piece or GREATEST):
+                yield piece or GREATEST
+                latest += piece or GREATEST
             yield moment - latest
             latest = moment
-        side = now
+        while piece and 16 * place - latest >= piece:
+            yield piece
+            latest += piece
+        side = now or side
         before = y
 
 
 def main():
-    system, track, least = (int(word) for word in sys.argv[1:4])
-    smooth = int(sys.argv[4]) if len(sys.argv) > 4 else 1
-    deep = len(sys.argv) > 5
+    words = sys.argv[1:]
+    live = words[-1] == "live"
+    words = words[:-1] if live else words
+    system, track, least = (int(word) for word in words[:3])
+    smooth = int(words[3]) if len(words) > 3 else 1
+    deep = len(words) > 4
     data = sys.stdin.buffer.read()
     try:
         rate, samples, fault = read_wave(data, track)
@@ -148,9 +155,9 @@ def main():
     out = bytearray()
     if rate is not None:
         out += b"LTCI" + bytes([1, system, 0, 0]) + struct.pack(">I", 16 * rate)
-        for distance in distances(samples, least, smooth, deep):
-            whole = (distance - 1) // GREATEST
-            out += struct.pack(">I", GREATEST) * whole + struct.pack(">I", distance - GREATEST * whole)
+        piece = min(max(16 * rate // (4 * system), 1), GREATEST) if live else None
+        for interval in intervals(samples, least, smooth, deep, piece):
+            out += struct.pack(">I", interval)
     sys.stdout.buffer.write(out)
     if fault is not None:
         sys.exit(f"tc: refused: {fault.args[0]} at byte {fault.args[1]}")

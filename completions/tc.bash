@@ -10,10 +10,12 @@ _tc() {
             ltc-make:3) values="forward backward" ;;
             ltc-convert:2) values="1 2" ;;
             pcm-ltc:2) values="24 25 30" ;;
-            pcm-ltc:6) values="follow deep" ;;
+            pcm-ltc:5 | pcm-ltc:7 | pcm-ltc:8) values="live" ;;
+            pcm-ltc:6) values="follow deep live" ;;
             ltc-fly:3 | ltc-spans:3 | ltc-mtc:3 | ltc-jam:5 | ltc-chase:7) values="worn rough" ;;
             wav-ltc:2) values="24 25 30" ;;
-            wav-ltc:6) values="deep" ;;
+            wav-ltc:5 | wav-ltc:7) values="live" ;;
+            wav-ltc:6) values="deep live" ;;
         esac
     fi
     mapfile -t COMPREPLY < <(compgen -W "$values" -- "$word")

@@ -11,6 +11,8 @@ pub mod RunByRun
 pub mod Bounds
 pub mod InBytes
 pub mod InPieces
+pub mod IntervalsStay
+pub mod Passing
 pub mod SlicedAgain
 pub mod SumsStay
 pub mod Together

@@ -36,7 +36,7 @@ rising-filter p a (suc n) = rising-cond p (p a) a (filter p (range_with_len (a +
 pub crossings-rise : (threshold : Threshold) (xs : List ℤ) → AreRising (is_crossing threshold xs) 0 (crossings threshold xs)
 crossings-rise threshold xs = rising-filter (is_crossing threshold xs) 0 (length xs)
 
-side_of_crossing : (before now : Option Side) → differs before now ≡ true → (side : Side) × (now ≡ Some side)
+pub side_of_crossing : (before now : Option Side) → differs before now ≡ true → (side : Side) × (now ≡ Some side)
 side_of_crossing None now is = absurd (cc)
 side_of_crossing (Some High) None is = absurd (cc)
 side_of_crossing (Some Low) None is = absurd (cc)

@@ -13,9 +13,9 @@ use Rattle.pcm_front.specs.declared.threshold.Threshold.TheVariants.{Fixed, Foll
 use Rattle.pcm_front.specs.Level.{silent, level_after, level_of, half_height, quarter_height, next_level, threshold_by, threshold_at}
 use Rattle.pcm_front.specs.Side.{side_of, side_at, side_after, differs}
 use Rattle.pcm_front.specs.Crossing.{is_crossing, tick_to, tick_at, moment, moments}
-use Rattle.pcm_front.specs.Distance.{gaps, gaps_after, distances_since}
+use Rattle.pcm_front.specs.Distance.{gaps, gaps_after, distances_since, latest_moment}
 use Rattle.pcm_front.specs.State.{FinderState, between, level_in, crossing_in, state_after, distance_at}
-use Rattle.pcm_front.specs.StandsFor.{IsLevelFor, latest_moment, Finds}
+use Rattle.pcm_front.specs.StandsFor.{IsLevelFor, Finds}
 use Rattle.pcm_front.proofs.OneMore.{side_after-front, same_tick, moments-more, last_or-more, gaps-more, gaps_after-more}
 
 -- the level goes on, where the threshold follows it

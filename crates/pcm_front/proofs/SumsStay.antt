@@ -1,9 +1,9 @@
 -- The sums so far stay where samples follow, and one sample more brings the sum of the latest ones.
-use Rattle.std.proofs.Common.{◌≡◌, ℕ, zero, suc, ◌+◌, ◌-◌, ◌<◌, ◌≤◌, ℤ, pos, ◌+ℤ◌, List, [], ◌∷◌, ◌++◌, length, map, replicate, take, drop}
+use Rattle.std.proofs.Common.{◌≡◌, ℕ, zero, suc, ◌+◌, ◌-◌, ◌<◌, ℤ, pos, List, [], ◌∷◌, ◌++◌, length, map, replicate, take, drop}
 use Rattle.std.proofs.Common.{refl, ap, ap₂, sym, ◌∙◌, zero-add, append-nil, append_assoc, add-one, arith}
 use Rattle.std.specs.List.{range_with_len}
 use Rattle.std.proofs.lemmas.Int.{ints}
-use Rattle.std.proofs.lemmas.List.{take-append-le, take_all, length_push, length-append, length-replicate, map-append, drop-append-le}
+use Rattle.std.proofs.lemmas.List.{take-append-le, take_all, length_push, map-append}
 use Rattle.std.proofs.Math.Seq.{drop-append_seam}
 use Rattle.pcm_front.specs.Distance.{distances_by, distances_since}
 use Rattle.pcm_front.specs.Settings.{Settings}
@@ -38,7 +38,7 @@ sums-more n xs s =
     ∙ ap₂ ◌++◌ (map_same f (sum_at n xs) 0 k (λ i l. sum_at-front n xs (s ∷ []) i (omega arith)))
     (ap (λ front. sum_of n front ∷ []) (take_all (k + 1) (xs ++ s ∷ []) (omega (arith, long))))
 
-sums-stay : (n : ℕ) (xs more : List ℤ) → (rest : List ℤ) × (sums n (xs ++ more) ≡ sums n xs ++ rest)
+pub sums-stay : (n : ℕ) (xs more : List ℤ) → (rest : List ℤ) × (sums n (xs ++ more) ≡ sums n xs ++ rest)
 sums-stay n xs [] = ([], ap (sums n) (append-nil xs) ∙ sym (append-nil (sums n xs)))
 sums-stay n xs (s ∷ more) =
     let front : List ℤ = xs ++ s ∷ [] in

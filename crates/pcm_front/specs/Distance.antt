@@ -1,6 +1,6 @@
 -- What a list of samples gives: the distances of neighbouring crossings, and the intervals in which they are written.
-use Rattle.std.specs.Prelude.{ℕ, ◌-◌, ◌*◌, ◌/◌, ◌≤◌, ℤ, List, [], ◌∷◌, ◌++◌, replicate}
-use Rattle.std.specs.List.{flat_map}
+use Rattle.std.specs.Prelude.{ℕ, ◌-◌, ◌*◌, ◌/◌, ◌≤◌, ℤ, List, [], ◌∷◌, ◌++◌, replicate, Option, Some, None}
+use Rattle.std.specs.List.{flat_map, last_or}
 use Rattle.pcm_front.specs.declared.start.Start.{Start}
 use Rattle.pcm_front.specs.declared.start.Start.TheVariants.{Crossing, Tick}
 use Rattle.pcm_front.specs.declared.threshold.Threshold.{Threshold}
@@ -31,6 +31,11 @@ abbrev pub distances_since : Start → ℕ → Threshold → List ℤ → List �
 distances_since Crossing fineness threshold samples = distances fineness threshold samples
 distances_since Tick fineness threshold samples = distances_from_start fineness threshold samples
 
+-- the moment from which the next distance runs
+abbrev pub latest_moment : Start → List ℕ → Option ℕ
+latest_moment Crossing moments = last_or None moments
+latest_moment Tick moments = last_or (Some 0) moments
+
 -- the distances that are sliced: those of the sums of the samples
 abbrev pub distances_by : Settings → List ℤ → List ℕ
 distances_by s samples = distances_since s.start s.fineness s.threshold (sums s.smooth samples)
@@ -43,13 +48,18 @@ greatest = 16_777_215
 abbrev pub IsInterval : ℕ → Type 0
 IsInterval length = (1 ≤ length) × (length ≤ greatest)
 
--- how many greatest intervals a distance begins with
-abbrev pub whole_pieces : ℕ → ℕ
-whole_pieces distance = (distance - 1) / greatest
+-- how many whole pieces of a length a distance begins with
+abbrev pub whole_pieces : ℕ → ℕ → ℕ
+whole_pieces length distance = (distance - 1) / length
+
+-- a distance in pieces of a length: whole ones, and one with the rest, which is from 1 to the length
+abbrev pub pieces_in : ℕ → ℕ → List ℕ
+pieces_in length distance =
+    replicate (whole_pieces length distance) length ++ (distance - length * whole_pieces length distance) ∷ []
 
 -- the intervals of a distance: greatest ones, and one with the rest
 abbrev pub pieces_of : ℕ → List ℕ
-pieces_of distance = replicate (whole_pieces distance) greatest ++ (distance - greatest * whole_pieces distance) ∷ []
+pieces_of distance = pieces_in greatest distance
 
 -- the intervals of a list of samples
 abbrev pub intervals : ℕ → Threshold → List ℤ → List ℕ

@@ -1,6 +1,7 @@
 pub mod Crossing
 pub mod Distance
 pub mod Level
+pub mod Pace
 pub mod Runs
 pub mod Samples
 pub mod Settings

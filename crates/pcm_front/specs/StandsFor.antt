@@ -1,16 +1,14 @@
 -- Which samples a slicer stands for, without keeping them.
-use Rattle.std.specs.Prelude.{◌≡◌, ℕ, ◌+◌, ◌-◌, ◌*◌, ℤ, pos, List, ◌++◌, length, replicate, Option, Some, None}
-use Rattle.std.specs.List.{last_or}
+use Rattle.std.specs.Prelude.{◌≡◌, ℕ, ◌+◌, ◌-◌, ◌*◌, ℤ, pos, List, ◌++◌, length, replicate}
 use Rattle.std.specs.Option.{option_map}
 use Rattle.pcm_front.specs.declared.level.Level.{Level}
 use Rattle.pcm_front.specs.declared.slicer.Slicer.{Slicer}
-use Rattle.pcm_front.specs.declared.start.Start.{Start}
-use Rattle.pcm_front.specs.declared.start.Start.TheVariants.{Crossing, Tick}
 use Rattle.pcm_front.specs.declared.threshold.Threshold.{Threshold}
 use Rattle.pcm_front.specs.declared.threshold.Threshold.TheVariants.{Fixed, Follow, Deep}
 use Rattle.pcm_front.specs.Crossing.{moments}
-use Rattle.pcm_front.specs.Distance.{distances_since}
+use Rattle.pcm_front.specs.Distance.{distances_since, latest_moment}
 use Rattle.pcm_front.specs.Level.{level_of}
+use Rattle.pcm_front.specs.Pace.{ticks_since}
 use Rattle.pcm_front.specs.Settings.{Settings}
 use Rattle.pcm_front.specs.Side.{sample_at, side_after}
 use Rattle.pcm_front.specs.State.{FinderState, WindowState}
@@ -21,11 +19,6 @@ abbrev pub IsLevelFor : Threshold → Level → List ℤ → Type 0
 IsLevelFor (Fixed threshold) level samples = Unit {0}
 IsLevelFor (Follow least) level samples = level ≡ level_of samples
 IsLevelFor (Deep least) level samples = level ≡ level_of samples
-
--- the moment from which the next distance runs
-abbrev pub latest_moment : Start → List ℕ → Option ℕ
-latest_moment Crossing moments = last_or None moments
-latest_moment Tick moments = last_or (Some 0) moments
 
 -- crossings are found as after these samples
 pub record Finds (finder : FinderState) (samples : List ℤ) : Type 0 where
@@ -61,3 +54,10 @@ settings_of slicer = record {
 -- the ticks of the samples so far
 abbrev pub tick_of : Slicer → ℕ
 tick_of slicer = slicer.finder.tick
+
+-- the ticks that have passed since the moment from which the next distance runs
+abbrev pub passed_in : FinderState → ℕ
+passed_in finder = ticks_since finder.latest finder.tick
+
+abbrev pub passed_of : Slicer → ℕ
+passed_of slicer = passed_in slicer.finder

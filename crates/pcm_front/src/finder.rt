@@ -1,7 +1,8 @@
 //! The crossings in a list of sums. Next: `slicer`.
 ghost use Rattle.std.specs.Prelude.{◌≡◌, ℕ, ℤ, ◌+◌, ◌*◌, ◌<◌, ◌≤◌, ◌^◌, List, [], ◌++◌, length, take, IfSome};
 ghost use Rattle.pcm_front.specs.Level.{IsInRange, IsSum};
-ghost use Rattle.pcm_front.specs.StandsFor.{distances_in, Stand};
+ghost use Rattle.pcm_front.specs.Pace.{Passes};
+ghost use Rattle.pcm_front.specs.StandsFor.{distances_in, passed_in, Stand};
 ghost use Rattle.pcm_front.specs.State.{between, crossing_after, distance_at, fresh, late_start, state_after, IsAlone, IsThreshold, WindowState};
 
 use crate::crossing::tick_to;
@@ -95,6 +96,16 @@ impl Finder {
         Some(self.tick + u64::from(tick))
     }
 
+    /// The ticks that have passed, at the latest sum, since the moment from which the next distance runs.
+    pub(crate) fn passed(&self) -> u64
+        ensures { result ≡ passed_in self.now }
+    {
+        match self.latest {
+            Some(moment) => self.tick.saturating_sub(moment),
+            None => 0,
+        }
+    }
+
     /// Takes the next sum, and says all that changes.
     pub(crate) fn step(&mut self, sum: i32) -> Option<u64>
         requires sum { IsSum sum }
@@ -102,6 +113,7 @@ impl Finder {
         ensures state { self.new ≡ state_after self.old sum }
         ensures distance { result ≡ distance_at self.old sum }
         ensures range { IfSome result (λ distance. (1 ≤ distance) × (distance ≤ 2 ^ 62)) }
+        ensures passes { Passes (passed_in self.old) result (passed_in self.new) }
     {
         let level = self.threshold.next_level(self.level, sum);
         let side = side_of(self.threshold.at(level), sum);
@@ -124,6 +136,7 @@ impl Finder {
         ensures fineness { self.new.fineness ≡ self.old.fineness }
         ensures threshold { self.new.threshold ≡ self.old.threshold }
         ensures start { self.new.start ≡ self.old.start }
+        ensures latest { self.new.latest ≡ self.old.latest }
         ensures smooth { window.new.smooth ≡ window.old.smooth }
         ensures stands { (front : List ℤ) → Stand self.old window.old front
             → Stand self.new window.new (front ++ take result (S.list samples.now)) }
@@ -164,6 +177,7 @@ impl Finder {
         ensures fineness { self.new.fineness ≡ self.old.fineness }
         ensures threshold { self.new.threshold ≡ self.old.threshold }
         ensures start { self.new.start ≡ self.old.start }
+        ensures latest { self.new.latest ≡ self.old.latest }
         ensures stands { (front : List ℤ) → Stand self.old window.now front
             → Stand self.new window.now (front ++ take result (S.list samples.now)) }
         ensures none { (front : List ℤ) → Stand self.old window.now front
@@ -184,6 +198,7 @@ impl Finder {
         ensures fineness { self.new.fineness ≡ self.old.fineness }
         ensures threshold { self.new.threshold ≡ self.old.threshold }
         ensures start { self.new.start ≡ self.old.start }
+        ensures latest { self.new.latest ≡ self.old.latest }
         ensures stands { (window : WindowState) (front : List ℤ) → IsAlone window → Stand self.old window front
             → Stand self.new window (front ++ take result (S.list samples.now)) }
         ensures none { (window : WindowState) (front : List ℤ) → IsAlone window → Stand self.old window front

@@ -1,20 +1,40 @@
-//! The intervals of a distance. Next: `tc_command/src/gathered.rt`.
+//! The intervals of a distance. Next: `pace`.
 ghost use Rattle.std.specs.Prelude.{◌≡◌, ◌+◌, ◌*◌, ◌≤◌, ◌^◌, [], ◌∷◌, ◌++◌, replicate};
-ghost use Rattle.pcm_front.specs.Distance.{greatest, pieces_of};
+ghost use Rattle.pcm_front.specs.Distance.{pieces_in, IsInterval};
 
 /// The greatest length of an interval, in ticks. The least is 1.
 pub const MAX_INTERVAL: u32 = 16_777_215;
 
-/// How many greatest intervals a distance begins with, and the interval that follows them.
-pub fn pieces(distance: u64) -> (u64, u32)
+/// Intervals in a row: those of a distance that ended, behind what was written of it before, and those
+/// of the one that has begun.
+#[derive(Clone, Copy, Debug, PartialEq, Eq)]
+pub struct Intervals {
+    /// The length of a whole piece, in ticks.
+    pub length: u32,
+    /// So many whole pieces come first.
+    pub whole: u64,
+    /// Then the rest of a distance, where one ended.
+    pub rest: Option<u32>,
+    /// And so many whole pieces of one that has not ended.
+    pub begun: u64,
+}
+
+/// How many whole pieces of a length a distance begins with, and the interval that follows them.
+#[tactic(auto, using(crate::proofs::InPieces::one_piece_in))]
+pub fn pieces(length: u32, distance: u64) -> (u64, u32)
+    requires length { IsInterval length }
     requires least { 1 ≤ distance }
     requires most { distance ≤ 2 ^ 62 }
-    ensures pieces { pieces_of distance ≡ replicate result.0 greatest ++ result.1 ∷ [] }
-    ensures whole { result.0 * greatest + result.1 ≡ distance }
+    ensures pieces { pieces_in length distance ≡ replicate result.0 length ++ result.1 ∷ [] }
+    ensures whole { result.0 * length + result.1 ≡ distance }
     ensures least { 1 ≤ result.1 }
-    ensures most { result.1 ≤ greatest }
+    ensures most { result.1 ≤ length }
 {
-    let greatest = u64::from(MAX_INTERVAL);
-    let whole = (distance - 1) / greatest;
-    (whole, (distance - whole * greatest) as u32)
+    let length = u64::from(length);
+    if distance <= length {
+        // Nearly every distance, and no division.
+        return (0, distance as u32);
+    }
+    let whole = (distance - 1) / length;
+    (whole, (distance - whole * length) as u32)
 }

@@ -4,12 +4,14 @@ ghost use Rattle.std.specs.Prelude.{◌++◌, length, map, take, drop};
 ghost use Rattle.std.specs.Int.{w16};
 ghost use Rattle.std.specs.List.{All, AllByRecursion, sum};
 ghost use Rattle.pcm_front.specs.declared.interval.TheConstants.{MAX_INTERVAL};
+ghost use Rattle.pcm_front.specs.declared.pace.Pace.{Pace};
 ghost use Rattle.pcm_front.specs.declared.side.Side.{Side};
 ghost use Rattle.pcm_front.specs.declared.threshold.Threshold.{Threshold};
 ghost use Rattle.pcm_front.specs.declared.threshold.Threshold.TheVariants.{Fixed};
 ghost use Rattle.pcm_front.specs.Level.{level_of};
 ghost use Rattle.pcm_front.specs.Crossing.{apart, crossings, is_crossing, moments, tick_at, tick_in_step};
-ghost use Rattle.pcm_front.specs.Distance.{distances, distances_by, distances_from_start, gaps, intervals, pieces_of, IsInterval};
+ghost use Rattle.pcm_front.specs.Distance.{distances, distances_by, distances_from_start, gaps, intervals, intervals_by, pieces_in, pieces_of, IsInterval};
+ghost use Rattle.pcm_front.specs.Pace.{intervals_at, passed_by, IsPace};
 ghost use Rattle.pcm_front.specs.Runs.{Alternate, IsOfSize, LiesOn, joined};
 ghost use Rattle.pcm_front.specs.Samples.{bytes_of, samples_of};
 ghost use Rattle.pcm_front.specs.Settings.{from_crossing, Settings};
@@ -143,4 +145,29 @@ pub fn levels_are_bounded()
 pub fn intervals_add_up_to_their_distance()
     ensures sum { (distance : ℕ) → 1 ≤ distance → sum (pieces_of distance) ≡ distance }
     ensures range { (distance : ℕ) → 1 ≤ distance → AllByRecursion IsInterval (pieces_of distance) }
+{}
+
+/// Each distance is its pieces, joined again, and each piece is from 1 to the length.
+pub fn pieces_add_up_to_their_distance()
+    ensures joined { (length : ℕ) (settings : Settings) (samples : List ℤ) → 1 ≤ length → 1 ≤ settings.fineness
+        → map (λ distance. sum (pieces_in length distance)) (distances_by settings samples) ≡ distances_by settings samples }
+    ensures range { (length distance : ℕ) → 1 ≤ length → 1 ≤ distance
+        → AllByRecursion (λ piece. (1 ≤ piece) × (piece ≤ length)) (pieces_in length distance) }
+{}
+
+/// Without pieces the intervals are those of whole distances. Where each distance is within a piece, and
+/// no more has passed behind the last crossing, pieces change nothing.
+pub fn short_distances_are_whole()
+    ensures ended { (settings : Settings) (samples : List ℤ)
+        → intervals_at Pace.Ended settings samples ≡ intervals_by settings samples }
+    ensures short { (length : ℕ) (settings : Settings) (samples : List ℤ) → IsInterval length → 1 ≤ settings.fineness
+        → AllByRecursion (λ distance. distance ≤ length) (distances_by settings samples)
+        → passed_by settings samples < length
+        → intervals_at (Pace.Passing length) settings samples ≡ intervals_by settings samples }
+{}
+
+/// At each pace, the intervals of some samples come first, whatever samples follow.
+pub fn intervals_of_a_front_come_first()
+    ensures { (pace : Pace) (settings : Settings) (front more : List ℤ) → IsPace pace
+        → (rest : List ℕ) × (intervals_at pace settings (front ++ more) ≡ intervals_at pace settings front ++ rest) }
 {}

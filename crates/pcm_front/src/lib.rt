@@ -17,15 +17,18 @@
 //!   (`laws`). Sums of one are the samples.
 //! - `Slicer::run_samples` takes many samples, and `Slicer::run` the whole samples of bytes
 //!   (`specs/Samples.antt`, `samples_of`), up to one that may bring a distance.
-//! - `pieces` writes a distance as intervals of at most `MAX_INTERVAL` (`specs/Distance.antt`,
-//!   `pieces_of`).
+//! - `pieces` writes a distance as intervals of a length and a rest (`specs/Distance.antt`, `pieces_in`).
+//! - `Slicer::intervals_of_samples` and `intervals_of_bytes` give the intervals at a `Pace`: of a distance
+//!   that has ended, or, as it passes, each whole piece as soon as no crossing can end it any more
+//!   (`specs/Pace.antt`, `intervals_at`). Joined again the pieces are the distances, and where none is
+//!   longer than a piece the intervals are the same at both (`laws`).
 //! - Moments rise, from crossing to crossing the ticks differ from those of whole samples by less than
 //!   a sample, and runs of samples are sliced into their lengths (`laws`).
 //! - Sound that is made of intervals is sliced into them again (`specs/Sound.antt`, `sound`; `laws`).
 //!
-//! Read `start`, `samples`, `window`, `threshold`, `level`, `side`, `crossing`, `finder`, `slicer` and
-//! `interval`, in this order, and `specs/Sums.antt`, `Level.antt`, `Side.antt`, `Crossing.antt` and
-//! `Distance.antt` beside them. Nothing here allocates or fails.
+//! Read `start`, `samples`, `window`, `threshold`, `level`, `side`, `crossing`, `finder`, `slicer`,
+//! `interval`, `pace` and `paced`, in this order, and `specs/Sums.antt`, `Level.antt`, `Side.antt`,
+//! `Crossing.antt`, `Distance.antt` and `Pace.antt` beside them. Nothing here allocates or fails.
 #![tactic(auto)]
 
 mod crossing;
@@ -33,6 +36,8 @@ mod finder;
 mod interval;
 pub mod laws;
 mod level;
+mod pace;
+mod paced;
 mod samples;
 mod side;
 mod slicer;
@@ -40,7 +45,8 @@ mod start;
 mod threshold;
 mod window;
 
-pub use interval::{MAX_INTERVAL, pieces};
+pub use interval::{Intervals, MAX_INTERVAL, pieces};
+pub use pace::Pace;
 pub use side::Side;
 pub use slicer::Slicer;
 pub use start::Start;

@@ -2,9 +2,10 @@
 ghost use Rattle.std.specs.Prelude.{◌≡◌, ℕ, ℤ, ◌+◌, ◌*◌, ◌≤◌, ◌^◌, List, [], ◌∷◌, ◌++◌, length, take, IfSome, unsigned_abs, pos, ◌≤ℤ◌};
 ghost use Rattle.std.specs.Option.{option_to_list};
 ghost use Rattle.pcm_front.specs.Distance.{distances_by};
+ghost use Rattle.pcm_front.specs.Pace.{Passes};
 ghost use Rattle.pcm_front.specs.Samples.{samples_of};
 ghost use Rattle.pcm_front.specs.Settings.{from_crossing, from_start};
-ghost use Rattle.pcm_front.specs.StandsFor.{settings_of, tick_of, StandsFor};
+ghost use Rattle.pcm_front.specs.StandsFor.{passed_of, settings_of, tick_of, StandsFor};
 ghost use Rattle.pcm_front.specs.State.{IsThreshold};
 
 use crate::finder::Finder;
@@ -86,6 +87,7 @@ impl Slicer {
 
         // A distance that `pieces` takes, and what the next call needs.
         ensures range { IfSome result (λ distance. (1 ≤ distance) × (distance ≤ 2 ^ 62)) }
+        ensures passes { Passes (passed_of self.old) result (passed_of self.new) }
         ensures tick { tick_of self.new ≡ tick_of self.old + (settings_of self.old).fineness }
         ensures settings { settings_of self.new ≡ settings_of self.old }
 
@@ -100,6 +102,14 @@ impl Slicer {
         self.finder.step(sum)
     }
 
+    /// The ticks that have passed, at the latest sample, since the moment from which the next distance
+    /// runs.
+    pub(crate) fn passed(&self) -> u64
+        ensures { result ≡ passed_of self.now }
+    {
+        self.finder.passed()
+    }
+
     /// Takes samples from the front, at least one of them, up to one that may bring a distance. Gives how
     /// many these are, and the distance.
     pub fn run_samples(&mut self, samples: &[i16]) -> (usize, Option<u64>)
@@ -108,6 +118,7 @@ impl Slicer {
         ensures within { result.0 ≤ length samples.now }
         ensures some { 1 ≤ length samples.now → 1 ≤ result.0 }
         ensures range { IfSome result.1 (λ distance. (1 ≤ distance) × (distance ≤ 2 ^ 62)) }
+        ensures passes { Passes (passed_of self.old) result.1 (passed_of self.new) }
         ensures tick { tick_of self.new ≡ tick_of self.old + (settings_of self.old).fineness * result.0 }
         ensures settings { settings_of self.new ≡ settings_of self.old }
 
@@ -129,6 +140,7 @@ impl Slicer {
         ensures within { result.0 ≤ length bytes.now }
         ensures some { 2 ≤ length bytes.now → 2 ≤ result.0 }
         ensures range { IfSome result.1 (λ distance. (1 ≤ distance) × (distance ≤ 2 ^ 62)) }
+        ensures passes { Passes (passed_of self.old) result.1 (passed_of self.new) }
         ensures tick { (count : ℕ) × (result.0 ≡ 2 * count)
             × (tick_of self.new ≡ tick_of self.old + (settings_of self.old).fineness * count) }
         ensures settings { settings_of self.new ≡ settings_of self.old }
@@ -150,6 +162,7 @@ impl Slicer {
         ensures within { result.0 ≤ length (S.list samples.now) }
         ensures some { 1 ≤ length (S.list samples.now) → 1 ≤ result.0 }
         ensures range { IfSome result.1 (λ distance. (1 ≤ distance) × (distance ≤ 2 ^ 62)) }
+        ensures passes { Passes (passed_of self.old) result.1 (passed_of self.new) }
         ensures tick { tick_of self.new ≡ tick_of self.old + (settings_of self.old).fineness * result.0 }
         ensures settings { settings_of self.new ≡ settings_of self.old }
         ensures stands { (front : List ℤ) → StandsFor self.old front

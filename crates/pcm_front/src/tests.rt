@@ -1,7 +1,7 @@
 //! Distances that were worked out by hand.
 ghost use Rattle.std.specs.Prelude.{◌≡◌, ◌≤◌};
 
-use crate::{Slicer, Threshold, pieces};
+use crate::{Intervals, MAX_INTERVAL, Pace, Slicer, Threshold, pieces};
 use std::marker::Model;
 
 /// A slicer that is given so few samples that no count of ticks can be too great.
@@ -157,14 +157,70 @@ fn samples_are_taken_up_to_a_distance(rt: HostRuntime) {
 
 #[test]
 fn long_distances_come_in_pieces(rt: HostRuntime) {
-    for (distance, whole, rest) in [
-        (1, 0, 1),
-        (16_777_215, 0, 16_777_215),
-        (16_777_216, 1, 1),
-        (33_554_430, 1, 16_777_215),
-        (33_554_431, 2, 1),
-        (1 << 62, 274_877_923_328, 16_384),
+    for (length, distance, whole, rest) in [
+        (MAX_INTERVAL, 1, 0, 1),
+        (MAX_INTERVAL, 16_777_215, 0, 16_777_215),
+        (MAX_INTERVAL, 16_777_216, 1, 1),
+        (MAX_INTERVAL, 33_554_430, 1, 16_777_215),
+        (MAX_INTERVAL, 33_554_431, 2, 1),
+        (MAX_INTERVAL, 1 << 62, 274_877_923_328, 16_384),
+        (480, 480, 0, 480),
+        (480, 960, 1, 480),
+        (480, 961, 2, 1),
     ] {
-        assert_eq!(rt; pieces(distance), (whole, rest), "of {distance}");
+        assert_eq!(rt; pieces(length, distance), (whole, rest), "of {distance}");
     }
+}
+
+#[test]
+fn a_distance_is_written_as_it_passes(rt: HostRuntime) {
+    // In pieces of 32 ticks, from tick 0: the first crossing, at 42, brings one and a rest.
+    let none = Intervals {
+        length: 32,
+        whole: 0,
+        rest: None,
+        begun: 0,
+    };
+    let pace = Pace::Passing(32);
+    let samples = [-900, -900, -900, 900, 900, 900];
+    let mut slicer = Slicer::from_the_start(16, Threshold::Deep(1), 1);
+    assert_eq!(rt; slicer.intervals_of_samples(pace, &samples), (1, none));
+    let brought = Intervals {
+        whole: 1,
+        rest: Some(10),
+        ..none
+    };
+    assert_eq!(rt;
+        slicer.intervals_of_samples(pace, &samples[1..]),
+        (3, brought)
+    );
+}
+
+#[test]
+fn silence_is_written_as_it_passes(rt: HostRuntime) {
+    // The tick of the fifth sample is 64: two pieces of 32 have passed, and four of 16.
+    let begun = Intervals {
+        length: 32,
+        whole: 0,
+        rest: None,
+        begun: 2,
+    };
+    let mut slicer = Slicer::from_the_start(16, Threshold::Deep(1), 1);
+    assert_eq!(rt;
+        slicer.intervals_of_samples(Pace::Passing(32), &[0; 5]),
+        (5, begun)
+    );
+    let begun = Intervals {
+        length: 16,
+        begun: 4,
+        ..begun
+    };
+    let mut slicer = Slicer::from_the_start(16, Threshold::Deep(1), 1);
+    assert_eq!(rt;
+        slicer.intervals_of_bytes(Pace::Passing(16), &[0; 11]),
+        (10, begun)
+    );
+    let mut slicer = Slicer::finer(16, Threshold::Deep(1));
+    let (_count, brought) = slicer.intervals_of_bytes(Pace::Passing(16), &[0; 11]);
+    assert_eq!(rt; brought.begun, 0);
 }

@@ -1,5 +1,5 @@
 -- What `mtc-read`, `pcm-ltc` and `vitc-read` write of some bytes comes first, whatever bytes follow, so each is a command as any other.
-use Rattle.std.proofs.Common.{◌≡◌, ℕ, zero, suc, ◌+◌, ℤ, List, [], ◌∷◌, ◌++◌, take, drop, refl, sym, ◌∙◌, ap, subst, append_assoc, arith}
+use Rattle.std.proofs.Common.{◌≡◌, ℕ, zero, suc, ◌+◌, ◌*◌, ℤ, List, [], ◌∷◌, ◌++◌, take, drop, refl, sym, ◌∙◌, ap, subst, append_assoc, arith}
 use Rattle.std.specs.List.{flat_map}
 use Rattle.std.proofs.lemmas.Bool.{false≢true}
 use Rattle.std.proofs.lemmas.Grind.{flat_map-append}
@@ -10,7 +10,8 @@ use Rattle.line_file.specs.Texts.{field_line}
 use Rattle.mtc_reader.specs.declared.event.MtcEvent.{MtcEvent}
 use Rattle.mtc_reader.specs.Events.{events_in}
 use Rattle.mtc_reader.specs.Texts.{event_line as mtc_line}
-use Rattle.pcm_front.specs.Distance.{distances_by, pieces_of}
+use Rattle.pcm_front.specs.declared.pace.Pace.{Pace}
+use Rattle.pcm_front.specs.Pace.{intervals_at, IsPace}
 use Rattle.pcm_front.specs.Samples.{sample_in, samples_of}
 use Rattle.pcm_front.specs.Settings.{Settings}
 use Rattle.tc_files.specs.declared.fault.FileFault.{FileFault}
@@ -27,9 +28,10 @@ use Rattle.tc_command.specs.KeptFirst.{front_of_more}
 use Rattle.signal_commands.specs.declared.mtc_read.TheConstants.{MAX_BYTES}
 use Rattle.signal_commands.specs.declared.pcm_ltc.TheConstants.{MAX_SAMPLES}
 use Rattle.signal_commands.specs.MtcRead.{along_midi, event_lines, last_mtc_line}
-use Rattle.signal_commands.specs.PcmLtc.{along_samples, settings_for, sliced, sliced_header}
+use Rattle.signal_commands.specs.PcmLtc.{along_samples, pace_for, settings_for, sliced, sliced_header}
 use Rattle.signal_commands.specs.VitcRead.{along_fields, answer_lines, field_report, last_field_line}
 use Rattle.signal_commands.proofs.MidiLimit.{never_refused, past_within}
+use Rattle.signal_commands.proofs.PutMore.{is_pace}
 use Rattle.signal_commands.proofs.SlicedOn.{never_refused as no_fault_yet, past_within as past_samples}
 
 -- the first items of a list come first among those of a longer one
@@ -82,10 +84,10 @@ midi_is_command laws = record {
 
 -- ---- samples
 
--- the distances of some samples come first
-abbrev pub DistancesComeFirst : Type 0
-DistancesComeFirst = (settings : Settings) (front more : List ℤ)
-    → (rest : List ℕ) × (distances_by settings (front ++ more) ≡ distances_by settings front ++ rest)
+-- the intervals of some samples come first, at each pace
+abbrev IntervalsComeFirst : Type 0
+IntervalsComeFirst = (pace : Pace) (settings : Settings) (front more : List ℤ) → IsPace pace
+    → (rest : List ℕ) × (intervals_at pace settings (front ++ more) ≡ intervals_at pace settings front ++ rest)
 
 samples_first : (front more : List ℕ) → (rest : List ℤ) × (samples_of (front ++ more) ≡ samples_of front ++ rest)
 unfolding samples_of
@@ -103,17 +105,14 @@ file_first header xs more = (
       ∙ sym (append_assoc (header_bytes header) (intervals_bytes header.version xs) (intervals_bytes header.version more)),
 )
 
-sliced_first : DistancesComeFirst → (s : Slices) (front more : List ℤ) → IsFront (sliced s front) (sliced s (front ++ more))
+sliced_first : IntervalsComeFirst → (s : Slices) (front more : List ℤ) → IsFront (sliced s front) (sliced s (front ++ more))
 sliced_first laws s front more =
-    let gaps = laws (settings_for s) front more in
-    let before = distances_by (settings_for s) front in
-    let file = file_first (sliced_header s) (flat_map pieces_of before) (flat_map pieces_of gaps.0) in (
-      file.0,
-      ap (λ ds. file_of (sliced_header s) (flat_map pieces_of ds)) gaps.1
-          ∙ ap (λ xs. file_of (sliced_header s) xs) (flat_map-append pieces_of before gaps.0) ∙ file.1,
-    )
+    let rest = laws (pace_for s) (settings_for s) front more (is_pace s.live s.system (s.rate * s.fineness)) in
+    let before = intervals_at (pace_for s) (settings_for s) front in
+    let file = file_first (sliced_header s) before rest.0 in
+    (file.0, ap (λ xs. file_of (sliced_header s) xs) rest.1 ∙ file.1)
 
-pub samples_are_command : DistancesComeFirst → (s : Slices) → IsCommand (along_samples s)
+pub samples_are_command : IntervalsComeFirst → (s : Slices) → IsCommand (along_samples s)
 samples_are_command laws s = record {
   first = record {
     part = λ front more a b one all.

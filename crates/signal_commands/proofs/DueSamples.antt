@@ -1,13 +1,13 @@
 -- The bytes that samples bring are those that each run of them brings, one run after another.
 use Rattle.std.proofs.Common.{◌≡◌, ℕ, zero, suc, ◌+◌, ◌-◌, ◌*◌, ◌^◌, ◌≤◌, ap₂, ℤ, List, [], ◌∷◌, ◌++◌, length, take, drop, sym, ◌∙◌, ap, subst, append_assoc, append-nil, arith, Some, None}
 use Rattle.std.specs.declared.option.Option.{Option}
-use Rattle.std.specs.Option.{option_to_list}
-use Rattle.std.specs.List.{flat_map}
 use Rattle.std.proofs.lemmas.Grind.{common_steps, flat_map-append}
 use Rattle.std.proofs.lemmas.List.{take-append-drop, drop-take}
 use Rattle.std.proofs.KnownBytes.{Appends-trans}
 use Rattle.std.proofs.Math.Nat.{suc-mul}
-use Rattle.pcm_front.specs.Distance.{distances_by, pieces_of}
+use Rattle.pcm_front.specs.declared.interval.Intervals.{Intervals}
+use Rattle.pcm_front.specs.declared.pace.Pace.{Pace}
+use Rattle.pcm_front.specs.Pace.{intervals_at, intervals_in}
 use Rattle.pcm_front.specs.Settings.{Settings}
 use Rattle.tc_files.specs.declared.interval_file.header.FileVersion.TheVariants.{One}
 use Rattle.tc_files.specs.Grammar.{intervals_bytes}
@@ -16,38 +16,30 @@ use Rattle.tc_io.specs.Sink.{AppendsFront}
 use Rattle.tc_command.specs.KeptGathered.{IsPut}
 use Rattle.signal_commands.specs.KeptTrack.{AreDue, spelled}
 
--- what a distance brings
-abbrev pub due_at : Option ℕ → List ℕ
-due_at distance = intervals_bytes One (flat_map pieces_of (option_to_list distance))
-
-pub due_at_some : (distance : Option ℕ) (d : ℕ) → distance ≡ Some d → due_at distance ≡ intervals_bytes One (pieces_of d)
-due_at_some distance d is = ap due_at is ∙ ap (intervals_bytes One) (append-nil (pieces_of d))
-
-pub due_at_none : (distance : Option ℕ) → distance ≡ None → due_at distance ≡ []
-due_at_none distance is = ap due_at is
+-- what intervals bring
+abbrev pub due_at : Intervals → List ℕ
+due_at brought = intervals_bytes One (intervals_in brought)
 
 -- no samples bring nothing
-pub none_due : (s : Settings) (front : List ℤ) → AreDue s front [] []
-none_due s front = ap (spelled s) (append-nil front) ∙ sym (append-nil (spelled s front))
+pub none_due : (pace : Pace) (s : Settings) (front : List ℤ) → AreDue pace s front [] []
+none_due pace s front = ap (spelled pace s) (append-nil front) ∙ sym (append-nil (spelled pace s front))
 
 -- a run more
-pub due_more : (s : Settings) (front before run : List ℤ) (due : List ℕ) (distance : Option ℕ) → AreDue s front before due
-    → distances_by s ((front ++ before) ++ run) ≡ distances_by s (front ++ before) ++ option_to_list distance
-    → AreDue s front (before ++ run) (due ++ due_at distance)
-due_more s front before run due distance are brings =
-    let so_far = distances_by s (front ++ before) in
-    ap (spelled s) (sym (append_assoc front before run))
-    ∙ ap (λ (ds : List ℕ). intervals_bytes One (flat_map pieces_of ds)) brings
-    ∙ ap (intervals_bytes One) (flat_map-append pieces_of so_far (option_to_list distance))
-    ∙ flat_map-append (spelling One) (flat_map pieces_of so_far) (flat_map pieces_of (option_to_list distance))
-    ∙ ap (λ (l : List ℕ). l ++ due_at distance) are ∙ append_assoc (spelled s front) due (due_at distance)
+pub due_more : (pace : Pace) (s : Settings) (front before run : List ℤ) (due : List ℕ) (brought : Intervals) → AreDue pace s front before due
+    → intervals_at pace s ((front ++ before) ++ run) ≡ intervals_at pace s (front ++ before) ++ intervals_in brought
+    → AreDue pace s front (before ++ run) (due ++ due_at brought)
+due_more pace s front before run due brought are brings =
+    ap (spelled pace s) (sym (append_assoc front before run))
+    ∙ ap (intervals_bytes One) brings
+    ∙ flat_map-append (spelling One) (intervals_at pace s (front ++ before)) (intervals_in brought)
+    ∙ ap (λ (l : List ℕ). l ++ due_at brought) are ∙ append_assoc (spelled pace s front) due (due_at brought)
 
 -- and what the others bring behind it
-pub due_behind : (s : Settings) (front before rest all : List ℤ) (due more : List ℕ) → before ++ rest ≡ all → AreDue s front before due
-    → AreDue s (front ++ before) rest more → AreDue s front all (due ++ more)
-due_behind s front before rest all due more split are behind =
-    ap (λ (l : List ℤ). spelled s (front ++ l)) (sym split) ∙ ap (spelled s) (sym (append_assoc front before rest)) ∙ behind
-    ∙ ap (λ (l : List ℕ). l ++ more) are ∙ append_assoc (spelled s front) due more
+pub due_behind : (pace : Pace) (s : Settings) (front before rest all : List ℤ) (due more : List ℕ) → before ++ rest ≡ all → AreDue pace s front before due
+    → AreDue pace s (front ++ before) rest more → AreDue pace s front all (due ++ more)
+due_behind pace s front before rest all due more split are behind =
+    ap (λ (l : List ℤ). spelled pace s (front ++ l)) (sym split) ∙ ap (spelled pace s) (sym (append_assoc front before rest)) ∙ behind
+    ∙ ap (λ (l : List ℕ). l ++ more) are ∙ append_assoc (spelled pace s front) due more
 
 -- a run behind those before a place
 pub cut_run : (k n : ℕ) (xs : List ℤ) → k ≤ length xs → k + n ≤ length xs
@@ -105,17 +97,17 @@ pub joined : (k n : ℕ) (front xs : List ℤ) → k ≤ length xs → k + n ≤
 joined k n front xs within less = append_assoc front (take k xs) _ ∙ ap (λ (l : List ℤ). front ++ l) (cut_run k n xs within less)
 
 -- what the samples up to the end of a run bring
-pub run_due : (s other : Settings) (k n : ℕ) (front xs : List ℤ) (due : List ℕ) (distance : Option ℕ) → other ≡ s → k ≤ length xs → k + n ≤ length xs
-    → AreDue s front (take k xs) due
-    → distances_by other ((front ++ take k xs) ++ take n (take (length xs - k) (drop k xs)))
-    ≡ distances_by other (front ++ take k xs) ++ option_to_list distance
-    → AreDue s front (take (k + n) xs) (due ++ due_at distance)
-run_due s other k n front xs due distance same within less are brings =
+pub run_due : (pace : Pace) (s other : Settings) (k n : ℕ) (front xs : List ℤ) (due : List ℕ) (brought : Intervals) → other ≡ s → k ≤ length xs
+    → k + n ≤ length xs → AreDue pace s front (take k xs) due
+    → intervals_at pace other ((front ++ take k xs) ++ take n (take (length xs - k) (drop k xs)))
+    ≡ intervals_at pace other (front ++ take k xs) ++ intervals_in brought
+    → AreDue pace s front (take (k + n) xs) (due ++ due_at brought)
+run_due pace s other k n front xs due brought same within less are brings =
     let run = take n (take (length xs - k) (drop k xs)) in
-    let here = subst (λ (x : Settings). distances_by x ((front ++ take k xs) ++ run) ≡ distances_by x (front ++ take k xs) ++ option_to_list distance)
+    let here = subst (λ (x : Settings). intervals_at pace x ((front ++ take k xs) ++ run) ≡ intervals_at pace x (front ++ take k xs) ++ intervals_in brought)
     same brings in
-    subst (λ (l : List ℤ). AreDue s front l (due ++ due_at distance)) (cut_run k n xs within less)
-    (due_more s front (take k xs) run due distance are here)
+    subst (λ (l : List ℤ). AreDue pace s front l (due ++ due_at brought)) (cut_run k n xs within less)
+    (due_more pace s front (take k xs) run due brought are here)
 
 -- what was put before, and a front of what is put then
 pub put_then_front : (a b c : Option (List ℕ)) (first bytes room piece : List ℕ) → IsPut a b first bytes room → AppendsFront b c (room ++ piece)

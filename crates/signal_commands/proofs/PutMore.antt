@@ -1,36 +1,53 @@
 -- Bytes that are put one after another were pushed or are gathered, all of them in order; and a push that fails leaves a front of them.
-use Rattle.std.proofs.Common.{◌≡◌, ℕ, ◌+◌, ◌-◌, ◌≤◌, List, [], ◌∷◌, ◌++◌, replicate, sym, ◌∙◌, ap, append_assoc, append-nil, arith}
-use Rattle.std.specs.declared.option.Option.{Option}
-use Rattle.std.specs.Io.KnownBytes.{Appends}
-use Rattle.std.proofs.KnownBytes.{Appends-nil, Appends-trans}
+use Rattle.std.proofs.Common.{◌≡◌, ℕ, ◌+◌, ◌-◌, ◌≤◌, Bool, true, false, List, [], ◌∷◌, ◌++◌, replicate, refl, sym, ◌∙◌, ap, arith}
 use Rattle.std.proofs.lemmas.Grind.{flat_map-append}
 use Rattle.std.proofs.lemmas.List.{replicate-append-replicate}
-use Rattle.pcm_front.specs.Distance.{greatest}
+use Rattle.std.proofs.Math.Nat.{zero-div}
+use Rattle.std.specs.Option.{option_to_list}
+use Rattle.pcm_front.specs.declared.interval.Intervals.{Intervals}
+use Rattle.pcm_front.specs.declared.pace.Pace.{Pace}
+use Rattle.pcm_front.specs.declared.pace.Pace.TheVariants.{Ended, Passing}
+use Rattle.pcm_front.specs.Pace.{begun, intervals_in, IsPace}
+use Rattle.tc_address.specs.declared.system.System.{System}
 use Rattle.tc_files.specs.declared.interval_file.header.FileVersion.TheVariants.{One}
 use Rattle.tc_files.specs.Grammar.{intervals_bytes}
 use Rattle.tc_files.specs.Piece.{spelling}
-use Rattle.tc_io.specs.Sink.{AppendsFront}
+use Rattle.tc_words.specs.Live.{pace_of}
 
--- ---- the intervals of a distance
+-- ---- intervals of one length
 
--- greatest intervals, so many, and what follows
-pub pieces_from : (count whole : ℕ) (more : List ℕ) → count ≤ whole → intervals_bytes One (replicate whole greatest ++ more)
-    ≡ intervals_bytes One (replicate count greatest) ++ intervals_bytes One (replicate (whole - count) greatest ++ more)
-pieces_from count whole more within =
+-- so many, and those that follow
+pub pieces_from : (length count whole : ℕ) → count ≤ whole → intervals_bytes One (replicate whole length)
+    ≡ intervals_bytes One (replicate count length) ++ intervals_bytes One (replicate (whole - count) length)
+pieces_from length count whole within =
     let e : count + (whole - count) ≡ whole = omega (arith, within) in
-    ap (λ n. intervals_bytes One (replicate n greatest ++ more)) (sym e)
-    ∙ ap (λ (l : List ℕ). intervals_bytes One (l ++ more)) (sym (replicate-append-replicate count (whole - count) greatest))
-    ∙ ap (intervals_bytes One) (append_assoc (replicate count greatest) (replicate (whole - count) greatest) more)
-    ∙ flat_map-append (spelling One) (replicate count greatest) (replicate (whole - count) greatest ++ more)
+    ap (λ n. intervals_bytes One (replicate n length)) (sym e)
+    ∙ ap (intervals_bytes One) (sym (replicate-append-replicate count (whole - count) length))
+    ∙ flat_map-append (spelling One) (replicate count length) (replicate (whole - count) length)
 
 -- one more
-pub one_piece : (count : ℕ) → intervals_bytes One (replicate (count + 1) greatest) ≡ intervals_bytes One (replicate count greatest) ++ spelling One greatest
-one_piece count =
-    ap (intervals_bytes One) (sym (replicate-append-replicate count 1 greatest))
-    ∙ flat_map-append (spelling One) (replicate count greatest) (greatest ∷ [])
+pub one_piece : (length count : ℕ) → intervals_bytes One (replicate (count + 1) length) ≡ intervals_bytes One (replicate count length) ++ spelling One length
+one_piece length count =
+    ap (intervals_bytes One) (sym (replicate-append-replicate count 1 length))
+    ∙ flat_map-append (spelling One) (replicate count length) (length ∷ [])
 
--- and the rest
-pub last_piece : (whole rest : ℕ) → intervals_bytes One (replicate whole greatest ++ rest ∷ []) ≡ intervals_bytes One (replicate whole greatest)
-    ++ spelling One rest
-last_piece whole rest =
-    flat_map-append (spelling One) (replicate whole greatest) (rest ∷ [])
+-- ---- the intervals that samples brought
+
+-- in three parts
+pub three_parts : (p : Intervals) → intervals_bytes One (intervals_in p)
+    ≡ intervals_bytes One (replicate p.whole p.length)
+    ++ (intervals_bytes One (option_to_list p.rest) ++ intervals_bytes One (replicate p.begun p.length))
+three_parts p =
+    let first = replicate p.whole p.length in
+    flat_map-append (spelling One) first (option_to_list p.rest ++ replicate p.begun p.length)
+    ∙ ap (λ (l : List ℕ). intervals_bytes One first ++ l) (flat_map-append (spelling One) (option_to_list p.rest) (replicate p.begun p.length))
+
+-- nothing has begun where nothing has passed
+pub none_begun : (pace : Pace) → begun pace 0 ≡ []
+none_begun Ended = refl
+none_begun (Passing length) = ap (λ n. replicate n length) (zero-div length)
+
+-- the length of the pieces is that of an interval
+pub is_pace : (live : Bool) (system : System) (rate : ℕ) → IsPace (pace_of live system rate)
+is_pace true system rate = (omega arith, omega arith)
+is_pace false system rate = (omega arith, omega arith)

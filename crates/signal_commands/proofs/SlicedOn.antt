@@ -1,4 +1,4 @@
--- A file of sliced sound grows by the intervals of the distance that more samples bring, and past the limit nothing more is taken.
+-- A file of sliced sound grows by the intervals that more samples bring, and past the limit nothing more is taken.
 use Rattle.std.proofs.Common.{◌≡◌, inl, ℕ, ◌+◌, ◌-◌, ◌*◌, ◌/◌, ◌^◌, ◌%◌, ◌==◌, ap₂, get_or, mul-le-mul, ◌<◌, ◌≤◌, Bool, true, false, nat_lt, cond, ℤ}
 use Rattle.std.proofs.Common.{List, [], ◌∷◌, ◌++◌, length, take, drop, Some, None, sym, ◌∙◌, ap, refl, subst, append_assoc, append-nil, arith}
 use Rattle.std.specs.declared.option.Option.{Option}
@@ -8,7 +8,9 @@ use Rattle.std.specs.Io.KnownBytes.{Appends}
 use Rattle.std.proofs.lemmas.Bool.{ltb-true, lt-ltb}
 use Rattle.std.proofs.lemmas.Grind.{flat_map-append}
 use Rattle.std.proofs.lemmas.List.{length-append, length-take, length-take-le, take-append-drop, take-append-le, take-take, take_all}
-use Rattle.pcm_front.specs.Distance.{distances_by, pieces_of}
+use Rattle.pcm_front.specs.declared.interval.Intervals.{Intervals}
+use Rattle.pcm_front.specs.declared.pace.Pace.{Pace}
+use Rattle.pcm_front.specs.Pace.{intervals_at, intervals_in}
 use Rattle.pcm_front.specs.Samples.{samples_of}
 use Rattle.pcm_front.specs.Settings.{Settings}
 use Rattle.pcm_front.specs.StandsFor as pcm
@@ -28,9 +30,10 @@ use Rattle.tc_command.specs.declared.stop.Stop.{Stop}
 use Rattle.tc_command.specs.declared.stop.Stop.TheVariants as stops
 use Rattle.signal_commands.specs.KeptSlices.{Slices, Stands, half_is_none, length-samples, samples_of-append}
 use Rattle.tc_files.specs.declared.fault.FileFault.TheVariants.{Truncated}
-use Rattle.signal_commands.specs.PcmLtc.{along_samples, odd_fault, samples_within, settings_for, sliced, sliced_header}
+use Rattle.signal_commands.specs.PcmLtc.{along_samples, odd_fault, pace_for, samples_within, settings_for, sliced, sliced_header}
 use Rattle.tc_command.specs.Stops.{Stops}
 use Rattle.tc_command.specs.KeptWorks.{first_and_rest, first_only}
+use Rattle.signal_commands.proofs.PutMore.{none_begun}
 
 -- ---- the limit
 
@@ -77,51 +80,50 @@ some_samples (low ∷ high ∷ more) some = omega arith
 -- of no samples it is the header
 pub no_samples : (s : words.Slices) → sliced s (samples_of []) ≡ header_bytes (sliced_header s)
 unfolding samples_of
-no_samples s = append-nil (header_bytes (sliced_header s))
+no_samples s =
+    ap (λ (l : List ℕ). file_of (sliced_header s) l) (none_begun (pace_for s)) ∙ append-nil (header_bytes (sliced_header s))
 
--- what a distance brings
-abbrev pub due : Option ℕ → List ℕ
-due distance = intervals_bytes One (flat_map pieces_of (option_to_list distance))
+-- what intervals bring
+abbrev pub due : Intervals → List ℕ
+due brought = intervals_bytes One (intervals_in brought)
 
-longer_file : (s : words.Slices) (samples more : List ℤ) (distance : Option ℕ)
-    → distances_by (settings_for s) (samples ++ more) ≡ distances_by (settings_for s) samples ++ option_to_list distance
-    → sliced s (samples ++ more) ≡ sliced s samples ++ due distance
-longer_file s samples more distance brings =
-    let before = distances_by (settings_for s) samples in
-    ap (λ (ds : List ℕ). file_of (sliced_header s) (flat_map pieces_of ds)) brings
-    ∙ ap (λ (xs : List ℕ). file_of (sliced_header s) xs) (flat_map-append pieces_of before (option_to_list distance))
-    ∙ ap (λ (bytes : List ℕ). header_bytes (sliced_header s) ++ bytes)
-    (flat_map-append (spelling One) (flat_map pieces_of before) (flat_map pieces_of (option_to_list distance)))
-    ∙ sym (append_assoc (header_bytes (sliced_header s)) (intervals_bytes One (flat_map pieces_of before)) (due distance))
+longer_file : (s : words.Slices) (samples more : List ℤ) (brought : Intervals)
+    → intervals_at (pace_for s) (settings_for s) (samples ++ more) ≡ intervals_at (pace_for s) (settings_for s) samples ++ intervals_in brought
+    → sliced s (samples ++ more) ≡ sliced s samples ++ due brought
+longer_file s samples more brought brings =
+    let before = intervals_at (pace_for s) (settings_for s) samples in
+    ap (λ (xs : List ℕ). file_of (sliced_header s) xs) brings
+    ∙ ap (λ (bytes : List ℕ). header_bytes (sliced_header s) ++ bytes) (flat_map-append (spelling One) before (intervals_in brought))
+    ∙ sym (append_assoc (header_bytes (sliced_header s)) (intervals_bytes One before) (due brought))
 
 -- what the slicer says of more bytes
-pub record Grows (s next : SlicedSound) (taken : List ℕ) (distance : Option ℕ) : Type 0 where
+pub record Grows (s next : SlicedSound) (taken : List ℕ) (brought : Intervals) : Type 0 where
   pub count : length taken + 2 * s.samples ≡ 2 * next.samples
   pub within : next.samples ≤ MAX_SAMPLES
   pub slicing : next.slicing ≡ s.slicing
   pub stands : (samples : List ℤ) → pcm.StandsFor s.slicer samples → pcm.StandsFor next.slicer (samples ++ samples_of taken)
   pub brings : (samples : List ℤ) → pcm.StandsFor s.slicer samples
-      → distances_by (settings_for s.slicing) (samples ++ samples_of taken)
-      ≡ distances_by (settings_for s.slicing) samples ++ option_to_list distance
+      → intervals_at (pace_for s.slicing) (settings_for s.slicing) (samples ++ samples_of taken)
+      ≡ intervals_at (pace_for s.slicing) (settings_for s.slicing) samples ++ intervals_in brought
 
 -- the file of the bytes with more
-grown_file : (s next : SlicedSound) (whole written taken : List ℕ) (distance : Option ℕ) → Slices s whole written → Grows s next taken distance
-    → written ++ (s.gathered.room.items ++ due distance) ≡ sliced s.slicing (samples_of (whole ++ taken))
-grown_file s next whole written taken distance slices grows =
-    sym (append_assoc written s.gathered.room.items (due distance))
-    ∙ ap (λ (l : List ℕ). l ++ due distance) slices.are
-    ∙ sym (longer_file s.slicing (samples_of whole) (samples_of taken) distance (grows.brings (samples_of whole) slices.slicer))
+grown_file : (s next : SlicedSound) (whole written taken : List ℕ) (brought : Intervals) → Slices s whole written → Grows s next taken brought
+    → written ++ (s.gathered.room.items ++ due brought) ≡ sliced s.slicing (samples_of (whole ++ taken))
+grown_file s next whole written taken brought slices grows =
+    sym (append_assoc written s.gathered.room.items (due brought))
+    ∙ ap (λ (l : List ℕ). l ++ due brought) slices.are
+    ∙ sym (longer_file s.slicing (samples_of whole) (samples_of taken) brought (grows.brings (samples_of whole) slices.slicer))
     ∙ ap (sliced s.slicing) (sym (samples_of-append s.samples whole taken slices.count))
 
 -- more bytes were taken, and what they bring was pushed or is gathered
-pub grown : (s next : SlicedSound) (whole written taken more : List ℕ) (distance : Option ℕ) → Slices s whole written → Grows s next taken distance
-    → s.gathered.room.items ++ due distance ≡ more ++ next.gathered.room.items → Slices next (whole ++ taken) (written ++ more)
-grown s next whole written taken more distance slices grows pushed = record {
+pub grown : (s next : SlicedSound) (whole written taken more : List ℕ) (brought : Intervals) → Slices s whole written → Grows s next taken brought
+    → s.gathered.room.items ++ due brought ≡ more ++ next.gathered.room.items → Slices next (whole ++ taken) (written ++ more)
+grown s next whole written taken more brought slices grows pushed = record {
   within = grows.within;
   count = omega (arith, length-append whole taken, slices.count, grows.count);
   slicer = rw (samples_of-append s.samples whole taken slices.count) (grows.stands (samples_of whole) slices.slicer);
   are = append_assoc written more next.gathered.room.items ∙ ap (λ (l : List ℕ). written ++ l) (sym pushed)
-      ∙ grown_file s next whole written taken distance slices grows ∙ ap (λ (c : words.Slices). sliced c (samples_of (whole ++ taken))) (sym grows.slicing);
+      ∙ grown_file s next whole written taken brought slices grows ∙ ap (λ (c : words.Slices). sliced c (samples_of (whole ++ taken))) (sym grows.slicing);
 }
 
 -- the part of whole bytes within the limit
@@ -130,11 +132,11 @@ part_of : (slicing : words.Slices) (bytes written : List ℕ) → length (sample
 part_of slicing bytes written within are = are ∙ ap (sliced slicing) (sym (take_all MAX_SAMPLES (samples_of bytes) within))
 
 -- a push failed: a front of what is due stands
-pub grown_part : (s next : SlicedSound) (whole written bytes rest : List ℕ) (count : ℕ) (distance : Option ℕ) (old new : Option (List ℕ))
-    → Slices s whole written → Grows s next (take count bytes) distance
-    → AppendsFront old new (s.gathered.room.items ++ due distance)
+pub grown_part : (s next : SlicedSound) (whole written bytes rest : List ℕ) (count : ℕ) (brought : Intervals) (old new : Option (List ℕ))
+    → Slices s whole written → Grows s next (take count bytes) brought
+    → AppendsFront old new (s.gathered.room.items ++ due brought)
     → Stops (along_samples s.slicing) stops.WriteFault old new (whole ++ (bytes ++ rest)) written
-grown_part s next whole written bytes rest count distance old new slices grows f =
+grown_part s next whole written bytes rest count brought old new slices grows f =
     let taken = take count bytes in
     let front = whole ++ taken in
     let long : length front ≡ 2 * next.samples = omega (arith, length-append whole taken, slices.count, grows.count) in
@@ -145,12 +147,12 @@ grown_part s next whole written bytes rest count distance old new slices grows f
       f.2,
       (
         front,
-        written ++ (s.gathered.room.items ++ due distance),
+        written ++ (s.gathered.room.items ++ due brought),
         (
           drop count bytes ++ rest,
           ap (λ (l : List ℕ). whole ++ l) behind ∙ sym (append_assoc whole taken (drop count bytes ++ rest)),
         ),
-        part_of s.slicing front _ within (grown_file s next whole written taken distance slices grows),
+        part_of s.slicing front _ within (grown_file s next whole written taken brought slices grows),
         (f.1.0, ap (λ (l : List ℕ). written ++ l) f.1.1 ∙ sym (append_assoc written f.0 f.1.0)),
       ),
     )
@@ -236,38 +238,31 @@ pub no_longer : (s : SlicedSound) (bytes inner : List ℕ) → inner ≡ take (2
 no_longer s bytes inner is = omega (arith, ap length is, length-take (2 * (MAX_SAMPLES - s.samples)) bytes)
 
 -- the samples that it took of those within the limit
-pub grows : (s next : SlicedSound) (bytes inner : List ℕ) (count k : ℕ) (distance : Option ℕ)
+pub grows : (s next : SlicedSound) (bytes inner : List ℕ) (count k : ℕ) (pace : Pace) (brought : Intervals)
     → inner ≡ take (2 * (MAX_SAMPLES - s.samples)) bytes → count ≤ length inner → count ≡ 2 * k
     → next.samples ≡ s.samples + count / 2 → next.slicing ≡ s.slicing → s.samples ≤ MAX_SAMPLES
-    → pcm.settings_of s.slicer ≡ settings_for s.slicing
+    → pcm.settings_of s.slicer ≡ settings_for s.slicing → pace ≡ pace_for s.slicing
     → ((samples : List ℤ) → pcm.StandsFor s.slicer samples → pcm.StandsFor next.slicer (samples ++ samples_of (take count inner)))
-    → ((samples : List ℤ) → pcm.StandsFor s.slicer samples → distances_by (pcm.settings_of s.slicer) (samples ++ samples_of (take count inner))
-    ≡ distances_by (pcm.settings_of s.slicer) samples ++ option_to_list distance)
-    → Grows s next (take count bytes) distance
-grows s next bytes inner count k distance is within whole counted same_slicing few same_settings stands brings =
+    → ((samples : List ℤ) → pcm.StandsFor s.slicer samples → intervals_at pace (pcm.settings_of s.slicer) (samples ++ samples_of (take count inner))
+    ≡ intervals_at pace (pcm.settings_of s.slicer) samples ++ intervals_in brought)
+    → Grows s next (take count bytes) brought
+grows s next bytes inner count k pace brought is within whole counted same_slicing few same_settings same_pace stands brings =
     let most = 2 * (MAX_SAMPLES - s.samples) in
     let short = no_longer s bytes inner is in
     let inside : length inner ≤ length bytes = omega (arith, ap length is, length-take most bytes) in
     let same : take count inner ≡ take count bytes = ap (take count) is ∙ take-take count most bytes (omega (arith, within, short)) in
     let long : length (take count bytes) ≡ count = length-take-le count bytes (omega (arith, within, inside)) in
-    let by_words : (xs : List ℤ) → distances_by (pcm.settings_of s.slicer) xs ≡ distances_by (settings_for s.slicing) xs =
-    λ xs. ap (λ (how : Settings). distances_by how xs) same_settings in
+    let by_words : (xs : List ℤ) → intervals_at pace (pcm.settings_of s.slicer) xs ≡ intervals_at (pace_for s.slicing) (settings_for s.slicing) xs =
+    λ xs. ap₂ (λ (p : Pace) (how : Settings). intervals_at p how xs) same_pace same_settings in
     record {
       count = omega (arith, long, whole, counted);
       within = omega (arith, whole, counted, within, short, few);
       slicing = same_slicing;
       stands = λ samples is_for. subst (λ (b : List ℕ). pcm.StandsFor next.slicer (samples ++ samples_of b)) same (stands samples is_for);
       brings = λ samples is_for. sym (by_words (samples ++ samples_of (take count bytes)))
-          ∙ ap (λ (b : List ℕ). distances_by (pcm.settings_of s.slicer) (samples ++ samples_of b)) (sym same) ∙ brings samples is_for
-          ∙ ap (λ (l : List ℕ). l ++ option_to_list distance) (by_words samples);
+          ∙ ap (λ (b : List ℕ). intervals_at pace (pcm.settings_of s.slicer) (samples ++ samples_of b)) (sym same) ∙ brings samples is_for
+          ∙ ap (λ (l : List ℕ). l ++ intervals_in brought) (by_words samples);
     }
-
--- what a distance brings are its intervals
-pub due_is : (distance : Option ℕ) (d : ℕ) → distance ≡ Some d → due distance ≡ intervals_bytes One (pieces_of d)
-due_is distance d is = ap due is ∙ ap (intervals_bytes One) (append-nil (pieces_of d))
-
-pub none_due : (distance : Option ℕ) → distance ≡ None → due distance ≡ []
-none_due distance is = ap due is
 
 -- ---- a byte that begins or ends a sample
 

@@ -6,10 +6,13 @@ use Rattle.std.specs.Option.{option_map}
 use Rattle.std.proofs.KnownBytes.{Appends-nil}
 use Rattle.std.proofs.lemmas.List.{length-append, take-append-drop}
 use Rattle.std.proofs.lemmas.List.FromFn.{length-map-range_with_len}
+use Rattle.pcm_front.specs.declared.pace.Pace.{Pace}
+use Rattle.pcm_front.specs.declared.pace.Pace.TheVariants.{Ended}
 use Rattle.pcm_front.specs.Settings.{Settings}
 use Rattle.pcm_front.specs.StandsFor as pcm
 use Rattle.pcm_front.specs.StandsFor.{settings_of, tick_of}
 use Rattle.tc_files.specs.declared.fault.FileFault.TheVariants.{Sound}
+use Rattle.tc_files.specs.Grammar.{file_of}
 use Rattle.tc_files.specs.IntervalHeader.{header_bytes}
 use Rattle.tc_io.specs.Sink.{AppendsFront}
 use Rattle.tc_words.specs.WaveSlicing.{SlicesWave}
@@ -30,8 +33,9 @@ use Rattle.tc_command.specs.KeptGathered.{IsPut}
 use Rattle.tc_command.specs.Stops.{IsStop, Stops}
 use Rattle.pcm_front.specs.declared.slicer.Slicer.{Slicer}
 use Rattle.signal_commands.specs.declared.wav_ltc.SlicedTrack.{SlicedTrack}
-use Rattle.signal_commands.specs.KeptTrack.{AreDue, IsGoing, Stands, spelled}
-use Rattle.signal_commands.specs.WavLtc.{along_sound_file, track_file, track_header, track_of, track_settings, verdict_of}
+use Rattle.signal_commands.specs.KeptTrack.{AreDue, IsGoing, Stands, pace_in, spelled}
+use Rattle.signal_commands.specs.WavLtc.{along_sound_file, track_file, track_header, track_of, track_pace, track_settings, verdict_of}
+use Rattle.signal_commands.proofs.PutMore.{none_begun}
 use Rattle.signal_commands.proofs.TrackGoesOn.{file_with}
 
 -- what holds of whatever bytes say
@@ -59,11 +63,11 @@ nothing_more (x ∷ xs) due e = nothing_more xs due (ap (drop 1) e)
 
 -- a file grows by what is due
 longer_file : (w : SlicesWave) (format : Option WaveFormat) (samples more : List ℤ) (due : List ℕ) → (format ≡ None → samples ++ more ≡ [])
-    → AreDue (track_settings w) samples more due → track_file w format (samples ++ more) ≡ track_file w format samples ++ due
+    → AreDue (pace_in w format) (track_settings w) samples more due → track_file w format (samples ++ more) ≡ track_file w format samples ++ due
 longer_file w (Some format) samples more due none are = file_with w format samples more due are
 longer_file w None (x ∷ samples) more due none are = let e = none refl in absurd cc
 longer_file w None [] (x ∷ more) due none are = let e = none refl in absurd cc
-longer_file w None [] [] due none are = sym (nothing_more (spelled (track_settings w) []) due are)
+longer_file w None [] [] due none are = sym (nothing_more (spelled Ended (track_settings w) []) due are)
 
 -- what was written and what is gathered are the file of the bytes
 file_is : (s : SlicedTrack) (front written : List ℕ) → Stands s front written → written ++ s.gathered.room.items ≡ track_of s.slicing front
@@ -119,12 +123,13 @@ moved s next front written bytes more samples stands decodes slices are =
 -- the file with the samples in them
 grown_file : Reads → (s next : SlicedTrack) (front written bytes due : List ℕ) (samples : List ℤ) (stands : Stands s front written)
     → Decodes s next bytes samples → format_in_decoding next.decoder ≡ format_in_decoding s.decoder
-    → AreDue (settings_of s.slicer) stands.samples samples due
+    → (pace : Pace) → pace ≡ pace_in s.slicing (format_in_decoding next.decoder) → AreDue pace (settings_of s.slicer) stands.samples samples due
     → written ++ (s.gathered.room.items ++ due) ≡ track_file s.slicing (format_in_decoding next.decoder) (stands.samples ++ samples)
-grown_file reads s next front written bytes due samples stands decodes same are =
+grown_file reads s next front written bytes due samples stands decodes same pace pace_is are =
     let told = told_on s next front written bytes samples stands decodes in
     let none = none_yet reads s.slicing.track (front ++ bytes) (format_in_decoding next.decoder) (stands.samples ++ samples) good told in
-    let by_words = subst (λ (x : Settings). AreDue x stands.samples samples due) stands.settings are in
+    let by_pace = subst (λ (p : Pace). AreDue p (settings_of s.slicer) stands.samples samples due) pace_is are in
+    let by_words = subst (λ (x : Settings). AreDue (pace_in s.slicing (format_in_decoding next.decoder)) x stands.samples samples due) stands.settings by_pace in
     sym (append_assoc written s.gathered.room.items due)
     ∙ ap (λ (l : List ℕ). l ++ due) (stands.are ∙ ap (λ (f : Option WaveFormat). track_file s.slicing f stands.samples) (sym same))
     ∙ sym (longer_file s.slicing (format_in_decoding next.decoder) stands.samples samples due none by_words)
@@ -132,15 +137,16 @@ grown_file reads s next front written bytes due samples stands decodes same are 
 -- samples were taken, and what they bring was pushed or is gathered
 pub sliced_on : Reads → (s next : SlicedTrack) (front written bytes due : List ℕ) (samples : List ℤ) (old new : Option (List ℕ))
     (stands : Stands s front written) → Decodes s next bytes samples → Slices s next samples
-    → format_in_decoding next.decoder ≡ format_in_decoding s.decoder → AreDue (settings_of s.slicer) stands.samples samples due
+    → format_in_decoding next.decoder ≡ format_in_decoding s.decoder
+    → (pace : Pace) → pace ≡ pace_in s.slicing (format_in_decoding next.decoder) → AreDue pace (settings_of s.slicer) stands.samples samples due
     → IsPut old new s.gathered.room.items due next.gathered.room.items
     → (more : List ℕ) × Appends old new more × Stands next (front ++ bytes) (written ++ more)
-sliced_on reads s next front written bytes due samples old new stands decodes slices same are put = (
+sliced_on reads s next front written bytes due samples old new stands decodes slices same pace pace_is are put = (
   put.0,
   put.1,
   moved s next front written bytes put.0 samples stands decodes slices
       (append_assoc written put.0 next.gathered.room.items ∙ ap (λ (l : List ℕ). written ++ l) (sym put.2)
-      ∙ grown_file reads s next front written bytes due samples stands decodes same are),
+      ∙ grown_file reads s next front written bytes due samples stands decodes same pace pace_is are),
 )
 
 same_slicer : (s next : SlicedTrack) → next.slicer ≡ s.slicer → Slices s next []
@@ -171,7 +177,8 @@ begun reads s next front written bytes format old new stands decodes slicer befo
     let header = header_bytes (track_header s.slicing format) in
     let empty : written ++ s.gathered.room.items ≡ [] = stands.are ∙ ap (λ (f : Option WaveFormat). track_file s.slicing f stands.samples) before in
     let file : track_file s.slicing (format_in_decoding next.decoder) (stands.samples ++ []) ≡ header =
-    ap₂ (λ (f : Option WaveFormat) (l : List ℤ). track_file s.slicing f (l ++ [])) now none ∙ append-nil header in (
+    ap₂ (λ (f : Option WaveFormat) (l : List ℤ). track_file s.slicing f (l ++ [])) now none
+    ∙ ap (λ (l : List ℕ). file_of (track_header s.slicing format) l) (none_begun (track_pace s.slicing format)) ∙ append-nil header in (
       put.0,
       put.1,
       moved s next front written bytes put.0 [] stands decodes (same_slicer s next slicer)
@@ -184,9 +191,10 @@ begun reads s next front written bytes format old new stands decodes slicer befo
 -- a push failed: a front of what is due stands
 pub slice_stop : Reads → (s next : SlicedTrack) (front written bytes due : List ℕ) (count : ℕ) (samples : List ℤ) (old new : Option (List ℕ))
     (stands : Stands s front written) → Decodes s next (take count bytes) samples
-    → format_in_decoding next.decoder ≡ format_in_decoding s.decoder → AreDue (settings_of s.slicer) stands.samples samples due
+    → format_in_decoding next.decoder ≡ format_in_decoding s.decoder
+    → (pace : Pace) → pace ≡ pace_in s.slicing (format_in_decoding next.decoder) → AreDue pace (settings_of s.slicer) stands.samples samples due
     → AppendsFront old new (s.gathered.room.items ++ due) → Stops (along_sound_file s.slicing) stops.WriteFault old new (front ++ bytes) written
-slice_stop reads s next front written bytes due count samples old new stands decodes same are f =
+slice_stop reads s next front written bytes due count samples old new stands decodes same pace pace_is are f =
     let first = front ++ take count bytes in
     let told = told_on s next front written (take count bytes) samples stands decodes in (
       f.0,
@@ -198,7 +206,7 @@ slice_stop reads s next front written bytes due count samples old new stands dec
           drop count bytes,
           ap (λ (l : List ℕ). front ++ l) (sym (take-append-drop count bytes)) ∙ sym (append_assoc front (take count bytes) (drop count bytes)),
         ),
-        grown_file reads s next front written (take count bytes) due samples stands decodes same are
+        grown_file reads s next front written (take count bytes) due samples stands decodes same pace pace_is are
             ∙ ap₂ (track_file s.slicing) (sym told.format_is) (sym told.samples_are),
         (f.1.0, ap (λ (l : List ℕ). written ++ l) f.1.1 ∙ sym (append_assoc written f.0 f.1.0)),
       ),

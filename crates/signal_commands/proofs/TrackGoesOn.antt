@@ -1,9 +1,9 @@
 -- What `wav-ltc` writes of some bytes comes first, whatever bytes follow, so it is a command as any other.
-use Rattle.std.proofs.Common.{◌≡◌, ◌⊎◌, inl, inr, ℕ, ℤ, List, [], ◌∷◌, ◌++◌, Option, Some, None, refl, sym, ◌∙◌, ap, subst, append_assoc}
-use Rattle.std.specs.List.{flat_map}
+use Rattle.std.proofs.Common.{◌≡◌, ◌⊎◌, inl, inr, ℕ, ◌*◌, ℤ, List, [], ◌∷◌, ◌++◌, Option, Some, None, refl, sym, ◌∙◌, ap, subst, append_assoc}
 use Rattle.std.proofs.lemmas.Bool.{false≢true}
 use Rattle.std.proofs.lemmas.Grind.{flat_map-append}
-use Rattle.pcm_front.specs.Distance.{distances_by, pieces_of}
+use Rattle.pcm_front.specs.declared.pace.Pace.{Pace}
+use Rattle.pcm_front.specs.Pace.{intervals_at, IsPace}
 use Rattle.pcm_front.specs.Settings.{Settings}
 use Rattle.tc_files.specs.declared.fault.FileFault.{FileFault}
 use Rattle.tc_files.specs.declared.interval_file.header.FileVersion.TheVariants.{One}
@@ -19,39 +19,40 @@ use Rattle.wave_file.specs.GoesOn.{GoesOn}
 use Rattle.wave_file.specs.Wave.{Reading, Verdict, good, refused, past_limit, reading_of}
 use Rattle.tc_command.specs.Command.{IsCommand}
 use Rattle.signal_commands.specs.KeptTrack.{AreDue, spelled}
-use Rattle.signal_commands.specs.WavLtc.{along_sound_file, track_file, track_header, track_of, track_settings, verdict_of}
+use Rattle.signal_commands.specs.WavLtc.{along_sound_file, track_file, track_header, track_of, track_pace, track_settings, verdict_of}
+use Rattle.signal_commands.proofs.PutMore.{is_pace}
 
 -- ---- the file
 
--- the distances of some samples come first
-abbrev pub DistancesComeFirst : Type 0
-DistancesComeFirst = (settings : Settings) (front more : List ℤ) → (rest : List ℕ) × (distances_by settings (front ++ more) ≡ distances_by settings front ++ rest)
+-- the intervals of some samples come first, at each pace
+abbrev pub IntervalsComeFirst : Type 0
+IntervalsComeFirst = (pace : Pace) (settings : Settings) (front more : List ℤ) → IsPace pace
+    → (rest : List ℕ) × (intervals_at pace settings (front ++ more) ≡ intervals_at pace settings front ++ rest)
 
--- so the bytes of their intervals do
-pub due_of : DistancesComeFirst → (s : Settings) (front more : List ℤ) → (due : List ℕ) × AreDue s front more due
-due_of laws s front more =
-    let gaps = laws s front more in
-    let before = distances_by s front in (
-      intervals_bytes One (flat_map pieces_of gaps.0),
-      ap (λ (ds : List ℕ). intervals_bytes One (flat_map pieces_of ds)) gaps.1 ∙ ap (intervals_bytes One) (flat_map-append pieces_of before gaps.0)
-          ∙ flat_map-append (spelling One) (flat_map pieces_of before) (flat_map pieces_of gaps.0),
+-- so their bytes do
+pub due_of : IntervalsComeFirst → (pace : Pace) (s : Settings) (front more : List ℤ) → IsPace pace → (due : List ℕ) × AreDue pace s front more due
+due_of laws pace s front more is =
+    let rest = laws pace s front more is in (
+      intervals_bytes One rest.0,
+      ap (intervals_bytes One) rest.1 ∙ flat_map-append (spelling One) (intervals_at pace s front) rest.0,
     )
 
 -- and the file with them
-pub file_with : (w : SlicesWave) (format : WaveFormat) (samples more : List ℤ) (due : List ℕ) → AreDue (track_settings w) samples more due
+pub file_with : (w : SlicesWave) (format : WaveFormat) (samples more : List ℤ) (due : List ℕ)
+    → AreDue (track_pace w format) (track_settings w) samples more due
     → track_file w (Some format) (samples ++ more) ≡ track_file w (Some format) samples ++ due
 file_with w format samples more due are =
     let header = header_bytes (track_header w format) in
-    ap (λ (l : List ℕ). header ++ l) are ∙ sym (append_assoc header (spelled (track_settings w) samples) due)
+    ap (λ (l : List ℕ). header ++ l) are ∙ sym (append_assoc header (spelled (track_pace w format) (track_settings w) samples) due)
 
-file_first : DistancesComeFirst → (w : SlicesWave) (r s : Reading) → GoesOn r s → IsFront (track_file w r.format r.samples) (track_file w s.format s.samples)
+file_first : IntervalsComeFirst → (w : SlicesWave) (r s : Reading) → GoesOn r s → IsFront (track_file w r.format r.samples) (track_file w s.format s.samples)
 file_first laws w r s goes = by_format goes.format
   where
     by_same : (format : Option WaveFormat) → IsFront (track_file w format r.samples) (track_file w format s.samples)
     by_same None = ([], refl)
     by_same (Some format) =
         let more = goes.samples in
-        let due = due_of laws (track_settings w) r.samples more.0 in
+        let due = due_of laws (track_pace w format) (track_settings w) r.samples more.0 (is_pace w.live w.system (16 * format.rate)) in
         (due.0, ap (track_file w (Some format)) more.1 ∙ file_with w format r.samples more.0 due.0 due.1)
 
     by_format : (r.format ≡ None) ⊎ (s.format ≡ r.format) → IsFront (track_file w r.format r.samples) (track_file w s.format s.samples)
@@ -78,13 +79,13 @@ limit_stays past_limit u stays e = ap verdict_of (stays refl)
 abbrev pub ShowsStay : Type 0
 ShowsStay = (track : ℕ) (bytes more : List ℕ) → GoesOn (reading_of track bytes) (reading_of track (bytes ++ more))
 
-track_first : DistancesComeFirst → ShowsStay → (w : SlicesWave) (front more a b : List ℕ) → a ≡ track_of w front → b ≡ track_of w (front ++ more)
+track_first : IntervalsComeFirst → ShowsStay → (w : SlicesWave) (front more a b : List ℕ) → a ≡ track_of w front → b ≡ track_of w (front ++ more)
     → IsFront a b
 track_first laws shows w front more a b one all =
     let first = file_first laws w (reading_of w.track front) (reading_of w.track (front ++ more)) (shows w.track front more) in
     (first.0, all ∙ first.1 ∙ ap (λ (l : List ℕ). l ++ first.0) (sym one))
 
-pub track_is_command : DistancesComeFirst → ShowsStay → (w : SlicesWave) → IsCommand (along_sound_file w)
+pub track_is_command : IntervalsComeFirst → ShowsStay → (w : SlicesWave) → IsCommand (along_sound_file w)
 track_is_command laws shows w = record {
   first = record {
     part = λ front more a b one all. track_first laws shows w front more a b one all;

@@ -1,27 +1,36 @@
 -- What the engine of `wav-ltc` keeps. No promise speaks of it.
-use Rattle.std.specs.Prelude.{◌≡◌, ℕ, ◌≤◌, ℤ, List, [], ◌++◌}
+use Rattle.std.specs.Prelude.{◌≡◌, ℕ, ◌≤◌, ℤ, List, [], ◌++◌, Option, Some, None}
 use Rattle.std.proofs.Common.{◌∙◌, sym, ap, ap₂, append-nil}
-use Rattle.pcm_front.specs.Distance.{intervals_by}
+use Rattle.pcm_front.specs.declared.pace.Pace.{Pace}
+use Rattle.pcm_front.specs.declared.pace.Pace.TheVariants.{Ended}
+use Rattle.pcm_front.specs.Pace.{intervals_at}
 use Rattle.pcm_front.specs.Settings.{Settings}
 use Rattle.pcm_front.specs.StandsFor as pcm
 use Rattle.pcm_front.specs.StandsFor.{settings_of}
 use Rattle.tc_files.specs.declared.interval_file.header.FileVersion.TheVariants.{One}
 use Rattle.tc_files.specs.Grammar.{intervals_bytes}
 use Rattle.tc_files.specs.Verdict as verdict
+use Rattle.tc_words.specs.WaveSlicing.{SlicesWave}
+use Rattle.wave_file.specs.declared.format.WaveFormat.{WaveFormat}
 use Rattle.wave_file.specs.declared.stage.TheConstants.{MAX_BYTES}
 use Rattle.wave_file.specs.StandsFor.{StandsFor, IsTold, bytes_taken, format_in_decoding}
 use Rattle.wave_file.specs.Wave.{good, reading_of}
 use Rattle.signal_commands.specs.declared.wav_ltc.SlicedTrack.{SlicedTrack}
-use Rattle.signal_commands.specs.WavLtc.{along_sound_file, track_file, track_settings, verdict_of}
+use Rattle.signal_commands.specs.WavLtc.{along_sound_file, track_file, track_pace, track_settings, verdict_of}
 use Rattle.tc_command.specs.Meaning.{Meaning, Shows}
 
+-- when the intervals of a distance are written, where there can be one
+abbrev pub pace_in : SlicesWave → Option WaveFormat → Pace
+pace_in w None = Ended
+pace_in w (Some format) = track_pace w format
+
 -- the bytes of the intervals of samples
-abbrev pub spelled : Settings → List ℤ → List ℕ
-spelled s samples = intervals_bytes One (intervals_by s samples)
+abbrev pub spelled : Pace → Settings → List ℤ → List ℕ
+spelled pace s samples = intervals_bytes One (intervals_at pace s samples)
 
 -- more samples bring these bytes
-abbrev pub AreDue : Settings → List ℤ → List ℤ → List ℕ → Type 0
-AreDue s front more due = spelled s (front ++ more) ≡ spelled s front ++ due
+abbrev pub AreDue : Pace → Settings → List ℤ → List ℤ → List ℕ → Type 0
+AreDue pace s front more due = spelled pace s (front ++ more) ≡ spelled pace s front ++ due
 
 -- it was given these bytes; what was written, and then what is gathered, are the file of their track
 pub record Stands (s : SlicedTrack) (bytes written : List ℕ) : Type 0 where

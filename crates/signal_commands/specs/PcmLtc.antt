@@ -1,6 +1,7 @@
 -- `pcm-ltc`: samples of sound, as an interval file of the distances of their crossings.
 use Rattle.std.specs.Prelude.{◌≡◌, ℕ, ◌*◌, ◌%◌, ◌==◌, true, cond, nat_lt, ℤ, List, length, take, Option, Some, None}
-use Rattle.pcm_front.specs.Distance.{intervals_by}
+use Rattle.pcm_front.specs.declared.pace.Pace.{Pace}
+use Rattle.pcm_front.specs.Pace.{intervals_at}
 use Rattle.pcm_front.specs.Samples.{samples_of}
 use Rattle.pcm_front.specs.Settings.{from_crossing, Settings}
 use Rattle.tc_files.specs.declared.fault.FileFault.{FileFault}
@@ -9,6 +10,7 @@ use Rattle.tc_files.specs.declared.interval_file.header.FileVersion.TheVariants.
 use Rattle.tc_files.specs.declared.interval_file.header.IntervalHeader.{IntervalHeader}
 use Rattle.tc_files.specs.Grammar.{file_of}
 use Rattle.tc_files.specs.Verdict.{Verdict, good, past_limit}
+use Rattle.tc_words.specs.Live.{pace_of}
 use Rattle.tc_words.specs.Slicing.{Slices}
 use Rattle.signal_commands.specs.declared.pcm_ltc.TheConstants.{MAX_SAMPLES}
 use Rattle.tc_command.specs.Meaning.{Meaning}
@@ -21,9 +23,13 @@ sliced_header s = record { version = One; system = s.system; tick_rate = s.rate 
 abbrev pub settings_for : Slices → Settings
 settings_for s = from_crossing s.fineness s.threshold s.smooth
 
--- the file of the intervals of samples
+-- when the intervals of a distance are written
+abbrev pub pace_for : Slices → Pace
+pace_for s = pace_of s.live s.system (s.rate * s.fineness)
+
+-- the file of the intervals of samples: where it is live, the pieces that have passed behind the last crossing stand at its end
 abbrev pub sliced : Slices → List ℤ → List ℕ
-sliced s samples = file_of (sliced_header s) (intervals_by (settings_for s) samples)
+sliced s samples = file_of (sliced_header s) (intervals_at (pace_for s) (settings_for s) samples)
 
 -- so many whole samples are taken, at most
 abbrev pub samples_within : ℕ → List ℕ → Verdict

@@ -2,13 +2,15 @@
 -- so that a sixteenth of each tick is a place in the file.
 use Rattle.std.specs.Prelude.{◌≡◌, ℕ, ◌*◌, true, ℤ, List, [], Option, Some, None}
 use Rattle.std.specs.Option.{option_map}
-use Rattle.pcm_front.specs.Distance.{intervals_by}
+use Rattle.pcm_front.specs.declared.pace.Pace.{Pace}
+use Rattle.pcm_front.specs.Pace.{intervals_at}
 use Rattle.pcm_front.specs.Settings.{Settings, from_start}
 use Rattle.tc_files.specs.declared.fault.FileFault.TheVariants.{Sound}
 use Rattle.tc_files.specs.declared.interval_file.header.FileVersion.TheVariants.{One}
 use Rattle.tc_files.specs.declared.interval_file.header.IntervalHeader.{IntervalHeader}
 use Rattle.tc_files.specs.Grammar.{file_of}
 use Rattle.tc_files.specs.Verdict as verdict
+use Rattle.tc_words.specs.Live.{pace_of}
 use Rattle.tc_words.specs.WaveSlicing.{SlicesWave}
 use Rattle.wave_file.specs.declared.format.WaveFormat.{WaveFormat}
 use Rattle.wave_file.specs.Wave.{Reading, Verdict, good, refused, past_limit, end_fault_of, reading_of}
@@ -22,10 +24,14 @@ track_settings w = from_start 16 w.threshold w.smooth
 abbrev pub track_header : SlicesWave → WaveFormat → IntervalHeader
 track_header w format = record { version = One; system = w.system; tick_rate = 16 * format.rate }
 
+-- when the intervals of a distance are written
+abbrev pub track_pace : SlicesWave → WaveFormat → Pace
+track_pace w format = pace_of w.live w.system (16 * format.rate)
+
 -- the file of the intervals of samples; there is none where the data have not begun
 abbrev pub track_file : SlicesWave → Option WaveFormat → List ℤ → List ℕ
 track_file w None samples = []
-track_file w (Some format) samples = file_of (track_header w format) (intervals_by (track_settings w) samples)
+track_file w (Some format) samples = file_of (track_header w format) (intervals_at (track_pace w format) (track_settings w) samples)
 
 -- the file of the track of a sound file
 abbrev pub track_of : SlicesWave → List ℕ → List ℕ
@@ -35,7 +41,7 @@ track_of w bytes = track_file w (reading_of w.track bytes).format (reading_of w.
 pub record SlicesTheTrack (w : SlicesWave) (bytes written : List ℕ) : Type 0 where
   pub format : WaveFormat
   pub begins : (reading_of w.track bytes).format ≡ Some format
-  pub are : written ≡ file_of (track_header w format) (intervals_by (track_settings w) (reading_of w.track bytes).samples)
+  pub are : written ≡ file_of (track_header w format) (intervals_at (track_pace w format) (track_settings w) (reading_of w.track bytes).samples)
 
 -- what the bytes of a sound file show, in the terms of every command
 abbrev pub verdict_of : Verdict → verdict.Verdict

@@ -14,7 +14,7 @@ use line_file::laws::{
     answers_of_a_front_come_first, bytes_have_one_list_of_answers, what_bytes_show_stays,
 };
 use mtc_reader::laws::earlier_events_stay;
-use pcm_front::laws::distances_of_a_front_come_first;
+use pcm_front::laws::intervals_of_a_front_come_first;
 use wave_file::laws::what_a_sound_file_shows_stays;
 
 /// Each of them is a command as any other: what it writes comes first and is one, and what bytes show
@@ -26,7 +26,7 @@ pub fn each_signal_makes_a_command()
     ensures fields { IsCommand along_fields }
 {
     earlier_events_stay();
-    distances_of_a_front_come_first();
+    intervals_of_a_front_come_first();
     what_a_sound_file_shows_stays();
     answers_of_a_front_come_first();
     bytes_have_one_list_of_answers();

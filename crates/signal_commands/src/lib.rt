@@ -4,7 +4,8 @@
 //! What this crate promises, for all sources and sinks:
 //! - `pcm-ltc` writes the interval file of the distances between the crossings of the samples
 //!   (`specs/PcmLtc.antt`), `wav-ltc` the same of a track of a sound file, whose first interval runs from
-//!   the first sample (`specs/WavLtc.antt`), `mtc-read` a line for each label in the bytes (`specs/MtcRead.antt`), and
+//!   the first sample (`specs/WavLtc.antt`), both of them in pieces as they pass where the words say `live`,
+//!   `mtc-read` a line for each label in the bytes (`specs/MtcRead.antt`), and
 //!   `vitc-read` a line for each field of a line file (`specs/VitcRead.antt`).
 //! - Each is a command as any other (`laws`): what it writes comes first, there is one output of an input,
 //!   and what bytes show stays.

@@ -90,11 +90,10 @@ impl SlicedSound {
             self.gathered.push(out)?;
             return Err(Stop::Limit);
         }
-        let (count, distance) = self.slicer.run(within(bytes, MAX_SAMPLES - self.samples));
+        let samples = within(bytes, MAX_SAMPLES - self.samples);
+        let (count, intervals) = self.slicer.intervals_of_bytes(self.slicing.pace(), samples);
         self.samples += (count / 2) as u64;
-        if let Some(distance) = distance {
-            spell(&mut self.gathered, distance, out)?;
-        }
+        spell(&mut self.gathered, intervals, out)?;
         Ok(count)
     }
 }

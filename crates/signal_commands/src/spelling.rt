@@ -1,39 +1,75 @@
-//! The intervals of a distance, as an interval file of version 1 has them. Next:
-//! `tc_command/src/gathered.rt`.
-ghost use Rattle.std.specs.Prelude.{◌≡◌, ◌≤◌, ◌^◌, ◌++◌, ℕ, List, OnOk, OnErr, IfErr};
-ghost use Rattle.std.specs.Io.KnownBytes.{Appends};
-ghost use Rattle.pcm_front.specs.Distance.{pieces_of};
+//! Intervals, as an interval file of version 1 has them. Next: `tc_command/src/gathered.rt`.
+ghost use Rattle.std.specs.Prelude.{◌≡◌, ◌≤◌, ◌++◌, replicate, IfSome, OnOk, OnErr, IfErr};
+ghost use Rattle.std.specs.Option.{option_to_list};
+ghost use Rattle.pcm_front.specs.Distance.{IsInterval};
+ghost use Rattle.pcm_front.specs.Pace.{intervals_in};
 ghost use Rattle.tc_files.specs.declared.interval_file.header.FileVersion.{FileVersion};
 ghost use Rattle.tc_files.specs.Grammar.{intervals_bytes};
 ghost use Rattle.tc_files.specs.Piece.{spelling};
 ghost use Rattle.tc_io.specs.Sink.{AppendsFront};
 ghost use Rattle.tc_command.specs.Causes.{HasOutCause};
+ghost use Rattle.tc_command.specs.KeptGathered.{IsPut};
 
 use byteorder::{BigEndian, ByteOrder};
-use pcm_front::{MAX_INTERVAL, pieces};
+use pcm_front::{Intervals, MAX_INTERVAL};
 use tc_command::{Gathered, Stop};
 use tc_io::Sink;
 
-/// Spells the intervals of a distance.
+/// Spells the intervals that some samples brought.
 pub(crate) fn spell<K: Sink>(
     gathered: &mut Gathered,
-    distance: u64,
+    intervals: Intervals,
     out: &mut K,
 ) -> Result<(), Stop>
-    requires least { 1 ≤ distance }
-    requires most { distance ≤ 2 ^ 62 }
-    ensures all { OnOk result ((more : List ℕ) × Appends (K.written out.old) (K.written out.new) more
-        × (gathered.old.room.items ++ intervals_bytes FileVersion.One (pieces_of distance) ≡ more ++ gathered.new.room.items)) }
+    requires length { IsInterval intervals.length }
+    requires rest { IfSome intervals.rest (λ rest. (1 ≤ rest) × (rest ≤ intervals.length)) }
+    ensures all { OnOk result (IsPut (K.written out.old) (K.written out.new) gathered.old.room.items
+        (intervals_bytes FileVersion.One (intervals_in intervals)) gathered.new.room.items) }
     ensures front { OnErr result (AppendsFront (K.written out.old) (K.written out.new)
-        (gathered.old.room.items ++ intervals_bytes FileVersion.One (pieces_of distance))) }
+        (gathered.old.room.items ++ intervals_bytes FileVersion.One (intervals_in intervals))) }
     ensures why { IfErr result (λ stop. stop ≡ Stop.WriteFault) }
     ensures cause { HasOutCause (K.faults out.old) (K.faults out.new) result }
 {
-    let (whole, rest) = pieces(distance);
-    'pieces: for _done in 0..whole {
-        gathered.put(&interval_bytes(MAX_INTERVAL), out)?;
+    spell_whole(gathered, intervals.length, intervals.whole, out)?;
+    spell_rest(gathered, intervals.rest, out)?;
+    spell_whole(gathered, intervals.length, intervals.begun, out)
+}
+
+/// Spells so many intervals of a length.
+fn spell_whole<K: Sink>(
+    gathered: &mut Gathered,
+    length: u32,
+    count: u64,
+    out: &mut K,
+) -> Result<(), Stop>
+    requires { IsInterval length }
+    ensures all { OnOk result (IsPut (K.written out.old) (K.written out.new) gathered.old.room.items
+        (intervals_bytes FileVersion.One (replicate count length)) gathered.new.room.items) }
+    ensures front { OnErr result (AppendsFront (K.written out.old) (K.written out.new)
+        (gathered.old.room.items ++ intervals_bytes FileVersion.One (replicate count length))) }
+    ensures why { IfErr result (λ stop. stop ≡ Stop.WriteFault) }
+    ensures cause { HasOutCause (K.faults out.old) (K.faults out.new) result }
+{
+    'pieces: for _done in 0..count {
+        gathered.put(&interval_bytes(length), out)?;
     }
-    gathered.put(&interval_bytes(rest), out)
+    Ok(())
+}
+
+/// Spells the rest of a distance, where one ended.
+fn spell_rest<K: Sink>(gathered: &mut Gathered, rest: Option<u32>, out: &mut K) -> Result<(), Stop>
+    requires { IfSome rest (λ rest. IsInterval rest) }
+    ensures all { OnOk result (IsPut (K.written out.old) (K.written out.new) gathered.old.room.items
+        (intervals_bytes FileVersion.One (option_to_list rest)) gathered.new.room.items) }
+    ensures front { OnErr result (AppendsFront (K.written out.old) (K.written out.new)
+        (gathered.old.room.items ++ intervals_bytes FileVersion.One (option_to_list rest))) }
+    ensures why { IfErr result (λ stop. stop ≡ Stop.WriteFault) }
+    ensures cause { HasOutCause (K.faults out.old) (K.faults out.new) result }
+{
+    match rest {
+        Some(rest) => gathered.put(&interval_bytes(rest), out),
+        None => Ok(()),
+    }
 }
 
 /// The bytes of an interval.

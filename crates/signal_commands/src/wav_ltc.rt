@@ -1,6 +1,7 @@
 //! The engine of `wav-ltc`: an interval file of the crossings of a track of a sound file. Next:
 //! `wave_file/src/decoder.rt`, then `pcm_front/src/slicer.rt`, and then `tc_command/src/gathered.rt`.
-ghost use Rattle.std.specs.Prelude.{◌≡◌, ◌+◌, ◌*◌, ◌≤◌, ◌<◌, ◌^◌, ◌++◌, ℕ, ℤ, List, [], length, take, None, OnOk, OnErr, IfOk, IfErr, Err};
+ghost use Rattle.std.specs.Prelude.{◌≡◌, ◌+◌, ◌*◌, ◌≤◌, ◌<◌, ◌^◌, ◌++◌, ℕ, ℤ, List, [], length, take, None, OnOk, OnErr, IfOk, IfErr, IfSome, Err};
+ghost use Rattle.pcm_front.specs.Pace.{IsPace};
 ghost use Rattle.pcm_front.specs.StandsFor as pcm;
 ghost use Rattle.pcm_front.specs.StandsFor.{settings_of, tick_of};
 ghost use Rattle.tc_io.specs.Sink.{AppendsFront};
@@ -12,13 +13,13 @@ ghost use Rattle.tc_command.specs.Ran.{CameToItsEnd, StoppedBefore};
 ghost use Rattle.tc_command.specs.Stops.{Stops};
 ghost use Rattle.wave_file.specs.Format.{IsTakenFor};
 ghost use Rattle.wave_file.specs.StandsFor.{bytes_taken};
-ghost use Rattle.signal_commands.specs.KeptTrack.{AreDue, IsGoing, Stands};
+ghost use Rattle.signal_commands.specs.KeptTrack.{AreDue, IsGoing, Stands, pace_in};
 ghost use Rattle.signal_commands.specs.WavLtc.{along_sound_file, track_header};
 ghost use Rattle.tc_files.specs.IntervalHeader.{header_bytes};
 
 use crate::spelling::spell;
-use pcm_front::Slicer;
-use pcm_front::laws::distances_of_a_front_come_first;
+use pcm_front::laws::intervals_of_a_front_come_first;
+use pcm_front::{Pace, Slicer};
 use tc_command::{Engine, Gathered, Stop, work};
 use tc_files::{FileFault, FileVersion, IntervalHeader, interval_header};
 use tc_io::{Sink, Source};
@@ -91,9 +92,10 @@ impl SlicedTrack {
     {
         samples_are_few_and_behind_a_format();
         let (count, samples) = self.decoder.samples(bytes, &mut self.room);
-        let _told = self.decoder.format();
+        let told = self.decoder.format();
+        let pace = pace_in(&self.slicing, told);
         let slicer = &mut self.slicer;
-        slice(slicer, &self.room[..samples], &mut self.gathered, out)?;
+        slice(slicer, pace, &self.room[..samples], &mut self.gathered, out)?;
         Ok(count)
     }
 
@@ -113,7 +115,7 @@ impl SlicedTrack {
     {
         samples_are_few_and_behind_a_format();
         let taken = self.decoder.take(bytes);
-        let _told = self.decoder.format();
+        let told = self.decoder.format();
         match taken {
             Taken::Nothing(count) => Ok(count),
             Taken::Begin { count, format } => {
@@ -122,7 +124,8 @@ impl SlicedTrack {
                 Ok(count)
             }
             Taken::Sample { count, sample } => {
-                slice(&mut self.slicer, &[sample], &mut self.gathered, out)?;
+                let pace = pace_in(&self.slicing, told);
+                slice(&mut self.slicer, pace, &[sample], &mut self.gathered, out)?;
                 Ok(count)
             }
             Taken::Fault(fault) => {
@@ -149,33 +152,45 @@ impl SlicedTrack {
     }
 }
 
-/// Slices samples, and spells the intervals of their distances.
+/// When the intervals of a distance are written. Before the data have begun there is none.
+fn pace_in(slicing: &WaveSlicing, format: Option<WaveFormat>) -> Pace
+    requires { IfSome format (λ format. IsTakenFor slicing.now.track format) }
+    ensures value { result ≡ pace_in slicing.now format }
+    ensures valid { IsPace result }
+{
+    match format {
+        Some(format) => slicing.pace(TICKS * format.rate),
+        None => Pace::Ended,
+    }
+}
+
+/// Slices samples, and spells the intervals that they bring.
 fn slice<K: Sink>(
     slicer: &mut Slicer,
+    pace: Pace,
     samples: &[i16],
     gathered: &mut Gathered,
     out: &mut K,
 ) -> Result<(), Stop>
-    requires { tick_of slicer.old + (settings_of slicer.old).fineness * length samples.now ≤ 2 ^ 62 }
+    requires pace { IsPace pace }
+    requires room { tick_of slicer.old + (settings_of slicer.old).fineness * length samples.now ≤ 2 ^ 62 }
     ensures settings { settings_of slicer.new ≡ settings_of slicer.old }
     ensures stands { OnOk result ((front : List ℤ) → pcm.StandsFor slicer.old front → pcm.StandsFor slicer.new (front ++ samples.now)) }
     ensures all { OnOk result ((front : List ℤ) → pcm.StandsFor slicer.old front
-        → (due : List ℕ) × AreDue (settings_of slicer.old) front samples.now due
+        → (due : List ℕ) × AreDue pace (settings_of slicer.old) front samples.now due
         × IsPut (K.written out.old) (K.written out.new) gathered.old.room.items due gathered.new.room.items) }
     ensures front { OnErr result ((front : List ℤ) → pcm.StandsFor slicer.old front
-        → (due : List ℕ) × AreDue (settings_of slicer.old) front samples.now due
+        → (due : List ℕ) × AreDue pace (settings_of slicer.old) front samples.now due
         × AppendsFront (K.written out.old) (K.written out.new) (gathered.old.room.items ++ due)) }
     ensures why { IfErr result (λ stop. stop ≡ Stop.WriteFault) }
     ensures cause { HasOutCause (K.faults out.old) (K.faults out.new) result }
 {
-    distances_of_a_front_come_first();
+    intervals_of_a_front_come_first();
     let mut at = 0;
     'samples: while at < samples.len() {
-        let (count, distance) = slicer.run_samples(&samples[at..]);
+        let (count, intervals) = slicer.intervals_of_samples(pace, &samples[at..]);
         at += count;
-        if let Some(distance) = distance {
-            spell(gathered, distance, out)?;
-        }
+        spell(gathered, intervals, out)?;
     }
     Ok(())
 }

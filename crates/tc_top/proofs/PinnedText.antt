@@ -21,10 +21,10 @@ use Rattle.tc_words.specs.declared.job.Job.{Job}
 use Rattle.tc_words.specs.declared.job.Job.TheVariants.{LtcRead, LtcWorn, LtcRough, LtcFly, LtcSpans, LtcMtc, LtcJam, LtcChase, MtcRead, LtcMake, LtcLoad}
 use Rattle.tc_words.specs.declared.job.Job.TheVariants.{LtcConvert, PcmLtc, WavLtc, LtcPcm, VitcRead, VitcMake, Number, LabelOf, Help, Version}
 use Rattle.frame_commands.specs.declared.ltc_chase.TheConstants.{MAX_FRAMES}
-use Rattle.pcm_front.specs.Distance.{intervals_by}
+use Rattle.pcm_front.specs.Pace.{intervals_at}
 use Rattle.wave_file.specs.declared.format.WaveFormat.{WaveFormat}
 use Rattle.wave_file.specs.Wave.{Reading, reading_of}
-use Rattle.signal_commands.specs.WavLtc.{SlicesTheTrack, track_header, track_settings}
+use Rattle.signal_commands.specs.WavLtc.{SlicesTheTrack, track_header, track_pace, track_settings}
 use Rattle.tc_top.specs.CleanCopy.{IsClean}
 use Rattle.tc_command.specs.Exchange.{Exchange}
 use Rattle.frame_commands.specs.LtcChase.{FollowsTheCode, first_steps}
@@ -100,7 +100,7 @@ one_format r a b p q = cc
 one_track : (w : SlicesWave) (bytes a b : List ℕ) → SlicesTheTrack w bytes a → SlicesTheTrack w bytes b → a ≡ b
 one_track w bytes a b p q =
     let r = reading_of w.track bytes in
-    p.are ∙ ap (λ (f : WaveFormat). file_of (track_header w f) (intervals_by (track_settings w) r.samples)) (one_format r p.format q.format p.begins q.begins)
+    p.are ∙ ap (λ (f : WaveFormat). file_of (track_header w f) (intervals_at (track_pace w f) (track_settings w) r.samples)) (one_format r p.format q.format p.begins q.begins)
     ∙ sym q.are
 
 pub one_text : PinnedLaws → (job : Job) (pulled : List ℕ) (e f : Exchange) → IsPinned job → e.pulled ≡ pulled → f.pulled ≡ pulled

@@ -1,10 +1,11 @@
 -- A sound that is made of a recording is read sample by sample as it was made, and sliced into its intervals.
-use Rattle.std.proofs.Common.{◌≡◌, ℕ, ◌*◌, ◌<◌, ◌≤◌, ◌^◌, List, [], ◌∷◌, length, map, Some, None, subst, ap, ap₂, sym, ◌∙◌}
+use Rattle.std.proofs.Common.{◌≡◌, ℕ, ◌*◌, ◌<◌, ◌≤◌, ◌^◌, List, [], ◌∷◌, length, map, Bool, false, Some, None, subst, ap, ap₂, sym, ◌∙◌, append-nil}
 use Rattle.std.specs.List.{flat_map, AllByRecursion}
 use Rattle.direction_reader.specs.declared.reader.TheConstants.{MAX_INTERVALS}
 use Rattle.pcm_front.specs.declared.threshold.Threshold.{Threshold}
 use Rattle.pcm_front.specs.declared.threshold.Threshold.TheVariants.{Fixed}
 use Rattle.pcm_front.specs.Distance.{distances, intervals, intervals_by, pieces_of, IsInterval}
+use Rattle.pcm_front.specs.Pace.{intervals_at}
 use Rattle.pcm_front.specs.Samples.{bytes_of, samples_of}
 use Rattle.pcm_front.specs.Sound.{sound}
 use Rattle.pcm_front.specs.Sums.{sums}
@@ -16,7 +17,8 @@ use Rattle.tc_files.specs.Verdict.{good}
 use Rattle.interval_commands.specs.Along.{IsWholeOf, along_intervals}
 use Rattle.interval_commands.specs.LtcPcm.{made_sound}
 use Rattle.tc_command.specs.Meaning.{IsInput}
-use Rattle.signal_commands.specs.PcmLtc.{settings_for, sliced_header}
+use Rattle.signal_commands.specs.PcmLtc.{pace_for, settings_for, sliced_header}
+use Rattle.tc_words.specs.Live.{pace_of}
 use Rattle.tc_words.specs.Slicing.{Slices}
 use Rattle.tc_top.specs.SoundAgain.{times, IsSlicedAgain}
 
@@ -34,9 +36,12 @@ pub record SoundLaws : Type 0 where
   pub alone : (samples : List ℤ) → sums 1 samples ≡ samples
 
 -- a sample that stands for itself is no sum
-for_itself : SoundLaws → (s : Slices) (samples : List ℤ) → s.smooth ≡ 1 → intervals_by (settings_for s) samples ≡ intervals s.fineness s.threshold samples
-for_itself laws s samples one =
-    ap (λ (n : ℕ). intervals s.fineness s.threshold (sums n samples)) one ∙ ap (intervals s.fineness s.threshold) (laws.alone samples)
+for_itself : SoundLaws → (s : Slices) (samples : List ℤ) → s.smooth ≡ 1 → s.live ≡ false
+    → intervals_at (pace_for s) (settings_for s) samples ≡ intervals s.fineness s.threshold samples
+for_itself laws s samples one ended =
+    ap (λ (live : Bool). intervals_at (pace_of live s.system (s.rate * s.fineness)) (settings_for s) samples) ended
+    ∙ append-nil (intervals_by (settings_for s) samples)
+    ∙ ap (λ (n : ℕ). intervals s.fineness s.threshold (sums n samples)) one ∙ ap (intervals s.fineness s.threshold) (laws.alone samples)
 
 all_intervals : (xs : List ℕ) → AreIntervals xs → AllByRecursion IsInterval xs
 all_intervals [] are = tt
@@ -59,12 +64,12 @@ sliced_again laws size below bytes made are input whole =
       apart = apart;
       finer = λ slicing again s.
           s.output
-          ∙ ap (file_of (sliced_header slicing)) (for_itself laws slicing (samples_of made) s.alone)
+          ∙ ap (file_of (sliced_header slicing)) (for_itself laws slicing (samples_of made) s.alone s.ended)
           ∙ ap (λ (t : Threshold). file_of (sliced_header slicing) (intervals slicing.fineness t (samples_of made))) s.fixed
           ∙ ap (λ (l : List ℕ). file_of (sliced_header slicing) (flat_map pieces_of l)) (apart slicing.fineness s.threshold s.some s.most);
       whole = λ slicing again s one.
           s.output
-          ∙ ap (file_of (sliced_header slicing)) (for_itself laws slicing (samples_of made) s.alone)
+          ∙ ap (file_of (sliced_header slicing)) (for_itself laws slicing (samples_of made) s.alone s.ended)
           ∙ ap₂ (λ (fineness : ℕ) (t : Threshold). file_of (sliced_header slicing) (intervals fineness t (samples_of made))) one s.fixed
           ∙ ap (λ (l : List ℤ). file_of (sliced_header slicing) (intervals 1 (Fixed s.threshold) l)) read
           ∙ ap (file_of (sliced_header slicing)) (laws.sliced s.threshold size xs s.some s.most all ∙ sym same);

@@ -1,5 +1,5 @@
 -- Sound out, and in again: what `ltc-pcm` makes of a recording, `pcm-ltc` slices into its intervals.
-use Rattle.std.specs.Prelude.{◌≡◌, ℕ, ◌*◌, ◌≤◌, List, map}
+use Rattle.std.specs.Prelude.{◌≡◌, ℕ, ◌*◌, ◌≤◌, false, List, map}
 use Rattle.std.specs.List.{flat_map}
 use Rattle.pcm_front.specs.declared.threshold.Threshold.TheVariants.{Fixed}
 use Rattle.pcm_front.specs.Distance.{distances, pieces_of}
@@ -16,10 +16,12 @@ use Rattle.signal_commands.specs.PcmLtc.{sliced_header}
 abbrev pub times : ℕ → List ℕ → List ℕ
 times fineness intervals = map (λ interval. fineness * interval) intervals
 
--- `pcm-ltc` takes the sound whole, each sample for itself, at a fixed threshold of at most the size of the samples, and writes this
+-- `pcm-ltc` takes the sound whole, each sample for itself, at a fixed threshold of at most the size of the samples, and writes each distance when
+-- it has ended: this
 pub record SlicesTo (size : ℕ) (slicing : Slices) (sound written : List ℕ) : Type 0 where
   pub threshold : ℕ
   pub alone : slicing.smooth ≡ 1
+  pub ended : slicing.live ≡ false
   pub fixed : slicing.threshold ≡ Fixed threshold
   pub some : 1 ≤ threshold
   pub most : threshold ≤ size

@@ -1,5 +1,5 @@
 -- The task of a list of words, or their first fault.
-use Rattle.std.specs.Prelude.{ℕ, List, [], ◌∷◌, Option, Some, None, Result, Ok, Err, if◌then◌else◌, position}
+use Rattle.std.specs.Prelude.{ℕ, true, false, List, [], ◌∷◌, Option, Some, None, Result, Ok, Err, if◌then◌else◌, position}
 use Rattle.std.specs.Str.{bytes_eq}
 use Rattle.biphase.specs.declared.profile.Profile.{Profile}
 use Rattle.biphase.specs.declared.profile.Profile.TheVariants.{Normal}
@@ -20,6 +20,7 @@ use Rattle.tc_words.specs.Sound.{amplitude_in, following, in_samples, in_ticks, 
 use Rattle.tc_words.specs.Tape.{at_one_length, moving, value_or}
 use Rattle.tc_words.specs.declared.load.TheConstants.{MAX_WORDS}
 use Rattle.tc_words.specs.Lines.{in_lines}
+use Rattle.tc_words.specs.Live.{is_live, live_in}
 use Rattle.tc_words.specs.Load.{loading_of}
 use Rattle.tc_words.specs.Values.{Word, between, count_in, limit_in, number_in, numbered, spelled, tolerance_in, version_in}
 use Rattle.tc_words.specs.Wave.{in_dull_wave, in_smooth_wave, in_wave}
@@ -94,20 +95,31 @@ abbrev pub ltc_convert : List Word → Answer
 ltc_convert (version ∷ []) = with_value 1 (version_in version) (λ v. Ok (jobs.LtcConvert v))
 ltc_convert _ = Err CountOfWords
 
--- `pcm-ltc SYSTEM RATE THRESHOLD [FINENESS [follow|deep [SMOOTH]]]`: without the last words the ticks are samples, the threshold stays where
--- it is, and each sample stands for itself
+-- `pcm-ltc SYSTEM RATE THRESHOLD [FINENESS [follow|deep [SMOOTH]]] [live]`: without the last words the ticks are samples, the threshold stays
+-- where it is, each sample stands for itself, and a distance is written when it has ended
 abbrev pub pcm_ltc : List Word → Answer
-pcm_ltc (system ∷ rate ∷ threshold ∷ []) = in_samples system rate threshold
-pcm_ltc (system ∷ rate ∷ threshold ∷ fineness ∷ []) = in_ticks system rate threshold fineness
-pcm_ltc (system ∷ rate ∷ threshold ∷ fineness ∷ follow ∷ []) = following system rate threshold fineness follow
-pcm_ltc (system ∷ rate ∷ threshold ∷ fineness ∷ follow ∷ smooth ∷ []) = summing system rate threshold fineness follow smooth
+pcm_ltc (system ∷ rate ∷ threshold ∷ []) = in_samples system rate threshold false
+pcm_ltc (system ∷ rate ∷ threshold ∷ fineness ∷ []) =
+    if is_live fineness then in_samples system rate threshold true else in_ticks system rate threshold fineness false
+pcm_ltc (system ∷ rate ∷ threshold ∷ fineness ∷ follow ∷ []) =
+    if is_live follow then in_ticks system rate threshold fineness true else following system rate threshold fineness follow false
+pcm_ltc (system ∷ rate ∷ threshold ∷ fineness ∷ follow ∷ smooth ∷ []) =
+    if is_live smooth then following system rate threshold fineness follow true
+    else summing system rate threshold fineness follow smooth (Some false)
+pcm_ltc (system ∷ rate ∷ threshold ∷ fineness ∷ follow ∷ smooth ∷ live ∷ []) =
+    summing system rate threshold fineness follow smooth (live_in live)
 pcm_ltc _ = Err CountOfWords
 
--- `wav-ltc SYSTEM TRACK THRESHOLD [SMOOTH [deep]]`: without the last words each sample stands for itself, and the threshold is at a half
+-- `wav-ltc SYSTEM TRACK THRESHOLD [SMOOTH [deep]] [live]`: without the last words each sample stands for itself, the threshold is at a half, and
+-- a distance is written when it has ended
 abbrev pub wav_ltc : List Word → Answer
-wav_ltc (system ∷ track ∷ threshold ∷ []) = in_wave system track threshold
-wav_ltc (system ∷ track ∷ threshold ∷ smooth ∷ []) = in_smooth_wave system track threshold smooth
-wav_ltc (system ∷ track ∷ threshold ∷ smooth ∷ deep ∷ []) = in_dull_wave system track threshold smooth deep
+wav_ltc (system ∷ track ∷ threshold ∷ []) = in_wave system track threshold false
+wav_ltc (system ∷ track ∷ threshold ∷ smooth ∷ []) =
+    if is_live smooth then in_wave system track threshold true else in_smooth_wave system track threshold smooth false
+wav_ltc (system ∷ track ∷ threshold ∷ smooth ∷ deep ∷ []) =
+    if is_live deep then in_smooth_wave system track threshold smooth true
+    else in_dull_wave system track threshold smooth deep (Some false)
+wav_ltc (system ∷ track ∷ threshold ∷ smooth ∷ deep ∷ live ∷ []) = in_dull_wave system track threshold smooth deep (live_in live)
 wav_ltc _ = Err CountOfWords
 
 -- `ltc-pcm LEVEL`

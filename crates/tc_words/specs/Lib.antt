@@ -5,6 +5,7 @@ pub mod Jam
 pub mod Job
 pub mod Slicing
 pub mod Sound
+pub mod Live
 pub mod Lines
 pub mod LineStripe
 pub mod Load

@@ -1,5 +1,5 @@
 -- What is told of sound that is to be sliced, and of sound that is to be made.
-use Rattle.std.specs.Prelude.{ℕ, ◌*◌, ◌≤◌}
+use Rattle.std.specs.Prelude.{ℕ, ◌*◌, ◌≤◌, Bool}
 use Rattle.pcm_front.specs.declared.threshold.Threshold.{Threshold}
 use Rattle.pcm_front.specs.declared.window.TheConstants.{MAX_SMOOTH}
 use Rattle.pcm_front.specs.State.{IsThreshold}
@@ -7,21 +7,24 @@ use Rattle.tc_address.specs.declared.system.System.{System}
 use Rattle.tc_words.specs.declared.slicing.TheConstants.{MAX_FINENESS, MAX_SIZE}
 use Rattle.tc_words.specs.declared.stripe.TheConstants.{MAX_TICK_RATE}
 
--- time code of a system, in sound of so many samples a second, at a threshold of sums, so many ticks a sample, in sums of so many samples
+-- time code of a system, in sound of so many samples a second, at a threshold of sums, so many ticks a sample, in sums of so many samples;
+-- and whether its distances are written as they pass
 pub record Slices : Type 0 where
   pub system : System
   pub rate : ℕ
   pub threshold : Threshold
   pub fineness : ℕ
   pub smooth : ℕ
+  pub live : Bool
 
-abbrev pub slicing_of : System → ℕ → Threshold → ℕ → ℕ → Slices
-slicing_of system rate threshold fineness smooth = record {
+abbrev pub slicing_of : System → ℕ → Threshold → ℕ → ℕ → Bool → Slices
+slicing_of system rate threshold fineness smooth live = record {
   system = system;
   rate = rate;
   threshold = threshold;
   fineness = fineness;
   smooth = smooth;
+  live = live;
 }
 
 -- some samples and some ticks, not too many ticks a second, and sums of not too many samples

@@ -1,5 +1,5 @@
 -- The values of `pcm-ltc` and `ltc-pcm`, word by word.
-use Rattle.std.specs.Prelude.{ℕ, ◌*◌, ◌≤◌, nat_le, codes, Option, Some, None, Result, Ok, Err, if◌then◌else◌, option_and_then}
+use Rattle.std.specs.Prelude.{ℕ, ◌*◌, ◌≤◌, nat_le, Bool, codes, Option, Some, None, Result, Ok, Err, if◌then◌else◌, option_and_then}
 use Rattle.std.specs.Str.{bytes_eq}
 use Rattle.pcm_front.specs.declared.threshold.Threshold.{Threshold}
 use Rattle.pcm_front.specs.declared.threshold.Threshold.TheVariants.{Fixed, Follow, Deep}
@@ -38,10 +38,10 @@ of_sums smooth (Fixed threshold) = Fixed (smooth * threshold)
 of_sums smooth (Follow least) = Follow (smooth * least)
 of_sums smooth (Deep least) = Deep (smooth * least)
 
--- the job of slicing it at a threshold, so many ticks a sample, in sums of so many samples
-abbrev pub sliced_job : Sound → Threshold → ℕ → ℕ → Job
-sliced_job sound threshold fineness smooth =
-    PcmLtc (slicing_of sound.system sound.rate (of_sums smooth threshold) fineness smooth)
+-- the job of slicing it at a threshold, so many ticks a sample, in sums of so many samples, live or not
+abbrev pub sliced_job : Sound → Threshold → ℕ → ℕ → Bool → Job
+sliced_job sound threshold fineness smooth live =
+    PcmLtc (slicing_of sound.system sound.rate (of_sums smooth threshold) fineness smooth live)
 
 -- so many ticks a sample, where they are not too many a second
 abbrev pub fineness_in : ℕ → Word → Option ℕ
@@ -59,28 +59,29 @@ abbrev pub with_sound : {Y : Type 0} → Result Sound WordsFault → (Sound → 
 with_sound (Err fault) next = Err fault
 with_sound (Ok sound) next = next sound
 
--- the job of three words: whole samples, and one threshold
-unfoldable pub in_samples : Word → Word → Word → Result Job WordsFault
-in_samples system rate threshold = with_sound (sound_in system rate threshold) (λ sound. Ok (sliced_job sound (Fixed sound.threshold) 1 1))
+-- the job of three words, and of `live` behind them where it stands there: whole samples, and one threshold
+unfoldable pub in_samples : Word → Word → Word → Bool → Result Job WordsFault
+in_samples system rate threshold live =
+    with_sound (sound_in system rate threshold) (λ sound. Ok (sliced_job sound (Fixed sound.threshold) 1 1 live))
 
--- the job of four words: so many ticks a sample
-unfoldable pub in_ticks : Word → Word → Word → Word → Result Job WordsFault
-in_ticks system rate threshold fineness =
+-- the same of four words: so many ticks a sample
+unfoldable pub in_ticks : Word → Word → Word → Word → Bool → Result Job WordsFault
+in_ticks system rate threshold fineness live =
     with_sound (sound_in system rate threshold) (λ sound. value_or 4 (fineness_in sound.rate fineness) (λ f.
-    Ok (sliced_job sound (Fixed sound.threshold) f 1)))
+    Ok (sliced_job sound (Fixed sound.threshold) f 1 live)))
 
--- the job of five words: a threshold that follows the level
-unfoldable pub following : Word → Word → Word → Word → Word → Result Job WordsFault
-following system rate threshold fineness follow =
+-- of five words: a threshold that follows the level
+unfoldable pub following : Word → Word → Word → Word → Word → Bool → Result Job WordsFault
+following system rate threshold fineness follow live =
     with_sound (sound_in system rate threshold) (λ sound. value_or 4 (fineness_in sound.rate fineness) (λ f.
-    value_or 5 (following_in sound.threshold follow) (λ t. Ok (sliced_job sound t f 1))))
+    value_or 5 (following_in sound.threshold follow) (λ t. Ok (sliced_job sound t f 1 live))))
 
--- the job of six words: in sums of so many samples
-unfoldable pub summing : Word → Word → Word → Word → Word → Word → Result Job WordsFault
-summing system rate threshold fineness follow smooth =
+-- the job of six words, and of a seventh where there is one: in sums of so many samples
+unfoldable pub summing : Word → Word → Word → Word → Word → Word → Option Bool → Result Job WordsFault
+summing system rate threshold fineness follow smooth live =
     with_sound (sound_in system rate threshold) (λ sound. value_or 4 (fineness_in sound.rate fineness) (λ f.
     value_or 5 (following_in sound.threshold follow) (λ t. value_or 6 (between 1 MAX_SMOOTH smooth) (λ n.
-    Ok (sliced_job sound t f n)))))
+    value_or 7 live (λ l. Ok (sliced_job sound t f n l))))))
 
 -- how loud sound is: a size from 1 to the greatest
 abbrev pub amplitude_in : Word → Option ℕ

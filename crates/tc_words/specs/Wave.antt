@@ -1,5 +1,5 @@
 -- The values of `wav-ltc`, word by word.
-use Rattle.std.specs.Prelude.{ℕ, ◌≤◌, codes, Option, Some, None, Result, Ok, Err, if◌then◌else◌}
+use Rattle.std.specs.Prelude.{ℕ, ◌≤◌, Bool, codes, Option, Some, None, Result, Ok, Err, if◌then◌else◌}
 use Rattle.std.specs.Str.{bytes_eq}
 use Rattle.pcm_front.specs.declared.threshold.Threshold.{Threshold}
 use Rattle.pcm_front.specs.declared.threshold.Threshold.TheVariants.{Follow, Deep}
@@ -28,9 +28,9 @@ pub record IsWave (wave : Wave) : Type 0 where
   pub not_too_many : wave.track ≤ MAX_TRACKS
   pub threshold : IsSize wave.threshold
 
--- the job of slicing it at a threshold, in sums of so many samples
-abbrev pub wave_job : Wave → Threshold → ℕ → Job
-wave_job wave threshold smooth = WavLtc (wave_slicing_of wave.system wave.track (of_sums smooth threshold) smooth)
+-- the job of slicing it at a threshold, in sums of so many samples, live or not
+abbrev pub wave_job : Wave → Threshold → ℕ → Bool → Job
+wave_job wave threshold smooth live = WavLtc (wave_slicing_of wave.system wave.track (of_sums smooth threshold) smooth live)
 
 -- `deep`: a threshold at a quarter of the level, and never below this
 abbrev pub deep_in : ℕ → Word → Option Threshold
@@ -41,18 +41,19 @@ abbrev pub with_wave : {Y : Type 0} → Result Wave WordsFault → (Wave → Res
 with_wave (Err fault) next = Err fault
 with_wave (Ok wave) next = next wave
 
--- the job of three words: each sample stands for itself
-unfoldable pub in_wave : Word → Word → Word → Result Job WordsFault
-in_wave system track threshold = with_wave (wave_in system track threshold) (λ wave. Ok (wave_job wave (Follow wave.threshold) 1))
+-- the job of three words, and of `live` behind them where it stands there: each sample stands for itself
+unfoldable pub in_wave : Word → Word → Word → Bool → Result Job WordsFault
+in_wave system track threshold live =
+    with_wave (wave_in system track threshold) (λ wave. Ok (wave_job wave (Follow wave.threshold) 1 live))
 
--- the job of four words: in sums of so many samples
-unfoldable pub in_smooth_wave : Word → Word → Word → Word → Result Job WordsFault
-in_smooth_wave system track threshold smooth =
+-- the same of four words: in sums of so many samples
+unfoldable pub in_smooth_wave : Word → Word → Word → Word → Bool → Result Job WordsFault
+in_smooth_wave system track threshold smooth live =
     with_wave (wave_in system track threshold) (λ wave. value_or 4 (between 1 MAX_SMOOTH smooth) (λ n.
-    Ok (wave_job wave (Follow wave.threshold) n)))
+    Ok (wave_job wave (Follow wave.threshold) n live)))
 
--- the job of five words: at a quarter of the level
-unfoldable pub in_dull_wave : Word → Word → Word → Word → Word → Result Job WordsFault
-in_dull_wave system track threshold smooth deep =
+-- the job of five words, and of a sixth where there is one: at a quarter of the level
+unfoldable pub in_dull_wave : Word → Word → Word → Word → Word → Option Bool → Result Job WordsFault
+in_dull_wave system track threshold smooth deep live =
     with_wave (wave_in system track threshold) (λ wave. value_or 4 (between 1 MAX_SMOOTH smooth) (λ n.
-    value_or 5 (deep_in wave.threshold deep) (λ t. Ok (wave_job wave t n))))
+    value_or 5 (deep_in wave.threshold deep) (λ t. value_or 6 live (λ l. Ok (wave_job wave t n l)))))

@@ -1,20 +1,28 @@
 -- What is told of a sound file that is to be sliced.
-use Rattle.std.specs.Prelude.{ℕ, ◌≤◌}
+use Rattle.std.specs.Prelude.{ℕ, ◌≤◌, Bool}
 use Rattle.pcm_front.specs.declared.threshold.Threshold.{Threshold}
 use Rattle.pcm_front.specs.declared.window.TheConstants.{MAX_SMOOTH}
 use Rattle.pcm_front.specs.State.{IsThreshold}
 use Rattle.tc_address.specs.declared.system.System.{System}
 use Rattle.tc_words.specs.declared.wave_slicing.TheConstants.{MAX_TRACKS}
 
--- time code of a system, in a track, at a threshold of sums, in sums of so many samples
+-- time code of a system, in a track, at a threshold of sums, in sums of so many samples; and whether its distances are
+-- written as they pass
 pub record SlicesWave : Type 0 where
   pub system : System
   pub track : ℕ
   pub threshold : Threshold
   pub smooth : ℕ
+  pub live : Bool
 
-abbrev pub wave_slicing_of : System → ℕ → Threshold → ℕ → SlicesWave
-wave_slicing_of system track threshold smooth = record { system = system; track = track; threshold = threshold; smooth = smooth }
+abbrev pub wave_slicing_of : System → ℕ → Threshold → ℕ → Bool → SlicesWave
+wave_slicing_of system track threshold smooth live = record {
+  system = system;
+  track = track;
+  threshold = threshold;
+  smooth = smooth;
+  live = live;
+}
 
 -- a track that a file can have, and sums of some samples and not too many
 pub record IsWaveSlicing (s : SlicesWave) : Type 0 where

@@ -7,10 +7,10 @@
 //! the order of `WordsFault`, and want of memory is an answer of its own (`specs/Job.antt`,
 //! `answer_to`). A task is a job that is streamed, or a chase.
 //!
-//! Read `commands`, `fault`, `job`, `stripe`, `tape`, `flight`, `jam`, `chase_run`, `chase_words`, `line_stripe`, `lines`, `load`, `slicing`,
-//! `amplitude`, `sound`, `wave_slicing`, `wave`, `values` and `words`, with `specs/Job.antt` and `specs/Values.antt` beside them: `words` and
-//! `Job.antt` have the same
-//! rows. `tc_top` stands on this crate.
+//! Read `commands`, `fault`, `job`, `stripe`, `tape`, `flight`, `jam`, `chase_run`, `chase_words`,
+//! `line_stripe`, `lines`, `load`, `live`, `slicing`, `amplitude`, `sound`, `wave_slicing`, `wave`,
+//! `values` and `words`, with `specs/Job.antt` and `specs/Values.antt` beside them: `words` and
+//! `Job.antt` have the same rows. `tc_top` stands on this crate.
 //!
 //! A later command joins in these places:
 //! - its job, a variant of `Job` (`job`);
@@ -32,6 +32,7 @@ mod job;
 pub mod laws;
 mod line_stripe;
 mod lines;
+mod live;
 mod load;
 mod slicing;
 mod sound;

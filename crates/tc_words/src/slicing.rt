@@ -1,9 +1,12 @@
 //! What `pcm-ltc` is told: how sound is sliced into intervals. Next: `signal_commands/src/pcm_ltc.rt`,
 //! which slices it.
 ghost use Rattle.std.specs.Prelude.{◌≡◌, ◌*◌};
+ghost use Rattle.pcm_front.specs.Pace.{IsPace};
+ghost use Rattle.tc_words.specs.Live.{pace_of};
 ghost use Rattle.tc_words.specs.Slicing.{IsSlicing, slicing_of};
 
-use pcm_front::Threshold;
+use crate::live::pace_of;
+use pcm_front::{Pace, Threshold};
 use std::marker::Model;
 use tc_address::System;
 
@@ -21,6 +24,7 @@ pub struct Slicing {
     threshold: Threshold,
     fineness: u32,
     smooth: u32,
+    live: bool,
 }
 
 impl Model for Slicing {
@@ -28,25 +32,26 @@ impl Model for Slicing {
 
     ghost Value = { Slices };
 
-    ghost view = { λ s. slicing_of s.system s.rate s.threshold s.fineness s.smooth };
+    ghost view = { λ s. slicing_of s.system s.rate s.threshold s.fineness s.smooth s.live };
 
-    ghost invariant = { λ s. IsSlicing (slicing_of s.system s.rate s.threshold s.fineness s.smooth) };
+    ghost invariant = { λ s. IsSlicing (slicing_of s.system s.rate s.threshold s.fineness s.smooth s.live) };
 
-    ghost inverse = { λ s. record { system = s.system; rate = s.rate; threshold = s.threshold; fineness = s.fineness; smooth = s.smooth } };
+    ghost inverse = { λ s. record { system = s.system; rate = s.rate; threshold = s.threshold; fineness = s.fineness; smooth = s.smooth; live = s.live } };
 }
 
 impl Slicing {
     /// Sound of this system, of so many samples a second, sliced at this threshold of sums, so many
-    /// ticks a sample, in sums of so many samples.
+    /// ticks a sample, in sums of so many samples, and written as it passes where it is live.
     pub(crate) fn new(
         system: System,
         rate: u32,
         threshold: Threshold,
         fineness: u32,
         smooth: u32,
+        live: bool,
     ) -> Slicing
-        requires { IsSlicing (slicing_of system rate threshold fineness smooth) }
-        ensures { result ≡ slicing_of system rate threshold fineness smooth }
+        requires { IsSlicing (slicing_of system rate threshold fineness smooth live) }
+        ensures { result ≡ slicing_of system rate threshold fineness smooth live }
     {
         Slicing {
             system,
@@ -54,6 +59,7 @@ impl Slicing {
             threshold,
             fineness,
             smooth,
+            live,
         }
     }
 
@@ -94,5 +100,13 @@ impl Slicing {
         ensures valid { IsSlicing self.now }
     {
         self.rate * self.fineness
+    }
+
+    /// When the intervals of a distance are written.
+    pub fn pace(&self) -> Pace
+        ensures value { result ≡ pace_of self.now.live self.now.system (self.now.rate * self.now.fineness) }
+        ensures valid { IsPace result }
+    {
+        pace_of(self.live, self.system, self.tick_rate())
     }
 }

@@ -23,31 +23,37 @@ struct Sound {
     threshold: u32,
 }
 
-/// The job of three words: whole samples, and one threshold.
+/// The job of three words, and of `live` behind them where it stands there: whole samples, and one threshold.
 #[tactic(auto, unfolding(crate::specs::Sound::in_samples))]
-pub(crate) fn in_samples(system: &str, rate: &str, threshold: &str) -> Result<Job, WordsFault>
-    ensures { result ≡ in_samples system.now rate.now threshold.now }
+pub(crate) fn in_samples(
+    system: &str,
+    rate: &str,
+    threshold: &str,
+    live: bool,
+) -> Result<Job, WordsFault>
+    ensures { result ≡ in_samples system.now rate.now threshold.now live }
 {
     let sound = sound_in(system, rate, threshold)?;
-    Ok(sound.job(Threshold::Fixed(sound.threshold), 1, 1))
+    Ok(sound.job(Threshold::Fixed(sound.threshold), 1, 1, live))
 }
 
-/// The job of four words: so many ticks a sample.
+/// The same of four words: so many ticks a sample.
 #[tactic(auto, unfolding(crate::specs::Sound::in_ticks))]
 pub(crate) fn in_ticks(
     system: &str,
     rate: &str,
     threshold: &str,
     fineness: &str,
+    live: bool,
 ) -> Result<Job, WordsFault>
-    ensures { result ≡ in_ticks system.now rate.now threshold.now fineness.now }
+    ensures { result ≡ in_ticks system.now rate.now threshold.now fineness.now live }
 {
     let sound = sound_in(system, rate, threshold)?;
     let fineness = fineness_in(sound.rate, fineness).ok_or(WordsFault::Value(4))?;
-    Ok(sound.job(Threshold::Fixed(sound.threshold), fineness, 1))
+    Ok(sound.job(Threshold::Fixed(sound.threshold), fineness, 1, live))
 }
 
-/// The job of five words: a threshold that follows the level.
+/// Of five words: a threshold that follows the level.
 #[tactic(auto, unfolding(crate::specs::Sound::following))]
 pub(crate) fn following(
     system: &str,
@@ -55,16 +61,17 @@ pub(crate) fn following(
     threshold: &str,
     fineness: &str,
     follow: &str,
+    live: bool,
 ) -> Result<Job, WordsFault>
-    ensures { result ≡ following system.now rate.now threshold.now fineness.now follow.now }
+    ensures { result ≡ following system.now rate.now threshold.now fineness.now follow.now live }
 {
     let sound = sound_in(system, rate, threshold)?;
     let fineness = fineness_in(sound.rate, fineness).ok_or(WordsFault::Value(4))?;
     let threshold = following_in(sound.threshold, follow).ok_or(WordsFault::Value(5))?;
-    Ok(sound.job(threshold, fineness, 1))
+    Ok(sound.job(threshold, fineness, 1, live))
 }
 
-/// The job of six words: sums of so many samples.
+/// Of six words, and of a seventh where there is one: sums of so many samples.
 #[tactic(auto, unfolding(crate::specs::Sound::summing))]
 pub(crate) fn summing(
     system: &str,
@@ -73,14 +80,16 @@ pub(crate) fn summing(
     fineness: &str,
     follow: &str,
     smooth: &str,
+    live: Option<bool>,
 ) -> Result<Job, WordsFault>
-    ensures { result ≡ summing system.now rate.now threshold.now fineness.now follow.now smooth.now }
+    ensures { result ≡ summing system.now rate.now threshold.now fineness.now follow.now smooth.now live }
 {
     let sound = sound_in(system, rate, threshold)?;
     let fineness = fineness_in(sound.rate, fineness).ok_or(WordsFault::Value(4))?;
     let threshold = following_in(sound.threshold, follow).ok_or(WordsFault::Value(5))?;
     let smooth = between(1, MAX_SMOOTH, smooth).ok_or(WordsFault::Value(6))?;
-    Ok(sound.job(threshold, fineness, smooth))
+    let live = live.ok_or(WordsFault::Value(7))?;
+    Ok(sound.job(threshold, fineness, smooth, live))
 }
 
 /// The values of the first three words, or the first fault of them.
@@ -100,16 +109,16 @@ fn sound_in(system: &str, rate: &str, threshold: &str) -> Result<Sound, WordsFau
 
 impl Sound {
     /// The job of slicing it at this threshold, so many ticks a sample, in sums of so many samples.
-    fn job(self, threshold: Threshold, fineness: u32, smooth: u32) -> Job
+    fn job(self, threshold: Threshold, fineness: u32, smooth: u32, live: bool) -> Job
         requires threshold { IsSampleThreshold threshold }
         requires some { 1 ≤ smooth }
         requires most { smooth ≤ MAX_SMOOTH }
-        requires slicing { IsSlicing (slicing_of self.system self.rate (of_sums smooth threshold) fineness smooth) }
-        ensures { result ≡ sliced_job self threshold fineness smooth }
+        requires slicing { IsSlicing (slicing_of self.system self.rate (of_sums smooth threshold) fineness smooth live) }
+        ensures { result ≡ sliced_job self threshold fineness smooth live }
     {
         let threshold = of_sums(smooth, threshold);
         Job::PcmLtc {
-            slicing: Slicing::new(self.system, self.rate, threshold, fineness, smooth),
+            slicing: Slicing::new(self.system, self.rate, threshold, fineness, smooth, live),
         }
     }
 }

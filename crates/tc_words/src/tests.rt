@@ -1,7 +1,7 @@
 //! Words as they are typed, and what they say.
 use super::*;
 use biphase::Profile;
-use pcm_front::Threshold;
+use pcm_front::{Pace, Threshold};
 use std::alloc::{AllocError, Global};
 use std::process::Abort;
 use std::test::Fail;
@@ -193,8 +193,20 @@ fn the_first_fault_is_told_of_sound(rt: HostRuntime) -> Result<(), Fail> {
         ("pcm-ltc 25 48000 1000 16 deeper 0", WordsFault::Value(5)),
         ("pcm-ltc 25 48000 1000 16 follow 0", WordsFault::Value(6)),
         ("pcm-ltc 25 48000 1000 16 deep 17", WordsFault::Value(6)),
+        ("pcm-ltc 25 48000 live", WordsFault::Value(3)),
+        ("pcm-ltc 25 48000 1000 Live", WordsFault::Value(4)),
+        ("pcm-ltc 25 48000 1000 live live", WordsFault::Value(4)),
+        ("pcm-ltc 25 48000 1000 live 16", WordsFault::Value(4)),
         (
-            "pcm-ltc 25 48000 1000 16 follow 1 1",
+            "pcm-ltc 25 48000 1000 16 follow 0 lively",
+            WordsFault::Value(6),
+        ),
+        (
+            "pcm-ltc 25 48000 1000 16 follow 1 lively",
+            WordsFault::Value(7),
+        ),
+        (
+            "pcm-ltc 25 48000 1000 16 follow 1 live live",
             WordsFault::CountOfWords,
         ),
         ("wav-ltc 25 1", WordsFault::CountOfWords),
@@ -203,7 +215,13 @@ fn the_first_fault_is_told_of_sound(rt: HostRuntime) -> Result<(), Fail> {
         ("wav-ltc 25 64 32768 0 follow", WordsFault::Value(3)),
         ("wav-ltc 25 64 32767 17 follow", WordsFault::Value(4)),
         ("wav-ltc 25 64 32767 16 follow", WordsFault::Value(5)),
-        ("wav-ltc 25 1 1 1 deep 1", WordsFault::CountOfWords),
+        ("wav-ltc 25 1 live", WordsFault::Value(3)),
+        ("wav-ltc 25 1 1 liv", WordsFault::Value(4)),
+        ("wav-ltc 25 1 1 0 live", WordsFault::Value(4)),
+        ("wav-ltc 25 1 1 live live", WordsFault::Value(4)),
+        ("wav-ltc 25 1 1 1 live deep", WordsFault::Value(5)),
+        ("wav-ltc 25 1 1 1 deep 1", WordsFault::Value(6)),
+        ("wav-ltc 25 1 1 1 deep live live", WordsFault::CountOfWords),
         ("ltc-pcm", WordsFault::CountOfWords),
         ("ltc-pcm 0", WordsFault::Value(1)),
         ("ltc-pcm 32768", WordsFault::Value(1)),
@@ -436,6 +454,43 @@ fn slicings_and_levels_are_read(rt: HostRuntime) -> Result<(), Fail> {
         assert_eq!(rt; slicing.threshold(), threshold, "at {line}");
         assert_eq!(rt; slicing.fineness(), fineness, "at {line}");
         assert_eq!(rt; slicing.tick_rate(), tick_rate, "at {line}");
+    }
+    for (line, pace) in [
+        ("pcm-ltc 25 48000 1000", Pace::Ended),
+        ("pcm-ltc 25 48000 1000 live", Pace::Passing(480)),
+        ("pcm-ltc 24 44100 1000 live", Pace::Passing(459)),
+        ("pcm-ltc 30 119 1000 live", Pace::Passing(1)),
+        ("pcm-ltc 30 239 1000 live", Pace::Passing(1)),
+        ("pcm-ltc 25 48000 1000 16 live", Pace::Passing(7_680)),
+        ("pcm-ltc 24 100000000 1000 1 live", Pace::Passing(1_041_666)),
+        ("pcm-ltc 25 48000 250 16 follow live", Pace::Passing(7_680)),
+        ("pcm-ltc 25 48000 250 16 deep 4", Pace::Ended),
+        ("pcm-ltc 25 48000 250 16 deep 4 live", Pace::Passing(7_680)),
+    ] {
+        let words = typed(alloc, line)?;
+        let Ok(task) = read_words(alloc, &words) else {
+            return Err("no task".into());
+        };
+        let Some(slicing) = slicing_in(&task) else {
+            return Err("no slicing".into());
+        };
+        assert_eq!(rt; slicing.pace(), pace, "at {line}");
+    }
+    for (line, pace) in [
+        ("wav-ltc 25 2 250", Pace::Ended),
+        ("wav-ltc 25 2 250 live", Pace::Passing(7_680)),
+        ("wav-ltc 25 2 250 3 live", Pace::Passing(7_680)),
+        ("wav-ltc 30 2 250 3 deep", Pace::Ended),
+        ("wav-ltc 30 2 250 3 deep live", Pace::Passing(6_400)),
+    ] {
+        let words = typed(alloc, line)?;
+        let Ok(task) = read_words(alloc, &words) else {
+            return Err("no task".into());
+        };
+        let Some(wave) = wave_slicing_in(&task) else {
+            return Err("no slicing of a file".into());
+        };
+        assert_eq!(rt; wave.pace(768_000), pace, "at {line}");
     }
     for (line, track, threshold, smooth) in [
         ("wav-ltc 24 1 1", 1, Threshold::Follow(1), 1),

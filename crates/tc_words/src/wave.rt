@@ -22,31 +22,37 @@ struct Wave {
     threshold: u32,
 }
 
-/// The job of three words: each sample stands for itself.
+/// The job of three words, and of `live` behind them where it stands there: each sample stands for itself.
 #[tactic(auto, unfolding(crate::specs::Wave::in_wave))]
-pub(crate) fn in_wave(system: &str, track: &str, threshold: &str) -> Result<Job, WordsFault>
-    ensures { result ≡ in_wave system.now track.now threshold.now }
+pub(crate) fn in_wave(
+    system: &str,
+    track: &str,
+    threshold: &str,
+    live: bool,
+) -> Result<Job, WordsFault>
+    ensures { result ≡ in_wave system.now track.now threshold.now live }
 {
     let wave = wave_in(system, track, threshold)?;
-    Ok(wave.job(Threshold::Follow(wave.threshold), 1))
+    Ok(wave.job(Threshold::Follow(wave.threshold), 1, live))
 }
 
-/// The job of four words: sums of so many samples.
+/// The same of four words: sums of so many samples.
 #[tactic(auto, unfolding(crate::specs::Wave::in_smooth_wave))]
 pub(crate) fn in_smooth_wave(
     system: &str,
     track: &str,
     threshold: &str,
     smooth: &str,
+    live: bool,
 ) -> Result<Job, WordsFault>
-    ensures { result ≡ in_smooth_wave system.now track.now threshold.now smooth.now }
+    ensures { result ≡ in_smooth_wave system.now track.now threshold.now smooth.now live }
 {
     let wave = wave_in(system, track, threshold)?;
     let smooth = between(1, MAX_SMOOTH, smooth).ok_or(WordsFault::Value(4))?;
-    Ok(wave.job(Threshold::Follow(wave.threshold), smooth))
+    Ok(wave.job(Threshold::Follow(wave.threshold), smooth, live))
 }
 
-/// The job of five words: a threshold at a quarter of the level.
+/// Of five words, and of a sixth where there is one: a threshold at a quarter of the level.
 #[tactic(auto, unfolding(crate::specs::Wave::in_dull_wave))]
 pub(crate) fn in_dull_wave(
     system: &str,
@@ -54,13 +60,15 @@ pub(crate) fn in_dull_wave(
     threshold: &str,
     smooth: &str,
     deep: &str,
+    live: Option<bool>,
 ) -> Result<Job, WordsFault>
-    ensures { result ≡ in_dull_wave system.now track.now threshold.now smooth.now deep.now }
+    ensures { result ≡ in_dull_wave system.now track.now threshold.now smooth.now deep.now live }
 {
     let wave = wave_in(system, track, threshold)?;
     let smooth = between(1, MAX_SMOOTH, smooth).ok_or(WordsFault::Value(4))?;
     let threshold = deep_in(wave.threshold, deep).ok_or(WordsFault::Value(5))?;
-    Ok(wave.job(threshold, smooth))
+    let live = live.ok_or(WordsFault::Value(6))?;
+    Ok(wave.job(threshold, smooth, live))
 }
 
 /// The values of the first three words, or the first fault of them.
@@ -80,16 +88,16 @@ fn wave_in(system: &str, track: &str, threshold: &str) -> Result<Wave, WordsFaul
 
 impl Wave {
     /// The job of slicing it at this threshold, in sums of so many samples.
-    fn job(self, threshold: Threshold, smooth: u32) -> Job
+    fn job(self, threshold: Threshold, smooth: u32, live: bool) -> Job
         requires wave { IsWave self }
         requires threshold { IsSampleThreshold threshold }
         requires some { 1 ≤ smooth }
         requires most { smooth ≤ MAX_SMOOTH }
-        ensures { result ≡ wave_job self threshold smooth }
+        ensures { result ≡ wave_job self threshold smooth live }
     {
         let threshold = of_sums(smooth, threshold);
         Job::WavLtc {
-            slicing: WaveSlicing::new(self.system, self.track, threshold, smooth),
+            slicing: WaveSlicing::new(self.system, self.track, threshold, smooth, live),
         }
     }
 }

@@ -1,9 +1,12 @@
 //! What `wav-ltc` is told: how a track of a sound file is sliced into intervals. Next:
 //! `signal_commands/src/wav_ltc.rt`, which slices it.
 ghost use Rattle.std.specs.Prelude.{◌≡◌};
+ghost use Rattle.pcm_front.specs.Pace.{IsPace};
+ghost use Rattle.tc_words.specs.Live.{pace_of};
 ghost use Rattle.tc_words.specs.WaveSlicing.{IsWaveSlicing, wave_slicing_of};
 
-use pcm_front::Threshold;
+use crate::live::pace_of;
+use pcm_front::{Pace, Threshold};
 use std::marker::Model;
 use tc_address::System;
 
@@ -17,6 +20,7 @@ pub struct WaveSlicing {
     track: u32,
     threshold: Threshold,
     smooth: u32,
+    live: bool,
 }
 
 impl Model for WaveSlicing {
@@ -24,25 +28,32 @@ impl Model for WaveSlicing {
 
     ghost Value = { SlicesWave };
 
-    ghost view = { λ s. wave_slicing_of s.system s.track s.threshold s.smooth };
+    ghost view = { λ s. wave_slicing_of s.system s.track s.threshold s.smooth s.live };
 
-    ghost invariant = { λ s. IsWaveSlicing (wave_slicing_of s.system s.track s.threshold s.smooth) };
+    ghost invariant = { λ s. IsWaveSlicing (wave_slicing_of s.system s.track s.threshold s.smooth s.live) };
 
-    ghost inverse = { λ s. record { system = s.system; track = s.track; threshold = s.threshold; smooth = s.smooth } };
+    ghost inverse = { λ s. record { system = s.system; track = s.track; threshold = s.threshold; smooth = s.smooth; live = s.live } };
 }
 
 impl WaveSlicing {
     /// Time code of this system, in this track, sliced at this threshold of sums, in sums of so many
-    /// samples.
-    pub(crate) fn new(system: System, track: u32, threshold: Threshold, smooth: u32) -> WaveSlicing
-        requires { IsWaveSlicing (wave_slicing_of system track threshold smooth) }
-        ensures { result ≡ wave_slicing_of system track threshold smooth }
+    /// samples, and written as it passes where it is live.
+    pub(crate) fn new(
+        system: System,
+        track: u32,
+        threshold: Threshold,
+        smooth: u32,
+        live: bool,
+    ) -> WaveSlicing
+        requires { IsWaveSlicing (wave_slicing_of system track threshold smooth live) }
+        ensures { result ≡ wave_slicing_of system track threshold smooth live }
     {
         WaveSlicing {
             system,
             track,
             threshold,
             smooth,
+            live,
         }
     }
 
@@ -75,5 +86,13 @@ impl WaveSlicing {
         ensures valid { IsWaveSlicing self.now }
     {
         self.smooth
+    }
+
+    /// When the intervals of a distance are written, at so many ticks a second.
+    pub fn pace(&self, tick_rate: u32) -> Pace
+        ensures value { result ≡ pace_of self.now.live self.now.system tick_rate }
+        ensures valid { IsPace result }
+    {
+        pace_of(self.live, self.system, tick_rate)
     }
 }

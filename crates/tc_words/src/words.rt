@@ -12,6 +12,7 @@ use crate::flight::{Flight, flight_in};
 use crate::jam::Jam;
 use crate::job::{Job, Task};
 use crate::lines::in_lines;
+use crate::live::{is_live, live_in};
 use crate::load::{LoadRun, MAX_WORDS};
 use crate::sound::{amplitude_in, following, in_samples, in_ticks, summing};
 use crate::stripe::MAX_TICK_RATE;
@@ -245,32 +246,65 @@ fn ltc_convert(values: &[&str]) -> Result<Job, WordsFault>
     Ok(Job::LtcConvert { version })
 }
 
-// `pcm-ltc SYSTEM RATE THRESHOLD [FINENESS [follow|deep [SMOOTH]]]`
+// `pcm-ltc SYSTEM RATE THRESHOLD [FINENESS [follow|deep [SMOOTH]]] [live]`
 fn pcm_ltc(values: &[&str]) -> Result<Job, WordsFault>
     ensures { result ≡ pcm_ltc (map (λ v. v.now) values.now) }
 {
     match values {
-        [system, rate, threshold] => in_samples(system, rate, threshold),
-        [system, rate, threshold, fineness] => in_ticks(system, rate, threshold, fineness),
+        [system, rate, threshold] => in_samples(system, rate, threshold, false),
+        [system, rate, threshold, last] if is_live(last) => {
+            in_samples(system, rate, threshold, true)
+        }
+        [system, rate, threshold, fineness] => in_ticks(system, rate, threshold, fineness, false),
+        [system, rate, threshold, fineness, last] if is_live(last) => {
+            in_ticks(system, rate, threshold, fineness, true)
+        }
         [system, rate, threshold, fineness, follow] => {
-            following(system, rate, threshold, fineness, follow)
+            following(system, rate, threshold, fineness, follow, false)
+        }
+        [system, rate, threshold, fineness, follow, last] if is_live(last) => {
+            following(system, rate, threshold, fineness, follow, true)
         }
         [system, rate, threshold, fineness, follow, smooth] => {
-            summing(system, rate, threshold, fineness, follow, smooth)
+            summing(
+                system,
+                rate,
+                threshold,
+                fineness,
+                follow,
+                smooth,
+                Some(false),
+            )
+        }
+        [system, rate, threshold, fineness, follow, smooth, last] => {
+            let live = live_in(last);
+            summing(system, rate, threshold, fineness, follow, smooth, live)
         }
         _ => Err(WordsFault::CountOfWords),
     }
 }
 
-// `wav-ltc SYSTEM TRACK THRESHOLD [SMOOTH [deep]]`
+// `wav-ltc SYSTEM TRACK THRESHOLD [SMOOTH [deep]] [live]`
 fn wav_ltc(values: &[&str]) -> Result<Job, WordsFault>
     ensures { result ≡ wav_ltc (map (λ v. v.now) values.now) }
 {
     match values {
-        [system, track, threshold] => in_wave(system, track, threshold),
-        [system, track, threshold, smooth] => in_smooth_wave(system, track, threshold, smooth),
+        [system, track, threshold] => in_wave(system, track, threshold, false),
+        [system, track, threshold, last] if is_live(last) => {
+            in_wave(system, track, threshold, true)
+        }
+        [system, track, threshold, smooth] => {
+            in_smooth_wave(system, track, threshold, smooth, false)
+        }
+        [system, track, threshold, smooth, last] if is_live(last) => {
+            in_smooth_wave(system, track, threshold, smooth, true)
+        }
         [system, track, threshold, smooth, deep] => {
-            in_dull_wave(system, track, threshold, smooth, deep)
+            in_dull_wave(system, track, threshold, smooth, deep, Some(false))
+        }
+        [system, track, threshold, smooth, deep, last] => {
+            let live = live_in(last);
+            in_dull_wave(system, track, threshold, smooth, deep, live)
         }
         _ => Err(WordsFault::CountOfWords),
     }

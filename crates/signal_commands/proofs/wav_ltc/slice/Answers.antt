@@ -1,4 +1,4 @@
-use Rattle.std.proofs.Common.{◌+◌, ◌-◌, ◌++◌, ℤ, List, ℕ, length, take, drop, sym, ◌∙◌, ap, subst, append-nil, arith, take-append-drop}
+use Rattle.std.proofs.Common.{◌+◌, ◌-◌, ◌++◌, ℤ, List, ℕ, length, take, drop, sym, ◌∙◌, ap, refl, subst, arith, take-append-drop}
 use Rattle.std.proofs.lemmas.List.{take_all}
 use Rattle.pcm_front.specs.Settings.{Settings}
 use Rattle.pcm_front.specs.StandsFor as pcm
@@ -6,39 +6,39 @@ use Rattle.pcm_front.specs.StandsFor.{settings_of, tick_of}
 use Rattle.tc_command.specs.KeptGathered.{IsPut, put_more}
 use Rattle.tc_command.specs.KeptWorks.{at_err}
 use Rattle.signal_commands.specs.KeptTrack.{AreDue}
-use Rattle.signal_commands.proofs.DueSamples.{due_at, due_at_none, due_at_some, due_behind, front_of_longer, joined, next_tick, put_then_front, rest_fits, run_due, run_within}
+use Rattle.signal_commands.proofs.DueSamples.{due_at, due_behind, front_of_longer, joined, next_tick, put_then_front, rest_fits, run_due, run_within}
 use Rattle.signal_commands.proofs.TrackGoesOn.{due_of}
 use Rattle.signal_commands.proofs.wav_ltc.slice.Goals as goal
 
-pub run_samples-count-requires : goal.run_samples-count-requires
-run_samples-count-requires g c =
+pub intervals_of_samples-count-requires-clause-room : goal.intervals_of_samples-count-requires-clause-room
+intervals_of_samples-count-requires-clause-room g c =
     let i = c.samples.invariant in
     rest_fits (tick_of c.args.slicer.now) (settings_of c.args.slicer.now).fineness c.samples.at (tick_of c.samples.slicer)
-    (settings_of c.samples.slicer).fineness c.args.samples.now i.tick (ap (λ (x : Settings). x.fineness) i.settings) i.within c.requires
+    (settings_of c.samples.slicer).fineness c.args.samples.now i.tick (ap (λ (x : Settings). x.fineness) i.settings) i.within c.requires.room
 
--- a run that brought a distance
-pub samples-preserved-in-Continue-1 : goal.samples-preserved-in-Continue-1
-samples-preserved-in-Continue-1 g c =
+-- a run more
+pub samples-preserved : goal.samples-preserved
+samples-preserved g c =
     let i = c.samples.invariant in
-    let e = c.run_samples-count.ensures in
+    let e = c.intervals_of_samples-count.ensures in
     let xs = c.args.samples.now in
-    let n = c.run_samples-count.result.0 in
-    let distance = c.run_samples-count.result.1 in
+    let n = c.intervals_of_samples-count.result.0 in
+    let brought = c.intervals_of_samples-count.result.1 in
     let inside = run_within c.samples.at n xs i.within e.within in
     record {
       within = inside;
       settings = e.settings ∙ i.settings;
       tick = next_tick (tick_of c.args.slicer.now) (settings_of c.args.slicer.now).fineness c.samples.at n _ _ _ i.tick
           (ap (λ (x : Settings). x.fineness) i.settings) e.tick;
-      stands = λ front stands. subst (pcm.StandsFor c.run_samples-count.new.self) (joined c.samples.at n front xs i.within inside)
+      stands = λ front stands. subst (pcm.StandsFor c.intervals_of_samples-count.new.self) (joined c.samples.at n front xs i.within inside)
           (e.stands (front ++ take c.samples.at xs) (i.stands front stands));
       put = λ front stands.
           let put = i.put front stands in (
-            put.0 ++ due_at distance,
-            run_due (settings_of c.args.slicer.now) (settings_of c.samples.slicer) c.samples.at n front xs put.0 distance i.settings i.within inside put.1
-                (e.distances (front ++ take c.samples.at xs) (i.stands front stands)),
-            put_more _ _ _ c.args.gathered.now.room.items put.0 c.samples.gathered.room.items _ c.spell.new.gathered.room.items _ put.2
-                c.in_ok-spell.ensures.all (ap (λ (l : List ℕ). put.0 ++ l) (due_at_some distance c.in-Some.distance c.in-Some.is)),
+            put.0 ++ due_at brought,
+            run_due c.args.pace (settings_of c.args.slicer.now) (settings_of c.samples.slicer) c.samples.at n front xs put.0 brought i.settings i.within
+                inside put.1 (e.intervals (front ++ take c.samples.at xs) (i.stands front stands)),
+            put_more _ _ _ c.args.gathered.now.room.items put.0 c.samples.gathered.room.items (due_at brought) c.spell.new.gathered.room.items _ put.2
+                c.in_ok-spell.ensures.all refl,
           );
       same = c.in_ok-spell.ensures.cause ∙ i.same;
     }
@@ -47,52 +47,24 @@ samples-preserved-in-Continue-1 g c =
 pub returns-in_err-spell-clause-front : goal.returns-in_err-spell-clause-front
 returns-in_err-spell-clause-front g c = at_err c.from_residual.result (λ front stands.
     let i = c.samples.invariant in
-    let e = c.run_samples-count.ensures in
+    let e = c.intervals_of_samples-count.ensures in
     let xs = c.args.samples.now in
-    let n = c.run_samples-count.result.0 in
+    let n = c.intervals_of_samples-count.result.0 in
     let at = c.samples.at + n in
     let s = settings_of c.args.slicer.now in
-    let distance = c.run_samples-count.result.1 in
+    let brought = c.intervals_of_samples-count.result.1 in
     let inside = run_within c.samples.at n xs i.within e.within in
     let put = i.put front stands in
-    let here = run_due s (settings_of c.samples.slicer) c.samples.at n front xs put.0 distance i.settings i.within inside put.1
-    (e.distances (front ++ take c.samples.at xs) (i.stands front stands)) in
-    let rest = due_of c.distances_of_a_front_come_first.ensures s (front ++ take at xs) (drop at xs) in
-    let due = put.0 ++ due_at distance in
-    let failed = put_then_front _ _ _ c.args.gathered.now.room.items put.0 c.samples.gathered.room.items _ put.2 c.in_err-spell.ensures.front in (
+    let here = run_due c.args.pace s (settings_of c.samples.slicer) c.samples.at n front xs put.0 brought i.settings i.within inside put.1
+    (e.intervals (front ++ take c.samples.at xs) (i.stands front stands)) in
+    let rest = due_of c.intervals_of_a_front_come_first.ensures c.args.pace s (front ++ take at xs) (drop at xs) c.requires.pace in
+    let due = put.0 ++ due_at brought in
+    let failed = put_then_front _ _ _ c.args.gathered.now.room.items put.0 c.samples.gathered.room.items (due_at brought) put.2
+    c.in_err-spell.ensures.front in (
       due ++ rest.0,
-      due_behind s front (take at xs) (drop at xs) xs due rest.0 (take-append-drop at xs) here rest.1,
-      front_of_longer _ _ c.args.gathered.now.room.items due rest.0
-          (rw (due_at_some distance c.in-Some.distance c.in-Some.is) failed),
+      due_behind c.args.pace s front (take at xs) (drop at xs) xs due rest.0 (take-append-drop at xs) here rest.1,
+      front_of_longer _ _ c.args.gathered.now.room.items due rest.0 failed,
     ))
-
--- a run that brought none
-pub samples-preserved : goal.samples-preserved
-samples-preserved g c =
-    let i = c.samples.invariant in
-    let e = c.run_samples-count.ensures in
-    let xs = c.args.samples.now in
-    let n = c.run_samples-count.result.0 in
-    let distance = c.run_samples-count.result.1 in
-    let inside = run_within c.samples.at n xs i.within e.within in
-    record {
-      within = inside;
-      settings = e.settings ∙ i.settings;
-      tick = next_tick (tick_of c.args.slicer.now) (settings_of c.args.slicer.now).fineness c.samples.at n _ _ _ i.tick
-          (ap (λ (x : Settings). x.fineness) i.settings) e.tick;
-      stands = λ front stands. subst (pcm.StandsFor c.run_samples-count.new.self) (joined c.samples.at n front xs i.within inside)
-          (e.stands (front ++ take c.samples.at xs) (i.stands front stands));
-      put = λ front stands.
-          let put = i.put front stands in
-          let same = ap (λ (l : List ℕ). put.0 ++ l) (due_at_none distance c.in_default.is) ∙ append-nil put.0 in (
-            put.0,
-            subst (AreDue (settings_of c.args.slicer.now) front (take (c.samples.at + n) xs)) same
-                (run_due (settings_of c.args.slicer.now) (settings_of c.samples.slicer) c.samples.at n front xs put.0 distance i.settings i.within inside
-                put.1 (e.distances (front ++ take c.samples.at xs) (i.stands front stands))),
-            put.2,
-          );
-      same = i.same;
-    }
 
 -- all were taken
 pub returns-clause-stands : goal.returns-clause-stands
@@ -105,4 +77,4 @@ pub returns-clause-all : goal.returns-clause-all
 returns-clause-all g c = λ front stands.
     let put = c.samples.invariant.put front stands in
     let all = take_all c.samples.at c.args.samples.now (omega (arith, c.samples-test.false)) in
-    (put.0, subst (λ (l : List ℤ). AreDue (settings_of c.args.slicer.now) front l put.0) all put.1, put.2)
+    (put.0, subst (λ (l : List ℤ). AreDue c.args.pace (settings_of c.args.slicer.now) front l put.0) all put.1, put.2)

@@ -1,15 +1,16 @@
-use Rattle.std.proofs.Common.{ℕ, List, ℤ, Option, take, refl, subst}
+use Rattle.std.proofs.Common.{ℕ, List, ℤ, Option, take, refl, subst, ap, ◌∙◌}
 use Rattle.wave_file.specs.declared.format.WaveFormat.{WaveFormat}
 use Rattle.wave_file.specs.StandsFor.{IsTold}
 use Rattle.wave_file.specs.Wave.{good, reading_of}
 use Rattle.signal_commands.specs.declared.wav_ltc.SlicedTrack.{SlicedTrack}
+use Rattle.signal_commands.specs.KeptTrack.{pace_in}
 use Rattle.tc_command.specs.KeptWorks.{through}
 use Rattle.signal_commands.proofs.SlicedTracks.{Decodes, Slices, slice_stop, sliced_on, ticks_fit}
 use Rattle.signal_commands.proofs.wav_ltc.SlicedTrack.take_blocks.Goals as goal
 
 -- the ticks of the samples are few
-pub slice-requires : goal.slice-requires
-slice-requires g c =
+pub slice-requires-clause-room : goal.slice-requires-clause-room
+slice-requires-clause-room g c =
     let s = c.args.self.now in
     let adds = c.samples-count.ensures.adds in
     let more = take c.samples-count.result.1 c.samples-count.new.room in
@@ -42,7 +43,7 @@ returns-in_err-slice-clause-stops g c =
     through c.from_residual.result c.from_residual.ensures.1 (λ stop same front written stands.
     let f = c.in_err-slice.ensures.front stands.samples stands.slicer in
     rw (same, c.in_err-slice.ensures.why) (slice_stop c.samples_are_few_and_behind_a_format.ensures s next front written c.args.bytes.now f.0
-    c.samples-count.result.0 more _ _ stands decodes adds.format f.1 f.2))
+    c.samples-count.result.0 more _ _ stands decodes adds.format c.pace_in-pace.result (c.pace_in-pace.ensures.value ∙ ap (pace_in s.slicing) c.format-told.ensures.value) f.1 f.2))
 
 -- it was pushed, or is gathered
 pub returns-clause-works : goal.returns-clause-works
@@ -62,4 +63,4 @@ returns-clause-works g c = λ front written stands.
     let slices : Slices s next more = record { settings = c.in_ok-slice.ensures.settings; stands = c.in_ok-slice.ensures.stands } in
     let all = c.in_ok-slice.ensures.all stands.samples stands.slicer in
     sliced_on c.samples_are_few_and_behind_a_format.ensures s next front written (take c.samples-count.result.0 c.args.bytes.now) all.0 more _ _ stands
-    decodes slices adds.format all.1 all.2
+    decodes slices adds.format c.pace_in-pace.result (c.pace_in-pace.ensures.value ∙ ap (pace_in s.slicing) c.format-told.ensures.value) all.1 all.2

@@ -1,9 +1,10 @@
 use Rattle.std.specs.Int.{w16}
-use Rattle.std.proofs.Common.{FitsSigned, rules, to_z-of_z, ℕ, ℤ, List, [], ◌∷◌, Option, take, refl, subst}
+use Rattle.std.proofs.Common.{FitsSigned, rules, to_z-of_z, ℕ, ℤ, List, [], ◌∷◌, Option, take, refl, subst, ap, ◌∙◌}
 use Rattle.wave_file.specs.declared.format.WaveFormat.{WaveFormat}
 use Rattle.wave_file.specs.StandsFor.{IsTold}
 use Rattle.wave_file.specs.Wave.{good, reading_of}
 use Rattle.signal_commands.specs.declared.wav_ltc.SlicedTrack.{SlicedTrack}
+use Rattle.signal_commands.specs.KeptTrack.{pace_in}
 use Rattle.tc_command.specs.KeptWorks.{through}
 use Rattle.signal_commands.proofs.SlicedTracks.{Decodes, Slices, begun, fault_stop, gathered_stop, limit_stop, passed_on, slice_stop, sliced_on, ticks_fit}
 use Rattle.signal_commands.proofs.wav_ltc.SlicedTrack.take_piece.Goals as goal
@@ -49,8 +50,8 @@ returns-in_ok-put-in-Begin-clause-works g c = λ front written stands.
     refl takes.1 takes.2 (rw c.header-header.ensures at c.in_ok-put-in-Begin.ensures.all)
 
 -- a sample
-pub slice-requires : goal.slice-requires
-slice-requires g c =
+pub slice-requires-clause-room : goal.slice-requires-clause-room
+slice-requires-clause-room g c =
     let s = c.args.self.now in
     let takes = c.in-Sample.ensures.takes in
     let adds = takes.0 in
@@ -83,7 +84,7 @@ returns-in_err-slice-in-Sample-clause-stops g c =
     let fits : FitsSigned w16 c.in-Sample.sample = search rules in
     let f = (rw (to_z-of_z fits) at c.in_err-slice-in-Sample.ensures.front) stands.samples stands.slicer in
     rw (same, c.in_err-slice-in-Sample.ensures.why) (slice_stop c.samples_are_few_and_behind_a_format.ensures s next front written c.args.bytes.now f.0
-    c.in-Sample.count (c.in-Sample.sample ∷ []) _ _ stands decodes takes.1 f.1 f.2))
+    c.in-Sample.count (c.in-Sample.sample ∷ []) _ _ stands decodes takes.1 c.pace_in-pace.result (c.pace_in-pace.ensures.value ∙ ap (pace_in s.slicing) c.format-told.ensures.value) f.1 f.2))
 
 pub returns-in_ok-slice-in-Sample-clause-works : goal.returns-in_ok-slice-in-Sample-clause-works
 returns-in_ok-slice-in-Sample-clause-works g c = λ front written stands.
@@ -107,7 +108,7 @@ returns-in_ok-slice-in-Sample-clause-works g c = λ front written stands.
     } in
     let all = (rw (to_z-of_z fits) at c.in_ok-slice-in-Sample.ensures.all) stands.samples stands.slicer in
     sliced_on c.samples_are_few_and_behind_a_format.ensures s next front written (take c.in-Sample.count c.args.bytes.now) all.0 more _ _ stands
-    decodes slices takes.1 all.1 all.2
+    decodes slices takes.1 c.pace_in-pace.result (c.pace_in-pace.ensures.value ∙ ap (pace_in s.slicing) c.format-told.ensures.value) all.1 all.2
 
 -- a fault
 pub returns-in_err-push-in-Fault-clause-stops : goal.returns-in_err-push-in-Fault-clause-stops

@@ -1,0 +1,73 @@
+//! When the intervals of a distance are written. Next: `paced`.
+ghost use Rattle.std.specs.Prelude.{◌≡◌, ◌≤◌, ◌^◌, ◌++◌, IfSome};
+ghost use Rattle.std.specs.List.{flat_map};
+ghost use Rattle.std.specs.Option.{option_to_list};
+ghost use Rattle.pcm_front.specs.Distance.{pieces_in};
+ghost use Rattle.pcm_front.specs.Pace.{begun, begun_in, intervals_in, longest, IsPace, Passes};
+
+use crate::interval::{Intervals, MAX_INTERVAL, pieces};
+
+/// When the intervals of a distance are written, and how long they are at most.
+#[derive(Clone, Copy, Debug, PartialEq, Eq)]
+pub enum Pace {
+    /// When the distance has ended, each of at most `MAX_INTERVAL`.
+    Ended,
+    /// As it passes, in pieces of so many ticks, from 1 to `MAX_INTERVAL`.
+    Passing(u32),
+}
+
+impl Pace {
+    /// The length of a whole piece.
+    fn longest(self) -> u32
+        ensures { result ≡ longest self }
+    {
+        match self {
+            Pace::Ended => MAX_INTERVAL,
+            Pace::Passing(length) => length,
+        }
+    }
+
+    /// How many whole pieces stand of a distance that has not ended, where so many ticks have passed.
+    fn begun(self, passed: u64) -> u64
+        requires { IsPace self }
+        ensures value { result ≡ begun_in self passed }
+        ensures most { result ≤ passed }
+    {
+        match self {
+            Pace::Ended => 0,
+            Pace::Passing(length) => passed / u64::from(length),
+        }
+    }
+
+    /// What comes to the pieces of a distance of which so many ticks had passed, where this is the
+    /// distance if it has ended, and so many ticks have passed of the one that has not.
+    pub(crate) fn intervals(self, before: u64, distance: Option<u64>, now: u64) -> Intervals
+        requires pace { IsPace self }
+        requires range { IfSome distance (λ distance. (1 ≤ distance) × (distance ≤ 2 ^ 62)) }
+        requires passes { Passes before distance now }
+        ensures intervals { begun self before ++ intervals_in result
+            ≡ flat_map (pieces_in (longest self)) (option_to_list distance) ++ begun self now }
+        ensures length { result.length ≡ longest self }
+        ensures rest { IfSome result.rest (λ rest. (1 ≤ rest) × (rest ≤ longest self)) }
+    {
+        let length = self.longest();
+        let (before, begun) = (self.begun(before), self.begun(now));
+        match distance {
+            Some(distance) => {
+                let (whole, rest) = pieces(length, distance - before * u64::from(length));
+                Intervals {
+                    length,
+                    whole,
+                    rest: Some(rest),
+                    begun,
+                }
+            }
+            None => Intervals {
+                length,
+                whole: 0,
+                rest: None,
+                begun: begun - before,
+            },
+        }
+    }
+}
