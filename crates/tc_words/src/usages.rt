@@ -14,9 +14,12 @@ pub const USAGES: [(&str, &str); 22] = [
     (commands::LTC_CONVERT, " VERSION"),
     (
         commands::PCM_LTC,
-        " SYSTEM RATE THRESHOLD [FINENESS [follow|deep [SMOOTH]]]",
+        " SYSTEM RATE THRESHOLD [FINENESS [follow|deep [SMOOTH]]] [live]",
     ),
-    (commands::WAV_LTC, " SYSTEM TRACK THRESHOLD [SMOOTH [deep]]"),
+    (
+        commands::WAV_LTC,
+        " SYSTEM TRACK THRESHOLD [SMOOTH [deep]] [live]",
+    ),
     (commands::LTC_PCM, " LEVEL"),
     (
         commands::LTC_MAKE,
