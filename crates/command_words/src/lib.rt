@@ -15,6 +15,3 @@
 mod command_line;
 
 pub use command_line::CommandLine;
-
-#[cfg(test)]
-mod tests;

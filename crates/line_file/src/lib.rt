@@ -36,6 +36,3 @@ pub use header::{
     line_header,
 };
 pub use texts::{field_end_text, field_text};
-
-#[cfg(test)]
-mod tests;

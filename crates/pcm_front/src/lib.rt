@@ -52,6 +52,3 @@ pub use slicer::Slicer;
 pub use start::Start;
 pub use threshold::{MAX_THRESHOLD, Threshold};
 pub use window::MAX_SMOOTH;
-
-#[cfg(test)]
-mod tests;

@@ -39,6 +39,3 @@ pub use interval_file::piece::{LEAST_LONG, Next, interval_bytes, most_width, nex
 pub use texts::event::event_text;
 pub use texts::frame::frame_text;
 pub use texts::summary::{fly_end_text, read_end_text};
-
-#[cfg(test)]
-mod tests;

@@ -39,6 +39,3 @@ pub use memory_source::MemorySource;
 pub use sink::{Sink, push_all};
 pub use source::Source;
 pub use steady_source::SteadySource;
-
-#[cfg(test)]
-mod tests;

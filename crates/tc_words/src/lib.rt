@@ -56,6 +56,3 @@ pub use slicing::{MAX_FINENESS, MAX_SIZE, Slicing};
 pub use stripe::{MAX_FRAMES, MAX_TICK_RATE, Stripe};
 pub use wave_slicing::{MAX_TRACKS, WaveSlicing};
 pub use words::read_words;
-
-#[cfg(test)]
-mod tests;

@@ -1,11 +1,13 @@
 //! What the calls answer one after another, by hand.
 ghost use Rattle.std.specs.Prelude.{◌≤◌, length, IfOk, None};
 
-use super::*;
 use std::io;
 use std::io::{Read, Write};
 use std::process::Abort;
 use std::test::Fail;
+use tc_io::{
+    Failed, MemorySink, MemorySource, ReadSource, Sink, Source, SteadySource, WriteSink, push_all,
+};
 
 /// What a reader or a writer answers once.
 #[derive(Clone, Copy, Debug, PartialEq, Eq)]

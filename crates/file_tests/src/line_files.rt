@@ -1,5 +1,5 @@
 //! Lines as they are printed, and a file taken in pieces.
-use super::*;
+use line_file::{LineDecoder, LineHeader, Taken, field_end_text, field_text, line_header};
 use tc_address::System;
 use tc_files::FileFault;
 use vitc_line::LineFault;

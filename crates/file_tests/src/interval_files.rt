@@ -1,8 +1,10 @@
 //! Lines as they are printed, and files with one fault each.
-use super::*;
 use direction_reader::Event;
 use tc_address::{Direction, System};
 use tc_bits::FieldFault;
+use tc_files::{
+    FileFault, FileVersion, IntervalDecoder, IntervalHeader, Taken, event_text, read_end_text,
+};
 
 /// A header at 25 frames and 48,000 ticks a second, and two intervals.
 const TWO_INTERVALS: [u8; 20] = [

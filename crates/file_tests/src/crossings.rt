@@ -1,7 +1,7 @@
 //! Distances that were worked out by hand.
 ghost use Rattle.std.specs.Prelude.{◌≡◌, ◌≤◌};
 
-use crate::{Intervals, MAX_INTERVAL, Pace, Slicer, Threshold, pieces};
+use pcm_front::{Intervals, MAX_INTERVAL, Pace, Slicer, Threshold, pieces};
 use std::marker::Model;
 
 /// A slicer that is given so few samples that no count of ticks can be too great.

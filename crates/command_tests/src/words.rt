@@ -1,5 +1,4 @@
 //! Words as they are typed, and what they say.
-use super::*;
 use biphase::Profile;
 use pcm_front::{Pace, Threshold};
 use std::alloc::{AllocError, Global};
@@ -7,6 +6,10 @@ use std::process::Abort;
 use std::test::Fail;
 use tc_address::text;
 use tc_files::FileVersion;
+use tc_words::{
+    Amplitude, ChaseRun, Flight, Jam, Job, LineStripe, Slicing, Task, WaveSlicing, WordsFault,
+    read_words,
+};
 
 fn typed(alloc: Global, line: &str) -> Result<Vec<String>, AllocError> {
     let mut words = Vec::new(alloc);

@@ -1,5 +1,5 @@
 //! Command lines as they are given, and what is read of them.
-use super::*;
+use command_words::CommandLine;
 use std::test::Fail;
 
 #[test]
