@@ -1,6 +1,6 @@
 //! Scripts whose rows, and traces whose lines, were worked by hand.
 use chase_core::{Command, Loss, Master, Report, State};
-use chase_script::{ScriptRow, script_rows, step_text};
+use chase_script::{Column, ScriptFault, ScriptRow, script_rows, step_text};
 use std::test::Fail;
 use tc_address::{Count, Direction};
 
