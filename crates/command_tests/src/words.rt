@@ -423,7 +423,7 @@ fn jobs_are_read(rt: HostRuntime) -> Result<(), Fail> {
 }
 
 #[test]
-fn slicings_and_levels_are_read(rt: HostRuntime) -> Result<(), Fail> {
+fn slicings_are_read(rt: HostRuntime) -> Result<(), Fail> {
     let alloc = rt.alloc();
     for (line, threshold, fineness, tick_rate) in [
         ("pcm-ltc 24 1 1", Threshold::Fixed(1), 1, 1),
@@ -458,6 +458,12 @@ fn slicings_and_levels_are_read(rt: HostRuntime) -> Result<(), Fail> {
         assert_eq!(rt; slicing.fineness(), fineness, "at {line}");
         assert_eq!(rt; slicing.tick_rate(), tick_rate, "at {line}");
     }
+    Ok(())
+}
+
+#[test]
+fn slicings_as_time_passes_are_read(rt: HostRuntime) -> Result<(), Fail> {
+    let alloc = rt.alloc();
     for (line, pace) in [
         ("pcm-ltc 25 48000 1000", Pace::Ended),
         ("pcm-ltc 25 48000 1000 live", Pace::Passing(480)),
@@ -479,6 +485,12 @@ fn slicings_and_levels_are_read(rt: HostRuntime) -> Result<(), Fail> {
         };
         assert_eq!(rt; slicing.pace(), pace, "at {line}");
     }
+    Ok(())
+}
+
+#[test]
+fn sound_files_as_time_passes_are_read(rt: HostRuntime) -> Result<(), Fail> {
+    let alloc = rt.alloc();
     for (line, pace) in [
         ("wav-ltc 25 2 250", Pace::Ended),
         ("wav-ltc 25 2 250 live", Pace::Passing(7_680)),
@@ -495,6 +507,12 @@ fn slicings_and_levels_are_read(rt: HostRuntime) -> Result<(), Fail> {
         };
         assert_eq!(rt; wave.pace(768_000), pace, "at {line}");
     }
+    Ok(())
+}
+
+#[test]
+fn tracks_of_sound_files_are_read(rt: HostRuntime) -> Result<(), Fail> {
+    let alloc = rt.alloc();
     for (line, track, threshold, smooth) in [
         ("wav-ltc 24 1 1", 1, Threshold::Follow(1), 1),
         ("wav-ltc 30 64 250 3", 64, Threshold::Follow(750), 3),
@@ -516,6 +534,12 @@ fn slicings_and_levels_are_read(rt: HostRuntime) -> Result<(), Fail> {
         assert_eq!(rt; wave.threshold(), threshold, "at {line}");
         assert_eq!(rt; wave.smooth(), smooth, "at {line}");
     }
+    Ok(())
+}
+
+#[test]
+fn clean_copies_are_read(rt: HostRuntime) -> Result<(), Fail> {
+    let alloc = rt.alloc();
     for (line, limit, profile, cell, tick_rate) in [
         ("ltc-jam 0 16 1", 0, Profile::Normal, 16, 1),
         (
@@ -538,6 +562,12 @@ fn slicings_and_levels_are_read(rt: HostRuntime) -> Result<(), Fail> {
         assert_eq!(rt; jam.cell(), cell, "at {line}");
         assert_eq!(rt; jam.tick_rate(), tick_rate, "at {line}");
     }
+    Ok(())
+}
+
+#[test]
+fn chases_over_code_are_read(rt: HostRuntime) -> Result<(), Fail> {
+    let alloc = rt.alloc();
     for (line, limit, profile, seed, bound) in [
         ("ltc-chase 25 01:00:00:00 0 0 0", 0, Profile::Normal, 0, 0),
         (
@@ -566,6 +596,12 @@ fn slicings_and_levels_are_read(rt: HostRuntime) -> Result<(), Fail> {
         assert_eq!(rt; run.seed(), seed, "at {line}");
         assert_eq!(rt; run.bound(), bound, "at {line}");
     }
+    Ok(())
+}
+
+#[test]
+fn levels_are_read(rt: HostRuntime) -> Result<(), Fail> {
+    let alloc = rt.alloc();
     for (line, size) in [("ltc-pcm 1", 1), ("ltc-pcm 32767", 32_767)] {
         let words = typed(alloc, line)?;
         let Ok(task) = read_words(alloc, &words) else {
@@ -576,6 +612,12 @@ fn slicings_and_levels_are_read(rt: HostRuntime) -> Result<(), Fail> {
         };
         assert_eq!(rt; amplitude.size(), size, "at {line}");
     }
+    Ok(())
+}
+
+#[test]
+fn lines_to_be_made_are_read(rt: HostRuntime) -> Result<(), Fail> {
+    let alloc = rt.alloc();
     for (line, length, frames) in [
         ("vitc-make 25 00:00:00:00 1 460", 460, 1),
         (
