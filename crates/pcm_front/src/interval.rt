@@ -21,6 +21,7 @@ pub struct Intervals {
 
 /// How many whole pieces of a length a distance begins with, and the interval that follows them.
 #[tactic(auto, using(crate::proofs::InPieces::one_piece_in))]
+#[inline(always)]
 pub fn pieces(length: u32, distance: u64) -> (u64, u32)
     requires length { IsInterval length }
     requires least { 1 ≤ distance }

@@ -18,6 +18,7 @@ pub enum Pace {
 
 impl Pace {
     /// The length of a whole piece.
+    #[inline(always)]
     fn longest(self) -> u32
         ensures { result ≡ longest self }
     {
@@ -28,6 +29,7 @@ impl Pace {
     }
 
     /// How many whole pieces stand of a distance that has not ended, where so many ticks have passed.
+    #[inline(always)]
     fn begun(self, passed: u64) -> u64
         requires { IsPace self }
         ensures value { result ≡ begun_in self passed }
@@ -41,6 +43,7 @@ impl Pace {
 
     /// What comes to the pieces of a distance of which so many ticks had passed, where this is the
     /// distance if it has ended, and so many ticks have passed of the one that has not.
+    #[inline(always)]
     pub(crate) fn intervals(self, before: u64, distance: Option<u64>, now: u64) -> Intervals
         requires pace { IsPace self }
         requires range { IfSome distance (λ distance. (1 ≤ distance) × (distance ≤ 2 ^ 62)) }

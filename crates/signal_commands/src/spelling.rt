@@ -16,6 +16,7 @@ use tc_command::{Gathered, Stop};
 use tc_io::Sink;
 
 /// Spells the intervals that some samples brought.
+#[inline(always)]
 pub(crate) fn spell<K: Sink>(
     gathered: &mut Gathered,
     intervals: Intervals,
@@ -36,6 +37,7 @@ pub(crate) fn spell<K: Sink>(
 }
 
 /// Spells so many intervals of a length.
+#[inline(always)]
 fn spell_whole<K: Sink>(
     gathered: &mut Gathered,
     length: u32,
@@ -57,6 +59,7 @@ fn spell_whole<K: Sink>(
 }
 
 /// Spells the rest of a distance, where one ended.
+#[inline(always)]
 fn spell_rest<K: Sink>(gathered: &mut Gathered, rest: Option<u32>, out: &mut K) -> Result<(), Stop>
     requires { IfSome rest (λ rest. IsInterval rest) }
     ensures all { OnOk result (IsPut (K.written out.old) (K.written out.new) gathered.old.room.items
