@@ -10,8 +10,9 @@
 //!   (`specs/CodeTrace.antt`, `code_trace`; its clauses and `laws::a_frame_adds_a_line`).
 //! - A loss of no code comes exactly where the frame is gone or has another count; one of the window only
 //!   where the frame was heard and does not join, or where the transport slipped by 25 subframes or more
-//!   in the step before (`laws::each_loss_has_a_cause`). So a recording without gaps keeps the lock of a
-//!   transport that slips by at most 24 (`laws::whole_code_keeps_the_lock`).
+//!   in the step before (`laws::each_loss_has_a_cause`). So frames that join one another, heard or
+//!   invented, in the count of the chase, keep the lock of a transport that slips by at most 24
+//!   (`laws::whole_code_keeps_the_lock`); a gap, a splice or another count may cost it.
 //!
 //! Read `master`, `slip` and `code_loop`, in this order, with `specs/CodeTrace.antt` beside them, and
 //! `laws` with `specs/Lock.antt`. Nothing here allocates or fails.

@@ -95,6 +95,10 @@ abbrev pub Halts : {B C : Type 0} → Printing → (B → C → IntervalHeader �
 Halts p stands behind choice stop old new pulled written =
     (more : List ℕ) × Appends old new more × IsHalt p stands behind choice stop pulled (written ++ more)
 
+-- at some of these bytes, whatever stood before them
+abbrev pub HaltsOn : (List ℕ → List ℕ → Type 0) → (List ℕ → List ℕ → Type 0) → List ℕ → Type 0
+HaltsOn stands halts bytes = (front written : List ℕ) → stands front written → halts (front ++ bytes) written
+
 -- why a fault of the file stops the job: an interval past the limit is not looked at
 abbrev pub stop_at : ℕ → FileFault → Stop
 stop_at count fault = if nat_lt count MAX_INTERVALS then Refused fault else Limit

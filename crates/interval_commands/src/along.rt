@@ -15,10 +15,12 @@ ghost use Rattle.tc_command.specs.Causes.{HasOutCause, HasSourceCause, OutCause}
 ghost use Rattle.tc_command.specs.Ends.{SeesOneEnd};
 ghost use Rattle.tc_command.specs.Ran.{CameToItsEnd, StoppedBefore};
 ghost use Rattle.tc_command.specs.Status.{status_of};
+ghost use Rattle.tc_command.specs.KeptWorks.{Works};
 ghost use Rattle.tc_command.specs.Stops.{Stops};
 ghost use Rattle.interval_commands.specs.KeptAlong.{
   FitsBehind,
   Halts,
+  HaltsOn,
   HasHeader,
   IntervalStops,
   IsGoing,
@@ -179,14 +181,14 @@ impl<B: Behind> Along<B> {
         ensures taken { IfOk result (λ count. (1 ≤ count) × (count ≤ length bytes.now)
             × (self.new.decoder.taken ≡ self.old.decoder.taken + count)) }
         ensures choice { self.new.choice ≡ self.old.choice }
-        ensures works { IfOk result (λ count. (front written : List ℕ)
-            → Stands B.stands self.old.decoder self.old.behind self.old.intervals self.old.choice front written
-            → (more : List ℕ) × Appends (K.written out.old) (K.written out.new) more
-            × Stands B.stands self.new.decoder self.new.behind self.new.intervals self.new.choice (front ++ take count bytes.now) (written ++ more)) }
-        ensures stops { IfErr result (λ stop. (front written : List ℕ)
-            → Stands B.stands self.old.decoder self.old.behind self.old.intervals self.old.choice front written
-            → Halts (B.printing self.old.choice) B.stands self.new.behind self.old.choice stop
-            (K.written out.old) (K.written out.new) (front ++ bytes.now) written) }
+        ensures works { IfOk result (λ count. Works
+            (Stands B.stands self.old.decoder self.old.behind self.old.intervals self.old.choice)
+            (Stands B.stands self.new.decoder self.new.behind self.new.intervals self.new.choice)
+            (K.written out.old) (K.written out.new) (take count bytes.now)) }
+        ensures stops { IfErr result (λ stop. HaltsOn
+            (Stands B.stands self.old.decoder self.old.behind self.old.intervals self.old.choice)
+            (Halts (B.printing self.old.choice) B.stands self.new.behind self.old.choice stop
+            (K.written out.old) (K.written out.new)) bytes.now) }
         ensures cause { HasOutCause (K.faults out.old) (K.faults out.new) result }
         ensures no_pull { result ≡ Err Stop.ReadFault → ⊥ }
     {
@@ -262,10 +264,10 @@ impl<B: Behind> Along<B> {
         ensures going { OnOk result (IsGoing B.fits self.new.decoder self.new.behind self.new.intervals) }
         ensures taken { OnOk result (self.new.decoder.taken ≡ self.old.decoder.taken + 1) }
         ensures choice { self.new.choice ≡ self.old.choice }
-        ensures works { OnOk result ((front written : List ℕ)
-            → Stands B.stands self.old.decoder self.old.behind self.old.intervals self.old.choice front written
-            → (more : List ℕ) × Appends (K.written out.old) (K.written out.new) more
-            × Stands B.stands self.new.decoder self.new.behind self.new.intervals self.new.choice (front ++ byte ∷ []) (written ++ more)) }
+        ensures works { OnOk result (Works
+            (Stands B.stands self.old.decoder self.old.behind self.old.intervals self.old.choice)
+            (Stands B.stands self.new.decoder self.new.behind self.new.intervals self.new.choice)
+            (K.written out.old) (K.written out.new) (byte ∷ [])) }
         ensures stops { IfErr result (λ stop. (front written rest : List ℕ)
             → Stands B.stands self.old.decoder self.old.behind self.old.intervals self.old.choice front written
             → Halts (B.printing self.old.choice) B.stands self.new.behind self.old.choice stop
@@ -292,14 +294,14 @@ impl<B: Behind> Along<B> {
         ensures going { OnOk result (IsGoing B.fits self.new.decoder self.new.behind self.new.intervals) }
         ensures taken { IfOk result (λ count. (count ≤ length bytes.now) × (self.new.decoder.taken ≡ self.old.decoder.taken + count)) }
         ensures choice { self.new.choice ≡ self.old.choice }
-        ensures works { IfOk result (λ count. (front written : List ℕ)
-            → Stands B.stands self.old.decoder self.old.behind self.old.intervals self.old.choice front written
-            → (more : List ℕ) × Appends (K.written out.old) (K.written out.new) more
-            × Stands B.stands self.new.decoder self.new.behind self.new.intervals self.new.choice (front ++ take count bytes.now) (written ++ more)) }
-        ensures stops { IfErr result (λ stop. (front written : List ℕ)
-            → Stands B.stands self.old.decoder self.old.behind self.old.intervals self.old.choice front written
-            → Halts (B.printing self.old.choice) B.stands self.new.behind self.old.choice stop
-            (K.written out.old) (K.written out.new) (front ++ bytes.now) written) }
+        ensures works { IfOk result (λ count. Works
+            (Stands B.stands self.old.decoder self.old.behind self.old.intervals self.old.choice)
+            (Stands B.stands self.new.decoder self.new.behind self.new.intervals self.new.choice)
+            (K.written out.old) (K.written out.new) (take count bytes.now)) }
+        ensures stops { IfErr result (λ stop. HaltsOn
+            (Stands B.stands self.old.decoder self.old.behind self.old.intervals self.old.choice)
+            (Halts (B.printing self.old.choice) B.stands self.new.behind self.old.choice stop
+            (K.written out.old) (K.written out.new)) bytes.now) }
         ensures cause { HasOutCause (K.faults out.old) (K.faults out.new) result }
         ensures no_pull { result ≡ Err Stop.ReadFault → ⊥ }
     {
@@ -330,14 +332,14 @@ impl<B: Behind> Along<B> {
         ensures going { OnOk result (IsGoing B.fits self.new.decoder self.new.behind self.new.intervals) }
         ensures taken { IfOk result (λ count. (count ≤ length bytes.now) × (self.new.decoder.taken ≡ self.old.decoder.taken + count)) }
         ensures choice { self.new.choice ≡ self.old.choice }
-        ensures works { IfOk result (λ count. (front written : List ℕ)
-            → Stands B.stands self.old.decoder self.old.behind self.old.intervals self.old.choice front written
-            → (more : List ℕ) × Appends (K.written out.old) (K.written out.new) more
-            × Stands B.stands self.new.decoder self.new.behind self.new.intervals self.new.choice (front ++ take count bytes.now) (written ++ more)) }
-        ensures stops { IfErr result (λ stop. (front written : List ℕ)
-            → Stands B.stands self.old.decoder self.old.behind self.old.intervals self.old.choice front written
-            → Halts (B.printing self.old.choice) B.stands self.new.behind self.old.choice stop
-            (K.written out.old) (K.written out.new) (front ++ bytes.now) written) }
+        ensures works { IfOk result (λ count. Works
+            (Stands B.stands self.old.decoder self.old.behind self.old.intervals self.old.choice)
+            (Stands B.stands self.new.decoder self.new.behind self.new.intervals self.new.choice)
+            (K.written out.old) (K.written out.new) (take count bytes.now)) }
+        ensures stops { IfErr result (λ stop. HaltsOn
+            (Stands B.stands self.old.decoder self.old.behind self.old.intervals self.old.choice)
+            (Halts (B.printing self.old.choice) B.stands self.new.behind self.old.choice stop
+            (K.written out.old) (K.written out.new)) bytes.now) }
         ensures cause { HasOutCause (K.faults out.old) (K.faults out.new) result }
         ensures no_pull { result ≡ Err Stop.ReadFault → ⊥ }
     {

@@ -6,7 +6,8 @@ use vitc_line::LineFault;
 /// The first run of a line that can't be taken, counted from 0.
 #[derive(Clone, Copy, Debug, PartialEq, Eq, Drop, Error)]
 pub enum RunFault {
-    /// This run is a quarter of a cell or more from each whole number of cells, or less than one cell.
+    /// This run is more than a quarter of a cell from each whole number of cells, or from one cell where
+    /// it is shorter.
     #[error("this run is no whole number of cells")]
     Run(usize),
     /// With this run the line has more than 90 cells.
