@@ -14,6 +14,7 @@ pub mod InPieces
 pub mod IntervalsStay
 pub mod Passing
 pub mod SlicedAgain
+pub mod FollowedSound
 pub mod SumsStay
 pub mod Together
 pub mod Windows

@@ -26,7 +26,7 @@ read_back (sample ∷ more) all = ap₂ (λ first rest. first ∷ rest) (one_bac
 
 -- ---- the samples of a sound
 
-size_of : (side : Side) (size : ℕ) → unsigned_abs (upward side (pos size)) ≡ size
+pub size_of : (side : Side) (size : ℕ) → unsigned_abs (upward side (pos size)) ≡ size
 size_of High size = refl
 size_of Low zero = refl
 size_of Low (suc size) = refl
@@ -34,11 +34,11 @@ size_of Low (suc size) = refl
 fits : (size : ℕ) (side : Side) → size < 2 ^ 15 → FitsSigned w16 (upward side (pos size))
 fits size side below = fits_signed_from_abs w16 (upward side (pos size)) (omega (arith, size_of side size))
 
-all_same : (P : ℤ → Type 0) (n : ℕ) (x : ℤ) → P x → AllByRecursion P (replicate n x)
+pub all_same : (P : ℤ → Type 0) (n : ℕ) (x : ℤ) → P x → AllByRecursion P (replicate n x)
 all_same P zero x p = tt
 all_same P (suc n) x p = (p, all_same P n x p)
 
-all_both : (P : ℤ → Type 0) (xs ys : List ℤ) → AllByRecursion P xs → AllByRecursion P ys → AllByRecursion P (xs ++ ys)
+pub all_both : (P : ℤ → Type 0) (xs ys : List ℤ) → AllByRecursion P xs → AllByRecursion P ys → AllByRecursion P (xs ++ ys)
 all_both P [] ys all more = more
 all_both P (x ∷ xs) ys all more = (all.0, all_both P xs ys all.1 more)
 

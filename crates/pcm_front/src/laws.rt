@@ -7,7 +7,7 @@ ghost use Rattle.pcm_front.specs.declared.interval.TheConstants.{MAX_INTERVAL};
 ghost use Rattle.pcm_front.specs.declared.pace.Pace.{Pace};
 ghost use Rattle.pcm_front.specs.declared.side.Side.{Side};
 ghost use Rattle.pcm_front.specs.declared.threshold.Threshold.{Threshold};
-ghost use Rattle.pcm_front.specs.declared.threshold.Threshold.TheVariants.{Fixed};
+ghost use Rattle.pcm_front.specs.declared.threshold.Threshold.TheVariants.{Fixed, Follow, Deep};
 ghost use Rattle.pcm_front.specs.Level.{level_of};
 ghost use Rattle.pcm_front.specs.Crossing.{apart, crossings, is_crossing, moments, tick_at, tick_in_step};
 ghost use Rattle.pcm_front.specs.Distance.{distances, distances_by, distances_from_start, gaps, intervals, intervals_by, pieces_in, pieces_of, IsInterval};
@@ -122,6 +122,19 @@ pub fn a_sound_is_sliced_into_its_intervals()
     ensures intervals { (threshold size : ℕ) (lengths : List ℕ)
         → 1 ≤ threshold → threshold ≤ size → AllByRecursion IsInterval lengths
         → intervals 1 (Fixed threshold) (sound size lengths) ≡ lengths }
+{}
+
+/// The same at a threshold that follows the level, of at least half the size: the level of the sound does
+/// not raise it. And where the first distance runs from the first sample, these stand behind it.
+pub fn a_sound_is_sliced_at_a_threshold_that_follows()
+    ensures follow { (fineness threshold size : ℕ) (intervals : List ℕ)
+        → 1 ≤ threshold → threshold ≤ size → size ≤ 2 * threshold → AllByRecursion IsInterval intervals
+        → distances fineness (Follow threshold) (sound size intervals) ≡ map (λ interval. fineness * interval) intervals }
+    ensures deep { (fineness threshold size : ℕ) (intervals : List ℕ)
+        → 1 ≤ threshold → threshold ≤ size → size ≤ 2 * threshold → AllByRecursion IsInterval intervals
+        → distances fineness (Deep threshold) (sound size intervals) ≡ map (λ interval. fineness * interval) intervals }
+    ensures behind { (fineness : ℕ) (threshold : Threshold) (samples : List ℤ)
+        → drop 1 (distances_from_start fineness threshold samples) ≡ distances fineness threshold samples }
 {}
 
 /// Samples of 16 bits are read from bytes as they were written, among them those of each sound.

@@ -1,10 +1,13 @@
 -- A sound that is made of a recording is read sample by sample as it was made, and sliced into its intervals.
-use Rattle.std.proofs.Common.{◌≡◌, ℕ, ◌*◌, ◌<◌, ◌≤◌, ◌^◌, List, [], ◌∷◌, length, map, Bool, false, Some, None, subst, ap, ap₂, sym, ◌∙◌, append-nil}
+use Rattle.std.proofs.Common.{◌≡◌, ℕ, ◌*◌, ◌<◌, ◌≤◌, ◌^◌, List, [], ◌∷◌, ◌++◌, length, map, take, drop, Bool, false, Option, Some, None}
+use Rattle.std.proofs.Common.{subst, ap, ap₂, sym, ◌∙◌, append-nil, arith}
+use Rattle.std.proofs.lemmas.Grind.{flat_map-append}
+use Rattle.std.proofs.lemmas.List.{length-take, take-append-drop}
 use Rattle.std.specs.List.{flat_map, AllByRecursion}
 use Rattle.direction_reader.specs.declared.reader.TheConstants.{MAX_INTERVALS}
 use Rattle.pcm_front.specs.declared.threshold.Threshold.{Threshold}
-use Rattle.pcm_front.specs.declared.threshold.Threshold.TheVariants.{Fixed}
-use Rattle.pcm_front.specs.Distance.{distances, intervals, intervals_by, pieces_of, IsInterval}
+use Rattle.pcm_front.specs.declared.threshold.Threshold.TheVariants.{Fixed, Follow}
+use Rattle.pcm_front.specs.Distance.{distances, distances_from_start, intervals, intervals_by, pieces_of, IsInterval}
 use Rattle.pcm_front.specs.Pace.{intervals_at}
 use Rattle.pcm_front.specs.Samples.{bytes_of, samples_of}
 use Rattle.pcm_front.specs.Sound.{sound}
@@ -18,9 +21,13 @@ use Rattle.interval_commands.specs.Along.{IsWholeOf, along_intervals}
 use Rattle.interval_commands.specs.LtcPcm.{made_sound}
 use Rattle.tc_command.specs.Meaning.{IsInput}
 use Rattle.signal_commands.specs.PcmLtc.{pace_for, settings_for, sliced_header}
+use Rattle.signal_commands.specs.WavLtc.{track_file, track_header, track_of, track_pace, track_settings}
 use Rattle.tc_words.specs.Live.{pace_of}
 use Rattle.tc_words.specs.Slicing.{Slices}
-use Rattle.tc_top.specs.SoundAgain.{times, IsSlicedAgain}
+use Rattle.tc_words.specs.WaveSlicing.{SlicesWave}
+use Rattle.wave_file.specs.declared.format.WaveFormat.{WaveFormat}
+use Rattle.wave_file.specs.Wave.{reading_of}
+use Rattle.tc_top.specs.SoundAgain.{times, IsBehindTheFirst, IsSlicedAgain, SlicesFileTo}
 
 -- what the laws of the files, of samples and of sound say
 pub record SoundLaws : Type 0 where
@@ -34,6 +41,11 @@ pub record SoundLaws : Type 0 where
   pub sliced : (threshold size : ℕ) (xs : List ℕ) → 1 ≤ threshold → threshold ≤ size → AllByRecursion IsInterval xs
       → intervals 1 (Fixed threshold) (sound size xs) ≡ xs
   pub alone : (samples : List ℤ) → sums 1 samples ≡ samples
+  pub followed : (fineness threshold size : ℕ) (xs : List ℕ) → 1 ≤ threshold → threshold ≤ size → size ≤ 2 * threshold
+      → AllByRecursion IsInterval xs
+      → distances fineness (Follow threshold) (sound size xs) ≡ map (λ interval. fineness * interval) xs
+  pub behind : (fineness : ℕ) (threshold : Threshold) (samples : List ℤ)
+      → drop 1 (distances_from_start fineness threshold samples) ≡ distances fineness threshold samples
 
 -- a sample that stands for itself is no sum
 for_itself : SoundLaws → (s : Slices) (samples : List ℤ) → s.smooth ≡ 1 → s.live ≡ false
@@ -46,6 +58,46 @@ for_itself laws s samples one ended =
 all_intervals : (xs : List ℕ) → AreIntervals xs → AllByRecursion IsInterval xs
 all_intervals [] are = tt
 all_intervals (x ∷ xs) are = ((are.0, are.1), all_intervals xs are.2)
+
+-- ---- in a sound file
+
+-- what is written of a track whose format is known
+file_written : (w : SlicesWave) (format : WaveFormat) (samples : List ℤ) (bytes : List ℕ)
+    → (reading_of w.track bytes).format ≡ Some format → (reading_of w.track bytes).samples ≡ samples
+    → track_of w bytes ≡ file_of (track_header w format) (intervals_at (track_pace w format) (track_settings w) samples)
+file_written w format samples bytes begins are =
+    ap₂ (λ (f : Option WaveFormat) (l : List ℤ). track_file w f l) begins are
+
+-- the intervals of samples that stand for themselves, from the first one on
+track_intervals : SoundLaws → (w : SlicesWave) (format : WaveFormat) (samples : List ℤ) (t : Threshold)
+    → w.smooth ≡ 1 → w.live ≡ false → w.threshold ≡ t
+    → intervals_at (track_pace w format) (track_settings w) samples ≡ flat_map pieces_of (distances_from_start 16 t samples)
+track_intervals laws w format samples t one ended is =
+    ap (λ (live : Bool). intervals_at (pace_of live w.system (16 * format.rate)) (track_settings w) samples) ended
+    ∙ append-nil (intervals_by (track_settings w) samples)
+    ∙ ap (λ (n : ℕ). flat_map pieces_of (distances_from_start 16 w.threshold (sums n samples))) one
+    ∙ ap (λ (l : List ℤ). flat_map pieces_of (distances_from_start 16 w.threshold l)) (laws.alone samples)
+    ∙ ap (λ (threshold : Threshold). flat_map pieces_of (distances_from_start 16 threshold samples)) is
+
+-- what a track of the sound is sliced into
+behind_the_first : SoundLaws → (size : ℕ) (xs : List ℕ) → AllByRecursion IsInterval xs → (w : SlicesWave) (format : WaveFormat)
+    (made bytes again : List ℕ) → samples_of made ≡ sound size xs → SlicesFileTo size w format made bytes again
+    → IsBehindTheFirst (track_header w format) xs again
+behind_the_first laws size xs all w format made bytes again read s =
+    let t = Follow s.least in
+    let ds = distances_from_start 16 t (sound size xs) in
+    let told = s.samples ∙ read in
+    let rest : drop 1 ds ≡ times 16 xs = laws.behind 16 t (sound size xs) ∙ laws.followed 16 s.least size xs s.some s.most s.half all in
+    let split : ds ≡ take 1 ds ++ times 16 xs =
+    sym (take-append-drop 1 ds) ∙ ap (λ (l : List ℕ). take 1 ds ++ l) rest in (
+      take 1 ds,
+      omega (arith, length-take 1 ds),
+      s.output
+          ∙ file_written w format (sound size xs) bytes s.begins told
+          ∙ ap (file_of (track_header w format)) (track_intervals laws w format (sound size xs) t s.alone s.ended s.follows)
+          ∙ ap (λ (l : List ℕ). file_of (track_header w format) (flat_map pieces_of l)) split
+          ∙ ap (file_of (track_header w format)) (flat_map-append pieces_of (take 1 ds) (times 16 xs)),
+    )
 
 pub sliced_again : SoundLaws → (size : ℕ) → size < 2 ^ 15 → (bytes made : List ℕ) → AreBytes bytes
     → IsInput (along_intervals (made_sound size)) bytes → IsWholeOf (made_sound size) (recording_of bytes) made → IsSlicedAgain size bytes made
@@ -73,4 +125,7 @@ sliced_again laws size below bytes made are input whole =
           ∙ ap₂ (λ (fineness : ℕ) (t : Threshold). file_of (sliced_header slicing) (intervals fineness t (samples_of made))) one s.fixed
           ∙ ap (λ (l : List ℤ). file_of (sliced_header slicing) (intervals 1 (Fixed s.threshold) l)) read
           ∙ ap (file_of (sliced_header slicing)) (laws.sliced s.threshold size xs s.some s.most all ∙ sym same);
+      in_a_file = λ w format file again s.
+          subst (λ (l : List ℕ). IsBehindTheFirst (track_header w format) l again) (sym same)
+          (behind_the_first laws size xs all w format made file again read s);
     }

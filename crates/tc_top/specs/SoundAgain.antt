@@ -1,16 +1,21 @@
--- Sound out, and in again: what `ltc-pcm` makes of a recording, `pcm-ltc` slices into its intervals.
-use Rattle.std.specs.Prelude.{◌≡◌, ℕ, ◌*◌, ◌≤◌, false, List, map}
+-- Sound out, and in again: what `ltc-pcm` makes of a recording, `pcm-ltc` slices into its intervals, and `wav-ltc` too, where a sound file has it.
+use Rattle.std.specs.Prelude.{◌≡◌, ℕ, ◌*◌, ◌≤◌, false, List, ◌++◌, length, map, Some}
 use Rattle.std.specs.List.{flat_map}
-use Rattle.pcm_front.specs.declared.threshold.Threshold.TheVariants.{Fixed}
+use Rattle.pcm_front.specs.declared.threshold.Threshold.TheVariants.{Fixed, Follow}
 use Rattle.pcm_front.specs.Distance.{distances, pieces_of}
 use Rattle.pcm_front.specs.Samples.{samples_of}
+use Rattle.tc_files.specs.declared.interval_file.header.IntervalHeader.{IntervalHeader}
 use Rattle.tc_files.specs.Grammar.{file_of}
 use Rattle.tc_files.specs.Recording.{recording_of}
-use Rattle.tc_words.specs.declared.job.Job.TheVariants.{PcmLtc}
+use Rattle.tc_words.specs.declared.job.Job.TheVariants.{PcmLtc, WavLtc}
 use Rattle.tc_words.specs.Slicing.{Slices}
+use Rattle.tc_words.specs.WaveSlicing.{SlicesWave}
+use Rattle.wave_file.specs.declared.format.WaveFormat.{WaveFormat}
+use Rattle.wave_file.specs.Wave.{reading_of}
 use Rattle.tc_top.specs.Commands.{meaning_of}
 use Rattle.tc_command.specs.Meaning.{Meaning, IsInput}
 use Rattle.signal_commands.specs.PcmLtc.{sliced_header}
+use Rattle.signal_commands.specs.WavLtc.{track_header}
 
 -- each interval, so many times as long
 abbrev pub times : ℕ → List ℕ → List ℕ
@@ -28,8 +33,28 @@ pub record SlicesTo (size : ℕ) (slicing : Slices) (sound written : List ℕ) :
   pub input : IsInput (meaning_of (PcmLtc slicing)) sound
   pub output : Meaning.output (meaning_of (PcmLtc slicing)) sound written
 
+-- `wav-ltc` takes a sound file whose track has the samples of the sound, each for itself, at a threshold that follows the level and is at least
+-- half of the size of the samples, and writes each distance when it has ended: this
+pub record SlicesFileTo (size : ℕ) (w : SlicesWave) (format : WaveFormat) (sound bytes written : List ℕ) : Type 0 where
+  pub least : ℕ
+  pub alone : w.smooth ≡ 1
+  pub ended : w.live ≡ false
+  pub follows : w.threshold ≡ Follow least
+  pub some : 1 ≤ least
+  pub most : least ≤ size
+  pub half : size ≤ 2 * least
+  pub begins : (reading_of w.track bytes).format ≡ Some format
+  pub samples : (reading_of w.track bytes).samples ≡ samples_of sound
+  pub output : Meaning.output (meaning_of (WavLtc w)) bytes written
+
+-- the intervals of a sound file, 16 times as long as those of the recording, stand behind the distance to its first crossing
+abbrev pub IsBehindTheFirst : IntervalHeader → List ℕ → List ℕ → Type 0
+IsBehindTheFirst header intervals written = (first : List ℕ) × (length first ≤ 1)
+    × (written ≡ file_of header (flat_map pieces_of first ++ flat_map pieces_of (times 16 intervals)))
+
 -- at each fixed threshold of at most the size, and at each fineness, the crossings of the sound lie so many ticks apart as each interval of the
--- recording has, so many times. So `pcm-ltc` writes the file of these distances, and in whole samples that of the intervals themselves
+-- recording has, so many times. So `pcm-ltc` writes the file of these distances, and in whole samples that of the intervals themselves; and so
+-- does `wav-ltc` of a sound file of these samples, behind the first interval
 pub record IsSlicedAgain (size : ℕ) (bytes sound : List ℕ) : Type 0 where
   pub apart : (fineness threshold : ℕ) → 1 ≤ threshold → threshold ≤ size
       → distances fineness (Fixed threshold) (samples_of sound) ≡ times fineness (recording_of bytes).intervals
@@ -37,3 +62,5 @@ pub record IsSlicedAgain (size : ℕ) (bytes sound : List ℕ) : Type 0 where
       → again ≡ file_of (sliced_header slicing) (flat_map pieces_of (times slicing.fineness (recording_of bytes).intervals))
   pub whole : (slicing : Slices) (again : List ℕ) → SlicesTo size slicing sound again → slicing.fineness ≡ 1
       → again ≡ file_of (sliced_header slicing) (recording_of bytes).intervals
+  pub in_a_file : (w : SlicesWave) (format : WaveFormat) (file again : List ℕ) → SlicesFileTo size w format sound file again
+      → IsBehindTheFirst (track_header w format) (recording_of bytes).intervals again

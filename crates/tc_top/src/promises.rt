@@ -14,8 +14,8 @@ use interval_commands::laws::converting_keeps_the_recording;
 use made_commands::is_all_read;
 use made_commands::laws::{lines_that_are_made_are_read_back, what_is_made_is_read_whole};
 use pcm_front::laws::{
-    a_sound_is_sliced_into_its_intervals, samples_are_read_as_they_were_written,
-    sums_of_one_are_the_samples,
+    a_sound_is_sliced_at_a_threshold_that_follows, a_sound_is_sliced_into_its_intervals,
+    samples_are_read_as_they_were_written, sums_of_one_are_the_samples,
 };
 use quarter_frame::laws::what_is_sent_is_read_back;
 use tape_spans::laws::{spans_share_the_frames_out, the_open_span_has_the_last_line};
@@ -146,6 +146,7 @@ fn is_sliced_again(amplitude: Amplitude)
     bytes_are_read_as_the_text_says();
     samples_are_read_as_they_were_written();
     a_sound_is_sliced_into_its_intervals();
+    a_sound_is_sliced_at_a_threshold_that_follows();
     sums_of_one_are_the_samples();
     let _size = amplitude.size();
 }
