@@ -1,5 +1,6 @@
--- From the second unequal pair of a piece of the tape on the last stretch has the tape's own cells, so its windows that begin there are the
--- tape's. All other words begin before, and the stretches before it are broken by then. What the recording has behind the piece comes later.
+-- From the second unequal pair of a piece of the tape on the last stretch has the tape's own cells, so its windows that
+-- begin there are the tape's. All other words begin before, and the stretches before it are broken by then. What the
+-- recording has behind the piece comes later.
 use Rattle.std.proofs.Common.{◌≡◌, ◌<◌, ◌≤◌, ℕ, ◌+◌, ◌-◌, zero, suc, List, [], ◌∷◌, ◌++◌, length, take, drop, sum, Option, Some, None, MatchOption}
 use Rattle.std.proofs.Common.{ap, arith, append_assoc, append-nil, length-append, inl, inr, refl, subst, sym, ◌∙◌, All, IsSomeAnd}
 use Rattle.std.proofs.lemmas.Bool.{cases_lt}

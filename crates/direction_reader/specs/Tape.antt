@@ -38,9 +38,10 @@ BreaksBy from (Word direction word tick length) = Unit {0}
 BreaksBy from (Refused direction fault tick) = Unit {0}
 BreaksBy from (Lost interval tick) = interval ≤ from
 
--- in the intervals `front` and what comes behind them, the events are from the place `from` to the end of `front` those of the windows of these
--- cells and nothing else. Before them come words that begin before this place, so that at most 79 of their cells stand behind it, and breaks at
--- this place at the latest; and behind them what comes at the end of `front` or later
+-- in the intervals `front` and what comes behind them, the events are from the place `from` to the end of `front` those
+-- of the windows of these cells and nothing else. Before them come words that begin before this place, so that at most
+-- 79 of their cells stand behind it, and breaks at this place at the latest; and behind them what comes at the end of
+-- `front` or later
 pub record TellFrom (system : System) (front : List ℕ) (from : ℕ) (cells : List Cell) (events : List Event) : Type 0 where
   pub past : List Event
   pub later : List Event
@@ -51,9 +52,9 @@ pub record TellFrom (system : System) (front : List ℕ) (from : ℕ) (cells : L
   pub no_other_break : All (BreaksBy from) past
   pub none_before_the_end : All (λ event. sum front ≤ tick_of event) behind
 
--- where a cell is compared with the one before it alone, the events find the tape again, whatever stands before it and whatever comes behind:
--- where a part of the recording is a piece of the tape, they are from the greater interval of the piece's second unequal pair to the end of the
--- piece those of the tape's windows, and nothing else
+-- where a cell is compared with the one before it alone, the events find the tape again, whatever stands before it and
+-- whatever comes behind: where a part of the recording is a piece of the tape, they are from the greater interval of
+-- the piece's second unequal pair to the end of the piece those of the tape's windows, and nothing else
 abbrev pub FindsTheTape : System → Profile → List ℕ → List Event → Type 0
 FindsTheTape system profile intervals events = LooksAtLast profile
     → (before kept behind : List ℕ) (tape : List Cell) (cut second : ℕ) → intervals ≡ before ++ kept ++ behind

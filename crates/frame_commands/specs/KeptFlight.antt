@@ -57,8 +57,8 @@ pub record FitsSink (f : FrameReader) (own count : ℕ) : Type 0 where
   pub flight : FitsFlight f count
   pub taken : own ≤ frames_counted f
 
--- at a tick, the flywheel has heard its last word, and the counts have room for the frames of more words; of these at most so many were
--- heard. A sink has counted no more frames than it was given
+-- at a tick, the flywheel has heard its last word, and the counts have room for the frames of more words; of these at
+-- most so many were heard. A sink has counted no more frames than it was given
 pub record IsReady (f : FrameReader) (taken tick most : ℕ) : Type 0 where
   pub below : tick < 2 ^ 60
   pub heard_by : HeardBy tick f.wheel

@@ -1,6 +1,7 @@
 -- Bytes that are read whole are the file of their header and their fields: each piece that was read is spelled so, and
 -- the rest stands behind it.
-use Rattle.std.proofs.Common.{◌≡◌, ◌⊎◌, inl, inr, ℕ, zero, suc, ◌+◌, ◌*◌, ◌/◌, ◌%◌, ◌<◌, ◌≤◌, Bool, true, false, List, []}
+use Rattle.std.proofs.Common.{◌≡◌, ◌⊎◌, inl, inr, ℕ, zero, suc, ◌+◌, ◌*◌, ◌/◌, ◌%◌, ◌<◌, ◌≤◌, Bool, true, false, List}
+use Rattle.std.proofs.Common.{[]}
 use Rattle.std.proofs.Common.{◌∷◌, ◌++◌, Some, None, length, drop, refl, sym, ap, ap₂, subst, ◌∙◌, arith, append_assoc}
 use Rattle.std.specs.Prelude.{◌==◌, not, nat_le, if◌then◌else◌}
 use Rattle.std.specs.List.{flat_map}
@@ -23,7 +24,8 @@ use Rattle.line_file.specs.declared.header.LineHeader.{LineHeader}
 use Rattle.line_file.specs.declared.header.TheConstants.{HEADER_LENGTH, HEAD_LENGTH}
 use Rattle.line_file.specs.Grammar.{AreFields, AreLines, AreRuns, field_bytes, file_of, line_bytes}
 use Rattle.line_file.specs.LineFile.{Fields, Front, bad, behind_head, behind_header, end_fault_of, field_at, field_then}
-use Rattle.line_file.specs.LineFile.{field_width, fields_at, head_at, head_fault, header_at, header_with, is_line_length}
+use Rattle.line_file.specs.LineFile.{field_width, fields_at, head_at, head_fault, header_at, header_with}
+use Rattle.line_file.specs.LineFile.{is_line_length}
 use Rattle.line_file.specs.LineFile.{is_run_count, is_wrong, line_at, line_then, line_width, lines_at}
 use Rattle.line_file.specs.LineFile.{lines_width, reading_of, runs_at, short, whole, with_first}
 use Rattle.line_file.specs.LineHeader.{IsHeader, header_bytes, system_at}

@@ -1,4 +1,5 @@
--- The pieces of a distance make it up again, each of them is in its range, and those that stand before it ends are the first of them.
+-- The pieces of a distance make it up again, each of them is in its range, and those that stand before it ends are the
+-- first of them.
 use Rattle.std.proofs.Common.{◌≡◌, ℕ, zero, suc, ◌+◌, ◌-◌, ◌*◌, ◌/◌, ◌<◌, ◌≤◌, List, [], ◌∷◌, ◌++◌, replicate, sum}
 use Rattle.std.proofs.Common.{refl, sym, ap, ap₂, ◌∙◌, append_assoc, suc-mul, mul_comm, arith}
 use Rattle.std.specs.List.{flat_map, AllByRecursion}

@@ -1,6 +1,9 @@
--- The intervals of some samples come first, whatever samples follow, at each pace: a crossing lies behind all ticks that have passed.
-use Rattle.std.proofs.Common.{◌≡◌, ◌⊎◌, inl, inr, ℕ, ◌+◌, ◌-◌, ◌*◌, ◌/◌, ◌<◌, ◌≤◌, Bool, true, false, cond, ℤ, pos, List, [], ◌∷◌, ◌++◌, length, map, replicate, sum}
-use Rattle.std.proofs.Common.{Option, Some, None, refl, sym, ap, ap₂, subst, ◌∙◌, append_assoc, append-nil, zero-add, arith}
+-- The intervals of some samples come first, whatever samples follow, at each pace: a crossing lies behind all ticks
+-- that have passed.
+use Rattle.std.proofs.Common.{◌≡◌, ◌⊎◌, inl, inr, ℕ, ◌+◌, ◌-◌, ◌*◌, ◌/◌, ◌<◌, ◌≤◌, Bool, true, false, cond, ℤ, pos}
+use Rattle.std.proofs.Common.{List, [], ◌∷◌, ◌++◌, length, map, replicate, sum}
+use Rattle.std.proofs.Common.{Option, Some, None, refl, sym, ap, ap₂, subst, ◌∙◌, append_assoc, append-nil, zero-add}
+use Rattle.std.proofs.Common.{arith}
 use Rattle.std.specs.List.{flat_map, AllByRecursion}
 use Rattle.std.specs.Option.{option_or, option_to_list}
 use Rattle.std.proofs.Math.Nat.{zero-div, div-eq_of_lt}
@@ -17,11 +20,13 @@ use Rattle.pcm_front.specs.declared.threshold.Threshold.TheVariants.{Fixed, Foll
 use Rattle.pcm_front.specs.Crossing.{tick_to}
 use Rattle.pcm_front.specs.Distance.{distances_by, distances_since, greatest, intervals_by, pieces_in, IsInterval}
 use Rattle.pcm_front.specs.Level.{silent, threshold_by}
-use Rattle.pcm_front.specs.Pace.{begun, begun_in, intervals_at, longest, passed_by, passed_since, ticks_since, IsPace, Passes}
+use Rattle.pcm_front.specs.Pace.{begun, begun_in, intervals_at, longest, passed_by, passed_since, ticks_since, IsPace}
+use Rattle.pcm_front.specs.Pace.{Passes}
 use Rattle.pcm_front.specs.Settings.{Settings}
 use Rattle.pcm_front.specs.Side.{side_of, differs}
 use Rattle.pcm_front.specs.StandsFor.{passed_in, Finds}
-use Rattle.pcm_front.specs.State.{between, crossing_in, distance_at, fresh, late_start, level_in, state_after, state_of, FinderState}
+use Rattle.pcm_front.specs.State.{between, crossing_in, distance_at, fresh, late_start, level_in, state_after}
+use Rattle.pcm_front.specs.State.{state_of, FinderState}
 use Rattle.pcm_front.specs.Sums.{sums}
 use Rattle.pcm_front.proofs.InPieces.{begun_first, sum-pieces_in, whole_in}
 use Rattle.pcm_front.proofs.Passing.{begun-below, grown, more_begun, passed_is}

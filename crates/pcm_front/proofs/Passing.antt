@@ -1,5 +1,7 @@
--- A crossing that is still to come lies behind all ticks that have passed, so the pieces that stand before a distance ends are the first of its pieces.
-use Rattle.std.proofs.Common.{◌≡◌, ℕ, zero, suc, ◌+◌, ◌-◌, ◌*◌, ◌/◌, ◌<◌, ◌≤◌, ℤ, List, [], ◌∷◌, ◌++◌, length, replicate}
+-- A crossing that is still to come lies behind all ticks that have passed, so the pieces that stand before a distance
+-- ends are the first of its pieces.
+use Rattle.std.proofs.Common.{◌≡◌, ℕ, zero, suc, ◌+◌, ◌-◌, ◌*◌, ◌/◌, ◌<◌, ◌≤◌, ℤ, List, [], ◌∷◌, ◌++◌, length}
+use Rattle.std.proofs.Common.{replicate}
 use Rattle.std.proofs.Common.{Option, Some, None, refl, sym, ap, ap₂, ◌∙◌, append_assoc, append-nil, mul-suc, arith}
 use Rattle.std.specs.List.{flat_map}
 use Rattle.std.specs.Option.{option_map, option_to_list}
@@ -12,7 +14,8 @@ use Rattle.pcm_front.specs.declared.pace.Pace.{Pace}
 use Rattle.pcm_front.specs.declared.pace.Pace.TheVariants.{Ended, Passing}
 use Rattle.pcm_front.specs.declared.slicer.Slicer.{Slicer}
 use Rattle.pcm_front.specs.Distance.{distances_by, pieces_in}
-use Rattle.pcm_front.specs.Pace.{begun, begun_in, intervals_at, intervals_in, longest, passed_by, passed_since, ticks_since, IsPace, Passes}
+use Rattle.pcm_front.specs.Pace.{begun, begun_in, intervals_at, intervals_in, longest, passed_by, passed_since}
+use Rattle.pcm_front.specs.Pace.{ticks_since, IsPace, Passes}
 use Rattle.pcm_front.specs.Settings.{Settings}
 use Rattle.pcm_front.specs.StandsFor.{passed_in, passed_of, settings_of, Finds, StandsFor}
 use Rattle.pcm_front.specs.State.{FinderState}

@@ -1,5 +1,5 @@
--- When the intervals of a distance are written: at the crossing that ends it, or as it passes, in pieces of a length. The rule is this
--- project's own.
+-- When the intervals of a distance are written: at the crossing that ends it, or as it passes, in pieces of a length.
+-- The rule is this project's own.
 use Rattle.std.specs.Prelude.{ℕ, ◌-◌, ◌*◌, ◌/◌, ◌<◌, ◌≤◌, ℤ, List, ◌++◌, length, replicate, Option, Some, None}
 use Rattle.std.specs.List.{flat_map}
 use Rattle.std.specs.Option.{option_to_list}
@@ -36,13 +36,14 @@ passed_since start fineness threshold samples =
 abbrev pub passed_by : Settings → List ℤ → ℕ
 passed_by s samples = passed_since s.start s.fineness s.threshold (sums s.smooth samples)
 
--- from one sample to a later one: a distance that ends there is longer than the ticks that had passed, and else no fewer have passed
+-- from one sample to a later one: a distance that ends there is longer than the ticks that had passed, and else no
+-- fewer have passed
 abbrev pub Passes : ℕ → Option ℕ → ℕ → Type 0
 Passes before None now = before ≤ now
 Passes before (Some distance) now = before < distance
 
--- how many whole pieces stand of a distance that has not ended, where so many ticks of it have passed: each crossing that is still to come
--- lies behind all of these ticks, so that the distance has these pieces, and more
+-- how many whole pieces stand of a distance that has not ended, where so many ticks of it have passed: each crossing
+-- that is still to come lies behind all of these ticks, so that the distance has these pieces, and more
 abbrev pub begun_in : Pace → ℕ → ℕ
 begun_in Ended passed = 0
 begun_in (Passing length) passed = passed / length
@@ -50,10 +51,12 @@ begun_in (Passing length) passed = passed / length
 abbrev pub begun : Pace → ℕ → List ℕ
 begun pace passed = replicate (begun_in pace passed) (longest pace)
 
--- the intervals that stand after some samples: the pieces of their distances, and those of the distance that has not ended
+-- the intervals that stand after some samples: the pieces of their distances, and those of the distance that has not
+-- ended
 abbrev pub intervals_at : Pace → Settings → List ℤ → List ℕ
 intervals_at pace s samples = flat_map (pieces_in (longest pace)) (distances_by s samples) ++ begun pace (passed_by s samples)
 
--- the intervals of some pieces: the whole ones that a distance still lacked and the rest of it, and those of the next one
+-- the intervals of some pieces: the whole ones that a distance still lacked and the rest of it, and those of the next
+-- one
 abbrev pub intervals_in : Intervals → List ℕ
 intervals_in p = replicate p.whole p.length ++ (option_to_list p.rest ++ replicate p.begun p.length)

@@ -30,7 +30,8 @@ use Rattle.tc_command.specs.declared.stop.Stop.{Stop}
 use Rattle.tc_command.specs.declared.stop.Stop.TheVariants as stops
 use Rattle.signal_commands.specs.KeptSlices.{Slices, Stands, half_is_none, length-samples, samples_of-append}
 use Rattle.tc_files.specs.declared.fault.FileFault.TheVariants.{Truncated}
-use Rattle.signal_commands.specs.PcmLtc.{along_samples, odd_fault, pace_for, samples_within, settings_for, sliced, sliced_header}
+use Rattle.signal_commands.specs.PcmLtc.{along_samples, odd_fault, pace_for, samples_within, settings_for, sliced}
+use Rattle.signal_commands.specs.PcmLtc.{sliced_header}
 use Rattle.tc_command.specs.Stops.{Stops}
 use Rattle.tc_command.specs.KeptWorks.{first_and_rest, first_only}
 use Rattle.signal_commands.proofs.PutMore.{none_begun}

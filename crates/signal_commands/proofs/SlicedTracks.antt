@@ -34,7 +34,8 @@ use Rattle.tc_command.specs.Stops.{IsStop, Stops}
 use Rattle.pcm_front.specs.declared.slicer.Slicer.{Slicer}
 use Rattle.signal_commands.specs.declared.wav_ltc.SlicedTrack.{SlicedTrack}
 use Rattle.signal_commands.specs.KeptTrack.{AreDue, IsGoing, Stands, pace_in, spelled}
-use Rattle.signal_commands.specs.WavLtc.{along_sound_file, track_file, track_header, track_of, track_pace, track_settings, verdict_of}
+use Rattle.signal_commands.specs.WavLtc.{along_sound_file, track_file, track_header, track_of, track_pace}
+use Rattle.signal_commands.specs.WavLtc.{track_settings, verdict_of}
 use Rattle.signal_commands.proofs.PutMore.{none_begun}
 use Rattle.signal_commands.proofs.TrackGoesOn.{file_with}
 

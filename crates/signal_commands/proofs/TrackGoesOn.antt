@@ -1,5 +1,6 @@
 -- What `wav-ltc` writes of some bytes comes first, whatever bytes follow, so it is a command as any other.
-use Rattle.std.proofs.Common.{◌≡◌, ◌⊎◌, inl, inr, ℕ, ◌*◌, ℤ, List, [], ◌∷◌, ◌++◌, Option, Some, None, refl, sym, ◌∙◌, ap, subst, append_assoc}
+use Rattle.std.proofs.Common.{◌≡◌, ◌⊎◌, inl, inr, ℕ, ◌*◌, ℤ, List, [], ◌∷◌, ◌++◌, Option, Some, None, refl, sym, ◌∙◌}
+use Rattle.std.proofs.Common.{ap, subst, append_assoc}
 use Rattle.std.proofs.lemmas.Bool.{false≢true}
 use Rattle.std.proofs.lemmas.Grind.{flat_map-append}
 use Rattle.pcm_front.specs.declared.pace.Pace.{Pace}
@@ -19,7 +20,8 @@ use Rattle.wave_file.specs.GoesOn.{GoesOn}
 use Rattle.wave_file.specs.Wave.{Reading, Verdict, good, refused, past_limit, reading_of}
 use Rattle.tc_command.specs.Command.{IsCommand}
 use Rattle.signal_commands.specs.KeptTrack.{AreDue, spelled}
-use Rattle.signal_commands.specs.WavLtc.{along_sound_file, track_file, track_header, track_of, track_pace, track_settings, verdict_of}
+use Rattle.signal_commands.specs.WavLtc.{along_sound_file, track_file, track_header, track_of, track_pace}
+use Rattle.signal_commands.specs.WavLtc.{track_settings, verdict_of}
 use Rattle.signal_commands.proofs.PutMore.{is_pace}
 
 -- ---- the file

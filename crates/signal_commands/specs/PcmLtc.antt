@@ -27,7 +27,8 @@ settings_for s = from_crossing s.fineness s.threshold s.smooth
 abbrev pub pace_for : Slices → Pace
 pace_for s = pace_of s.live s.system (s.rate * s.fineness)
 
--- the file of the intervals of samples: where it is live, the pieces that have passed behind the last crossing stand at its end
+-- the file of the intervals of samples: where it is live, the pieces that have passed behind the last crossing stand at
+-- its end
 abbrev pub sliced : Slices → List ℤ → List ℕ
 sliced s samples = file_of (sliced_header s) (intervals_at (pace_for s) (settings_for s) samples)
 

@@ -19,7 +19,8 @@ use Rattle.tc_words.specs.declared.flight.Flight.{Flight}
 use Rattle.tc_words.specs.declared.flight.Flight.{Flight}
 use Rattle.tc_words.specs.declared.job.Job.{Job}
 use Rattle.tc_words.specs.declared.job.Job.TheVariants.{LtcRead, LtcWorn, LtcRough, LtcFly, LtcSpans, LtcMtc, LtcJam, LtcChase, MtcRead, LtcMake, LtcLoad}
-use Rattle.tc_words.specs.declared.job.Job.TheVariants.{LtcConvert, PcmLtc, WavLtc, LtcPcm, VitcRead, VitcMake, Number, LabelOf, Help, Version}
+use Rattle.tc_words.specs.declared.job.Job.TheVariants.{LtcConvert, PcmLtc, WavLtc, LtcPcm, VitcRead, VitcMake}
+use Rattle.tc_words.specs.declared.job.Job.TheVariants.{Number, LabelOf, Help, Version}
 use Rattle.frame_commands.specs.declared.ltc_chase.TheConstants.{MAX_FRAMES}
 use Rattle.pcm_front.specs.Pace.{intervals_at}
 use Rattle.wave_file.specs.declared.format.WaveFormat.{WaveFormat}

@@ -23,8 +23,9 @@ use Rattle.tc_top.specs.SentAgain.{SendsTheFrames}
 use Rattle.tc_top.specs.SoundAgain.{IsSlicedAgain}
 use Rattle.tc_top.specs.Tape.{ReportsTheTape}
 
--- the promise of a job. Of `mtc-read`, `vitc-read`, `pcm-ltc`, `number`, `label`, `help` and `version` the meaning says all: each
--- line or interval is what the definition of a crate below makes of the bytes pulled, and no more is known of these
+-- the promise of a job. Of `mtc-read`, `vitc-read`, `pcm-ltc`, `number`, `label`, `help` and `version` the meaning says
+-- all: each line or interval is what the definition of a crate below makes of the bytes pulled, and no more is known of
+-- these
 abbrev pub Promise : Job → Exchange → Type 0
 Promise LtcRead e = ReportsTheTape Normal e.pulled e.written
 Promise LtcWorn e = ReportsTheTape Worn e.pulled e.written

@@ -1,4 +1,5 @@
--- Sound out, and in again: what `ltc-pcm` makes of a recording, `pcm-ltc` slices into its intervals, and `wav-ltc` too, where a sound file has it.
+-- Sound out, and in again: what `ltc-pcm` makes of a recording, `pcm-ltc` slices into its intervals, and `wav-ltc` too,
+-- where a sound file has it.
 use Rattle.std.specs.Prelude.{◌≡◌, ℕ, ◌*◌, ◌≤◌, false, List, ◌++◌, length, map, Some}
 use Rattle.std.specs.List.{flat_map}
 use Rattle.pcm_front.specs.declared.threshold.Threshold.TheVariants.{Fixed, Follow}
@@ -21,8 +22,8 @@ use Rattle.signal_commands.specs.WavLtc.{track_header}
 abbrev pub times : ℕ → List ℕ → List ℕ
 times fineness intervals = map (λ interval. fineness * interval) intervals
 
--- `pcm-ltc` takes the sound whole, each sample for itself, at a fixed threshold of at most the size of the samples, and writes each distance when
--- it has ended: this
+-- `pcm-ltc` takes the sound whole, each sample for itself, at a fixed threshold of at most the size of the samples, and
+-- writes each distance when it has ended: this
 pub record SlicesTo (size : ℕ) (slicing : Slices) (sound written : List ℕ) : Type 0 where
   pub threshold : ℕ
   pub alone : slicing.smooth ≡ 1
@@ -33,8 +34,8 @@ pub record SlicesTo (size : ℕ) (slicing : Slices) (sound written : List ℕ) :
   pub input : IsInput (meaning_of (PcmLtc slicing)) sound
   pub output : Meaning.output (meaning_of (PcmLtc slicing)) sound written
 
--- `wav-ltc` takes a sound file whose track has the samples of the sound, each for itself, at a threshold that follows the level and is at least
--- half of the size of the samples, and writes each distance when it has ended: this
+-- `wav-ltc` takes a sound file whose track has the samples of the sound, each for itself, at a threshold that follows
+-- the level and is at least half of the size of the samples, and writes each distance when it has ended: this
 pub record SlicesFileTo (size : ℕ) (w : SlicesWave) (format : WaveFormat) (sound bytes written : List ℕ) : Type 0 where
   pub least : ℕ
   pub alone : w.smooth ≡ 1
@@ -47,14 +48,16 @@ pub record SlicesFileTo (size : ℕ) (w : SlicesWave) (format : WaveFormat) (sou
   pub samples : (reading_of w.track bytes).samples ≡ samples_of sound
   pub output : Meaning.output (meaning_of (WavLtc w)) bytes written
 
--- the intervals of a sound file, 16 times as long as those of the recording, stand behind the distance to its first crossing
+-- the intervals of a sound file, 16 times as long as those of the recording, stand behind the distance to its first
+-- crossing
 abbrev pub IsBehindTheFirst : IntervalHeader → List ℕ → List ℕ → Type 0
 IsBehindTheFirst header intervals written = (first : List ℕ) × (length first ≤ 1)
     × (written ≡ file_of header (flat_map pieces_of first ++ flat_map pieces_of (times 16 intervals)))
 
--- at each fixed threshold of at most the size, and at each fineness, the crossings of the sound lie so many ticks apart as each interval of the
--- recording has, so many times. So `pcm-ltc` writes the file of these distances, and in whole samples that of the intervals themselves; and so
--- does `wav-ltc` of a sound file of these samples, behind the first interval
+-- at each fixed threshold of at most the size, and at each fineness, the crossings of the sound lie so many ticks apart
+-- as each interval of the recording has, so many times. So `pcm-ltc` writes the file of these distances, and in whole
+-- samples that of the intervals themselves; and so does `wav-ltc` of a sound file of these samples, behind the first
+-- interval
 pub record IsSlicedAgain (size : ℕ) (bytes sound : List ℕ) : Type 0 where
   pub apart : (fineness threshold : ℕ) → 1 ≤ threshold → threshold ≤ size
       → distances fineness (Fixed threshold) (samples_of sound) ≡ times fineness (recording_of bytes).intervals

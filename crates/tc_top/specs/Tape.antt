@@ -9,10 +9,11 @@ use Rattle.tc_files.specs.declared.interval_file.header.IntervalHeader.{Interval
 use Rattle.tc_files.specs.Recording.{recording_of}
 use Rattle.interval_commands.specs.LtcRead.{lines, last_line}
 
--- what was written are the lines of the events of the file, and the last line, and these events tell the tape: where the intervals of the
--- file keep the tolerance, these are the whole words of the tape, good or refused, from the first unequal pair on, and no break. Where a part
--- of the intervals keeps it, between damage, they are so from its second unequal pair to its end. And where the intervals keep it in the other
--- order of time too, the events there are the same words, each met from its other end
+-- what was written are the lines of the events of the file, and the last line, and these events tell the tape: where
+-- the intervals of the file keep the tolerance, these are the whole words of the tape, good or refused, from the first
+-- unequal pair on, and no break. Where a part of the intervals keeps it, between damage, they are so from its second
+-- unequal pair to its end. And where the intervals keep it in the other order of time too, the events there are the
+-- same words, each met from its other end
 pub record ReportsTheTape (profile : Profile) (bytes written : List ℕ) : Type 0 where
   pub header : IntervalHeader
   pub begins : (recording_of bytes).header ≡ Some header

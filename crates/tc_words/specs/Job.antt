@@ -1,5 +1,6 @@
 -- The task of a list of words, or their first fault.
-use Rattle.std.specs.Prelude.{ℕ, true, false, List, [], ◌∷◌, Option, Some, None, Result, Ok, Err, if◌then◌else◌, position}
+use Rattle.std.specs.Prelude.{ℕ, true, false, List, [], ◌∷◌, Option, Some, None, Result, Ok, Err, if◌then◌else◌}
+use Rattle.std.specs.Prelude.{position}
 use Rattle.std.specs.Str.{bytes_eq}
 use Rattle.biphase.specs.declared.profile.Profile.{Profile}
 use Rattle.biphase.specs.declared.profile.Profile.TheVariants.{Normal}
@@ -95,8 +96,8 @@ abbrev pub ltc_convert : List Word → Answer
 ltc_convert (version ∷ []) = with_value 1 (version_in version) (λ v. Ok (jobs.LtcConvert v))
 ltc_convert _ = Err CountOfWords
 
--- `pcm-ltc SYSTEM RATE THRESHOLD [FINENESS [follow|deep [SMOOTH]]] [live]`: without the last words the ticks are samples, the threshold stays
--- where it is, each sample stands for itself, and a distance is written when it has ended
+-- `pcm-ltc SYSTEM RATE THRESHOLD [FINENESS [follow|deep [SMOOTH]]] [live]`: without the last words the ticks are
+-- samples, the threshold stays where it is, each sample stands for itself, and a distance is written when it has ended
 abbrev pub pcm_ltc : List Word → Answer
 pcm_ltc (system ∷ rate ∷ threshold ∷ []) = in_samples system rate threshold false
 pcm_ltc (system ∷ rate ∷ threshold ∷ fineness ∷ []) =
@@ -110,8 +111,8 @@ pcm_ltc (system ∷ rate ∷ threshold ∷ fineness ∷ follow ∷ smooth ∷ li
     summing system rate threshold fineness follow smooth (live_in live)
 pcm_ltc _ = Err CountOfWords
 
--- `wav-ltc SYSTEM TRACK THRESHOLD [SMOOTH [deep]] [live]`: without the last words each sample stands for itself, the threshold is at a half, and
--- a distance is written when it has ended
+-- `wav-ltc SYSTEM TRACK THRESHOLD [SMOOTH [deep]] [live]`: without the last words each sample stands for itself, the
+-- threshold is at a half, and a distance is written when it has ended
 abbrev pub wav_ltc : List Word → Answer
 wav_ltc (system ∷ track ∷ threshold ∷ []) = in_wave system track threshold false
 wav_ltc (system ∷ track ∷ threshold ∷ smooth ∷ []) =

@@ -1,4 +1,5 @@
-use Rattle.std.proofs.Common.{◌+◌, ◌-◌, ◌++◌, ℤ, List, ℕ, length, take, drop, sym, ◌∙◌, ap, refl, subst, arith, take-append-drop}
+use Rattle.std.proofs.Common.{◌+◌, ◌-◌, ◌++◌, ℤ, List, ℕ, length, take, drop, sym, ◌∙◌, ap, refl, subst, arith}
+use Rattle.std.proofs.Common.{take-append-drop}
 use Rattle.std.proofs.lemmas.List.{take_all}
 use Rattle.pcm_front.specs.Settings.{Settings}
 use Rattle.pcm_front.specs.StandsFor as pcm
@@ -6,7 +7,8 @@ use Rattle.pcm_front.specs.StandsFor.{settings_of, tick_of}
 use Rattle.tc_command.specs.KeptGathered.{IsPut, put_more}
 use Rattle.tc_command.specs.KeptWorks.{at_err}
 use Rattle.signal_commands.specs.KeptTrack.{AreDue}
-use Rattle.signal_commands.proofs.DueSamples.{due_at, due_behind, front_of_longer, joined, next_tick, put_then_front, rest_fits, run_due, run_within}
+use Rattle.signal_commands.proofs.DueSamples.{due_at, due_behind, front_of_longer, joined, next_tick, put_then_front}
+use Rattle.signal_commands.proofs.DueSamples.{rest_fits, run_due, run_within}
 use Rattle.signal_commands.proofs.TrackGoesOn.{due_of}
 use Rattle.signal_commands.proofs.wav_ltc.slice.Goals as goal
 
