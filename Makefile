@@ -34,6 +34,13 @@ UPPER = $(shell echo $(PROGRAM) | tr a-z A-Z)
 RENAME_MAN = sed -e 's/^\.Dt TC/.Dt $(UPPER)/' -e 's/\(^\|\\fB\|[ \x27]\)tc\( \|\\fP\|$$\)/\1$(PROGRAM)\2/g' \
 	-e 's/^\(\.Nm\|\.Xr\) tc-\(formats\|tape\|archive\)/\1 $(PROGRAM)-\2/' -e 's/tc-\(tape\|archive\) --/$(PROGRAM)-\1 --/g'
 
+# The examples of the documents name the program and its tools as they are installed, and where they run; of the README only
+# what needs no sources.
+SHOWN = -e '/^    /s/\(^\|[ (|]\)\(bin\/\)\?tc \([a-z$$]\)/\1$(PROGRAM) \3/g' \
+	-e '/^    /s/\btools\/\(tape\|archive\) /$(PROGRAM)-\1 /g' -e '/^    /s/\btools\/\(draw_report\|plot_chase\|line_r[a-z]*\)/examples\/&/g'
+RENAME_DOCUMENTS = sed -i $(SHOWN) -e 's@at the top of the repository,\? after `./build`@in $(DOCDIR)@'
+RENAME_README = sed -i -e '/^    \$$ /s/bin\/tc /$(PROGRAM) /g'
+
 INSTALL_PROGRAM = install -m 755
 
 VERSION := $(shell cat VERSION)
@@ -83,6 +90,8 @@ install:
 	install -m 644 README.md CHANGELOG.md VERSION "$(DESTDIR)$(DOCDIR)"
 	for file in $(DOCUMENTS); do install -D -m 644 "$$file" "$(DESTDIR)$(DOCDIR)/$$file"; done
 	install -m 644 $(EXAMPLES) "$(DESTDIR)$(DOCDIR)/examples"
+	$(RENAME_DOCUMENTS) "$(DESTDIR)$(DOCDIR)"/docs/guide/*.md "$(DESTDIR)$(DOCDIR)"/docs/reference/*.md "$(DESTDIR)$(DOCDIR)/examples/README.md"
+	$(RENAME_README) "$(DESTDIR)$(DOCDIR)/README.md"
 	install -m 755 $(TOOLS) "$(DESTDIR)$(DOCDIR)/examples/tools"
 	install -m 755 tools/tape tools/archive tools/draw_report "$(DESTDIR)$(LIBDIR)"
 	install -m 644 $(wildcard tools/tape_report/*.*) "$(DESTDIR)$(LIBDIR)/tape_report"
