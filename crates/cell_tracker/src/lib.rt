@@ -18,7 +18,7 @@
 //! - A recording within the tolerance is one stretch, and its cells are the recording's own
 //!   (`specs/Kept.antt`). Each state stands at a boundary of such a recording, or inside a one of it
 //!   (`specs/PieceEnd.antt`). Where the tolerance looks at the last cell alone, the recording is found
-//!   again behind anything (`specs/FoundAgain.antt`), and in the other order of time its cells are the
+//!   again after anything (`specs/FoundAgain.antt`), and in reverse order its cells are the
 //!   same (`specs/Mirrored.antt`, all in `laws`).
 //!
 //! Read `hunting`, `at_cell` and `mid_cell`, in this order, and `specs/Lock.antt`, `Stretch.antt` and

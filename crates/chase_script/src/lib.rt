@@ -9,7 +9,7 @@
 //! - `script_rows` reads exactly the rows of a script's records, and refuses a script at its first
 //!   refused record, with the least refused column (`specs/Script.antt`, `script_in`). Want of memory
 //!   is told apart.
-//! - `TraceLines` gives the lines of the trace byte for byte, in order, and the last line behind them
+//! - `TraceLines` gives the lines of the trace byte for byte, in order, and the last line after them
 //!   (`specs/TraceText.antt`, `trace_text`). What is traced is the closed loop of `chase_core`.
 //! - The trace keeps its lock: while the master moves steadily, no command comes and the transport keeps
 //!   its slip bound, a locked chase stays within half a frame, and pulling ends (`specs/Lock.antt`,

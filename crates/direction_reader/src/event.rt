@@ -5,7 +5,7 @@ use ltc_word::LtcWord;
 use tc_address::Direction;
 use tc_bits::FieldFault;
 
-/// What an interval brought. The tick is the sum of all intervals up to and with that one.
+/// What an interval brought. The tick is the sum of all intervals up to and including that one.
 #[derive(Clone, Copy, Debug, PartialEq, Eq)]
 pub enum Event {
     /// A word of linear time code.

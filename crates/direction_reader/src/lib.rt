@@ -16,8 +16,8 @@
 //!   new, under each tolerance (clause `stands`). Nearly every interval brings nothing, and then
 //!   `step` is enough.
 //! - The events tell a tape within the tolerance (`specs/Tape.antt`). Where the tolerance looks at the
-//!   last cell alone, they find it again behind damage (`specs/Tape.antt`), and mirror it in the other
-//!   order of time (`specs/Mirror.antt`): clauses `truth`, `damage` and `mirror` of `feed`.
+//!   last cell alone, they find it again between damage (`specs/Tape.antt`), and mirror it in reverse
+//!   order (`specs/Mirror.antt`): clauses `truth`, `damage` and `mirror` of `feed`.
 //! - A window holds the latest of the bits that it was given (`specs/HoldsBits.antt`).
 //! - `window_events` gives the candidates of one window, the forward one first
 //!   (`specs/Candidate.antt`).

@@ -104,8 +104,8 @@ impl DirectionReader {
         ensures stands { (intervals : List ℕ) (events : List Event)
             → StandsFor self.old intervals events
             → StandsFor self.new (intervals ++ x ∷ []) (events ++ event_list result) }
-        // And what they say of a tape within the tolerance, of one behind damage, and of one whose
-        // intervals in the other order of time have these events.
+        // And what they say of a tape within the tolerance, of one between damage, and of one whose
+        // intervals in reverse order have these events.
         ensures truth { (intervals : List ℕ) (events : List Event)
             → StandsFor self.old intervals events
             → TellsTheTape self.new.system (profile_of self.new.tracker) (intervals ++ x ∷ []) (events ++ event_list result) }

@@ -46,7 +46,7 @@ pub fn words_of_labels_are_spelled()
 }
 
 /// The words that are written for labels of nothing but zeros and for one hour in drop-frame, as 80 bits: no user bit
-/// is set, no flag but that of drop-frame, and the polarity correction where the word wants it to be balanced.
+/// is set, no flag except that of drop-frame, and the polarity correction where the word wants it to be balanced.
 pub fn words_of_round_labels_are_written_so()
     ensures zero_at_30 { time_bits Forward (address C30 0 0 0 0) ≡ 0xbffc0000000008000000 }
     ensures zero_at_25 { time_bits Forward (address C25 0 0 0 0) ≡ 0xbffc0800000000000000 }

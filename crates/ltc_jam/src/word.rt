@@ -11,7 +11,7 @@ use ltc_word::{LtcWord, encode, reversed};
 use tc_address::{Count, Direction, Label};
 use tc_bits::{Fields, Flags, UserBits};
 
-/// The word of a label: user bits 0, no flag but that of drop-frame, and balanced.
+/// The word of a label: user bits 0, no flag except that of drop-frame, and balanced.
 pub fn word_of(label: &Label) -> LtcWord
     ensures value { result ≡ word_of label.now }
     ensures valid { IsFields result.fields }

@@ -63,7 +63,7 @@ pub fn twelve_ones_are_the_sync_word()
         → i < 80 → HasTwelveOnes (x + y * 2 ^ 80) i → i ≡ 66 }
 {}
 
-/// To take 80 bits in the other order of time gives 80 bits, and twice gives them back.
+/// To take 80 bits in reverse order gives 80 bits, and twice gives them back.
 pub fn reversed_twice_is_the_same()
     ensures width { (bits : ℕ) → reversed_bits bits < 2 ^ 80 }
     ensures bits { (bits i : ℕ) → i < 80 → bit_at (reversed_bits bits) i ≡ bit_at bits (79 - i) }

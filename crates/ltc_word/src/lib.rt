@@ -11,7 +11,7 @@
 //! - Other bits are refused with their first fault: the least bit of the sync word that differs, else
 //!   the first fault of the fields (`specs/Fault.antt`, `first_fault`).
 //! - `ends_in_sync` and `begins_in_reversed_sync` find the end of a word of either direction, each by
-//!   one comparison, and `reversed` takes the bits in the other order of time
+//!   one comparison, and `reversed` takes the bits in reverse order
 //!   (`specs/Reversal.antt`).
 //!
 //! Read `places`, the table, then `word`, `reading`, `writing` and `reversal`, with

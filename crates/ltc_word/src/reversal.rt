@@ -18,7 +18,7 @@ pub fn ends_in_sync(bits: u128) -> bool
     bits >> SYNC.first == SYNC_PATTERN as u128
 }
 
-/// Whether the bits, in the other order of time, end in the sync word: the test of a word that is
+/// Whether the bits, in reverse order, end in the sync word: the test of a word that is
 /// played backward. It costs one mask and one comparison, and reverses nothing.
 pub fn begins_in_reversed_sync(bits: u128) -> bool
     requires { bits < 2 ^ 80 }
@@ -27,7 +27,7 @@ pub fn begins_in_reversed_sync(bits: u128) -> bool
     bits % (1 << SYNC.width) == BACKWARD_SYNC_PATTERN
 }
 
-/// The 80 bits in the other order of time: bit i of the result is bit 79 - i.
+/// The 80 bits in reverse order: bit i of the result is bit 79 - i.
 pub fn reversed(bits: u128) -> u128
     requires { bits < 2 ^ 80 }
     ensures value { result ≡ reversed_bits bits }

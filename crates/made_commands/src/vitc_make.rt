@@ -134,7 +134,7 @@ impl Maker for LineTape {
     }
 }
 
-/// The word of a label in one of its fields: user bits 0, and no flag but that of drop-frame.
+/// The word of a label in one of its fields: user bits 0, and no flag except that of drop-frame.
 fn field_word(label: &Label, field_mark: bool) -> VitcWord
     ensures value { result ≡ field_word label.now field_mark }
     ensures valid { IsFields result.fields }

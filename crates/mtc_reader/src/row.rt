@@ -84,7 +84,7 @@ impl Row {
     }
 }
 
-/// One quarter frame more, in the place of the oldest.
+/// One more quarter frame, in the place of the oldest.
 #[inline(always)]
 fn with_quarter(latest: u64, quarter: u8) -> u64
     ensures { (row : List ℕ) → 8 ≤ length row → to_be_bytes w64 latest ≡ latest_eight row

@@ -3,14 +3,14 @@
 //! A source is pulled for bytes and a sink is pushed bytes. What either means is two things: the
 //! bytes that are left in a source or were written to a sink, where the object tells them, and its
 //! count of faults, a `u64` that never falls and stops at its last value. A source has a third: how
-//! many pulls stood at its end or behind it. Every promise of the program about input and output is
+//! many pulls stood at its end or after it. Every promise of the program about input and output is
 //! stated over these.
 //!
 //! What this crate promises:
 //! - Each call keeps to its trait: what an `Ok` takes from the front or adds at the end, that a
 //!   `Failed` leaves the told bytes alone, and that a `Failed` comes only where the object's own
 //!   count of faults rose in the call or stands at its last value (`specs/Source.antt`, `HasCause`).
-//! - A pull is counted where it comes to the end of the input, and where it comes behind it (same file,
+//! - A pull is counted where it comes to the end of the input, and where it comes after it (same file,
 //!   `ends_after`).
 //! - `push_all` appends all bytes, in order, or fails by its sink's fault with a front of them
 //!   appended (`specs/Sink.antt`, `AppendsFront`).

@@ -1,6 +1,6 @@
 //! The lines of a field: from the runs of a line's levels to its bits, and from all lines to one answer.
 //!
-//! A line of video is high and low by turns, beginning with the high level of bit 0. A run is how long one
+//! A line of video is alternately high and low, beginning with the high level of bit 0. A run is how long one
 //! level lasts, in ticks. One cell of a bit lasts 1/115 of the line. A field carries its time code in
 //! several lines, and a reader tells what they say together.
 //!

@@ -86,7 +86,7 @@ impl Turned {
 }
 
 /// The bits that the runs of a line stand for. Each run is in ticks, as the length of the line is, from
-/// 460 to 65,535. There is an odd number of runs, 89 at most: they are high and low by turns, and the
+/// 460 to 65,535. There is an odd number of runs, 89 at most: they are alternately high and low, and the
 /// first and the last are high. Bits after the last run are 0.
 pub fn read_runs(length: u32, runs: &[u16]) -> Result<u128, RunFault>
     requires length { IsLineLength length }
