@@ -4,7 +4,8 @@
 use Rattle.std.proofs.Common.{◌≡◌, ℕ, zero, suc, ◌+◌, ◌-◌, ◌*◌, ◌/◌, ◌≤◌, max, ℤ, pos, List, [], ◌∷◌, length, take}
 use Rattle.std.proofs.Common.{drop, map, filter, replicate, Option}
 use Rattle.std.proofs.Common.{ap, ap₂, arith, refl, ◌∙◌}
-use Rattle.std.specs.Prelude.{unsigned_abs, option_or}
+use Rattle.std.specs.Option.{option_or}
+use Rattle.std.specs.Prelude.{unsigned_abs}
 use Rattle.std.specs.List.{AllByRecursion, range_with_len}
 use Rattle.std.proofs.Math.Nat.{max-eq_left}
 use Rattle.std.proofs.Math.Path.{fun_ext}
