@@ -7,9 +7,9 @@
 # TC is the built program (bin/tc), FRAMES how many frames of drop-frame code at 29.97 a second are made (1800). It wants a C compiler, Debian's libltc-dev and
 # sox. It builds nothing but its own small C program. The gate does not run it.
 #
-# With `live` the same sound, and more at other speeds and with silences in it, is sliced with `live` and without. A cell has
-# how many words are read both ways, to the tick, and behind it, where there are some, how many lines `live` adds (+) and
-# takes (-): first of words, and then of the others.
+# With `live` the same sound, and more at other speeds and with silences in it, is sliced with `live` and without. A cell
+# has how many words are read both ways, to the tick, and behind it, where there are some, how many lines `live` adds (+)
+# and takes (-): first of words, and then of the others.
 set -eu
 top=$(cd "$(dirname "$0")/.." && pwd)
 tc=${1:-$top/bin/tc}
