@@ -7,9 +7,9 @@
 # TC is the built program (bin/tc), FRAMES how many frames of drop-frame code at 29.97 a second are made (1800). It wants a C compiler, Debian's libltc-dev and
 # sox. It builds nothing but its own small C program. The gate does not run it.
 #
-# With `live` the same sound, and more at other speeds and with silences in it, is sliced with `live` and without. A cell
-# has how many words are read both ways, to the tick, and behind it, where there are some, how many lines `live` adds (+)
-# and takes (-): first of words, and then of the others.
+# With `live` the same sound, and more at other speeds and with silences in it, is sliced with `live` and without. A
+# cell has how many words are read both ways, to the tick, and behind it, where there are some, how many lines `live`
+# adds (+) and takes (-): first of words, and then of the others; and how many of its words are false.
 set -eu
 top=$(cd "$(dirname "$0")/.." && pwd)
 tc=${1:-$top/bin/tc}
@@ -90,6 +90,7 @@ cell_of_both() { # FILE READER WORDS..
     "$tc" "${@:3}" < "$1" | "$tc" "$2" > "$room/ended"
     "$tc" "${@:3}" live < "$1" | "$tc" "$2" > "$room/passing"
     compared "$room/ended" "$room/passing"
+    awk '$1 == "word" { sub(";", ":", $3); print $3 }' "$room/passing" | counted | sed -n 's/.*+/, false /p'
 }
 
 # A row with `live` and without: raw samples under each tolerance, and a file under the rough one.
@@ -112,9 +113,19 @@ silences_at() { # SPEED
     }'
 }
 
-# A silence behind every fifth frame, each a sample longer than the one before, from two quarters of a frame on.
-silences_that_grow() {
-    awk -v frames="$frames" 'BEGIN { for (i = 1; 5 * i < frames; i++) printf "%ds@%ds ", 800 + i, 8008 * i }'
+# As many silences as a fifth of the frames, of 500 to 6,000 samples, at places by chance where the sound is played at a
+# speed. The numbers are those of a generator that each awk has alike.
+silences_by_chance() { # SPEED SEED
+    awk -v frames="$frames" -v fps="$fps" -v speed="$1" -v state="$2" '
+        function chance() { state = (state * 16807) % 2147483647; return state / 2147483647 }
+        BEGIN {
+            for (i = 1; i <= 100; i++) chance()
+            count = int(frames / 5); apart = 48000 * frames / fps / speed / count
+            for (i = 0; i < count; i++) {
+                place = (i + chance()) * apart
+                printf "%ds@%ds ", 500 + 5500 * chance(), place
+            }
+        }'
 }
 
 # Rows that only `live` has: clean and hissy sound at other speeds, and with silences of 20 ms to 6 s in it.
@@ -133,16 +144,21 @@ rows_of_live() {
             row "$sound at speed $speed with six silences" 48000
         done
     done
-    # shellcheck disable=SC2046
-    hurt 48000 pad $(silences_that_grow) < "$room/clean" > "$room/now"
-    row "clean with $((frames / 5 - 1)) silences, each a sample longer than the one before" 48000
-    # Code that begins with a crossing, as that of libltc does not.
+    for speed in 0.4 1 3.5; do
+        hurt 48000 speed "$speed" rate 48000 < "$room/clean" > "$room/played"
+        for sample in $(seq 15); do
+            # shellcheck disable=SC2046
+            hurt 48000 pad $(silences_by_chance "$speed" "$sample") < "$room/played"
+        done > "$room/now"
+        row "clean at speed $speed, 15 times, with $((15 * (frames / 5))) silences by chance" 48000
+    done
+    # Behind each silence stands one unequal pair before the first word.
     "$tc" ltc-make 30 forward 01:00:00:00 5 20 48000 | "$tc" ltc-pcm 8000 > "$room/five"
     for sample in $(seq 400); do
         cat "$room/five"
         head -c $((2 * (800 + sample))) /dev/zero
     done > "$room/now"
-    row "five frames of ltc-make, 400 times, and such a silence after each" 48000
+    row "five frames of ltc-make, 400 times, with a silence after each, a sample longer than the one before" 48000
 }
 
 if [ -n "$live" ]; then
