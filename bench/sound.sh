@@ -2,14 +2,19 @@
 # The table of docs/reference/sound.md: how many words of sound that libltc made and sox hurt are read, by `tc` and by libltc's own decoder. Behind a
 # plus sign stand the false ones: words with an address that was never encoded.
 #
-#     bench/sound.sh [TC [FRAMES]]
+#     bench/sound.sh [TC [FRAMES [live]]]
 #
 # TC is the built program (bin/tc), FRAMES how many frames of drop-frame code at 29.97 a second are made (1800). It wants a C compiler, Debian's libltc-dev and
 # sox. It builds nothing but its own small C program. The gate does not run it.
+#
+# With `live` the same sound, and more at other speeds and with silences in it, is sliced with `live` and without. A
+# cell has how many words are read both ways, to the tick, and behind it, where there are some, how many lines `live`
+# adds (+) and takes (-): first of words, and then of the others; and how many of its words are false.
 set -eu
 top=$(cd "$(dirname "$0")/.." && pwd)
 tc=${1:-$top/bin/tc}
 frames=${2:-1800}
+live=${3:-}
 fps=29.97
 system=30
 [ -x "$tc" ] || { echo "no program at $tc: run ./build" >&2; exit 2; }
@@ -51,6 +56,10 @@ words() { "$tc" "$1" | awk '$1 == "word" { sub(";", ":", $3); print $3 }'; }
 # A row: what was done to the sound, its rate, and how many words are read of it.
 row() { # NAME RATE
     local name=$1 rate=$2 cells
+    if [ -n "$live" ]; then
+        both "$name" "$rate"
+        return
+    fi
     cells="| $name | $("$room/sound" read "$fps" "$rate" < "$room/now" | counted)"
     for way in "1000,ltc-read" "1000 16,ltc-worn" "250 16 follow,ltc-read" "250 16 follow,ltc-worn" "250 16 follow,ltc-rough" \
         "250 16 follow 3,ltc-rough" "250 16 deep,ltc-rough" "250 16 deep 3,ltc-rough"; do
@@ -60,8 +69,105 @@ row() { # NAME RATE
     echo "$cells |"
 }
 
-echo "| Sound of $frames frames | libltc | whole, read | fixed, worn | follow, read | follow, worn | follow, rough | follow 3, rough | deep, rough | deep 3, rough |"
-echo "|---|---|---|---|---|---|---|---|---|---|"
+# How many words two reports share, and how many lines the second one adds and takes. `lost` counts intervals, of which
+# pieces are more, so that number is left out. The last line is too.
+compared() { # REPORT REPORT
+    awk '{ sub(/ interval [0-9]+/, ""); kind = $1 == "word" ? "word" : "other" }
+        $1 == "end" { next }
+        NR == FNR { before[$0] = kind; next }
+        $0 in before { shared[kind]++; delete before[$0]; next }
+        { added[kind]++ }
+        function changes(kind) { return added[kind] + taken[kind] ? sprintf(" +%d -%d", added[kind], taken[kind]) : "" }
+        END {
+            for (line in before) taken[before[line]]++
+            other = changes("other")
+            printf "%d%s%s", shared["word"], changes("word"), other ? ", other" other : ""
+        }' "$1" "$2"
+}
+
+# What a reader says of the sound without `live` and with it.
+cell_of_both() { # FILE READER WORDS..
+    "$tc" "${@:3}" < "$1" | "$tc" "$2" > "$room/ended"
+    "$tc" "${@:3}" live < "$1" | "$tc" "$2" > "$room/passing"
+    compared "$room/ended" "$room/passing"
+    awk '$1 == "word" { sub(";", ":", $3); print $3 }' "$room/passing" | counted | sed -n 's/.*+/, false /p'
+}
+
+# A row with `live` and without: raw samples under each tolerance, and a file under the rough one.
+both() { # NAME RATE
+    local name=$1 rate=$2 cells="| $1" reader
+    for reader in ltc-read ltc-worn ltc-rough; do
+        cells="$cells | $(cell_of_both "$room/now" "$reader" pcm-ltc "$system" "$rate" 250 16 follow)"
+    done
+    # shellcheck disable=SC2046
+    sox -D $(raw "$rate") "$room/now" -t wav "$room/now.wav"
+    echo "$cells | $(cell_of_both "$room/now.wav" ltc-rough wav-ltc "$system" 1 250) |"
+}
+
+# Silences of 20 ms to 6 s, as `pad` of sox takes them, at parts of the sound where it is played at a speed.
+silences_at() { # SPEED
+    awk -v seconds="$frames" -v fps="$fps" -v speed="$1" 'BEGIN {
+        seconds /= fps * speed
+        count = split("0.02 0.051 0.08 0.093 0.3 0.151 1 0.242 2.5 0.363 6 0.555", pairs, " ")
+        for (i = 1; i < count; i += 2) printf "%s@%.4f ", pairs[i], pairs[i + 1] * seconds
+    }'
+}
+
+# As many silences as a fifth of the frames, of 500 to 6,000 samples, at places by chance where the sound is played at a
+# speed. The numbers are those of a generator that each awk has alike.
+silences_by_chance() { # SPEED SEED
+    awk -v frames="$frames" -v fps="$fps" -v speed="$1" -v state="$2" '
+        function chance() { state = (state * 16807) % 2147483647; return state / 2147483647 }
+        BEGIN {
+            for (i = 1; i <= 100; i++) chance()
+            count = int(frames / 5); apart = 48000 * frames / fps / speed / count
+            for (i = 0; i < count; i++) {
+                place = (i + chance()) * apart
+                printf "%ds@%ds ", 500 + 5500 * chance(), place
+            }
+        }'
+}
+
+# Rows that only `live` has: clean and hissy sound at other speeds, and with silences of 20 ms to 6 s in it.
+rows_of_live() {
+    local sound speed level sample
+    for level in 30 22; do noisy 48000 "$level" < "$room/tape" > "$room/hiss$level"; done
+    for sound in clean hiss30 hiss22; do
+        for speed in 0.4 0.7 1.5 2.5 3.5; do
+            hurt 48000 speed "$speed" rate 48000 < "$room/$sound" > "$room/now" && row "$sound at speed $speed" 48000
+        done
+    done
+    for sound in clean tape hiss30 hiss22; do
+        for speed in 0.4 1 3.5; do
+            # shellcheck disable=SC2046
+            hurt 48000 speed "$speed" rate 48000 < "$room/$sound" | hurt 48000 pad $(silences_at "$speed") > "$room/now"
+            row "$sound at speed $speed with six silences" 48000
+        done
+    done
+    for speed in 0.4 1 3.5; do
+        hurt 48000 speed "$speed" rate 48000 < "$room/clean" > "$room/played"
+        for sample in $(seq 15); do
+            # shellcheck disable=SC2046
+            hurt 48000 pad $(silences_by_chance "$speed" "$sample") < "$room/played"
+        done > "$room/now"
+        row "clean at speed $speed, 15 times, with $((15 * (frames / 5))) silences by chance" 48000
+    done
+    # Behind each silence stands one unequal pair before the first word.
+    "$tc" ltc-make 30 forward 01:00:00:00 5 20 48000 | "$tc" ltc-pcm 8000 > "$room/five"
+    for sample in $(seq 400); do
+        cat "$room/five"
+        head -c $((2 * (800 + sample))) /dev/zero
+    done > "$room/now"
+    row "five frames of ltc-make, 400 times, with a silence after each, a sample longer than the one before" 48000
+}
+
+if [ -n "$live" ]; then
+    echo "| Sound of $frames frames | read | worn | rough | file, rough |"
+    echo "|---|---|---|---|---|"
+else
+    echo "| Sound of $frames frames | libltc | whole, read | fixed, worn | follow, read | follow, worn | follow, rough | follow 3, rough | deep, rough | deep 3, rough |"
+    echo "|---|---|---|---|---|---|---|---|---|---|"
+fi
 "$room/sound" make "$fps" 48000 "$frames" > "$room/clean" 2> "$room/addresses"
 cp "$room/clean" "$room/now" && row "as it was made" 48000
 # The edges of a tape are not square, and it hisses: what follows was hurt so first.
@@ -93,3 +199,4 @@ for rate in 44100 22050; do
 done
 # shellcheck disable=SC2046
 sox -R -D $(raw 22050) "$room/slow" $(raw 44100) "$room/now" rate 44100 && row "the same, doubled by sox" 44100
+if [ -n "$live" ]; then rows_of_live; fi
