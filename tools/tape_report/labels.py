@@ -53,6 +53,10 @@ class FirstSample:
     reference: int
     rate: Fraction
 
+    def label_after(self, frames):
+        """The label so many frames later."""
+        return label_of(self.count, number_of(self.count, self.label) + frames)
+
 
 def first_sample(choice: Choice, smooth=1):
     """The timecode of the first sample: the first label less the samples before it. None where the tape does not run forward there."""

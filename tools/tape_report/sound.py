@@ -36,6 +36,8 @@ class Stream:
     rate: int
     # The number of the sound in a file that ffmpeg decodes; None where `tc` reads the file itself.
     number: int | None = None
+    # When its first sample is played, in seconds of the file's clock.
+    begins: float = 0.0
 
 
 @dataclass
@@ -111,22 +113,29 @@ def sound_file(path):
     return Sound(path, kind, [Stream(max(1, tracks), rate)], seconds, chunks, bits)
 
 
-def decoded_file(path):
-    """Any other file that has a sound, as ffmpeg sees it."""
-    if not shutil.which("ffprobe") or not shutil.which("ffmpeg"):
-        raise NoSound("it is no WAV file, and ffmpeg, which reads others, is not installed")
+def probed(path, entries):
+    """What ffprobe says of a file."""
     asked = subprocess.run(
-        ["ffprobe", "-v", "error", "-show_entries", "stream=codec_type,channels,sample_rate:format=duration,format_name"]
-        + ["-of", "json", path],
+        ["ffprobe", "-v", "error", "-show_entries", entries, "-of", "json", path],
         stdout=subprocess.PIPE,
         stderr=subprocess.DEVNULL,
         check=False,
     )
-    said = json.loads(asked.stdout or b"{}")
+    return json.loads(asked.stdout or b"{}")
+
+
+def decoded_file(path):
+    """Any other file that has a sound, as ffmpeg sees it."""
+    if not shutil.which("ffprobe") or not shutil.which("ffmpeg"):
+        raise NoSound("it is no WAV file, and ffmpeg, which reads others, is not installed")
+    said = probed(path, "stream=codec_type,channels,sample_rate,start_time:format=duration,format_name")
     sounds = [stream for stream in said.get("streams", []) if stream.get("codec_type") == "audio"]
     if not sounds:
         raise NoSound("it has no sound that ffmpeg can read")
-    streams = [Stream(it["channels"], int(it["sample_rate"]), number) for number, it in enumerate(sounds)]
+    streams = [
+        Stream(it["channels"], int(it["sample_rate"]), number, float(it.get("start_time", 0)))
+        for number, it in enumerate(sounds)
+    ]
     form = said["format"]
     seconds = float(form["duration"]) if "duration" in form else None
     return Sound(path, form["format_name"].split(",")[0], streams, seconds)
