@@ -186,7 +186,21 @@ def words_of(data, bits, tracks, track):
     return words
 
 
-def level_of(sound, track, seconds=600):
+def skip_to_samples(file):
+    """Reads a decoder's WAV file up to its first sample. Before it may stand chunks that say who wrote the file."""
+    file.read(12)
+    while len(head := file.read(8)) == 8:
+        name, size = struct.unpack("<4sI", head)
+        if name == b"data":
+            return
+        file.read(size + size % 2)
+
+
+# The level is that of so many seconds.
+LEVEL_SECONDS = 600
+
+
+def level_of(sound, track, seconds=LEVEL_SECONDS):
     """The level of a track, of its first minutes."""
     stream, number = sound.place_of(track)
     file, decoder = sound.open(stream)
@@ -199,7 +213,7 @@ def level_of(sound, track, seconds=600):
                 return Level(0, 0.0)
             file.seek(data.place)
         else:
-            file.read(44)
+            skip_to_samples(file)
         want = stream.rate * seconds
         while count < want:
             words = words_of(file.read(bits // 8 * stream.tracks * 65_536), bits, stream.tracks, number)
