@@ -186,6 +186,17 @@ def words_of(data, bits, tracks, track):
     return words
 
 
+# Of the upper byte of a sample: 1 below zero.
+SIGNS = bytes(128) + b"\1" * 128
+
+
+def crossings_in(words):
+    """How often neighbouring samples lie on different sides of zero."""
+    upper = words.tobytes()[1 if sys.byteorder == "little" else 0 :: 2]
+    signs = upper.translate(SIGNS)
+    return signs.count(b"\0\1") + signs.count(b"\1\0")
+
+
 def skip_to_samples(file):
     """Reads a decoder's WAV file up to its first sample. Before it may stand chunks that say who wrote the file."""
     file.read(12)
@@ -220,8 +231,7 @@ def level_of(sound, track, seconds=LEVEL_SECONDS):
             if not words:
                 break
             peak = max(peak, max(words), -min(words))
-            signs = bytes(word < 0 for word in words)
-            crossings += signs.count(b"\0\1") + signs.count(b"\1\0")
+            crossings += crossings_in(words)
             count += len(words)
     if decoder:
         decoder.kill()
