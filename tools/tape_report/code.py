@@ -137,7 +137,7 @@ class Reader:
     def lines(self, number, last=None):
         """The lines of an output, or so many of the last ones."""
         with open(self.outputs[number], encoding="ascii") as lines:
-            return [line.rstrip("\n") for line in deque(lines, last)]
+            return [line.rstrip("\n") for line in (lines if last is None else deque(lines, last))]
 
 
 def intervals_of(tc, sound, track, threshold, smooth):
