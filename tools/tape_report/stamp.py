@@ -91,11 +91,13 @@ def stamp(sound: Sound, track: int, first: FirstSample, out: str):
 
 
 def picture_of(path):
-    """The frames a second of the picture, and when its first frame is shown. A cover is no picture."""
-    said = probed(path, "stream=codec_type,r_frame_rate,start_time:stream_disposition=attached_pic")
+    """The frames a second of the picture, by which ffmpeg reads a timecode, and when its first frame is shown. A cover is no picture."""
+    said = probed(path, "stream=codec_type,avg_frame_rate,start_time:stream_disposition=attached_pic")
     for stream in said.get("streams", []):
         if stream.get("codec_type") == "video" and not stream.get("disposition", {}).get("attached_pic"):
-            return Fraction(stream["r_frame_rate"]), float(stream.get("start_time", 0))
+            frames, seconds = map(int, stream["avg_frame_rate"].split("/"))
+            if frames and seconds:
+                return Fraction(frames, seconds), float(stream.get("start_time", 0))
     raise NoSound(
         "it has no picture, and a container keeps its timecode beside one; a WAV file can be stamped: ffmpeg -i FILE FILE.wav"
     )
@@ -108,8 +110,7 @@ def label_of_picture(first: FirstSample, sound_begins, path):
     if times not in (1, 2, 4) or abs(rate / first.rate - times) > Fraction(times, 500):
         code, picture = (f"{float(each):.2f}".rstrip("0").rstrip(".") for each in (first.rate, rate))
         raise NoSound(f"the code has {code} frames a second and the picture {picture}: its labels do not fit")
-    label = first.label_after(round(Fraction(begins - sound_begins) * first.rate))
-    return f"{label[:-2]}{int(label[-2:]) * times:02}"
+    return first.label_at(Fraction(begins - sound_begins) * first.rate, times)
 
 
 def timecode_in(path):
