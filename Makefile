@@ -1,5 +1,5 @@
 # make               proves and builds bin/tc
-# make check         the quick checks, in two minutes: doors, documents, trail, made pages, and examples and tapes on bin/tc
+# make check         the quick checks, in two minutes: doors, documents, trail, made pages, examples and tapes on bin/tc
 # make gate          the gate (rt ci): proves every crate, tries the must-fail edits, runs tests and program
 # make dist          tc-VERSION.tar.gz of the last commit, which builds, tests and installs by itself
 # make install       program, manual pages, completions, documents and examples, under PREFIX (and DESTDIR, for packagers)

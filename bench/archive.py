@@ -122,7 +122,8 @@ def main():
         are_equal = all(table == tables[0] for table in tables)
         text = tables[0].decode("utf-8")
         states = ", ".join(f"{text.count(f',{state},')} {state}" for state in ("code", "none", "failed", "missing"))
-        print(f"{len(tables)} tables of {text.count(chr(10)) - 1} rows ({states}): {'equal' if are_equal else 'THEY DIFFER'}")
+        told = "equal" if are_equal else "THEY DIFFER"
+        print(f"{len(tables)} tables of {text.count(chr(10)) - 1} rows ({states}): {told}")
     return 0 if are_equal else 1
 
 

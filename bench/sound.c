@@ -1,6 +1,7 @@
 /* Sound of linear time code made and read by libltc, another project's encoder and decoder, for sound.sh.
  *
- *     sound make FPS RATE FRAMES [ADDRESS] > SAMPLES 2> ADDRESSES    frames from 01:00:00:00 or the address on, and the address of each, a line each
+ *     sound make FPS RATE FRAMES [ADDRESS] > SAMPLES 2> ADDRESSES
+ *                            frames from 01:00:00:00 or the address on, and the address of each, a line each
  *     sound fall DB < SAMPLES > SAMPLES                    a level that falls evenly by so many decibels, from the first sample to the last
  *     sound read FPS RATE < SAMPLES > ADDRESSES            the addresses that libltc's decoder reads
  *

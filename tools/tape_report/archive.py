@@ -146,7 +146,8 @@ def index(out, rows):
         '<!doctype html>\n<html lang="en"><meta charset="utf-8">\n'
         '<meta name="viewport" content="width=device-width, initial-scale=1">\n'
         f"<title>Tapes</title><style>{STYLE}</style>\n"
-        f'<h1>{told}</h1>\n<div class="wide"><table><thead><tr>{heads}</tr></thead><tbody>\n{lines}\n</tbody></table></div>\n'
+        f'<h1>{told}</h1>\n<div class="wide"><table><thead><tr>{heads}</tr></thead><tbody>\n'
+        f"{lines}\n</tbody></table></div>\n"
     )
 
 

@@ -133,7 +133,10 @@ def advice(level: Level):
         return "far more crossings than code has: hiss, or sound that is no code; try --smooth 3"
     if level.crossings < cells / 4:
         return "far fewer crossings than code has: speech or music, or code played slowly"
-    return "as many crossings as code may have, and music: if it is code, try --threshold, --smooth 3, or a filter (docs/reference/sound.md)"
+    return (
+        "as many crossings as code may have, and music: if it is code, try --threshold, --smooth 3, or a filter"
+        " (docs/reference/sound.md)"
+    )
 
 
 def empty_report(name, sound: Sound, levels: dict[int, Level], notes: list[str]):
@@ -141,5 +144,6 @@ def empty_report(name, sound: Sound, levels: dict[int, Level], notes: list[str])
     lines = [name, *sound_lines(sound), "code          none found"]
     early = " in the first ten minutes" if is_long(sound) else ""
     for track, level in levels.items():
-        lines.append(f"track {track:<7} peak {decibels(level.peak)}, {level.crossings:.0f} crossings a second{early}; {advice(level)}")
+        told = f"peak {decibels(level.peak)}, {level.crossings:.0f} crossings a second{early}"
+        lines.append(f"track {track:<7} {told}; {advice(level)}")
     return "\n".join(lines + [f"note          {note}" for note in notes if note]) + "\n"

@@ -91,7 +91,10 @@ def stamp(sound: Sound, track: int, first: FirstSample, out: str):
 
 
 def picture_of(path):
-    """The frames a second of the picture, by which ffmpeg reads a timecode, and when its first frame is shown. A cover is no picture."""
+    """The frames a second of the picture, by which ffmpeg reads a timecode, and when its first frame is shown.
+
+    A cover is no picture.
+    """
     said = probed(path, "stream=codec_type,avg_frame_rate,start_time:stream_disposition=attached_pic")
     for stream in said.get("streams", []):
         if stream.get("codec_type") == "video" and not stream.get("disposition", {}).get("attached_pic"):
@@ -99,12 +102,13 @@ def picture_of(path):
             if frames and seconds:
                 return Fraction(frames, seconds), float(stream.get("start_time", 0))
     raise NoSound(
-        "it has no picture, and a container keeps its timecode beside one; a WAV file can be stamped: ffmpeg -i FILE FILE.wav"
+        "it has no picture, and a container keeps its timecode beside one;"
+        " a WAV file can be stamped: ffmpeg -i FILE FILE.wav"
     )
 
 
 def label_of_picture(first: FirstSample, sound_begins, path):
-    """The label of the first frame of the picture, in the picture's frames, of which a frame of the code may have two or four."""
+    """The label of the first frame of the picture, in its frames, of which a frame of the code may have two or four."""
     rate, begins = picture_of(path)
     times = round(rate / first.rate)
     if times not in (1, 2, 4) or abs(rate / first.rate - times) > Fraction(times, 500):
