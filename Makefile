@@ -1,5 +1,5 @@
 # make               proves and builds bin/tc
-# make check         the quick checks, in a minute: doors, documents, trail, made pages, and the examples on bin/tc
+# make check         the quick checks, in two minutes: doors, documents, trail, made pages, examples and tapes on bin/tc
 # make gate          the gate (rt ci): proves every crate, tries the must-fail edits, runs tests and program
 # make dist          tc-VERSION.tar.gz of the last commit, which builds, tests and installs by itself
 # make install       program, manual pages, completions, documents and examples, under PREFIX (and DESTDIR, for packagers)
@@ -60,6 +60,7 @@ check:
 	tools/trusted --check
 	@[ -x bin/tc ] || { echo "bin/tc is not built: run make first" >&2; exit 1; }
 	tools/run_examples
+	tools/try_tapes
 
 gate:
 	.ci/run

@@ -1,6 +1,7 @@
 /* Sound of linear time code made and read by libltc, another project's encoder and decoder, for sound.sh.
  *
- *     sound make FPS RATE FRAMES > SAMPLES 2> ADDRESSES    frames from 01:00:00:00 on, and the address of each, a line each
+ *     sound make FPS RATE FRAMES [ADDRESS] > SAMPLES 2> ADDRESSES
+ *                            frames from 01:00:00:00 or the address on, and the address of each, a line each
  *     sound fall DB < SAMPLES > SAMPLES                    a level that falls evenly by so many decibels, from the first sample to the last
  *     sound read FPS RATE < SAMPLES > ADDRESSES            the addresses that libltc's decoder reads
  *
@@ -18,7 +19,7 @@ static void put_sample(int sample) {
     putchar((sample >> 8) & 0xff);
 }
 
-static void make(double fps, double rate, long frames) {
+static void make(double fps, double rate, long frames, const char *address) {
     LTCEncoder *encoder = ltc_encoder_create(1, 1, LTC_TV_625_50, 0);
     ltc_encoder_set_buffersize(encoder, rate, fps);
     ltc_encoder_reinit(encoder, rate, fps, fps == 25 ? LTC_TV_625_50 : LTC_TV_525_60, 0);
@@ -27,7 +28,15 @@ static void make(double fps, double rate, long frames) {
     ltc_encoder_set_user_bits(encoder, 0x2a5f19c3);
     SMPTETimecode start;
     memset(&start, 0, sizeof start);
-    start.hours = 1;
+    unsigned hours, minutes, seconds, frame;
+    if (sscanf(address, "%u:%u:%u:%u", &hours, &minutes, &seconds, &frame) != 4) {
+        fputs("an address is hh:mm:ss:ff\n", stderr);
+        exit(2);
+    }
+    start.hours = (unsigned char)hours;
+    start.mins = (unsigned char)minutes;
+    start.secs = (unsigned char)seconds;
+    start.frame = (unsigned char)frame;
     ltc_encoder_set_timecode(encoder, &start);
     for (long i = 0; i < frames; i++) {
         SMPTETimecode now;
@@ -85,11 +94,12 @@ static void read_addresses(double fps, double rate) {
 }
 
 int main(int argc, char **argv) {
-    if (argc == 5 && !strcmp(argv[1], "make")) make(atof(argv[2]), atof(argv[3]), atol(argv[4]));
+    if ((argc == 5 || argc == 6) && !strcmp(argv[1], "make"))
+        make(atof(argv[2]), atof(argv[3]), atol(argv[4]), argc == 6 ? argv[5] : "01:00:00:00");
     else if (argc == 3 && !strcmp(argv[1], "fall")) fall(atof(argv[2]));
     else if (argc == 4 && !strcmp(argv[1], "read")) read_addresses(atof(argv[2]), atof(argv[3]));
     else {
-        fputs("usage: sound make FPS RATE FRAMES | sound fall DB | sound read FPS RATE\n", stderr);
+        fputs("usage: sound make FPS RATE FRAMES [ADDRESS] | sound fall DB | sound read FPS RATE\n", stderr);
         return 2;
     }
     return 0;

@@ -115,7 +115,10 @@ STYLE = """
   h1 { font-size: 1.25rem; }
   table { border-collapse: collapse; width: 100%; font-size: 13px; font-variant-numeric: tabular-nums; }
   th, td { text-align: left; padding: .2rem .5rem; border-bottom: 1px solid #e6e9ed; vertical-align: top; }
-  td:first-child { white-space: pre-wrap; overflow-wrap: anywhere; }
+  td { white-space: nowrap; }
+  td:first-child, td:nth-child(11) { white-space: pre-wrap; overflow-wrap: anywhere; min-width: 10rem; }
+  td:nth-child(11):empty { min-width: 0; }
+  .wide { overflow-x: auto; }
   .none td { background: #fff8e1; } .failed td { background: #fdecea; } .missing td { background: #eef0f3; }
 """
 
@@ -140,8 +143,11 @@ def index(out, rows):
     heads += "<th>bridged<th>start<th>note<th>"
     lines = "\n".join(index_line(out, row) for row in rows)
     return (
-        f'<!doctype html>\n<html lang="en"><meta charset="utf-8"><title>Tapes</title><style>{STYLE}</style>\n'
-        f"<h1>{told}</h1>\n<table><thead><tr>{heads}</tr></thead><tbody>\n{lines}\n</tbody></table>\n"
+        '<!doctype html>\n<html lang="en"><meta charset="utf-8">\n'
+        '<meta name="viewport" content="width=device-width, initial-scale=1">\n'
+        f"<title>Tapes</title><style>{STYLE}</style>\n"
+        f'<h1>{told}</h1>\n<div class="wide"><table><thead><tr>{heads}</tr></thead><tbody>\n'
+        f"{lines}\n</tbody></table></div>\n"
     )
 
 

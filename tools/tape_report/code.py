@@ -3,6 +3,7 @@ import os
 import shutil
 import subprocess
 import tempfile
+from collections import deque
 from dataclasses import dataclass, field
 
 from .sound import NoSound
@@ -133,9 +134,10 @@ class Reader:
             reader.stdin.close()
         return all([reader.wait() == 0 for reader in self.readers])
 
-    def lines(self, number):
+    def lines(self, number, last=None):
+        """The lines of an output, or so many of the last ones."""
         with open(self.outputs[number], encoding="ascii") as lines:
-            return lines.read().splitlines()
+            return [line.rstrip("\n") for line in (lines if last is None else deque(lines, last))]
 
 
 def intervals_of(tc, sound, track, threshold, smooth):
@@ -176,13 +178,12 @@ def told(reader, track, rate, words_to):
     """What a reader told."""
     spans, ticks = spans_in(reader.lines(0))
     reading = Reading(track, reader.system, rate, spans, ticks=ticks)
-    lines = reader.lines(1)
-    for line in lines[-1:]:
+    for line in reader.lines(1, last=1):
         words = line.split()
         if words[0] == "end":
             reading.intervals, reading.words, reading.refused, reading.lost = (int(words[n]) for n in (2, 4, 6, 8))
     if words_to is not None:
-        words_to[:] = lines
+        words_to[:] = reader.lines(1)
     return reading
 
 

@@ -49,9 +49,17 @@ class FirstSample:
     # The nearest label, and how many samples behind its beginning the first sample lies; before it, where negative.
     label: str
     rest: int
+    # The same in frames, from -1/2 to 1/2.
+    part: Fraction
     # Samples since midnight, at the file's rate.
     reference: int
     rate: Fraction
+
+    def label_at(self, frames, times):
+        """The label so many frames after the first sample, in pictures of which a frame has so many."""
+        pictures = round((self.part + frames) * times)
+        label = label_of(self.count, number_of(self.count, self.label) + pictures // times)
+        return f"{label[:-2]}{int(label[-2:]) * times + pictures % times:02}"
 
 
 def first_sample(choice: Choice, smooth=1):
@@ -70,4 +78,5 @@ def first_sample(choice: Choice, smooth=1):
     rest = round(before * length / FINENESS - begins)
     day = LABELS_A_DAY[count] * reading.rate / rate
     reference = round(number * reading.rate / rate - begins) % round(day)
-    return FirstSample(count, label_of(count, number - before), rest, reference, rate)
+    part = before - begins * FINENESS / length
+    return FirstSample(count, label_of(count, number - before), rest, part, reference, rate)

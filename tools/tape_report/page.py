@@ -3,29 +3,31 @@ import html
 import json
 import os
 
-from .code import FINENESS, Reading
+from .code import Reading
 from .report import seconds_at
 
 # More words than these are thinned out: a page is to open at once.
 MOST_WORDS = 200_000
 
 
-def words_in(lines, rate):
+def words_in(lines, reading: Reading):
     """The words of a report of `tc`, as their time, speed, direction and label; and the times at which the code was lost."""
-    words, lost = [], []
+    words, lost, number = [], [], 0
+    every = -(-reading.words // MOST_WORDS) or 1
     for line in lines:
-        parts = line.split()
-        if parts[0] == "word":
-            seconds = int(parts[10]) / FINENESS / rate
-            words.append([round(seconds, 4), int(parts[14]) / 1000, int(parts[1] == "backward"), parts[2]])
-        elif parts[0] == "lost":
-            lost.append(round(int(parts[-1]) / FINENESS / rate, 4))
-    every = -(-len(words) // MOST_WORDS) or 1
-    return words[::every], lost[:MOST_WORDS]
+        if line.startswith("word "):
+            if number % every == 0:
+                parts = line.split()
+                seconds = round(seconds_at(reading, int(parts[10])), 4)
+                words.append([seconds, int(parts[14]) / 1000, int(parts[1] == "backward"), parts[2]])
+            number += 1
+        elif line.startswith("lost ") and len(lost) < MOST_WORDS:
+            lost.append(round(seconds_at(reading, int(line.split()[-1])), 4))
+    return words, lost
 
 
 def data_of(reading: Reading, lines):
-    words, lost = words_in(lines, reading.rate)
+    words, lost = words_in(lines, reading)
     spans = [
         {
             "direction": span.direction,

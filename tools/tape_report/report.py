@@ -5,7 +5,7 @@ from dataclasses import dataclass
 
 from .code import FINENESS, Choice, Reading
 from .labels import FirstSample, frames_a_second
-from .sound import Level, Sound
+from .sound import LEVEL_SECONDS, Level, Sound
 
 ROW = ["file", "track", "system", "span", "direction", "first", "last", "heard", "bridged", "begins", "ends", "speed", "gap", "relation"]
 
@@ -46,7 +46,8 @@ def clock(seconds):
 
 
 def decibels(peak):
-    return f"{20 * math.log10(peak / 32_768):.1f} dB" if peak else "silence"
+    # To a tenth, and no zero with a sign.
+    return f"{round(20 * math.log10(peak / 32_768), 1) + 0.0} dB" if peak else "silence"
 
 
 def seconds_at(reading: Reading, tick):
@@ -75,7 +76,12 @@ def sound_lines(sound: Sound):
     return [f"sound         {sound.kind}, {first.rate} samples a second, {tracks}, {length}"]
 
 
-def code_lines(choice: Choice, level: Level):
+def is_long(sound: Sound):
+    """The level is that of the first minutes alone."""
+    return sound.seconds is None or sound.seconds > LEVEL_SECONDS
+
+
+def code_lines(choice: Choice, level: Level, sound: Sound):
     mine = choice.reading
     frame = frames_a_second(mine.spans[0], mine.system, mine.rate)
     form = ", drop-frame" if mine.spans[0].is_drop else ""
@@ -85,7 +91,7 @@ def code_lines(choice: Choice, level: Level):
     others = sorted({(other.track, max(it.heard for it in choice.others if it.track == other.track)) for other in choice.others})
     if len(others) > 1:
         yield "tracks        " + ", ".join(f"{track}: {heard} frames heard" for track, heard in others)
-    yield f"peak          {decibels(level.peak)}"
+    yield f"peak          {decibels(level.peak)}" + (" in the first ten minutes" if is_long(sound) else "")
     yield f"heard         {mine.heard} frames, {mine.bridged} bridged; {mine.refused} words refused, {mine.lost} times lost"
     yield f"breaks        drop-outs {found.dropouts}, jumps {found.jumps}, turns {found.turns}, changes of count {found.counts}"
 
@@ -110,12 +116,12 @@ def first_line(first: FirstSample | None):
 
 def found_report(name, sound: Sound, choice: Choice, first: FirstSample | None, level: Level):
     """The report of a tape with code."""
-    lines = [name, *sound_lines(sound), *code_lines(choice, level), first_line(first), "spans"]
+    lines = [name, *sound_lines(sound), *code_lines(choice, level, sound), first_line(first), "spans"]
     lines += span_lines(choice.reading)
     return "\n".join(lines + ([f"note          {choice.note}"] if choice.note else [])) + "\n"
 
 
-def advice(level: Level, sound: Sound):
+def advice(level: Level):
     """What to try where nothing is heard."""
     if level.is_silent:
         return "silence: is it the right file, or the right track?"
@@ -127,12 +133,17 @@ def advice(level: Level, sound: Sound):
         return "far more crossings than code has: hiss, or sound that is no code; try --smooth 3"
     if level.crossings < cells / 4:
         return "far fewer crossings than code has: speech or music, or code played slowly"
-    return "as many crossings as code may have: try --threshold higher or lower, --smooth 3, or a filter (docs/reference/sound.md)"
+    return (
+        "as many crossings as code may have, and music: if it is code, try --threshold, --smooth 3, or a filter"
+        " (docs/reference/sound.md)"
+    )
 
 
 def empty_report(name, sound: Sound, levels: dict[int, Level], notes: list[str]):
     """The report of a tape without code: what it sounds like."""
     lines = [name, *sound_lines(sound), "code          none found"]
+    early = " in the first ten minutes" if is_long(sound) else ""
     for track, level in levels.items():
-        lines.append(f"track {track:<7} peak {decibels(level.peak)}, {level.crossings:.0f} crossings a second; {advice(level, sound)}")
+        told = f"peak {decibels(level.peak)}, {level.crossings:.0f} crossings a second{early}"
+        lines.append(f"track {track:<7} {told}; {advice(level)}")
     return "\n".join(lines + [f"note          {note}" for note in notes if note]) + "\n"

@@ -36,6 +36,8 @@ class Stream:
     rate: int
     # The number of the sound in a file that ffmpeg decodes; None where `tc` reads the file itself.
     number: int | None = None
+    # When its first sample is played, in seconds of the file's clock.
+    begins: float = 0.0
 
 
 @dataclass
@@ -111,22 +113,29 @@ def sound_file(path):
     return Sound(path, kind, [Stream(max(1, tracks), rate)], seconds, chunks, bits)
 
 
-def decoded_file(path):
-    """Any other file that has a sound, as ffmpeg sees it."""
-    if not shutil.which("ffprobe") or not shutil.which("ffmpeg"):
-        raise NoSound("it is no WAV file, and ffmpeg, which reads others, is not installed")
+def probed(path, entries):
+    """What ffprobe says of a file."""
     asked = subprocess.run(
-        ["ffprobe", "-v", "error", "-show_entries", "stream=codec_type,channels,sample_rate:format=duration,format_name"]
-        + ["-of", "json", path],
+        ["ffprobe", "-v", "error", "-show_entries", entries, "-of", "json", path],
         stdout=subprocess.PIPE,
         stderr=subprocess.DEVNULL,
         check=False,
     )
-    said = json.loads(asked.stdout or b"{}")
+    return json.loads(asked.stdout or b"{}")
+
+
+def decoded_file(path):
+    """Any other file that has a sound, as ffmpeg sees it."""
+    if not shutil.which("ffprobe") or not shutil.which("ffmpeg"):
+        raise NoSound("it is no WAV file, and ffmpeg, which reads others, is not installed")
+    said = probed(path, "stream=codec_type,channels,sample_rate,start_time:format=duration,format_name")
     sounds = [stream for stream in said.get("streams", []) if stream.get("codec_type") == "audio"]
     if not sounds:
         raise NoSound("it has no sound that ffmpeg can read")
-    streams = [Stream(it["channels"], int(it["sample_rate"]), number) for number, it in enumerate(sounds)]
+    streams = [
+        Stream(it["channels"], int(it["sample_rate"]), number, float(it.get("start_time", 0)))
+        for number, it in enumerate(sounds)
+    ]
     form = said["format"]
     seconds = float(form["duration"]) if "duration" in form else None
     return Sound(path, form["format_name"].split(",")[0], streams, seconds)
@@ -177,7 +186,32 @@ def words_of(data, bits, tracks, track):
     return words
 
 
-def level_of(sound, track, seconds=600):
+# Of the upper byte of a sample: 1 below zero.
+SIGNS = bytes(128) + b"\1" * 128
+
+
+def crossings_in(words):
+    """How often neighbouring samples lie on different sides of zero."""
+    upper = words.tobytes()[1 if sys.byteorder == "little" else 0 :: 2]
+    signs = upper.translate(SIGNS)
+    return signs.count(b"\0\1") + signs.count(b"\1\0")
+
+
+def skip_to_samples(file):
+    """Reads a decoder's WAV file up to its first sample. Before it may stand chunks that say who wrote the file."""
+    file.read(12)
+    while len(head := file.read(8)) == 8:
+        name, size = struct.unpack("<4sI", head)
+        if name == b"data":
+            return
+        file.read(size + size % 2)
+
+
+# The level is that of so many seconds.
+LEVEL_SECONDS = 600
+
+
+def level_of(sound, track, seconds=LEVEL_SECONDS):
     """The level of a track, of its first minutes."""
     stream, number = sound.place_of(track)
     file, decoder = sound.open(stream)
@@ -190,15 +224,14 @@ def level_of(sound, track, seconds=600):
                 return Level(0, 0.0)
             file.seek(data.place)
         else:
-            file.read(44)
+            skip_to_samples(file)
         want = stream.rate * seconds
         while count < want:
             words = words_of(file.read(bits // 8 * stream.tracks * 65_536), bits, stream.tracks, number)
             if not words:
                 break
             peak = max(peak, max(words), -min(words))
-            signs = bytes(word < 0 for word in words)
-            crossings += signs.count(b"\0\1") + signs.count(b"\1\0")
+            crossings += crossings_in(words)
             count += len(words)
     if decoder:
         decoder.kill()

@@ -3,14 +3,18 @@ import os
 import shutil
 import struct
 import subprocess
+from fractions import Fraction
 
 from .labels import FirstSample
-from .sound import NO_SIZE, NoSound, Sound
+from .sound import NO_SIZE, NoSound, Sound, probed
 
 # Where the reference stands in `bext` (EBU Tech 3285): behind description, originator, its reference, date and time.
 REFERENCE_AT = 256 + 32 + 32 + 10 + 8
 BEXT_SIZE = 602
 PIECE = 1 << 20
+
+# Endings of files that have a timecode beside their picture, and what ffmpeg calls them.
+CONTAINERS = {".mov": "mov", ".mp4": "mp4", ".m4v": "mp4", ".mxf": "mxf"}
 
 
 def bext_of(reference):
@@ -64,30 +68,69 @@ def lengthen(head, sound: Sound, more):
         struct.pack_into("<I", head, 4, size + more)
 
 
-def stamp(sound: Sound, first: FirstSample, out: str):
+def stamp(sound: Sound, track: int, first: FirstSample, out: str):
     """Writes the copy under another name first, so that a copy that stands is whole. No file is changed in place."""
     if os.path.exists(out) and os.path.samefile(sound.path, out):
         raise NoSound("the copy would be the file itself")
     half = out + ".part"
+    form = CONTAINERS.get(os.path.splitext(out)[1].lower())
     try:
         if sound.streams[0].number is None:
+            if form is not None:
+                raise NoSound("the copy of a sound file is a sound file: give it a name that ends in .wav")
             with open(half, "wb") as target:
                 stamp_sound(sound, first.reference, target)
         else:
-            stamp_container(sound, first.label, half, out)
+            if form is None:
+                raise NoSound("the copy of a video file is to end in .mov, .mp4 or .mxf")
+            stamp_container(sound, sound.place_of(track)[0].begins, first, half, form)
         os.replace(half, out)
     finally:
         if os.path.exists(half):
             os.remove(half)
 
 
-def stamp_container(sound: Sound, label: str, half: str, out: str):
-    """MOV, MP4, MXF and what else takes a timecode, by ffmpeg."""
-    form = {"mov": "mov", "mp4": "mp4", "m4v": "mp4", "mxf": "mxf"}.get(out.rpartition(".")[2].lower())
-    if form is None:
-        raise NoSound("the copy of a video file is to end in .mov, .mp4 or .mxf")
+def picture_of(path):
+    """The frames a second of the picture, by which ffmpeg reads a timecode, and when its first frame is shown.
+
+    A cover is no picture.
+    """
+    said = probed(path, "stream=codec_type,avg_frame_rate,start_time:stream_disposition=attached_pic")
+    for stream in said.get("streams", []):
+        if stream.get("codec_type") == "video" and not stream.get("disposition", {}).get("attached_pic"):
+            frames, seconds = map(int, stream["avg_frame_rate"].split("/"))
+            if frames and seconds:
+                return Fraction(frames, seconds), float(stream.get("start_time", 0))
+    raise NoSound(
+        "it has no picture, and a container keeps its timecode beside one;"
+        " a WAV file can be stamped: ffmpeg -i FILE FILE.wav"
+    )
+
+
+def label_of_picture(first: FirstSample, sound_begins, path):
+    """The label of the first frame of the picture, in its frames, of which a frame of the code may have two or four."""
+    rate, begins = picture_of(path)
+    times = round(rate / first.rate)
+    if times not in (1, 2, 4) or abs(rate / first.rate - times) > Fraction(times, 500):
+        code, picture = (f"{float(each):.2f}".rstrip("0").rstrip(".") for each in (first.rate, rate))
+        raise NoSound(f"the code has {code} frames a second and the picture {picture}: its labels do not fit")
+    return first.label_at(Fraction(begins - sound_begins) * first.rate, times)
+
+
+def timecode_in(path):
+    """The timecode of a container, as ffprobe sees it, or none."""
+    said = probed(path, "stream_tags=timecode:format_tags=timecode")
+    for part in (said.get("format", {}), *said.get("streams", [])):
+        if "timecode" in part.get("tags", {}):
+            return part["tags"]["timecode"]
+    return None
+
+
+def stamp_container(sound: Sound, sound_begins: float, first: FirstSample, half: str, form: str):
+    """MOV, MP4 and MXF, by ffmpeg, whose copy is asked whether it has the timecode."""
     if not shutil.which("ffmpeg"):
         raise NoSound("ffmpeg is not installed")
+    label = label_of_picture(first, sound_begins, sound.path)
     ran = subprocess.run(
         ["ffmpeg", "-v", "error", "-nostdin", "-y", "-i", sound.path, "-map", "0", "-map", "-0:d", "-c", "copy"]
         + ["-timecode", label, "-f", form, half],
@@ -96,3 +139,6 @@ def stamp_container(sound: Sound, label: str, half: str, out: str):
     )
     if ran.returncode != 0:
         raise NoSound("ffmpeg: " + ran.stderr.decode("utf-8", "replace").strip())
+    told = timecode_in(half)
+    if told is None or told.replace(";", ":") != label.replace(";", ":"):
+        raise NoSound(f"ffmpeg wrote {told or 'no timecode'} into the copy, and not {label}")
