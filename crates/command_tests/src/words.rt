@@ -5,7 +5,7 @@ use std::alloc::{AllocError, Global};
 use std::process::Abort;
 use std::test::Fail;
 use tc_address::text;
-use tc_files::FileVersion;
+use interval_file::FileVersion;
 use tc_words::{
     Amplitude, ChaseRun, Flight, Jam, Job, LineStripe, Slicing, Task, WaveSlicing, WordsFault,
     read_words,

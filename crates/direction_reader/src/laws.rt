@@ -9,7 +9,7 @@ ghost use Rattle.direction_reader.specs.declared.boundaries.TheConstants.{BOUNDA
 ghost use Rattle.direction_reader.specs.declared.event.Event.{Event};
 ghost use Rattle.direction_reader.specs.declared.event.Event.TheVariants.{Word, Refused, Lost};
 ghost use Rattle.direction_reader.specs.declared.event.Events.{Events};
-ghost use Rattle.direction_reader.specs.declared.reader.TheConstants.{MAX_INTERVALS};
+ghost use Rattle.biphase.specs.declared.cell.TheConstants.{MAX_INTERVALS};
 ghost use Rattle.direction_reader.specs.declared.window.TheConstants.{WINDOW_BITS};
 ghost use Rattle.direction_reader.specs.Brings.{greatest_cell};
 ghost use Rattle.direction_reader.specs.Candidate.{AreEventsOf};

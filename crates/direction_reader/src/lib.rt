@@ -43,5 +43,5 @@ mod window;
 pub use brought::Brought;
 pub use candidates::window_events;
 pub use event::{Event, Events};
-pub use reader::{DirectionReader, MAX_INTERVALS};
+pub use reader::DirectionReader;
 pub use window::{Filling, FromFilling, Full};

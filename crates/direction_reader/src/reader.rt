@@ -1,6 +1,6 @@
 //! From intervals to events, one interval at a time. Next: `tracker`.
 ghost use Rattle.std.specs.Prelude.{◌≡◌, ℕ, ◌<◌, ◌≤◌, ◌+◌, ◌*◌, List, [], ◌∷◌, ◌++◌, reverse};
-ghost use Rattle.biphase.specs.declared.cell.TheConstants.{MAX_INTERVAL};
+ghost use Rattle.biphase.specs.declared.cell.TheConstants.{MAX_INTERVAL, MAX_INTERVALS};
 ghost use Rattle.direction_reader.specs.Brings.{Brings};
 ghost use Rattle.direction_reader.specs.declared.event.Event.{Event};
 ghost use Rattle.direction_reader.specs.declared.event.Events.{Events};
@@ -24,9 +24,6 @@ use crate::tracker::Tracker;
 use biphase::{MAX_INTERVAL, Profile};
 use std::marker::Model;
 use tc_address::System;
-
-/// The most intervals that a reader takes.
-pub const MAX_INTERVALS: u64 = 1_000_000_000;
 
 /// Reads the words of a recording, in either direction, one interval at a time.
 #[derive(Drop)]

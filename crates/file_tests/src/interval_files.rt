@@ -1,10 +1,9 @@
 //! Lines as they are printed, and files with one fault each.
 use direction_reader::Event;
+use interval_file::{FileVersion, IntervalDecoder, IntervalFileFault, IntervalHeader, Taken};
+use report_text::{event_text, read_end_text};
 use tc_address::{Direction, System};
 use tc_bits::FieldFault;
-use tc_files::{
-    FileFault, FileVersion, IntervalDecoder, IntervalHeader, Taken, event_text, read_end_text,
-};
 
 /// A header at 25 frames and 48,000 ticks a second, and two intervals.
 const TWO_INTERVALS: [u8; 20] = [
@@ -43,7 +42,7 @@ fn lines_as_they_are_printed(rt: HostRuntime) {
 }
 
 /// The first fault that a decoder finds. It takes no more bytes than a test has.
-fn first_fault(bytes: &[u8]) -> Option<FileFault> {
+fn first_fault(bytes: &[u8]) -> Option<IntervalFileFault> {
     let mut decoder = IntervalDecoder::new();
     for byte in bytes {
         if decoder.taken() >= 1000 {
@@ -59,15 +58,15 @@ fn first_fault(bytes: &[u8]) -> Option<FileFault> {
 #[test]
 fn the_first_fault_of_a_file_with_one_wrong_byte(rt: HostRuntime) {
     for (place, wrong, fault) in [
-        (0, 0x4d, FileFault::Magic(0)),
-        (3, 0x4a, FileFault::Magic(3)),
-        (4, 3, FileFault::Version(4)),
-        (5, 26, FileFault::System(5)),
-        (6, 1, FileFault::Reserved(6)),
-        (7, 1, FileFault::Reserved(7)),
-        (8, 6, FileFault::TickRate(8)),
-        (12, 1, FileFault::Interval(12)),
-        (19, 0, FileFault::Interval(16)),
+        (0, 0x4d, IntervalFileFault::Magic(0)),
+        (3, 0x4a, IntervalFileFault::Magic(3)),
+        (4, 3, IntervalFileFault::Version(4)),
+        (5, 26, IntervalFileFault::System(5)),
+        (6, 1, IntervalFileFault::Reserved(6)),
+        (7, 1, IntervalFileFault::Reserved(7)),
+        (8, 6, IntervalFileFault::TickRate(8)),
+        (12, 1, IntervalFileFault::Interval(12)),
+        (19, 0, IntervalFileFault::Interval(16)),
     ] {
         let mut bytes = TWO_INTERVALS;
         bytes[place] = wrong;

@@ -1,7 +1,8 @@
 //! Lines as they are printed, and a file taken in pieces.
-use line_file::{LineDecoder, LineHeader, Taken, field_end_text, field_text, line_header};
+use line_file::{
+    LineDecoder, LineFileFault, LineHeader, Taken, field_end_text, field_text, line_header,
+};
 use tc_address::System;
-use tc_files::FileFault;
 use vitc_line::LineFault;
 use vitc_reader::{FieldAnswer, ReadFault, RunFault};
 
@@ -50,12 +51,12 @@ fn a_header_and_a_field_in_pieces(rt: HostRuntime) {
         b"VITL\x01\x1e\x00\x00\x00\x00\x01\xcc".as_slice()
     );
     let mut decoder = LineDecoder::new();
-    assert_eq!(rt; decoder.finish(), Err(FileFault::Truncated(0)));
+    assert_eq!(rt; decoder.finish(), Err(LineFileFault::Truncated(0)));
     assert_eq!(rt; decoder.take(&bytes), Taken::Nothing(12));
     assert_eq!(rt; decoder.finish(), Ok(()));
     assert_eq!(rt; decoder.take(b"\x01\x01"), Taken::Nothing(2));
-    assert_eq!(rt; decoder.finish(), Err(FileFault::Truncated(14)));
-    assert_eq!(rt; decoder.take(b"\x00\x00"), Taken::Fault(FileFault::Run(14)));
+    assert_eq!(rt; decoder.finish(), Err(LineFileFault::Truncated(14)));
+    assert_eq!(rt; decoder.take(b"\x00\x00"), Taken::Fault(LineFileFault::Run(14)));
     let answer = FieldAnswer::Nothing(ReadFault::Line(LineFault::SyncPair(1)));
     assert_eq!(rt;
         decoder.take(b"\x00\x04\x00"),

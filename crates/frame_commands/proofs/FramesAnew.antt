@@ -6,8 +6,8 @@ use Rattle.biphase.specs.Chain.{flat}
 use Rattle.byteorder.specs.Endian.{big_bytes}
 use Rattle.flywheel.specs.declared.frame.Frame.{Frame}
 use Rattle.ltc_jam.specs.Cells.{clean_cells, intervals_of_frame, intervals_of_lead}
-use Rattle.tc_files.specs.declared.interval_file.header.IntervalHeader.{IntervalHeader}
-use Rattle.tc_files.specs.IntervalHeader.{header_bytes}
+use Rattle.interval_file.specs.declared.header.IntervalHeader.{IntervalHeader}
+use Rattle.interval_file.specs.IntervalHeader.{header_bytes}
 use Rattle.tc_words.specs.Jam.{Jamming}
 use Rattle.frame_commands.specs.LtcJam.{clean_file, clean_header}
 use Rattle.made_commands.specs.Made.{interval_bytes}

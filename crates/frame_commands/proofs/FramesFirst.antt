@@ -21,8 +21,8 @@ use Rattle.flywheel.specs.Frames.{frames}
 use Rattle.quarter_frame.specs.Runs.{mtc_of}
 use Rattle.tc_address.specs.declared.count.Count.{Count}
 use Rattle.tc_address.specs.declared.system.System.{System}
-use Rattle.tc_files.specs.FrameTexts.{frame_line}
-use Rattle.tc_files.specs.declared.interval_file.header.IntervalHeader.{IntervalHeader}
+use Rattle.report_text.specs.FrameTexts.{frame_line}
+use Rattle.interval_file.specs.declared.header.IntervalHeader.{IntervalHeader}
 use Rattle.tc_words.specs.ChaseRun.{Chasing}
 use Rattle.tc_words.specs.Jam.{Jamming}
 use Rattle.frame_commands.specs.LtcChase.{lines_of_steps, steps_over}

@@ -15,7 +15,7 @@ use Rattle.flywheel.specs.Frames.{frames}
 use Rattle.flywheel.specs.StandsFor as flies
 use Rattle.flywheel.specs.Wheel.{Wheel, IsPast}
 use Rattle.std.proofs.KnownBytes.{Appends-nil, Appends-trans}
-use Rattle.tc_files.specs.declared.interval_file.header.IntervalHeader.{IntervalHeader}
+use Rattle.interval_file.specs.declared.header.IntervalHeader.{IntervalHeader}
 use Rattle.frame_commands.specs.declared.flight.FrameReader.{FrameReader}
 use Rattle.frame_commands.specs.KeptFlight.{counted, Comes, Counts, GivesAll, GivesDue, GivesDueAll, GivesDueAllFirst, GivesFirst, Sends, SendsFront}
 use Rattle.frame_commands.specs.LtcFly.{is_end, is_heard, is_invented}

@@ -2,7 +2,7 @@
 use Rattle.std.proofs.Common.{◌≡◌, ℕ, List, [], ◌∷◌, ◌++◌, sym, ◌∙◌, ap, append-nil}
 use Rattle.std.proofs.lemmas.Grind.{flat_map-append}
 use Rattle.flywheel.specs.declared.frame.Frame.{Frame}
-use Rattle.tc_files.specs.FrameTexts.{frame_line, fly_end_line}
+use Rattle.report_text.specs.FrameTexts.{frame_line, fly_end_line}
 use Rattle.frame_commands.specs.declared.flight.FrameReader.{FrameReader}
 use Rattle.frame_commands.specs.KeptFlight.{CountsAll}
 use Rattle.frame_commands.specs.LtcFly.{frame_lines, last_fly_line}

@@ -9,8 +9,8 @@ use Rattle.tape_spans.specs.Spans.{frames_of_spans, spans}
 use Rattle.tape_spans.specs.SpanTexts.{final_behind, final_lines, last_spans_line, open_line}
 use Rattle.tape_spans.specs.StandsFor.{StandsFor, cut_lines}
 use Rattle.tape_spans.specs.Tape.{FitsTick, Tape}
-use Rattle.tc_files.specs.declared.interval_file.header.IntervalHeader.{IntervalHeader}
-use Rattle.tc_files.specs.FrameTexts.{FitsFrameLine}
+use Rattle.interval_file.specs.declared.header.IntervalHeader.{IntervalHeader}
+use Rattle.report_text.specs.FrameTexts.{FitsFrameLine}
 use Rattle.frame_commands.specs.declared.flight.FrameReader.{FrameReader}
 use Rattle.frame_commands.specs.KeptFlight.{CountsAll}
 use Rattle.frame_commands.specs.KeptSpans.{HasTold}

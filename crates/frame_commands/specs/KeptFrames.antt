@@ -1,7 +1,7 @@
 -- What a sink of frames brings, so that a command along frames is a command as any other. No promise speaks of it.
 use Rattle.std.specs.Prelude.{◌≡◌, ℕ, List, ◌++◌}
 use Rattle.flywheel.specs.declared.frame.Frame.{Frame}
-use Rattle.tc_files.specs.declared.interval_file.header.IntervalHeader.{IntervalHeader}
+use Rattle.interval_file.specs.declared.header.IntervalHeader.{IntervalHeader}
 use Rattle.frame_commands.specs.OfFrames.{AreTooMany, FrameText}
 
 -- a text of frames begins with that of the first of them

@@ -4,7 +4,7 @@ use Rattle.flywheel.specs.declared.frame.Frame.{Frame}
 use Rattle.tape_spans.specs.StandsFor.{StandsFor}
 use Rattle.tape_spans.specs.Tape.{Tape}
 use Rattle.tc_address.specs.declared.system.System.{System}
-use Rattle.tc_files.specs.declared.interval_file.header.IntervalHeader.{IntervalHeader}
+use Rattle.interval_file.specs.declared.header.IntervalHeader.{IntervalHeader}
 
 -- a tape that was given these frames of a recording with this header
 pub record HasTold (tape : Tape) (tick_rate : ℕ) (system : System) (header : IntervalHeader) (frames : List Frame) : Type 0 where

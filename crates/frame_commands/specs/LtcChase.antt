@@ -11,8 +11,8 @@ use Rattle.code_chase.specs.Lock.{AreWhole, BringsNoCode, HasCauseOfLoss}
 use Rattle.direction_reader.specs.declared.event.Event.{Event}
 use Rattle.direction_reader.specs.ListEvents.{AreEvents}
 use Rattle.flywheel.specs.declared.frame.Frame.{Frame}
-use Rattle.tc_files.specs.declared.interval_file.header.IntervalHeader.{IntervalHeader}
-use Rattle.tc_files.specs.Recording.{Recording, recording_of}
+use Rattle.interval_file.specs.declared.header.IntervalHeader.{IntervalHeader}
+use Rattle.interval_file.specs.Recording.{Recording, recording_of}
 use Rattle.tc_words.specs.ChaseRun.{Chasing}
 use Rattle.frame_commands.specs.declared.ltc_chase.TheConstants.{MAX_FRAMES}
 use Rattle.interval_commands.specs.Along.{IsSpentOf, IsWholeOf, Printing}

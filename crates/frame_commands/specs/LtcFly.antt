@@ -6,9 +6,9 @@ use Rattle.direction_reader.specs.ListEvents.{AreEvents}
 use Rattle.flywheel.specs.declared.frame.Frame.{Frame}
 use Rattle.flywheel.specs.declared.frame.Frame.TheVariants.{Heard, Invented, Gone}
 use Rattle.flywheel.specs.Marked.{AreMarked, word_of, words_in}
-use Rattle.tc_files.specs.FrameTexts.{frame_line, fly_end_line}
-use Rattle.tc_files.specs.declared.interval_file.header.IntervalHeader.{IntervalHeader}
-use Rattle.tc_files.specs.Recording.{recording_of}
+use Rattle.report_text.specs.FrameTexts.{frame_line, fly_end_line}
+use Rattle.interval_file.specs.declared.header.IntervalHeader.{IntervalHeader}
+use Rattle.interval_file.specs.Recording.{recording_of}
 use Rattle.tc_words.specs.declared.flight.Flight.{Flight}
 use Rattle.interval_commands.specs.Along.{Printing}
 use Rattle.frame_commands.specs.OfFrames.{FrameText, along_frames, frames_of, words_heard}

@@ -3,9 +3,9 @@ use Rattle.std.specs.Prelude.{ℕ, List, [], None}
 use Rattle.biphase.specs.Chain.{flat}
 use Rattle.flywheel.specs.declared.frame.Frame.{Frame}
 use Rattle.ltc_jam.specs.Cells.{clean_cells}
-use Rattle.tc_files.specs.declared.interval_file.header.FileVersion.TheVariants.{One}
-use Rattle.tc_files.specs.declared.interval_file.header.IntervalHeader.{IntervalHeader}
-use Rattle.tc_files.specs.Grammar.{file_of}
+use Rattle.interval_file.specs.declared.header.FileVersion.TheVariants.{One}
+use Rattle.interval_file.specs.declared.header.IntervalHeader.{IntervalHeader}
+use Rattle.interval_file.specs.Grammar.{file_of}
 use Rattle.tc_words.specs.Jam.{Jamming}
 use Rattle.interval_commands.specs.Along.{Printing}
 use Rattle.frame_commands.specs.OfFrames.{FrameText, along_frames}

@@ -7,7 +7,7 @@ use Rattle.direction_reader.specs.ListEvents.{AreEvents}
 use Rattle.flywheel.specs.declared.frame.Frame.{Frame}
 use Rattle.flywheel.specs.declared.heard.HeardWord.{HeardWord}
 use Rattle.flywheel.specs.Frames.{frames}
-use Rattle.tc_files.specs.declared.interval_file.header.IntervalHeader.{IntervalHeader}
+use Rattle.interval_file.specs.declared.header.IntervalHeader.{IntervalHeader}
 use Rattle.tc_words.specs.declared.flight.Flight.{Flight}
 use Rattle.interval_commands.specs.Along.{Printing}
 

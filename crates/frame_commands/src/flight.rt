@@ -3,8 +3,7 @@
 //! the frames `frame_sink`.
 ghost use Rattle.std.specs.Prelude.{◌≡◌, ◌≤◌, ◌<◌, ◌+◌, ◌-◌, ◌*◌, ◌^◌, List, ◌∷◌, ◌++◌, [], ℕ, false, OnOk, OnErr, IfOk, IfErr, IfSome};
 ghost use Rattle.std.specs.Io.KnownBytes.{Appends};
-ghost use Rattle.biphase.specs.declared.cell.TheConstants.{MAX_INTERVAL};
-ghost use Rattle.direction_reader.specs.declared.reader.TheConstants.{MAX_INTERVALS};
+ghost use Rattle.biphase.specs.declared.cell.TheConstants.{MAX_INTERVAL, MAX_INTERVALS};
 ghost use Rattle.direction_reader.specs.declared.event.Event.{Event};
 ghost use Rattle.direction_reader.specs.declared.event.Events.{Events};
 ghost use Rattle.direction_reader.specs.Brings.{IsLatest, Brings};
@@ -13,7 +12,7 @@ ghost use Rattle.direction_reader.specs.StandsFor.{MayTell, Tells};
 ghost use Rattle.flywheel.specs.declared.frame.Frame.{Frame};
 ghost use Rattle.flywheel.specs.declared.heard.HeardWord.{HeardWord};
 ghost use Rattle.flywheel.specs.Wheel.{frames_left, has_frame_due, IsInRange};
-ghost use Rattle.tc_files.specs.FrameTexts.{fly_end_line, FitsFrameLine};
+ghost use Rattle.report_text.specs.FrameTexts.{fly_end_line, FitsFrameLine};
 ghost use Rattle.tc_io.specs.Sink.{AppendsFront};
 ghost use Rattle.tc_command.specs.Causes.{HasOutCause};
 ghost use Rattle.frame_commands.specs.OfFrames.{words_heard};
@@ -38,17 +37,18 @@ ghost use Rattle.frame_commands.specs.KeptFlight.{
 };
 
 use crate::frame_sink::FrameSink;
-use biphase::MAX_INTERVAL;
+use biphase::{MAX_INTERVAL, MAX_INTERVALS};
 use direction_reader::laws::{
     a_list_has_one_list_of_events, a_reader_gives_the_events_of_its_list,
 };
-use direction_reader::{Brought, DirectionReader, Event, Events, MAX_INTERVALS};
+use direction_reader::{Brought, DirectionReader, Event, Events};
 use flywheel::laws::frames_come_in_order;
 use flywheel::{Flywheel, Frame, HeardWord};
 use interval_commands::Behind;
+use interval_file::IntervalHeader;
 use line_text::Text;
+use report_text::fly_end_text;
 use tc_command::Stop;
-use tc_files::{IntervalHeader, fly_end_text};
 use tc_io::Sink;
 use tc_words::Flight;
 

@@ -3,8 +3,8 @@
 ghost use Rattle.std.specs.Prelude.{◌≡◌, ℕ, true, false, List, [], ◌∷◌, ◌++◌, ◌+◌, ◌-◌, ◌<◌, ◌≤◌, ◌^◌, OnOk, OnErr, IfOk, IfErr};
 ghost use Rattle.std.specs.Io.KnownBytes.{Appends};
 ghost use Rattle.flywheel.specs.declared.frame.Frame.{Frame};
-ghost use Rattle.tc_files.specs.declared.interval_file.header.IntervalHeader.{IntervalHeader};
-ghost use Rattle.tc_files.specs.FrameTexts.{FitsFrameLine};
+ghost use Rattle.interval_file.specs.declared.header.IntervalHeader.{IntervalHeader};
+ghost use Rattle.report_text.specs.FrameTexts.{FitsFrameLine};
 ghost use Rattle.tc_words.specs.declared.flight.Flight.{Flight};
 ghost use Rattle.tc_io.specs.Sink.{AppendsFront};
 ghost use Rattle.tc_command.specs.Causes.{HasOutCause};
@@ -14,7 +14,7 @@ ghost use Rattle.frame_commands.specs.OfFrames.{AreTooMany, FrameText};
 use crate::flight::FrameReader;
 use flywheel::Frame;
 use tc_command::Stop;
-use tc_files::IntervalHeader;
+use interval_file::IntervalHeader;
 use tc_io::Sink;
 use tc_words::Flight;
 

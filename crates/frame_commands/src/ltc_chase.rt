@@ -21,7 +21,7 @@ use line_text::Text;
 use std::marker::Model;
 use tc_address::Count;
 use tc_command::{Stop, push_line};
-use tc_files::IntervalHeader;
+use interval_file::IntervalHeader;
 use tc_io::{Sink, Source};
 use tc_words::{ChaseRun, Flight};
 

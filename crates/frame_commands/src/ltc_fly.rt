@@ -1,4 +1,4 @@
-//! What `ltc-fly` makes of frames: a line of each. Next: `tc_files/src/texts/frame.rt`.
+//! What `ltc-fly` makes of frames: a line of each. Next: `report_text/src/frame.rt`.
 ghost use Rattle.std.specs.Prelude.{OnOk, IfErr};
 ghost use Rattle.tc_command.specs.Causes.{HasOutCause, HasSourceCause};
 ghost use Rattle.tc_command.specs.Ends.{SeesOneEnd};
@@ -10,8 +10,9 @@ use crate::flight::{FlightTo, FrameReader};
 use crate::frame_sink::FrameSink;
 use flywheel::Frame;
 use interval_commands::work_along;
+use interval_file::IntervalHeader;
+use report_text::frame_text;
 use tc_command::{Stop, push_line};
-use tc_files::{IntervalHeader, frame_text};
 use tc_io::{Sink, Source};
 use tc_words::Flight;
 

@@ -12,7 +12,7 @@ use flywheel::Frame;
 use interval_commands::work_along;
 use quarter_frame::QuarterWriter;
 use tc_command::{Stop, push_piece};
-use tc_files::IntervalHeader;
+use interval_file::IntervalHeader;
 use tc_io::{Sink, Source};
 use tc_words::Flight;
 

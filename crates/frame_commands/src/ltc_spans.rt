@@ -19,7 +19,7 @@ use tape_spans::laws::final_lines_come_first;
 use tape_spans::{Cut, Gap, Span, SpanText, TapeSpans, gap_text, span_text};
 use tc_address::System;
 use tc_command::{Stop, push_line, push_piece};
-use tc_files::IntervalHeader;
+use interval_file::IntervalHeader;
 use tc_io::{Sink, Source};
 use tc_words::Flight;
 

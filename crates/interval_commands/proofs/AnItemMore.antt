@@ -9,23 +9,24 @@ use Rattle.std.specs.Io.KnownBytes.{Appends}
 use Rattle.std.proofs.KnownBytes.{Appends-nil, Appends-trans}
 use Rattle.std.proofs.lemmas.Bool.{lt-ltb, le-ltb}
 use Rattle.tc_io.specs.Sink.{AppendsFront, IsFront}
-use Rattle.direction_reader.specs.declared.reader.TheConstants.{MAX_INTERVALS}
-use Rattle.tc_files.specs.declared.fault.FileFault.{FileFault}
-use Rattle.tc_files.specs.declared.interval_file.decoder.Taken.{Taken}
-use Rattle.tc_files.specs.declared.interval_file.decoder.Taken.TheVariants.{Nothing, Header, Interval, Fault}
-use Rattle.tc_files.specs.declared.interval_file.header.IntervalHeader.{IntervalHeader}
-use Rattle.tc_files.specs.declared.interval_file.header.FileVersion.{FileVersion}
-use Rattle.tc_files.specs.declared.interval_file.header.FileVersion.TheVariants.{One, Two}
-use Rattle.tc_files.specs.IntervalFile.{after, answer}
-use Rattle.tc_files.specs.Piece.{AreWhole}
-use Rattle.tc_files.specs.Progress.{Progress}
-use Rattle.tc_files.specs.Decoding.{Decoding, IsBetween, ReadsWhatIsSaid, decoded, decoding_of, with_byte, with_item}
-use Rattle.tc_files.specs.Decoding.{with_number, with_taken}
-use Rattle.tc_files.specs.Recording.{Recording, recording_of}
-use Rattle.tc_files.specs.Verdict.{Verdict, good, refused, past_limit}
+use Rattle.biphase.specs.declared.cell.TheConstants.{MAX_INTERVALS}
+use Rattle.interval_file.specs.declared.fault.IntervalFileFault.{IntervalFileFault}
+use Rattle.interval_file.specs.declared.decoder.Taken.{Taken}
+use Rattle.interval_file.specs.declared.decoder.Taken.TheVariants.{Nothing, Header, Interval, Fault}
+use Rattle.interval_file.specs.declared.header.IntervalHeader.{IntervalHeader}
+use Rattle.interval_file.specs.declared.header.FileVersion.{FileVersion}
+use Rattle.interval_file.specs.declared.header.FileVersion.TheVariants.{One, Two}
+use Rattle.interval_file.specs.IntervalFile.{after, answer}
+use Rattle.interval_file.specs.Piece.{AreWhole}
+use Rattle.interval_file.specs.Progress.{Progress}
+use Rattle.interval_file.specs.Decoding.{Decoding, IsBetween, ReadsWhatIsSaid, decoded, decoding_of, with_byte, with_item}
+use Rattle.interval_file.specs.Decoding.{with_number, with_taken}
+use Rattle.interval_file.specs.Recording.{Recording, recording_of}
+use Rattle.interval_file.specs.Verdict.{Verdict, good, refused, past_limit}
+use Rattle.tc_command.specs.declared.input_fault.InputFault.TheVariants.{Intervals}
 use Rattle.tc_command.specs.declared.stop.Stop.{Stop}
 use Rattle.tc_command.specs.declared.stop.Stop.TheVariants.{Refused, ReadFault, WriteFault, Limit}
-use Rattle.interval_commands.specs.Along.{Printing, IsPartOf, IsSpentOf, along_intervals}
+use Rattle.interval_commands.specs.Along.{Printing, IsPartOf, IsSpentOf, along_intervals, verdict_of}
 use Rattle.tc_command.specs.Causes.{OutCause}
 use Rattle.interval_commands.specs.KeptAlong.{HasHeader, IntervalStops, Printed, Stands, longer, stop_at, Halts, IsHalt}
 use Rattle.tc_command.specs.Status.{status_of}
@@ -120,7 +121,7 @@ and_rest : (front bytes rest : List ℕ) → recording_of ((front ++ bytes) ++ r
     → recording_of (front ++ (bytes ++ rest)) ≡ recording_of (front ++ bytes)
 and_rest front bytes rest same = ap recording_of (sym (append_assoc front bytes rest)) ∙ same
 
-ends_refused : ReadsWhatIsSaid → (front bytes rest : List ℕ) (f : FileFault) (r : Recording)
+ends_refused : ReadsWhatIsSaid → (front bytes rest : List ℕ) (f : IntervalFileFault) (r : Recording)
     → recording_of (front ++ bytes) ≡ verdict_now r (refused f)
     → recording_of (front ++ (bytes ++ rest)) ≡ verdict_now r (refused f)
 ends_refused said front bytes rest f r e =
@@ -155,23 +156,23 @@ a_limit said p stands decoder next behind count choice x front bytes rest writte
     let past : with_item r (Interval x) ≡ verdict_now r past_limit =
     rw (le-ltb (length r.intervals) MAX_INTERVALS (let counts = s.counts in omega arith)) refl in
     let now = ends_past said front bytes rest r (completed front bytes (Interval x) next is s.good ∙ past) in
-    inl (ap (λ (t : Recording). t.verdict) now, printed_now stands behind choice r _ past_limit written s.printed now)
+    inl (ap (λ (t : Recording). verdict_of t.verdict) now, printed_now stands behind choice r _ past_limit written s.printed now)
 
 -- a fault
 at_fault : ReadsWhatIsSaid → {B C : Type 0} (p : Printing) (stands : Relation B C)
-    → (behind : Option B) (choice : C) (f : FileFault) (front bytes rest written : List ℕ) (below : Bool)
+    → (behind : Option B) (choice : C) (f : IntervalFileFault) (front bytes rest written : List ℕ) (below : Bool)
     → Printed stands behind choice (recording_of front) written
     → recording_of (front ++ bytes) ≡ verdict_now (recording_of front) (if below then refused f else past_limit)
-    → IsHalt p stands behind choice (if below then Refused f else Limit) (front ++ (bytes ++ rest)) (written ++ [])
+    → IsHalt p stands behind choice (if below then Refused (Intervals f) else Limit) (front ++ (bytes ++ rest)) (written ++ [])
 at_fault said p stands behind choice f front bytes rest written true printed e =
     let now = ends_refused said front bytes rest f (recording_of front) e in
-    (ap (λ (t : Recording). t.verdict) now, printed_now stands behind choice (recording_of front) _ (refused f) written printed now)
+    (ap (λ (t : Recording). verdict_of t.verdict) now, printed_now stands behind choice (recording_of front) _ (refused f) written printed now)
 at_fault said p stands behind choice f front bytes rest written false printed e =
     let now = ends_past said front bytes rest (recording_of front) e in
-    inl (ap (λ (t : Recording). t.verdict) now, printed_now stands behind choice (recording_of front) _ past_limit written printed now)
+    inl (ap (λ (t : Recording). verdict_of t.verdict) now, printed_now stands behind choice (recording_of front) _ past_limit written printed now)
 
 pub a_fault : ReadsWhatIsSaid → {B C : Type 0} (p : Printing) (stands : Relation B C)
-    → (decoder next : Progress) (behind : Option B) (count : ℕ) (choice : C) (f : FileFault) (front bytes rest written : List ℕ)
+    → (decoder next : Progress) (behind : Option B) (count : ℕ) (choice : C) (f : IntervalFileFault) (front bytes rest written : List ℕ)
     → Stands stands decoder behind count choice front written → Completes front bytes (Fault f) next
     → IsHalt p stands behind choice (stop_at count f) (front ++ (bytes ++ rest)) (written ++ [])
 a_fault said p stands decoder next behind count choice f front bytes rest written s is =
@@ -390,7 +391,7 @@ by_number said decoder front bytes width x same is =
       recording = with_taken (decoded front) (Interval x);
     }) (sym same))
 
-pub by_bad_number : ReadsWhatIsSaid → (decoder : Progress) (front bytes : List ℕ) (width : ℕ) (f : FileFault)
+pub by_bad_number : ReadsWhatIsSaid → (decoder : Progress) (front bytes : List ℕ) (width : ℕ) (f : IntervalFileFault)
     → decoder ≡ (decoding_of front).progress
     → fold with_byte (decoding_of front) bytes ≡ with_number (decoding_of front) width (Err f)
     → Completes front bytes (Fault f) (record decoder { taken = decoder.taken + width; fault = Some f })

@@ -1,11 +1,11 @@
 -- A file grows by the spelling of each interval, whether it was pushed or is gathered.
 use Rattle.std.proofs.Common.{◌≡◌, ℕ, List, [], ◌∷◌, ◌++◌, sym, ◌∙◌, ap, append_assoc, append-nil}
 use Rattle.std.proofs.lemmas.Grind.{flat_map-append}
-use Rattle.tc_files.specs.declared.interval_file.header.FileVersion.{FileVersion}
-use Rattle.tc_files.specs.declared.interval_file.header.IntervalHeader.{IntervalHeader}
-use Rattle.tc_files.specs.Grammar.{file_of, intervals_bytes}
-use Rattle.tc_files.specs.IntervalHeader.{header_bytes}
-use Rattle.tc_files.specs.Piece.{spelling}
+use Rattle.interval_file.specs.declared.header.FileVersion.{FileVersion}
+use Rattle.interval_file.specs.declared.header.IntervalHeader.{IntervalHeader}
+use Rattle.interval_file.specs.Grammar.{file_of, intervals_bytes}
+use Rattle.interval_file.specs.IntervalHeader.{header_bytes}
+use Rattle.interval_file.specs.Piece.{spelling}
 use Rattle.interval_commands.specs.declared.ltc_convert.Conversion.{Conversion}
 use Rattle.interval_commands.specs.KeptConversion.{Stands}
 use Rattle.interval_commands.specs.LtcConvert.{in_version, IsConverted}

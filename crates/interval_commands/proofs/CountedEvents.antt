@@ -5,10 +5,9 @@ use Rattle.std.specs.declared.option.Option.{Option}
 use Rattle.direction_reader.specs.declared.event.Event.{Event}
 use Rattle.direction_reader.specs.declared.event.Event.TheVariants.{Word, Refused, Lost}
 use Rattle.direction_reader.specs.declared.event.Events.{Events}
-use Rattle.biphase.specs.declared.cell.TheConstants.{MAX_INTERVAL}
-use Rattle.direction_reader.specs.declared.reader.TheConstants.{MAX_INTERVALS}
+use Rattle.biphase.specs.declared.cell.TheConstants.{MAX_INTERVAL, MAX_INTERVALS}
 use Rattle.direction_reader.specs.Brings.{IsLatest, Brings}
-use Rattle.tc_files.specs.Texts.{FitsLine}
+use Rattle.report_text.specs.Texts.{FitsLine}
 use Rattle.interval_commands.specs.declared.ltc_read.Report.{Report}
 use Rattle.direction_reader.specs.Events.{is_word, is_refused, is_lost}
 use Rattle.interval_commands.specs.KeptReport.{counted, all_counted, FitLines}

@@ -11,8 +11,8 @@ use Rattle.direction_reader.specs.ListEvents.{AreEvents}
 use Rattle.direction_reader.specs.Reader.{Reading, Takes}
 use Rattle.direction_reader.specs.StandsFor.{StandsFor}
 use Rattle.direction_reader.specs.Tracker.{profile_of}
-use Rattle.tc_files.specs.declared.interval_file.header.IntervalHeader.{IntervalHeader}
-use Rattle.tc_files.specs.Texts.{event_line, read_end_line}
+use Rattle.interval_file.specs.declared.header.IntervalHeader.{IntervalHeader}
+use Rattle.report_text.specs.Texts.{event_line, read_end_line}
 use Rattle.interval_commands.specs.declared.ltc_read.Report.{Report}
 use Rattle.interval_commands.specs.KeptReport.{Feeds, Prints, Stands}
 use Rattle.direction_reader.specs.Events.{event_list, is_word, is_refused, is_lost}

@@ -7,12 +7,12 @@ use Rattle.direction_reader.specs.ListEvents.{AreEvents}
 use Rattle.pcm_front.specs.Samples.{bytes_of}
 use Rattle.pcm_front.specs.Sound.{sound}
 use Rattle.tc_address.specs.declared.system.System.{System}
-use Rattle.tc_files.specs.declared.interval_file.header.FileVersion.{FileVersion}
-use Rattle.tc_files.specs.declared.interval_file.header.IntervalHeader.{IntervalHeader}
-use Rattle.tc_files.specs.Grammar.{file_of, intervals_bytes}
-use Rattle.tc_files.specs.IntervalHeader.{header_bytes}
-use Rattle.tc_files.specs.Piece.{spelling}
-use Rattle.tc_files.specs.Texts.{event_line}
+use Rattle.interval_file.specs.declared.header.FileVersion.{FileVersion}
+use Rattle.interval_file.specs.declared.header.IntervalHeader.{IntervalHeader}
+use Rattle.interval_file.specs.Grammar.{file_of, intervals_bytes}
+use Rattle.interval_file.specs.IntervalHeader.{header_bytes}
+use Rattle.interval_file.specs.Piece.{spelling}
+use Rattle.report_text.specs.Texts.{event_line}
 use Rattle.tc_io.specs.Sink.{IsFront}
 use Rattle.tc_command.specs.KeptFirst.{front_of_more}
 use Rattle.interval_commands.specs.KeptCommand.{PrintsInOrder}

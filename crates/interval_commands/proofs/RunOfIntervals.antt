@@ -5,12 +5,13 @@ use Rattle.std.proofs.lemmas.Grind.{common_steps}
 use Rattle.std.proofs.lemmas.List.{take-take}
 use Rattle.std.specs.declared.option.Option.{Option}
 use Rattle.tc_io.specs.Sink.{AppendsFront}
-use Rattle.direction_reader.specs.declared.reader.TheConstants.{MAX_INTERVALS}
-use Rattle.tc_files.specs.declared.fault.FileFault.{FileFault}
-use Rattle.tc_files.specs.declared.interval_file.decoder.Taken.TheVariants.{Fault}
-use Rattle.tc_files.specs.declared.interval_file.header.IntervalHeader.{IntervalHeader}
-use Rattle.tc_files.specs.Decoding.{ReadsWhatIsSaid}
-use Rattle.tc_files.specs.Progress.{Progress}
+use Rattle.biphase.specs.declared.cell.TheConstants.{MAX_INTERVALS}
+use Rattle.interval_file.specs.declared.fault.IntervalFileFault.{IntervalFileFault}
+use Rattle.interval_file.specs.declared.decoder.Taken.TheVariants.{Fault}
+use Rattle.interval_file.specs.declared.header.IntervalHeader.{IntervalHeader}
+use Rattle.interval_file.specs.Decoding.{ReadsWhatIsSaid}
+use Rattle.interval_file.specs.Progress.{Progress}
+use Rattle.tc_command.specs.declared.input_fault.InputFault.TheVariants.{Intervals}
 use Rattle.tc_command.specs.declared.stop.Stop.{Stop}
 use Rattle.tc_command.specs.declared.stop.Stop.TheVariants.{Refused, WriteFault}
 use Rattle.interval_commands.specs.Along.{Printing, IsPartBehind}
@@ -42,11 +43,11 @@ cut_through k n m bytes within less =
 
 -- within the limit an interval out of range is refused
 pub a_refusal : ReadsWhatIsSaid → {B C : Type 0} (p : Printing) (stands : Relation B C)
-    → (decoder next : Progress) (behind : Option B) (count : ℕ) (choice : C) (f : FileFault) (front bytes rest written : List ℕ)
+    → (decoder next : Progress) (behind : Option B) (count : ℕ) (choice : C) (f : IntervalFileFault) (front bytes rest written : List ℕ)
     → count < MAX_INTERVALS → Stands stands decoder behind count choice front written → Completes front bytes (Fault f) next
-    → IsHalt p stands behind choice (Refused f) (front ++ (bytes ++ rest)) (written ++ [])
+    → IsHalt p stands behind choice (Refused (Intervals f)) (front ++ (bytes ++ rest)) (written ++ [])
 a_refusal said p stands decoder next behind count choice f front bytes rest written below s is =
-    let refused : stop_at count f ≡ Refused f = rw (lt-ltb count MAX_INTERVALS below) refl in
+    let refused : stop_at count f ≡ Refused (Intervals f) = rw (lt-ltb count MAX_INTERVALS below) refl in
     subst (λ (stop : Stop). IsHalt p stands behind choice stop (front ++ (bytes ++ rest)) (written ++ [])) refused
     (a_fault said p stands decoder next behind count choice f front bytes rest written s is)
 

@@ -5,16 +5,16 @@ use Rattle.std.proofs.Common.{append-nil, append_assoc}
 use Rattle.std.specs.Prelude.{nat_lt, if◌then◌else◌}
 use Rattle.std.specs.declared.option.Option.{Option}
 use Rattle.std.proofs.lemmas.List.Sums.{fold-append}
-use Rattle.tc_files.specs.declared.fault.FileFault.{FileFault}
-use Rattle.direction_reader.specs.declared.reader.TheConstants.{MAX_INTERVALS}
-use Rattle.tc_files.specs.declared.interval_file.decoder.Taken.{Taken}
-use Rattle.tc_files.specs.declared.interval_file.decoder.Taken.TheVariants.{Nothing, Header, Interval, Fault}
-use Rattle.tc_files.specs.declared.interval_file.header.IntervalHeader.{IntervalHeader}
-use Rattle.tc_files.specs.IntervalFile.{answer}
-use Rattle.tc_files.specs.Decoding.{Decoding, ReadsWhatIsSaid, decoded, decoding_of, no_decoding, with_byte}
-use Rattle.tc_files.specs.Decoding.{with_header, with_item, with_taken}
-use Rattle.tc_files.specs.Recording.{Recording, recording_of}
-use Rattle.tc_files.specs.Verdict.{Verdict, good, refused, past_limit}
+use Rattle.interval_file.specs.declared.fault.IntervalFileFault.{IntervalFileFault}
+use Rattle.biphase.specs.declared.cell.TheConstants.{MAX_INTERVALS}
+use Rattle.interval_file.specs.declared.decoder.Taken.{Taken}
+use Rattle.interval_file.specs.declared.decoder.Taken.TheVariants.{Nothing, Header, Interval, Fault}
+use Rattle.interval_file.specs.declared.header.IntervalHeader.{IntervalHeader}
+use Rattle.interval_file.specs.IntervalFile.{answer}
+use Rattle.interval_file.specs.Decoding.{Decoding, ReadsWhatIsSaid, decoded, decoding_of, no_decoding, with_byte}
+use Rattle.interval_file.specs.Decoding.{with_header, with_item, with_taken}
+use Rattle.interval_file.specs.Recording.{Recording, recording_of}
+use Rattle.interval_file.specs.Verdict.{Verdict, good, refused, past_limit}
 use Rattle.interval_commands.specs.KeptCommand.{Grows, RecordingsGrow}
 
 pub more_bytes : (front more : List ℕ) → decoding_of (front ++ more) ≡ fold with_byte (decoding_of front) more
@@ -29,7 +29,7 @@ at_good r item past_limit e = absurd cc
 pub good_step : (r : Recording) (item : Taken) → r.verdict ≡ good → with_taken r item ≡ with_item r item
 good_step r item e = at_good r item r.verdict e
 
-at_refused : (r : Recording) (item : Taken) (f : FileFault) (v : Verdict) → v ≡ refused f
+at_refused : (r : Recording) (item : Taken) (f : IntervalFileFault) (v : Verdict) → v ≡ refused f
     → elim v [ good ↦ with_item r item | refused f ↦ r | past_limit ↦ r ] ≡ r
 at_refused r item f good e = absurd cc
 at_refused r item f (refused g) e = refl
@@ -40,7 +40,7 @@ at_past r item good e = absurd cc
 at_past r item (refused g) e = absurd cc
 at_past r item past_limit e = refl
 
-refused_stays : (d : Decoding) (f : FileFault) (more : List ℕ) → d.recording.verdict ≡ refused f
+refused_stays : (d : Decoding) (f : IntervalFileFault) (more : List ℕ) → d.recording.verdict ≡ refused f
     → (fold with_byte d more).recording ≡ d.recording
 refused_stays d f [] e = refl
 refused_stays d f (x ∷ more) e =
@@ -104,7 +104,7 @@ as_decoded : ReadsWhatIsSaid → (front more : List ℕ) → decoded (front ++ m
     → recording_of (front ++ more) ≡ recording_of front
 as_decoded said front more same = sym (said.recording (front ++ more)) ∙ same ∙ said.recording front
 
-pub refused_is_all : ReadsWhatIsSaid → (front more : List ℕ) (f : FileFault) → (recording_of front).verdict ≡ refused f
+pub refused_is_all : ReadsWhatIsSaid → (front more : List ℕ) (f : IntervalFileFault) → (recording_of front).verdict ≡ refused f
     → recording_of (front ++ more) ≡ recording_of front
 refused_is_all said front more f e =
     as_decoded said front more (ap (λ (d : Decoding). d.recording) (more_bytes front more)

@@ -1,9 +1,13 @@
 -- A command that reads an interval file: what it writes is a matter of the header and the intervals. The grammar and the limit are those
 -- of the file, for all of them.
 use Rattle.std.specs.Prelude.{◌≡◌, ℕ, true, List, [], Option, Some, None}
-use Rattle.tc_files.specs.declared.interval_file.header.IntervalHeader.{IntervalHeader}
-use Rattle.tc_files.specs.Recording.{Recording, recording_of, end_fault_of}
+use Rattle.std.specs.Option.{option_map}
+use Rattle.interval_file.specs.declared.header.IntervalHeader.{IntervalHeader}
+use Rattle.interval_file.specs.Recording.{Recording, recording_of, end_fault_of}
+use Rattle.interval_file.specs.Verdict as file
+use Rattle.tc_command.specs.declared.input_fault.InputFault.TheVariants.{Intervals}
 use Rattle.tc_command.specs.Meaning.{Meaning}
+use Rattle.tc_command.specs.Verdict.{Verdict, good, refused, past_limit}
 
 pub record Printing : Type 1 where
   -- the header and these intervals pass a limit of the command's own
@@ -37,11 +41,17 @@ IsSpentBehind p (Some header) intervals = p.spent header intervals
 abbrev pub IsSpentOf : Printing → Recording → Type 0
 IsSpentOf p r = IsSpentBehind p r.header r.intervals
 
+-- the fault of a command is that of its file
+abbrev pub verdict_of : file.Verdict → Verdict
+verdict_of file.good = good
+verdict_of (file.refused fault) = refused (Intervals fault)
+verdict_of file.past_limit = past_limit
+
 abbrev pub along_intervals : Printing → Meaning
 along_intervals p = record {
   reads = true;
-  verdict = λ bytes. (recording_of bytes).verdict;
-  end_fault = end_fault_of;
+  verdict = λ bytes. verdict_of (recording_of bytes).verdict;
+  end_fault = λ bytes. option_map Intervals (end_fault_of bytes);
   spent = λ bytes. IsSpentOf p (recording_of bytes);
   part = λ bytes written. IsPartOf p (recording_of bytes) written;
   output = λ bytes written. IsWholeOf p (recording_of bytes) written;

@@ -3,17 +3,19 @@ use Rattle.std.specs.Prelude.{◌≡◌, ◌⊎◌, ℕ, ◌<◌, ◌≤◌, Lis
 use Rattle.std.proofs.Common.{subst, sym}
 use Rattle.std.specs.Io.KnownBytes.{Appends}
 use Rattle.tc_io.specs.Sink.{AppendsFront, IsFront}
-use Rattle.direction_reader.specs.declared.reader.TheConstants.{MAX_INTERVALS}
-use Rattle.tc_files.specs.declared.fault.FileFault.{FileFault}
-use Rattle.tc_files.specs.declared.interval_file.header.IntervalHeader.{IntervalHeader}
-use Rattle.tc_files.specs.declared.interval_file.header.TheConstants.{HEADER_LENGTH}
-use Rattle.tc_files.specs.Progress.{Progress}
-use Rattle.tc_files.specs.Decoding.{decoding_of, FitsBytes}
-use Rattle.tc_files.specs.Recording.{Recording, recording_of}
-use Rattle.tc_files.specs.Verdict.{good, refused, past_limit}
+use Rattle.biphase.specs.declared.cell.TheConstants.{MAX_INTERVALS}
+use Rattle.interval_file.specs.declared.fault.IntervalFileFault.{IntervalFileFault}
+use Rattle.interval_file.specs.declared.header.IntervalHeader.{IntervalHeader}
+use Rattle.interval_file.specs.declared.header.TheConstants.{HEADER_LENGTH}
+use Rattle.interval_file.specs.Progress.{Progress}
+use Rattle.interval_file.specs.Decoding.{decoding_of, FitsBytes}
+use Rattle.interval_file.specs.Recording.{Recording, recording_of}
+use Rattle.interval_file.specs.Verdict as file
+use Rattle.tc_command.specs.declared.input_fault.InputFault.TheVariants.{Intervals}
+use Rattle.tc_command.specs.Verdict.{refused, past_limit}
 use Rattle.tc_command.specs.declared.stop.Stop.{Stop}
 use Rattle.tc_command.specs.declared.stop.Stop.TheVariants.{Refused, ReadFault, WriteFault, Limit}
-use Rattle.interval_commands.specs.Along.{Printing, IsPartBehind, IsPartOf, IsSpentOf, along_intervals}
+use Rattle.interval_commands.specs.Along.{Printing, IsPartBehind, IsPartOf, IsSpentOf, along_intervals, verdict_of}
 use Rattle.tc_command.specs.Stops.{IsStop}
 
 -- the header is whole with its last byte
@@ -43,7 +45,7 @@ Printed stands (Some behind) choice r written = (header : IntervalHeader) × (r.
 pub record Stands {B C : Type 0} (stands : B → C → IntervalHeader → List ℕ → List ℕ → Type 0)
     (decoder : Progress) (behind : Option B) (count : ℕ) (choice : C) (bytes written : List ℕ) : Type 0 where
   pub progress : decoder ≡ (decoding_of bytes).progress
-  pub good : (recording_of bytes).verdict ≡ good
+  pub good : (recording_of bytes).verdict ≡ file.good
   pub counts : count ≡ length (recording_of bytes).intervals
   pub printed : Printed stands behind choice (recording_of bytes) written
 
@@ -82,9 +84,9 @@ IsSpentHalt p stands behind choice pulled written = (front : List ℕ) × IsFron
 abbrev pub IsHalt : {B C : Type 0} → Printing → (B → C → IntervalHeader → List ℕ → List ℕ → Type 0) → Option B → C
     → Stop → List ℕ → List ℕ → Type 0
 IsHalt p stands behind choice (Refused fault) pulled written =
-    ((recording_of pulled).verdict ≡ refused fault) × Printed stands behind choice (recording_of pulled) written
+    (verdict_of (recording_of pulled).verdict ≡ refused fault) × Printed stands behind choice (recording_of pulled) written
 IsHalt p stands behind choice Limit pulled written =
-    (((recording_of pulled).verdict ≡ past_limit) × Printed stands behind choice (recording_of pulled) written)
+    ((verdict_of (recording_of pulled).verdict ≡ past_limit) × Printed stands behind choice (recording_of pulled) written)
     ⊎ IsSpentHalt p stands behind choice pulled written
 IsHalt p stands behind choice WriteFault pulled written = IsStop (along_intervals p) WriteFault pulled written
 IsHalt p stands behind choice ReadFault pulled written = ⊥
@@ -100,8 +102,8 @@ abbrev pub HaltsOn : (List ℕ → List ℕ → Type 0) → (List ℕ → List �
 HaltsOn stands halts bytes = (front written : List ℕ) → stands front written → halts (front ++ bytes) written
 
 -- why a fault of the file stops the job: an interval past the limit is not looked at
-abbrev pub stop_at : ℕ → FileFault → Stop
-stop_at count fault = if nat_lt count MAX_INTERVALS then Refused fault else Limit
+abbrev pub stop_at : ℕ → IntervalFileFault → Stop
+stop_at count fault = if nat_lt count MAX_INTERVALS then Refused (Intervals fault) else Limit
 
 -- what was written is a part of the output, where nothing is gathered
 pub printed_well : {B C : Type 0} (printing : C → Printing) (stands : B → C → IntervalHeader → List ℕ → List ℕ → Type 0) (settled : B → Type 0)

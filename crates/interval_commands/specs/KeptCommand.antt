@@ -1,13 +1,14 @@
 -- A command along an interval file is a command as any other, where it prints in order. No promise speaks of it.
 use Rattle.std.proofs.Common.{◌≡◌, ℕ, List, ◌++◌, Option, Some, None, refl, sym, ◌∙◌, ap, subst}
 use Rattle.std.proofs.lemmas.Bool.{false≢true}
-use Rattle.tc_files.specs.declared.fault.FileFault.{FileFault}
-use Rattle.tc_files.specs.declared.interval_file.header.IntervalHeader.{IntervalHeader}
-use Rattle.tc_files.specs.Recording.{Recording, recording_of}
-use Rattle.tc_files.specs.Verdict.{refused, past_limit}
+use Rattle.interval_file.specs.declared.fault.IntervalFileFault.{IntervalFileFault}
+use Rattle.interval_file.specs.declared.header.IntervalHeader.{IntervalHeader}
+use Rattle.interval_file.specs.Recording.{Recording, recording_of}
+use Rattle.interval_file.specs.Verdict.{refused, past_limit}
 use Rattle.tc_io.specs.Sink.{IsFront}
 use Rattle.tc_command.specs.Command.{IsCommand}
-use Rattle.interval_commands.specs.Along.{IsPartBehind, IsPartOf, IsSpentBehind, IsSpentOf, IsWholeBehind, IsWholeOf, Printing, along_intervals}
+use Rattle.interval_commands.specs.Along.{IsPartBehind, IsPartOf, IsSpentBehind, IsSpentOf, IsWholeBehind, IsWholeOf, Printing, along_intervals, verdict_of}
+use Rattle.interval_commands.specs.KeptVerdict.{is_past, is_refused}
 
 -- ---- a recording grows
 
@@ -19,7 +20,7 @@ Grows before now = (header : IntervalHeader) → before.header ≡ Some header
 -- what bytes say of a recording grows with more bytes, and stays as it is behind a fault and behind the limit
 pub record RecordingsGrow : Type 0 where
   pub grows : (front more : List ℕ) → Grows (recording_of front) (recording_of (front ++ more))
-  pub refused : (front more : List ℕ) (f : FileFault) → (recording_of front).verdict ≡ refused f → recording_of (front ++ more) ≡ recording_of front
+  pub refused : (front more : List ℕ) (f : IntervalFileFault) → (recording_of front).verdict ≡ refused f → recording_of (front ++ more) ≡ recording_of front
   pub past : (front more : List ℕ) → (recording_of front).verdict ≡ past_limit → recording_of (front ++ more) ≡ recording_of front
 
 -- ---- what a command along intervals brings
@@ -94,10 +95,16 @@ along_is_command r p prints = record {
   };
   one_part = λ bytes a b one all. one_part p prints (recording_of bytes).header (recording_of bytes).intervals a b one all;
   one_output = λ input a b one all. one_whole p prints (recording_of input).header (recording_of input).intervals a b one all;
-  fault = λ front rest f e. ap (λ (s : Recording). s.verdict) (r.refused front rest f e) ∙ e;
-  limit = λ front rest e. ap (λ (s : Recording). s.verdict) (r.past front rest e) ∙ e;
-  fault_unspent = λ front rest f e spent. subst (λ (s : Recording). IsSpentOf p s) (r.refused front rest f e) spent;
-  limit_unspent = λ front rest e spent. subst (λ (s : Recording). IsSpentOf p s) (r.past front rest e) spent;
+  fault = λ front rest f e.
+      let file = is_refused (recording_of front).verdict f e in
+      ap (λ (s : Recording). verdict_of s.verdict) (r.refused front rest file.0 file.1) ∙ e;
+  limit = λ front rest e.
+      ap (λ (s : Recording). verdict_of s.verdict) (r.past front rest (is_past (recording_of front).verdict e)) ∙ e;
+  fault_unspent = λ front rest f e spent.
+      let file = is_refused (recording_of front).verdict f e in
+      subst (λ (s : Recording). IsSpentOf p s) (r.refused front rest file.0 file.1) spent;
+  limit_unspent = λ front rest e spent.
+      subst (λ (s : Recording). IsSpentOf p s) (r.past front rest (is_past (recording_of front).verdict e)) spent;
   ends = λ bytes f e. refl;
   idle = λ e all. absurd (false≢true (sym e));
   idle_part = λ e bytes a b one all. absurd (false≢true (sym e));

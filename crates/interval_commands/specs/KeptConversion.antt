@@ -1,9 +1,9 @@
 -- What the engine of `ltc-convert` keeps. No promise speaks of it.
 use Rattle.std.specs.Prelude.{◌≡◌, ℕ, List, [], ◌++◌}
 use Rattle.std.proofs.Common.{◌∙◌, sym, ap, append-nil}
-use Rattle.tc_files.specs.declared.interval_file.header.FileVersion.{FileVersion}
-use Rattle.tc_files.specs.declared.interval_file.header.IntervalHeader.{IntervalHeader}
-use Rattle.tc_files.specs.Grammar.{file_of}
+use Rattle.interval_file.specs.declared.header.FileVersion.{FileVersion}
+use Rattle.interval_file.specs.declared.header.IntervalHeader.{IntervalHeader}
+use Rattle.interval_file.specs.Grammar.{file_of}
 use Rattle.interval_commands.specs.declared.ltc_convert.Conversion.{Conversion}
 use Rattle.interval_commands.specs.LtcConvert.{in_version, IsConverted}
 

@@ -9,10 +9,10 @@ use Rattle.direction_reader.specs.declared.event.Events.{Events}
 use Rattle.direction_reader.specs.ListEvents.{AreEvents}
 use Rattle.direction_reader.specs.StandsFor.{StandsFor}
 use Rattle.direction_reader.specs.Tracker.{profile_of}
-use Rattle.direction_reader.specs.declared.reader.TheConstants.{MAX_INTERVALS}
-use Rattle.tc_files.specs.declared.interval_file.header.IntervalHeader.{IntervalHeader}
-use Rattle.tc_files.specs.IntervalHeader.{IsTickRate}
-use Rattle.tc_files.specs.Texts.{FitsLine}
+use Rattle.biphase.specs.declared.cell.TheConstants.{MAX_INTERVALS}
+use Rattle.interval_file.specs.declared.header.IntervalHeader.{IntervalHeader}
+use Rattle.interval_file.specs.IntervalHeader.{IsTickRate}
+use Rattle.report_text.specs.Texts.{FitsLine}
 use Rattle.interval_commands.specs.declared.ltc_read.Report.{Report}
 use Rattle.direction_reader.specs.Events.{event_list, is_word, is_refused, is_lost}
 use Rattle.interval_commands.specs.LtcRead.{lines, IsReadPart}

@@ -6,7 +6,7 @@ use Rattle.pcm_front.specs.declared.side.Side.TheVariants.{High, Low}
 use Rattle.pcm_front.specs.Samples.{bytes_of}
 use Rattle.pcm_front.specs.Side.{other_side, upward}
 use Rattle.pcm_front.specs.Sound.{sound}
-use Rattle.tc_files.specs.declared.interval_file.header.IntervalHeader.{IntervalHeader}
+use Rattle.interval_file.specs.declared.header.IntervalHeader.{IntervalHeader}
 use Rattle.interval_commands.specs.declared.ltc_pcm.MadeSound.{MadeSound}
 use Rattle.interval_commands.specs.Along.{Printing}
 use Rattle.interval_commands.specs.LtcPcm.{but_the_last, made_sound}

@@ -1,8 +1,8 @@
 -- `ltc-convert`: a recording in another version of the interval file, or in the same.
 use Rattle.std.specs.Prelude.{◌≡◌, ℕ, List}
-use Rattle.tc_files.specs.declared.interval_file.header.FileVersion.{FileVersion}
-use Rattle.tc_files.specs.declared.interval_file.header.IntervalHeader.{IntervalHeader}
-use Rattle.tc_files.specs.Grammar.{IsFile, file_of}
+use Rattle.interval_file.specs.declared.header.FileVersion.{FileVersion}
+use Rattle.interval_file.specs.declared.header.IntervalHeader.{IntervalHeader}
+use Rattle.interval_file.specs.Grammar.{IsFile, file_of}
 use Rattle.interval_commands.specs.Along.{Printing}
 
 -- the header in this version: the system and the tick rate stay

@@ -5,8 +5,8 @@ use Rattle.biphase.specs.declared.profile.Profile.{Profile}
 use Rattle.direction_reader.specs.declared.event.Event.{Event}
 use Rattle.direction_reader.specs.Events.{is_word, is_refused, is_lost}
 use Rattle.direction_reader.specs.ListEvents.{AreEvents}
-use Rattle.tc_files.specs.declared.interval_file.header.IntervalHeader.{IntervalHeader}
-use Rattle.tc_files.specs.Texts.{event_line, read_end_line}
+use Rattle.interval_file.specs.declared.header.IntervalHeader.{IntervalHeader}
+use Rattle.report_text.specs.Texts.{event_line, read_end_line}
 use Rattle.interval_commands.specs.Along.{Printing}
 
 -- the lines of events, one after another

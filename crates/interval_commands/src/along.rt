@@ -1,14 +1,13 @@
 //! The way along an interval file, the same for each command that reads one. Next:
-//! `tc_files/src/interval_file/piece.rt`, and then `ltc_read`, `ltc_convert` or `ltc_pcm`.
+//! `interval_file/src/piece.rt`, and then `ltc_read`, `ltc_convert` or `ltc_pcm`.
 ghost use Rattle.std.specs.Prelude.{◌≡◌, ℕ, true, false, ◌+◌, ◌-◌, ◌%◌, ◌<◌, ◌≤◌, List, [], ◌∷◌, ◌++◌, length, take, drop, OnOk, IfOk, IfErr, IsSome, Err};
 ghost use Rattle.std.specs.declared.option.Option.{Option};
 ghost use Rattle.std.specs.Io.KnownBytes.{Appends};
-ghost use Rattle.biphase.specs.declared.cell.TheConstants.{MAX_INTERVAL};
-ghost use Rattle.direction_reader.specs.declared.reader.TheConstants.{MAX_INTERVALS};
-ghost use Rattle.tc_files.specs.declared.interval_file.header.IntervalHeader.{IntervalHeader};
-ghost use Rattle.tc_files.specs.IntervalHeader.{IsTickRate};
-ghost use Rattle.tc_files.specs.Decoding.{IsBetween};
-ghost use Rattle.tc_files.specs.Recording.{Recording};
+ghost use Rattle.biphase.specs.declared.cell.TheConstants.{MAX_INTERVAL, MAX_INTERVALS};
+ghost use Rattle.interval_file.specs.declared.header.IntervalHeader.{IntervalHeader};
+ghost use Rattle.interval_file.specs.IntervalHeader.{IsTickRate};
+ghost use Rattle.interval_file.specs.Decoding.{IsBetween};
+ghost use Rattle.interval_file.specs.Recording.{Recording};
 ghost use Rattle.tc_io.specs.Sink.{AppendsFront};
 ghost use Rattle.interval_commands.specs.Along.{IsPartOf, IsSpentOf, Printing, along_intervals};
 ghost use Rattle.tc_command.specs.Causes.{HasOutCause, HasSourceCause, OutCause};
@@ -32,13 +31,13 @@ ghost use Rattle.interval_commands.specs.KeptAlong.{
   stop_at,
 };
 
-use biphase::MAX_INTERVAL;
-use direction_reader::MAX_INTERVALS;
-use tc_command::{Engine, Stop, work};
-use tc_files::laws::the_decoder_reads_what_is_said;
-use tc_files::{
-    FileFault, FileVersion, IntervalDecoder, IntervalHeader, Next, Taken, most_width, next_interval,
+use biphase::{MAX_INTERVAL, MAX_INTERVALS};
+use interval_file::laws::the_decoder_reads_what_is_said;
+use interval_file::{
+    FileVersion, IntervalDecoder, IntervalFileFault, IntervalHeader, Next, Taken, most_width,
+    next_interval,
 };
+use tc_command::{Engine, InputFault, Stop, work};
 use tc_io::{Sink, Source};
 
 /// The work of one command behind the header of an interval file.
@@ -359,7 +358,7 @@ impl<B: Behind> Along<B> {
                     intervals += 1;
                     at += width;
                 }
-                Next::Fault(fault) => return Err(Stop::Refused(fault)),
+                Next::Fault(fault) => return Err(Stop::Refused(InputFault::Intervals(fault))),
                 // The window holds any interval, so this does not come.
                 Next::Short => break 'run,
             }
@@ -402,11 +401,11 @@ impl<B: Behind> Along<B> {
     }
 
     /// Why a fault of the file stops the job: an interval past the limit is not looked at.
-    fn stop_at(&self, fault: FileFault) -> Stop
+    fn stop_at(&self, fault: IntervalFileFault) -> Stop
         ensures { result ≡ stop_at self.now.intervals fault }
     {
         if self.intervals < MAX_INTERVALS {
-            Stop::Refused(fault)
+            Stop::Refused(InputFault::Intervals(fault))
         } else {
             Stop::Limit
         }
@@ -414,9 +413,10 @@ impl<B: Behind> Along<B> {
 }
 
 impl<B: Behind> Engine for Along<B> {
-    ghost use Rattle.tc_files.specs.Decoding.{too_many_bytes};
+    ghost use Rattle.interval_file.specs.Decoding.{too_many_bytes};
     ghost use Rattle.interval_commands.specs.Along.{along_intervals};
     ghost use Rattle.interval_commands.specs.KeptAlong.{IsGoing, IsSettled, StandsWithin, printed_well};
+    ghost use Rattle.interval_commands.specs.KeptVerdict.{good_too};
 
     type Choice = B::Choice;
 
@@ -433,7 +433,7 @@ impl<B: Behind> Engine for Along<B> {
     ghost budget = { λ s. too_many_bytes - s.decoder.taken };
 
     ghost stands_well = { λ s bytes written settled stands. (
-      record { is = stands.stands.good; unspent = stands.unspent },
+      record { is = good_too _ stands.stands.good; unspent = stands.unspent },
       printed_well B.printing B.stands B.is_settled B.stands_well s.behind s.choice _ written settled stands.stands.printed,
     ) };
 
@@ -457,7 +457,7 @@ impl<B: Behind> Engine for Along<B> {
     fn finish<K: Sink>(&self, out: &mut K) -> Result<(), Stop> {
         the_decoder_reads_what_is_said();
         if let Err(fault) = self.decoder.finish() {
-            return Err(Stop::Refused(fault));
+            return Err(Stop::Refused(InputFault::Intervals(fault)));
         }
         match &self.behind {
             Some(behind) => behind.finish(out),

@@ -1,10 +1,11 @@
 //! What follows from the definitions alone.
 ghost use Rattle.std.specs.Prelude.{◌≡◌, List, ℕ, Some};
 ghost use Rattle.biphase.specs.declared.profile.Profile.{Profile};
-ghost use Rattle.tc_files.specs.declared.interval_file.header.FileVersion.{FileVersion};
-ghost use Rattle.tc_files.specs.declared.interval_file.header.IntervalHeader.{IntervalHeader};
-ghost use Rattle.tc_files.specs.Grammar.{AreBytes, IsFile};
-ghost use Rattle.tc_files.specs.Recording.{recording_of};
+ghost use Rattle.interval_file.specs.declared.header.FileVersion.{FileVersion};
+ghost use Rattle.interval_file.specs.declared.header.IntervalHeader.{IntervalHeader};
+ghost use Rattle.tc_io.specs.Bytes.{AreBytes};
+ghost use Rattle.interval_file.specs.Grammar.{IsFile};
+ghost use Rattle.interval_file.specs.Recording.{recording_of};
 ghost use Rattle.tc_command.specs.Meaning.{Meaning, IsInput};
 ghost use Rattle.interval_commands.specs.Along.{along_intervals};
 ghost use Rattle.interval_commands.specs.KeptCommand.{PrintsInOrder, RecordingsGrow};
@@ -13,7 +14,7 @@ ghost use Rattle.interval_commands.specs.LtcPcm.{made_sound};
 ghost use Rattle.interval_commands.specs.LtcRead.{report};
 
 use direction_reader::laws::{a_list_has_one_list_of_events, events_of_a_front_come_first};
-use tc_files::laws::{
+use interval_file::laws::{
     a_file_is_read_as_it_was_written, bytes_are_read_as_the_text_says,
     the_decoder_reads_what_is_said,
 };

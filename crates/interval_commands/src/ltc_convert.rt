@@ -1,5 +1,5 @@
 //! The engine of `ltc-convert`: each interval is spelled in the asked version. Next:
-//! `tc_files/src/interval_file/piece.rt`, and then `tc_command/src/gathered.rt`.
+//! `interval_file/src/piece.rt`, and then `tc_command/src/gathered.rt`.
 ghost use Rattle.std.specs.Prelude.{OnOk, IfErr};
 ghost use Rattle.tc_command.specs.Causes.{HasOutCause, HasSourceCause};
 ghost use Rattle.tc_command.specs.Ends.{SeesOneEnd};
@@ -9,7 +9,7 @@ ghost use Rattle.interval_commands.specs.LtcConvert.{conversion};
 
 use crate::along::{Behind, work_along};
 use tc_command::{Gathered, Stop};
-use tc_files::{FileVersion, IntervalHeader, interval_bytes, interval_header};
+use interval_file::{FileVersion, IntervalHeader, interval_bytes, interval_header};
 use tc_io::{Sink, Source};
 
 /// Works `ltc-convert`: the same recording in a version of the file.

@@ -17,7 +17,7 @@ use biphase::MAX_INTERVAL;
 use byteorder::{ByteOrder, LittleEndian};
 use pcm_front::Side;
 use tc_command::{Gathered, Stop, push_piece};
-use tc_files::IntervalHeader;
+use interval_file::IntervalHeader;
 use tc_io::{Sink, Source};
 use tc_words::Amplitude;
 

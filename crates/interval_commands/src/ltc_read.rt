@@ -1,17 +1,16 @@
 //! The engine of `ltc-read`: intervals become events, and events become lines. Next:
-//! `direction_reader/src/reader.rt`, and `tc_files/src/texts/event.rt` for the lines.
+//! `direction_reader/src/reader.rt`, and `report_text/src/event.rt` for the lines.
 ghost use Rattle.std.specs.Prelude.{◌≡◌, ◌≤◌, ◌<◌, ◌+◌, ◌*◌, List, ◌∷◌, ◌++◌, [], ℕ, OnOk, OnErr, IfOk, IfErr};
 ghost use Rattle.std.specs.Io.KnownBytes.{Appends};
-ghost use Rattle.biphase.specs.declared.cell.TheConstants.{MAX_INTERVAL};
-ghost use Rattle.direction_reader.specs.declared.reader.TheConstants.{MAX_INTERVALS};
+ghost use Rattle.biphase.specs.declared.cell.TheConstants.{MAX_INTERVAL, MAX_INTERVALS};
 ghost use Rattle.direction_reader.specs.declared.event.Event.{Event};
 ghost use Rattle.direction_reader.specs.declared.event.Events.{Events};
 ghost use Rattle.direction_reader.specs.Events.{event_list};
 ghost use Rattle.direction_reader.specs.Reader.{Takes};
 ghost use Rattle.direction_reader.specs.StandsFor.{MayTell, Tells};
-ghost use Rattle.tc_files.specs.declared.interval_file.header.IntervalHeader.{IntervalHeader};
-ghost use Rattle.tc_files.specs.IntervalHeader.{IsTickRate};
-ghost use Rattle.tc_files.specs.Texts.{event_line, read_end_line, FitsLine};
+ghost use Rattle.interval_file.specs.declared.header.IntervalHeader.{IntervalHeader};
+ghost use Rattle.interval_file.specs.IntervalHeader.{IsTickRate};
+ghost use Rattle.report_text.specs.Texts.{event_line, read_end_line, FitsLine};
 ghost use Rattle.tc_io.specs.Sink.{AppendsFront};
 ghost use Rattle.tc_io.specs.Source.{Rose};
 ghost use Rattle.interval_commands.specs.Along.{Printing, along_intervals};
@@ -22,12 +21,13 @@ ghost use Rattle.interval_commands.specs.LtcRead.{lines, report};
 ghost use Rattle.interval_commands.specs.KeptReport.{counted, all_counted, Feeds, FitLines, FitsReport, Prints, Stands};
 
 use crate::along::{Behind, work_along};
-use biphase::{MAX_INTERVAL, Profile};
+use biphase::{MAX_INTERVAL, MAX_INTERVALS, Profile};
 use direction_reader::laws::a_reader_gives_the_events_of_its_list;
-use direction_reader::{Brought, DirectionReader, Event, Events, MAX_INTERVALS};
+use direction_reader::{Brought, DirectionReader, Event, Events};
+use interval_file::IntervalHeader;
 use line_text::Text;
+use report_text::{event_text, read_end_text};
 use tc_command::{Stop, push_line};
-use tc_files::{IntervalHeader, event_text, read_end_text};
 use tc_io::{Failed, Sink, Source};
 
 /// Works `ltc-read`, and under the other tolerances its like: a line for each event of a recording, and the

@@ -4,8 +4,8 @@ use Rattle.std.proofs.Common.{arith, subst, append_assoc, append-nil, inl, inr}
 use Rattle.std.specs.declared.option.Option.{Option}
 use Rattle.std.proofs.lemmas.Bool.{cases_lt}
 use Rattle.std.proofs.lemmas.List.{take-append-drop, take-append-le, take-take, length-append, length-take-le, drop_at}
-use Rattle.tc_files.specs.declared.fault.FileFault.{FileFault}
-use Rattle.tc_files.specs.Verdict.{Verdict, good, refused, past_limit}
+use Rattle.line_file.specs.declared.fault.LineFileFault.{LineFileFault}
+use Rattle.line_file.specs.Verdict.{Verdict, good, refused, past_limit}
 use Rattle.vitc_reader.specs.declared.field.FieldAnswer.{FieldAnswer}
 use Rattle.vitc_reader.specs.Field.{IsAnswer}
 use Rattle.line_file.specs.declared.decoder.TheConstants.{MAX_FIELDS}
@@ -140,7 +140,7 @@ header_taken header place count part front chunk piece answers bytes s read own 
 -- ---- what is told
 
 -- a piece of the bytes fails its test
-abbrev pub IsBad : Option LineHeader → ℕ → ℕ → List ℕ → FileFault → Type 0
+abbrev pub IsBad : Option LineHeader → ℕ → ℕ → List ℕ → LineFileFault → Type 0
 IsBad None place count bytes f = header_at bytes ≡ bad f
 IsBad (Some header) place count bytes f = (count < MAX_FIELDS) × (field_at place bytes ≡ bad f)
 
@@ -166,7 +166,7 @@ none_more header fields answers verdict f are is none = (
 
 -- a fault of a field
 field_told : (header : LineHeader) (place count : ℕ) (fields : List (List (List ℕ))) (answers : List FieldAnswer) (bytes more : List ℕ)
-    (f : FileFault) → AreAnswers header fields answers
+    (f : LineFileFault) → AreAnswers header fields answers
     → count < MAX_FIELDS → field_at place bytes ≡ bad f → IsTold (reading_behind (Some header) place count fields (bytes ++ more)) (refused f) answers
 field_told header place count fields answers [] more f are room e = absurd cc
 field_told header place count fields answers (byte ∷ rest) more f are room e =
@@ -177,7 +177,7 @@ field_told header place count fields answers (byte ∷ rest) more f are room e =
     (ap (λ (x : Fields). x.fields) read))
 
 -- a fault
-pub fault_told : (header : Option LineHeader) (place count : ℕ) (part front chunk more : List ℕ) (answers : List FieldAnswer) (f : FileFault)
+pub fault_told : (header : Option LineHeader) (place count : ℕ) (part front chunk more : List ℕ) (answers : List FieldAnswer) (f : LineFileFault)
     → StandsFor (decoding_of header place count part) front answers → IsBad header place count (part ++ chunk) f
     → IsTold (reading_of (front ++ (chunk ++ more))) (refused f) answers
 fault_told None place count part front chunk more answers f s is =

@@ -4,9 +4,9 @@ use Rattle.std.proofs.Common.{◌∙◌, arith, subst}
 use Rattle.std.specs.Prelude.{is_some, if◌then◌else◌}
 use Rattle.std.specs.declared.option.Option.{Option}
 use Rattle.std.proofs.lemmas.List.{length-append, take-append-drop}
-use Rattle.tc_files.specs.declared.fault.FileFault.{FileFault}
-use Rattle.tc_files.specs.declared.fault.FileFault.TheVariants as fault
-use Rattle.tc_files.specs.Verdict.{good, refused, past_limit}
+use Rattle.line_file.specs.declared.fault.LineFileFault.{LineFileFault}
+use Rattle.line_file.specs.declared.fault.LineFileFault.TheVariants as fault
+use Rattle.line_file.specs.Verdict.{good, refused, past_limit}
 use Rattle.vitc_reader.specs.declared.field.FieldAnswer.{FieldAnswer}
 use Rattle.vitc_reader.specs.Field.{IsAnswer}
 use Rattle.line_file.specs.declared.decoder.Piece.TheVariants as pieces
@@ -80,7 +80,7 @@ at_short None place count part bytes waits is = (waits.0, is)
 at_short (Some header) place count part [] waits is = tt
 at_short (Some header) place count part (byte ∷ more) waits is = is
 
-pub at_fault : (o : Option LineHeader) (place count : ℕ) (bytes : List ℕ) (f : FileFault) → IsPiece o place count bytes (pieces.Fault f)
+pub at_fault : (o : Option LineHeader) (place count : ℕ) (bytes : List ℕ) (f : LineFileFault) → IsPiece o place count bytes (pieces.Fault f)
     → IsBad o place count bytes f
 at_fault None place count bytes f is = is
 at_fault (Some header) place count bytes f is = is
@@ -149,7 +149,7 @@ field_added o place count part bytes c answer width s =
 
 -- ---- what ends the reading
 
-pub fault_there : (o : Option LineHeader) (place count : ℕ) (part front bytes : List ℕ) (c : ℕ) (answers : List FieldAnswer) (f : FileFault)
+pub fault_there : (o : Option LineHeader) (place count : ℕ) (part front bytes : List ℕ) (c : ℕ) (answers : List FieldAnswer) (f : LineFileFault)
     → StandsFor (decoding_of o place count part) front answers → IsBad o place count (part ++ take c bytes) f
     → IsTold (reading_of (front ++ bytes)) (refused f) answers
 fault_there o place count part front bytes c answers f s is =

@@ -1,8 +1,8 @@
 -- What bytes show of a file, more bytes show too; and behind whole pieces the rest is read as if it began there.
 use Rattle.std.proofs.Common.{ap₂, ◌≡◌, ℕ, zero, suc, ◌+◌, ◌≤◌, List, [], ◌∷◌, ◌++◌, length, take, drop, refl, sym, ap, ◌∙◌, arith}
 use Rattle.std.proofs.lemmas.List.{length-take-le, drop_at, drop-append-le}
-use Rattle.tc_files.specs.declared.fault.FileFault.{FileFault}
-use Rattle.tc_files.specs.Verdict.{Verdict, good, refused, past_limit}
+use Rattle.line_file.specs.declared.fault.LineFileFault.{LineFileFault}
+use Rattle.line_file.specs.Verdict.{Verdict, good, refused, past_limit}
 use Rattle.vitc_reader.specs.declared.field.FieldAnswer.{FieldAnswer}
 use Rattle.tc_address.specs.declared.system.System.{System}
 use Rattle.vitc_reader.specs.Field.{IsAnswer}
@@ -90,7 +90,7 @@ pub reading_stays : (bytes more : List ℕ) (verdict : Verdict) → (verdict ≡
     → (reading_of (bytes ++ more)).verdict ≡ verdict
 reading_stays bytes more verdict not_good e = reading_by bytes more verdict (header_at bytes) not_good refl e
 
-pub refused_not_good : (f : FileFault) → refused f ≡ good → ⊥
+pub refused_not_good : (f : LineFileFault) → refused f ≡ good → ⊥
 refused_not_good f e = absurd cc
 
 pub past_not_good : past_limit ≡ good → ⊥

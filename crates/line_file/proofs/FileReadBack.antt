@@ -7,12 +7,13 @@ use Rattle.std.proofs.lemmas.Bool.{and_from, eq-eqb, le-leb, ne_eqb}
 use Rattle.std.proofs.lemmas.List.{drop_at, length-append}
 use Rattle.byteorder.specs.Endian.{big_bytes, big_number}
 use Rattle.byteorder.specs.Numbers.{big_number-reads_back}
-use Rattle.tc_files.specs.Verdict.{good}
+use Rattle.line_file.specs.Verdict.{good}
 use Rattle.vitc_reader.specs.Runs.{IsLineLength, MayBeLine}
 use Rattle.line_file.specs.declared.decoder.TheConstants.{MAX_FIELDS}
 use Rattle.line_file.specs.declared.field.TheConstants.{MAX_LINES, MAX_RUNS}
 use Rattle.line_file.specs.declared.header.LineHeader.{LineHeader}
-use Rattle.line_file.specs.declared.header.TheConstants.{HEADER_LENGTH, MIN_LINE_LENGTH, MAX_LINE_LENGTH}
+use Rattle.line_file.specs.declared.header.TheConstants.{HEADER_LENGTH}
+use Rattle.vitc_reader.specs.declared.line_length.TheConstants.{MIN_LINE_LENGTH, MAX_LINE_LENGTH}
 use Rattle.line_file.specs.Grammar.{line_bytes, field_bytes, file_of, AreRuns, AreLines, AreFields}
 use Rattle.line_file.specs.LineFile.{Front, whole, with_first, runs_at, is_run_count, line_at, line_width, lines_at, lines_width, field_at}
 use Rattle.line_file.specs.LineFile.{field_width, Fields, with_field, fields_at, with_fields, behind_header, header_at, header_with, reading_of}

@@ -9,11 +9,12 @@ use Rattle.byteorder.specs.Endian.{big_number}
 use Rattle.tc_address.specs.declared.system.System.{System}
 use Rattle.tc_address.specs.declared.system.System.TheVariants.{F24, F25, F30}
 use Rattle.tc_address.specs.Count.{rate_of}
-use Rattle.tc_files.specs.declared.fault.FileFault.{FileFault}
-use Rattle.tc_files.specs.declared.fault.FileFault.TheVariants as fault
+use Rattle.line_file.specs.declared.fault.LineFileFault.{LineFileFault}
+use Rattle.line_file.specs.declared.fault.LineFileFault.TheVariants as fault
 use Rattle.vitc_line.specs.Places.{HasLines}
 use Rattle.line_file.specs.declared.header.LineHeader.{LineHeader}
-use Rattle.line_file.specs.declared.header.TheConstants.{HEAD_LENGTH, MIN_LINE_LENGTH, MAX_LINE_LENGTH}
+use Rattle.line_file.specs.declared.header.TheConstants.{HEAD_LENGTH}
+use Rattle.vitc_reader.specs.declared.line_length.TheConstants.{MIN_LINE_LENGTH, MAX_LINE_LENGTH}
 use Rattle.line_file.specs.LineFile.{Front, whole, short, bad, is_wrong, head_fault, head_at, is_line_length, header_with, length_at, behind_head, header_at}
 use Rattle.line_file.specs.LineHeader.{IsHeader, system_at}
 use Rattle.line_file.proofs.OwnBytes.{own_more}
@@ -40,13 +41,13 @@ short_head zero place bytes e = absurd cc
 short_head (suc count) place [] e = omega arith
 short_head (suc count) place (byte ∷ more) e = byte_short count place byte more (is_wrong place byte) e (short_head count (place + 1) more)
 
-byte_stays : (count place byte : ℕ) (rest more : List ℕ) (f : FileFault) (b : Bool) → is_wrong place byte ≡ b
+byte_stays : (count place byte : ℕ) (rest more : List ℕ) (f : LineFileFault) (b : Bool) → is_wrong place byte ≡ b
     → (if b then bad (head_fault place) else head_at count (place + 1) rest) ≡ bad f
     → (head_at count (place + 1) rest ≡ bad f → head_at count (place + 1) (rest ++ more) ≡ bad f) → head_at (suc count) place (byte ∷ (rest ++ more)) ≡ bad f
 byte_stays count place byte rest more f true is e later = rw is e
 byte_stays count place byte rest more f false is e later = rw is (later e)
 
-head_stays : (count place : ℕ) (bytes more : List ℕ) (f : FileFault) → head_at count place bytes ≡ bad f → head_at count place (bytes ++ more) ≡ bad f
+head_stays : (count place : ℕ) (bytes more : List ℕ) (f : LineFileFault) → head_at count place bytes ≡ bad f → head_at count place (bytes ++ more) ≡ bad f
 head_stays zero place bytes more f e = absurd cc
 head_stays (suc count) place [] more f e = absurd cc
 head_stays (suc count) place (byte ∷ rest) more f e =
@@ -61,7 +62,7 @@ whole_length system (a ∷ []) header e = absurd cc
 whole_length system (a ∷ b ∷ []) header e = absurd cc
 whole_length system (a ∷ b ∷ c ∷ []) header e = absurd cc
 
-bad_length : (system : Option System) (bytes : List ℕ) (f : FileFault) → length_at system bytes ≡ bad f → 4 ≤ length bytes
+bad_length : (system : Option System) (bytes : List ℕ) (f : LineFileFault) → length_at system bytes ≡ bad f → 4 ≤ length bytes
 bad_length system (a ∷ b ∷ c ∷ d ∷ more) f e = omega arith
 bad_length system [] f e = absurd cc
 bad_length system (a ∷ []) f e = absurd cc
@@ -126,7 +127,7 @@ own_header bytes more header e = same_twelve bytes more (whole_header bytes head
 pub header_more : (bytes more : List ℕ) (header : LineHeader) → header_at bytes ≡ whole header → header_at (bytes ++ more) ≡ whole header
 header_more bytes more header e = ap header_at (own_more bytes more 12) ∙ own_header bytes (drop 12 bytes ++ more) header e
 
-by_head_bad : (bytes more : List ℕ) (f : FileFault) (v : Front (Unit {0})) → head_at HEAD_LENGTH 0 bytes ≡ v → behind_head v bytes ≡ bad f
+by_head_bad : (bytes more : List ℕ) (f : LineFileFault) (v : Front (Unit {0})) → head_at HEAD_LENGTH 0 bytes ≡ v → behind_head v bytes ≡ bad f
     → header_at bytes ≡ bad f → header_at (bytes ++ more) ≡ bad f
 by_head_bad bytes more f (whole u) is e all =
     let first = whole_head HEAD_LENGTH 0 bytes u is in
@@ -136,7 +137,7 @@ by_head_bad bytes more f (whole u) is e all =
 by_head_bad bytes more f short is e all = absurd cc
 by_head_bad bytes more f (bad g) is e all = ap (λ (v : Front (Unit {0})). behind_head v (bytes ++ more)) (head_stays HEAD_LENGTH 0 bytes more g is) ∙ e
 
-pub header_stays : (bytes more : List ℕ) (f : FileFault) → header_at bytes ≡ bad f → header_at (bytes ++ more) ≡ bad f
+pub header_stays : (bytes more : List ℕ) (f : LineFileFault) → header_at bytes ≡ bad f → header_at (bytes ++ more) ≡ bad f
 header_stays bytes more f e = by_head_bad bytes more f (head_at HEAD_LENGTH 0 bytes) refl e e
 
 by_head_short : (bytes : List ℕ) (v : Front (Unit {0})) → head_at HEAD_LENGTH 0 bytes ≡ v → behind_head v bytes ≡ short → length bytes < 12

@@ -8,8 +8,8 @@ use Rattle.std.proofs.lemmas.Bool.Decides.{Decides-eqb}
 use Rattle.std.proofs.lemmas.Slice.Eq.{starts_is}
 use Rattle.std.specs.List.{starts_with}
 use Rattle.byteorder.specs.Endian.{big_number}
-use Rattle.tc_files.specs.declared.fault.FileFault.{FileFault}
-use Rattle.tc_files.specs.declared.fault.FileFault.TheVariants as fault
+use Rattle.line_file.specs.declared.fault.LineFileFault.{LineFileFault}
+use Rattle.line_file.specs.declared.fault.LineFileFault.TheVariants as fault
 use Rattle.vitc_reader.specs.Field as answers
 use Rattle.line_file.specs.declared.field.TheConstants.{MAX_LINES}
 use Rattle.line_file.specs.declared.header.LineHeader.{LineHeader}
@@ -215,7 +215,7 @@ pub lines_short : (header : LineHeader) (count place : ℕ) (bytes : List ℕ) (
 lines_short header count place bytes done width reader s lt line =
     s.read ∙ ap (after_first s.lines) (line_step (count - done) (place + width) (drop width bytes) short (omega (arith, lt)) line)
 
-pub lines_bad : (header : LineHeader) (count place : ℕ) (bytes : List ℕ) (done width : ℕ) (reader : answers.Reading) (f : FileFault)
+pub lines_bad : (header : LineHeader) (count place : ℕ) (bytes : List ℕ) (done width : ℕ) (reader : answers.Reading) (f : LineFileFault)
     → LinesSoFar header count place bytes done width reader → done < count → line_at (place + width) (drop width bytes) ≡ bad f
     → lines_at count (place + 1) (drop 1 bytes) ≡ bad f
 lines_bad header count place bytes done width reader f s lt line =

@@ -13,10 +13,10 @@ use Rattle.byteorder.specs.Endian.{big_bytes, big_number}
 use Rattle.tc_address.specs.declared.system.System.{System}
 use Rattle.tc_address.specs.declared.system.System.TheVariants.{F25, F30}
 use Rattle.tc_address.specs.Count.{rate_of}
-use Rattle.tc_files.specs.declared.fault.FileFault.{FileFault}
-use Rattle.tc_files.specs.declared.fault.FileFault.TheVariants as fault
-use Rattle.tc_files.specs.Grammar.{AreBytes}
-use Rattle.tc_files.specs.Verdict.{good}
+use Rattle.line_file.specs.declared.fault.LineFileFault.{LineFileFault}
+use Rattle.line_file.specs.declared.fault.LineFileFault.TheVariants as fault
+use Rattle.tc_io.specs.Bytes.{AreBytes}
+use Rattle.line_file.specs.Verdict.{good}
 use Rattle.vitc_reader.specs.Runs.{MayBeLine}
 use Rattle.line_file.specs.declared.decoder.TheConstants.{MAX_FIELDS}
 use Rattle.line_file.specs.declared.field.TheConstants.{MAX_LINES, MAX_RUNS}
@@ -352,7 +352,7 @@ by_header bytes (whole header) are is verdict all =
       begins ∙ ap (λ (l : List ℕ). header_bytes header ++ l) o.0,
     )
 
-may_end : (b : Bool) (f : FileFault) → (if b then None else Some f) ≡ None → b ≡ true
+may_end : (b : Bool) (f : LineFileFault) → (if b then None else Some f) ≡ None → b ≡ true
 may_end true f e = refl
 may_end false f e = absurd cc
 

@@ -1,10 +1,12 @@
 pub mod Answers
+pub mod Fault
 pub mod Grammar
 pub mod KeptFront
 pub mod LineFile
 pub mod LineHeader
 pub mod StandsFor
 pub mod Texts
+pub mod Verdict
 -- what the public clauses cite of the crates below
 pub use Rattle.vitc_reader.specs.Field as FieldAnswers
 pub use Rattle.vitc_reader.specs.Runs

@@ -5,20 +5,21 @@ use Rattle.std.specs.Prelude.{ℕ, zero, suc, ◌+◌, ◌*◌, ◌%◌, Bool, t
 use Rattle.std.specs.Prelude.{◌++◌, length, drop, slice_index, Option, Some, None}
 use Rattle.byteorder.specs.Endian.{big_number}
 use Rattle.tc_address.specs.declared.system.System.{System}
-use Rattle.tc_files.specs.declared.fault.FileFault.{FileFault}
-use Rattle.tc_files.specs.declared.fault.FileFault.TheVariants as fault
-use Rattle.tc_files.specs.Verdict.{Verdict, good, refused, past_limit}
+use Rattle.line_file.specs.declared.fault.LineFileFault.{LineFileFault}
+use Rattle.line_file.specs.declared.fault.LineFileFault.TheVariants as fault
+use Rattle.line_file.specs.Verdict.{Verdict, good, refused, past_limit}
 use Rattle.line_file.specs.declared.decoder.TheConstants.{MAX_FIELDS}
 use Rattle.line_file.specs.declared.field.TheConstants.{MAX_LINES, MAX_RUNS}
 use Rattle.line_file.specs.declared.header.LineHeader.{LineHeader}
-use Rattle.line_file.specs.declared.header.TheConstants.{MAGIC, VERSION, HEAD_LENGTH, HEADER_LENGTH, MIN_LINE_LENGTH, MAX_LINE_LENGTH}
+use Rattle.line_file.specs.declared.header.TheConstants.{MAGIC, VERSION, HEAD_LENGTH, HEADER_LENGTH}
+use Rattle.vitc_reader.specs.declared.line_length.TheConstants.{MIN_LINE_LENGTH, MAX_LINE_LENGTH}
 use Rattle.line_file.specs.LineHeader.{system_at}
 
 -- what stands at the front of bytes: a whole thing, the first bytes of one, or a piece that fails its test
 pub data Front (A : Type 0) : Type 0 where
   whole : A → Front A
   short : Front A
-  bad : FileFault → Front A
+  bad : LineFileFault → Front A
 
 -- the first thing, where the others are whole too
 abbrev pub with_first : {A : Type 0} → A → Front (List A) → Front (List A)
@@ -37,7 +38,7 @@ is_wrong place byte =
     else not (byte == 0)
 
 -- the fault of each place of the head
-abbrev pub head_fault : ℕ → FileFault
+abbrev pub head_fault : ℕ → LineFileFault
 head_fault place =
     if nat_lt place 4 then fault.Magic place
     else if place == 4 then fault.Version place
@@ -174,5 +175,5 @@ abbrev pub reading_of : List ℕ → Reading
 reading_of bytes = behind_header (header_at bytes) bytes
 
 -- the fault of bytes after which the input may not end: it may end behind the header and behind each whole field
-abbrev pub end_fault_of : List ℕ → Option FileFault
+abbrev pub end_fault_of : List ℕ → Option LineFileFault
 end_fault_of bytes = if (reading_of bytes).is_whole then None else Some (fault.Truncated (length bytes))

@@ -5,7 +5,7 @@ use Rattle.vitc_reader.specs.declared.field.FieldAnswer.{FieldAnswer}
 use Rattle.line_file.specs.declared.decoder.TheConstants.{FIELD_ROOM, MAX_FIELDS}
 use Rattle.line_file.specs.declared.header.LineHeader.{LineHeader}
 use Rattle.line_file.specs.declared.header.TheConstants.{HEADER_LENGTH}
-use Rattle.tc_files.specs.Verdict.{Verdict, refused, past_limit}
+use Rattle.line_file.specs.Verdict.{Verdict, refused, past_limit}
 use Rattle.line_file.specs.declared.decoder.Taken.{Taken}
 use Rattle.line_file.specs.declared.decoder.Taken.TheVariants.{Nothing, Field, Fault, Limit}
 use Rattle.line_file.specs.Answers.{AreAnswers, AreAnswersOf}

@@ -12,7 +12,7 @@ use crate::field::{FoundField, field_in};
 use crate::header::{FoundHeader, HEADER_LENGTH, LineHeader, header_in};
 use arrayvec::ArrayVec;
 use std::marker::Model;
-use tc_files::FileFault;
+use crate::fault::LineFileFault;
 use vitc_reader::FieldAnswer;
 
 /// So many fields are read, at most.
@@ -32,7 +32,7 @@ pub enum Taken {
     /// So many bytes, and with the last of them a field, which has this answer.
     Field { count: usize, answer: FieldAnswer },
     /// The first fault of the bytes so far.
-    Fault(FileFault),
+    Fault(LineFileFault),
     /// One field too many.
     Limit,
 }
@@ -47,7 +47,7 @@ pub(crate) enum Piece {
     /// The first bytes of either.
     Short,
     /// A piece that fails its test.
-    Fault(FileFault),
+    Fault(LineFileFault),
     /// One field too many.
     Limit,
 }
@@ -131,7 +131,7 @@ impl LineDecoder {
     }
 
     /// The end of the input: the fault where it may not end here.
-    pub fn finish(&self) -> Result<(), FileFault>
+    pub fn finish(&self) -> Result<(), LineFileFault>
         ensures ok { OnOk result ((bytes : List ℕ) (answers : List FieldAnswer) → StandsFor self.now bytes answers → end_fault_of bytes ≡ None) }
         ensures err { IfErr result (λ fault. (bytes : List ℕ) (answers : List FieldAnswer) → StandsFor self.now bytes answers
             → end_fault_of bytes ≡ Some fault) }
@@ -139,7 +139,7 @@ impl LineDecoder {
         if self.header.is_some() && self.part.is_empty() {
             Ok(())
         } else {
-            Err(FileFault::Truncated(self.place + self.part.len() as u64))
+            Err(LineFileFault::Truncated(self.place + self.part.len() as u64))
         }
     }
 }

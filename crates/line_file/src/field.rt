@@ -9,7 +9,7 @@ ghost use Rattle.line_file.specs.declared.found.Found.TheVariants as things;
 use crate::found::Found;
 use crate::header::LineHeader;
 use byteorder::{BigEndian, ByteOrder};
-use tc_files::FileFault;
+use crate::fault::LineFileFault;
 use vitc_reader::laws::a_line_again_changes_nothing;
 use vitc_reader::{FieldAnswer, FieldReader};
 
@@ -27,7 +27,7 @@ pub(crate) enum FoundField {
     /// The first bytes of one.
     Short,
     /// A piece that fails its test.
-    Fault(FileFault),
+    Fault(LineFileFault),
 }
 
 /// The field with which bytes begin, the first of which stands at this place of the file.
@@ -41,7 +41,7 @@ pub(crate) fn field_in(header: &LineHeader, place: u64, bytes: &[u8]) -> FoundFi
     }
     let count = bytes[0];
     if count > MAX_LINES {
-        return FoundField::Fault(FileFault::LineCount(place));
+        return FoundField::Fault(LineFileFault::LineCount(place));
     }
     a_line_again_changes_nothing();
     let mut reader = FieldReader::new(header.system, header.length);
@@ -91,7 +91,7 @@ fn line_in(place: u64, bytes: &[u8], reader: &mut FieldReader) -> Found
     }
     let count = bytes[0];
     if !is_run_count(count) {
-        return Found::Fault(FileFault::RunCount(place));
+        return Found::Fault(LineFileFault::RunCount(place));
     }
     let width = line_width(count);
     if bytes.len() < width {
@@ -117,7 +117,7 @@ fn tried_runs(place: u64, count: u8, bytes: &[u8]) -> Found
             return Found::Short;
         }
         if BigEndian::read_u16(&bytes[at..]) == 0 {
-            return Found::Fault(FileFault::Run(place + at as u64));
+            return Found::Fault(LineFileFault::Run(place + at as u64));
         }
         at += 2;
     }

@@ -1,5 +1,5 @@
 //! What stands at the front of bytes. Next: `header`.
-use tc_files::FileFault;
+use crate::fault::LineFileFault;
 
 /// What stands at the front of bytes.
 #[derive(Clone, Copy, Debug, PartialEq, Eq)]
@@ -9,5 +9,5 @@ pub(crate) enum Found {
     /// The first bytes of one.
     Short,
     /// A piece that fails its test.
-    Fault(FileFault),
+    Fault(LineFileFault),
 }

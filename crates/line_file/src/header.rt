@@ -4,10 +4,11 @@ ghost use Rattle.line_file.specs.KeptFront.{front_of, header_front};
 ghost use Rattle.line_file.specs.LineFile.{head_at, head_fault, header_at, header_with, is_line_length, is_wrong, whole};
 ghost use Rattle.line_file.specs.LineHeader.{IsHeader, header_bytes, system_at};
 
+use crate::fault::LineFileFault;
 use crate::found::Found;
 use byteorder::{BigEndian, ByteOrder};
 use tc_address::{System, rate};
-use tc_files::FileFault;
+use vitc_reader::{MAX_LINE_LENGTH, MIN_LINE_LENGTH};
 
 /// The four bytes with which a line file begins.
 pub const MAGIC: [u8; 4] = *b"VITL";
@@ -20,12 +21,6 @@ pub const HEAD_LENGTH: usize = 8;
 
 /// The bytes of a header.
 pub const HEADER_LENGTH: usize = 12;
-
-/// The shortest line, in ticks.
-pub const MIN_LINE_LENGTH: u32 = 460;
-
-/// The longest line, in ticks.
-pub const MAX_LINE_LENGTH: u32 = 65_535;
 
 /// What a line file says of its lines.
 #[derive(Clone, Copy, Debug, PartialEq, Eq)]
@@ -44,7 +39,7 @@ pub(crate) enum FoundHeader {
     /// The first bytes of one.
     Short,
     /// A piece that fails its test.
-    Fault(FileFault),
+    Fault(LineFileFault),
 }
 
 /// The header as it stands in a file.
@@ -103,15 +98,15 @@ fn is_wrong(place: usize, byte: u8) -> bool
 }
 
 /// The fault of a place in the head.
-fn head_fault(place: usize) -> FileFault
+fn head_fault(place: usize) -> LineFileFault
     ensures { result ≡ head_fault place }
 {
     let at = place as u64;
     match place {
-        0..=3 => FileFault::Magic(at),
-        4 => FileFault::Version(at),
-        5 => FileFault::System(at),
-        _ => FileFault::Reserved(at),
+        0..=3 => LineFileFault::Magic(at),
+        4 => LineFileFault::Version(at),
+        5 => LineFileFault::System(at),
+        _ => LineFileFault::Reserved(at),
     }
 }
 
@@ -121,7 +116,7 @@ fn header_with(system: Option<System>, length: u32) -> FoundHeader
 {
     match system {
         Some(system) if is_line_length(length) => FoundHeader::Whole(LineHeader { system, length }),
-        _ => FoundHeader::Fault(FileFault::LineLength(HEAD_LENGTH as u64)),
+        _ => FoundHeader::Fault(LineFileFault::LineLength(HEAD_LENGTH as u64)),
     }
 }
 

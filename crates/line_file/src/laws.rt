@@ -1,10 +1,12 @@
 //! The numbers that code and definitions share, as the table of a line file gives them; and what follows
 //! from the definitions alone.
-ghost use Rattle.std.specs.Prelude.{◌≡◌, ◌≤◌, ℕ, List, [], ◌∷◌, ◌++◌, length, Some, None, true};
-ghost use Rattle.tc_files.specs.declared.fault.FileFault.{FileFault};
-ghost use Rattle.tc_files.specs.Grammar.{AreBytes};
-ghost use Rattle.tc_files.specs.Verdict.{good, refused, past_limit};
+ghost use Rattle.std.specs.Prelude.{◌≡◌, ◌≤◌, ℕ, List, [], ◌∷◌, ◌++◌, length, Some, None, true, codes};
+ghost use Rattle.line_file.specs.declared.fault.LineFileFault.{LineFileFault};
+ghost use Rattle.tc_io.specs.Bytes.{AreBytes};
+ghost use Rattle.line_file.specs.Verdict.{good, refused, past_limit};
 ghost use Rattle.vitc_reader.specs.declared.field.FieldAnswer.{FieldAnswer};
+ghost use Rattle.vitc_reader.specs.declared.line_length.TheConstants as line_length;
+ghost use Rattle.line_file.specs.declared.names.TheConstants as names;
 ghost use Rattle.line_file.specs.declared.decoder.TheConstants as decoder;
 ghost use Rattle.line_file.specs.declared.field.TheConstants as field;
 ghost use Rattle.line_file.specs.declared.header.TheConstants as header;
@@ -25,17 +27,30 @@ pub fn a_line_file_has_these_numbers()
     ensures version { header.VERSION ≡ 1 }
     ensures first { header.HEAD_LENGTH ≡ 8 }
     ensures length { header.HEADER_LENGTH ≡ 12 }
-    ensures least { header.MIN_LINE_LENGTH ≡ 460 }
-    ensures most { header.MAX_LINE_LENGTH ≡ 65535 }
+    ensures least { line_length.MIN_LINE_LENGTH ≡ 460 }
+    ensures most { line_length.MAX_LINE_LENGTH ≡ 65535 }
     ensures lines { field.MAX_LINES ≡ 20 }
     ensures runs { field.MAX_RUNS ≡ 89 }
     ensures room { decoder.FIELD_ROOM ≡ 3581 }
     ensures fields { decoder.MAX_FIELDS ≡ 100000000 }
 {}
 
+/// The faults of a line file have these names in notes.
+pub fn each_fault_has_its_name()
+    ensures magic { names.MAGIC_NAME.now ≡ codes "magic" }
+    ensures version { names.VERSION_NAME.now ≡ codes "version" }
+    ensures system { names.SYSTEM_NAME.now ≡ codes "system" }
+    ensures reserved { names.RESERVED_NAME.now ≡ codes "reserved" }
+    ensures line_length { names.LINE_LENGTH_NAME.now ≡ codes "line-length" }
+    ensures line_count { names.LINE_COUNT_NAME.now ≡ codes "line-count" }
+    ensures run_count { names.RUN_COUNT_NAME.now ≡ codes "run-count" }
+    ensures run { names.RUN_NAME.now ≡ codes "run" }
+    ensures truncated { names.TRUNCATED_NAME.now ≡ codes "truncated" }
+{}
+
 /// A fault of bytes is their fault whatever bytes follow, and so is the limit.
 pub fn what_bytes_show_stays()
-    ensures fault { (bytes more : List ℕ) (fault : FileFault) → (reading_of bytes).verdict ≡ refused fault
+    ensures fault { (bytes more : List ℕ) (fault : LineFileFault) → (reading_of bytes).verdict ≡ refused fault
         → (reading_of (bytes ++ more)).verdict ≡ refused fault }
     ensures limit { (bytes more : List ℕ) → (reading_of bytes).verdict ≡ past_limit → (reading_of (bytes ++ more)).verdict ≡ past_limit }
 {}

@@ -9,7 +9,7 @@ use Rattle.line_file.specs.Answers.{AreAnswers, AreAnswersOf}
 use Rattle.line_file.specs.Grammar.{file_of, AreRuns, AreFields}
 use Rattle.line_file.specs.LineFile.{Reading, reading_of}
 use Rattle.line_file.specs.LineHeader.{IsHeader}
-use Rattle.tc_files.specs.declared.fault.FileFault.TheVariants as fault
+use Rattle.line_file.specs.declared.fault.LineFileFault.TheVariants as fault
 use Rattle.tc_address.specs.declared.count.Count.{Count}
 use Rattle.tc_address.specs.declared.count.Count.TheVariants.{C24, C25, C30, Drop30}
 use Rattle.tc_address.specs.Count.{system_with}

@@ -5,7 +5,7 @@ use Rattle.std.proofs.lemmas.List.Elements.{All-head, All-tail}
 use Rattle.biphase.specs.declared.cell.TheConstants.{MAX_INTERVAL}
 use Rattle.biphase.specs.Chain.{flat}
 use Rattle.biphase.specs.Shape.{Shape, IsShape, shaped}
-use Rattle.tc_files.specs.Grammar.{AreIntervals}
+use Rattle.interval_file.specs.Grammar.{AreIntervals}
 
 abbrev pub IsInterval : ℕ → Type 0
 IsInterval x = (1 ≤ x) × (x ≤ MAX_INTERVAL)

@@ -14,10 +14,10 @@ use Rattle.direction_reader.specs.declared.event.Event.{Event}
 use Rattle.direction_reader.specs.ListEvents.{duration, AreEvents}
 use Rattle.direction_reader.specs.Played.{Played, bits_of_words, events_of_words}
 use Rattle.flywheel.specs.Frames.{steps_in}
-use Rattle.tc_files.specs.declared.interval_file.header.FileVersion.TheVariants.{One}
-use Rattle.tc_files.specs.declared.interval_file.header.IntervalHeader.{IntervalHeader}
-use Rattle.tc_files.specs.Grammar.{IsFile}
-use Rattle.tc_files.specs.IntervalHeader.{header_bytes}
+use Rattle.interval_file.specs.declared.header.FileVersion.TheVariants.{One}
+use Rattle.interval_file.specs.declared.header.IntervalHeader.{IntervalHeader}
+use Rattle.interval_file.specs.Grammar.{IsFile}
+use Rattle.interval_file.specs.IntervalHeader.{header_bytes}
 use Rattle.ltc_jam.specs.Word.{played_as}
 use Rattle.tc_words.specs.Stripe.{Striping}
 

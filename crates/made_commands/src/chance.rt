@@ -2,7 +2,7 @@
 ghost use Rattle.std.specs.Prelude.{◌≡◌, ◌≤◌, ◌<◌};
 ghost use Rattle.biphase.specs.Chain.{intervals_of};
 ghost use Rattle.generator.specs.Draw.{drawn};
-ghost use Rattle.tc_files.specs.Grammar.{AreIntervals};
+ghost use Rattle.interval_file.specs.Grammar.{AreIntervals};
 ghost use Rattle.made_commands.specs.Load.{IsChance, begins_with, cell_of, first_half, one_cell, one_draw};
 
 use biphase::Cell;

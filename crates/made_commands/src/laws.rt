@@ -1,8 +1,8 @@
 //! What follows from the definitions alone.
 ghost use Rattle.std.specs.Prelude.{◌≡◌, ◌≤◌, codes, length, None, Some};
 ghost use Rattle.biphase.specs.Chain.{flat};
-ghost use Rattle.tc_files.specs.Recording.{end_fault_of, recording_of};
-ghost use Rattle.tc_files.specs.Verdict.{good};
+ghost use Rattle.interval_file.specs.Recording.{end_fault_of, recording_of};
+ghost use Rattle.interval_file.specs.Verdict.{good};
 ghost use Rattle.tc_words.specs.declared.commands.TheConstants as commands;
 ghost use Rattle.tc_words.specs.LineStripe.{IsLineStripe, LineStriping};
 ghost use Rattle.tc_words.specs.Stripe.{IsStripe, Striping};
@@ -18,7 +18,7 @@ use line_file::laws::{
     runs_of_a_line_fit_the_file,
 };
 use ltc_jam::laws::{steps_lead_to_labels, words_of_labels_are_spelled};
-use tc_files::laws::a_file_is_read_as_it_was_written;
+use interval_file::laws::a_file_is_read_as_it_was_written;
 use vitc_line::laws::each_word_has_its_line;
 use vitc_reader::laws::each_line_has_its_runs;
 

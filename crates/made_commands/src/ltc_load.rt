@@ -3,26 +3,25 @@
 ghost use Rattle.std.specs.Prelude.{◌≡◌, ◌≤◌, ◌<◌, ◌+◌, ◌*◌, ◌/◌, ◌%◌, ◌^◌, ◌++◌, [], ◌∷◌, List, ℕ, fold, Some};
 ghost use Rattle.arrayvec.specs.ArrayVec.{array_vec_len};
 ghost use Rattle.biphase.specs.Chain.{flat, intervals_of};
-ghost use Rattle.biphase.specs.declared.cell.TheConstants.{MAX_INTERVAL};
+ghost use Rattle.biphase.specs.declared.cell.TheConstants.{MAX_INTERVAL, MAX_INTERVALS};
 ghost use Rattle.direction_reader.specs.declared.event.Events.{Events};
 ghost use Rattle.direction_reader.specs.Events.{event_list, listed};
 ghost use Rattle.direction_reader.specs.StandsFor.{MayTell, Tells};
 ghost use Rattle.direction_reader.specs.Played.{low_bits};
-ghost use Rattle.direction_reader.specs.declared.reader.TheConstants.{MAX_INTERVALS};
 ghost use Rattle.tc_address.specs.Label.{IsLabel};
 ghost use Rattle.tc_address.specs.declared.count.Count.TheVariants.{C25};
 ghost use Rattle.tc_bits.specs.Fields.{IsFields};
-ghost use Rattle.tc_files.specs.Grammar.{AreIntervals};
+ghost use Rattle.interval_file.specs.Grammar.{AreIntervals};
 ghost use Rattle.made_commands.specs.KeptLoad.{FitsTally, HasRead, first_or, line_with, no_counts, total, with_event};
 ghost use Rattle.made_commands.specs.Load.{IsAllRead, IsChance, behind, cells_by, first_label, label_text, load_text, load_word};
 
 use crate::chance::Chance;
 use crate::ltc_make::spelling;
-use biphase::{Cell, MAX_INTERVAL, Profile};
+use biphase::{Cell, MAX_INTERVAL, MAX_INTERVALS, Profile};
 use direction_reader::laws::{
     a_list_has_one_list_of_events, a_reader_gives_the_events_of_its_list, played_words_are_read,
 };
-use direction_reader::{Brought, DirectionReader, Event, MAX_INTERVALS};
+use direction_reader::{Brought, DirectionReader, Event};
 use line_text::{Text, push_bytes, push_number};
 use ltc_jam::laws::steps_lead_to_labels;
 use ltc_word::LtcWord;

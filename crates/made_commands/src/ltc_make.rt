@@ -20,7 +20,7 @@ use ltc_word::{LtcWord, encode};
 use tc_address::laws::steps_add_up;
 use tc_address::{Direction, Label, advance, system_of};
 use tc_command::{Maker, PIECE, Piece, Stop, make};
-use tc_files::{FileVersion, IntervalHeader, interval_header};
+use interval_file::{FileVersion, IntervalHeader, interval_header};
 use tc_io::{Sink, Source};
 use tc_words::Stripe;
 

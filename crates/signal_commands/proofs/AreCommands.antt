@@ -15,12 +15,14 @@ use Rattle.pcm_front.specs.declared.pace.Pace.{Pace}
 use Rattle.pcm_front.specs.Pace.{intervals_at, IsPace}
 use Rattle.pcm_front.specs.Samples.{sample_in, samples_of}
 use Rattle.pcm_front.specs.Settings.{Settings}
-use Rattle.tc_files.specs.declared.fault.FileFault.{FileFault}
-use Rattle.tc_files.specs.declared.interval_file.header.IntervalHeader.{IntervalHeader}
-use Rattle.tc_files.specs.Grammar.{file_of, intervals_bytes}
-use Rattle.tc_files.specs.IntervalHeader.{header_bytes}
-use Rattle.tc_files.specs.Piece.{spelling}
-use Rattle.tc_files.specs.Verdict.{refused, past_limit}
+use Rattle.tc_command.specs.declared.input_fault.InputFault.{InputFault}
+use Rattle.interval_file.specs.declared.header.IntervalHeader.{IntervalHeader}
+use Rattle.interval_file.specs.Grammar.{file_of, intervals_bytes}
+use Rattle.interval_file.specs.IntervalHeader.{header_bytes}
+use Rattle.interval_file.specs.Piece.{spelling}
+use Rattle.line_file.specs.declared.fault.LineFileFault.{LineFileFault}
+use Rattle.line_file.specs.Verdict.{Verdict, good, refused, past_limit}
+use Rattle.tc_command.specs.Verdict as verdict
 use Rattle.tc_io.specs.Sink.{IsFront}
 use Rattle.tc_words.specs.Slicing.{Slices}
 use Rattle.vitc_reader.specs.declared.field.FieldAnswer.{FieldAnswer}
@@ -30,7 +32,7 @@ use Rattle.signal_commands.specs.declared.mtc_read.TheConstants.{MAX_BYTES}
 use Rattle.signal_commands.specs.declared.pcm_ltc.TheConstants.{MAX_SAMPLES}
 use Rattle.signal_commands.specs.MtcRead.{along_midi, event_lines, last_mtc_line}
 use Rattle.signal_commands.specs.PcmLtc.{along_samples, pace_for, settings_for, sliced, sliced_header}
-use Rattle.signal_commands.specs.VitcRead.{along_fields, answer_lines, field_report, last_field_line}
+use Rattle.signal_commands.specs.VitcRead.{along_fields, answer_lines, field_report, last_field_line, verdict_of}
 use Rattle.signal_commands.proofs.MidiLimit.{never_refused, past_within}
 use Rattle.signal_commands.proofs.PutMore.{is_pace}
 use Rattle.signal_commands.proofs.SlicedOn.{never_refused as no_fault_yet, past_within as past_samples}
@@ -149,11 +151,22 @@ samples_are_command laws s = record {
 
 -- what the laws of a line file say: what bytes show stays, and their answers come first and are one list
 pub record FieldLaws : Type 0 where
-  pub fault : (bytes more : List ℕ) (f : FileFault) → (reading_of bytes).verdict ≡ refused f → (reading_of (bytes ++ more)).verdict ≡ refused f
+  pub fault : (bytes more : List ℕ) (f : LineFileFault) → (reading_of bytes).verdict ≡ refused f → (reading_of (bytes ++ more)).verdict ≡ refused f
   pub limit : (bytes more : List ℕ) → (reading_of bytes).verdict ≡ past_limit → (reading_of (bytes ++ more)).verdict ≡ past_limit
   pub answers : (bytes more : List ℕ) (answers all : List FieldAnswer) → AreAnswersOf (reading_of bytes) answers
       → AreAnswersOf (reading_of (bytes ++ more)) all → (rest : List FieldAnswer) × (all ≡ answers ++ rest)
   pub one : (bytes : List ℕ) (a b : List FieldAnswer) → AreAnswersOf (reading_of bytes) a → AreAnswersOf (reading_of bytes) b → a ≡ b
+
+fault_stays : (v u : Verdict) (f : InputFault) → ((g : LineFileFault) → v ≡ refused g → u ≡ refused g) → verdict_of v ≡ verdict.refused f
+    → verdict_of u ≡ verdict.refused f
+fault_stays good u f stays e = absurd cc
+fault_stays (refused g) u f stays e = ap verdict_of (stays g refl) ∙ e
+fault_stays past_limit u f stays e = absurd cc
+
+limit_stays : (v u : Verdict) → (v ≡ past_limit → u ≡ past_limit) → verdict_of v ≡ verdict.past_limit → verdict_of u ≡ verdict.past_limit
+limit_stays good u stays e = absurd cc
+limit_stays (refused g) u stays e = absurd cc
+limit_stays past_limit u stays e = ap verdict_of (stays refl)
 
 field_lines_first : (field : ℕ) (answers more : List FieldAnswer) → (rest : List ℕ)
     × (answer_lines field (answers ++ more) ≡ answer_lines field answers ++ rest)
@@ -181,8 +194,10 @@ fields_are_command laws = record {
   };
   one_part = λ bytes a b one all. one.2 ∙ ap (answer_lines 0) (laws.one bytes one.0 all.0 one.1 all.1) ∙ sym all.2;
   one_output = λ input a b one all. one.2 ∙ ap field_report (laws.one input one.0 all.0 one.1 all.1) ∙ sym all.2;
-  fault = λ front rest f e. laws.fault front rest f e;
-  limit = λ front rest e. laws.limit front rest e;
+  fault = λ front rest f e.
+      fault_stays (reading_of front).verdict (reading_of (front ++ rest)).verdict f (laws.fault front rest) e;
+  limit = λ front rest e.
+      limit_stays (reading_of front).verdict (reading_of (front ++ rest)).verdict (laws.limit front rest) e;
   fault_unspent = λ front rest f e spent. spent;
   limit_unspent = λ front rest e spent. spent;
   ends = λ bytes f e. refl;

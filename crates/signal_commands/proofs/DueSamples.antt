@@ -9,9 +9,9 @@ use Rattle.pcm_front.specs.declared.interval.Intervals.{Intervals}
 use Rattle.pcm_front.specs.declared.pace.Pace.{Pace}
 use Rattle.pcm_front.specs.Pace.{intervals_at, intervals_in}
 use Rattle.pcm_front.specs.Settings.{Settings}
-use Rattle.tc_files.specs.declared.interval_file.header.FileVersion.TheVariants.{One}
-use Rattle.tc_files.specs.Grammar.{intervals_bytes}
-use Rattle.tc_files.specs.Piece.{spelling}
+use Rattle.interval_file.specs.declared.header.FileVersion.TheVariants.{One}
+use Rattle.interval_file.specs.Grammar.{intervals_bytes}
+use Rattle.interval_file.specs.Piece.{spelling}
 use Rattle.tc_io.specs.Sink.{AppendsFront}
 use Rattle.tc_command.specs.KeptGathered.{IsPut}
 use Rattle.signal_commands.specs.KeptTrack.{AreDue, spelled}

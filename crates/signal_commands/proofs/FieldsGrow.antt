@@ -1,12 +1,15 @@
 -- The lines of fields grow by the line of the field that bytes complete, and the last line counts all of them.
-use Rattle.std.proofs.Common.{◌≡◌, ℕ, ◌+◌, List, [], ◌∷◌, ◌++◌, length, count_by, Bool, cond, refl, sym, ◌∙◌, ap, ap₂, arith, subst}
+use Rattle.std.proofs.Common.{◌≡◌, ℕ, ◌+◌, List, [], ◌∷◌, ◌++◌, length, count_by, Bool, cond, Some, None, refl, sym, ◌∙◌, ap, ap₂, arith, subst}
 use Rattle.std.proofs.Common.{append_assoc, append-nil}
 use Rattle.std.specs.declared.option.Option.{Option}
 use Rattle.std.proofs.lemmas.List.{length-append}
 use Rattle.std.proofs.lemmas.List.Sums.{sum_by-append, sum_by-cons}
 use Rattle.vitc_reader.specs.declared.field.FieldAnswer.{FieldAnswer}
 use Rattle.vitc_reader.specs.declared.field.FieldAnswer.TheVariants.{NoLine, Agreed, Conflict, Nothing}
-use Rattle.tc_files.specs.Verdict.{good}
+use Rattle.std.specs.Option.{option_map}
+use Rattle.line_file.specs.declared.fault.LineFileFault.{LineFileFault}
+use Rattle.line_file.specs.Verdict.{good}
+use Rattle.tc_command.specs.declared.input_fault.InputFault.TheVariants.{Lines}
 use Rattle.tc_io.specs.Sink.{AppendsFront}
 use Rattle.line_file.specs.LineFile.{reading_of}
 use Rattle.line_file.specs.StandsFor as reads
@@ -21,6 +24,14 @@ use Rattle.signal_commands.specs.VitcRead.{along_fields, answer_lines, is_agreed
 -- what the law of the decoder says
 abbrev pub TellsTheFile : Type 0
 TellsTheFile = (d : Decoding) (bytes : List ℕ) (answers : List FieldAnswer) → reads.StandsFor d bytes answers → IsTold (reading_of bytes) good answers
+
+-- ---- the fault at the end
+
+pub ends_well : {fault : Option LineFileFault} → fault ≡ None → option_map Lines fault ≡ None
+ends_well e = ap (λ (f : Option LineFileFault). option_map Lines f) e
+
+pub ends_badly : {fault : Option LineFileFault} {first : LineFileFault} → fault ≡ Some first → option_map Lines fault ≡ Some (Lines first)
+ends_badly e = ap (λ (f : Option LineFileFault). option_map Lines f) e
 
 -- ---- lines
 

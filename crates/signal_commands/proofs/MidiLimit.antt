@@ -2,20 +2,20 @@
 use Rattle.std.proofs.Common.{◌≡◌, ℕ, List, ◌++◌, ◌<◌, ◌≤◌, ◌∙◌, length, nat_lt, cond, Bool, true, false, refl, ap, arith}
 use Rattle.std.proofs.lemmas.Bool.{ltb-true, lt-ltb}
 use Rattle.std.proofs.lemmas.List.{length-append, take_all, take-append-le}
-use Rattle.tc_files.specs.declared.fault.FileFault.{FileFault}
-use Rattle.tc_files.specs.Verdict.{Verdict, good, refused, past_limit}
+use Rattle.tc_command.specs.declared.input_fault.InputFault.{InputFault}
+use Rattle.tc_command.specs.Verdict.{Verdict, good, refused, past_limit}
 use Rattle.mtc_reader.specs.Events.{events_in}
 use Rattle.signal_commands.specs.MtcRead.{event_lines, lines_within, verdict_within}
 
 abbrev verdict_by : Bool → Verdict
 verdict_by b = cond b past_limit good
 
-not_refused : (b : Bool) (f : FileFault) → ¬ (verdict_by b ≡ refused f)
+not_refused : (b : Bool) (f : InputFault) → ¬ (verdict_by b ≡ refused f)
 not_refused true f e = absurd cc
 not_refused false f e = absurd cc
 
 -- nothing is refused
-pub never_refused : (most : ℕ) (bytes : List ℕ) (f : FileFault) → ¬ (verdict_within most bytes ≡ refused f)
+pub never_refused : (most : ℕ) (bytes : List ℕ) (f : InputFault) → ¬ (verdict_within most bytes ≡ refused f)
 never_refused most bytes f e = not_refused (nat_lt most (length bytes)) f e
 
 past_by : (most n : ℕ) (b : Bool) → nat_lt most n ≡ b → verdict_by b ≡ past_limit → most < n

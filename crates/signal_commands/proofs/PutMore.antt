@@ -10,9 +10,9 @@ use Rattle.pcm_front.specs.declared.pace.Pace.{Pace}
 use Rattle.pcm_front.specs.declared.pace.Pace.TheVariants.{Ended, Passing}
 use Rattle.pcm_front.specs.Pace.{begun, intervals_in, IsPace}
 use Rattle.tc_address.specs.declared.system.System.{System}
-use Rattle.tc_files.specs.declared.interval_file.header.FileVersion.TheVariants.{One}
-use Rattle.tc_files.specs.Grammar.{intervals_bytes}
-use Rattle.tc_files.specs.Piece.{spelling}
+use Rattle.interval_file.specs.declared.header.FileVersion.TheVariants.{One}
+use Rattle.interval_file.specs.Grammar.{intervals_bytes}
+use Rattle.interval_file.specs.Piece.{spelling}
 use Rattle.tc_words.specs.Live.{pace_of}
 
 -- ---- intervals of one length

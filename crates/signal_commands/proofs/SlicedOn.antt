@@ -14,12 +14,12 @@ use Rattle.pcm_front.specs.Pace.{intervals_at, intervals_in}
 use Rattle.pcm_front.specs.Samples.{samples_of}
 use Rattle.pcm_front.specs.Settings.{Settings}
 use Rattle.pcm_front.specs.StandsFor as pcm
-use Rattle.tc_files.specs.declared.fault.FileFault.{FileFault}
-use Rattle.tc_files.specs.declared.interval_file.header.FileVersion.TheVariants.{One}
-use Rattle.tc_files.specs.Grammar.{file_of, intervals_bytes}
-use Rattle.tc_files.specs.IntervalHeader.{header_bytes}
-use Rattle.tc_files.specs.Piece.{spelling}
-use Rattle.tc_files.specs.Verdict.{Verdict, good, refused, past_limit}
+use Rattle.tc_command.specs.declared.input_fault.InputFault.{InputFault}
+use Rattle.interval_file.specs.declared.header.FileVersion.TheVariants.{One}
+use Rattle.interval_file.specs.Grammar.{file_of, intervals_bytes}
+use Rattle.interval_file.specs.IntervalHeader.{header_bytes}
+use Rattle.interval_file.specs.Piece.{spelling}
+use Rattle.tc_command.specs.Verdict.{Verdict, good, refused, past_limit}
 use Rattle.tc_io.specs.Sink.{AppendsFront}
 use Rattle.tc_words.specs.Slicing as words
 use Rattle.signal_commands.specs.declared.pcm_ltc.SlicedSound.{SlicedSound}
@@ -29,7 +29,7 @@ use Rattle.std.specs.declared.result.Result.{Result}
 use Rattle.tc_command.specs.declared.stop.Stop.{Stop}
 use Rattle.tc_command.specs.declared.stop.Stop.TheVariants as stops
 use Rattle.signal_commands.specs.KeptSlices.{Slices, Stands, half_is_none, length-samples, samples_of-append}
-use Rattle.tc_files.specs.declared.fault.FileFault.TheVariants.{Truncated}
+use Rattle.tc_command.specs.declared.input_fault.InputFault.TheVariants.{HalfSample}
 use Rattle.signal_commands.specs.PcmLtc.{along_samples, odd_fault, pace_for, samples_within, settings_for, sliced}
 use Rattle.signal_commands.specs.PcmLtc.{sliced_header}
 use Rattle.tc_command.specs.Stops.{Stops}
@@ -41,12 +41,12 @@ use Rattle.signal_commands.proofs.PutMore.{none_begun}
 abbrev verdict_by : Bool → Verdict
 verdict_by b = cond b past_limit good
 
-not_refused : (b : Bool) (f : FileFault) → ¬ (verdict_by b ≡ refused f)
+not_refused : (b : Bool) (f : InputFault) → ¬ (verdict_by b ≡ refused f)
 not_refused true f e = absurd cc
 not_refused false f e = absurd cc
 
 -- nothing is refused before the end
-pub never_refused : (most : ℕ) (bytes : List ℕ) (f : FileFault) → ¬ (samples_within most bytes ≡ refused f)
+pub never_refused : (most : ℕ) (bytes : List ℕ) (f : InputFault) → ¬ (samples_within most bytes ≡ refused f)
 never_refused most bytes f e = not_refused (nat_lt most (length (samples_of bytes))) f e
 
 past_by : (most n : ℕ) (b : Bool) → nat_lt most n ≡ b → verdict_by b ≡ past_limit → most < n
@@ -196,15 +196,15 @@ gathered_part s whole written bytes old new slices f =
 -- ---- the end
 
 -- half a sample more than whole ones
-pub odd_end : (count : ℕ) (bytes : List ℕ) → length bytes ≡ 2 * count + 1 → odd_fault bytes ≡ Some (Truncated (2 * count + 1))
+pub odd_end : (count : ℕ) (bytes : List ℕ) → length bytes ≡ 2 * count + 1 → odd_fault bytes ≡ Some (HalfSample (2 * count + 1))
 odd_end count bytes long =
     let odd : (2 * count + 1) % 2 ≡ 1 = omega arith in
-    ap (λ (n : ℕ). cond (n % 2 == 1) (Some (Truncated n)) None) long ∙ ap (λ (n : ℕ). cond (n == 1) (Some (Truncated (2 * count + 1))) None) odd
+    ap (λ (n : ℕ). cond (n % 2 == 1) (Some (HalfSample n)) None) long ∙ ap (λ (n : ℕ). cond (n == 1) (Some (HalfSample (2 * count + 1))) None) odd
 
 pub even_end : (count : ℕ) (bytes : List ℕ) → length bytes ≡ 2 * count → odd_fault bytes ≡ None
 even_end count bytes long =
     let even : (2 * count) % 2 ≡ 0 = omega arith in
-    ap (λ (n : ℕ). cond (n % 2 == 1) (Some (Truncated n)) None) long ∙ ap (λ (n : ℕ). cond (n == 1) (Some (Truncated (2 * count))) None) even
+    ap (λ (n : ℕ). cond (n % 2 == 1) (Some (HalfSample n)) None) long ∙ ap (λ (n : ℕ). cond (n == 1) (Some (HalfSample (2 * count))) None) even
 
 pub length-bytes : (s : SlicedSound) (bytes written : List ℕ) → Stands s bytes written → length bytes ≡ 2 * s.samples + length (option_to_list s.half)
 length-bytes s bytes written stands =

@@ -11,9 +11,9 @@ use Rattle.pcm_front.specs.declared.pace.Pace.TheVariants.{Ended}
 use Rattle.pcm_front.specs.Settings.{Settings}
 use Rattle.pcm_front.specs.StandsFor as pcm
 use Rattle.pcm_front.specs.StandsFor.{settings_of, tick_of}
-use Rattle.tc_files.specs.declared.fault.FileFault.TheVariants.{Sound}
-use Rattle.tc_files.specs.Grammar.{file_of}
-use Rattle.tc_files.specs.IntervalHeader.{header_bytes}
+use Rattle.tc_command.specs.declared.input_fault.InputFault.TheVariants.{Sound}
+use Rattle.interval_file.specs.Grammar.{file_of}
+use Rattle.interval_file.specs.IntervalHeader.{header_bytes}
 use Rattle.tc_io.specs.Sink.{AppendsFront}
 use Rattle.tc_words.specs.WaveSlicing.{SlicesWave}
 use Rattle.wave_file.specs.declared.decoder.Taken.TheVariants as taken

@@ -6,12 +6,12 @@ use Rattle.std.proofs.lemmas.Grind.{flat_map-append}
 use Rattle.pcm_front.specs.declared.pace.Pace.{Pace}
 use Rattle.pcm_front.specs.Pace.{intervals_at, IsPace}
 use Rattle.pcm_front.specs.Settings.{Settings}
-use Rattle.tc_files.specs.declared.fault.FileFault.{FileFault}
-use Rattle.tc_files.specs.declared.interval_file.header.FileVersion.TheVariants.{One}
-use Rattle.tc_files.specs.Grammar.{intervals_bytes}
-use Rattle.tc_files.specs.IntervalHeader.{header_bytes}
-use Rattle.tc_files.specs.Piece.{spelling}
-use Rattle.tc_files.specs.Verdict as verdict
+use Rattle.tc_command.specs.declared.input_fault.InputFault.{InputFault}
+use Rattle.interval_file.specs.declared.header.FileVersion.TheVariants.{One}
+use Rattle.interval_file.specs.Grammar.{intervals_bytes}
+use Rattle.interval_file.specs.IntervalHeader.{header_bytes}
+use Rattle.interval_file.specs.Piece.{spelling}
+use Rattle.tc_command.specs.Verdict as verdict
 use Rattle.tc_io.specs.Sink.{IsFront}
 use Rattle.tc_words.specs.WaveSlicing.{SlicesWave}
 use Rattle.wave_file.specs.declared.fault.WaveFault.{WaveFault}
@@ -66,7 +66,7 @@ file_first laws w r s goes = by_format goes.format
 
 -- ---- what bytes show
 
-fault_stays : (v u : Verdict) (f : FileFault) → ((g : WaveFault) → v ≡ refused g → u ≡ refused g) → verdict_of v ≡ verdict.refused f
+fault_stays : (v u : Verdict) (f : InputFault) → ((g : WaveFault) → v ≡ refused g → u ≡ refused g) → verdict_of v ≡ verdict.refused f
     → verdict_of u ≡ verdict.refused f
 fault_stays good u f stays e = absurd cc
 fault_stays (refused g) u f stays e = ap verdict_of (stays g refl) ∙ e

@@ -5,7 +5,7 @@ use Rattle.mtc_reader.specs.declared.event.MtcEvent.{MtcEvent}
 use Rattle.mtc_reader.specs.declared.event.MtcEvent.TheVariants.{Full, Quarter, RefusedFull, RefusedQuarter}
 use Rattle.mtc_reader.specs.Events.{events_in}
 use Rattle.mtc_reader.specs.Texts.{event_line, end_line}
-use Rattle.tc_files.specs.Verdict.{Verdict, good, past_limit}
+use Rattle.tc_command.specs.Verdict.{Verdict, good, past_limit}
 use Rattle.signal_commands.specs.declared.mtc_read.TheConstants.{MAX_BYTES}
 use Rattle.tc_command.specs.Meaning.{Meaning}
 

@@ -4,12 +4,12 @@ use Rattle.pcm_front.specs.declared.pace.Pace.{Pace}
 use Rattle.pcm_front.specs.Pace.{intervals_at}
 use Rattle.pcm_front.specs.Samples.{samples_of}
 use Rattle.pcm_front.specs.Settings.{from_crossing, Settings}
-use Rattle.tc_files.specs.declared.fault.FileFault.{FileFault}
-use Rattle.tc_files.specs.declared.fault.FileFault.TheVariants.{Truncated}
-use Rattle.tc_files.specs.declared.interval_file.header.FileVersion.TheVariants.{One}
-use Rattle.tc_files.specs.declared.interval_file.header.IntervalHeader.{IntervalHeader}
-use Rattle.tc_files.specs.Grammar.{file_of}
-use Rattle.tc_files.specs.Verdict.{Verdict, good, past_limit}
+use Rattle.tc_command.specs.declared.input_fault.InputFault.{InputFault}
+use Rattle.tc_command.specs.declared.input_fault.InputFault.TheVariants.{HalfSample}
+use Rattle.interval_file.specs.declared.header.FileVersion.TheVariants.{One}
+use Rattle.interval_file.specs.declared.header.IntervalHeader.{IntervalHeader}
+use Rattle.interval_file.specs.Grammar.{file_of}
+use Rattle.tc_command.specs.Verdict.{Verdict, good, past_limit}
 use Rattle.tc_words.specs.Live.{pace_of}
 use Rattle.tc_words.specs.Slicing.{Slices}
 use Rattle.signal_commands.specs.declared.pcm_ltc.TheConstants.{MAX_SAMPLES}
@@ -37,8 +37,8 @@ abbrev pub samples_within : ℕ → List ℕ → Verdict
 samples_within most bytes = cond (nat_lt most (length (samples_of bytes))) past_limit good
 
 -- the input may not end inside a sample
-abbrev pub odd_fault : List ℕ → Option FileFault
-odd_fault bytes = cond (length bytes % 2 == 1) (Some (Truncated (length bytes))) None
+abbrev pub odd_fault : List ℕ → Option InputFault
+odd_fault bytes = cond (length bytes % 2 == 1) (Some (HalfSample (length bytes))) None
 
 -- what it takes and what it writes: the header stands before the first sample
 abbrev pub along_samples : Slices → Meaning

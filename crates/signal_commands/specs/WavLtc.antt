@@ -5,11 +5,11 @@ use Rattle.std.specs.Option.{option_map}
 use Rattle.pcm_front.specs.declared.pace.Pace.{Pace}
 use Rattle.pcm_front.specs.Pace.{intervals_at}
 use Rattle.pcm_front.specs.Settings.{Settings, from_start}
-use Rattle.tc_files.specs.declared.fault.FileFault.TheVariants.{Sound}
-use Rattle.tc_files.specs.declared.interval_file.header.FileVersion.TheVariants.{One}
-use Rattle.tc_files.specs.declared.interval_file.header.IntervalHeader.{IntervalHeader}
-use Rattle.tc_files.specs.Grammar.{file_of}
-use Rattle.tc_files.specs.Verdict as verdict
+use Rattle.tc_command.specs.declared.input_fault.InputFault.TheVariants.{Sound}
+use Rattle.interval_file.specs.declared.header.FileVersion.TheVariants.{One}
+use Rattle.interval_file.specs.declared.header.IntervalHeader.{IntervalHeader}
+use Rattle.interval_file.specs.Grammar.{file_of}
+use Rattle.tc_command.specs.Verdict as verdict
 use Rattle.tc_words.specs.Live.{pace_of}
 use Rattle.tc_words.specs.WaveSlicing.{SlicesWave}
 use Rattle.wave_file.specs.declared.format.WaveFormat.{WaveFormat}

@@ -11,8 +11,8 @@ ghost use Rattle.tc_command.specs.Stops.{Stops};
 
 use crate::spelling::spell;
 use pcm_front::Slicer;
-use tc_command::{Engine, Gathered, Stop, work};
-use tc_files::{FileFault, FileVersion, IntervalHeader, interval_header};
+use tc_command::{Engine, Gathered, InputFault, Stop, work};
+use interval_file::{FileVersion, IntervalHeader, interval_header};
 use tc_io::{Sink, Source};
 use tc_words::Slicing;
 
@@ -154,7 +154,7 @@ impl Engine for SlicedSound {
 
     fn finish<K: Sink>(&self, _out: &mut K) -> Result<(), Stop> {
         match self.half {
-            Some(_) => Err(Stop::Refused(FileFault::Truncated(2 * self.samples + 1))),
+            Some(_) => Err(Stop::Refused(InputFault::HalfSample(2 * self.samples + 1))),
             None => Ok(()),
         }
     }

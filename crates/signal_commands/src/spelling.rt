@@ -3,9 +3,9 @@ ghost use Rattle.std.specs.Prelude.{◌≡◌, ◌≤◌, ◌++◌, replicate, I
 ghost use Rattle.std.specs.Option.{option_to_list};
 ghost use Rattle.pcm_front.specs.Distance.{IsInterval};
 ghost use Rattle.pcm_front.specs.Pace.{intervals_in};
-ghost use Rattle.tc_files.specs.declared.interval_file.header.FileVersion.{FileVersion};
-ghost use Rattle.tc_files.specs.Grammar.{intervals_bytes};
-ghost use Rattle.tc_files.specs.Piece.{spelling};
+ghost use Rattle.interval_file.specs.declared.header.FileVersion.{FileVersion};
+ghost use Rattle.interval_file.specs.Grammar.{intervals_bytes};
+ghost use Rattle.interval_file.specs.Piece.{spelling};
 ghost use Rattle.tc_io.specs.Sink.{AppendsFront};
 ghost use Rattle.tc_command.specs.Causes.{HasOutCause};
 ghost use Rattle.tc_command.specs.KeptGathered.{IsPut};

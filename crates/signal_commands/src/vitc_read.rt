@@ -13,7 +13,7 @@ ghost use Rattle.signal_commands.specs.VitcRead.{along_fields};
 
 use line_file::laws::a_decoder_tells_the_file;
 use line_file::{LineDecoder, Taken, field_end_text, field_text};
-use tc_command::{Engine, Stop, push_line, work};
+use tc_command::{Engine, InputFault, Stop, push_line, work};
 use tc_io::{Sink, Source};
 use vitc_reader::FieldAnswer;
 
@@ -107,7 +107,7 @@ impl Engine for FieldReport {
                 self.print(&answer, out)?;
                 Ok(count)
             }
-            Taken::Fault(fault) => Err(Stop::Refused(fault)),
+            Taken::Fault(fault) => Err(Stop::Refused(InputFault::Lines(fault))),
             Taken::Limit => Err(Stop::Limit),
         }
     }
@@ -122,7 +122,7 @@ impl Engine for FieldReport {
                 out,
                 &field_end_text(self.fields, self.agreed, self.conflict, self.nothing),
             ),
-            Err(fault) => Err(Stop::Refused(fault)),
+            Err(fault) => Err(Stop::Refused(InputFault::Lines(fault))),
         }
     }
 }

@@ -15,13 +15,13 @@ ghost use Rattle.wave_file.specs.Format.{IsTakenFor};
 ghost use Rattle.wave_file.specs.StandsFor.{bytes_taken};
 ghost use Rattle.signal_commands.specs.KeptTrack.{AreDue, IsGoing, Stands, pace_in};
 ghost use Rattle.signal_commands.specs.WavLtc.{along_sound_file, track_header};
-ghost use Rattle.tc_files.specs.IntervalHeader.{header_bytes};
+ghost use Rattle.interval_file.specs.IntervalHeader.{header_bytes};
 
 use crate::spelling::spell;
 use pcm_front::laws::intervals_of_a_front_come_first;
 use pcm_front::{Pace, Slicer};
-use tc_command::{Engine, Gathered, Stop, work};
-use tc_files::{FileFault, FileVersion, IntervalHeader, interval_header};
+use tc_command::{Engine, Gathered, InputFault, Stop, work};
+use interval_file::{FileVersion, IntervalHeader, interval_header};
 use tc_io::{Sink, Source};
 use tc_words::WaveSlicing;
 use wave_file::laws::{samples_are_few_and_behind_a_format, what_a_sound_file_shows_stays};
@@ -130,7 +130,7 @@ impl SlicedTrack {
             }
             Taken::Fault(fault) => {
                 self.gathered.push(out)?;
-                Err(Stop::Refused(FileFault::Sound(fault)))
+                Err(Stop::Refused(InputFault::Sound(fault)))
             }
             Taken::Limit => {
                 self.gathered.push(out)?;
@@ -234,7 +234,7 @@ impl Engine for SlicedTrack {
     fn finish<K: Sink>(&self, _out: &mut K) -> Result<(), Stop> {
         match self.decoder.finish() {
             Ok(()) => Ok(()),
-            Err(fault) => Err(Stop::Refused(FileFault::Sound(fault))),
+            Err(fault) => Err(Stop::Refused(InputFault::Sound(fault))),
         }
     }
 }

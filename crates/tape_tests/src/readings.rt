@@ -1,6 +1,6 @@
 //! Windows and recordings whose events are known from outside.
-use biphase::{MAX_INTERVAL, Profile};
-use direction_reader::{Brought, DirectionReader, Event, Events, MAX_INTERVALS, window_events};
+use biphase::{MAX_INTERVAL, MAX_INTERVALS, Profile};
+use direction_reader::{Brought, DirectionReader, Event, Events, window_events};
 use ltc_word::LtcWord;
 use std::test::Fail;
 use tc_address::{Count, Direction, Label, System};

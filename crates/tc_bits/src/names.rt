@@ -1,5 +1,5 @@
 //! The names of the faults of the fields, as lines print them. This project's own. Next:
-//! `tc_files/src/texts/event.rt` and `line_file/src/texts.rt`, which print them.
+//! `report_text/src/event.rt` and `line_file/src/texts.rt`, which print them.
 
 /// The name of `FieldFault::FrameUnits`.
 pub const FRAME_UNITS: &str = "frame-units";

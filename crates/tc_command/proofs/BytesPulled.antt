@@ -1,7 +1,7 @@
 -- The bytes that are pulled are bytes.
 use Rattle.std.proofs.Common.{Fits, w8, suc, ℕ, List, [], ◌∷◌, ◌++◌, get_or}
 use Rattle.std.proofs.Math.Facts.{Fits-lt-pow}
-use Rattle.tc_files.specs.Grammar.{AreBytes}
+use Rattle.tc_io.specs.Bytes.{AreBytes}
 
 -- those of a slice
 pub are_bytes : (list : List ℕ) → ((i : ℕ) → Fits w8 (get_or list i 0)) → AreBytes list

@@ -4,8 +4,8 @@ use Rattle.std.proofs.Common.{◌≡◌, ℕ, List, ◌++◌, Bool, true, false,
 use Rattle.std.specs.declared.option.Option.{Option}
 use Rattle.std.specs.Io.KnownBytes.{Consumes}
 use Rattle.tc_io.specs.Source.{Rose}
-use Rattle.tc_files.specs.declared.fault.FileFault.{FileFault}
-use Rattle.tc_files.specs.Verdict.{Verdict, good, refused, past_limit}
+use Rattle.tc_command.specs.declared.input_fault.InputFault.{InputFault}
+use Rattle.tc_command.specs.Verdict.{Verdict, good, refused, past_limit}
 use Rattle.tc_command.specs.declared.status.Status.{Status}
 use Rattle.tc_command.specs.declared.status.Status.TheVariants as status
 use Rattle.tc_command.specs.declared.stop.Stop.{Stop}
@@ -21,11 +21,11 @@ use Rattle.tc_command.specs.WholeInput.{HasStatus, status_by, status_on, status_
 by_verdict : (m : Meaning) (all : List ℕ) (v : Verdict) → m.verdict all ≡ v → status_on m all ≡ status_by v (m.end_fault all)
 by_verdict m all v e = ap (λ (w : Verdict). status_by w (m.end_fault all)) e
 
-by_end : (m : Meaning) (all : List ℕ) (o : Option FileFault) → m.verdict all ≡ good → m.end_fault all ≡ o → status_on m all ≡ status_at_end o
+by_end : (m : Meaning) (all : List ℕ) (o : Option InputFault) → m.verdict all ≡ good → m.end_fault all ≡ o → status_on m all ≡ status_at_end o
 by_end m all o e f = by_verdict m all good e ∙ ap status_at_end f
 
 -- bytes that pass no limit of the command's own, and show this
-unspent_all : (m : Meaning) → IsCommand m → (all pulled more : List ℕ) (f : FileFault) → all ≡ pulled ++ more → Shows m (refused f) pulled → ¬ m.spent all
+unspent_all : (m : Meaning) → IsCommand m → (all pulled more : List ℕ) (f : InputFault) → all ≡ pulled ++ more → Shows m (refused f) pulled → ¬ m.spent all
 unspent_all m laws all pulled more f is shows = λ spent. shows.unspent (laws.fault_unspent pulled more f shows.is (subst m.spent is spent))
 
 past_unspent : (m : Meaning) → IsCommand m → (all pulled more : List ℕ) → all ≡ pulled ++ more → Shows m past_limit pulled → ¬ m.spent all

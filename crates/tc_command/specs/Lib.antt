@@ -3,6 +3,7 @@ pub mod ComesFirst
 pub mod Command
 pub mod Ends
 pub mod Exchange
+pub mod InputFault
 pub mod KeptFirst
 pub mod KeptGathered
 pub mod KeptPushed
@@ -14,4 +15,5 @@ pub mod Notes
 pub mod Ran
 pub mod Status
 pub mod Stops
+pub mod Verdict
 pub mod WholeInput

@@ -1,8 +1,8 @@
 -- What a command takes and what it writes.
 use Rattle.std.specs.Prelude.{◌≡◌, ℕ, Bool, false, IsTrue, if◌then◌else◌, List, [], Option, None}
 use Rattle.std.specs.Io.KnownBytes.{IsAtEnd}
-use Rattle.tc_files.specs.declared.fault.FileFault.{FileFault}
-use Rattle.tc_files.specs.Verdict.{Verdict, good}
+use Rattle.tc_command.specs.declared.input_fault.InputFault.{InputFault}
+use Rattle.tc_command.specs.Verdict.{Verdict, good}
 
 pub record Meaning : Type 1 where
   -- it pulls an input
@@ -10,7 +10,7 @@ pub record Meaning : Type 1 where
   -- what its grammar and its limit make of bytes, whatever follows them
   pub verdict : List ℕ → Verdict
   -- the fault of an input that ends with these bytes, where they are good
-  pub end_fault : List ℕ → Option FileFault
+  pub end_fault : List ℕ → Option InputFault
   -- these bytes pass a limit of the command's own, whatever follows them
   pub spent : List ℕ → Type 0
   -- what is written of bytes before their end

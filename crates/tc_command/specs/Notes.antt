@@ -1,7 +1,7 @@
 -- The note of each status but Done: one line.
 use Rattle.std.specs.Prelude.{ℕ, List, ◌++◌, codes, decimal}
-use Rattle.tc_files.specs.declared.fault.FileFault.{FileFault}
-use Rattle.tc_files.specs.Fault.{name_of, place_of}
+use Rattle.tc_command.specs.declared.input_fault.InputFault.{InputFault}
+use Rattle.tc_command.specs.InputFault.{name_of, place_of}
 use Rattle.tc_words.specs.declared.fault.WordsFault.{WordsFault}
 use Rattle.tc_words.specs.declared.fault.WordsFault.TheVariants as words
 use Rattle.chase_script.specs.declared.fault.RowFault.{RowFault}
@@ -12,7 +12,7 @@ use Rattle.tc_command.specs.declared.stop.Stop.{Stop}
 use Rattle.tc_command.specs.declared.stop.Stop.TheVariants.{Refused, ReadFault, WriteFault, Limit}
 
 -- the fault of the file and its byte place
-abbrev pub refused_note : FileFault → List ℕ
+abbrev pub refused_note : InputFault → List ℕ
 refused_note fault = codes "tc: refused: " ++ name_of fault ++ codes " at byte " ++ decimal (place_of fault) ++ codes "\n"
 
 -- why a job stopped

@@ -1,7 +1,7 @@
 -- How a command ended that was worked along its input, or made its output: what it pulled and wrote.
 use Rattle.std.specs.Prelude.{ℕ, List, Option}
 use Rattle.std.specs.Io.KnownBytes.{Appends, Consumes}
-use Rattle.tc_files.specs.Grammar.{AreBytes}
+use Rattle.tc_io.specs.Bytes.{AreBytes}
 use Rattle.tc_command.specs.declared.stop.Stop.{Stop}
 use Rattle.tc_command.specs.Meaning.{Meaning, IsEnd, IsInput}
 use Rattle.tc_command.specs.Stops.{StopsAlong}

@@ -3,7 +3,7 @@
 //! `signal_commands/src/vitc_read.rt`.
 ghost use Rattle.std.specs.Prelude.{◌≡◌, ℕ, ◌<◌, List, ◌++◌, [], length, true, OnOk, IfErr, Err};
 ghost use Rattle.std.specs.Io.KnownBytes.{Appends};
-ghost use Rattle.tc_files.specs.Grammar.{AreBytes};
+ghost use Rattle.tc_io.specs.Bytes.{AreBytes};
 ghost use Rattle.tc_command.specs.Causes.{HasOutCause, HasSourceCause};
 ghost use Rattle.tc_command.specs.Ends.{SeesOneEnd};
 ghost use Rattle.tc_command.specs.Meaning.{Meaning};

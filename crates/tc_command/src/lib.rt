@@ -15,11 +15,12 @@
 //!   is one output of an input, and what bytes show stays. From it follow the status of a whole input
 //!   (`specs/WholeInput.antt`) and that what was written is a front of the whole output.
 //!
-//! Read `engine`, `intake`, `making`, `gathered`, `pushing`, `stop`, `status` and `notes`.
+//! Read `engine`, `intake`, `making`, `gathered`, `pushing`, `input_fault`, `stop`, `status` and `notes`.
 #![tactic(auto)]
 
 mod engine;
 mod gathered;
+mod input_fault;
 mod intake;
 mod making;
 mod notes;
@@ -29,6 +30,7 @@ mod stop;
 
 pub use engine::Engine;
 pub use gathered::Gathered;
+pub use input_fault::InputFault;
 pub use intake::work;
 pub use making::{Maker, PIECE, Piece, give_all, make};
 pub use notes::{chase_note, push_note, stop_note, usage_note};

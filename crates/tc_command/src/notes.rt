@@ -8,7 +8,7 @@ ghost use Rattle.tc_command.specs.Notes.{usage_note, stop_note, refused_note, ch
 use crate::stop::{ChaseStop, Stop};
 use chase_script::RowFault;
 use line_text::{Text, push_bytes, push_number};
-use tc_files::FileFault;
+use crate::input_fault::InputFault;
 use tc_io::{Sink, push_all};
 use tc_words::WordsFault;
 
@@ -60,7 +60,7 @@ pub fn usage_note(fault: WordsFault) -> Text
 }
 
 #[tactic(auto, using(crate::proofs::Digits::digits_of_any))]
-fn refused_note(fault: FileFault) -> Text
+fn refused_note(fault: InputFault) -> Text
     ensures { result.items ≡ refused_note fault }
 {
     let mut line = line_of(b"tc: refused: ");

@@ -1,12 +1,12 @@
 //! Why a job stopped before its end. Next: `status`.
 use chase_script::RowFault;
-use tc_files::FileFault;
+use crate::input_fault::InputFault;
 
 /// Why a job stopped before its end.
 #[derive(Clone, Copy, Debug, PartialEq, Eq)]
 pub enum Stop {
     /// The input has a fault of the command's grammar.
-    Refused(FileFault),
+    Refused(InputFault),
     /// A pull failed.
     ReadFault,
     /// A push on the output failed.

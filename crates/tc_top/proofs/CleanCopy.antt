@@ -5,7 +5,7 @@ use Rattle.std.specs.Prelude.{sum}
 use Rattle.std.specs.declared.option.Option.{Option}
 use Rattle.std.specs.List.{All}
 use Rattle.biphase.specs.declared.cell.Cell.{Cell}
-use Rattle.biphase.specs.declared.cell.TheConstants.{MAX_INTERVAL}
+use Rattle.biphase.specs.declared.cell.TheConstants.{MAX_INTERVAL, MAX_INTERVALS}
 use Rattle.biphase.specs.declared.profile.Profile.{Profile}
 use Rattle.biphase.specs.declared.profile.Profile.TheVariants.{Normal}
 use Rattle.biphase.specs.Chain.{flat}
@@ -13,7 +13,6 @@ use Rattle.biphase.specs.Shape.{Shape, IsShape, IsShaped, shape_with, shaped}
 use Rattle.tc_address.specs.declared.system.System.{System}
 use Rattle.direction_reader.specs.declared.event.Event.{Event}
 use Rattle.direction_reader.specs.declared.event.Event.TheVariants.{Word, Refused, Lost}
-use Rattle.direction_reader.specs.declared.reader.TheConstants.{MAX_INTERVALS}
 use Rattle.direction_reader.specs.ListEvents.{AreEvents}
 use Rattle.direction_reader.specs.Played.{bits_of_words}
 use Rattle.flywheel.specs.declared.frame.Frame.{Frame}
@@ -21,10 +20,10 @@ use Rattle.flywheel.specs.declared.heard.HeardWord.{HeardWord}
 use Rattle.flywheel.specs.Frames.{frames}
 use Rattle.ltc_jam.specs.Cells.{clean_cells, clean_events, steady_cells, words_of_frames}
 use Rattle.ltc_jam.specs.Labels.{AreEventsOf, AreFramesOf, AreHeardOf}
-use Rattle.tc_files.specs.declared.interval_file.header.IntervalHeader.{IntervalHeader}
-use Rattle.tc_files.specs.Grammar.{AreIntervals, IsFile}
-use Rattle.tc_files.specs.Recording.{Recording, end_fault_of, recording_of}
-use Rattle.tc_files.specs.Verdict.{good}
+use Rattle.interval_file.specs.declared.header.IntervalHeader.{IntervalHeader}
+use Rattle.interval_file.specs.Grammar.{AreIntervals, IsFile}
+use Rattle.interval_file.specs.Recording.{Recording, end_fault_of, recording_of}
+use Rattle.interval_file.specs.Verdict.{good}
 use Rattle.tc_words.specs.Jam.{IsJamming, Jamming}
 use Rattle.interval_commands.specs.Along.{IsWholeBehind, IsWholeOf}
 use Rattle.tc_top.specs.CleanCopy.{CleansTheInput, IsClean}

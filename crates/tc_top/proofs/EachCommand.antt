@@ -1,9 +1,9 @@
 -- Each job is a command as any other: it is proved once for each shape, of what a command of that shape brings.
 use Rattle.std.proofs.Common.{ℕ, List, Option, Some, None}
 use Rattle.biphase.specs.declared.profile.Profile.{Profile}
-use Rattle.tc_files.specs.declared.interval_file.header.FileVersion.{FileVersion}
-use Rattle.tc_files.specs.declared.interval_file.header.IntervalHeader.{IntervalHeader}
-use Rattle.tc_files.specs.Recording.{recording_of}
+use Rattle.interval_file.specs.declared.header.FileVersion.{FileVersion}
+use Rattle.interval_file.specs.declared.header.IntervalHeader.{IntervalHeader}
+use Rattle.interval_file.specs.Recording.{recording_of}
 use Rattle.flywheel.specs.declared.frame.Frame.{Frame}
 use Rattle.tc_words.specs.ChaseRun.{Chasing}
 use Rattle.tc_words.specs.Jam.{Jamming}

@@ -20,8 +20,8 @@ use Rattle.flywheel.specs.GoOn.{GoOn, Place, place_of}
 use Rattle.ltc_jam.specs.Labels.{AreEventsOf, AreFramesOf, AreHeardOf, IsFrameOf}
 use Rattle.tc_address.specs.declared.system.System.{System}
 use Rattle.tc_address.specs.Label.{Address, IsLabel}
-use Rattle.tc_files.specs.declared.interval_file.header.IntervalHeader.{IntervalHeader}
-use Rattle.tc_files.specs.Recording.{Recording, recording_of}
+use Rattle.interval_file.specs.declared.header.IntervalHeader.{IntervalHeader}
+use Rattle.interval_file.specs.Recording.{Recording, recording_of}
 use Rattle.tc_words.specs.ChaseRun.{Chasing, IsChasing}
 use Rattle.frame_commands.specs.declared.ltc_chase.TheConstants.{MAX_FRAMES}
 use Rattle.interval_commands.specs.Along.{IsSpentBehind, IsWholeBehind}

@@ -5,8 +5,8 @@ use Rattle.flywheel.specs.declared.heard.HeardWord.{HeardWord}
 use Rattle.flywheel.specs.Frames.{frames}
 use Rattle.flywheel.specs.Marked.{AreMarked, word_of, words_in}
 use Rattle.tc_words.specs.declared.flight.Flight.{Flight}
-use Rattle.tc_files.specs.declared.interval_file.header.IntervalHeader.{IntervalHeader}
-use Rattle.tc_files.specs.Recording.{recording_of}
+use Rattle.interval_file.specs.declared.header.IntervalHeader.{IntervalHeader}
+use Rattle.interval_file.specs.Recording.{recording_of}
 use Rattle.interval_commands.specs.Along.{IsWholeBehind, IsWholeOf}
 use Rattle.frame_commands.specs.LtcFly.{flown_recording, ShowsTheFrames}
 use Rattle.frame_commands.specs.OfFrames.{frames_of, words_heard}

@@ -8,10 +8,10 @@ use Rattle.direction_reader.specs.ListEvents.{AreEvents}
 use Rattle.flywheel.specs.declared.frame.Frame.{Frame}
 use Rattle.chase_script.specs.TraceText.{trace_text}
 use Rattle.tc_address.specs.declared.system.System.{System}
-use Rattle.tc_files.specs.declared.interval_file.header.FileVersion.{FileVersion}
-use Rattle.tc_files.specs.declared.interval_file.header.IntervalHeader.{IntervalHeader}
-use Rattle.tc_files.specs.Grammar.{IsFile, file_of}
-use Rattle.tc_files.specs.Recording.{Recording, recording_of}
+use Rattle.interval_file.specs.declared.header.FileVersion.{FileVersion}
+use Rattle.interval_file.specs.declared.header.IntervalHeader.{IntervalHeader}
+use Rattle.interval_file.specs.Grammar.{IsFile, file_of}
+use Rattle.interval_file.specs.Recording.{Recording, recording_of}
 use Rattle.tc_words.specs.ChaseRun.{Chasing}
 use Rattle.tc_words.specs.Jam.{Jamming}
 use Rattle.tc_words.specs.WaveSlicing.{SlicesWave}

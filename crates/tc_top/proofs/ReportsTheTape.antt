@@ -6,8 +6,8 @@ use Rattle.direction_reader.specs.ListEvents.{AreEvents}
 use Rattle.direction_reader.specs.Mirror.{MirrorsTheTape}
 use Rattle.direction_reader.specs.Tape.{TellsTheTape, FindsTheTape}
 use Rattle.tc_address.specs.declared.system.System.{System}
-use Rattle.tc_files.specs.declared.interval_file.header.IntervalHeader.{IntervalHeader}
-use Rattle.tc_files.specs.Recording.{recording_of}
+use Rattle.interval_file.specs.declared.header.IntervalHeader.{IntervalHeader}
+use Rattle.interval_file.specs.Recording.{recording_of}
 use Rattle.interval_commands.specs.Along.{IsWholeBehind, IsWholeOf}
 use Rattle.interval_commands.specs.LtcRead.{report}
 use Rattle.tc_top.specs.Tape.{ReportsTheTape}

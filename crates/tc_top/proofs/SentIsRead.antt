@@ -15,8 +15,8 @@ use Rattle.mtc_reader.specs.Texts.{end_line}
 use Rattle.quarter_frame.specs.ReadAgain.{all_placed, pairs_read, placed, read_from, read_of, run_read, AreLabelled, Placed}
 use Rattle.quarter_frame.specs.Runs.{begins_run, goes_on, is_end, mtc_of}
 use Rattle.tc_words.specs.declared.flight.Flight.{Flight}
-use Rattle.tc_files.specs.declared.interval_file.header.IntervalHeader.{IntervalHeader}
-use Rattle.tc_files.specs.Recording.{recording_of}
+use Rattle.interval_file.specs.declared.header.IntervalHeader.{IntervalHeader}
+use Rattle.interval_file.specs.Recording.{recording_of}
 use Rattle.interval_commands.specs.Along.{IsWholeBehind, IsWholeOf}
 use Rattle.frame_commands.specs.LtcMtc.{time_code}
 use Rattle.signal_commands.specs.MtcRead.{event_lines, is_full, is_quarter, is_refused, last_mtc_line}

@@ -5,7 +5,7 @@ use Rattle.std.proofs.Common.{subst, ap, ap₂, sym, ◌∙◌, append-nil, arit
 use Rattle.std.proofs.lemmas.Grind.{flat_map-append}
 use Rattle.std.proofs.lemmas.List.{length-take, take-append-drop}
 use Rattle.std.specs.List.{flat_map, AllByRecursion}
-use Rattle.direction_reader.specs.declared.reader.TheConstants.{MAX_INTERVALS}
+use Rattle.biphase.specs.declared.cell.TheConstants.{MAX_INTERVALS}
 use Rattle.pcm_front.specs.declared.threshold.Threshold.{Threshold}
 use Rattle.pcm_front.specs.declared.threshold.Threshold.TheVariants.{Fixed, Follow}
 use Rattle.pcm_front.specs.Distance.{distances, distances_from_start, intervals, intervals_by, pieces_of, IsInterval}
@@ -14,10 +14,12 @@ use Rattle.pcm_front.specs.Samples.{bytes_of, samples_of}
 use Rattle.pcm_front.specs.Sound.{sound}
 use Rattle.pcm_front.specs.Sums.{sums}
 use Rattle.std.specs.Prelude.{ℤ}
-use Rattle.tc_files.specs.declared.interval_file.header.IntervalHeader.{IntervalHeader}
-use Rattle.tc_files.specs.Grammar.{AreBytes, AreIntervals, IsFile, file_of}
-use Rattle.tc_files.specs.Recording.{Recording, end_fault_of, recording_of}
-use Rattle.tc_files.specs.Verdict.{good}
+use Rattle.interval_file.specs.declared.header.IntervalHeader.{IntervalHeader}
+use Rattle.tc_io.specs.Bytes.{AreBytes}
+use Rattle.interval_file.specs.Grammar.{AreIntervals, IsFile, file_of}
+use Rattle.interval_file.specs.Recording.{Recording, end_fault_of, recording_of}
+use Rattle.interval_file.specs.Verdict.{good}
+use Rattle.interval_commands.specs.KeptVerdict.{ends_whole, is_good}
 use Rattle.interval_commands.specs.Along.{IsWholeOf, along_intervals}
 use Rattle.interval_commands.specs.LtcPcm.{made_sound}
 use Rattle.tc_command.specs.Meaning.{IsInput}
@@ -103,7 +105,7 @@ behind_the_first laws size xs all w format made bytes again read s =
 pub sliced_again : SoundLaws → (size : ℕ) → size < 2 ^ 15 → (bytes made : List ℕ) → AreBytes bytes
     → IsInput (along_intervals (made_sound size)) bytes → IsWholeOf (made_sound size) (recording_of bytes) made → IsSlicedAgain size bytes made
 sliced_again laws size below bytes made are input whole =
-    let file = laws.inputs bytes are input.verdict input.end in
+    let file = laws.inputs bytes are (is_good _ input.verdict) (ends_whole _ input.end) in
     let xs = file.1 in
     let all = all_intervals xs file.2.range in
     let said = (laws.files bytes file.0 xs file.2 file.3).0 in

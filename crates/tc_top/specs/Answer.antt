@@ -1,6 +1,6 @@
 -- The answer of a run: what was pulled and written, and the note, by status.
 use Rattle.std.specs.Prelude.{◌≡◌, ◌⊎◌, ℕ, List, [], codes, Ok, Err}
-use Rattle.tc_files.specs.declared.fault.FileFault.{FileFault}
+use Rattle.tc_command.specs.declared.input_fault.InputFault.{InputFault}
 use Rattle.tc_words.specs.declared.job.Job.{Job}
 use Rattle.tc_words.specs.declared.job.Task.{Task}
 use Rattle.tc_words.specs.declared.job.Task.TheVariants.{Stream, Chase}
@@ -34,7 +34,7 @@ pub record IsDone (job : Job) (e : Exchange) : Type 0 where
 -- what a job answers
 abbrev pub IsAnswer : Job → Status → Exchange → Type 0
 IsAnswer job Done e = IsDone job e
-IsAnswer job Refused e = (fault : FileFault) × StoppedBy (stops.Refused fault) (meaning_of job) e
+IsAnswer job Refused e = (fault : InputFault) × StoppedBy (stops.Refused fault) (meaning_of job) e
 IsAnswer job ReadFault e = StoppedBy stops.ReadFault (meaning_of job) e
 IsAnswer job WriteFault e = StoppedBy stops.WriteFault (meaning_of job) e
 IsAnswer job Limit e = StoppedBy stops.Limit (meaning_of job) e

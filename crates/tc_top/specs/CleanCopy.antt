@@ -2,13 +2,13 @@
 use Rattle.std.specs.Prelude.{◌≡◌, ℕ, ◌≤◌, List, ◌++◌, length, Some}
 use Rattle.biphase.specs.declared.profile.Profile.TheVariants.{Normal}
 use Rattle.direction_reader.specs.declared.event.Event.{Event}
-use Rattle.direction_reader.specs.declared.reader.TheConstants.{MAX_INTERVALS}
+use Rattle.biphase.specs.declared.cell.TheConstants.{MAX_INTERVALS}
 use Rattle.direction_reader.specs.ListEvents.{AreEvents}
 use Rattle.flywheel.specs.declared.frame.Frame.{Frame}
 use Rattle.ltc_jam.specs.Cells.{clean_events}
-use Rattle.tc_files.specs.declared.interval_file.header.IntervalHeader.{IntervalHeader}
-use Rattle.tc_files.specs.Grammar.{IsFile}
-use Rattle.tc_files.specs.Recording.{Recording, recording_of}
+use Rattle.interval_file.specs.declared.header.IntervalHeader.{IntervalHeader}
+use Rattle.interval_file.specs.Grammar.{IsFile}
+use Rattle.interval_file.specs.Recording.{Recording, recording_of}
 use Rattle.tc_words.specs.declared.job.Job.TheVariants.{LtcRead}
 use Rattle.tc_words.specs.Jam.{Jamming}
 use Rattle.interval_commands.specs.Along.{IsWholeOf}

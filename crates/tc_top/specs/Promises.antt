@@ -1,8 +1,8 @@
 -- What each command promises of a run that came to its end, of the bytes that were pulled and those that were written. A
 -- row a command.
 use Rattle.biphase.specs.declared.profile.Profile.TheVariants.{Normal, Worn, Rough}
-use Rattle.tc_files.specs.Grammar.{AreBytes}
-use Rattle.tc_files.specs.Recording.{recording_of}
+use Rattle.tc_io.specs.Bytes.{AreBytes}
+use Rattle.interval_file.specs.Recording.{recording_of}
 use Rattle.tc_words.specs.declared.job.Job.{Job}
 use Rattle.tc_words.specs.declared.job.Job.TheVariants.{LtcRead, LtcWorn, LtcRough, LtcFly, LtcSpans, LtcMtc, LtcJam, LtcChase, MtcRead}
 use Rattle.tc_words.specs.declared.job.Job.TheVariants.{LtcMake, LtcLoad, LtcConvert, PcmLtc, WavLtc, LtcPcm, VitcRead}

@@ -7,8 +7,8 @@ use Rattle.mtc_reader.specs.Events.{events_in}
 use Rattle.mtc_reader.specs.Laws.{at_no_place}
 use Rattle.mtc_reader.specs.Texts.{end_line}
 use Rattle.quarter_frame.specs.ReadAgain.{read_of}
-use Rattle.tc_files.specs.declared.interval_file.header.IntervalHeader.{IntervalHeader}
-use Rattle.tc_files.specs.Recording.{recording_of}
+use Rattle.interval_file.specs.declared.header.IntervalHeader.{IntervalHeader}
+use Rattle.interval_file.specs.Recording.{recording_of}
 use Rattle.tc_words.specs.declared.flight.Flight.{Flight}
 use Rattle.tc_words.specs.declared.job.Job.TheVariants.{MtcRead}
 use Rattle.tc_top.specs.Commands.{meaning_of}

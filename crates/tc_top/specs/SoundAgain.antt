@@ -5,9 +5,9 @@ use Rattle.std.specs.List.{flat_map}
 use Rattle.pcm_front.specs.declared.threshold.Threshold.TheVariants.{Fixed, Follow}
 use Rattle.pcm_front.specs.Distance.{distances, pieces_of}
 use Rattle.pcm_front.specs.Samples.{samples_of}
-use Rattle.tc_files.specs.declared.interval_file.header.IntervalHeader.{IntervalHeader}
-use Rattle.tc_files.specs.Grammar.{file_of}
-use Rattle.tc_files.specs.Recording.{recording_of}
+use Rattle.interval_file.specs.declared.header.IntervalHeader.{IntervalHeader}
+use Rattle.interval_file.specs.Grammar.{file_of}
+use Rattle.interval_file.specs.Recording.{recording_of}
 use Rattle.tc_words.specs.declared.job.Job.TheVariants.{PcmLtc, WavLtc}
 use Rattle.tc_words.specs.Slicing.{Slices}
 use Rattle.tc_words.specs.WaveSlicing.{SlicesWave}

@@ -5,8 +5,8 @@ use Rattle.direction_reader.specs.declared.event.Event.{Event}
 use Rattle.direction_reader.specs.ListEvents.{AreEvents}
 use Rattle.direction_reader.specs.Mirror.{MirrorsTheTape}
 use Rattle.direction_reader.specs.Tape.{TellsTheTape, FindsTheTape}
-use Rattle.tc_files.specs.declared.interval_file.header.IntervalHeader.{IntervalHeader}
-use Rattle.tc_files.specs.Recording.{recording_of}
+use Rattle.interval_file.specs.declared.header.IntervalHeader.{IntervalHeader}
+use Rattle.interval_file.specs.Recording.{recording_of}
 use Rattle.interval_commands.specs.LtcRead.{lines, last_line}
 
 -- what was written are the lines of the events of the file, and the last line, and these events tell the tape: where

@@ -37,7 +37,7 @@ use ltc_jam::laws::{
 };
 use made_commands::laws::{lines_that_are_made_are_read_back, what_is_made_is_read_whole};
 use signal_commands::laws::each_signal_makes_a_command;
-use tc_files::laws::a_file_is_read_as_it_was_written;
+use interval_file::laws::a_file_is_read_as_it_was_written;
 
 /// The exit numbers, one by one.
 pub fn exit_numbers_are_these()

@@ -1,5 +1,5 @@
 //! What each job writes of an input keeps its promise. Next: `laws`.
-ghost use Rattle.tc_files.specs.declared.interval_file.header.FileVersion.{FileVersion};
+ghost use Rattle.interval_file.specs.declared.header.FileVersion.{FileVersion};
 ghost use Rattle.tc_words.specs.declared.flight.Flight.{Flight};
 ghost use Rattle.tc_words.specs.declared.job.Job.{Job};
 ghost use Rattle.tc_words.specs.WaveSlicing.{SlicesWave};
@@ -19,7 +19,7 @@ use pcm_front::laws::{
 };
 use quarter_frame::laws::what_is_sent_is_read_back;
 use tape_spans::laws::{spans_share_the_frames_out, the_open_span_has_the_last_line};
-use tc_files::laws::{a_file_is_read_as_it_was_written, bytes_are_read_as_the_text_says};
+use interval_file::laws::{a_file_is_read_as_it_was_written, bytes_are_read_as_the_text_says};
 use tc_words::{Amplitude, ChaseRun, Jam, Job, LineStripe, LoadRun, Stripe};
 use wave_file::laws::samples_are_few_and_behind_a_format;
 

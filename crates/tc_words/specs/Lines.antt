@@ -1,6 +1,6 @@
 -- The values of `vitc-make`, word by word.
 use Rattle.std.specs.Prelude.{Result, Ok}
-use Rattle.line_file.specs.declared.header.TheConstants.{MAX_LINE_LENGTH, MIN_LINE_LENGTH}
+use Rattle.vitc_reader.specs.declared.line_length.TheConstants.{MAX_LINE_LENGTH, MIN_LINE_LENGTH}
 use Rattle.tc_words.specs.declared.fault.WordsFault.{WordsFault}
 use Rattle.tc_words.specs.declared.job.Job.{Job}
 use Rattle.tc_words.specs.declared.job.Job.TheVariants.{VitcMake}

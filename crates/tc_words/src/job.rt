@@ -9,7 +9,7 @@ use crate::slicing::Slicing;
 use crate::stripe::Stripe;
 use crate::wave_slicing::WaveSlicing;
 use tc_address::Label;
-use tc_files::FileVersion;
+use interval_file::FileVersion;
 
 /// What the words name.
 #[derive(Clone, Copy, Debug, PartialEq, Eq)]

@@ -7,7 +7,7 @@ use crate::job::Job;
 use crate::line_stripe::LineStripe;
 use crate::stripe::MAX_FRAMES;
 use crate::values::{between, count_with_lines, spelled};
-use line_file::{MAX_LINE_LENGTH, MIN_LINE_LENGTH};
+use vitc_reader::{MAX_LINE_LENGTH, MIN_LINE_LENGTH};
 
 /// The job of four words, or their first fault.
 pub(crate) fn in_lines(

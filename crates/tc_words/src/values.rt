@@ -10,7 +10,7 @@ ghost use Rattle.vitc_line.specs.Places.{HasLines};
 
 use biphase::Profile;
 use tc_address::{Count, Direction, Label, System, day_labels, label_at, read_text};
-use tc_files::FileVersion;
+use interval_file::FileVersion;
 
 /// A count: `24`, `25`, `30` or `30d`.
 pub fn count_in(word: &str) -> Option<Count>

@@ -13,18 +13,20 @@
 //!   all of them (`specs/Field.antt`, `StandsFor`, `IsAnswer`): agreed, in conflict, or nothing, with the
 //!   fault of the first line.
 //!
-//! Read `fault`, `ones`, `reading`, `writing` and `field`, in this order, and the files of specs/ beside them.
+//! Read `fault`, `line_length`, `ones`, `reading`, `writing` and `field`, in this order, and the files of specs/ beside them.
 //! `vitc_line` says what the bits of a line spell. Nothing here allocates or fails in any other way.
 #![tactic(auto)]
 
 mod fault;
 mod field;
 pub mod laws;
+mod line_length;
 mod ones;
 mod reading;
 mod writing;
 
 pub use fault::{ReadFault, RunFault};
 pub use field::{FieldAnswer, FieldReader};
+pub use line_length::{MAX_LINE_LENGTH, MIN_LINE_LENGTH};
 pub use reading::read_runs;
 pub use writing::runs_of;

@@ -1,7 +1,7 @@
 use Rattle.std.proofs.Common.{◌++◌, replicate, refl, sym, ◌∙◌, subst, append_assoc}
 use Rattle.std.specs.Option.{option_to_list}
-use Rattle.tc_files.specs.declared.interval_file.header.FileVersion.TheVariants.{One}
-use Rattle.tc_files.specs.Grammar.{intervals_bytes}
+use Rattle.interval_file.specs.declared.header.FileVersion.TheVariants.{One}
+use Rattle.interval_file.specs.Grammar.{intervals_bytes}
 use Rattle.tc_io.specs.Sink.{AppendsFront}
 use Rattle.tc_command.specs.KeptGathered.{put_more}
 use Rattle.tc_command.specs.KeptWorks.{at_err, on_err, on_ok}

@@ -1,7 +1,7 @@
 use Rattle.std.proofs.Common.{[], refl}
 use Rattle.std.specs.Option.{option_to_list}
-use Rattle.tc_files.specs.declared.interval_file.header.FileVersion.TheVariants.{One}
-use Rattle.tc_files.specs.Grammar.{intervals_bytes}
+use Rattle.interval_file.specs.declared.header.FileVersion.TheVariants.{One}
+use Rattle.interval_file.specs.Grammar.{intervals_bytes}
 use Rattle.tc_command.specs.KeptGathered.{none_put, put_front}
 use Rattle.tc_command.specs.KeptWorks.{on_err}
 use Rattle.signal_commands.proofs.spelling.spell_rest.Goals as goal

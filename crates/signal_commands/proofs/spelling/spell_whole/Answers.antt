@@ -1,7 +1,7 @@
 use Rattle.std.proofs.Common.{◌≡◌, ◌+◌, ◌-◌, ◌++◌, replicate, sym, ap, subst, ◌∙◌, arith}
-use Rattle.tc_files.specs.declared.interval_file.header.FileVersion.TheVariants.{One}
-use Rattle.tc_files.specs.Grammar.{intervals_bytes}
-use Rattle.tc_files.specs.Piece.{spelling}
+use Rattle.interval_file.specs.declared.header.FileVersion.TheVariants.{One}
+use Rattle.interval_file.specs.Grammar.{intervals_bytes}
+use Rattle.interval_file.specs.Piece.{spelling}
 use Rattle.tc_command.specs.KeptGathered.{IsPut, put_front, put_more}
 use Rattle.tc_command.specs.KeptWorks.{at_err}
 use Rattle.signal_commands.proofs.PutMore.{one_piece, pieces_from}

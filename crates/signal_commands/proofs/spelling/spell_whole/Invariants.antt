@@ -1,6 +1,6 @@
 use Rattle.std.proofs.Common.{◌≡◌, replicate}
-use Rattle.tc_files.specs.declared.interval_file.header.FileVersion.TheVariants.{One}
-use Rattle.tc_files.specs.Grammar.{intervals_bytes}
+use Rattle.interval_file.specs.declared.header.FileVersion.TheVariants.{One}
+use Rattle.interval_file.specs.Grammar.{intervals_bytes}
 use Rattle.tc_command.specs.KeptGathered.{IsPut}
 use Rattle.signal_commands.proofs.spelling.spell_whole.Given as goal
 

@@ -1,6 +1,6 @@
 use Rattle.std.proofs.Common.{◌≡◌, List, ℕ}
 use Rattle.std.specs.Io.KnownBytes.{Appends, Consumes}
-use Rattle.tc_files.specs.Grammar.{AreBytes}
+use Rattle.tc_io.specs.Bytes.{AreBytes}
 use Rattle.tc_command.proofs.intake.work.Given as goal
 
 -- what was pushed so far is the part of what was pulled so far

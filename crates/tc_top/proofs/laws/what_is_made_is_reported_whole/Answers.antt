@@ -2,7 +2,7 @@ use Rattle.std.proofs.Common.{◌∙◌, ◌++◌, List, ap, subst}
 use Rattle.biphase.specs.declared.profile.Profile.TheVariants.{Normal}
 use Rattle.biphase.specs.Chain.{flat}
 use Rattle.direction_reader.specs.declared.event.Event.{Event}
-use Rattle.tc_files.specs.Recording.{Recording}
+use Rattle.interval_file.specs.Recording.{Recording}
 use Rattle.interval_commands.specs.Along.{IsWholeOf}
 use Rattle.interval_commands.specs.LtcRead.{last_line, lines, report}
 use Rattle.made_commands.specs.Made.{made_cells, made_header}

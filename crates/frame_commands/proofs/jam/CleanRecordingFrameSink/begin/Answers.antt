@@ -2,7 +2,7 @@ use Rattle.std.proofs.Common.{◌≡◌, ◌∙◌, refl, subst}
 use Rattle.std.specs.Prelude.{List, ℕ, []}
 use Rattle.std.specs.Io.KnownBytes.{Appends}
 use Rattle.tc_io.specs.Sink.{AppendsFront}
-use Rattle.tc_files.specs.IntervalHeader.{header_bytes}
+use Rattle.interval_file.specs.IntervalHeader.{header_bytes}
 use Rattle.ltc_jam.specs.Cells.{intervals_of_lead}
 use Rattle.frame_commands.specs.LtcJam.{clean_file, clean_header}
 use Rattle.tc_command.specs.KeptWorks.{through}

@@ -1,7 +1,7 @@
 use Rattle.std.proofs.Common.{◌++◌, ◌∷◌, [], arith}
 use Rattle.std.proofs.KnownBytes.{Appends-nil}
-use Rattle.tc_files.specs.Recording.{recording_of}
-use Rattle.tc_files.specs.IntervalFile.{after}
+use Rattle.interval_file.specs.Recording.{recording_of}
+use Rattle.interval_file.specs.IntervalFile.{after}
 use Rattle.tc_command.specs.KeptWorks.{through, on_ok, both_ok, if_err}
 use Rattle.interval_commands.proofs.AnItemMore.{nothing_more, an_interval, a_fault, a_header_fault, interval_stops, by_byte}
 use Rattle.interval_commands.proofs.along.Along.byte.Goals as goal

@@ -1,5 +1,5 @@
 use Rattle.std.proofs.Common.{refl}
-use Rattle.tc_files.specs.Recording.{recording_of}
+use Rattle.interval_file.specs.Recording.{recording_of}
 use Rattle.interval_commands.proofs.along.Along.new.Goals as goal
 
 -- no byte says anything

@@ -1,9 +1,10 @@
 use Rattle.std.proofs.Common.{refl, ◌≡◌, ◌+◌, ◌-◌, ◌++◌, ◌≤◌, ◌<◌, [], take, drop, length, arith, subst, List, ℕ, ◌∙◌, Some}
 use Rattle.std.proofs.KnownBytes.{Appends-nil}
-use Rattle.direction_reader.specs.declared.reader.TheConstants.{MAX_INTERVALS}
-use Rattle.tc_files.specs.Progress.{Progress}
-use Rattle.tc_files.specs.Decoding.{decoding_of}
-use Rattle.tc_files.specs.Recording.{recording_of}
+use Rattle.biphase.specs.declared.cell.TheConstants.{MAX_INTERVALS}
+use Rattle.interval_file.specs.Progress.{Progress}
+use Rattle.interval_file.specs.Decoding.{decoding_of}
+use Rattle.interval_file.specs.Recording.{recording_of}
+use Rattle.tc_command.specs.declared.input_fault.InputFault.TheVariants.{Intervals}
 use Rattle.tc_command.specs.declared.stop.Stop.TheVariants.{Refused, WriteFault}
 use Rattle.interval_commands.specs.Along.{along_intervals}
 use Rattle.tc_command.specs.Stops.{IsStop, Stops}
@@ -66,7 +67,7 @@ returns-in-Fault-clause-stops g c = λ front written stands.
     let virtual : Progress = record s.decoder { taken = s.decoder.taken + at } in
     let between = passed_over s.decoder at c.requires.between in
     let p = g.B.Behind.printing s.choice in
-    let why = Refused c.in-Fault.fault in
+    let why = Refused (Intervals c.in-Fault.fault) in
     let old = g.K.Sink.written c.args.out.now in
     let now = g.K.Sink.written c.run.out in
     let inside : at + m ≤ length bytes = (let test = c.run-test.true in let end = c.saturating_sub-end.ensures in omega arith) in

@@ -1,8 +1,8 @@
 use Rattle.std.proofs.Common.{◌≡◌, ◌+◌, ◌-◌, ◌≤◌, take, length}
 use Rattle.std.specs.Prelude.{Some}
-use Rattle.direction_reader.specs.declared.reader.TheConstants.{MAX_INTERVALS}
-use Rattle.tc_files.specs.Piece.{AreWhole}
-use Rattle.tc_files.specs.Decoding.{FitsBytes}
+use Rattle.biphase.specs.declared.cell.TheConstants.{MAX_INTERVALS}
+use Rattle.interval_file.specs.Piece.{AreWhole}
+use Rattle.interval_file.specs.Decoding.{FitsBytes}
 use Rattle.interval_commands.specs.KeptAlong.{FitsBehind, Stands}
 use Rattle.tc_command.specs.KeptWorks.{Works}
 use Rattle.interval_commands.proofs.along.Along.run.Given as goal

@@ -1,6 +1,6 @@
 use Rattle.std.proofs.Common.{◌++◌, ◌∙◌, List, ℕ, take, drop, refl, sym, ap, inr, append_assoc}
 use Rattle.std.proofs.lemmas.List.{take-append-drop}
-use Rattle.tc_files.specs.Recording.{recording_of}
+use Rattle.interval_file.specs.Recording.{recording_of}
 use Rattle.interval_commands.proofs.along.AlongEngine.take.Goals as goal
 
 -- the bytes so far pass a limit of the command's own

@@ -1,6 +1,6 @@
 use Rattle.std.proofs.Common.{◌≡◌, ℕ, List, [], ◌∷◌, ◌++◌, length, take, drop, ap, refl, ◌∙◌}
 use Rattle.std.proofs.Math.Seq.{take-append_seam}
-use Rattle.tc_files.specs.Piece.{spelling}
+use Rattle.interval_file.specs.Piece.{spelling}
 use Rattle.tc_command.specs.KeptWorks.{err_both, if_err, on_ok}
 use Rattle.interval_commands.proofs.Converted.{part_due, put_behind}
 use Rattle.tc_command.specs.KeptPushed.{front_of_more}

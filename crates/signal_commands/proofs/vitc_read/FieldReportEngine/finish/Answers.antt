@@ -2,7 +2,8 @@ use Rattle.std.proofs.Common.{◌++◌, ◌∙◌, [], List, ℕ, refl, ap, ap�
 use Rattle.std.proofs.KnownBytes.{Appends-nil}
 use Rattle.signal_commands.specs.VitcRead.{field_report, last_field_line}
 use Rattle.tc_command.specs.KeptWorks.{err_both, if_err, on_ok}
-use Rattle.signal_commands.proofs.FieldsGrow.{last_line_is}
+use Rattle.signal_commands.specs.KeptFields.{good_too}
+use Rattle.signal_commands.proofs.FieldsGrow.{ends_badly, ends_well, last_line_is}
 use Rattle.signal_commands.proofs.vitc_read.FieldReportEngine.finish.Goals as goal
 
 -- the last line was written
@@ -13,7 +14,7 @@ returns-in-Ok-clause-ends g c =
     on_ok c.push_line.result c.push_line.ensures.all (λ pushed bytes written stands. (
       line,
       pushed,
-      record { verdict = stands.told.0; unspent = λ spent. spent; end = c.in-Ok.ensures.ok bytes stands.answers stands.decoder },
+      record { verdict = good_too _ stands.told.0; unspent = λ spent. spent; end = ends_well (c.in-Ok.ensures.ok bytes stands.answers stands.decoder) },
       (
         stands.answers,
         stands.told.1,
@@ -33,7 +34,7 @@ returns-in-Ok-clause-stops g c =
       f.0,
       f.2,
       (
-        record { verdict = stands.told.0; unspent = λ spent. spent; end = c.in-Ok.ensures.ok bytes stands.answers stands.decoder },
+        record { verdict = good_too _ stands.told.0; unspent = λ spent. spent; end = ends_well (c.in-Ok.ensures.ok bytes stands.answers stands.decoder) },
         (
           field_report stands.answers,
           (stands.answers, stands.told.1, refl),
@@ -52,8 +53,8 @@ returns-in-Err-clause-stops g c = λ bytes written stands. (
   [],
   Appends-nil _,
   (
-    record { is = stands.told.0; unspent = λ spent. spent },
-    c.in-Err.ensures.err bytes stands.answers stands.decoder,
+    record { is = good_too _ stands.told.0; unspent = λ spent. spent },
+    ends_badly (c.in-Err.ensures.err bytes stands.answers stands.decoder),
     (stands.answers, stands.told.1, append-nil written ∙ stands.are),
   ),
 )

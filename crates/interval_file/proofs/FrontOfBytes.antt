@@ -1,0 +1,352 @@
+-- What is read from the front of bytes: the fault of their first eight or of the tick rate, or a header, and what
+-- stands behind it. And the bytes of an interval in range are those that a recorder writes for it.
+use Rattle.std.proofs.Common.{◌≡◌, ◌⊎◌, inl, inr, ℕ, zero, suc, ◌+◌, ◌/◌, ◌%◌, ◌<◌, ◌≤◌, List, [], ◌∷◌, ◌++◌, length}
+use Rattle.std.proofs.Common.{take, drop, slice_index, Some, None, refl}
+use Rattle.std.proofs.Common.{sym, ◌∙◌, ap, ap₂, subst, arith, Bool, true, false}
+use Rattle.std.specs.Prelude.{◌==◌, ◌&&◌, is_some, nat_le, if◌then◌else◌}
+use Rattle.std.specs.declared.option.Option.{Option}
+use Rattle.std.proofs.lemmas.Bool.{cases_Bool, cases_eq, cases_lt, eqb-true, false≢true, le-leb, le-ltb, lt-leb, lt-ltb}
+use Rattle.std.proofs.lemmas.Bool.{ne_eqb}
+use Rattle.std.proofs.lemmas.List.{drop-drop, get_or-take, length-drop, length-take, length-take-le, take-append-drop, take-take}
+use Rattle.byteorder.specs.Endian.{big_bytes, big_number}
+use Rattle.biphase.specs.declared.cell.TheConstants.{MAX_INTERVAL}
+use Rattle.tc_address.specs.declared.system.System.{System}
+use Rattle.tc_address.specs.declared.system.System.TheVariants.{F24, F25, F30}
+use Rattle.tc_address.specs.Count.{rate_of}
+use Rattle.interval_file.specs.declared.fault.IntervalFileFault.{IntervalFileFault}
+use Rattle.interval_file.specs.declared.fault.IntervalFileFault.TheVariants as fault
+use Rattle.interval_file.specs.declared.header.FileVersion.{FileVersion}
+use Rattle.interval_file.specs.declared.header.FileVersion.TheVariants.{One, Two}
+use Rattle.interval_file.specs.declared.header.IntervalHeader.{IntervalHeader}
+use Rattle.interval_file.specs.declared.header.TheConstants.{MAGIC, MAX_TICK_RATE}
+use Rattle.interval_file.specs.Contents.{contents_behind, contents_of, fault_at, first_wrong, header_of, header_with}
+use Rattle.tc_io.specs.Bytes.{AreBytes}
+use Rattle.interval_file.specs.Grammar.{Contents, InRange, IsFirstWrong, IsHeaderFault, MayStand}
+use Rattle.interval_file.specs.Grammar.{may_stand, no_header}
+use Rattle.interval_file.specs.IntervalHeader.{IsTickRate, header_bytes, system_at, version_at, version_byte}
+use Rattle.interval_file.specs.Piece.{least_in, number_in, piece_width, spelling}
+
+-- ---- the first eight bytes
+
+-- all may stand, or one is the first that may not, and its fault is read
+abbrev StandOrNot : ℕ → List ℕ → Type 0
+StandOrNot place list =
+    (MayStand place list × (first_wrong place list ≡ None))
+    ⊎ ((k : ℕ) × (k < length list) × (may_stand (place + k) (slice_index list k) ≡ false) × MayStand place (take k list)
+    × (first_wrong place list ≡ Some (fault_at (place + k))))
+
+stand_or_not : (list : List ℕ) (place : ℕ) → StandOrNot place list
+stand_or_not [] place = inl (tt, refl)
+stand_or_not (byte ∷ more) place = by_test (cases_Bool (may_stand place byte)) (stand_or_not more (place + 1))
+  where
+    read_as : (may : Bool) → may_stand place byte ≡ may
+        → first_wrong place (byte ∷ more) ≡ (if may then first_wrong (place + 1) more else Some (fault_at place))
+    read_as may e = ap (λ (b : Bool). if b then first_wrong (place + 1) more else Some (fault_at place)) e
+
+    by_rest : may_stand place byte ≡ true → StandOrNot (place + 1) more → StandOrNot place (byte ∷ more)
+    by_rest may (inl all) = inl ((may, all.0), read_as true may ∙ all.1)
+    by_rest may (inr found) =
+        let k = found.0 in
+        let below = found.1 in
+        let there : place + 1 + k ≡ place + suc k = omega arith in
+        let wrong = subst (λ (n : ℕ). may_stand n (slice_index more k) ≡ false) there found.2 in
+        let first = read_as true may ∙ found.4 ∙ ap (λ (n : ℕ). Some (fault_at n)) there in
+        inr (suc k, omega (arith, below), wrong, (may, found.3), first)
+
+    by_test : (may_stand place byte ≡ true) ⊎ (may_stand place byte ≡ false) → StandOrNot (place + 1) more → StandOrNot place (byte ∷ more)
+    by_test (inl may) rest = by_rest may rest
+    by_test (inr wrong) rest =
+        let here : place ≡ place + 0 = omega arith in
+        inr (
+          0,
+          omega arith,
+          subst (λ (n : ℕ). may_stand n byte ≡ false) here wrong,
+          tt,
+          read_as false wrong ∙ ap (λ (n : ℕ). Some (fault_at n)) here,
+        )
+
+-- the fault of the first that may not
+wrong_place : (bytes : List ℕ) (place : ℕ) → place < 8 → IsFirstWrong place bytes
+    → (first : IntervalFileFault) × IsHeaderFault first bytes × (fault_at place ≡ first)
+wrong_place bytes place low is = by_row (cases_lt place 4) (cases_eq place 4) (cases_eq place 5)
+  where
+    by_row : (place < 4) ⊎ (4 ≤ place) → (place ≡ 4) ⊎ (place ≡ 4 → ⊥) → (place ≡ 5) ⊎ (place ≡ 5 → ⊥)
+        → (first : IntervalFileFault) × IsHeaderFault first bytes × (fault_at place ≡ first)
+    by_row (inl magic) four five = (fault.Magic place, (magic, is), rw (lt-ltb place 4 magic) refl)
+    by_row (inr more) (inl four) five = (fault.Version place, (four, is), rw four refl)
+    by_row (inr more) (inr not_four) (inl five) = (fault.System place, (five, is), rw five refl)
+    by_row (inr more) (inr not_four) (inr not_five) = (
+      fault.Reserved place,
+      (omega (arith, more, not_four, not_five), low, is),
+      rw (le-ltb place 4 more, ne_eqb place 4 not_four, ne_eqb place 5 not_five) refl,
+    )
+
+abbrev HeadOrFault : List ℕ → Type 0
+HeadOrFault bytes = (MayStand 0 (take 8 bytes) × (first_wrong 0 (take 8 bytes) ≡ None))
+    ⊎ ((first : IntervalFileFault) × IsHeaderFault first bytes × (first_wrong 0 (take 8 bytes) ≡ Some first))
+
+head_or_fault : (bytes : List ℕ) → HeadOrFault bytes
+head_or_fault bytes = by_answer (stand_or_not (take 8 bytes) 0)
+  where
+    by_answer : StandOrNot 0 (take 8 bytes) → HeadOrFault bytes
+    by_answer (inl may) = inl may
+    by_answer (inr found) =
+        let k = found.0 in
+        let below = found.1 in
+        let long = length-take 8 bytes in
+        let low : k < 8 = omega (arith, below, long) in
+        let byte = get_or-take 8 bytes k 0 low in
+        let here : 0 + k ≡ k = omega arith in
+        let tested = subst (λ (n : ℕ). may_stand n (slice_index (take 8 bytes) k) ≡ false) here found.2 in
+        let wrong : may_stand k (slice_index bytes k) ≡ false = ap (λ (b : ℕ). may_stand k b) (sym byte) ∙ tested in
+        let before = subst (λ (l : List ℕ). MayStand 0 l) (take-take k 8 bytes (omega (arith, low))) found.3 in
+        let is : IsFirstWrong k bytes = record { there = omega (arith, below, long); wrong = wrong; before = before } in
+        let place = wrong_place bytes k low is in
+        let first = subst (λ (n : ℕ). first_wrong 0 (take 8 bytes) ≡ Some (fault_at n)) here found.4 in
+        inr (place.0, place.1, subst (λ (f : IntervalFileFault). first_wrong 0 (take 8 bytes) ≡ Some f) place.2 first)
+
+-- ---- the header
+
+-- four bytes, and two, are the bytes of their number
+four_bytes : (a b c e : ℕ) → a < 256 → b < 256 → c < 256 → e < 256 → big_bytes 4 (big_number 4 (a ∷ b ∷ c ∷ e ∷ [])) ≡ a ∷ b ∷ c ∷ e ∷ []
+four_bytes a b c e la lb lc le =
+    let n = big_number 4 (a ∷ b ∷ c ∷ e ∷ []) in
+    let first : n / 16777216 % 256 ≡ a = omega arith in
+    let second : n / 65536 % 256 ≡ b = omega arith in
+    let third : n / 256 % 256 ≡ c = omega arith in
+    let fourth : n % 256 ≡ e = omega arith in
+    rw (first, second, third, fourth) refl
+
+two_bytes : (a b : ℕ) → a < 256 → b < 256 → big_bytes 2 (big_number 2 (a ∷ b ∷ [])) ≡ a ∷ b ∷ []
+two_bytes a b la lb =
+    let n = big_number 2 (a ∷ b ∷ []) in
+    let first : n / 256 % 256 ≡ a = omega arith in
+    let second : n % 256 ≡ b = omega arith in
+    rw (first, second) refl
+
+version_says : (byte : ℕ) → is_some (version_at byte) ≡ true → (version : FileVersion) × (byte ≡ version_byte version)
+version_says byte says = by_row (cases_eq byte 1) (cases_eq byte 2)
+  where
+    by_row : (byte ≡ 1) ⊎ (byte ≡ 1 → ⊥) → (byte ≡ 2) ⊎ (byte ≡ 2 → ⊥) → (version : FileVersion) × (byte ≡ version_byte version)
+    by_row (inl one) two = (One, one)
+    by_row (inr not_one) (inl two) = (Two, two)
+    by_row (inr not_one) (inr not_two) =
+        let none : is_some (version_at byte) ≡ false = rw (ne_eqb byte 1 not_one, ne_eqb byte 2 not_two) refl in
+        absurd (false≢true (sym none ∙ says))
+
+system_says : (byte : ℕ) → is_some (system_at byte) ≡ true → (system : System) × (byte ≡ rate_of system)
+system_says byte says = by_row (cases_eq byte 24) (cases_eq byte 25) (cases_eq byte 30)
+  where
+    by_row : (byte ≡ 24) ⊎ (byte ≡ 24 → ⊥) → (byte ≡ 25) ⊎ (byte ≡ 25 → ⊥) → (byte ≡ 30) ⊎ (byte ≡ 30 → ⊥)
+        → (system : System) × (byte ≡ rate_of system)
+    by_row (inl film) tv video = (F24, film)
+    by_row (inr not_film) (inl tv) video = (F25, tv)
+    by_row (inr not_film) (inr not_tv) (inl video) = (F30, video)
+    by_row (inr not_film) (inr not_tv) (inr not_video) =
+        let none : is_some (system_at byte) ≡ false = rw (ne_eqb byte 24 not_film, ne_eqb byte 25 not_tv, ne_eqb byte 30 not_video) refl in
+        absurd (false≢true (sym none ∙ says))
+
+-- eight bytes that may stand
+abbrev pub head_of : FileVersion → System → List ℕ
+head_of version system = MAGIC ++ version_byte version ∷ rate_of system ∷ 0 ∷ 0 ∷ []
+
+head_is : (l : List ℕ) → length l ≡ 8 → MayStand 0 l → (version : FileVersion) × (system : System) × (l ≡ head_of version system)
+head_is [] long may = absurd (omega (arith, long))
+head_is (a ∷ []) long may = absurd (omega (arith, long))
+head_is (a ∷ b ∷ []) long may = absurd (omega (arith, long))
+head_is (a ∷ b ∷ c ∷ []) long may = absurd (omega (arith, long))
+head_is (a ∷ b ∷ c ∷ e ∷ []) long may = absurd (omega (arith, long))
+head_is (a ∷ b ∷ c ∷ e ∷ v ∷ []) long may = absurd (omega (arith, long))
+head_is (a ∷ b ∷ c ∷ e ∷ v ∷ s ∷ []) long may = absurd (omega (arith, long))
+head_is (a ∷ b ∷ c ∷ e ∷ v ∷ s ∷ y ∷ []) long may = absurd (omega (arith, long))
+head_is (a ∷ b ∷ c ∷ e ∷ v ∷ s ∷ y ∷ z ∷ w ∷ more) long may = absurd (omega (arith, long))
+head_is (a ∷ b ∷ c ∷ e ∷ v ∷ s ∷ y ∷ z ∷ []) long may =
+    let version = version_says v may.1.1.1.1.0 in
+    let system = system_says s may.1.1.1.1.1.0 in
+    let l : a ≡ 0x4c = eqb-true a 0x4c may.0 in
+    let t : b ≡ 0x54 = eqb-true b 0x54 may.1.0 in
+    let k : c ≡ 0x43 = eqb-true c 0x43 may.1.1.0 in
+    let i : e ≡ 0x49 = eqb-true e 0x49 may.1.1.1.0 in
+    let first : y ≡ 0 = eqb-true y 0 may.1.1.1.1.1.1.0 in
+    let second : z ≡ 0 = eqb-true z 0 may.1.1.1.1.1.1.1.0 in
+    let same_version = version.1 in
+    let same_system = system.1 in
+    (version.0, system.0, (cc))
+
+pub bytes_behind : (n : ℕ) (bytes : List ℕ) → AreBytes bytes → AreBytes (drop n bytes)
+bytes_behind zero bytes are = are
+bytes_behind (suc n) [] are = are
+bytes_behind (suc n) (byte ∷ more) are = bytes_behind n more are.1
+
+-- the tick rate is four bytes
+rate_is : (rest : List ℕ) → 4 ≤ length rest → AreBytes rest → rest ≡ big_bytes 4 (big_number 4 rest) ++ drop 4 rest
+rate_is [] long are = absurd (omega (arith, long))
+rate_is (a ∷ []) long are = absurd (omega (arith, long))
+rate_is (a ∷ b ∷ []) long are = absurd (omega (arith, long))
+rate_is (a ∷ b ∷ c ∷ []) long are = absurd (omega (arith, long))
+rate_is (a ∷ b ∷ c ∷ e ∷ more) long are =
+    ap (λ (l : List ℕ). l ++ more) (sym (four_bytes a b c e are.0 are.1.0 are.1.1.0 are.1.1.1.0))
+
+version_back : (version : FileVersion) → version_at (version_byte version) ≡ Some version
+version_back One = refl
+version_back Two = refl
+
+system_back : (system : System) → system_at (rate_of system) ≡ Some system
+system_back F24 = refl
+system_back F25 = refl
+system_back F30 = refl
+
+-- bytes that begin with a header
+pub record Begins (header : IntervalHeader) (bytes : List ℕ) : Type 0 where
+  pub long : 12 ≤ length bytes
+  pub head : take 8 bytes ≡ head_of header.version header.system
+  pub rate : big_number 4 (drop 8 bytes) ≡ header.tick_rate
+  pub range : IsTickRate header.tick_rate
+
+pub header_is : (bytes : List ℕ) (header : IntervalHeader) → AreBytes bytes → Begins header bytes
+    → bytes ≡ header_bytes header ++ drop 12 bytes
+header_is bytes header are begins =
+    let long = begins.long in
+    let behind = length-drop 8 bytes in
+    let rate = rate_is (drop 8 bytes) (omega (arith, long, behind)) (bytes_behind 8 bytes are)
+    ∙ ap (λ (n : ℕ). big_bytes 4 n ++ drop 4 (drop 8 bytes)) begins.rate in
+    let four = drop-drop 4 8 bytes in
+    sym (take-append-drop 8 bytes)
+    ∙ ap₂ (λ (l r : List ℕ). l ++ r) begins.head (rate ∙ ap (λ (l : List ℕ). big_bytes 4 header.tick_rate ++ l) four)
+
+-- the header that is read from them
+header_read : (bytes : List ℕ) (version : FileVersion) (system : System) → take 8 bytes ≡ head_of version system
+    → header_of bytes ≡ header_with (Some version) (Some system) (big_number 4 (drop 8 bytes))
+header_read bytes version system head =
+    let fifth : version_at (slice_index bytes 4) ≡ Some version =
+    ap version_at (sym (get_or-take 8 bytes 4 0 (omega arith)) ∙ ap (λ (l : List ℕ). slice_index l 4) head)
+    ∙ version_back version in
+    let sixth : system_at (slice_index bytes 5) ≡ Some system =
+    ap system_at (sym (get_or-take 8 bytes 5 0 (omega arith)) ∙ ap (λ (l : List ℕ). slice_index l 5) head)
+    ∙ system_back system in
+    ap₂ (λ (v : Option FileVersion) (s : Option System). header_with v s (big_number 4 (drop 8 bytes))) fifth sixth
+
+-- ---- the intervals
+
+-- the bytes of an interval in range are those that a recorder writes for it
+spelled_one : (rest : List ℕ) → 4 ≤ length rest → AreBytes rest → take 4 rest ≡ spelling One (number_in One rest)
+spelled_one [] long are = absurd (omega (arith, long))
+spelled_one (a ∷ []) long are = absurd (omega (arith, long))
+spelled_one (a ∷ b ∷ []) long are = absurd (omega (arith, long))
+spelled_one (a ∷ b ∷ c ∷ []) long are = absurd (omega (arith, long))
+spelled_one (a ∷ b ∷ c ∷ e ∷ more) long are = sym (four_bytes a b c e are.0 are.1.0 are.1.1.0 are.1.1.1.0)
+
+abbrev pub IsSpelled : FileVersion → List ℕ → Type 0
+IsSpelled version rest = take (piece_width version rest) rest ≡ spelling version (number_in version rest)
+
+spelled_short : (a b : ℕ) (more : List ℕ) → a < 256 → b < 256 → (big_number 2 (a ∷ b ∷ more) == 0) ≡ false → IsSpelled Two (a ∷ b ∷ more)
+spelled_short a b more la lb short =
+    let low : big_number 2 (a ∷ b ∷ more) < 65536 = omega arith in
+    rw (short, lt-ltb (big_number 2 (a ∷ b ∷ more)) 65536 low) (sym (two_bytes a b la lb))
+
+spelled_long : (a b c e f g : ℕ) (more : List ℕ) → AreBytes (a ∷ b ∷ c ∷ e ∷ f ∷ g ∷ more)
+    → (big_number 2 (a ∷ b ∷ c ∷ e ∷ f ∷ g ∷ more) == 0) ≡ true → 65536 ≤ big_number 4 (c ∷ e ∷ f ∷ g ∷ more)
+    → IsSpelled Two (a ∷ b ∷ c ∷ e ∷ f ∷ g ∷ more)
+spelled_long a b c e f g more are zeros least_long =
+    let none : big_number 2 (a ∷ b ∷ c ∷ e ∷ f ∷ g ∷ more) ≡ 0 = eqb-true (big_number 2 (a ∷ b ∷ c ∷ e ∷ f ∷ g ∷ more)) 0 zeros in
+    let first : a ≡ 0 = omega (arith, none) in
+    let second : b ≡ 0 = omega (arith, none) in
+    let four = four_bytes c e f g are.1.1.0 are.1.1.1.0 are.1.1.1.1.0 are.1.1.1.1.1.0 in
+    rw (zeros, le-ltb (big_number 4 (c ∷ e ∷ f ∷ g ∷ more)) 65536 least_long)
+    (ap₂ (λ (x y : ℕ). x ∷ y ∷ c ∷ e ∷ f ∷ g ∷ []) first second ∙ ap (λ (l : List ℕ). 0 ∷ 0 ∷ l) (sym four))
+
+spelled_two : (rest : List ℕ) (zero_first : Bool) → (big_number 2 rest == 0) ≡ zero_first → (if zero_first then 6 else 2) ≤ length rest
+    → AreBytes rest → (if zero_first then 65536 else 1) ≤ number_in Two rest → IsSpelled Two rest
+spelled_two [] true e long are range = absurd (omega (arith, long))
+spelled_two (a ∷ []) true e long are range = absurd (omega (arith, long))
+spelled_two (a ∷ b ∷ []) true e long are range = absurd (omega (arith, long))
+spelled_two (a ∷ b ∷ c ∷ []) true e long are range = absurd (omega (arith, long))
+spelled_two (a ∷ b ∷ c ∷ e ∷ []) true zeros long are range = absurd (omega (arith, long))
+spelled_two (a ∷ b ∷ c ∷ e ∷ f ∷ []) true zeros long are range = absurd (omega (arith, long))
+spelled_two (a ∷ b ∷ c ∷ e ∷ f ∷ g ∷ more) true zeros long are range =
+    spelled_long a b c e f g more are zeros (rw zeros at range)
+spelled_two [] false e long are range = absurd (omega (arith, long))
+spelled_two (a ∷ []) false e long are range = absurd (omega (arith, long))
+spelled_two (a ∷ b ∷ more) false short long are range = spelled_short a b more are.0 are.1.0 short
+
+pub is_spelled : (version : FileVersion) (rest : List ℕ) → piece_width version rest ≤ length rest → AreBytes rest → InRange version rest
+    → IsSpelled version rest
+is_spelled One rest long are range = spelled_one rest long are
+is_spelled Two rest long are range = spelled_two rest (big_number 2 rest == 0) refl long are range.0
+
+pub in_range_or_not : (version : FileVersion) (rest : List ℕ) → InRange version rest ⊎ (¬ InRange version rest)
+in_range_or_not version rest = by_order (cases_lt (number_in version rest) (least_in version rest)) (cases_lt MAX_INTERVAL (number_in version rest))
+  where
+    by_order : (number_in version rest < least_in version rest) ⊎ (least_in version rest ≤ number_in version rest)
+        → (MAX_INTERVAL < number_in version rest) ⊎ (number_in version rest ≤ MAX_INTERVAL) → InRange version rest ⊎ (¬ InRange version rest)
+    by_order (inl low) high = inr (λ range. let least_of_all = range.0 in omega (arith, low, least_of_all))
+    by_order (inr low) (inl high) = inr (λ range. let most = range.1 in omega (arith, high, most))
+    by_order (inr low) (inr high) = inl (low, high)
+
+-- ---- what is read from the front
+
+out_of_range : (rate : ℕ) → (nat_le 1 rate && nat_le rate MAX_TICK_RATE) ≡ false → ¬ IsTickRate rate
+out_of_range rate wrong range =
+    let both : (nat_le 1 rate && nat_le rate MAX_TICK_RATE) ≡ true =
+    rw (le-leb 1 rate range.0, le-leb rate MAX_TICK_RATE range.1) refl in
+    false≢true (sym wrong ∙ both)
+
+rate_or_not : (rate : ℕ) → IsTickRate rate ⊎ ((nat_le 1 rate && nat_le rate MAX_TICK_RATE) ≡ false)
+rate_or_not rate = by_order (cases_lt rate 1) (cases_lt MAX_TICK_RATE rate)
+  where
+    by_order : (rate < 1) ⊎ (1 ≤ rate) → (MAX_TICK_RATE < rate) ⊎ (rate ≤ MAX_TICK_RATE)
+        → IsTickRate rate ⊎ ((nat_le 1 rate && nat_le rate MAX_TICK_RATE) ≡ false)
+    by_order (inl low) high = inr (rw (lt-leb 1 rate low) refl)
+    by_order (inr low) (inl high) = inr (rw (le-leb 1 rate low, lt-leb rate MAX_TICK_RATE high) refl)
+    by_order (inr low) (inr high) = inl (low, high)
+
+-- a fault and no header, or a header and what stands behind it
+abbrev pub IsReadAs : List ℕ → Type 0
+IsReadAs bytes = ((first : IntervalFileFault) × (contents_of bytes ≡ no_header first) × IsHeaderFault first bytes)
+    ⊎ ((header : IntervalHeader) × (contents_of bytes ≡ contents_behind (length bytes) header [] 12 (drop 12 bytes))
+    × Begins header bytes)
+
+pub read_front : (bytes : List ℕ) → IsReadAs bytes
+read_front bytes = by_head (head_or_fault bytes) (cases_lt (length bytes) 12)
+  where
+    rate : ℕ
+    rate = big_number 4 (drop 8 bytes)
+
+    with_header : Option IntervalHeader → Contents
+    with_header header = elim header [
+      | None ↦ no_header (fault.TickRate 8)
+      | Some header ↦ contents_behind (length bytes) header [] 12 (drop 12 bytes)
+    ]
+
+    by_rate : MayStand 0 (take 8 bytes) → 12 ≤ length bytes
+        → (version : FileVersion) × (system : System) × (take 8 bytes ≡ head_of version system)
+        → contents_of bytes ≡ with_header (header_of bytes)
+        → IsTickRate rate ⊎ ((nat_le 1 rate && nat_le rate MAX_TICK_RATE) ≡ false) → IsReadAs bytes
+    by_rate may long head read (inr wrong) =
+        let none : header_with (Some head.0) (Some head.1) rate ≡ None = rw wrong refl in
+        inl (
+          fault.TickRate 8,
+          read ∙ ap with_header (header_read bytes head.0 head.1 head.2 ∙ none),
+          (refl, record { whole = long; wrong = out_of_range rate wrong; before = may }),
+        )
+    by_rate may long head read (inl range) =
+        let header : IntervalHeader = record { version = head.0; system = head.1; tick_rate = rate } in
+        let some : header_with (Some head.0) (Some head.1) rate ≡ Some header =
+        rw (le-leb 1 rate range.0, le-leb rate MAX_TICK_RATE range.1) refl in
+        inr (
+          header,
+          read ∙ ap with_header (header_read bytes head.0 head.1 head.2 ∙ some),
+          record { long = long; head = head.2; rate = refl; range = range },
+        )
+
+    by_head : HeadOrFault bytes → (length bytes < 12) ⊎ (12 ≤ length bytes) → IsReadAs bytes
+    by_head (inr found) long = inl (found.0, rw found.2 refl, found.1)
+    by_head (inl may) (inl short) =
+        inl (
+          fault.Truncated (length bytes),
+          rw (may.1, lt-ltb (length bytes) 12 short) refl,
+          (refl, record { short = short; before = may.0 }),
+        )
+    by_head (inl may) (inr long) =
+        by_rate may.0 long (head_is (take 8 bytes) (length-take-le 8 bytes (omega (arith, long))) may.0)
+        (rw (may.1, le-ltb (length bytes) 12 long) refl) (rate_or_not rate)

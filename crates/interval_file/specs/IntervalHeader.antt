@@ -1,0 +1,38 @@
+-- The header of an interval file.
+use Rattle.std.specs.Prelude.{ℕ, ◌≤◌, List, ◌∷◌, ◌++◌, Option, Some, None, ◌==◌, if◌then◌else◌}
+use Rattle.byteorder.specs.Endian.{big_bytes}
+use Rattle.tc_address.specs.declared.system.System.{System}
+use Rattle.tc_address.specs.declared.system.System.TheVariants.{F24, F25, F30}
+use Rattle.tc_address.specs.Count.{rate_of}
+use Rattle.interval_file.specs.declared.header.FileVersion.{FileVersion}
+use Rattle.interval_file.specs.declared.header.FileVersion.TheVariants.{One, Two}
+use Rattle.interval_file.specs.declared.header.IntervalHeader.{IntervalHeader}
+use Rattle.interval_file.specs.declared.header.TheConstants.{MAGIC, VERSION_ONE, VERSION_TWO, MAX_TICK_RATE}
+
+-- a tick rate that a recording may have
+abbrev pub IsTickRate : ℕ → Type 0
+IsTickRate rate = (1 ≤ rate) × (rate ≤ MAX_TICK_RATE)
+
+-- the version as it stands in the header
+abbrev pub version_byte : FileVersion → ℕ
+version_byte One = VERSION_ONE
+version_byte Two = VERSION_TWO
+
+-- the version that stands as a number in the header
+abbrev pub version_at : ℕ → Option FileVersion
+version_at byte =
+    if byte == VERSION_ONE then Some One
+    else if byte == VERSION_TWO then Some Two
+    else None
+
+-- the system whose rate stands as a number in the header
+abbrev pub system_at : ℕ → Option System
+system_at byte =
+    if byte == rate_of F24 then Some F24
+    else if byte == rate_of F25 then Some F25
+    else if byte == rate_of F30 then Some F30
+    else None
+
+-- the bytes of a header
+abbrev pub header_bytes : IntervalHeader → List ℕ
+header_bytes header = MAGIC ++ version_byte header.version ∷ rate_of header.system ∷ 0 ∷ 0 ∷ big_bytes 4 header.tick_rate

@@ -1,0 +1,12 @@
+pub mod Contents
+pub mod Decoding
+pub mod Fault
+pub mod Grammar
+pub mod IntervalFile
+pub mod IntervalHeader
+pub mod Next
+pub mod NextByte
+pub mod Piece
+pub mod Progress
+pub mod Recording
+pub mod Verdict

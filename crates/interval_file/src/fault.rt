@@ -1,0 +1,65 @@
+//! The faults of an interval file. Next: `names`.
+ghost use Rattle.std.specs.Prelude.{◌≡◌};
+
+use crate::names;
+use thiserror::Error;
+
+/// The first fault of an interval file, with the byte place, from 0, at which it stands.
+#[derive(Clone, Copy, Debug, PartialEq, Eq, Error)]
+pub enum IntervalFileFault {
+    /// One of the first four bytes is not that of the magic, `LTCI`.
+    #[error("no interval file")]
+    Magic(u64),
+    /// The version is neither 1 nor 2.
+    #[error("an unknown version")]
+    Version(u64),
+    /// The system is none of 24, 25 and 30.
+    #[error("an unknown system")]
+    System(u64),
+    /// A reserved byte is not 0.
+    #[error("a reserved byte that is not 0")]
+    Reserved(u64),
+    /// The tick rate is 0 or above 100,000,000. The place is its first byte.
+    #[error("a tick rate out of range")]
+    TickRate(u64),
+    /// An interval is 0 or above 16,777,215 ticks. The place is its first byte.
+    #[error("an interval out of range")]
+    Interval(u64),
+    /// The input ends inside the header or inside an interval. The place is the number of its bytes.
+    #[error("an input that ends too early")]
+    Truncated(u64),
+}
+
+impl IntervalFileFault {
+    ghost use Rattle.interval_file.specs.Fault.{name_of, place_of};
+
+    /// The name under which notes print the fault.
+    pub fn name(self) -> &'static str
+        ensures { result.now ≡ name_of self }
+    {
+        match self {
+            IntervalFileFault::Magic(_) => names::MAGIC_NAME,
+            IntervalFileFault::Version(_) => names::VERSION_NAME,
+            IntervalFileFault::System(_) => names::SYSTEM_NAME,
+            IntervalFileFault::Reserved(_) => names::RESERVED_NAME,
+            IntervalFileFault::TickRate(_) => names::TICK_RATE_NAME,
+            IntervalFileFault::Interval(_) => names::INTERVAL_NAME,
+            IntervalFileFault::Truncated(_) => names::TRUNCATED_NAME,
+        }
+    }
+
+    /// The byte place of the fault.
+    pub fn place(self) -> u64
+        ensures { result ≡ place_of self }
+    {
+        match self {
+            IntervalFileFault::Magic(place)
+            | IntervalFileFault::Version(place)
+            | IntervalFileFault::System(place)
+            | IntervalFileFault::Reserved(place)
+            | IntervalFileFault::TickRate(place)
+            | IntervalFileFault::Interval(place)
+            | IntervalFileFault::Truncated(place) => place,
+        }
+    }
+}

@@ -1,0 +1,135 @@
+//! The bytes of an interval, in each version of the file. Next: `decoder`.
+ghost use Rattle.std.specs.Prelude.{◌≡◌, ℕ, List, ◌≤◌, ◌<◌, ◌++◌, ◌==◌, length, drop, fold, nat_le, Some, None, Ok, IfOk, OnErr, if◌then◌else◌};
+ghost use Rattle.interval_file.specs.Piece.{interval_in, most_width, piece_width, spelling};
+ghost use Rattle.biphase.specs.declared.cell.TheConstants.{MAX_INTERVAL};
+ghost use Rattle.interval_file.specs.Grammar.{IsFile};
+ghost use Rattle.interval_file.specs.Next.{IsNext, next_of};
+ghost use Rattle.interval_file.specs.NextByte.{BringNext};
+ghost use Rattle.interval_file.specs.declared.header.IntervalHeader.{IntervalHeader};
+ghost use Rattle.interval_file.specs.Decoding.{Decoding, IsBetween, with_byte, with_number};
+
+use crate::fault::IntervalFileFault;
+use crate::header::FileVersion;
+use biphase::MAX_INTERVAL;
+use byteorder::{BigEndian, ByteOrder};
+
+/// The least interval that version 2 spells with six bytes, in ticks.
+pub const LEAST_LONG: u32 = 65_536;
+
+/// What stands at the front of bytes that begin between two intervals.
+#[derive(Clone, Copy, Debug, PartialEq, Eq)]
+pub enum Next {
+    /// No whole interval.
+    Short,
+    /// An interval, in ticks, of so many bytes.
+    Interval { ticks: u32, width: usize },
+    /// An interval out of range.
+    Fault(IntervalFileFault),
+}
+
+/// The most bytes of an interval.
+#[inline(always)]
+pub fn most_width(version: FileVersion) -> usize
+    ensures { result ≡ most_width version }
+{
+    match version {
+        FileVersion::One => 4,
+        FileVersion::Two => 6,
+    }
+}
+
+/// The next interval of bytes, the first of which stands at this place between two intervals. It is
+/// what a decoder that stands there makes of the bytes of the interval, taken one by one.
+#[inline(always)]
+pub fn next_interval(version: FileVersion, place: u64, bytes: &[u8]) -> Next
+    ensures exact { result ≡ next_of version place bytes.now }
+    ensures makes { IsNext version place bytes.now result }
+    // Behind a file that ends there, it is what the bytes bring to what the file says as a text.
+    ensures text { (front : List ℕ) (header : IntervalHeader) (intervals : List ℕ) → IsFile front header intervals
+        → header.version ≡ version → length front ≡ place → BringNext front header intervals bytes.now result }
+{
+    front_interval(version, place, bytes)
+}
+
+/// The same, as it stands.
+#[inline(always)]
+fn front_interval(version: FileVersion, place: u64, bytes: &[u8]) -> Next
+    ensures { result ≡ next_of version place bytes.now }
+{
+    match whole_width(version, bytes) {
+        None => Next::Short,
+        Some(width) => match interval_in(version, place, bytes) {
+            Ok(ticks) => Next::Interval { ticks, width },
+            Err(fault) => Next::Fault(fault),
+        },
+    }
+}
+
+/// How many bytes the interval has that stands first, where it is whole.
+#[inline(always)]
+pub(crate) fn whole_width(version: FileVersion, bytes: &[u8]) -> Option<usize>
+    ensures { result ≡ (if nat_le (piece_width version bytes.now) (length bytes.now) then Some (piece_width version bytes.now) else None) }
+{
+    let width = match version {
+        FileVersion::One => 4,
+        FileVersion::Two if bytes.len() < 2 => return None,
+        FileVersion::Two if BigEndian::read_u16(bytes) == 0 => 6,
+        FileVersion::Two => 2,
+    };
+    if width <= bytes.len() {
+        Some(width)
+    } else {
+        None
+    }
+}
+
+/// The interval that stands first, at this byte place.
+#[inline(always)]
+pub(crate) fn interval_in(version: FileVersion, place: u64, bytes: &[u8]) -> Result<u32, IntervalFileFault>
+    requires { piece_width version bytes.now ≤ length bytes.now }
+    ensures exact { result ≡ interval_in version place bytes.now }
+    ensures range { IfOk result (λ x. (1 ≤ x) × (x ≤ MAX_INTERVAL)) }
+    // Two bytes hold no number out of range.
+    ensures wide { OnErr result (piece_width version bytes.now ≡ most_width version) }
+{
+    let (least, ticks) = match version {
+        FileVersion::One => (1, BigEndian::read_u32(bytes)),
+        FileVersion::Two => match BigEndian::read_u16(bytes) {
+            0 => (LEAST_LONG, BigEndian::read_u32(&bytes[2..])),
+            short => (1, u32::from(short)),
+        },
+    };
+    // One comparison tests both ends.
+    if ticks.wrapping_sub(least) <= MAX_INTERVAL - least {
+        Ok(ticks)
+    } else {
+        Err(IntervalFileFault::Interval(place))
+    }
+}
+
+/// Writes an interval, of `x` ticks, to the front of the room, and answers how many bytes it has.
+pub fn interval_bytes(version: FileVersion, x: u32, room: &mut [u8; 6]) -> usize
+    requires least { 1 ≤ x }
+    requires most { x ≤ MAX_INTERVAL }
+    ensures length { result ≡ length (spelling version x) }
+    ensures bytes { room.new ≡ spelling version x ++ drop (length (spelling version x)) room.old }
+    // What is written is read back.
+    ensures back { (d : Decoding) → IsBetween d.progress → d.progress.version ≡ version
+        → fold with_byte d (spelling version x) ≡ with_number d (length (spelling version x)) (Ok x) }
+{
+    match version {
+        FileVersion::One => {
+            BigEndian::write_u32(room, x);
+            4
+        }
+        FileVersion::Two if x < LEAST_LONG => {
+            BigEndian::write_u16(room, x as u16);
+            2
+        }
+        FileVersion::Two => {
+            BigEndian::write_u16(room, 0);
+            BigEndian::write_u32(&mut room[2..], x);
+            6
+        }
+    }
+}

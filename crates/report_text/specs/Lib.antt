@@ -1,0 +1,2 @@
+pub mod FrameTexts
+pub mod Texts

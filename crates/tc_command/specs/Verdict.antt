@@ -1,0 +1,8 @@
+-- What the grammar of a command and its limit make of bytes, whatever follows them.
+use Rattle.tc_command.specs.declared.input_fault.InputFault.{InputFault}
+
+-- good so far; refused for a fault that is shown; or past the limit, with no fault before
+pub data Verdict : Type 0 where
+  good : Verdict
+  refused : InputFault → Verdict
+  past_limit : Verdict

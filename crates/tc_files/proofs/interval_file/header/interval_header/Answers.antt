@@ -1,8 +1,0 @@
-use Rattle.tc_files.proofs.DecoderReads.{header_read}
-use Rattle.tc_files.proofs.interval_file.header.interval_header.Goals as goal
-
--- the header is read back
-pub returns-clause-back : goal.returns-clause-back
-returns-clause-back c =
-    rw (c.version_byte-version.ensures, c.rate-system.ensures, c.write_u32.ensures)
-    (header_read c.args.header.now c.requires)
