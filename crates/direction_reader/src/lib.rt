@@ -25,7 +25,7 @@
 //!
 //! Read `reader`, `tracker`, `state`, `latest_cells`, `latest_bits`, `window`, `boundaries`, `brought`,
 //! `candidates` and `event`, in this order: the way of an interval. `specs/Invariants.antt` is what
-//! the code keeps. `tc_files` prints the events. Nothing here allocates.
+//! the code keeps. `report_text` prints the events. Nothing here allocates.
 #![tactic(auto)]
 
 mod boundaries;

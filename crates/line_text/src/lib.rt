@@ -11,7 +11,7 @@
 //!   `push_any_number` 20, `push_signed` 11 (the clauses `len`). So a line of many numbers is known to fit
 //!   from its words alone.
 //!
-//! Read `line`, then `numbers` and `named`, with `specs/Line.antt` beside them. `tc_files`, `line_file`,
+//! Read `line`, then `numbers` and `named`, with `specs/Line.antt` beside them. `report_text`, `line_file`,
 //! `mtc_reader`, `chase_script` and `tc_top` write with this crate. Nothing here allocates or fails.
 #![tactic(auto)]
 

@@ -17,7 +17,7 @@
 //! Read `places`, the table, then `word`, `reading`, `writing` and `reversal`, with
 //! `specs/Spelling.antt` beside them. `laws` says what holds of the table and of the spelling: each
 //! bit has one place, and twelve ones in a row are the sync word. `direction_reader` reads words with this
-//! crate, and `tc_files` and `tc_top` print and make them. Nothing here allocates or fails in any other
+//! crate, and `report_text` and `tc_top` print and make them. Nothing here allocates or fails in any other
 //! way.
 #![tactic(auto)]
 

@@ -21,7 +21,7 @@
 //!
 //! Read `place` and `register`, then `user_bits`, `flags`, `fields`, `table`, `reading`, `raw`, `fault`
 //! with its `names`, `checking` and `writing`, with the files of specs/ beside them. `ltc_word` and
-//! `vitc_line` bring their tables. `direction_reader`, `tc_files` and `tc_top` take the fields from there.
+//! `vitc_line` bring their tables. `direction_reader`, `report_text` and `tc_top` take the fields from there.
 //! Nothing here allocates or fails in any other way.
 #![tactic(auto)]
 
