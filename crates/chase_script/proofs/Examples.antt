@@ -1,5 +1,5 @@
 -- The slips of a script at their edges.
-use Rattle.std.proofs.Common.{◌≡◌, ℤ, pos, neg_ℤ, Ok, Err, refl}
+use Rattle.std.proofs.Common.{◌≡◌, pos, neg_ℤ, Ok, Err, refl}
 use Rattle.std.specs.Prelude.{codes}
 use Rattle.chase_script.specs.declared.column.Column.TheVariants.{Slip}
 use Rattle.chase_script.specs.Script.{slip_in}

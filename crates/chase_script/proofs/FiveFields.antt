@@ -1,10 +1,8 @@
 -- A record of five fields is the row of these, and each other record is refused for the number of its fields.
-use Rattle.std.proofs.Common.{◌≡◌, ℕ, zero, suc, ◌≤◌, arith, List, [], ◌∷◌, length, Some, None, Err, refl, ap}
-use Rattle.std.specs.Prelude.{◌≢◌}
+use Rattle.std.proofs.Common.{◌≡◌, ℕ, zero, suc, ◌≤◌, arith, List, [], ◌∷◌, length, Some, None, refl, ap}
 use Rattle.std.specs.declared.option.Option.{Option}
 use Rattle.csv.specs.Records.{field_at}
 use Rattle.tc_address.specs.declared.count.Count.{Count}
-use Rattle.chase_script.specs.declared.column.Column.TheVariants as columns
 use Rattle.chase_script.specs.Script.{Field, row_in, row_of_fields}
 
 -- what is at a place, or something else

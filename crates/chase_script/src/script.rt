@@ -6,7 +6,7 @@ ghost use Rattle.chase_script.specs.Answer.{AreRowsFor, IsRefusal};
 
 use crate::fault::{RowFault, ScriptFault};
 use crate::row::{ScriptRow, row_in};
-use csv::ReaderBuilder;
+use csv::{ByteRecord, ReaderBuilder};
 use std::alloc::{AllocError, Global};
 use tc_address::Count;
 
@@ -20,15 +20,19 @@ pub fn script_rows(alloc: Global, bytes: &[u8], count: Count) -> Result<Script, 
     ensures refuses { IfErr result (λ fault. IsRefusal (script_in count bytes.now) fault) }
     ensures fits { IfOk result (λ script. AreRowsFor count script.items) }
 {
-    let reader = ReaderBuilder::new()
+    let mut reader = ReaderBuilder::new()
         .has_headers(false)
         .flexible(true)
         .from_reader(alloc, bytes);
     let mut rows = Vec::new(alloc);
-    for read in reader.into_byte_records() {
-        let Ok(fields) = read else {
+    let mut fields = ByteRecord::new(alloc);
+    'records: for _record in 0..u64::MAX {
+        let Ok(found) = reader.read_byte_record(&mut fields) else {
             return Err(ScriptFault::Memory(AllocError));
         };
+        if !found {
+            return Ok(rows);
+        }
         match row_in(count, &fields) {
             Ok(row) => {
                 if rows.push(row).is_err() {
@@ -41,5 +45,5 @@ pub fn script_rows(alloc: Global, bytes: &[u8], count: Count) -> Result<Script, 
             }
         }
     }
-    Ok(rows)
+    Err(ScriptFault::Memory(AllocError))
 }

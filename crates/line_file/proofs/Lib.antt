@@ -4,6 +4,7 @@ pub mod DecoderTakes
 pub mod FaultsStay
 pub mod FieldByField
 pub mod FileReadBack
+pub mod FrontStays
 pub mod HeaderBytes
 pub mod OwnBytes
 pub mod PieceByPiece

@@ -21,6 +21,9 @@ pub const MAX_FIELDS: u32 = 100_000_000;
 /// The most bytes of a field: 20 lines of 89 runs.
 pub const FIELD_ROOM: usize = 3_581;
 
+/// How many bytes are tried first behind those that are kept: few fields are longer.
+const TRIED: usize = 256;
+
 /// The first bytes of a header or a field.
 type Part = ArrayVec<u8, FIELD_ROOM>;
 
@@ -167,16 +170,45 @@ fn take_piece(
         if let Piece::Short = piece {
             push(part, bytes);
         }
-        piece
-    } else {
-        push(part, bytes);
-        let piece = piece_in(header, place, fields, part);
-        match piece {
-            Piece::Short => {}
-            _ => part.truncate(before),
-        }
-        piece
+        return piece;
     }
+    let tried = bytes.len().min(TRIED);
+    match piece_behind(header, place, fields, part, &bytes[..tried]) {
+        Piece::Short => {}
+        piece => return piece,
+    }
+    let piece = piece_behind(header, place, fields, part, &bytes[tried..]);
+    match piece {
+        Piece::Short => {}
+        _ => part.truncate(before),
+    }
+    piece
+}
+
+/// What stands at the front of the bytes that are kept and of these. They are kept too where that is less than a whole piece.
+fn piece_behind(
+    header: Option<LineHeader>,
+    place: u64,
+    fields: u32,
+    part: &mut Part,
+    bytes: &[u8],
+) -> Piece
+    requires header { IfSome header IsHeader }
+    requires place { place < 2 ^ 62 }
+    requires fields { fields ≤ MAX_FIELDS }
+    requires room { array_vec_len part.old + length bytes.now ≤ FIELD_ROOM }
+    ensures piece { IsPiece header place fields (part.old.items ++ bytes.now) result }
+    ensures kept { result ≡ pieces.Short → part.new.items ≡ part.old.items ++ bytes.now }
+    ensures others { result ≢ pieces.Short → part.new.items ≡ part.old.items }
+{
+    let before = part.len();
+    push(part, bytes);
+    let piece = piece_in(header, place, fields, part);
+    match piece {
+        Piece::Short => {}
+        _ => part.truncate(before),
+    }
+    piece
 }
 
 /// What stands at the front of bytes behind so many fields.

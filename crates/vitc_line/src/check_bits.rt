@@ -44,6 +44,9 @@ fn is_set_at(sums: u32, residue: u32) -> bool
 fn first_set(sums: u32) -> Option<u32>
     ensures { result ≡ first_set_bit sums }
 {
+    if sums == 0 {
+        return None;
+    }
     (0..8).find(|&residue| is_set_at(sums, residue))
 }
 

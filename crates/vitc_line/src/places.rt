@@ -62,6 +62,9 @@ pub const SYNC_PAIR: u32 = 1;
 /// All sync pairs in their places.
 pub const ALL_SYNC_PAIRS: u128 = 0x1_0040_1004_0100_4010_0401;
 
+/// The bits that belong to sync pairs.
+pub(crate) const UNDER_SYNC_PAIRS: u128 = 0x3_00c0_300c_0300_c030_0c03;
+
 /// Where the sync pair of this number stands, counted from 0: two bits in each ten.
 pub(crate) fn sync_pair(number: u32) -> Place
     requires { number < SYNC_PAIRS }

@@ -6,7 +6,9 @@ ghost use Rattle.vitc_line.specs.Spelling.{Spells};
 ghost use Rattle.vitc_line.specs.Fault.{is_wrong_pair, wrong_sync_pair, first_fault};
 
 use crate::check_bits::first_wrong_residue;
-use crate::places::{SYNC_PAIR, SYNC_PAIRS, field_mark, sync_pair, table};
+use crate::places::{
+    ALL_SYNC_PAIRS, SYNC_PAIR, SYNC_PAIRS, UNDER_SYNC_PAIRS, field_mark, sync_pair, table,
+};
 use crate::word::{LineFault, VitcWord};
 use tc_address::System;
 use tc_bits::laws::fields_are_exact;
@@ -25,6 +27,9 @@ fn is_wrong(bits: u128, pair: u32) -> bool
 fn first_wrong_sync_pair(bits: u128) -> Option<u32>
     ensures { result ≡ wrong_sync_pair bits }
 {
+    if bits & UNDER_SYNC_PAIRS == ALL_SYNC_PAIRS {
+        return None;
+    }
     (0..SYNC_PAIRS).find(|&pair| is_wrong(bits, pair))
 }
 

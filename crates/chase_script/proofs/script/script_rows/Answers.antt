@@ -10,19 +10,15 @@ use Rattle.chase_script.proofs.RowsFit.{one_row_more}
 use Rattle.chase_script.proofs.script.script_rows.Goals as goal
 
 -- nothing was read yet
-pub loop-read-init : goal.loop-read-init
+pub records-init : goal.records-init
 unfolding AreRowsFor
-loop-read-init c =
+records-init c =
     let fr = c.from_reader-reader.ensures in
     let f = c.flexible.ensures in
     let e = c.has_headers.ensures in
-    let start = c.into_iter-read-iterator.ensures.into_iter_gives ∙ refl in
-    let rdr = c.into_byte_records-read-items.ensures.rdr in
-    let left = c.into_byte_records-read-items.ensures.left in
-    rw (start, rdr, c.new-rows.ensures.items) (record {
+    rw c.new-rows.ensures.items (record {
       trim = rw (f, e) at fr.trim ∙ c.new.ensures.trim;
       ready = inr (inr (rw (f, e) at fr.has_headers, fr.headers));
-      turns = left;
       config = rw (f, e) at fr.config ∙ c.new.ensures.config;
       fit = tt;
       left = strip_bom c.args.bytes.now;
@@ -34,43 +30,45 @@ loop-read-init c =
 pub returns-in-Err-clause-refuses : goal.returns-in-Err-clause-refuses
 unfolding Reached
 returns-in-Err-clause-refuses c =
-    let inv = c.loop-read.invariant in
-    let s = rw (c.in-Some.is, c.in-Ok.is) at ((c.next.ensures.steps inv.turns inv.trim).0 inv.ready) in
-    let m = rows-more (λ (s : Bor (List ℕ)). Some s.now) c.loop-read.read-iterator.rdr c.next.new.self.rdr (fields_of c.in-Ok.fields)
-    default_config c.loop-read.read-iterator.rdr.state inv.left inv.left [] inv.config inv.source (refl, refl) s.0 in
-    let refused = a_row_refused c.args.count c.args.bytes.now c.loop-read.rows.items c.loop-read.read-iterator.rdr.state
-    c.next.new.self.rdr.state inv.left m.0 (fields_of c.in-Ok.fields) c.in-Err.column inv.are m.2 (sym c.row_in.ensures.value ∙ c.in-Err.is) in
-    let place : 1 + length c.loop-read.rows.items ≡ c.len.result + 1 = omega (arith, c.len.ensures) in
+    let inv = c.records.invariant in
+    let read = rw c.if-not-found.false at c.in-Ok.ensures.reads inv.trim inv.ready in
+    let m = rows-more (λ (s : Bor (List ℕ)). Some s.now) c.records.reader c.read_byte_record.new.self (fields_of c.read_byte_record.new.row)
+    default_config c.records.reader.state inv.left inv.left [] inv.config inv.source (refl, refl) read in
+    let refused = a_row_refused c.args.count c.args.bytes.now c.records.rows.items c.records.reader.state
+    c.read_byte_record.new.self.state inv.left m.0 (fields_of c.read_byte_record.new.row) c.in-Err.column inv.are m.2
+    (sym c.row_in.ensures.value ∙ c.in-Err.is) in
+    let place : 1 + length c.records.rows.items ≡ c.len.result + 1 = omega (arith, c.len.ensures) in
     let at = λ (n : ℕ). let fault : RowFault = record { row = n; column = c.in-Err.column } in fault in
     refused ∙ ap (λ (n : ℕ). Err (at n)) place
 
 -- it is a row
-pub loop-read-preserved : goal.loop-read-preserved
+pub records-preserved : goal.records-preserved
 unfolding Reached
-loop-read-preserved c =
-    let inv = c.loop-read.invariant in
-    let s = rw (c.in-Some.is, c.in-Ok.is) at ((c.next.ensures.steps inv.turns inv.trim).0 inv.ready) in
-    let m = rows-more (λ (s : Bor (List ℕ)). Some s.now) c.loop-read.read-iterator.rdr c.next.new.self.rdr (fields_of c.in-Ok.fields)
-    default_config c.loop-read.read-iterator.rdr.state inv.left inv.left [] inv.config inv.source (refl, refl) s.0 in
+records-preserved c =
+    let inv = c.records.invariant in
+    let read = rw c.if-not-found.false at c.in-Ok.ensures.reads inv.trim inv.ready in
+    let m = rows-more (λ (s : Bor (List ℕ)). Some s.now) c.records.reader c.read_byte_record.new.self (fields_of c.read_byte_record.new.row)
+    default_config c.records.reader.state inv.left inv.left [] inv.config inv.source (refl, refl) read in
     let good : is_ok c.push.result ≡ true = search rules in
     let items = rw good at c.push.ensures.items in
-    let more = a_row_more c.args.count c.args.bytes.now c.loop-read.rows.items c.loop-read.read-iterator.rdr.state
-    c.next.new.self.rdr.state inv.left m.0 (fields_of c.in-Ok.fields) c.in-Ok-row_in.row inv.are m.2 (sym c.row_in.ensures.value ∙ c.in-Ok-row_in.is) in
+    let more = a_row_more c.args.count c.args.bytes.now c.records.rows.items c.records.reader.state
+    c.read_byte_record.new.self.state inv.left m.0 (fields_of c.read_byte_record.new.row) c.in-Ok-row_in.row inv.are m.2
+    (sym c.row_in.ensures.value ∙ c.in-Ok-row_in.is) in
     record {
-      trim = s.0.3 ∙ inv.trim;
-      ready = inl s.1;
-      turns = s.2;
-      config = s.0.2 ∙ inv.config;
-      fit = rw items (one_row_more c.args.count c.loop-read.rows.items c.in-Ok-row_in.row inv.fit c.in-Ok-row_in.ensures.fits);
+      trim = read.3 ∙ inv.trim;
+      ready = inl (c.in-Ok.ensures.ready inv.trim);
+      config = read.2 ∙ inv.config;
+      fit = rw items (one_row_more c.args.count c.records.rows.items c.in-Ok-row_in.row inv.fit c.in-Ok-row_in.ensures.fits);
       left = m.0;
       source = m.1;
       are = rw items more;
     }
 
 -- no record was left
-pub returns-clause-reads : goal.returns-clause-reads
-returns-clause-reads c =
-    let inv = c.loop-read.invariant in
-    let s = rw c.in-None.is at ((c.next.ensures.steps inv.turns inv.trim).0 inv.ready) in
-    nothing_left c.args.count c.args.bytes.now c.loop-read.rows.items c.loop-read.read-iterator.rdr.state inv.left inv.are
-    (rows-end (λ (s : Bor (List ℕ)). Some s.now) c.loop-read.read-iterator.rdr c.next.new.self.rdr [] default_config inv.left inv.config inv.source s)
+pub returns-then-not-found-clause-reads : goal.returns-then-not-found-clause-reads
+returns-then-not-found-clause-reads c =
+    let inv = c.records.invariant in
+    let read = rw c.if-not-found.true at c.in-Ok.ensures.reads inv.trim inv.ready in
+    nothing_left c.args.count c.args.bytes.now c.records.rows.items c.records.reader.state inv.left inv.are
+    (rows-end (λ (s : Bor (List ℕ)). Some s.now) c.records.reader c.read_byte_record.new.self (fields_of c.read_byte_record.new.row) default_config
+    inv.left inv.config inv.source read)
