@@ -137,8 +137,8 @@ pub(crate) fn is_at_most(ratio: Ratio, a: u64, b: u64) -> bool
     times(ratio.whole, a) <= times(ratio.part, b)
 }
 
-/// Tells whether `number` times the difference of `a` and `b` is at most `length`, all in ticks. Two
-/// comparisons cost less than the difference.
+/// Tells whether `number` times the difference of `a` and `b` is at most `length`, all in ticks. What is
+/// below 0 wraps to more than any length, so one comparison tests both ends.
 #[tactic(auto, using(crate::proofs::EitherWay::times_apart))]
 pub(crate) fn is_within(number: u8, a: u64, b: u64, length: u64) -> bool
     requires first { a < 2 ^ 40 }
@@ -147,5 +147,5 @@ pub(crate) fn is_within(number: u8, a: u64, b: u64, length: u64) -> bool
     ensures { IsTrue result ↔ IsWithin number a b length }
 {
     let (first, second) = (times(number, a), times(number, b));
-    second <= first + length && first <= second + length
+    (first + length).wrapping_sub(second) <= 2 * length
 }

@@ -1,5 +1,5 @@
 //! The ticks at the latest boundaries of cells. Next: `candidates`, with a window that is one.
-ghost use Rattle.std.specs.Prelude.{◌≡◌, ◌+◌, ◌%◌, ◌<◌, length, replicate, slice_index};
+ghost use Rattle.std.specs.Prelude.{◌≡◌, length, replicate, slice_index};
 ghost use Rattle.direction_reader.specs.Boundaries.{with_tick};
 
 use std::marker::Model;
@@ -7,22 +7,23 @@ use std::marker::Model;
 /// A window has so many boundaries: one before each of its 80 cells, and the one at its end.
 pub const BOUNDARIES: usize = 81;
 
-/// The latest 81 ticks that it was given, the oldest first, with zeros for those before the first.
+/// The latest 81 ticks that it was given, the oldest first, with zeros for those before the first. They
+/// stand in a ring of 256 places, so that a byte which wraps is its next place, and nothing tests for its end.
 #[derive(Drop)]
 pub struct Boundaries {
-    ring: [u64; 81],
-    oldest: usize,
+    ring: [u64; 256],
+    next: u8,
 }
 
 impl Model for Boundaries {
-    ghost use Rattle.std.specs.Prelude.{ℕ, ◌≡◌, ◌<◌, List, length, ◌++◌, drop, take};
-    ghost use Rattle.direction_reader.specs.declared.boundaries.TheConstants.{BOUNDARIES};
+    ghost use Rattle.std.specs.Prelude.{ℕ, ◌≡◌, ◌<◌, List, length};
+    ghost use Rattle.direction_reader.specs.Boundaries.{latest_of};
 
     ghost Value = { List ℕ };
 
-    ghost view = { λ b. drop b.oldest b.ring ++ take b.oldest b.ring };
+    ghost view = { λ b. latest_of b.ring b.next };
 
-    ghost invariant = { λ b. (length b.ring ≡ BOUNDARIES) × (b.oldest < BOUNDARIES) };
+    ghost invariant = { λ b. (length b.ring ≡ 256) × (b.next < 256) };
 }
 
 impl Boundaries {
@@ -32,8 +33,8 @@ impl Boundaries {
         ensures all { length result ≡ BOUNDARIES }
     {
         Boundaries {
-            ring: [0; 81],
-            oldest: 0,
+            ring: [0; 256],
+            next: 0,
         }
     }
 
@@ -43,23 +44,14 @@ impl Boundaries {
         ensures added { self.new ≡ with_tick self.old tick }
         ensures all { length self.new ≡ BOUNDARIES }
     {
-        let place = self.oldest;
-        self.ring[place] = tick;
-        self.oldest = place_after(place);
+        self.ring[self.next as usize] = tick;
+        self.next = self.next.wrapping_add(1);
     }
 
     /// The tick of the oldest boundary.
     pub fn oldest(&self) -> u64
         ensures { result ≡ slice_index self.now 0 }
     {
-        self.ring[self.oldest]
+        self.ring[self.next.wrapping_sub(BOUNDARIES as u8) as usize]
     }
-}
-
-/// The next place of the ring. A division would cost more than the rest of a push.
-fn place_after(place: usize) -> usize
-    requires { place < BOUNDARIES }
-    ensures { result ≡ (place + 1) % BOUNDARIES }
-{
-    if place + 1 < BOUNDARIES { place + 1 } else { 0 }
 }

@@ -1,5 +1,6 @@
 //! The bytes of an interval, in each version of the file. Next: `decoder`.
-ghost use Rattle.std.specs.Prelude.{◌≡◌, ℕ, List, ◌≤◌, ◌<◌, ◌++◌, ◌==◌, length, drop, fold, nat_le, Some, None, Ok, IfOk, OnErr, if◌then◌else◌};
+ghost use Rattle.std.specs.Prelude.{◌≡◌, ℕ, List, ◌≤◌, ◌<◌, ◌++◌, ◌==◌, ◌&&◌, length, drop, fold, nat_le, Some, None, Ok, Err, IfOk, OnErr, if◌then◌else◌};
+ghost use Rattle.interval_file.specs.declared.fault.IntervalFileFault.TheVariants as fault;
 ghost use Rattle.interval_file.specs.Piece.{interval_in, most_width, piece_width, spelling};
 ghost use Rattle.biphase.specs.declared.cell.TheConstants.{MAX_INTERVAL};
 ghost use Rattle.interval_file.specs.Grammar.{IsFile};
@@ -92,13 +93,22 @@ pub(crate) fn interval_in(version: FileVersion, place: u64, bytes: &[u8]) -> Res
     // Two bytes hold no number out of range.
     ensures wide { OnErr result (piece_width version bytes.now ≡ most_width version) }
 {
-    let (least, ticks) = match version {
-        FileVersion::One => (1, BigEndian::read_u32(bytes)),
+    match version {
+        FileVersion::One => in_range(place, 1, BigEndian::read_u32(bytes)),
         FileVersion::Two => match BigEndian::read_u16(bytes) {
-            0 => (LEAST_LONG, BigEndian::read_u32(&bytes[2..])),
-            short => (1, u32::from(short)),
+            0 => in_range(place, LEAST_LONG, BigEndian::read_u32(&bytes[2..])),
+            short => Ok(u32::from(short)),
         },
-    };
+    }
+}
+
+/// An interval of so many ticks, which begins at this byte place, where it has at least the least and is in
+/// range.
+#[inline(always)]
+fn in_range(place: u64, least: u32, ticks: u32) -> Result<u32, IntervalFileFault>
+    requires { least ≤ MAX_INTERVAL }
+    ensures { result ≡ (if nat_le least ticks && nat_le ticks MAX_INTERVAL then Ok ticks else Err (fault.Interval place)) }
+{
     // One comparison tests both ends.
     if ticks.wrapping_sub(least) <= MAX_INTERVAL - least {
         Ok(ticks)
