@@ -147,12 +147,12 @@ fn sums_of_samples_are_sliced(rt: HostRuntime) {
 fn samples_are_taken_up_to_a_distance(rt: HostRuntime) {
     let samples = [-900, -900, -900, 900, 900, 900];
     let mut slicer = Slicer::from_the_start(16, Threshold::Deep(1), 1);
-    assert_eq!(rt; slicer.run_samples(&samples), (1, None));
-    assert_eq!(rt; slicer.run_samples(&samples[1..]), (3, Some(42)));
+    assert_eq!(rt; slicer.run_samples(&samples), (4, Some(42)));
+    assert_eq!(rt; slicer.run_samples(&samples[4..]), (2, None));
     let bytes = [0x7c, 0xfc, 0x7c, 0xfc, 0x7c, 0xfc, 0x84, 0x03, 0x84];
     let mut slicer = Slicer::from_the_start(16, Threshold::Deep(1), 1);
-    assert_eq!(rt; slicer.run(&bytes), (2, None));
-    assert_eq!(rt; slicer.run(&bytes[2..]), (6, Some(42)));
+    assert_eq!(rt; slicer.run(&bytes), (8, Some(42)));
+    assert_eq!(rt; slicer.run(&bytes[8..]), (0, None));
 }
 
 #[test]
@@ -175,25 +175,16 @@ fn long_distances_come_in_pieces(rt: HostRuntime) {
 #[test]
 fn a_distance_is_written_as_it_passes(rt: HostRuntime) {
     // In pieces of 32 ticks, from tick 0: the first crossing, at 42, brings one and a rest.
-    let none = Intervals {
-        length: 32,
-        whole: 0,
-        rest: None,
-        begun: 0,
-    };
     let pace = Pace::Passing(32);
     let samples = [-900, -900, -900, 900, 900, 900];
     let mut slicer = Slicer::from_the_start(16, Threshold::Deep(1), 1);
-    assert_eq!(rt; slicer.intervals_of_samples(pace, &samples), (1, none));
     let brought = Intervals {
+        length: 32,
         whole: 1,
         rest: Some(10),
-        ..none
+        begun: 0,
     };
-    assert_eq!(rt;
-        slicer.intervals_of_samples(pace, &samples[1..]),
-        (3, brought)
-    );
+    assert_eq!(rt; slicer.intervals_of_samples(pace, &samples), (4, brought));
 }
 
 #[test]

@@ -1,19 +1,9 @@
 -- A sample that lies on no side is no crossing, and where the sound stays on its side nothing else changes.
 use Rattle.std.specs.Option.{option_or}
-use Rattle.std.proofs.Common.{◌≡◌, ℤ, true, false, Option, Some, None, refl}
+use Rattle.std.proofs.Common.{◌≡◌, true, false, Option, Some, None, refl}
 use Rattle.pcm_front.specs.declared.side.Side.{Side}
 use Rattle.pcm_front.specs.declared.side.Side.TheVariants.{High, Low}
-use Rattle.pcm_front.specs.declared.level.Level.{Level}
-use Rattle.pcm_front.specs.declared.threshold.Following.{Following}
-use Rattle.pcm_front.specs.declared.threshold.Following.TheVariants.{Half, Quarter}
-use Rattle.pcm_front.specs.Level.{level_after, next_level}
 use Rattle.pcm_front.specs.Side.{differs, stays}
-use Rattle.pcm_front.specs.State.{threshold_of}
-
--- a threshold that follows keeps the level
-pub next_following : (following : Following) (level : Level) (sum : ℤ) → next_level (threshold_of following) level sum ≡ level_after level sum
-next_following (Half least) level sum = refl
-next_following (Quarter least) level sum = refl
 
 pub differs_none : (before : Option Side) → differs before None ≡ false
 differs_none None = refl

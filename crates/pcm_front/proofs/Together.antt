@@ -9,6 +9,7 @@ use Rattle.pcm_front.specs.declared.start.Start.{Start}
 use Rattle.pcm_front.specs.declared.threshold.Threshold.{Threshold}
 use Rattle.pcm_front.specs.declared.threshold.Threshold.TheVariants.{Fixed}
 use Rattle.pcm_front.specs.Distance.{distances_by, distances_since}
+use Rattle.pcm_front.specs.KeptRuns.{RunsTo}
 use Rattle.pcm_front.specs.Level.{next_level, threshold_by}
 use Rattle.pcm_front.specs.Settings.{Settings}
 use Rattle.pcm_front.specs.Side.{side_of, stays}
@@ -22,17 +23,6 @@ use Rattle.pcm_front.proofs.Windows.{kept-more, sum-now}
 
 abbrev settings : ℕ → Threshold → ℕ → Start → Settings
 settings f t n start = record { fineness = f; threshold = t; smooth = n; start = start }
-
--- from what was kept before to what is kept now, these samples were taken, and they brought this distance
-pub record RunsTo (before now : FinderState) (window after : WindowState) (taken : List ℤ) (distance : Option ℕ) : Type 0 where
-  pub fineness : now.fineness ≡ before.fineness
-  pub threshold : now.threshold ≡ before.threshold
-  pub start : now.start ≡ before.start
-  pub smooth : after.smooth ≡ window.smooth
-  pub tick : now.tick ≡ before.tick + before.fineness * length taken
-  pub stands : (front : List ℤ) → Stand before window front → Stand now after (front ++ taken)
-  pub brings : (front : List ℤ) → Stand before window front
-      → distances_in before window (front ++ taken) ≡ distances_in before window front ++ option_to_list distance
 
 -- no sample
 pub none_yet : (state : FinderState) (window : WindowState) → RunsTo state state window window [] None
@@ -200,10 +190,10 @@ distances_and_one was now front xs at s distance same within is brings none =
 
 -- ---- the same where each sample stands for itself
 
-one_sample : (window : WindowState) (s : ℤ) → IsAlone window → s ≡ total (window.kept ++ s ∷ [])
+pub one_sample : (window : WindowState) (s : ℤ) → IsAlone window → s ≡ total (window.kept ++ s ∷ [])
 one_sample window s is = sym (ap (λ kept. total (kept ++ s ∷ [])) is.1 ∙ alone s)
 
-none_kept : (window : WindowState) (s : ℤ) → IsAlone window → window_after window s ≡ window
+pub none_kept : (window : WindowState) (s : ℤ) → IsAlone window → window_after window s ≡ window
 none_kept window s is = ap (λ kept. record { smooth = window.smooth; kept = drop 1 (kept ++ s ∷ []) }) is.1
     ∙ ap (λ kept. record { smooth = window.smooth; kept = kept }) (sym is.1)
 

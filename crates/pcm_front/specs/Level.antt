@@ -40,6 +40,12 @@ threshold_by (Fixed threshold) level = threshold
 threshold_by (Follow least) level = max least (half_height level)
 threshold_by (Deep least) level = max least (quarter_height level)
 
+-- it is this at least, at each level
+abbrev pub least_of : Threshold → ℕ
+least_of (Fixed threshold) = threshold
+least_of (Follow least) = least
+least_of (Deep least) = least
+
 -- the level that is kept after a sample: only a threshold that follows has one
 abbrev pub next_level : Threshold → Level → ℤ → Level
 next_level (Fixed threshold) level sample = level

@@ -1,7 +1,9 @@
 pub mod Crossing
 pub mod Distance
+pub mod KeptRuns
 pub mod Level
 pub mod Pace
+pub mod Quiet
 pub mod Runs
 pub mod Samples
 pub mod Settings

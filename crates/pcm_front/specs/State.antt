@@ -6,8 +6,6 @@ use Rattle.pcm_front.specs.declared.level.Level.{Level}
 use Rattle.pcm_front.specs.declared.side.Side.{Side}
 use Rattle.pcm_front.specs.declared.start.Start.{Start}
 use Rattle.pcm_front.specs.declared.start.Start.TheVariants.{Crossing, Tick}
-use Rattle.pcm_front.specs.declared.threshold.Following.{Following}
-use Rattle.pcm_front.specs.declared.threshold.Following.TheVariants.{Half, Quarter}
 use Rattle.pcm_front.specs.declared.threshold.Threshold.{Threshold}
 use Rattle.pcm_front.specs.declared.threshold.Threshold.TheVariants.{Fixed, Follow, Deep}
 use Rattle.pcm_front.specs.Level.{silent, next_level, threshold_by, HasSixteenBits, IsInRange, IsSum}
@@ -53,11 +51,6 @@ abbrev pub IsThreshold : Threshold → Type 0
 IsThreshold (Fixed threshold) = (1 ≤ threshold) × (threshold ≤ 524_272)
 IsThreshold (Follow least) = (1 ≤ least) × (least ≤ 524_272)
 IsThreshold (Deep least) = (1 ≤ least) × (least ≤ 524_272)
-
--- the threshold that one that follows is
-abbrev pub threshold_of : Following → Threshold
-threshold_of (Half least) = Follow least
-threshold_of (Quarter least) = Deep least
 
 -- what is kept is in its range
 pub record IsKept (state : FinderState) : Type 0 where

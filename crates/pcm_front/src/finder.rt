@@ -1,12 +1,15 @@
 //! The crossings in a list of sums. Next: `slicer`.
-ghost use Rattle.std.specs.Prelude.{◌≡◌, ℕ, ℤ, ◌+◌, ◌*◌, ◌<◌, ◌≤◌, ◌^◌, List, [], ◌++◌, length, take, IfSome};
+ghost use Rattle.std.specs.Prelude.{◌≡◌, ◌+◌, ◌-◌, ◌*◌, ◌<◌, ◌≤◌, ◌^◌, None, length, slice_range, IfSome};
+ghost use Rattle.std.specs.List.{fold};
+ghost use Rattle.pcm_front.specs.KeptRuns.{latest, RunsTo};
 ghost use Rattle.pcm_front.specs.Level.{IsInRange, IsSum};
 ghost use Rattle.pcm_front.specs.Pace.{Passes};
-ghost use Rattle.pcm_front.specs.StandsFor.{distances_in, passed_in, Stand};
+ghost use Rattle.pcm_front.specs.StandsFor.{passed_in};
 ghost use Rattle.pcm_front.specs.State.{between, crossing_after, distance_at, fresh, late_start, state_after, IsAlone, IsThreshold, WindowState};
 
 use crate::crossing::tick_to;
 use crate::level::Level;
+use crate::quiet::{Band, end_of_run};
 use crate::samples::Samples;
 use crate::side::{Side, differs, side_of, stays};
 use crate::start::Start;
@@ -55,6 +58,20 @@ fn late_start(start: Start, fineness: u32) -> Option<u64>
     match start {
         Start::Crossing => None,
         Start::Tick => Some(u64::from(fineness)),
+    }
+}
+
+/// The last of the samples in some places, or else what came before them.
+fn last_in<S: Samples>(before: i32, samples: &S, at: usize, end: usize) -> i32
+    requires before { IsSum before }
+    requires within { end ≤ length (S.list samples.now) }
+    ensures value { result ≡ fold latest before (slice_range (S.list samples.now) at end) }
+    ensures size { IsSum result }
+{
+    if at < end {
+        i32::from(samples.at(end - 1))
+    } else {
+        before
     }
 }
 
@@ -127,97 +144,61 @@ impl Finder {
         distance
     }
 
-    /// Takes the samples at the front with whose sums the sound stays on its side, and gives how many
-    /// these are. None of them brings a distance. What changes with each of them is held beside.
-    pub(crate) fn still<S: Samples>(&mut self, window: &mut Window, samples: &S) -> usize
-        requires { self.old.tick + self.old.fineness * length (S.list samples.now) ≤ 2 ^ 62 }
+    /// Takes samples, each of which stands for itself, from a place on and as long as none of them can
+    /// lead to another side, whatever the level. Gives the place behind them.
+    pub(crate) fn pass_alone<S: Samples>(&mut self, samples: &S, at: usize) -> usize
+        requires place { at ≤ length (S.list samples.now) }
+        requires room { self.old.tick + self.old.fineness * (length (S.list samples.now) - at) ≤ 2 ^ 62 }
+        ensures order { at ≤ result }
         ensures within { result ≤ length (S.list samples.now) }
-        ensures tick { self.new.tick ≡ self.old.tick + self.old.fineness * result }
-        ensures fineness { self.new.fineness ≡ self.old.fineness }
-        ensures threshold { self.new.threshold ≡ self.old.threshold }
-        ensures start { self.new.start ≡ self.old.start }
         ensures latest { self.new.latest ≡ self.old.latest }
-        ensures smooth { window.new.smooth ≡ window.old.smooth }
-        ensures stands { (front : List ℤ) → Stand self.old window.old front
-            → Stand self.new window.new (front ++ take result (S.list samples.now)) }
-        ensures none { (front : List ℤ) → Stand self.old window.old front
-            → distances_in self.old window.old (front ++ take result (S.list samples.now))
-            ≡ distances_in self.old window.old front }
+        ensures runs { (window : WindowState) → IsAlone window
+            → RunsTo self.old self.new window window (slice_range (S.list samples.now) at result) None }
     {
-        let Some(following) = self.threshold.following() else {
-            return self.still_alone(window, samples);
-        };
-        let (side, fineness) = (self.side, u64::from(self.fineness));
+        let band = Band::of(self.side, self.threshold.least());
+        let end = end_of_run(samples, at, band);
+        self.before = last_in(self.before, samples, at, end);
+        self.level = self.threshold.level_over(self.level, samples, at, end);
+        self.tick += u64::from(self.fineness) * (end - at) as u64;
+        end
+    }
+
+    /// The same with sums of samples, which the window makes.
+    pub(crate) fn pass_sums<S: Samples>(
+        &mut self,
+        window: &mut Window,
+        samples: &S,
+        at: usize,
+    ) -> usize
+        requires place { at ≤ length (S.list samples.now) }
+        requires room { self.old.tick + self.old.fineness * (length (S.list samples.now) - at) ≤ 2 ^ 62 }
+        ensures order { at ≤ result }
+        ensures within { result ≤ length (S.list samples.now) }
+        ensures latest { self.new.latest ≡ self.old.latest }
+        ensures runs { RunsTo self.old self.new window.old window.new (slice_range (S.list samples.now) at result) None }
+    {
+        let (side, least, fineness) = (
+            self.side,
+            self.threshold.least(),
+            u64::from(self.fineness),
+        );
         let (mut tick, mut before, mut level) = (self.tick, self.before, self.level);
-        let mut at = 0;
-        'samples: while at < samples.count() {
-            let sample = samples.at(at);
+        let mut end = at;
+        'samples: while end < samples.count() {
+            let sample = samples.at(end);
             let sum = window.sum_with(sample);
-            let next = following.next_level(level, sum);
-            if !stays(side, following.at(next), sum) {
+            if !stays(side, least, sum) {
                 break;
             }
             window.push(sample);
-            at += 1;
+            end += 1;
             tick += fineness;
             before = sum;
-            level = next;
+            level = self.threshold.next_level(level, sum);
         }
         self.tick = tick;
         self.before = before;
         self.level = level;
-        at
-    }
-    /// The same at a fixed threshold, where each sample stands for itself. Sums of several samples are
-    /// left to be taken one by one.
-    fn still_alone<S: Samples>(&mut self, window: &Window, samples: &S) -> usize
-        requires { self.old.tick + self.old.fineness * length (S.list samples.now) ≤ 2 ^ 62 }
-        ensures within { result ≤ length (S.list samples.now) }
-        ensures tick { self.new.tick ≡ self.old.tick + self.old.fineness * result }
-        ensures fineness { self.new.fineness ≡ self.old.fineness }
-        ensures threshold { self.new.threshold ≡ self.old.threshold }
-        ensures start { self.new.start ≡ self.old.start }
-        ensures latest { self.new.latest ≡ self.old.latest }
-        ensures stands { (front : List ℤ) → Stand self.old window.now front
-            → Stand self.new window.now (front ++ take result (S.list samples.now)) }
-        ensures none { (front : List ℤ) → Stand self.old window.now front
-            → distances_in self.old window.now (front ++ take result (S.list samples.now)) ≡ distances_in self.old window.now front }
-    {
-        match self.threshold {
-            Threshold::Fixed(threshold) if window.is_alone() => self.still_at(threshold, samples),
-            _ => 0,
-        }
-    }
-
-    /// The same at such a threshold: then nothing else changes.
-    fn still_at<S: Samples>(&mut self, threshold: u32, samples: &S) -> usize
-        requires fixed { self.old.threshold ≡ Threshold.Fixed threshold }
-        requires room { self.old.tick + self.old.fineness * length (S.list samples.now) ≤ 2 ^ 62 }
-        ensures within { result ≤ length (S.list samples.now) }
-        ensures tick { self.new.tick ≡ self.old.tick + self.old.fineness * result }
-        ensures fineness { self.new.fineness ≡ self.old.fineness }
-        ensures threshold { self.new.threshold ≡ self.old.threshold }
-        ensures start { self.new.start ≡ self.old.start }
-        ensures latest { self.new.latest ≡ self.old.latest }
-        ensures stands { (window : WindowState) (front : List ℤ) → IsAlone window → Stand self.old window front
-            → Stand self.new window (front ++ take result (S.list samples.now)) }
-        ensures none { (window : WindowState) (front : List ℤ) → IsAlone window → Stand self.old window front
-            → distances_in self.old window (front ++ take result (S.list samples.now)) ≡ distances_in self.old window front }
-    {
-        let (side, fineness) = (self.side, u64::from(self.fineness));
-        let (mut tick, mut before) = (self.tick, self.before);
-        let mut at = 0;
-        'samples: while at < samples.count() {
-            let sum = i32::from(samples.at(at));
-            if !stays(side, threshold, sum) {
-                break;
-            }
-            at += 1;
-            tick += fineness;
-            before = sum;
-        }
-        self.tick = tick;
-        self.before = before;
-        at
+        end
     }
 }

@@ -1,6 +1,9 @@
 //! The level of the sound. Next: `side`.
-ghost use Rattle.std.specs.Prelude.{◌≡◌, ◌≤◌, ◌<◌, ◌^◌, unsigned_abs};
+ghost use Rattle.std.specs.Prelude.{◌≡◌, ◌≤◌, ◌<◌, ◌^◌, unsigned_abs, length, slice_range};
+ghost use Rattle.std.specs.List.{fold};
 ghost use Rattle.pcm_front.specs.Level.{silent, level_after, half_height, quarter_height, IsInRange, IsSum};
+
+use crate::samples::Samples;
 
 /// How loud the sound is: its peak, and the sum of some thousand sizes.
 #[derive(Clone, Copy, Debug, PartialEq, Eq)]
@@ -28,15 +31,29 @@ impl Level {
         ensures range { IsInRange result }
     {
         let size = sum.unsigned_abs();
-        let peak = if self.peak < size {
-            self.peak + (size - self.peak + 3) / 4
-        } else {
-            self.peak - (self.peak + 1_023) / 1_024
-        };
+        // Both are computed, since a choice between two numbers takes no branch.
+        let risen = self.peak + (size.saturating_sub(self.peak) + 3) / 4;
+        let fallen = self.peak - (self.peak + 1_023) / 1_024;
+        let peak = if self.peak < size { risen } else { fallen };
         Level {
             peak,
             sum: self.sum - self.sum / 1_024 + size,
         }
+    }
+
+    /// The level after the samples in some places.
+    pub(crate) fn over<S: Samples>(self, samples: &S, at: usize, end: usize) -> Level
+        requires level { IsInRange self }
+        requires order { at ≤ end }
+        requires within { end ≤ length (S.list samples.now) }
+        ensures value { result ≡ fold level_after self (slice_range (S.list samples.now) at end) }
+        ensures range { IsInRange result }
+    {
+        let mut level = self;
+        'samples: for place in at..end {
+            level = level.after(i32::from(samples.at(place)));
+        }
+        level
     }
 
     /// Half of what the peak stands above the mean size.

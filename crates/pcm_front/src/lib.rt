@@ -38,6 +38,7 @@ pub mod laws;
 mod level;
 mod pace;
 mod paced;
+mod quiet;
 mod samples;
 mod side;
 mod slicer;

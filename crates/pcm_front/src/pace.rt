@@ -1,5 +1,5 @@
 //! When the intervals of a distance are written. Next: `paced`.
-ghost use Rattle.std.specs.Prelude.{◌≡◌, ◌≤◌, ◌^◌, ◌++◌, IfSome};
+ghost use Rattle.std.specs.Prelude.{◌≡◌, ◌≤◌, ◌^◌, ◌++◌, is_some, IfSome};
 ghost use Rattle.std.specs.List.{flat_map};
 ghost use Rattle.std.specs.Option.{option_to_list};
 ghost use Rattle.pcm_front.specs.Distance.{pieces_in};
@@ -51,6 +51,7 @@ impl Pace {
         ensures intervals { begun self before ++ intervals_in result
             ≡ flat_map (pieces_in (longest self)) (option_to_list distance) ++ begun self now }
         ensures length { result.length ≡ longest self }
+        ensures ended { is_some result.rest ≡ is_some distance }
         ensures rest { IfSome result.rest (λ rest. (1 ≤ rest) × (rest ≤ longest self)) }
     {
         let length = self.longest();

@@ -1,5 +1,6 @@
 //! The intervals of samples, as they are written. Next: `tc_command/src/gathered.rt`.
-ghost use Rattle.std.specs.Prelude.{◌≡◌, ℕ, ℤ, ◌+◌, ◌*◌, ◌≤◌, ◌^◌, List, ◌++◌, length, take, IfSome};
+ghost use Rattle.std.specs.Prelude.{◌≡◌, ℕ, ℤ, ◌+◌, ◌-◌, ◌*◌, ◌<◌, ◌≤◌, ◌^◌, List, ◌++◌, length, take, None, IfSome};
+ghost use Rattle.pcm_front.specs.Distance.{distances_by};
 ghost use Rattle.pcm_front.specs.Pace.{intervals_at, intervals_in, longest, IsPace};
 ghost use Rattle.pcm_front.specs.Samples.{samples_of};
 ghost use Rattle.pcm_front.specs.StandsFor.{settings_of, tick_of, StandsFor};
@@ -17,6 +18,7 @@ impl Slicer {
 
         ensures within { result.0 ≤ length samples.now }
         ensures some { 1 ≤ length samples.now → 1 ≤ result.0 }
+        ensures all { result.1.rest ≡ None → result.0 ≡ length samples.now }
         ensures length { result.1.length ≡ longest pace }
         ensures rest { IfSome result.1.rest (λ rest. (1 ≤ rest) × (rest ≤ longest pace)) }
         ensures tick { tick_of self.new ≡ tick_of self.old + (settings_of self.old).fineness * result.0 }
@@ -27,6 +29,9 @@ impl Slicer {
         ensures intervals { (front : List ℤ) → StandsFor self.old front
             → intervals_at pace (settings_of self.old) (front ++ take result.0 samples.now)
             ≡ intervals_at pace (settings_of self.old) front ++ intervals_in result.1 }
+        ensures last { IfSome result.1.rest (λ rest. (front : List ℤ) → StandsFor self.old front
+            → distances_by (settings_of self.old) (front ++ take (result.0 - 1) samples.now)
+            ≡ distances_by (settings_of self.old) front) }
     {
         let before = self.passed();
         let (count, distance) = self.run_samples(samples);
@@ -40,6 +45,7 @@ impl Slicer {
 
         ensures within { result.0 ≤ length bytes.now }
         ensures some { 2 ≤ length bytes.now → 1 ≤ result.0 }
+        ensures all { result.1.rest ≡ None → length bytes.now < result.0 + 2 }
         ensures whole { (count : ℕ) × (result.0 ≡ 2 * count)
             × (tick_of self.new ≡ tick_of self.old + (settings_of self.old).fineness * count) }
         ensures length { result.1.length ≡ longest pace }
@@ -52,6 +58,9 @@ impl Slicer {
         ensures intervals { (front : List ℤ) → StandsFor self.old front
             → intervals_at pace (settings_of self.old) (front ++ samples_of (take result.0 bytes.now))
             ≡ intervals_at pace (settings_of self.old) front ++ intervals_in result.1 }
+        ensures last { IfSome result.1.rest (λ rest. (front : List ℤ) → StandsFor self.old front
+            → distances_by (settings_of self.old) (front ++ samples_of (take (result.0 - 2) bytes.now))
+            ≡ distances_by (settings_of self.old) front) }
     {
         let before = self.passed();
         let (count, distance) = self.run(bytes);

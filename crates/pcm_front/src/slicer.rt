@@ -1,7 +1,9 @@
 //! The slicer. Next: `interval`.
-ghost use Rattle.std.specs.Prelude.{◌≡◌, ℕ, ℤ, ◌+◌, ◌*◌, ◌≤◌, ◌^◌, List, [], ◌∷◌, ◌++◌, length, take, IfSome, unsigned_abs, pos, ◌≤ℤ◌};
+ghost use Rattle.std.specs.Prelude.{◌≡◌, ℕ, ℤ, ◌+◌, ◌-◌, ◌*◌, ◌<◌, ◌≤◌, ◌^◌, List, [], ◌∷◌, ◌++◌, length, take};
+ghost use Rattle.std.specs.Prelude.{slice_range, None, IfSome, unsigned_abs, pos, ◌≤ℤ◌};
 ghost use Rattle.std.specs.Option.{option_to_list};
 ghost use Rattle.pcm_front.specs.Distance.{distances_by};
+ghost use Rattle.pcm_front.specs.KeptRuns.{RunsTo};
 ghost use Rattle.pcm_front.specs.Pace.{Passes};
 ghost use Rattle.pcm_front.specs.Samples.{samples_of};
 ghost use Rattle.pcm_front.specs.Settings.{from_crossing, from_start};
@@ -97,6 +99,17 @@ impl Slicer {
             → distances_by (settings_of self.old) (front ++ sample ∷ [])
             ≡ distances_by (settings_of self.old) front ++ option_to_list result }
     {
+        self.take(sample)
+    }
+
+    /// The same, in the terms of what is kept.
+    #[inline(always)]
+    fn take(&mut self, sample: i16) -> Option<u64>
+        requires { tick_of self.old + (settings_of self.old).fineness ≤ 2 ^ 62 }
+        ensures range { IfSome result (λ distance. (1 ≤ distance) × (distance ≤ 2 ^ 62)) }
+        ensures passes { Passes (passed_of self.old) result (passed_of self.new) }
+        ensures runs { RunsTo self.old.finder self.new.finder self.old.window self.new.window (sample ∷ []) result }
+    {
         let sum = self.window.sum_with(sample);
         self.window.push(sample);
         self.finder.step(sum)
@@ -110,13 +123,14 @@ impl Slicer {
         self.finder.passed()
     }
 
-    /// Takes samples from the front, at least one of them, up to one that may bring a distance. Gives how
-    /// many these are, and the distance.
+    /// Takes samples from the front up to the first one that brings a distance, or else all of them. Gives
+    /// how many these are, and the distance.
     pub fn run_samples(&mut self, samples: &[i16]) -> (usize, Option<u64>)
         requires { tick_of self.old + (settings_of self.old).fineness * length samples.now ≤ 2 ^ 62 }
 
         ensures within { result.0 ≤ length samples.now }
         ensures some { 1 ≤ length samples.now → 1 ≤ result.0 }
+        ensures all { result.1 ≡ None → result.0 ≡ length samples.now }
         ensures range { IfSome result.1 (λ distance. (1 ≤ distance) × (distance ≤ 2 ^ 62)) }
         ensures passes { Passes (passed_of self.old) result.1 (passed_of self.new) }
         ensures tick { tick_of self.new ≡ tick_of self.old + (settings_of self.old).fineness * result.0 }
@@ -128,6 +142,9 @@ impl Slicer {
         ensures distances { (front : List ℤ) → StandsFor self.old front
             → distances_by (settings_of self.old) (front ++ take result.0 samples.now)
             ≡ distances_by (settings_of self.old) front ++ option_to_list result.1 }
+        ensures last { IfSome result.1 (λ distance. (front : List ℤ) → StandsFor self.old front
+            → distances_by (settings_of self.old) (front ++ take (result.0 - 1) samples.now)
+            ≡ distances_by (settings_of self.old) front) }
     {
         self.up_to_distance(&Numbers { samples })
     }
@@ -139,6 +156,7 @@ impl Slicer {
 
         ensures within { result.0 ≤ length bytes.now }
         ensures some { 2 ≤ length bytes.now → 2 ≤ result.0 }
+        ensures all { result.1 ≡ None → length bytes.now < result.0 + 2 }
         ensures range { IfSome result.1 (λ distance. (1 ≤ distance) × (distance ≤ 2 ^ 62)) }
         ensures passes { Passes (passed_of self.old) result.1 (passed_of self.new) }
         ensures tick { (count : ℕ) × (result.0 ≡ 2 * count)
@@ -151,31 +169,58 @@ impl Slicer {
         ensures distances { (front : List ℤ) → StandsFor self.old front
             → distances_by (settings_of self.old) (front ++ samples_of (take result.0 bytes.now))
             ≡ distances_by (settings_of self.old) front ++ option_to_list result.1 }
+        ensures last { IfSome result.1 (λ distance. (front : List ℤ) → StandsFor self.old front
+            → distances_by (settings_of self.old) (front ++ samples_of (take (result.0 - 2) bytes.now))
+            ≡ distances_by (settings_of self.old) front) }
     {
         let (count, distance) = self.up_to_distance(&Bytes { bytes });
         (2 * count, distance)
     }
 
-    /// Takes samples from the front, up to one with which the sound leaves its side.
+    /// Takes samples from the front up to the first one that brings a distance, or else all of them.
     fn up_to_distance<S: Samples>(&mut self, samples: &S) -> (usize, Option<u64>)
         requires { tick_of self.old + (settings_of self.old).fineness * length (S.list samples.now) ≤ 2 ^ 62 }
         ensures within { result.0 ≤ length (S.list samples.now) }
         ensures some { 1 ≤ length (S.list samples.now) → 1 ≤ result.0 }
+        ensures all { result.1 ≡ None → result.0 ≡ length (S.list samples.now) }
         ensures range { IfSome result.1 (λ distance. (1 ≤ distance) × (distance ≤ 2 ^ 62)) }
         ensures passes { Passes (passed_of self.old) result.1 (passed_of self.new) }
-        ensures tick { tick_of self.new ≡ tick_of self.old + (settings_of self.old).fineness * result.0 }
-        ensures settings { settings_of self.new ≡ settings_of self.old }
-        ensures stands { (front : List ℤ) → StandsFor self.old front
-            → StandsFor self.new (front ++ take result.0 (S.list samples.now)) }
-        ensures distances { (front : List ℤ) → StandsFor self.old front
-            → distances_by (settings_of self.old) (front ++ take result.0 (S.list samples.now))
-            ≡ distances_by (settings_of self.old) front ++ option_to_list result.1 }
+        ensures runs { RunsTo self.old.finder self.new.finder self.old.window self.new.window
+            (take result.0 (S.list samples.now)) result.1 }
+        ensures last { IfSome result.1 (λ distance. (front : List ℤ) → StandsFor self.old front
+            → distances_by (settings_of self.old) (front ++ take (result.0 - 1) (S.list samples.now))
+            ≡ distances_by (settings_of self.old) front) }
     {
-        let still = self.finder.still(&mut self.window, samples);
-        if still == samples.count() {
-            return (still, None);
+        let count = samples.count();
+        let mut at = 0;
+        'samples: while at < count {
+            at = self.pass(samples, at);
+            if at == count {
+                break;
+            }
+            let distance = self.take(samples.at(at));
+            at += 1;
+            if distance.is_some() {
+                return (at, distance);
+            }
         }
-        let distance = self.sample(samples.at(still));
-        (still + 1, distance)
+        (at, None)
+    }
+
+    /// Takes samples from a place on that bring no distance, and gives the place behind them.
+    fn pass<S: Samples>(&mut self, samples: &S, at: usize) -> usize
+        requires place { at ≤ length (S.list samples.now) }
+        requires room { tick_of self.old + (settings_of self.old).fineness * (length (S.list samples.now) - at) ≤ 2 ^ 62 }
+        ensures order { at ≤ result }
+        ensures within { result ≤ length (S.list samples.now) }
+        ensures passes { passed_of self.old ≤ passed_of self.new }
+        ensures runs { RunsTo self.old.finder self.new.finder self.old.window self.new.window
+            (slice_range (S.list samples.now) at result) None }
+    {
+        if self.window.is_alone() {
+            self.finder.pass_alone(samples, at)
+        } else {
+            self.finder.pass_sums(&mut self.window, samples, at)
+        }
     }
 }

@@ -1,9 +1,11 @@
 //! The threshold that a crossing passes. Next: `level`.
-ghost use Rattle.std.specs.Prelude.{◌≡◌, ◌≤◌, IfSome};
-ghost use Rattle.pcm_front.specs.Level.{next_level, threshold_by, IsInRange, IsSum};
-ghost use Rattle.pcm_front.specs.State.{threshold_of, IsThreshold};
+ghost use Rattle.std.specs.Prelude.{◌≡◌, ◌≤◌, length, slice_range};
+ghost use Rattle.std.specs.List.{fold};
+ghost use Rattle.pcm_front.specs.Level.{least_of, next_level, threshold_by, IsInRange, IsSum};
+ghost use Rattle.pcm_front.specs.State.{IsThreshold};
 
 use crate::level::Level;
+use crate::samples::Samples;
 
 /// The greatest threshold: the sum of sixteen samples that are 32,767.
 pub const MAX_THRESHOLD: u32 = 524_272;
@@ -20,50 +22,16 @@ pub enum Threshold {
     Deep(u32),
 }
 
-/// A threshold that follows, by its least.
-#[derive(Clone, Copy, Debug, PartialEq, Eq)]
-pub(crate) enum Following {
-    Half(u32),
-    Quarter(u32),
-}
-
-impl Following {
-    /// The level after one more sum.
-    #[tactic(auto, using(crate::proofs::Sides::next_following))]
-    pub(crate) fn next_level(self, level: Level, sum: i32) -> Level
-        requires level { IsInRange level }
-        requires sum { IsSum sum }
-        ensures value { result ≡ next_level (threshold_of self) level sum }
-        ensures range { IsInRange result }
-    {
-        level.after(sum)
-    }
-
-    /// The threshold at a level.
-    pub(crate) fn at(self, level: Level) -> u32
-        requires threshold { IsThreshold (threshold_of self) }
-        requires level { IsInRange level }
-        ensures value { result ≡ threshold_by (threshold_of self) level }
+impl Threshold {
+    /// The threshold is this at least, at each level.
+    pub(crate) fn least(self) -> u32
+        requires { IsThreshold self }
+        ensures value { result ≡ least_of self }
         ensures least { 1 ≤ result }
         ensures most { result ≤ 524_272 }
     {
-        let (least, height) = match self {
-            Following::Half(least) => (least, level.half_height()),
-            Following::Quarter(least) => (least, level.quarter_height()),
-        };
-        if height < least { least } else { height }
-    }
-}
-
-impl Threshold {
-    /// The same, if it follows.
-    pub(crate) fn following(self) -> Option<Following>
-        ensures { IfSome result (λ following. threshold_of following ≡ self) }
-    {
         match self {
-            Threshold::Fixed(_) => None,
-            Threshold::Follow(least) => Some(Following::Half(least)),
-            Threshold::Deep(least) => Some(Following::Quarter(least)),
+            Threshold::Fixed(least) | Threshold::Follow(least) | Threshold::Deep(least) => least,
         }
     }
 
@@ -77,6 +45,26 @@ impl Threshold {
         match self {
             Threshold::Fixed(_) => level,
             Threshold::Follow(_) | Threshold::Deep(_) => level.after(sum),
+        }
+    }
+
+    /// The level after the samples in some places, each of which stands for itself.
+    pub(crate) fn level_over<S: Samples>(
+        self,
+        level: Level,
+        samples: &S,
+        at: usize,
+        end: usize,
+    ) -> Level
+        requires level { IsInRange level }
+        requires order { at ≤ end }
+        requires within { end ≤ length (S.list samples.now) }
+        ensures value { result ≡ fold (next_level self) level (slice_range (S.list samples.now) at end) }
+        ensures range { IsInRange result }
+    {
+        match self {
+            Threshold::Fixed(_) => level,
+            Threshold::Follow(_) | Threshold::Deep(_) => level.over(samples, at, end),
         }
     }
 

@@ -1,6 +1,9 @@
-use Rattle.std.proofs.Common.{take}
+use Rattle.std.proofs.Common.{◌≡◌, ◌-◌, ◌++◌, ℤ, List, take}
+use Rattle.pcm_front.specs.Distance.{distances_by}
+use Rattle.pcm_front.specs.StandsFor.{settings_of, StandsFor}
 use Rattle.pcm_front.specs.Samples.{samples_of}
 use Rattle.pcm_front.proofs.Passing.{brought_by}
+use Rattle.pcm_front.proofs.UpTo.{if_both, none_both}
 use Rattle.pcm_front.proofs.slicer.Slicer.intervals_of_bytes.Goals as goal
 
 pub returns-clause-intervals : goal.returns-clause-intervals
@@ -9,3 +12,12 @@ returns-clause-intervals c = λ front stands.
     let taken = samples_of (take c.run-count.result.0 c.args.bytes.now) in
     brought_by c.args.pace c.args.self.now c.run-count.new.self front taken c.run-count.result.1 c.intervals.result c.passed-before.result
     c.passed.result e.settings c.passed-before.ensures c.passed.ensures stands (e.stands front stands) (e.distances front stands) c.intervals.ensures.intervals
+
+pub returns-clause-all : goal.returns-clause-all
+returns-clause-all c = λ none. c.run-count.ensures.all (none_both c.intervals.result.rest c.run-count.result.1 c.intervals.ensures.ended none)
+
+pub returns-clause-last : goal.returns-clause-last
+returns-clause-last c =
+    let s = settings_of c.args.self.now in
+    if_both c.intervals.result.rest c.run-count.result.1 ((front : List ℤ) → StandsFor c.args.self.now front
+    → distances_by s (front ++ samples_of (take (c.run-count.result.0 - 2) c.args.bytes.now)) ≡ distances_by s front) c.intervals.ensures.ended c.run-count.ensures.last

@@ -1,4 +1,4 @@
-use Rattle.std.proofs.Common.{◌≡◌, ◌≤◌, ◌+◌, ◌*◌, ◌/◌, ◌^◌, ℕ, ◌++◌, take, length, subst, ap, sym, ◌∙◌, mul-le-mul_left, arith}
+use Rattle.std.proofs.Common.{ℤ, List, IfSome, ◌-◌, ◌≡◌, ◌≤◌, ◌+◌, ◌*◌, ◌/◌, ◌^◌, ℕ, ◌++◌, take, length, subst, ap, sym, ◌∙◌, mul-le-mul_left, arith}
 use Rattle.std.specs.Option.{option_to_list}
 use Rattle.pcm_front.specs.Distance.{distances_by}
 use Rattle.pcm_front.specs.Samples.{samples_of}
@@ -26,9 +26,25 @@ returns-clause-some c = λ two.
 pub returns-clause-stands : goal.returns-clause-stands
 returns-clause-stands c = λ front stands.
     let e = c.up_to_distance-count.ensures in
-    rw (sym (take-samples_of c.up_to_distance-count.result.0 c.args.bytes.now e.within)) (e.stands front stands)
+    rw (sym (take-samples_of c.up_to_distance-count.result.0 c.args.bytes.now e.within)) (e.runs.stands front stands)
 
 pub returns-clause-distances : goal.returns-clause-distances
 returns-clause-distances c = λ front stands.
     let e = c.up_to_distance-count.ensures in
-    rw (sym (take-samples_of c.up_to_distance-count.result.0 c.args.bytes.now e.within)) (e.distances front stands)
+    rw (sym (take-samples_of c.up_to_distance-count.result.0 c.args.bytes.now e.within)) (e.runs.brings front stands)
+
+-- the bytes of all samples, but for one that is left over
+pub returns-clause-all : goal.returns-clause-all
+returns-clause-all c = λ none. omega (arith, c.up_to_distance-count.ensures.all none, length_samples_of c.args.bytes.now)
+
+pub returns-clause-last : goal.returns-clause-last
+returns-clause-last c =
+    let e = c.up_to_distance-count.ensures in
+    let bytes = c.args.bytes.now in
+    let count = c.up_to_distance-count.result.0 in
+    let s = settings_of c.args.self.now in
+    let two : 2 * (count - 1) ≡ 2 * count - 2 = omega arith in
+    let same : take (count - 1) (samples_of bytes) ≡ samples_of (take (2 * count - 2) bytes) =
+    take-samples_of (count - 1) bytes (omega (arith, e.within)) ∙ ap (λ n. samples_of (take n bytes)) two in
+    subst (λ (l : List ℤ). IfSome c.up_to_distance-count.result.1 (λ distance. (front : List ℤ) → StandsFor c.args.self.now front
+    → distances_by s (front ++ l) ≡ distances_by s front)) same e.last
