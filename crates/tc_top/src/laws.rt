@@ -52,7 +52,7 @@ pub fn exit_numbers_are_these()
 {}
 
 /// What holds of every command holds of each job: what it writes of some bytes comes first, whatever bytes
-/// follow, an input has one output, in whatever pieces it comes, and a fault and the limits stay.
+/// follow, each input has an output, and no other, in whatever pieces it comes, and a fault and the limits stay.
 pub fn each_job_is_a_command()
     ensures { (job : Job) → IsCommand (meaning_of job) }
 {

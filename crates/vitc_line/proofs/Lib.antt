@@ -4,3 +4,4 @@ pub mod LineOfAWord
 pub mod OneSpelling
 pub mod RowOfALine
 pub mod Searches
+pub mod SpellsOrFaulty
