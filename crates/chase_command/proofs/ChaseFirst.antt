@@ -10,8 +10,14 @@ use Rattle.chase_script.specs.Script.{script_in}
 use Rattle.chase_command.specs.declared.chasing.TheConstants.{MAX_SCRIPT}
 use Rattle.tc_command.specs.declared.stop.ChaseStop.{ChaseStop}
 use Rattle.tc_command.specs.declared.stop.ChaseStop.TheVariants.{Refused, ReadFault, WriteFault, Memory, Limit}
-use Rattle.chase_command.specs.Chase.{IsChaseStop, IsScript, IsTraced, IsWhole, chase_output, chase_text, text_of_length, text_of_script}
+use Rattle.chase_command.specs.Chase.{IsChaseAnswer, IsChaseOutput, IsChaseStop, IsScript, IsTraced, IsWhole, chase_output, chase_text}
+use Rattle.chase_command.specs.Chase.{text_of_length, text_of_script}
+use Rattle.tc_command.specs.Exchange.{Exchange, WritesAFront}
+use Rattle.tc_command.specs.KeptFirst.{whole_input}
 use Rattle.tc_command.specs.KeptWorks.{all_at_end}
+use Rattle.tc_command.specs.Notes.{chase_note}
+use Rattle.tc_command.specs.Status.{status_of_chase}
+use Rattle.chase_command.proofs.ChaseStatus.{ends_by}
 
 -- at the end of an input that is no longer than a script may be
 output_is : (label : Address) (left : Option (List ℕ)) (all pulled : List ℕ) → Consumes (Some all) left pulled → IsWhole left pulled
@@ -30,12 +36,14 @@ trace_is label left all pulled rows consumed is = output_is label left all pulle
 nothing_first : (written whole : List ℕ) → written ≡ [] → IsFront written whole
 nothing_first written whole none = (whole, ap (λ (l : List ℕ). l ++ whole) (sym none))
 
-pub trace_first : (label : Address) (left : Option (List ℕ)) (all pulled written : List ℕ) (rows : List ScriptRow) → Consumes (Some all) left pulled
-    → IsTraced label left pulled written rows → IsFront written (chase_output label all)
-trace_first label left all pulled written rows consumed is =
-    ([], trace_is label left all pulled rows consumed is.script ∙ sym is.text ∙ sym (append-nil written))
+pub trace_first : (label : Address) (e : Exchange) (rows : List ScriptRow) → IsTraced label e.left e.pulled e.written rows
+    → WritesAFront (IsChaseOutput label) e
+trace_first label e rows is = λ rest whole left output.
+    let consumed = whole_input e.pulled rest e.left left in
+    let trace = trace_is label e.left (e.pulled ++ rest) e.pulled rows consumed is.script in
+    ([], output ∙ trace ∙ sym is.text ∙ sym (append-nil e.written))
 
-pub stop_first : (label : Address) (stop : ChaseStop) (left : Option (List ℕ)) (all pulled written : List ℕ) → Consumes (Some all) left pulled
+stop_first : (label : Address) (stop : ChaseStop) (left : Option (List ℕ)) (all pulled written : List ℕ) → Consumes (Some all) left pulled
     → IsChaseStop label stop left pulled written → IsFront written (chase_output label all)
 stop_first label (Refused fault) left all pulled written consumed is = nothing_first written (chase_output label all) is.2
 stop_first label ReadFault left all pulled written consumed is = nothing_first written (chase_output label all) is.1
@@ -43,3 +51,13 @@ stop_first label WriteFault left all pulled written consumed is =
     subst (λ (whole : List ℕ). IsFront written whole) (sym (trace_is label left all pulled is.0 consumed is.1)) is.2
 stop_first label Memory left all pulled written consumed is = nothing_first written (chase_output label all) is.1
 stop_first label Limit left all pulled written consumed is = nothing_first written (chase_output label all) is.1
+
+-- a chase that stopped answers so
+pub answer_of : (label : Address) (stop : ChaseStop) (e : Exchange) → IsChaseStop label stop e.left e.pulled e.written
+    → e.note ≡ chase_note stop → IsChaseAnswer label (status_of_chase stop) e
+answer_of label stop e stopped same = record {
+  ends = ends_by label stop e stopped same;
+  first = λ rest whole left output.
+      let consumed = whole_input e.pulled rest e.left left in
+      subst (IsFront e.written) (sym output) (stop_first label stop e.left (e.pulled ++ rest) e.pulled e.written consumed stopped);
+}

@@ -14,7 +14,7 @@ use Rattle.chase_command.specs.declared.chasing.TheConstants.{MAX_SCRIPT}
 use Rattle.tc_command.specs.declared.status.Status.TheVariants as status
 use Rattle.tc_command.specs.declared.stop.ChaseStop.{ChaseStop}
 use Rattle.tc_command.specs.declared.stop.ChaseStop.TheVariants.{Refused, ReadFault, WriteFault, Memory, Limit}
-use Rattle.chase_command.specs.Chase.{IsChaseAnswer}
+use Rattle.chase_command.specs.Chase.{ChaseEndsBy}
 use Rattle.tc_command.specs.Causes.{SourceCause, OutCause}
 use Rattle.chase_command.specs.Chase.{IsWhole, IsScript, IsChaseStop, chase_status_on, status_of_length, status_of_script}
 use Rattle.tc_command.specs.Status.{status_of_chase}
@@ -23,15 +23,15 @@ use Rattle.tc_command.specs.Exchange.{Exchange}
 use Rattle.tc_command.specs.Notes.{chase_note}
 use Rattle.tc_command.specs.KeptWorks.{all_at_end, front_of_all}
 
--- ---- a chase that stopped answers so
+-- ---- a chase that stopped ended so
 
-pub chase_answer_of : (label : Address) (stop : ChaseStop) (e : Exchange) → IsChaseStop label stop e.left e.pulled e.written
-    → e.note ≡ chase_note stop → IsChaseAnswer label (status_of_chase stop) e
-chase_answer_of label (Refused fault) e stopped same = (fault, record { why = stopped; note = same })
-chase_answer_of label ReadFault e stopped same = record { why = stopped; note = same }
-chase_answer_of label WriteFault e stopped same = record { why = stopped; note = same }
-chase_answer_of label Memory e stopped same = record { why = stopped; note = same }
-chase_answer_of label Limit e stopped same = record { why = stopped; note = same }
+pub ends_by : (label : Address) (stop : ChaseStop) (e : Exchange) → IsChaseStop label stop e.left e.pulled e.written
+    → e.note ≡ chase_note stop → ChaseEndsBy label (status_of_chase stop) e
+ends_by label (Refused fault) e stopped same = (fault, record { why = stopped; note = same })
+ends_by label ReadFault e stopped same = record { why = stopped; note = same }
+ends_by label WriteFault e stopped same = record { why = stopped; note = same }
+ends_by label Memory e stopped same = record { why = stopped; note = same }
+ends_by label Limit e stopped same = record { why = stopped; note = same }
 
 -- ---- its parts stop so
 

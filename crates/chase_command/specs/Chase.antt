@@ -15,7 +15,7 @@ use Rattle.tc_command.specs.declared.stop.ChaseStop.TheVariants.{Refused, ReadFa
 use Rattle.tc_command.specs.declared.stop.ChaseStop.TheVariants as chase
 use Rattle.tc_command.specs.declared.status.Status.{Status}
 use Rattle.tc_command.specs.declared.status.Status.TheVariants as status
-use Rattle.tc_command.specs.Exchange.{Exchange}
+use Rattle.tc_command.specs.Exchange.{Exchange, WritesAFront}
 use Rattle.tc_command.specs.Notes.{chase_note}
 use Rattle.tc_command.specs.Status.{status_of_chase}
 
@@ -114,12 +114,22 @@ pub record IsChaseDone (label : Address) (e : Exchange) : Type 0 where
   pub lock : KeepsItsLock label rows
   pub note : e.note ≡ []
 
--- what a chase answers
-abbrev pub IsChaseAnswer : Address → Status → Exchange → Type 0
-IsChaseAnswer label status.Done e = IsChaseDone label e
-IsChaseAnswer label status.Refused e = (fault : RowFault) × ChaseStoppedBy (chase.Refused fault) label e
-IsChaseAnswer label status.ReadFault e = ChaseStoppedBy chase.ReadFault label e
-IsChaseAnswer label status.WriteFault e = ChaseStoppedBy chase.WriteFault label e
-IsChaseAnswer label status.Memory e = ChaseStoppedBy chase.Memory label e
-IsChaseAnswer label status.Limit e = ChaseStoppedBy chase.Limit label e
-IsChaseAnswer label status.Usage e = ⊥
+-- how a chase ended, by its status
+abbrev pub ChaseEndsBy : Address → Status → Exchange → Type 0
+ChaseEndsBy label status.Done e = IsChaseDone label e
+ChaseEndsBy label status.Refused e = (fault : RowFault) × ChaseStoppedBy (chase.Refused fault) label e
+ChaseEndsBy label status.ReadFault e = ChaseStoppedBy chase.ReadFault label e
+ChaseEndsBy label status.WriteFault e = ChaseStoppedBy chase.WriteFault label e
+ChaseEndsBy label status.Memory e = ChaseStoppedBy chase.Memory label e
+ChaseEndsBy label status.Limit e = ChaseStoppedBy chase.Limit label e
+ChaseEndsBy label status.Usage e = ⊥
+
+-- the one output of a whole input
+abbrev pub IsChaseOutput : Address → List ℕ → List ℕ → Type 0
+IsChaseOutput label input whole = whole ≡ chase_output label input
+
+-- what a chase answers: it ended by its status, and whatever that is, what was written is a front of the trace where the
+-- whole input is a script, and nothing where it is none
+pub record IsChaseAnswer (label : Address) (status : Status) (e : Exchange) : Type 0 where
+  pub ends : ChaseEndsBy label status e
+  pub first : WritesAFront (IsChaseOutput label) e

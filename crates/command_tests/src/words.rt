@@ -266,18 +266,12 @@ fn label_text(task: &Task) -> Option<[u8; 11]> {
 
 fn label_text_of(job: &Job) -> Option<[u8; 11]> {
     match job {
-        Job::LtcRead | Job::LtcWorn | Job::LtcRough | Job::LtcFly { .. } | Job::LtcConvert { .. } =>
-            None,
-        Job::PcmLtc { .. } | Job::WavLtc { .. } | Job::LtcPcm { .. } => None,
-        Job::LtcJam { .. } | Job::VitcRead => None,
         Job::LtcChase { run } => Some(text(&run.label())),
-        Job::LtcSpans { .. } | Job::LtcMtc { .. } => None,
-        Job::MtcRead | Job::LtcLoad { .. } => None,
-        Job::Help | Job::Version => None,
         Job::LtcMake { stripe } => Some(text(&stripe.label())),
         Job::VitcMake { stripe } => Some(text(&stripe.label())),
         Job::Number { label } => Some(text(label)),
         Job::LabelOf { label } => Some(text(label)),
+        _ => None,
     }
 }
 

@@ -1,5 +1,5 @@
 -- What a command along frames prints is in order: the frames of some intervals come first, and its sink only adds to what it wrote.
-use Rattle.std.proofs.Common.{◌≡◌, ℕ, List, ◌++◌, sym, ◌∙◌, ap, subst}
+use Rattle.std.proofs.Common.{◌≡◌, ℕ, List, ◌++◌, refl, sym, ◌∙◌, ap, subst}
 use Rattle.direction_reader.specs.declared.event.Event.{Event}
 use Rattle.tc_words.specs.declared.flight.Flight.{Flight}
 use Rattle.tc_io.specs.Sink.{IsFront}
@@ -24,6 +24,12 @@ frames_in_order laws some one_list flight made adds = record {
       let last = made.last header (front ++ more) all_frames in
       subst (IsFront a) (sym all.are)
       (front_of_more a (made.text header all_frames) text.0 last (ap (made.text header) frames.1 ∙ text.1 ∙ ap (λ l. l ++ text.0) (sym one.are)));
+  some_part = λ header intervals.
+      let events = some header.system flight.profile intervals in
+      (_, record { events = events.0; are_events = events.1; are = refl });
+  some_whole = λ header intervals.
+      let events = some header.system flight.profile intervals in
+      (_, record { events = events.0; are_events = events.1; are = refl });
   one_part = λ header intervals a b one all.
       let part = λ (es : List Event). made.text header (frames_of flight.limit intervals es) in
       one.are ∙ ap part (one_list header.system flight.profile intervals _ _ one.are_events all.are_events) ∙ sym all.are;

@@ -26,7 +26,7 @@ use ltc_jam::laws::a_clean_recording_is_written_frame_by_frame;
 use quarter_frame::laws::messages_of_a_front_come_first;
 use tape_spans::laws::final_lines_come_first;
 
-/// What a command prints of frames is in order, where what it makes of frames is.
+/// What a command prints of frames there is, and it is in order, where what it makes of frames is.
 pub fn what_is_made_of_frames_is_in_order()
     ensures { (flight : Flight) (made : FrameText) → AddsInOrder made → PrintsInOrder (along_frames flight made) }
 {

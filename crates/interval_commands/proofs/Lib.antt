@@ -1,6 +1,7 @@
 mod AnItemMore
 mod Converted
 mod CountedEvents
+mod InputBegins
 mod LinesGrow
 mod PrintedInOrder
 mod RunOfIntervals

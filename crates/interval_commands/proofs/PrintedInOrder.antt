@@ -1,5 +1,5 @@
 -- What the commands along intervals print behind some intervals comes first, whatever intervals follow.
-use Rattle.std.proofs.Common.{◌≡◌, ℕ, List, [], ◌∷◌, ◌++◌, sym, ◌∙◌, ap, subst, append_assoc, append-nil}
+use Rattle.std.proofs.Common.{◌≡◌, ℕ, List, [], ◌∷◌, ◌++◌, refl, sym, ◌∙◌, ap, subst, append_assoc, append-nil}
 use Rattle.std.proofs.lemmas.Grind.{flat_map-append}
 use Rattle.biphase.specs.declared.profile.Profile.{Profile}
 use Rattle.direction_reader.specs.declared.event.Event.{Event}
@@ -23,6 +23,7 @@ use Rattle.interval_commands.proofs.SoundGrows.{one_run, with_last}
 
 -- what the laws of events say
 pub record EventLaws : Type 0 where
+  pub some : (system : System) (profile : Profile) (intervals : List ℕ) → (events : List Event) × AreEvents system profile intervals events
   pub first : (system : System) (profile : Profile) (front more : List ℕ) (events all : List Event) → AreEvents system profile front events
       → AreEvents system profile (front ++ more) all → (rest : List Event) × (all ≡ events ++ rest)
   pub one : (system : System) (profile : Profile) (intervals : List ℕ) (events others : List Event)
@@ -43,6 +44,12 @@ report_in_order laws profile = record {
       let last = last_line (front ++ more) all.events in
       subst (IsFront a) (sym all.are)
       (front_of_more a (lines header all.events) (lines header events.0) last (longer ∙ ap (λ l. l ++ lines header events.0) (sym one.are)));
+  some_part = λ header intervals.
+      let events = laws.some header.system profile intervals in
+      (lines header events.0, record { events = events.0; are_events = events.1; are = refl });
+  some_whole = λ header intervals.
+      let events = laws.some header.system profile intervals in
+      (lines header events.0 ++ last_line intervals events.0, record { events = events.0; are_events = events.1; are = refl });
   one_part = λ header intervals a b one all.
       one.are ∙ ap (λ (es : List Event). lines header es) (laws.one header.system profile intervals _ _ one.are_events all.are_events) ∙ sym all.are;
   one_whole = λ header intervals a b one all.
@@ -69,6 +76,8 @@ pub conversion_in_order : (version : FileVersion) → PrintsInOrder (conversion 
 conversion_in_order version = record {
   part = λ header front more a b one all. same_front a b _ _ one all (file_first (in_version version header) front more);
   whole = λ header front more a b one all. same_front a b _ _ one all (file_first (in_version version header) front more);
+  some_part = λ header intervals. (_, refl);
+  some_whole = λ header intervals. (_, refl);
   one_part = λ header intervals a b one all. one ∙ sym all;
   one_whole = λ header intervals a b one all. one ∙ sym all;
   stays = λ header front more spent. spent;
@@ -95,6 +104,8 @@ sound_in_order size = record {
       let runs = runs_first size front more in
       subst (IsFront a) (sym (all ∙ sym (with_last size (front ++ more))))
       (front_of_more a (bytes_of (but_the_last (sound size (front ++ more)))) runs.0 _ (runs.1 ∙ ap (λ l. l ++ runs.0) (sym one)));
+  some_part = λ header intervals. (_, refl);
+  some_whole = λ header intervals. (_, refl);
   one_part = λ header intervals a b one all. one ∙ sym all;
   one_whole = λ header intervals a b one all. one ∙ sym all;
   stays = λ header front more spent. spent;

@@ -16,6 +16,7 @@ use Rattle.interval_file.specs.Decoding.{with_header, with_item, with_taken}
 use Rattle.interval_file.specs.Recording.{Recording, recording_of}
 use Rattle.interval_file.specs.Verdict.{Verdict, good, refused, past_limit}
 use Rattle.interval_commands.specs.KeptCommand.{Grows, RecordingsGrow}
+use Rattle.interval_commands.proofs.InputBegins.{input_begins}
 
 pub more_bytes : (front more : List ℕ) → decoding_of (front ++ more) ≡ fold with_byte (decoding_of front) more
 more_bytes front more = fold-append with_byte no_decoding front more
@@ -117,4 +118,5 @@ past_is_all said front more e =
     ∙ past_stays (decoding_of front) more (ap (λ (r : Recording). r.verdict) (said.recording front) ∙ e))
 
 pub recordings_grow : ReadsWhatIsSaid → RecordingsGrow
-recordings_grow said = record { grows = recording_grows said; refused = refused_is_all said; past = past_is_all said }
+recordings_grow said =
+    record { begins = input_begins; grows = recording_grows said; refused = refused_is_all said; past = past_is_all said }

@@ -1,14 +1,14 @@
 -- A command along an interval file is a command as any other, where it prints in order. No promise speaks of it.
-use Rattle.std.proofs.Common.{◌≡◌, ℕ, List, ◌++◌, Option, Some, None, refl, sym, ◌∙◌, ap, subst}
+use Rattle.std.proofs.Common.{◌≡◌, ℕ, List, [], ◌++◌, Option, Some, None, refl, sym, ◌∙◌, ap, subst}
 use Rattle.std.proofs.lemmas.Bool.{false≢true}
 use Rattle.interval_file.specs.declared.fault.IntervalFileFault.{IntervalFileFault}
 use Rattle.interval_file.specs.declared.header.IntervalHeader.{IntervalHeader}
-use Rattle.interval_file.specs.Recording.{Recording, recording_of}
+use Rattle.interval_file.specs.Recording.{Recording, end_fault_of, recording_of}
 use Rattle.interval_file.specs.Verdict.{refused, past_limit}
 use Rattle.tc_io.specs.Sink.{IsFront}
 use Rattle.tc_command.specs.Command.{IsCommand}
 use Rattle.interval_commands.specs.Along.{IsPartBehind, IsPartOf, IsSpentBehind, IsSpentOf, IsWholeBehind, IsWholeOf, Printing, along_intervals, verdict_of}
-use Rattle.interval_commands.specs.KeptVerdict.{is_past, is_refused}
+use Rattle.interval_commands.specs.KeptVerdict.{ends_whole, is_past, is_refused}
 
 -- ---- a recording grows
 
@@ -17,8 +17,9 @@ abbrev pub Grows : Recording → Recording → Type 0
 Grows before now = (header : IntervalHeader) → before.header ≡ Some header
     → (now.header ≡ Some header) × ((more : List ℕ) × (now.intervals ≡ before.intervals ++ more))
 
--- what bytes say of a recording grows with more bytes, and stays as it is behind a fault and behind the limit
+-- what bytes say of a recording grows with more bytes, and stays as it is behind a fault and behind the limit; and of an input it has a header
 pub record RecordingsGrow : Type 0 where
+  pub begins : (bytes : List ℕ) → end_fault_of bytes ≡ None → (header : IntervalHeader) × ((recording_of bytes).header ≡ Some header)
   pub grows : (front more : List ℕ) → Grows (recording_of front) (recording_of (front ++ more))
   pub refused : (front more : List ℕ) (f : IntervalFileFault) → (recording_of front).verdict ≡ refused f → recording_of (front ++ more) ≡ recording_of front
   pub past : (front more : List ℕ) → (recording_of front).verdict ≡ past_limit → recording_of (front ++ more) ≡ recording_of front
@@ -29,7 +30,10 @@ pub record PrintsInOrder (p : Printing) : Type 0 where
   -- what it writes behind some intervals comes first
   pub part : (header : IntervalHeader) (front more a b : List ℕ) → p.part header front a → p.part header (front ++ more) b → IsFront a b
   pub whole : (header : IntervalHeader) (front more a b : List ℕ) → p.part header front a → p.whole header (front ++ more) b → IsFront a b
-  -- and is one
+  -- and there is one
+  pub some_part : (header : IntervalHeader) (intervals : List ℕ) → (written : List ℕ) × p.part header intervals written
+  pub some_whole : (header : IntervalHeader) (intervals : List ℕ) → (written : List ℕ) × p.whole header intervals written
+  -- and no other
   pub one_part : (header : IntervalHeader) (intervals a b : List ℕ) → p.part header intervals a → p.part header intervals b → a ≡ b
   pub one_whole : (header : IntervalHeader) (intervals a b : List ℕ) → p.whole header intervals a → p.whole header intervals b → a ≡ b
   -- a limit of its own that is passed stays so, and nothing more is written then
@@ -71,6 +75,17 @@ nothing_more p prints before after grows (Some header) a b is spent part all =
     let here = subst (λ (h : Option IntervalHeader). IsPartBehind p h after.intervals b) g.0 all in
     prints.limit header before.intervals g.1.0 a b spent part (subst (λ (xs : List ℕ). p.part header xs b) g.1.1 here)
 
+some_part : (p : Printing) → PrintsInOrder p → (header : Option IntervalHeader) (intervals : List ℕ)
+    → (written : List ℕ) × IsPartBehind p header intervals written
+some_part p prints None intervals = ([], refl)
+some_part p prints (Some header) intervals = prints.some_part header intervals
+
+-- of a recording that has a header
+some_whole : (p : Printing) → PrintsInOrder p → (header : Option IntervalHeader) (intervals : List ℕ)
+    → (begins : (h : IntervalHeader) × (header ≡ Some h)) → (written : List ℕ) × IsWholeBehind p header intervals written
+some_whole p prints None intervals begins = absurd cc
+some_whole p prints (Some header) intervals begins = prints.some_whole header intervals
+
 one_part : (p : Printing) → PrintsInOrder p → (header : Option IntervalHeader) (intervals a b : List ℕ)
     → IsPartBehind p header intervals a → IsPartBehind p header intervals b → a ≡ b
 one_part p prints None intervals a b one all = one ∙ sym all
@@ -93,6 +108,8 @@ along_is_command r p prints = record {
     limit = λ front more a b spent one all.
         nothing_more p prints (recording_of front) (recording_of (front ++ more)) (r.grows front more) (recording_of front).header a b refl spent one all;
   };
+  some_part = λ bytes. some_part p prints (recording_of bytes).header (recording_of bytes).intervals;
+  some_output = λ input is. some_whole p prints (recording_of input).header (recording_of input).intervals (r.begins input (ends_whole _ is.end));
   one_part = λ bytes a b one all. one_part p prints (recording_of bytes).header (recording_of bytes).intervals a b one all;
   one_output = λ input a b one all. one_whole p prints (recording_of input).header (recording_of input).intervals a b one all;
   fault = λ front rest f e.

@@ -13,27 +13,31 @@ ghost use Rattle.interval_commands.specs.LtcConvert.{conversion, in_version};
 ghost use Rattle.interval_commands.specs.LtcPcm.{made_sound};
 ghost use Rattle.interval_commands.specs.LtcRead.{report};
 
-use direction_reader::laws::{a_list_has_one_list_of_events, events_of_a_front_come_first};
+use direction_reader::laws::{
+    a_list_has_one_list_of_events, each_list_has_events, events_of_a_front_come_first,
+};
 use interval_file::laws::{
     a_file_is_read_as_it_was_written, bytes_are_read_as_the_text_says,
     the_decoder_reads_what_is_said,
 };
 
 /// What bytes say of a recording grows with more bytes, and stays as it is behind a fault and behind the
-/// limit.
+/// limit. Of an input it has a header.
 pub fn recordings_grow()
     ensures { RecordingsGrow }
 {
     the_decoder_reads_what_is_said();
 }
 
-/// What each command prints behind some intervals comes first, whatever intervals follow, and is one.
+/// What each command prints behind some intervals there is, and is one, and it comes first, whatever intervals
+/// follow.
 pub fn what_is_printed_is_in_order()
     ensures report { (profile : Profile) → PrintsInOrder (report profile) }
     ensures conversion { (version : FileVersion) → PrintsInOrder (conversion version) }
     ensures sound { (size : ℕ) → PrintsInOrder (made_sound size) }
 {
     a_list_has_one_list_of_events();
+    each_list_has_events();
     events_of_a_front_come_first();
 }
 

@@ -1,3 +1,4 @@
+pub mod AnswersExist
 pub mod AnswersStay
 pub mod DecoderMore
 pub mod DecoderTakes

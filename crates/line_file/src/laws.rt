@@ -18,7 +18,7 @@ ghost use Rattle.line_file.specs.LineHeader.{IsHeader};
 ghost use Rattle.vitc_reader.specs.Runs.{IsLineLength, StandFor};
 ghost use Rattle.line_file.specs.StandsFor.{Decoding, StandsFor, IsTold};
 
-use vitc_reader::laws::lines_have_one_answer;
+use vitc_reader::laws::{lines_have_an_answer, lines_have_one_answer};
 
 /// The magic is `VITL`, the version is 1; a header has 12 bytes, and the line length, from 460 to 65,535,
 /// follows its first 8. A field has 20 lines at most, a line 89 runs, and a file 100,000,000 fields.
@@ -59,6 +59,13 @@ pub fn what_bytes_show_stays()
 pub fn a_decoder_tells_the_file()
     ensures { (d : Decoding) (bytes : List ℕ) (answers : List FieldAnswer) → StandsFor d bytes answers → IsTold (reading_of bytes) good answers }
 {}
+
+/// All bytes have a list of answers: those of the whole fields among them.
+pub fn bytes_have_answers()
+    ensures { (bytes : List ℕ) → (answers : List FieldAnswer) × AreAnswersOf (reading_of bytes) answers }
+{
+    lines_have_an_answer();
+}
 
 /// Bytes have one list of answers.
 pub fn bytes_have_one_list_of_answers()

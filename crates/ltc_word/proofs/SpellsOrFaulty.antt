@@ -1,19 +1,14 @@
--- Digits with no fault say an address, so bits that end in the sync word spell the word that they say, or have a first fault of their fields.
-use Rattle.std.proofs.Common.{◌≡◌, ℕ, ◌+◌, ◌*◌, ◌/◌, ◌%◌, ◌^◌, ◌<◌, ◌≤◌, Bool, true, false, List, [], ◌∷◌, refl, arith}
-use Rattle.std.proofs.Common.{Option, Some, None, inl, inr, ◌⊎◌}
-use Rattle.std.specs.Prelude.{◌↔◌, ◌==◌, IsTrue, find, nat_lt, nat_le}
-use Rattle.std.specs.Option.{option_map}
+-- Digits with no fault say fields, so bits that end in the sync word spell the word that they say, or have a first fault of their fields.
+use Rattle.std.proofs.Common.{◌≡◌, ℕ, ◌%◌, ◌^◌, ◌<◌, refl, Option, Some, None, inl, inr, ◌⊎◌}
+use Rattle.std.specs.Prelude.{◌↔◌, ◌==◌, IsTrue}
 use Rattle.std.proofs.lemmas.Bool.{eqb-true, eq-eqb}
-use Rattle.std.proofs.lemmas.Grind.{common_steps}
 use Rattle.tc_address.specs.declared.system.System.{System}
-use Rattle.tc_address.specs.declared.system.System.TheVariants.{F24, F25, F30}
-use Rattle.tc_address.specs.Count.{rate_of, system_with}
 use Rattle.tc_bits.specs.declared.fault.FieldFault.{FieldFault}
 use Rattle.tc_bits.specs.declared.raw.RawFields.{RawFields}
-use Rattle.tc_bits.specs.Fault.{conditions, first_field_fault}
+use Rattle.tc_bits.specs.Fault.{first_field_fault}
 use Rattle.tc_bits.specs.Reading.{raw_in}
 use Rattle.tc_bits.specs.Spelling.{AreExact}
-use Rattle.tc_bits.specs.Fields.{Contents, contents, agrees, count_in, address_of, Says}
+use Rattle.tc_bits.specs.Fields.{Contents, Says}
 use Rattle.ltc_word.specs.declared.word.LtcWord.{LtcWord}
 use Rattle.ltc_word.specs.declared.word.WordFault.TheVariants.{Field}
 use Rattle.ltc_word.specs.Balance.{zeros}
@@ -24,98 +19,9 @@ use Rattle.ltc_word.specs.Spelling.{Spells}
 use Rattle.ltc_word.proofs.NoBitDiffers.{none_from_right}
 use Rattle.ltc_word.proofs.OneSpelling.{spelled, word_with}
 
--- the fault of the first condition that holds
-abbrev first_of : List (Bool × FieldFault) → Option FieldFault
-first_of rows = option_map (λ row. row.1) (find (λ row. row.0) rows)
-
--- none of them holds
-abbrev AllFail : List (Bool × FieldFault) → Type 0
-AllFail [] = Unit {0}
-AllFail (row ∷ rest) = (row.0 ≡ false) × AllFail rest
-
-all_fail : (rows : List (Bool × FieldFault)) → first_of rows ≡ None → AllFail rows
-all_fail [] is = tt
-all_fail ((true, fault) ∷ rest) is = absurd cc
-all_fail ((false, fault) ∷ rest) is = (refl, all_fail rest is)
-
-not_above : (n most : ℕ) → nat_lt most n ≡ false → n ≤ most
-not_above n most is = grind (arith, common_steps)
-
-not_from : (n limit : ℕ) → nat_le limit n ≡ false → n < limit
-not_from n limit is = grind (arith, common_steps)
-
--- the count by the flag agrees with it, and is one of the system
-flag_agrees : (system : System) (flag : Bool) → agrees (count_in system flag) flag ≡ true
-flag_agrees F24 flag = refl
-flag_agrees F25 flag = refl
-flag_agrees F30 true = refl
-flag_agrees F30 false = refl
-
-of_system : (system : System) (flag : Bool) → system_with (count_in system flag) ≡ system
-of_system F24 flag = refl
-of_system F25 flag = refl
-of_system F30 true = refl
-of_system F30 false = refl
-
--- what the digits say
-abbrev said_by : System → RawFields → Contents
-said_by system raw = contents (address_of system raw) raw.flags raw.user
-
--- tens and units give back the digits
-units : (t u : ℕ) → u ≤ 9 → (10 * t + u) % 10 ≡ u
-units t u digit = omega arith
-
-tens : (t u : ℕ) → u ≤ 9 → (10 * t + u) / 10 ≡ t
-tens t u digit = omega arith
-
--- digits with no fault say an address
-faultless_says : (system : System) (raw : RawFields) → first_field_fault system raw ≡ None → Says system raw (said_by system raw)
-faultless_says system raw none =
-    let one : AllFail (conditions system raw) = all_fail (conditions system raw) none in
-    let two = one.1 in
-    let three = two.1 in
-    let four = three.1 in
-    let five = four.1 in
-    let six = five.1 in
-    let seven = six.1 in
-    let eight = seven.1 in
-    let nine = eight.1 in
-    let frame_units = not_above raw.frame_units 9 one.0 in
-    let frames = not_from (10 * raw.frame_tens + raw.frame_units) (rate_of system) two.0 in
-    let second_units = not_above raw.second_units 9 three.0 in
-    let second_tens = not_above raw.second_tens 5 four.0 in
-    let minute_units = not_above raw.minute_units 9 five.0 in
-    let minute_tens = not_above raw.minute_tens 5 six.0 in
-    let hour_units = not_above raw.hour_units 9 seven.0 in
-    let hours = not_above (10 * raw.hour_tens + raw.hour_units) 23 eight.0 in
-    let of = of_system system raw.flags.bit10 in
-    record {
-      valid = record {
-        label = record {
-          hours = omega arith;
-          minutes = omega arith;
-          seconds = omega arith;
-          frames = rw of frames;
-          counted = nine.0;
-        };
-        flag = flag_agrees system raw.flags.bit10;
-      };
-      count = of;
-      digits = rw (
-        units raw.frame_tens raw.frame_units frame_units,
-        tens raw.frame_tens raw.frame_units frame_units,
-        units raw.second_tens raw.second_units second_units,
-        tens raw.second_tens raw.second_units second_units,
-        units raw.minute_tens raw.minute_units minute_units,
-        tens raw.minute_tens raw.minute_units minute_units,
-        units raw.hour_tens raw.hour_units hour_units,
-        tens raw.hour_tens raw.hour_units hour_units,
-      ) refl;
-    }
-
--- the word that the bits say
-abbrev word_in : System → ℕ → LtcWord
-word_in system bits = word_with (said_by system (raw_in (table_of system) bits)) (zeros bits % 2 == 0)
+-- digits without a fault say fields
+abbrev pub FaultlessSay : Type 0
+FaultlessSay = (system : System) (raw : RawFields) → first_field_fault system raw ≡ None → (c : Contents) × Says system raw c
 
 told : (n : ℕ) → (IsTrue (n == 0) ↔ (n ≡ 0))
 told n = (eqb-true n 0, eq-eqb n 0)
@@ -125,11 +31,15 @@ abbrev pub SpellsOrIsFaulty : System → ℕ → Type 0
 SpellsOrIsFaulty system bits =
     ((word : LtcWord) × Spells system word bits) ⊎ ((fault : FieldFault) × (first_fault system bits ≡ Some (Field fault)))
 
-by_fault : AreExact → (system : System) (bits : ℕ) → bits < 2 ^ 80 → EndsInSync bits → (fault : Option FieldFault)
+by_fault : AreExact → FaultlessSay → (system : System) (bits : ℕ) → bits < 2 ^ 80 → EndsInSync bits → (fault : Option FieldFault)
     → first_field_fault system (raw_in (table_of system) bits) ≡ fault → SpellsOrIsFaulty system bits
-by_fault exact system bits width sync None is =
-    inl (word_in system bits, spelled exact system (word_in system bits) bits width sync (faultless_says system (raw_in (table_of system) bits) is) (told (zeros bits % 2)))
-by_fault exact system bits width sync (Some fault) is = inr (fault, rw (none_from_right bits sync, is) refl)
+by_fault exact say system bits width sync None is =
+    let said = say system (raw_in (table_of system) bits) is in
+    let word = word_with said.0 (zeros bits % 2 == 0) in
+    inl (word, spelled exact system word bits width sync said.1 (told (zeros bits % 2)))
+by_fault exact say system bits width sync (Some fault) is = inr (fault, rw (none_from_right bits sync, is) refl)
 
-pub word_or_fault : AreExact → (system : System) (bits : ℕ) → bits < 2 ^ 80 → EndsInSync bits → SpellsOrIsFaulty system bits
-word_or_fault exact system bits width sync = by_fault exact system bits width sync (first_field_fault system (raw_in (table_of system) bits)) refl
+pub word_or_fault : AreExact → FaultlessSay → (system : System) (bits : ℕ) → bits < 2 ^ 80 → EndsInSync bits
+    → SpellsOrIsFaulty system bits
+word_or_fault exact say system bits width sync =
+    by_fault exact say system bits width sync (first_field_fault system (raw_in (table_of system) bits)) refl

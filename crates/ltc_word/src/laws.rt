@@ -52,6 +52,7 @@ pub fn bits_in_sync_spell_a_word_or_have_a_fault()
         → ((word : LtcWord) × Spells system word bits)
         ⊎ ((fault : FieldFault) × (first_fault system bits ≡ Some (Field fault))) }
 {
+    digits_are_exact();
     fields_are_exact();
 }
 

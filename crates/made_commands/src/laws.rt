@@ -3,7 +3,6 @@ ghost use Rattle.std.specs.Prelude.{◌≡◌, ◌≤◌, codes, length, None, S
 ghost use Rattle.biphase.specs.Chain.{flat};
 ghost use Rattle.interval_file.specs.Recording.{end_fault_of, recording_of};
 ghost use Rattle.interval_file.specs.Verdict.{good};
-ghost use Rattle.tc_words.specs.declared.commands.TheConstants as commands;
 ghost use Rattle.tc_words.specs.LineStripe.{IsLineStripe, LineStriping};
 ghost use Rattle.tc_words.specs.Stripe.{IsStripe, Striping};
 ghost use Rattle.made_commands.specs.declared.chance.TheConstants as chance;
@@ -32,7 +31,7 @@ pub fn the_lengths_of_a_load_run_are_these()
 /// The line of `version`, and a line of `help` with its values, letter by letter.
 pub fn what_the_program_tells_is_this()
     ensures version { version_line ≡ codes "tc 1.0.0\n" }
-    ensures usage { usage_line (commands.LTC_FLY.now, codes " LIMIT") ≡ codes "ltc-fly LIMIT\n" }
+    ensures usage { usage_line (codes "ltc-fly", codes " LIMIT") ≡ codes "ltc-fly LIMIT\n" }
 {}
 
 /// What `ltc-make` makes is within the limit of a reading, and is read as its header and its intervals,

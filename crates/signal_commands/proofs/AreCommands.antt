@@ -73,6 +73,8 @@ midi_is_command laws = record {
     stays = λ front more spent. spent;
     limit = λ front more a b spent one all. absurd spent;
   };
+  some_part = λ bytes. (_, refl);
+  some_output = λ input is. (_, refl);
   one_part = λ bytes a b one all. one ∙ sym all;
   one_output = λ input a b one all. one ∙ sym all;
   fault = λ front rest f e. absurd (never_refused MAX_BYTES front f e);
@@ -135,6 +137,8 @@ samples_are_command laws s = record {
     stays = λ front more spent. spent;
     limit = λ front more a b spent one all. absurd spent;
   };
+  some_part = λ bytes. (_, refl);
+  some_output = λ input is. (_, refl);
   one_part = λ bytes a b one all. one ∙ sym all;
   one_output = λ input a b one all. one ∙ sym all;
   fault = λ front rest f e. absurd (no_fault_yet MAX_SAMPLES front f e);
@@ -149,12 +153,13 @@ samples_are_command laws s = record {
 
 -- ---- fields
 
--- what the laws of a line file say: what bytes show stays, and their answers come first and are one list
+-- what the laws of a line file say: what bytes show stays, and there are their answers, which come first and are one list
 pub record FieldLaws : Type 0 where
   pub fault : (bytes more : List ℕ) (f : LineFileFault) → (reading_of bytes).verdict ≡ refused f → (reading_of (bytes ++ more)).verdict ≡ refused f
   pub limit : (bytes more : List ℕ) → (reading_of bytes).verdict ≡ past_limit → (reading_of (bytes ++ more)).verdict ≡ past_limit
   pub answers : (bytes more : List ℕ) (answers all : List FieldAnswer) → AreAnswersOf (reading_of bytes) answers
       → AreAnswersOf (reading_of (bytes ++ more)) all → (rest : List FieldAnswer) × (all ≡ answers ++ rest)
+  pub some : (bytes : List ℕ) → (answers : List FieldAnswer) × AreAnswersOf (reading_of bytes) answers
   pub one : (bytes : List ℕ) (a b : List FieldAnswer) → AreAnswersOf (reading_of bytes) a → AreAnswersOf (reading_of bytes) b → a ≡ b
 
 fault_stays : (v u : Verdict) (f : InputFault) → ((g : LineFileFault) → v ≡ refused g → u ≡ refused g) → verdict_of v ≡ verdict.refused f
@@ -192,6 +197,8 @@ fields_are_command laws = record {
     stays = λ front more spent. spent;
     limit = λ front more a b spent one all. absurd spent;
   };
+  some_part = λ bytes. let answers = laws.some bytes in (answer_lines 0 answers.0, (answers.0, answers.1, refl));
+  some_output = λ input is. let answers = laws.some input in (field_report answers.0, (answers.0, answers.1, refl));
   one_part = λ bytes a b one all. one.2 ∙ ap (answer_lines 0) (laws.one bytes one.0 all.0 one.1 all.1) ∙ sym all.2;
   one_output = λ input a b one all. one.2 ∙ ap field_report (laws.one input one.0 all.0 one.1 all.1) ∙ sym all.2;
   fault = λ front rest f e.

@@ -95,6 +95,8 @@ track_is_command laws shows w = record {
     stays = λ front more spent. spent;
     limit = λ front more a b spent one all. absurd spent;
   };
+  some_part = λ bytes. (_, refl);
+  some_output = λ input is. (_, refl);
   one_part = λ bytes a b one all. one ∙ sym all;
   one_output = λ input a b one all. one ∙ sym all;
   fault = λ front rest f e. let goes = shows w.track front rest in fault_stays _ _ f goes.fault e;

@@ -11,14 +11,15 @@ ghost use Rattle.signal_commands.specs.VitcRead.{along_fields};
 ghost use Rattle.signal_commands.specs.WavLtc.{along_sound_file};
 
 use line_file::laws::{
-    answers_of_a_front_come_first, bytes_have_one_list_of_answers, what_bytes_show_stays,
+    answers_of_a_front_come_first, bytes_have_answers, bytes_have_one_list_of_answers,
+    what_bytes_show_stays,
 };
 use mtc_reader::laws::earlier_events_stay;
 use pcm_front::laws::intervals_of_a_front_come_first;
 use wave_file::laws::what_a_sound_file_shows_stays;
 
-/// Each of them is a command as any other: what it writes comes first and is one, and what bytes show
-/// stays.
+/// Each of them is a command as any other: what it writes there is, comes first and is one, and what bytes
+/// show stays.
 pub fn each_signal_makes_a_command()
     ensures midi { IsCommand along_midi }
     ensures samples { (slicing : Slices) → IsCommand (along_samples slicing) }
@@ -29,6 +30,7 @@ pub fn each_signal_makes_a_command()
     intervals_of_a_front_come_first();
     what_a_sound_file_shows_stays();
     answers_of_a_front_come_first();
+    bytes_have_answers();
     bytes_have_one_list_of_answers();
     what_bytes_show_stays();
 }

@@ -1,3 +1,4 @@
 pub mod AroundAField
+pub mod FaultlessFields
 pub mod FieldsOfATable
 pub mod SideBySide

@@ -5,13 +5,16 @@ use Rattle.tc_command.specs.Verdict.{refused, past_limit}
 use Rattle.tc_io.specs.Sink.{IsFront}
 use Rattle.tc_command.specs.declared.status.Status.TheVariants as status
 use Rattle.tc_command.specs.ComesFirst.{ComesFirst}
-use Rattle.tc_command.specs.Meaning.{Meaning}
+use Rattle.tc_command.specs.Meaning.{Meaning, IsInput, IsOutput}
 use Rattle.tc_command.specs.WholeInput.{HasStatus}
 
 pub record IsCommand (m : Meaning) : Type 0 where
   -- what is written of some bytes comes first in what is written of more, and a limit of its own that is passed stays so
   pub first : ComesFirst m
-  -- some bytes have one part at most, and an input one output
+  -- all bytes have a part, and each input has an output
+  pub some_part : (bytes : List ℕ) → (written : List ℕ) × m.part bytes written
+  pub some_output : (input : List ℕ) → IsInput m input → (whole : List ℕ) × IsOutput m input whole
+  -- and no bytes have another part, and no input another output
   pub one_part : (bytes a b : List ℕ) → m.part bytes a → m.part bytes b → a ≡ b
   pub one_output : (input a b : List ℕ) → m.output input a → m.output input b → a ≡ b
   -- a fault and the limit of its grammar stay, whatever bytes follow

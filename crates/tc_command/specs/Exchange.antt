@@ -1,8 +1,8 @@
 -- What goes through a run: the bytes pulled and written, and the note.
-use Rattle.std.specs.Prelude.{◌≡◌, ℕ, List, Option}
+use Rattle.std.specs.Prelude.{◌≡◌, ℕ, List, ◌++◌, Option, Some}
 use Rattle.std.specs.Io.KnownBytes.{Appends, Consumes}
 use Rattle.tc_io.specs.Source.{Rose}
-use Rattle.tc_io.specs.Sink.{AppendsFront}
+use Rattle.tc_io.specs.Sink.{AppendsFront, IsFront}
 
 -- what went through a run: the bytes pulled and what is left of the input, the bytes written, and the note
 pub record Exchange : Type 0 where
@@ -24,3 +24,7 @@ IsWritten before now e = Appends before now e.written
 pub record IsNoted (before now : Option (List ℕ)) (faults_before faults_now : ℕ) (e : Exchange) : Type 0 where
   pub front : AppendsFront before now e.note
   pub all : ¬ Rose faults_before faults_now → Appends before now e.note
+
+-- what was written is a front of the output of the whole input, which is what was pulled and what is left
+abbrev pub WritesAFront : (List ℕ → List ℕ → Type 0) → Exchange → Type 0
+WritesAFront output e = (rest whole : List ℕ) → e.left ≡ Some rest → output (e.pulled ++ rest) whole → IsFront e.written whole

@@ -8,7 +8,8 @@ use Rattle.tc_io.specs.Sink.{IsFront}
 use Rattle.tc_command.specs.declared.stop.Stop.{Stop}
 use Rattle.tc_command.specs.declared.stop.Stop.TheVariants as stops
 use Rattle.tc_command.specs.Command.{IsCommand}
-use Rattle.tc_command.specs.KeptWorks.{all_at_end, front_of_all}
+use Rattle.tc_command.specs.Exchange.{Exchange, WritesAFront}
+use Rattle.tc_command.specs.KeptWorks.{all_at_end}
 use Rattle.tc_command.specs.Meaning.{Meaning, IsEnd, IsOutput}
 use Rattle.tc_command.specs.Stops.{StopsAlong}
 
@@ -41,35 +42,42 @@ output_is m laws true e input pulled left a whole consumed end here output =
     laws.one_output pulled a whole here (subst (λ l. m.output l whole) (all_at_end input pulled left consumed (end e)) output)
 output_is m laws false e input pulled left a whole consumed end here output = laws.idle_output e pulled a whole here output
 
+-- the whole input is what was pulled and what is left
+pub whole_input : (pulled rest : List ℕ) (left : Option (List ℕ)) → left ≡ Some rest → Consumes (Some (pulled ++ rest)) left pulled
+whole_input pulled rest left is = subst (λ l. Consumes (Some (pulled ++ rest)) l pulled) (sym is) refl
+
 -- ---- the end, and each stop
 
-pub first_at_end : (m : Meaning) → IsCommand m → (input pulled : List ℕ) (left : Option (List ℕ)) (written whole : List ℕ)
-    → Consumes (Some input) left pulled → IsEnd m left → m.output pulled written → IsOutput m input whole → IsFront written whole
-first_at_end m laws input pulled left written whole consumed end here output =
-    same_is_front written whole (output_is m laws m.reads refl input pulled left written whole consumed end here output)
+pub first_at_end : (m : Meaning) → IsCommand m → (e : Exchange) → IsEnd m e.left → m.output e.pulled e.written → WritesAFront (IsOutput m) e
+first_at_end m laws e end here = λ rest whole left output.
+    let consumed = whole_input e.pulled rest e.left left in
+    same_is_front e.written whole
+    (output_is m laws m.reads refl (e.pulled ++ rest) e.pulled e.left e.written whole consumed end here output)
 
-pub first_at_stop : (m : Meaning) → IsCommand m → (stop : Stop) (left : Option (List ℕ)) (input pulled written whole : List ℕ)
-    → Consumes (Some input) left pulled → StopsAlong m stop left pulled written → IsOutput m input whole → IsFront written whole
-first_at_stop m laws (stops.Refused f) left input pulled written whole consumed (inl is) output =
-    let more = front_of_all input pulled left consumed in
-    part_first m laws m.reads refl input pulled more.0 written whole more.1 is.1 output
-first_at_stop m laws (stops.Refused f) left input pulled written whole consumed (inr is) output =
-    let more = front_of_all input pulled left consumed in
-    part_first m laws m.reads refl input pulled more.0 written whole more.1 is.1.2 output
-first_at_stop m laws stops.ReadFault left input pulled written whole consumed is output =
-    let more = front_of_all input pulled left consumed in
-    part_first m laws m.reads refl input pulled more.0 written whole more.1 is.2 output
-first_at_stop m laws stops.WriteFault left input pulled written whole consumed (inl is) output =
-    let more = front_of_all input pulled left consumed in
-    let cut : input ≡ is.0 ++ (is.2.0 ++ more.0) = more.1 ∙ ap (λ l. l ++ more.0) is.2.1 ∙ append_assoc is.0 is.2.0 more.0 in
-    front_of_front written is.1 whole is.4 (part_first m laws m.reads refl input is.0 (is.2.0 ++ more.0) is.1 whole cut is.3 output)
-first_at_stop m laws stops.WriteFault left input pulled written whole consumed (inr is) output =
+at_stop : (m : Meaning) → IsCommand m → (stop : Stop) (left : Option (List ℕ)) (pulled written rest whole : List ℕ) → left ≡ Some rest
+    → StopsAlong m stop left pulled written → IsOutput m (pulled ++ rest) whole → IsFront written whole
+at_stop m laws (stops.Refused f) left pulled written rest whole told (inl is) output =
+    part_first m laws m.reads refl (pulled ++ rest) pulled rest written whole refl is.1 output
+at_stop m laws (stops.Refused f) left pulled written rest whole told (inr is) output =
+    part_first m laws m.reads refl (pulled ++ rest) pulled rest written whole refl is.1.2 output
+at_stop m laws stops.ReadFault left pulled written rest whole told is output =
+    part_first m laws m.reads refl (pulled ++ rest) pulled rest written whole refl is.2 output
+at_stop m laws stops.WriteFault left pulled written rest whole told (inl is) output =
+    let cut : pulled ++ rest ≡ is.0 ++ (is.2.0 ++ rest) = ap (λ l. l ++ rest) is.2.1 ∙ append_assoc is.0 is.2.0 rest in
+    front_of_front written is.1 whole is.4
+    (part_first m laws m.reads refl (pulled ++ rest) is.0 (is.2.0 ++ rest) is.1 whole cut is.3 output)
+at_stop m laws stops.WriteFault left pulled written rest whole told (inr is) output =
     let due = is.1.1 in
-    subst (IsFront written) (output_is m laws m.reads refl input pulled left due.0 whole consumed is.0 due.1 output) due.2
-first_at_stop m laws stops.Limit left input pulled written whole consumed (inl is) output =
-    let more = front_of_all input pulled left consumed in
-    part_first m laws m.reads refl input pulled more.0 written whole more.1 is.1 output
-first_at_stop m laws stops.Limit left input pulled written whole consumed (inr is) output =
-    let more = front_of_all input pulled left consumed in
-    let cut : input ≡ is.0 ++ (is.1.0 ++ more.0) = more.1 ∙ ap (λ l. l ++ more.0) is.1.1 ∙ append_assoc is.0 is.1.0 more.0 in
-    part_first m laws m.reads refl input is.0 (is.1.0 ++ more.0) written whole cut is.3 output
+    let consumed = whole_input pulled rest left told in
+    subst (IsFront written)
+    (output_is m laws m.reads refl (pulled ++ rest) pulled left due.0 whole consumed is.0 due.1 output) due.2
+at_stop m laws stops.Limit left pulled written rest whole told (inl is) output =
+    part_first m laws m.reads refl (pulled ++ rest) pulled rest written whole refl is.1 output
+at_stop m laws stops.Limit left pulled written rest whole told (inr is) output =
+    let cut : pulled ++ rest ≡ is.0 ++ (is.1.0 ++ rest) = ap (λ l. l ++ rest) is.1.1 ∙ append_assoc is.0 is.1.0 rest in
+    part_first m laws m.reads refl (pulled ++ rest) is.0 (is.1.0 ++ rest) written whole cut is.3 output
+
+pub first_at_stop : (m : Meaning) → IsCommand m → (stop : Stop) (e : Exchange) → StopsAlong m stop e.left e.pulled e.written
+    → WritesAFront (IsOutput m) e
+first_at_stop m laws stop e is = λ rest whole left output.
+    at_stop m laws stop e.left e.pulled e.written rest whole left is output

@@ -1,5 +1,5 @@
 -- A command that reads nothing and writes a text is a command as any other. No promise speaks of this lemma.
-use Rattle.std.proofs.Common.{ℕ, List, ◌++◌, refl, sym, ◌∙◌, ap, inr}
+use Rattle.std.proofs.Common.{ℕ, List, [], ◌++◌, refl, sym, ◌∙◌, ap, inr}
 use Rattle.tc_command.specs.Command.{IsCommand}
 use Rattle.tc_command.specs.Meaning.{writes}
 
@@ -11,6 +11,8 @@ text_is_command text = record {
     stays = λ front more spent. spent;
     limit = λ front more a b spent one all. absurd spent;
   };
+  some_part = λ bytes. ([], refl);
+  some_output = λ input is. (text, (refl, refl));
   one_part = λ bytes a b one all. one ∙ sym all;
   one_output = λ input a b one all. one.1 ∙ sym all.1;
   fault = λ front rest f e. absurd cc;

@@ -10,13 +10,11 @@ use Rattle.tc_words.specs.Jam.{Jamming}
 use Rattle.tc_words.specs.Slicing.{Slices}
 use Rattle.tc_words.specs.WaveSlicing.{SlicesWave}
 use Rattle.tc_words.specs.declared.flight.Flight.{Flight}
-use Rattle.tc_words.specs.declared.flight.Flight.{Flight}
 use Rattle.tc_words.specs.declared.job.Job.{Job}
 use Rattle.tc_words.specs.declared.job.Job.TheVariants.{LtcRead, LtcWorn, LtcRough, LtcFly, LtcSpans, LtcMtc, LtcJam, LtcChase, LtcConvert, LtcPcm}
 use Rattle.tc_command.specs.Command.{IsCommand}
 use Rattle.tc_command.specs.KeptText.{text_is_command}
 use Rattle.tc_command.specs.Meaning.{Meaning}
-use Rattle.interval_commands.specs.Along.{Printing}
 use Rattle.interval_commands.specs.KeptCommand.{PrintsInOrder, RecordingsGrow, along_is_command, never_spent}
 use Rattle.interval_commands.specs.LtcConvert.{conversion}
 use Rattle.interval_commands.specs.LtcPcm.{made_sound}
@@ -35,13 +33,9 @@ use Rattle.signal_commands.specs.WavLtc.{along_sound_file}
 use Rattle.tc_top.specs.Commands.{HasMost, HasOwnLimit, IsLimited, Shape, meaning_by, meaning_of, shape_of}
 use Rattle.tc_top.specs.Commands.{writes_text, along_recording, along_its_frames, along_midi_bytes, along_sound, along_a_sound_file, along_line_file}
 
--- a printing has no limit of its own
-abbrev NeverSpent : Printing → Type 0
-NeverSpent p = (header : IntervalHeader) (intervals : List ℕ) → ¬ p.spent header intervals
-
 -- what a command of a shape brings
 abbrev pub Brings : Shape → Type 0
-Brings (along_recording p) = PrintsInOrder p × NeverSpent p
+Brings (along_recording p) = PrintsInOrder p
 Brings (along_its_frames flight made) = AddsInOrder made
 Brings _ = Unit {0}
 
@@ -65,7 +59,7 @@ pub record CommandLaws : Type 0 where
 -- each shape
 by_shape : CommandLaws → (shape : Shape) → Brings shape → IsCommand (meaning_by shape)
 by_shape laws (writes_text text) brings = text_is_command text
-by_shape laws (along_recording p) brings = along_is_command laws.grow p brings.0
+by_shape laws (along_recording p) brings = along_is_command laws.grow p brings
 by_shape laws (along_its_frames flight made) brings = along_is_command laws.grow (along_frames flight made) (laws.frames flight made brings)
 by_shape laws along_midi_bytes brings = laws.midi
 by_shape laws (along_sound slicing) brings = laws.samples slicing
@@ -74,11 +68,11 @@ by_shape laws along_line_file brings = laws.fields
 
 -- what each job brings
 brings : CommandLaws → (job : Job) → Brings (shape_of job)
-brings laws LtcRead = (laws.report _, λ header intervals spent. spent)
-brings laws LtcWorn = (laws.report _, λ header intervals spent. spent)
-brings laws LtcRough = (laws.report _, λ header intervals spent. spent)
-brings laws (LtcConvert version) = (laws.conversion version, λ header intervals spent. spent)
-brings laws (LtcPcm size) = (laws.sound size, λ header intervals spent. spent)
+brings laws LtcRead = laws.report _
+brings laws LtcWorn = laws.report _
+brings laws LtcRough = laws.report _
+brings laws (LtcConvert version) = laws.conversion version
+brings laws (LtcPcm size) = laws.sound size
 brings laws (LtcFly flight) = laws.lines
 brings laws (LtcSpans flight) = laws.spans
 brings laws (LtcMtc flight) = laws.messages
@@ -91,20 +85,29 @@ each_command laws job = by_shape laws (shape_of job) (brings laws job)
 
 -- ---- without a limit of its own
 
+-- a printing of a command along a recording has none
+abbrev NeverSpent : Shape → Type 0
+NeverSpent (along_recording p) = (header : IntervalHeader) (intervals : List ℕ) → ¬ p.spent header intervals
+NeverSpent _ = Unit {0}
+
+never : (job : Job) → NeverSpent (shape_of job)
+never LtcRead = λ header intervals spent. spent
+never LtcWorn = λ header intervals spent. spent
+never LtcRough = λ header intervals spent. spent
+never (LtcConvert version) = λ header intervals spent. spent
+never (LtcPcm size) = λ header intervals spent. spent
+never job = tt
+
 few_enough : (most : Option ℕ) → ¬ HasMost most → (frames : List Frame) → ¬ AreTooMany most frames
 few_enough None none frames = λ many. many
 few_enough (Some most) none frames = absurd (none tt)
 
-unlimited : (shape : Shape) → Brings shape → ¬ IsLimited shape → (input : List ℕ) → ¬ Meaning.spent (meaning_by shape) input
-unlimited (writes_text text) brings none input = λ spent. spent
-unlimited (along_recording p) brings none input = never_spent p brings.1 (recording_of input)
-unlimited (along_its_frames flight made) brings none input =
+unlimited : (shape : Shape) → NeverSpent shape → ¬ IsLimited shape → (input : List ℕ) → ¬ Meaning.spent (meaning_by shape) input
+unlimited (along_recording p) never none input = never_spent p never (recording_of input)
+unlimited (along_its_frames flight made) never none input =
     never_spent (along_frames flight made) (λ header intervals (spent : IsFlightSpent flight made header intervals). few_enough made.most none _ spent.too_many)
     (recording_of input)
-unlimited along_midi_bytes brings none input = λ spent. spent
-unlimited (along_sound slicing) brings none input = λ spent. spent
-unlimited (along_a_sound_file slicing) brings none input = λ spent. spent
-unlimited along_line_file brings none input = λ spent. spent
+unlimited _ never none input = λ spent. spent
 
-pub unlimited_job : CommandLaws → (job : Job) → ¬ HasOwnLimit job → (input : List ℕ) → ¬ Meaning.spent (meaning_of job) input
-unlimited_job laws job none input = unlimited (shape_of job) (brings laws job) none input
+pub unlimited_job : (job : Job) → ¬ HasOwnLimit job → (input : List ℕ) → ¬ Meaning.spent (meaning_of job) input
+unlimited_job job none input = unlimited (shape_of job) (never job) none input

@@ -16,18 +16,15 @@ use Rattle.tc_words.specs.ChaseRun.{Chasing}
 use Rattle.tc_words.specs.Jam.{Jamming}
 use Rattle.tc_words.specs.WaveSlicing.{SlicesWave}
 use Rattle.tc_words.specs.declared.flight.Flight.{Flight}
-use Rattle.tc_words.specs.declared.flight.Flight.{Flight}
 use Rattle.tc_words.specs.declared.job.Job.{Job}
-use Rattle.tc_words.specs.declared.job.Job.TheVariants.{LtcRead, LtcWorn, LtcRough, LtcFly, LtcSpans, LtcMtc, LtcJam, LtcChase, MtcRead, LtcMake, LtcLoad}
-use Rattle.tc_words.specs.declared.job.Job.TheVariants.{LtcConvert, PcmLtc, WavLtc, LtcPcm, VitcRead, VitcMake}
-use Rattle.tc_words.specs.declared.job.Job.TheVariants.{Number, LabelOf, Help, Version}
+use Rattle.tc_words.specs.declared.job.Job.TheVariants.{LtcRead, LtcWorn, LtcRough, LtcFly, LtcSpans, LtcJam, LtcChase, LtcMake, LtcLoad}
+use Rattle.tc_words.specs.declared.job.Job.TheVariants.{LtcConvert, WavLtc, VitcMake}
 use Rattle.frame_commands.specs.declared.ltc_chase.TheConstants.{MAX_FRAMES}
 use Rattle.pcm_front.specs.Pace.{intervals_at}
 use Rattle.wave_file.specs.declared.format.WaveFormat.{WaveFormat}
 use Rattle.wave_file.specs.Wave.{Reading, reading_of}
 use Rattle.signal_commands.specs.WavLtc.{SlicesTheTrack, track_header, track_pace, track_settings}
 use Rattle.tc_top.specs.CleanCopy.{IsClean}
-use Rattle.tc_command.specs.Exchange.{Exchange}
 use Rattle.frame_commands.specs.LtcChase.{FollowsTheCode, first_steps}
 use Rattle.interval_commands.specs.LtcConvert.{ConvertsTheFile, in_version}
 use Rattle.frame_commands.specs.LtcFly.{ShowsTheFrames, frame_lines, last_fly_line}
@@ -35,8 +32,7 @@ use Rattle.frame_commands.specs.LtcJam.{clean_file}
 use Rattle.interval_commands.specs.LtcRead.{last_line, lines}
 use Rattle.frame_commands.specs.LtcSpans.{ShowsTheSpans, span_lines, spans_counted}
 use Rattle.frame_commands.specs.OfFrames.{frames_of}
-use Rattle.tc_top.specs.Pinned.{IsPinned}
-use Rattle.tc_top.specs.Promises.{Promise}
+use Rattle.tc_top.specs.Promises.{IsPinned, Keep, pledge_of}
 use Rattle.tc_top.specs.Tape.{ReportsTheTape}
 
 -- what the laws of events and of files say
@@ -104,44 +100,18 @@ one_track w bytes a b p q =
     p.are ∙ ap (λ (f : WaveFormat). file_of (track_header w f) (intervals_at (track_pace w f) (track_settings w) r.samples)) (one_format r p.format q.format p.begins q.begins)
     ∙ sym q.are
 
-pub one_text : PinnedLaws → (job : Job) (pulled : List ℕ) (e f : Exchange) → IsPinned job → e.pulled ≡ pulled → f.pulled ≡ pulled
-    → Promise job e → Promise job f → e.written ≡ f.written
-one_text laws LtcRead pulled e f is x y p q =
-    one_report laws Normal pulled e.written f.written (subst (λ (l : List ℕ). ReportsTheTape Normal l e.written) x p)
-    (subst (λ (l : List ℕ). ReportsTheTape Normal l f.written) y q)
-one_text laws LtcWorn pulled e f is x y p q =
-    one_report laws Worn pulled e.written f.written (subst (λ (l : List ℕ). ReportsTheTape Worn l e.written) x p)
-    (subst (λ (l : List ℕ). ReportsTheTape Worn l f.written) y q)
-one_text laws LtcRough pulled e f is x y p q =
-    one_report laws Rough pulled e.written f.written (subst (λ (l : List ℕ). ReportsTheTape Rough l e.written) x p)
-    (subst (λ (l : List ℕ). ReportsTheTape Rough l f.written) y q)
-one_text laws (LtcFly flight) pulled e f is x y p q =
-    one_flight laws flight pulled e.written f.written (subst (λ (l : List ℕ). ShowsTheFrames flight l e.written) x p)
-    (subst (λ (l : List ℕ). ShowsTheFrames flight l f.written) y q)
-one_text laws (LtcSpans flight) pulled e f is x y p q =
-    one_tape laws flight pulled e.written f.written (subst (λ (l : List ℕ). ShowsTheSpans flight l e.written) x p)
-    (subst (λ (l : List ℕ). ShowsTheSpans flight l f.written) y q)
-one_text laws (LtcJam jam) pulled e f is x y p q =
-    one_copy laws jam (recording_of pulled) e.written f.written (subst (λ (l : List ℕ). IsClean jam (recording_of l) e.written) x p)
-    (subst (λ (l : List ℕ). IsClean jam (recording_of l) f.written) y q)
-one_text laws (LtcChase run) pulled e f is x y p q =
-    one_trace laws run (recording_of pulled) e.written f.written (subst (λ (l : List ℕ). FollowsTheCode run (recording_of l) e.written) x p)
-    (subst (λ (l : List ℕ). FollowsTheCode run (recording_of l) f.written) y q)
-one_text laws (LtcConvert version) pulled e f is x y p q =
-    one_conversion laws version pulled e.written f.written (subst (λ (l : List ℕ). ConvertsTheFile version l e.written) x p)
-    (subst (λ (l : List ℕ). ConvertsTheFile version l f.written) y q)
-one_text laws (WavLtc slicing) pulled e f is x y p q =
-    one_track slicing pulled e.written f.written (subst (λ (l : List ℕ). SlicesTheTrack slicing l e.written) x p)
-    (subst (λ (l : List ℕ). SlicesTheTrack slicing l f.written) y q)
-one_text laws (LtcMake stripe) pulled e f is x y p q = p.file.are ∙ sym q.file.are
-one_text laws (LtcLoad run) pulled e f is x y p q = p.line ∙ sym q.line
-one_text laws (VitcMake stripe) pulled e f is x y p q = p.are ∙ sym q.are
-one_text laws (LtcMtc flight) pulled e f is x y p q = absurd is
-one_text laws (LtcPcm size) pulled e f is x y p q = absurd is
-one_text laws MtcRead pulled e f is x y p q = absurd is
-one_text laws VitcRead pulled e f is x y p q = absurd is
-one_text laws (PcmLtc slicing) pulled e f is x y p q = absurd is
-one_text laws (Number label) pulled e f is x y p q = absurd is
-one_text laws (LabelOf label) pulled e f is x y p q = absurd is
-one_text laws Help pulled e f is x y p q = absurd is
-one_text laws Version pulled e f is x y p q = absurd is
+-- of each job whose promise names one
+pub one_text : PinnedLaws → (job : Job) (pulled a b : List ℕ) → IsPinned job → Keep (pledge_of job) pulled a → Keep (pledge_of job) pulled b → a ≡ b
+one_text laws LtcRead pulled a b is p q = one_report laws Normal pulled a b p q
+one_text laws LtcWorn pulled a b is p q = one_report laws Worn pulled a b p q
+one_text laws LtcRough pulled a b is p q = one_report laws Rough pulled a b p q
+one_text laws (LtcFly flight) pulled a b is p q = one_flight laws flight pulled a b p q
+one_text laws (LtcSpans flight) pulled a b is p q = one_tape laws flight pulled a b p q
+one_text laws (LtcJam jam) pulled a b is p q = one_copy laws jam (recording_of pulled) a b p q
+one_text laws (LtcChase run) pulled a b is p q = one_trace laws run (recording_of pulled) a b p q
+one_text laws (LtcConvert version) pulled a b is p q = one_conversion laws version pulled a b p q
+one_text laws (WavLtc slicing) pulled a b is p q = one_track slicing pulled a b p q
+one_text laws (LtcMake stripe) pulled a b is p q = p.file.are ∙ sym q.file.are
+one_text laws (LtcLoad run) pulled a b is p q = p.line ∙ sym q.line
+one_text laws (VitcMake stripe) pulled a b is p q = p.are ∙ sym q.are
+one_text laws job pulled a b is p q = absurd is

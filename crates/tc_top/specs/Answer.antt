@@ -12,8 +12,8 @@ use Rattle.tc_command.specs.declared.status.Status.{Status}
 use Rattle.tc_command.specs.declared.status.Status.TheVariants.{Done, Usage, Refused, ReadFault, WriteFault, Memory, Limit}
 use Rattle.chase_command.specs.Chase.{IsChaseAnswer}
 use Rattle.tc_top.specs.Commands.{meaning_of}
-use Rattle.tc_command.specs.Exchange.{Exchange}
-use Rattle.tc_command.specs.Meaning.{Meaning, IsInput, IsEnd}
+use Rattle.tc_command.specs.Exchange.{Exchange, WritesAFront}
+use Rattle.tc_command.specs.Meaning.{Meaning, IsInput, IsEnd, IsOutput}
 use Rattle.tc_command.specs.Notes.{stop_note, usage_note}
 use Rattle.tc_top.specs.Promises.{Promise}
 use Rattle.tc_command.specs.Stops.{StopsAlong}
@@ -31,15 +31,20 @@ pub record IsDone (job : Job) (e : Exchange) : Type 0 where
   pub promise : Promise job e
   pub note : e.note ≡ []
 
--- what a job answers
-abbrev pub IsAnswer : Job → Status → Exchange → Type 0
-IsAnswer job Done e = IsDone job e
-IsAnswer job Refused e = (fault : InputFault) × StoppedBy (stops.Refused fault) (meaning_of job) e
-IsAnswer job ReadFault e = StoppedBy stops.ReadFault (meaning_of job) e
-IsAnswer job WriteFault e = StoppedBy stops.WriteFault (meaning_of job) e
-IsAnswer job Limit e = StoppedBy stops.Limit (meaning_of job) e
-IsAnswer job Usage e = ⊥
-IsAnswer job Memory e = ⊥
+-- how a job ended, by its status
+abbrev pub EndsBy : Job → Status → Exchange → Type 0
+EndsBy job Done e = IsDone job e
+EndsBy job Refused e = (fault : InputFault) × StoppedBy (stops.Refused fault) (meaning_of job) e
+EndsBy job ReadFault e = StoppedBy stops.ReadFault (meaning_of job) e
+EndsBy job WriteFault e = StoppedBy stops.WriteFault (meaning_of job) e
+EndsBy job Limit e = StoppedBy stops.Limit (meaning_of job) e
+EndsBy job Usage e = ⊥
+EndsBy job Memory e = ⊥
+
+-- what a job answers: it ended by its status, and whatever that is, what was written is a front of the output of the whole input
+pub record IsAnswer (job : Job) (status : Status) (e : Exchange) : Type 0 where
+  pub ends : EndsBy job status e
+  pub first : WritesAFront (IsOutput (meaning_of job)) e
 
 -- what a task answers
 abbrev pub IsTaskAnswer : Task → Status → Exchange → Type 0

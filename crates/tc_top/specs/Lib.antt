@@ -2,7 +2,6 @@ pub mod Answer
 pub mod CleanCopy
 pub mod Commands
 pub mod Exit
-pub mod Pinned
 pub mod Promises
 pub mod SentAgain
 pub mod SoundAgain

@@ -21,8 +21,7 @@ ghost use Rattle.tc_top.specs.CleanCopy.{CleansTheInput};
 ghost use Rattle.tc_top.specs.declared.exit.NoArguments.{NoArguments};
 ghost use Rattle.tc_top.specs.Exit.{exit_number};
 ghost use Rattle.tc_top.specs.Commands.{HasOwnLimit, meaning_of};
-ghost use Rattle.tc_top.specs.Pinned.{IsPinned};
-ghost use Rattle.tc_top.specs.Promises.{Promise};
+ghost use Rattle.tc_top.specs.Promises.{IsPinned, Promise};
 
 use biphase::laws::shaped_cells_are_a_chain;
 use code_chase::laws::{each_loss_has_a_cause, whole_code_keeps_the_lock};
@@ -52,7 +51,7 @@ pub fn exit_numbers_are_these()
 {}
 
 /// What holds of every command holds of each job: what it writes of some bytes comes first, whatever bytes
-/// follow, an input has one output, in whatever pieces it comes, and a fault and the limits stay.
+/// follow, each input has an output, and no other, in whatever pieces it comes, and a fault and the limits stay.
 pub fn each_job_is_a_command()
     ensures { (job : Job) → IsCommand (meaning_of job) }
 {
@@ -70,13 +69,7 @@ pub fn an_input_has_one_status()
         → HasStatus (meaning_of job) input b → a ≡ b }
     ensures file { (job : Job) (input : List ℕ) (status : Status) → ¬ HasOwnLimit job → HasStatus (meaning_of job) input status
         → status ≡ status_on (meaning_of job) input }
-{
-    recordings_grow();
-    what_is_printed_is_in_order();
-    what_is_made_of_frames_is_in_order();
-    each_sink_of_frames_adds_in_order();
-    each_signal_makes_a_command();
-}
+{}
 
 /// Of reports, frames, copies, traces, conversions, and what is made, the promise alone names the bytes: whoever
 /// keeps it for an input has written the same. So a body that says one of them otherwise breaks its promise.

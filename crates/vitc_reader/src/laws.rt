@@ -7,7 +7,7 @@ ghost use Rattle.vitc_reader.specs.Field.{IsAnswer, Reading, StandsFor};
 ghost use Rattle.vitc_reader.specs.Runs.{IsLineLength, IsRunFault, MayBeLine, StandFor};
 ghost use Rattle.vitc_reader.specs.Written.{runs_in};
 
-use vitc_line::laws::spelling_is_exact;
+use vitc_line::laws::{bits_spell_a_word_or_have_a_fault, spelling_is_exact};
 
 /// Runs stand for one number of bits at most, and have one first fault at most; runs that stand for
 /// bits have none.
@@ -22,6 +22,14 @@ pub fn each_line_has_its_runs()
     ensures line { (n bits : ℕ) → IsLineLength n → bits < 2 ^ 90 → bits % 2 ≡ 1 → MayBeLine (runs_in n bits) }
     ensures stand { (n bits : ℕ) → IsLineLength n → bits < 2 ^ 90 → bits % 2 ≡ 1 → StandFor n (runs_in n bits) bits }
 {}
+
+/// The lines of a field have an answer.
+pub fn lines_have_an_answer()
+    ensures { (system : System) (n : ℕ) (lines : List (List ℕ)) → IsLineLength n
+        → (answer : FieldAnswer) × IsAnswer system n lines answer }
+{
+    bits_spell_a_word_or_have_a_fault();
+}
 
 /// The lines of a field have one answer.
 pub fn lines_have_one_answer()

@@ -1,8 +1,7 @@
 use Rattle.std.proofs.Common.{[], refl}
 use Rattle.std.proofs.KnownBytes.{Appends-nil}
 use Rattle.tc_command.specs.Exchange.{Exchange}
-use Rattle.chase_command.proofs.ChaseFirst.{stop_first, trace_first}
-use Rattle.chase_command.proofs.ChaseStatus.{chase_answer_of}
+use Rattle.chase_command.proofs.ChaseFirst.{answer_of, trace_first}
 use Rattle.chase_command.proofs.chasing.chase.Goals as goal
 
 -- the whole trace was written
@@ -14,7 +13,10 @@ returns-in-Ok-clause-answer g c =
       record { bytes = e.3; left = refl },
       e.4,
       record { front = ([], ([], refl), Appends-nil _); all = λ _. Appends-nil _ },
-      record { rows = e.2; traced = e.5; lock = e.6; note = refl },
+      record {
+        ends = record { rows = e.2; traced = e.5; lock = e.6; note = refl };
+        first = trace_first c.args.label.now went e.2 e.5;
+      },
     )
 
 -- the chase stopped
@@ -26,16 +28,5 @@ returns-in-Err-clause-answer g c =
       record { bytes = e.2; left = refl },
       e.3,
       record { front = c.push_note.ensures.front; all = c.push_note.ensures.all },
-      rw c.of_chase.ensures (chase_answer_of c.args.label.now c.in-Err.stop went e.4 c.chase_note.ensures),
+      rw c.of_chase.ensures (answer_of c.args.label.now c.in-Err.stop went e.4 c.chase_note.ensures),
     )
-
--- a front of the trace was written
-pub returns-in-Ok-clause-first : goal.returns-in-Ok-clause-first
-returns-in-Ok-clause-first g c = λ input told.
-    let e = c.in-Ok.ensures.ends in
-    (e.1, e.4, trace_first c.args.label.now _ input e.0 e.1 e.2 (rw told at e.3) e.5)
-
-pub returns-in-Err-clause-first : goal.returns-in-Err-clause-first
-returns-in-Err-clause-first g c = λ input told.
-    let e = c.in-Err.ensures.stops in
-    (e.1, e.3, stop_first c.args.label.now c.in-Err.stop _ input e.0 e.1 (rw told at e.2) e.4)

@@ -2,8 +2,11 @@ use Rattle.interval_commands.proofs.PrintedInOrder.{conversion_in_order, report_
 use Rattle.interval_commands.proofs.laws.what_is_printed_is_in_order.Goals as goal
 
 pub returns-clause-report : goal.returns-clause-report
-returns-clause-report c = report_in_order
-    (record { first = c.events_of_a_front_come_first.ensures.first; one = c.a_list_has_one_list_of_events.ensures })
+returns-clause-report c = report_in_order (record {
+  some = c.each_list_has_events.ensures;
+  first = c.events_of_a_front_come_first.ensures.first;
+  one = c.a_list_has_one_list_of_events.ensures;
+})
 
 pub returns-clause-conversion : goal.returns-clause-conversion
 returns-clause-conversion c = conversion_in_order

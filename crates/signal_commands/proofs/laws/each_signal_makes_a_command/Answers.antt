@@ -16,5 +16,6 @@ returns-clause-fields c = fields_are_command (record {
   fault = c.what_bytes_show_stays.ensures.fault;
   limit = c.what_bytes_show_stays.ensures.limit;
   answers = c.answers_of_a_front_come_first.ensures;
+  some = c.bytes_have_answers.ensures;
   one = c.bytes_have_one_list_of_answers.ensures;
 })

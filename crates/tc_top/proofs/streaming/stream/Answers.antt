@@ -1,7 +1,7 @@
 use Rattle.std.proofs.Common.{[], refl}
 use Rattle.std.proofs.KnownBytes.{Appends-nil}
 use Rattle.tc_command.specs.Exchange.{Exchange}
-use Rattle.tc_command.specs.KeptFirst.{first_at_end, first_at_stop}
+use Rattle.tc_command.specs.KeptFirst.{first_at_end}
 use Rattle.tc_command.specs.KeptStatus.{done_is_final, stop_is_final}
 use Rattle.tc_top.specs.Commands.{meaning_of}
 use Rattle.tc_top.proofs.StoppedAnswer.{answer_of}
@@ -17,11 +17,14 @@ returns-in-Ok-clause-answer g c =
       e.3,
       record { front = ([], ([], refl), Appends-nil _); all = λ _. Appends-nil _ },
       record {
-        end = e.5;
-        input = e.6;
-        output = e.7;
-        promise = c.a_promise_is_kept.ensures went e.4 e.6 e.7;
-        note = refl;
+        ends = record {
+          end = e.5;
+          input = e.6;
+          output = e.7;
+          promise = c.a_promise_is_kept.ensures went e.4 e.6 e.7;
+          note = refl;
+        };
+        first = first_at_end (meaning_of c.args.job.now) (c.each_job_is_a_command.ensures c.args.job.now) went e.5 e.7;
       },
     )
 
@@ -34,7 +37,8 @@ returns-in-Err-clause-answer g c =
       record { bytes = e.2; left = refl },
       e.3,
       record { front = c.push_note.ensures.front; all = c.push_note.ensures.all },
-      rw c.of_stop.ensures (answer_of c.args.job.now c.in-Err.stop went e.4 c.stop_note.ensures),
+      rw c.of_stop.ensures
+          (answer_of c.args.job.now (c.each_job_is_a_command.ensures c.args.job.now) c.in-Err.stop went e.4 c.stop_note.ensures),
     )
 
 -- the end of an input is the end of the whole input
@@ -49,22 +53,3 @@ returns-in-Err-clause-status g c = λ input told no_read no_write.
     let e = c.in-Err.ensures.stops in
     rw c.of_stop.ensures (stop_is_final (meaning_of c.args.job.now) (c.each_job_is_a_command.ensures c.args.job.now) c.in-Err.stop _ input e.0 e.1
     _ _ _ _ (rw told at e.2) e.4 c.in-Err.ensures.source c.in-Err.ensures.out no_read no_write)
-
--- what was written is the output of the whole input, and at a stop a front of it
-pub returns-in-Ok-clause-first : goal.returns-in-Ok-clause-first
-returns-in-Ok-clause-first g c = λ input whole told output.
-    let e = c.in-Ok.ensures.ends in (
-      e.1,
-      e.3,
-      first_at_end (meaning_of c.args.job.now) (c.each_job_is_a_command.ensures c.args.job.now) input e.0 _ e.1 whole
-          (rw told at e.2) e.5 e.7 output,
-    )
-
-pub returns-in-Err-clause-first : goal.returns-in-Err-clause-first
-returns-in-Err-clause-first g c = λ input whole told output.
-    let e = c.in-Err.ensures.stops in (
-      e.1,
-      e.3,
-      first_at_stop (meaning_of c.args.job.now) (c.each_job_is_a_command.ensures c.args.job.now) c.in-Err.stop _ input e.0 e.1 whole
-          (rw told at e.2) e.4 output,
-    )

@@ -1,14 +1,10 @@
-use Rattle.std.proofs.Common.{inl, ℕ, List, [], refl, map, string_bytes, subst, sym}
+use Rattle.std.proofs.Common.{inl, [], refl, map, string_bytes, subst, sym}
 use Rattle.std.proofs.KnownBytes.{Appends-nil, Consumes-nil}
-use Rattle.std.specs.Io.KnownBytes.{Appends}
-use Rattle.tc_io.specs.Sink.{IsFront}
-use Rattle.tc_words.specs.declared.job.Task.TheVariants.{Stream, Chase}
+use Rattle.tc_words.specs.declared.job.Task.TheVariants.{Stream}
 use Rattle.tc_command.specs.WholeInput.{HasStatus}
-use Rattle.chase_command.specs.Chase.{chase_output}
 use Rattle.tc_top.specs.Commands.{meaning_of}
 use Rattle.tc_command.specs.Exchange.{Exchange}
-use Rattle.tc_command.specs.Meaning.{IsOutput}
-use Rattle.tc_top.proofs.WordsAnswer.{fault_answers, named, same_job, same_label}
+use Rattle.tc_top.proofs.WordsAnswer.{fault_answers, named, same_job}
 use Rattle.tc_top.proofs.top_call.run.Goals as goal
 
 -- the fault of the words
@@ -30,25 +26,3 @@ returns-in-Stream-clause-status g c = λ job input says told no_read no_write.
     let own = named words (Stream c.in-Stream.job) (rw (c.in-Ok.is, c.in-Stream.is) at c.read_words.ensures) in
     inl (subst (λ j. HasStatus (meaning_of j) input c.stream.result) (sym (same_job words job c.in-Stream.job says own))
     (c.stream.ensures.status input told no_read no_write))
-
--- a front of the output was written: the job is the one that the words name
-pub returns-in-Err-clause-first : goal.returns-in-Err-clause-first
-returns-in-Err-clause-first g c = λ job input whole says told output. ([], Appends-nil _, (whole, refl))
-
-pub returns-in-Stream-clause-first : goal.returns-in-Stream-clause-first
-returns-in-Stream-clause-first g c = λ job input whole says told output.
-    let words = map string_bytes c.args.words.now in
-    let own = named words (Stream c.in-Stream.job) (rw (c.in-Ok.is, c.in-Stream.is) at c.read_words.ensures) in
-    c.stream.ensures.first input whole told
-    (subst (λ j. IsOutput (meaning_of j) input whole) (same_job words job c.in-Stream.job says own) output)
-
--- a front of the trace was written: the chase begins at the label that the words name
-pub returns-in-Err-clause-chase_first : goal.returns-in-Err-clause-chase_first
-returns-in-Err-clause-chase_first g c = λ label input says told. ([], Appends-nil _, (chase_output label input, refl))
-
-pub returns-in-Chase-clause-chase_first : goal.returns-in-Chase-clause-chase_first
-returns-in-Chase-clause-chase_first g c = λ label input says told.
-    let words = map string_bytes c.args.words.now in
-    let own = named words (Chase c.in-Chase.label) (rw (c.in-Ok.is, c.in-Chase.is) at c.read_words.ensures) in
-    subst (λ l. (written : List ℕ) × Appends (g.K.Sink.written c.args.out.now) (g.K.Sink.written c.chase.new.out) written
-    × IsFront written (chase_output l input)) (sym (same_label words label c.in-Chase.label says own)) (c.chase.ensures.first input told)

@@ -1,0 +1,5 @@
+use Rattle.vitc_line.proofs.SpellsOrFaulty.{word_or_fault}
+use Rattle.vitc_line.proofs.laws.bits_spell_a_word_or_have_a_fault.Goals as goal
+
+pub returns : goal.returns
+returns c = word_or_fault c.fields_are_exact.ensures c.digits_are_exact.ensures.some
