@@ -98,11 +98,6 @@ chain_on Normal looks cells follow = follow
 chain_on Worn looks cells follow = follow
 chain_on Rough looks cells follow = absurd looks
 
-pub on_of_chain : (profile : Profile) → LooksAtLast profile → (cells : List Cell) → IsChain profile cells → FollowOn profile cells
-on_of_chain Normal looks cells chain = chain
-on_of_chain Worn looks cells chain = chain
-on_of_chain Rough looks cells chain = absurd looks
-
 -- the cells of a chain behind a zero follow it as from a lock
 follow_behind : (profile : Profile) → LooksAtLast profile → (latest : Latest) (before after : List Cell) (x : ℕ)
     → Follow profile latest (before ++ Zero x ∷ after) → (1 ≤ x) × IsChainAfter profile x after

@@ -35,59 +35,11 @@ ends_by label Limit e stopped same = record { why = stopped; note = same }
 
 -- ---- its parts stop so
 
-pub gather_stop : (label : Address) (stop : ChaseStop) (left : Option (List ℕ)) (pulled : List ℕ) → IsGatherStop stop pulled
-    → IsChaseStop label stop left pulled []
-gather_stop label (Refused fault) left pulled is = absurd is
-gather_stop label ReadFault left pulled is = (is, refl)
-gather_stop label WriteFault left pulled is = absurd is
-gather_stop label Memory left pulled is = (is, refl)
-gather_stop label Limit left pulled is = (is, refl)
-
-pub row_stop : (label : Address) (stop : ChaseStop) (left : Option (List ℕ)) (pulled : List ℕ) → IsWhole left pulled
-    → IsRowStop (script_in label.count pulled) stop → IsChaseStop label stop left pulled []
-row_stop label (Refused fault) left pulled whole is = (whole, is, refl)
-row_stop label ReadFault left pulled whole is = absurd is
-row_stop label WriteFault left pulled whole is = absurd is
-row_stop label Memory left pulled whole is = (omega (arith, whole.short), refl)
-row_stop label Limit left pulled whole is = absurd is
-
 -- ---- the status of the whole input
 
 by_length : (label : Address) (all : List ℕ) (b : Bool) → nat_le (length all) MAX_SCRIPT ≡ b
     → chase_status_on label all ≡ status_of_length b (script_in label.count all)
 by_length label all b e = ap (λ (c : Bool). status_of_length c (script_in label.count all)) e
-
-whole_of_all : (label : Address) (left : Option (List ℕ)) (all pulled : List ℕ) → Consumes (Some all) left pulled → IsWhole left pulled
-    → chase_status_on label all ≡ status_of_script (script_in label.count pulled)
-whole_of_all label left all pulled consumed whole =
-    let same : all ≡ pulled = all_at_end all pulled left consumed whole.end in
-    let short : nat_le (length all) MAX_SCRIPT ≡ true = rw same (grind (arith, whole.short)) in
-    by_length label all true short ∙ ap (λ (bytes : List ℕ). status_of_script (script_in label.count bytes)) same
-
-pub chase_done_is_final : (label : Address) (left : Option (List ℕ)) (all pulled : List ℕ) (rows : List ScriptRow)
-    → Consumes (Some all) left pulled → IsScript label left pulled rows → status.Done ≡ chase_status_on label all
-chase_done_is_final label left all pulled rows consumed is =
-    sym (whole_of_all label left all pulled consumed is.whole ∙ ap status_of_script is.are)
-
-past_all : (label : Address) (left : Option (List ℕ)) (all pulled : List ℕ) → Consumes (Some all) left pulled → length pulled ≡ MAX_SCRIPT + 1
-    → chase_status_on label all ≡ status.Limit
-past_all label left all pulled consumed long =
-    let more = front_of_all all pulled left consumed in
-    let longer : length all ≡ length pulled + length more.0 = ap length more.1 ∙ length-append pulled more.0 in
-    let past : nat_le (length all) MAX_SCRIPT ≡ false = grind (arith, longer, long) in
-    by_length label all false past
-
-pub chase_stop_is_final : (label : Address) (stop : ChaseStop) (left : Option (List ℕ)) (all pulled written : List ℕ) (s t k l : ℕ)
-    → Consumes (Some all) left pulled → IsChaseStop label stop left pulled written
-    → SourceCause (status_of_chase stop) s t → OutCause (status_of_chase stop) k l → ¬ Rose s t → ¬ Rose k l
-    → (status_of_chase stop ≡ chase_status_on label all) ⊎ (status_of_chase stop ≡ status.Memory)
-chase_stop_is_final label (Refused fault) left all pulled written s t k l consumed is source out no_read no_write =
-    inl (sym (whole_of_all label left all pulled consumed is.0 ∙ ap status_of_script is.1))
-chase_stop_is_final label ReadFault left all pulled written s t k l consumed is source out no_read no_write = absurd (no_read source)
-chase_stop_is_final label WriteFault left all pulled written s t k l consumed is source out no_read no_write = absurd (no_write out)
-chase_stop_is_final label Memory left all pulled written s t k l consumed is source out no_read no_write = inr refl
-chase_stop_is_final label Limit left all pulled written s t k l consumed is source out no_read no_write =
-    inl (sym (past_all label left all pulled consumed is.0))
 
 -- ---- one pull more
 

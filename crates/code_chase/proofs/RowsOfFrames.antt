@@ -16,7 +16,7 @@ use Rattle.chase_core.specs.NextRow.{ReadsOn}
 use Rattle.flywheel.specs.declared.frame.Frame.{Frame}
 use Rattle.flywheel.specs.declared.frame.Frame.TheVariants.{Heard, Invented, Gone}
 use Rattle.flywheel.specs.Frames.{is_same_count, steps_in}
-use Rattle.flywheel.specs.GoOn.{Follows, GoOn, Place, goes_on, place_of}
+use Rattle.flywheel.specs.GoOn.{Follows, GoOn, Position, goes_on, position_of}
 use Rattle.generator.specs.Draw.{drawn}
 use Rattle.code_chase.specs.CodeTrace.{master_at, master_of, row_of, rows_from}
 use Rattle.code_chase.specs.Lock.{HaveLabels}
@@ -66,18 +66,18 @@ master_known count label direction e =
     ap (λ b. if b then Some (master_with (number_of label) direction) else None) same
 
 -- the master of a place
-abbrev master_there : Count → Option Place → Option Master
+abbrev master_there : Count → Option Position → Option Master
 master_there count None = None
 master_there count (Some place) = master_at count place.label place.direction
 
-master_of_place : (count : Count) (frame : Frame) → master_of count frame ≡ master_there count (place_of frame)
+master_of_place : (count : Count) (frame : Frame) → master_of count frame ≡ master_there count (position_of frame)
 master_of_place count (Heard label direction joined tick) = refl
 master_of_place count (Invented label direction step tick) = refl
 master_of_place count (Gone tick) = refl
 
 -- the frame has the count, if it has a place
 abbrev pub HasCount : Count → Frame → Type 0
-HasCount count frame = IfSome (place_of frame) (λ place. place.label.count ≡ count)
+HasCount count frame = IfSome (position_of frame) (λ place. place.label.count ≡ count)
 
 -- a master stands on the day
 master_below : (laws : DayLaws) (count : Count) (label : Address) (direction : Direction) (b : Bool) → is_same_count label.count count ≡ b → IsLabel label →
@@ -86,7 +86,7 @@ master_below laws count label direction true e is =
     subst (λ c. number_of label < day_length c) (same_count label.count count e) (laws.below label is)
 master_below laws count label direction false e is = tt
 
-there_below : (laws : DayLaws) (count : Count) (place : Option Place) → IfSome place (λ p. IsLabel p.label) →
+there_below : (laws : DayLaws) (count : Count) (place : Option Position) → IfSome place (λ p. IsLabel p.label) →
     IfSome (master_there count place) (λ m. m.number < day_length count)
 there_below laws count None is = tt
 there_below laws count (Some place) is = master_below laws count place.label place.direction (is_same_count place.label.count count) refl is
@@ -128,8 +128,8 @@ pub are_rows : (laws : DayLaws) (count : Count) (bound state : ℕ) (command : O
     AreRowsOf count (rows_from count bound state command frames)
 are_rows laws count bound state command frames have i row e =
     let at = row_at count bound state command frames i row e in
-    let below = there_below laws count (place_of at.frame) (have i at.frame at.there) in
-    let master : row.master ≡ master_there count (place_of at.frame) = ap (λ (r : Row). r.master) at.is ∙ master_of_place count at.frame in
+    let below = there_below laws count (position_of at.frame) (have i at.frame at.there) in
+    let master : row.master ≡ master_there count (position_of at.frame) = ap (λ (r : Row). r.master) at.is ∙ master_of_place count at.frame in
     subst (λ (m : Option Master). IfSome m (λ x. x.number < day_length count)) (sym master) below
 
 -- ---- from a frame to the next
@@ -137,29 +137,29 @@ are_rows laws count bound state command frames have i row e =
 first_is : (a b : Frame) → Some a ≡ Some b → a ≡ b
 first_is a b e = cc
 
-pub follows_at : (before : Option Place) (frames : List Frame) (i : ℕ) (a b : Frame) → GoOn before frames →
-    slice_get frames i ≡ Some a → slice_get frames (suc i) ≡ Some b → Follows (place_of a) b
+pub follows_at : (before : Option Position) (frames : List Frame) (i : ℕ) (a b : Frame) → GoOn before frames →
+    slice_get frames i ≡ Some a → slice_get frames (suc i) ≡ Some b → Follows (position_of a) b
 follows_at before [] i a b on here later = absurd (cc)
 follows_at before (f ∷ []) zero a b on here later = absurd (cc)
 follows_at before (f ∷ g ∷ more) zero a b on here later =
-    let follows : Follows (place_of f) g = on.1.0 in
-    let after : Follows (place_of f) b = subst (λ x. Follows (place_of f) x) (first_is g b later) follows in
-    subst (λ x. Follows (place_of x) b) (first_is f a here) after
-follows_at before (f ∷ more) (suc i) a b on here later = follows_at (place_of f) more i a b on.1 here later
+    let follows : Follows (position_of f) g = on.1.0 in
+    let after : Follows (position_of f) b = subst (λ x. Follows (position_of f) x) (first_is g b later) follows in
+    subst (λ x. Follows (position_of x) b) (first_is f a here) after
+follows_at before (f ∷ more) (suc i) a b on here later = follows_at (position_of f) more i a b on.1 here later
 
 same_step : (direction : Direction) → steps_in direction 1 ≡ frame_in direction
 same_step Forward = refl
 same_step Backward = refl
 
 -- where the next frame goes on and has the count, the next row reads on
-pub row_reads_on : (laws : DayLaws) (count : Count) (bound : ℕ) (command : Option Command) (value other : ℕ) (a b : Frame) → Follows (place_of a) b →
+pub row_reads_on : (laws : DayLaws) (count : Count) (bound : ℕ) (command : Option Command) (value other : ℕ) (a b : Frame) → Follows (position_of a) b →
     goes_on b ≡ true → HasCount count b →
     ReadsOn count (row_of count bound command value a) (row_of count bound None other b)
 row_reads_on laws count bound command value other a b follows on has =
     let (place, before, after) = follows on in
     let d = place.direction in
     let next = step place.label (steps_in d 1) in
-    let next_count : next.count ≡ count = subst (λ (p : Option Place). IfSome p (λ x. x.label.count ≡ count)) after has in
+    let next_count : next.count ≡ count = subst (λ (p : Option Position). IfSome p (λ x. x.label.count ≡ count)) after has in
     let own_count : place.label.count ≡ count = sym (laws.label place.label (steps_in d 1)).0 ∙ next_count in
     let master = master_with (number_of place.label) d in
     let reads : master_of count a ≡ Some master =

@@ -7,7 +7,7 @@ use Rattle.chase_core.specs.declared.report.Loss.TheVariants.{NoCode, Window}
 use Rattle.chase_core.specs.Trace.{Row}
 use Rattle.flywheel.specs.declared.frame.Frame.{Frame}
 use Rattle.flywheel.specs.declared.frame.Frame.TheVariants.{Heard, Invented, Gone}
-use Rattle.flywheel.specs.GoOn.{place_of}
+use Rattle.flywheel.specs.GoOn.{position_of}
 use Rattle.code_chase.specs.CodeTrace.{rows_of}
 
 -- the frame has another count than the chase
@@ -54,7 +54,7 @@ pub record HasCauseOfLoss (label : Address) (seed bound : ℕ) (frames : List Fr
 
 -- each frame that is no gap has a label of the day
 abbrev pub HasLabel : Frame → Type 0
-HasLabel frame = IfSome (place_of frame) (λ place. IsLabel place.label)
+HasLabel frame = IfSome (position_of frame) (λ place. IsLabel place.label)
 
 abbrev pub HaveLabels : List Frame → Type 0
 HaveLabels frames = (i : ℕ) (frame : Frame) → slice_get frames i ≡ Some frame → HasLabel frame

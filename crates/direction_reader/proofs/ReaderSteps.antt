@@ -21,7 +21,7 @@ use Rattle.direction_reader.specs.Events.{event_list, no_events, one_event}
 use Rattle.direction_reader.specs.LatestBits.{after_bit, EndsInCandidate}
 use Rattle.direction_reader.specs.LatestCells.{Cells, no_cells, with_boundary, AreWindowEvents}
 use Rattle.direction_reader.specs.ListEvents.{duration, begin_of, windows, AreEventsOfWindows, AreEventsOfStretch}
-use Rattle.direction_reader.specs.Reader.{Reading, Takes}
+use Rattle.direction_reader.specs.Reader.{ReaderState, Takes}
 use Rattle.direction_reader.specs.StandsFor.{waiting, CellsStandFor, OpenStandsFor, LatestStandsFor, TrackerStandsFor, StandsFor, StandsAfter}
 use Rattle.direction_reader.specs.StandsFor.{BitsStandFor, MayBreak, IsLastZero, IsAtCell, Tells}
 use Rattle.direction_reader.specs.Tracker.{Steps}
@@ -41,7 +41,7 @@ count_more l x = length-append l (x ∷ [])
 
 -- ---- no cell ended
 
-latest_waits : (r n : Reading) (x : ℕ) (l : List ℕ) (o : Option Stretch) (es : List Event) → Takes r x n → n.cells ≡ r.cells
+latest_waits : (r n : ReaderState) (x : ℕ) (l : List ℕ) (o : Option Stretch) (es : List Event) → Takes r x n → n.cells ≡ r.cells
     → (IsSome o → waiting n.tracker ≡ waiting r.tracker + x) → LatestStandsFor r l o es → LatestStandsFor n (l ++ x ∷ []) o es
 latest_waits r n x l None es takes same waits is = is
 latest_waits r n x l (Some s) es takes same waits is =
@@ -58,7 +58,7 @@ latest_waits r n x l (Some s) es takes same waits is =
       events_are = rw (begins, takes.system) is.events_are;
     }
 
-pub nothing_ended : (r n : Reading) (x : ℕ) (l : List ℕ) (es : List Event) → Takes r x n → n.cells ≡ r.cells → (stands : StandsFor r l es)
+pub nothing_ended : (r n : ReaderState) (x : ℕ) (l : List ℕ) (es : List Event) → Takes r x n → n.cells ≡ r.cells → (stands : StandsFor r l es)
     → StandsAfter r.tracker n.tracker x l stands.earlier stands.open_yet Nothing → StandsFor n (l ++ x ∷ []) es
 nothing_ended r n x l es takes same stands after = record {
   count = takes.intervals ∙ ap (λ m. m + 1) stands.count ∙ sym (count_more l x);
@@ -100,7 +100,7 @@ windows_after system kept (latest.Filling f) tick end cells cell es own filling 
     let nothing : es ++ event_list own ≡ [] = rw (none, was) refl in
     rw (few tick (cells ++ cell ∷ []) (omega arith)) nothing
 
-cell_opens : (r n : Reading) (x : ℕ) (l : List ℕ) (s : Stretch) (cell : Cell) (es : List Event) (own : Events) → Takes r x n
+cell_opens : (r n : ReaderState) (x : ℕ) (l : List ℕ) (s : Stretch) (cell : Cell) (es : List Event) (own : Events) → Takes r x n
     → n.cells.bits ≡ after_bit r.cells.bits (bit_of cell) → n.cells.boundaries ≡ with_boundary r.cells.boundaries n.tick
     → AreWindowEvents n.system n.cells.bits n.cells.boundaries n.tick own → length_of cell ≡ waiting r.tracker + x → waiting n.tracker ≡ 0
     → OpenStandsFor r l s es → OpenStandsFor n (l ++ x ∷ []) (with_cell cell s) (es ++ event_list own)
@@ -124,7 +124,7 @@ cell_opens r n x l s cell es own takes is_bits is_boundaries are long waits is =
       events_are = rw begins events;
     }
 
-pub cell_ended : (r n : Reading) (x : ℕ) (l : List ℕ) (es : List Event) (own : Events) (s : Stretch) (cell : Cell) → Takes r x n
+pub cell_ended : (r n : ReaderState) (x : ℕ) (l : List ℕ) (es : List Event) (own : Events) (s : Stretch) (cell : Cell) → Takes r x n
     → n.cells.bits ≡ after_bit r.cells.bits (bit_of cell) → n.cells.boundaries ≡ with_boundary r.cells.boundaries n.tick
     → AreWindowEvents n.system n.cells.bits n.cells.boundaries n.tick own → length_of cell ≡ waiting r.tracker + x → waiting n.tracker ≡ 0
     → (stands : StandsFor r l es) → stands.open_yet ≡ Some s
@@ -148,13 +148,13 @@ cell_ended r n x l es own s cell takes is_bits is_boundaries are long waits stan
 -- ---- a stretch begins
 
 -- where no stretch is open there are no events of one
-none_open : (r : Reading) (l : List ℕ) (es : List Event) (stands : StandsFor r l es) → stands.open_yet ≡ None → es ≡ stands.past
+none_open : (r : ReaderState) (l : List ℕ) (es : List Event) (stands : StandsFor r l es) → stands.open_yet ≡ None → es ≡ stands.past
 none_open r l es stands closed =
     let none : stands.latest ≡ [] = subst (λ (o : Option Stretch). LatestStandsFor r l o stands.latest) closed stands.latest_are in
     stands.all ∙ ap (λ e. stands.past ++ e) none ∙ append-nil stands.past
 
 -- a stretch begins with its first zero, which begins at a tick
-begins : (r n : Reading) (x : ℕ) (l : List ℕ) (es : List Event) (lock first tick : ℕ) → Takes r x n
+begins : (r n : ReaderState) (x : ℕ) (l : List ℕ) (es : List Event) (lock first tick : ℕ) → Takes r x n
     → n.cells.bits ≡ after_bit (no_cells tick).bits false → n.cells.boundaries ≡ with_boundary (no_cells tick).boundaries (tick + first)
     → lock ≤ length l → begin_of (l ++ x ∷ []) (begun lock first) ≡ tick → n.tick ≡ tick + first + waiting n.tracker
     → (stands : StandsFor r l es) → stands.open_yet ≡ None
@@ -179,7 +179,7 @@ begins r n x l es lock first tick takes is_bits is_boundaries within start ends 
     }
 
 -- the stretch begins with the interval
-pub begins_now : (r n : Reading) (x : ℕ) (l : List ℕ) (es : List Event) → Takes r x n
+pub begins_now : (r n : ReaderState) (x : ℕ) (l : List ℕ) (es : List Event) → Takes r x n
     → n.cells.bits ≡ after_bit (no_cells r.tick).bits false → n.cells.boundaries ≡ with_boundary (no_cells r.tick).boundaries n.tick
     → (stands : StandsFor r l es) → StandsAfter r.tracker n.tracker x l stands.earlier stands.open_yet FirstZero → StandsFor n (l ++ x ∷ []) es
 begins_now r n x l es takes is_bits is_boundaries stands after =
@@ -203,7 +203,7 @@ last_sum l first is =
     (omega arith, sym (joined ∙ sum_more (take (length l - 1) l) first))
 
 -- the stretch begins with the interval before
-pub begins_before : (r n : Reading) (x first tick : ℕ) (l : List ℕ) (es : List Event) → Takes r x n → tick ≡ r.tick - first
+pub begins_before : (r n : ReaderState) (x first tick : ℕ) (l : List ℕ) (es : List Event) → Takes r x n → tick ≡ r.tick - first
     → n.cells.bits ≡ after_bit (no_cells tick).bits false → n.cells.boundaries ≡ with_boundary (no_cells tick).boundaries r.tick
     → (stands : StandsFor r l es) → StandsAfter r.tracker n.tracker x l stands.earlier stands.open_yet (ZeroBefore first)
     → StandsFor n (l ++ x ∷ []) es
@@ -221,7 +221,7 @@ begins_before r n x first tick l es takes starts is_bits is_boundaries stands af
 -- ---- the stretch breaks
 
 -- the events of the stretch that breaks
-breaks_with : (r : Reading) (x : ℕ) (l : List ℕ) (o : Option Stretch) (s : Stretch) (es : List Event) → LatestStandsFor r l o es → MayBreak l o s
+breaks_with : (r : ReaderState) (x : ℕ) (l : List ℕ) (o : Option Stretch) (s : Stretch) (es : List Event) → LatestStandsFor r l o es → MayBreak l o s
     → (s.lock ≤ length l) × AreEventsOfStretch r.system (l ++ x ∷ []) (with_break (length l) s) (es ++ Lost (length l) (sum (l ++ x ∷ [])) ∷ [])
 breaks_with r x l (Some o) s es is same =
     let within : s.lock ≤ length l = rw same is.lock in
@@ -236,7 +236,7 @@ breaks_with r x l None s es is (first, last, same) =
     let own : AreEventsOfWindows r.system (windows (begin_of (l ++ x ∷ []) (with_break (length l) s)) s.cells) es = rw none is in
     (within, (es, own, ap (λ t. es ++ Lost (length l) (sum t) ∷ []) (sym all)))
 
-pub broken : (r n : Reading) (x : ℕ) (l : List ℕ) (es : List Event) → Takes r x n → (stands : StandsFor r l es)
+pub broken : (r n : ReaderState) (x : ℕ) (l : List ℕ) (es : List Event) → Takes r x n → (stands : StandsFor r l es)
     → StandsAfter r.tracker n.tracker x l stands.earlier stands.open_yet Break
     → StandsFor n (l ++ x ∷ []) (es ++ event_list (one_event (Lost (n.intervals - 1) n.tick)))
 broken r n x l es takes stands (s, breaks, tracker) =
@@ -281,13 +281,13 @@ quiet_window system (latest.Full n) boundaries end own quiet none = rw none (rec
 quiet_window system (latest.Filling f) boundaries end own quiet none = none
 
 -- what is told of a cell is what its window brings
-told_of_cell : (n : Reading) (brought : Brought) (own : Events) → (brought ≡ Candidate) ⊎ ((brought ≡ Brought.Nothing) × ¬ EndsInCandidate n.cells.bits)
+told_of_cell : (n : ReaderState) (brought : Brought) (own : Events) → (brought ≡ Candidate) ⊎ ((brought ≡ Brought.Nothing) × ¬ EndsInCandidate n.cells.bits)
     → Tells n brought own → AreWindowEvents n.system n.cells.bits n.cells.boundaries n.tick own
 told_of_cell n brought own (inl is) told = subst (λ (b : Brought). Tells n b own) is told
 told_of_cell n brought own (inr is) told =
     quiet_window n.system n.cells.bits n.cells.boundaries n.tick own is.1 (subst (λ (b : Brought). Tells n b own) is.0 told)
 
-pub cell_told : (r n : Reading) (x : ℕ) (l : List ℕ) (es : List Event) (own : Events) (bit : Bool) (brought : Brought) → Takes r x n
+pub cell_told : (r n : ReaderState) (x : ℕ) (l : List ℕ) (es : List Event) (own : Events) (bit : Bool) (brought : Brought) → Takes r x n
     → n.cells.bits ≡ after_bit r.cells.bits bit → n.cells.boundaries ≡ with_boundary r.cells.boundaries n.tick
     → (brought ≡ Candidate) ⊎ ((brought ≡ Brought.Nothing) × ¬ EndsInCandidate n.cells.bits)
     → (stands : StandsFor r l es) → StandsAfter r.tracker n.tracker x l stands.earlier stands.open_yet (Step.Cell bit) → Tells n brought own
@@ -297,15 +297,5 @@ cell_told r n x l es own bit brought takes is_bits is_boundaries may stands (s, 
     cell_ended r n x l es own s cell takes bits_too is_boundaries (told_of_cell n brought own may told) long waits stands open_yet tracker
 
 -- where nothing is told there is nothing new
-pub quiet : (n : Reading) (l : List ℕ) (es : List Event) (own : Events) → StandsFor n l es → own ≡ no_events → StandsFor n l (es ++ event_list own)
+pub quiet : (n : ReaderState) (l : List ℕ) (es : List Event) (own : Events) → StandsFor n l es → own ≡ no_events → StandsFor n l (es ++ event_list own)
 quiet n l es own stands none = rw none (subst (λ e. StandsFor n l e) (sym (append-nil es)) stands)
-
--- a cell that ends leaves the tracker at its end
-pub at_cell_after : (old next : Tracking) (x : ℕ) (bit : Bool) → Steps old x next (Step.Cell bit) → IsAtCell next
-at_cell_after (tracker.AtCell a) (tracker.AtCell n) x bit steps = tt
-at_cell_after (tracker.AtCell a) (tracker.MidCell n) x bit steps = absurd steps.1
-at_cell_after (tracker.AtCell a) (tracker.Hunting n) x bit steps = absurd steps.1
-at_cell_after (tracker.MidCell m) (tracker.AtCell n) x bit steps = tt
-at_cell_after (tracker.MidCell m) (tracker.MidCell n) x bit steps = absurd steps.1
-at_cell_after (tracker.MidCell m) (tracker.Hunting n) x bit steps = absurd steps.1
-at_cell_after (tracker.Hunting h) next x bit steps = absurd steps

@@ -17,10 +17,6 @@ cell_count (latest.Filling f) = f.count
 abbrev pub latest_ticks : LatestBits → List ℕ → List ℕ
 latest_ticks bits ticks = drop (80 - cell_count bits) ticks
 
--- a boundary before each cell, and one at the end
-abbrev pub HasBoundaries : LatestBits → List ℕ → Type 0
-HasBoundaries bits boundaries = length boundaries ≡ cell_count bits + 1
-
 -- boundaries of cells, the last of them at a tick
 abbrev pub AreBoundariesTo : ℕ → List ℕ → Type 0
 AreBoundariesTo tick [] = ⊥

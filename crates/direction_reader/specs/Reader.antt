@@ -6,7 +6,7 @@ use Rattle.direction_reader.specs.LatestCells.{Cells}
 use Rattle.direction_reader.specs.Tracker.{profile_of}
 
 -- the system, the number and the sum of the intervals taken, the state of the tracker, and the latest cells
-pub record Reading : Type 0 where
+pub record ReaderState : Type 0 where
   pub system : System
   pub intervals : ℕ
   pub tick : ℕ
@@ -14,7 +14,7 @@ pub record Reading : Type 0 where
   pub cells : Cells
 
 -- a reader takes one interval more
-pub record Takes (old : Reading) (x : ℕ) (new : Reading) : Type 0 where
+pub record Takes (old : ReaderState) (x : ℕ) (new : ReaderState) : Type 0 where
   pub system : new.system ≡ old.system
   pub profile : profile_of new.tracker ≡ profile_of old.tracker
   pub intervals : new.intervals ≡ old.intervals + 1

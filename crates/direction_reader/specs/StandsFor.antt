@@ -18,7 +18,7 @@ use Rattle.direction_reader.specs.declared.state.Step.{Step}
 use Rattle.direction_reader.specs.declared.state.Step.TheVariants.{Nothing, FirstZero, ZeroBefore, Break}
 use Rattle.direction_reader.specs.LatestCells.{Cells, AreWindowEvents}
 use Rattle.direction_reader.specs.ListEvents.{duration, number_of, begin_of, windows, AreEventsOfWindows, AreEventsOfStretches}
-use Rattle.direction_reader.specs.Reader.{Reading}
+use Rattle.direction_reader.specs.Reader.{ReaderState}
 
 -- the tracker stands for the intervals: of their stretches some are broken, and one may be open
 abbrev pub TrackerStandsFor : Tracking → List ℕ → List Stretch → Option Stretch → Type 0
@@ -85,14 +85,14 @@ StandsAfter old next x intervals earlier open_yet Break = (stretch : Stretch) ×
     × TrackerStandsFor next (intervals ++ x ∷ []) (earlier ++ with_break (length intervals) stretch ∷ []) None
 
 -- the open stretch, the part of it that is kept, and the events of its windows
-pub record OpenStandsFor (reader : Reading) (intervals : List ℕ) (stretch : Stretch) (events : List Event) : Type 0 where
+pub record OpenStandsFor (reader : ReaderState) (intervals : List ℕ) (stretch : Stretch) (events : List Event) : Type 0 where
   pub lock : stretch.lock ≤ length intervals
   pub kept : CellsStandFor reader.cells (begin_of intervals stretch) stretch.cells
   pub ends : reader.tick ≡ begin_of intervals stretch + duration stretch.cells + waiting reader.tracker
   pub events_are : AreEventsOfWindows reader.system (windows (begin_of intervals stretch) stretch.cells) events
 
 -- where no stretch is open there is nothing
-abbrev pub LatestStandsFor : Reading → List ℕ → Option Stretch → List Event → Type 0
+abbrev pub LatestStandsFor : ReaderState → List ℕ → Option Stretch → List Event → Type 0
 LatestStandsFor reader intervals None events = events ≡ []
 LatestStandsFor reader intervals (Some stretch) events = OpenStandsFor reader intervals stretch events
 
@@ -107,7 +107,7 @@ AreInside count [] = Unit {0}
 AreInside count (stretch ∷ more) = IsInside count stretch × AreInside count more
 
 -- the reader was fed these intervals, and these are their events
-pub record StandsFor (reader : Reading) (intervals : List ℕ) (events : List Event) : Type 0 where
+pub record StandsFor (reader : ReaderState) (intervals : List ℕ) (events : List Event) : Type 0 where
   pub count : reader.intervals ≡ length intervals
   pub sum_is : reader.tick ≡ sum intervals
   pub earlier : List Stretch
@@ -121,13 +121,13 @@ pub record StandsFor (reader : Reading) (intervals : List ℕ) (events : List Ev
   pub all : events ≡ past ++ latest
 
 -- what the latest interval brought, where the reader told so of it
-abbrev pub Tells : Reading → Brought → Events → Type 0
+abbrev pub Tells : ReaderState → Brought → Events → Type 0
 Tells reader Brought.Nothing events = events ≡ no_events
 Tells reader Candidate events = AreWindowEvents reader.system reader.cells.bits reader.cells.boundaries reader.tick events
 Tells reader Brought.Break events = events ≡ one_event (Lost (reader.intervals - 1) reader.tick)
 
 -- a candidate is told only where a cell has just ended
-abbrev pub MayTell : Reading → Brought → Type 0
+abbrev pub MayTell : ReaderState → Brought → Type 0
 MayTell reader Brought.Nothing = Unit {0}
 MayTell reader Candidate = IsAtCell reader.tracker
 MayTell reader Brought.Break = Unit {0}

@@ -18,7 +18,7 @@ ghost use Rattle.direction_reader.specs.Hissy.{hissy_cells};
 ghost use Rattle.direction_reader.specs.Mirror.{MirrorsTheTape};
 ghost use Rattle.direction_reader.specs.ListEvents.{duration, AreEvents};
 ghost use Rattle.direction_reader.specs.Played.{Played, AreSpelled, bits_of_words, events_of_words};
-ghost use Rattle.direction_reader.specs.Reader.{Reading};
+ghost use Rattle.direction_reader.specs.Reader.{ReaderState};
 ghost use Rattle.direction_reader.specs.StandsFor.{StandsFor};
 ghost use Rattle.direction_reader.specs.Tape.{TellsTheTape, FindsTheTape};
 ghost use Rattle.direction_reader.specs.Tracker.{profile_of};
@@ -106,7 +106,7 @@ pub fn events_of_a_front_come_first()
 
 /// What a reader stands for are the events of its intervals.
 pub fn a_reader_gives_the_events_of_its_list()
-    ensures { (reader : Reading) (intervals : List ℕ) (events : List Event)
+    ensures { (reader : ReaderState) (intervals : List ℕ) (events : List Event)
         → StandsFor reader intervals events
         → AreEvents reader.system (profile_of reader.tracker) intervals events }
 {}
@@ -153,13 +153,13 @@ pub fn events_mirror_the_tape()
 
 /// What a reader stands for tells the tape, finds it again behind damage, and mirrors it.
 pub fn a_reader_tells_the_tape()
-    ensures truth { (reader : Reading) (intervals : List ℕ) (events : List Event)
+    ensures truth { (reader : ReaderState) (intervals : List ℕ) (events : List Event)
         → StandsFor reader intervals events
         → TellsTheTape reader.system (profile_of reader.tracker) intervals events }
-    ensures damage { (reader : Reading) (intervals : List ℕ) (events : List Event)
+    ensures damage { (reader : ReaderState) (intervals : List ℕ) (events : List Event)
         → StandsFor reader intervals events
         → FindsTheTape reader.system (profile_of reader.tracker) intervals events }
-    ensures mirror { (reader : Reading) (intervals : List ℕ) (events mirrored : List Event)
+    ensures mirror { (reader : ReaderState) (intervals : List ℕ) (events mirrored : List Event)
         → StandsFor reader intervals events
         → AreEvents reader.system (profile_of reader.tracker) (reverse intervals) mirrored
         → MirrorsTheTape reader.system (profile_of reader.tracker) intervals events mirrored }

@@ -37,9 +37,9 @@ pub struct DirectionReader {
 
 impl Model for DirectionReader {
     ghost use Rattle.direction_reader.specs.Invariants.{IsReading};
-    ghost use Rattle.direction_reader.specs.Reader.{Reading};
+    ghost use Rattle.direction_reader.specs.Reader.{ReaderState};
 
-    ghost Value = { Reading };
+    ghost Value = { ReaderState };
 
     ghost view = { λ r. record {
       system = r.system;

@@ -32,11 +32,6 @@ not_due-own word k h =
     let grows = mul-le 1 1 (2 * k + 1) word.length (omega arith) h in
     grind (arith, nat_tests, grows)
 
--- a test that holds of no number of a range picks none
-filter-none : (p : ℕ → Bool) (a n : ℕ) → ((k : ℕ) → a ≤ k → p k ≡ false) → filter p (range_with_len a n) ≡ []
-filter-none p a zero never = refl
-filter-none p a (suc n) never = rw (never a (omega arith)) (filter-none p (a + 1) n (λ k h. never k (omega arith)))
-
 -- a test that holds of the first n numbers of a range, and of none past them, picks those
 filter-first : (p : ℕ → Bool) (a n m : ℕ) → n ≤ m → ((k : ℕ) → a ≤ k → k < a + n → p k ≡ true) → ((k : ℕ) → a + n ≤ k → k < a + m → p k ≡ false) →
     filter p (range_with_len a m) ≡ range_with_len a n

@@ -13,7 +13,7 @@ use Rattle.flywheel.specs.declared.frame.Frame.{Frame}
 use Rattle.flywheel.specs.declared.frame.Frame.TheVariants.{Gone}
 use Rattle.flywheel.specs.Frames.{due_steps, frames, frames_after, frames_between, heard_as, invented_after, is_gone, is_joined, is_next, label_after}
 use Rattle.flywheel.specs.Frames.{steps_in, tick_after}
-use Rattle.flywheel.specs.GoOn.{GoOn, Place, next_place}
+use Rattle.flywheel.specs.GoOn.{GoOn, Position, next_position}
 use Rattle.flywheel.proofs.BoundedInvention.{due_steps-range}
 
 -- that steps add up, and when a word is the next, are laws
@@ -23,11 +23,11 @@ AddUp = (a : Address) (j k : ℤ) → step (step a j) k ≡ step a (j +ℤ k)
 abbrev pub Fit : Type 0
 Fit = (before word : HeardWord) (k : ℕ) → (is_next before k word ≡ true) ↔ ((word.direction ≡ before.direction) × (word.label ≡ label_after before k))
 
-abbrev place_with : Address → Direction → Place
+abbrev place_with : Address → Direction → Position
 place_with label direction = record { label = label; direction = direction }
 
 -- where the tape is, n frames after a word
-abbrev place_since : HeardWord → ℕ → Place
+abbrev place_since : HeardWord → ℕ → Position
 place_since word zero = place_with word.label word.direction
 place_since word (suc n) = place_with (label_after word (suc n)) word.direction
 
@@ -35,7 +35,7 @@ steps_in-add : (direction : Direction) (n : ℕ) → steps_in direction n +ℤ s
 steps_in-add Forward n = omega (arith, ints)
 steps_in-add Backward n = omega (arith, ints)
 
-next-since : (sum : AddUp) (word : HeardWord) (n : ℕ) → next_place (place_since word n) ≡ place_since word (suc n)
+next-since : (sum : AddUp) (word : HeardWord) (n : ℕ) → next_position (place_since word n) ≡ place_since word (suc n)
 next-since sum word zero = refl
 next-since sum word (suc n) =
     let label : step (label_after word (suc n)) (steps_in word.direction 1) ≡ label_after word (suc (suc n)) =
@@ -87,7 +87,7 @@ same_place : (a b : Address) (d e : Direction) → a ≡ b → d ≡ e → place
 same_place a b d e p q = cc
 
 heard-after : (sum : AddUp) (fit : Fit) (limit : ℕ) (word next : HeardWord) → is_joined limit word next ≡ true →
-    Some (place_since next 0) ≡ Some (next_place (place_since word (length (due_steps limit word next.tick))))
+    Some (place_since next 0) ≡ Some (next_position (place_since word (length (due_steps limit word next.tick))))
 heard-after sum fit limit word next e =
     let n = length (due_steps limit word next.tick) in
     let one : n + 1 ≡ suc n = omega arith in

@@ -8,19 +8,19 @@ use Rattle.flywheel.specs.declared.frame.Frame.TheVariants.{Heard, Invented, Gon
 use Rattle.flywheel.specs.Frames.{steps_in}
 
 -- a label, and the direction in which the tape moves there
-pub record Place : Type 0 where
+pub record Position : Type 0 where
   pub label : Address
   pub direction : Direction
 
 -- the place of a frame, unless the time code is gone there
-abbrev pub place_of : Frame → Option Place
-place_of (Heard label direction joined tick) = Some (record { label = label; direction = direction })
-place_of (Invented label direction step tick) = Some (record { label = label; direction = direction })
-place_of (Gone tick) = None
+abbrev pub position_of : Frame → Option Position
+position_of (Heard label direction joined tick) = Some (record { label = label; direction = direction })
+position_of (Invented label direction step tick) = Some (record { label = label; direction = direction })
+position_of (Gone tick) = None
 
 -- the place one frame further
-abbrev pub next_place : Place → Place
-next_place place = record { label = step place.label (steps_in place.direction 1); direction = place.direction }
+abbrev pub next_position : Position → Position
+next_position place = record { label = step place.label (steps_in place.direction 1); direction = place.direction }
 
 -- the frame goes on from the one before it: it is invented, or heard and joined
 abbrev pub goes_on : Frame → Bool
@@ -29,10 +29,10 @@ goes_on (Invented label direction step tick) = true
 goes_on (Gone tick) = false
 
 -- where the frame goes on, there is a place before it, and it stands one frame further
-abbrev pub Follows : Option Place → Frame → Type 0
-Follows before frame = goes_on frame ≡ true → (place : Place) × (before ≡ Some place) × (place_of frame ≡ Some (next_place place))
+abbrev pub Follows : Option Position → Frame → Type 0
+Follows before frame = goes_on frame ≡ true → (place : Position) × (before ≡ Some place) × (position_of frame ≡ Some (next_position place))
 
 -- each frame that goes on follows the one before it, where a place or none stands before the first
-abbrev pub GoOn : Option Place → List Frame → Type 0
+abbrev pub GoOn : Option Position → List Frame → Type 0
 GoOn before [] = Unit {0}
-GoOn before (frame ∷ more) = Follows before frame × GoOn (place_of frame) more
+GoOn before (frame ∷ more) = Follows before frame × GoOn (position_of frame) more

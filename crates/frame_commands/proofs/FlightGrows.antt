@@ -11,7 +11,7 @@ use Rattle.direction_reader.specs.declared.event.Event.{Event}
 use Rattle.direction_reader.specs.declared.event.Events.{Events}
 use Rattle.direction_reader.specs.Events.{event_list}
 use Rattle.direction_reader.specs.ListEvents.{AreEvents}
-use Rattle.direction_reader.specs.Reader.{Reading, Takes}
+use Rattle.direction_reader.specs.Reader.{ReaderState, Takes}
 use Rattle.direction_reader.specs.StandsFor as reads
 use Rattle.direction_reader.specs.Tracker.{profile_of}
 use Rattle.flywheel.specs.declared.frame.Frame.{Frame}
@@ -30,11 +30,11 @@ use Rattle.frame_commands.proofs.FramesInOrder.{Given}
 
 -- what a reader stands for are the events of its intervals
 abbrev pub TheEvents : Type 0
-TheEvents = (reader : Reading) (intervals : List ℕ) (events : List Event) → reads.StandsFor reader intervals events
+TheEvents = (reader : ReaderState) (intervals : List ℕ) (events : List Event) → reads.StandsFor reader intervals events
     → AreEvents reader.system (profile_of reader.tracker) intervals events
 
 -- the reader took an interval, and these are its events
-abbrev pub Reads : Reading → Reading → ℕ → Events → Type 0
+abbrev pub Reads : ReaderState → ReaderState → ℕ → Events → Type 0
 Reads before after x own = (intervals : List ℕ) (events : List Event) → reads.StandsFor before intervals events
     → reads.StandsFor after (intervals ++ x ∷ []) (events ++ event_list own)
 
@@ -48,7 +48,7 @@ due_alone_first a tick due gives = λ words earlier given stands before.
     subst (λ (ws : List HeardWord). Comes a.limit ws tick (given ++ due)) (sym (append-nil words)) (gives words earlier given stands before)
 
 -- the events of the intervals with one more
-events_now : (system : System) (profile : Profile) (before next : Reading) (intervals : List ℕ) (events : List Event) (x : ℕ) (own : Events) → before.system ≡ system
+events_now : (system : System) (profile : Profile) (before next : ReaderState) (intervals : List ℕ) (events : List Event) (x : ℕ) (own : Events) → before.system ≡ system
     → profile_of before.tracker ≡ profile → reads.StandsFor before intervals events → Takes before x next → Reads before next x own → TheEvents
     → AreEvents system profile (intervals ++ x ∷ []) (events ++ event_list own)
 events_now system profile before next intervals events x own same keeps stands takes grows law =
@@ -61,7 +61,7 @@ words_now : (events : List Event) (own : Events) → words_heard (events ++ even
 words_now events own = flat_map-append heard_in events (event_list own)
 
 -- the sum did not fall
-later : (before next : Reading) (intervals : List ℕ) (events : List Event) (x : ℕ)
+later : (before next : ReaderState) (intervals : List ℕ) (events : List Event) (x : ℕ)
     → reads.StandsFor before intervals events → Takes before x next → sum intervals ≤ next.tick
 later before next intervals events x stands takes = let now = takes.tick in let sum_is = stands.sum_is in omega arith
 
@@ -104,7 +104,7 @@ flown flight made has f next sink after choice header intervals written x own mo
     )
 
 -- the part that is due with one interval more, of which a front was sent
-pub flown_part : {S C : Type 0} (flight : C → Flight) (made : C → FrameText) (has : Given S C) (f : FrameReader) (next : Reading) (sink : S) (choice : C)
+pub flown_part : {S C : Type 0} (flight : C → Flight) (made : C → FrameText) (has : Given S C) (f : FrameReader) (next : ReaderState) (sink : S) (choice : C)
     (header : IntervalHeader) (intervals written : List ℕ) (x : ℕ) (own : Events) (more : List Frame) (old new : Option (List ℕ))
     → Stands flight made has f sink choice header intervals written → Takes f.reader x next → Reads f.reader next x own → TheEvents
     → GivesDueAllFirst f.wheel next.tick (words_heard (event_list own)) more → SendsFront made has sink old new more

@@ -17,7 +17,7 @@ use Rattle.interval_file.specs.declared.header.IntervalHeader.{IntervalHeader}
 use Rattle.interval_file.specs.declared.header.FileVersion.{FileVersion}
 use Rattle.interval_file.specs.declared.header.FileVersion.TheVariants.{One, Two}
 use Rattle.interval_file.specs.IntervalFile.{after, answer}
-use Rattle.interval_file.specs.Piece.{AreWhole}
+use Rattle.interval_file.specs.Piece.{MayBeWhole}
 use Rattle.interval_file.specs.Progress.{Progress}
 use Rattle.interval_file.specs.Decoding.{Decoding, IsBetween, ReadsWhatIsSaid, decoded, decoding_of, with_byte, with_item}
 use Rattle.interval_file.specs.Decoding.{with_number, with_taken}
@@ -61,29 +61,6 @@ nothing_more stands decoder next behind count choice front bytes written s is =
       counts = s.counts ∙ ap (λ (r : Recording). length r.intervals) (sym same);
       printed = subst (λ (w : List ℕ). Printed stands behind choice (recording_of (front ++ bytes)) w) (sym (append-nil written))
           (subst (λ (r : Recording). Printed stands behind choice r written) (sym same) s.printed);
-    }
-
--- a header, where none was before
-pub a_header : {B C : Type 0} (stands : Relation B C) (decoder next : Progress) (before : Option B) (behind : B) (count : ℕ) (choice : C)
-    (header : IntervalHeader) (front bytes written first : List ℕ) → HasHeader before decoder.taken → decoder.taken + 1 ≡ 12
-    → Stands stands decoder before count choice front written → Completes front bytes (Header header) next
-    → stands behind choice header [] first → Stands stands next (Some behind) count choice (front ++ bytes) (written ++ first)
-a_header stands decoder next (Some b) behind count choice header front bytes written first has twelve s is begun = absurd (omega (arith, has, twelve))
-a_header stands decoder next None behind count choice header front bytes written first has twelve s is begun =
-    let same = completed front bytes (Header header) next is s.good in
-    let p = s.printed in
-    let head : (recording_of (front ++ bytes)).header ≡ Some header = ap (λ (r : Recording). r.header) same ∙ rw p.0 refl in
-    let none : (recording_of (front ++ bytes)).intervals ≡ [] = ap (λ (r : Recording). r.intervals) same ∙ p.1 in
-    record {
-      progress = sym is.0;
-      good = ap (λ (r : Recording). r.verdict) same ∙ s.good;
-      counts = s.counts ∙ ap length p.1 ∙ ap length (sym none);
-      printed = (
-        header,
-        head,
-        subst (λ (xs : List ℕ). stands behind choice header xs (written ++ first)) (sym none)
-            (subst (λ (w : List ℕ). stands behind choice header [] w) (ap (λ (w : List ℕ). w ++ first) (sym p.2)) begun),
-      );
     }
 
 -- the recording with an interval within the limit
@@ -403,7 +380,7 @@ by_bad_number said decoder front bytes width f same is =
     }) (sym same))
 
 -- whole intervals and more of them are whole intervals
-pub more_whole : (version : FileVersion) (one two : ℕ) → AreWhole version one → AreWhole version two → AreWhole version (one + two)
+pub more_whole : (version : FileVersion) (one two : ℕ) → MayBeWhole version one → MayBeWhole version two → MayBeWhole version (one + two)
 more_whole One one two first second = omega (arith, first, second)
 more_whole Two one two first second = omega (arith, first, second)
 

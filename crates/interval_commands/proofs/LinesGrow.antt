@@ -8,7 +8,7 @@ use Rattle.tc_address.specs.declared.system.System.{System}
 use Rattle.direction_reader.specs.declared.event.Event.{Event}
 use Rattle.direction_reader.specs.declared.event.Events.{Events}
 use Rattle.direction_reader.specs.ListEvents.{AreEvents}
-use Rattle.direction_reader.specs.Reader.{Reading, Takes}
+use Rattle.direction_reader.specs.Reader.{ReaderState, Takes}
 use Rattle.direction_reader.specs.StandsFor.{StandsFor}
 use Rattle.direction_reader.specs.Tracker.{profile_of}
 use Rattle.interval_file.specs.declared.header.IntervalHeader.{IntervalHeader}
@@ -32,7 +32,7 @@ lines_of_more header events more written are =
 pub more_printed : (r next : Report) (profile : Profile) (header : IntervalHeader) (intervals written : List ℕ) (x : ℕ) (own : Events)
     (old new : Option (List ℕ)) → Stands r profile header intervals written → next.header ≡ r.header → Takes r.reader x next.reader → Feeds r next x own
     → Prints r next (event_list own) old new
-    → ((reader : Reading) (intervals : List ℕ) (events : List Event) → StandsFor reader intervals events
+    → ((reader : ReaderState) (intervals : List ℕ) (events : List Event) → StandsFor reader intervals events
     → AreEvents reader.system (profile_of reader.tracker) intervals events)
     → Stands next profile header (intervals ++ x ∷ []) (written ++ lines r.header (event_list own))
 more_printed r next profile header intervals written x own old new s same takes feeds prints law =
@@ -57,7 +57,7 @@ more_printed r next profile header intervals written x own old new s same takes 
 -- the part that is due with one interval more
 pub part_of_more : (r next : Report) (profile : Profile) (header : IntervalHeader) (intervals written : List ℕ) (x : ℕ) (own : Events)
     → Stands r profile header intervals written → Takes r.reader x next.reader → Feeds r next x own
-    → ((reader : Reading) (intervals : List ℕ) (events : List Event) → StandsFor reader intervals events
+    → ((reader : ReaderState) (intervals : List ℕ) (events : List Event) → StandsFor reader intervals events
     → AreEvents reader.system (profile_of reader.tracker) intervals events)
     → IsReadPart profile header (intervals ++ x ∷ []) (written ++ lines r.header (event_list own))
 part_of_more r next profile header intervals written x own s takes feeds law =

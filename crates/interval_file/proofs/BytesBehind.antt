@@ -11,7 +11,7 @@ use Rattle.tc_io.specs.Bytes.{AreBytes}
 use Rattle.interval_file.specs.Grammar.{InRange, IsFile}
 use Rattle.interval_file.specs.Next.{next_of, next_with}
 use Rattle.interval_file.specs.NextByte.{BringNext}
-use Rattle.interval_file.specs.Piece.{number_in, piece_width}
+use Rattle.interval_file.specs.Piece.{ticks_in, piece_width}
 use Rattle.interval_file.proofs.FrontOfBytes.{in_range_or_not, is_spelled}
 use Rattle.interval_file.proofs.FrontInterval.{least}
 use Rattle.interval_file.proofs.OneByteMore.{file_more, in_range_is}
@@ -48,7 +48,7 @@ they_bring front bytes header intervals are is =
         (rw (le-leb width (length bytes) whole) (ap (next_with width) (wrong_interval version (length front) bytes wrong)))
         (record { front = front; rest = bytes; are = refl; file = is; fails = (refl, whole, wrong) })
     by_width (inr whole) (inl range) =
-        let x = number_in version bytes in
+        let x = ticks_in version bytes in
         let width = piece_width version bytes in
         let some = least version bytes in
         let low = range.0 in

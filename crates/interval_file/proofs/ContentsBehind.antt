@@ -17,7 +17,7 @@ use Rattle.interval_file.specs.Decoding.{Decoding, fault_at_end, with_byte, with
 use Rattle.tc_io.specs.Bytes.{AreBytes}
 use Rattle.interval_file.specs.Grammar.{Contents, InRange, IsFile, Says, fault_of, faulty}
 use Rattle.interval_file.specs.IntervalFile.{end}
-use Rattle.interval_file.specs.Piece.{interval_in, number_in, piece_width}
+use Rattle.interval_file.specs.Piece.{interval_in, ticks_in, piece_width}
 use Rattle.interval_file.specs.Recording.{Recording, read_of, within_limit}
 use Rattle.interval_file.specs.Verdict.{good}
 use Rattle.interval_file.proofs.FileReadBack.{IsGood, may_end, one_taken}
@@ -67,7 +67,7 @@ one_on : (more : ℕ) (header : IntervalHeader) (intervals : List ℕ) (place x 
     → piece_width header.version (x ∷ l) ≤ length (x ∷ l)
     → InRange header.version (x ∷ l)
     → contents_behind (suc more) header intervals place (x ∷ l)
-    ≡ contents_behind more header (intervals ++ number_in header.version (x ∷ l) ∷ [])
+    ≡ contents_behind more header (intervals ++ ticks_in header.version (x ∷ l) ∷ [])
     (place + piece_width header.version (x ∷ l))
     (drop (piece_width header.version (x ∷ l)) (x ∷ l))
 one_on more header intervals place x l whole range =
@@ -85,11 +85,11 @@ good_on : (d : Decoding) (header : IntervalHeader) (intervals : List ℕ) (place
     → IsGood d header intervals place
     → piece_width header.version bytes ≤ length bytes → InRange header.version bytes
     → IsGood (fold with_byte d (take (piece_width header.version bytes) bytes)) header
-    (intervals ++ number_in header.version bytes ∷ [])
+    (intervals ++ ticks_in header.version bytes ∷ [])
     (place + piece_width header.version bytes)
 good_on d header intervals place bytes is whole range =
     let width = piece_width header.version bytes in
-    let x = number_in header.version bytes in
+    let x = ticks_in header.version bytes in
     let number = whole_number d header.version bytes is.between is.version whole
     ∙ ap (with_number d width) (in_range_is header.version d.progress.taken bytes range) in
     subst (λ (e : Decoding). IsGood e header (intervals ++ x ∷ []) (place + width)) (sym number) (record {
@@ -142,7 +142,7 @@ decoded_behind (suc more) d header intervals place (x ∷ l) is few =
     by_width (inr whole) (inl range) next =
         let left = length-drop width bytes in
         let two = (widths header.version bytes).0 in
-        let longer = intervals ++ number_in header.version bytes ∷ [] in
+        let longer = intervals ++ ticks_in header.version bytes ∷ [] in
         let rest = next (fold with_byte d (take width bytes)) header longer (place + width) (drop width bytes)
         (good_on d header intervals place bytes is whole range) (omega (arith, few, two, left)) in
         let parts = fold-append with_byte d (take width bytes) (drop width bytes) in
@@ -196,7 +196,7 @@ said_behind (suc more) front (x ∷ l) header intervals place here is are few =
         so (faulty header intervals (fault.Interval place)) (wrong_one more header intervals place x l whole wrong)
         (record { front = front; rest = bytes; are = refl; file = is; fails = (sym here, whole, wrong) })
     by_width (inr whole) (inl range) next =
-        let number = number_in header.version bytes in
+        let number = ticks_in header.version bytes in
         let left = length-drop width bytes in
         let two = (widths header.version bytes).0 in
         let some = least header.version bytes in

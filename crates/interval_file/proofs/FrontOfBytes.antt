@@ -24,7 +24,7 @@ use Rattle.tc_io.specs.Bytes.{AreBytes}
 use Rattle.interval_file.specs.Grammar.{Contents, InRange, IsFirstWrong, IsHeaderFault, MayStand}
 use Rattle.interval_file.specs.Grammar.{may_stand, no_header}
 use Rattle.interval_file.specs.IntervalHeader.{IsTickRate, header_bytes, system_at, version_at, version_byte}
-use Rattle.interval_file.specs.Piece.{least_in, number_in, piece_width, spelling}
+use Rattle.interval_file.specs.Piece.{least_in, ticks_in, piece_width, spelling}
 
 -- ---- the first eight bytes
 
@@ -229,7 +229,7 @@ header_read bytes version system head =
 -- ---- the intervals
 
 -- the bytes of an interval in range are those that a recorder writes for it
-spelled_one : (rest : List ℕ) → 4 ≤ length rest → AreBytes rest → take 4 rest ≡ spelling One (number_in One rest)
+spelled_one : (rest : List ℕ) → 4 ≤ length rest → AreBytes rest → take 4 rest ≡ spelling One (ticks_in One rest)
 spelled_one [] long are = absurd (omega (arith, long))
 spelled_one (a ∷ []) long are = absurd (omega (arith, long))
 spelled_one (a ∷ b ∷ []) long are = absurd (omega (arith, long))
@@ -237,7 +237,7 @@ spelled_one (a ∷ b ∷ c ∷ []) long are = absurd (omega (arith, long))
 spelled_one (a ∷ b ∷ c ∷ e ∷ more) long are = sym (four_bytes a b c e are.0 are.1.0 are.1.1.0 are.1.1.1.0)
 
 abbrev pub IsSpelled : FileVersion → List ℕ → Type 0
-IsSpelled version rest = take (piece_width version rest) rest ≡ spelling version (number_in version rest)
+IsSpelled version rest = take (piece_width version rest) rest ≡ spelling version (ticks_in version rest)
 
 spelled_short : (a b : ℕ) (more : List ℕ) → a < 256 → b < 256 → (big_number 2 (a ∷ b ∷ more) == 0) ≡ false → IsSpelled Two (a ∷ b ∷ more)
 spelled_short a b more la lb short =
@@ -256,7 +256,7 @@ spelled_long a b c e f g more are zeros least_long =
     (ap₂ (λ (x y : ℕ). x ∷ y ∷ c ∷ e ∷ f ∷ g ∷ []) first second ∙ ap (λ (l : List ℕ). 0 ∷ 0 ∷ l) (sym four))
 
 spelled_two : (rest : List ℕ) (zero_first : Bool) → (big_number 2 rest == 0) ≡ zero_first → (if zero_first then 6 else 2) ≤ length rest
-    → AreBytes rest → (if zero_first then 65536 else 1) ≤ number_in Two rest → IsSpelled Two rest
+    → AreBytes rest → (if zero_first then 65536 else 1) ≤ ticks_in Two rest → IsSpelled Two rest
 spelled_two [] true e long are range = absurd (omega (arith, long))
 spelled_two (a ∷ []) true e long are range = absurd (omega (arith, long))
 spelled_two (a ∷ b ∷ []) true e long are range = absurd (omega (arith, long))
@@ -275,10 +275,10 @@ is_spelled One rest long are range = spelled_one rest long are
 is_spelled Two rest long are range = spelled_two rest (big_number 2 rest == 0) refl long are range.0
 
 pub in_range_or_not : (version : FileVersion) (rest : List ℕ) → InRange version rest ⊎ (¬ InRange version rest)
-in_range_or_not version rest = by_order (cases_lt (number_in version rest) (least_in version rest)) (cases_lt MAX_INTERVAL (number_in version rest))
+in_range_or_not version rest = by_order (cases_lt (ticks_in version rest) (least_in version rest)) (cases_lt MAX_INTERVAL (ticks_in version rest))
   where
-    by_order : (number_in version rest < least_in version rest) ⊎ (least_in version rest ≤ number_in version rest)
-        → (MAX_INTERVAL < number_in version rest) ⊎ (number_in version rest ≤ MAX_INTERVAL) → InRange version rest ⊎ (¬ InRange version rest)
+    by_order : (ticks_in version rest < least_in version rest) ⊎ (least_in version rest ≤ ticks_in version rest)
+        → (MAX_INTERVAL < ticks_in version rest) ⊎ (ticks_in version rest ≤ MAX_INTERVAL) → InRange version rest ⊎ (¬ InRange version rest)
     by_order (inl low) high = inr (λ range. let least_of_all = range.0 in omega (arith, low, least_of_all))
     by_order (inr low) (inl high) = inr (λ range. let most = range.1 in omega (arith, high, most))
     by_order (inr low) (inr high) = inl (low, high)

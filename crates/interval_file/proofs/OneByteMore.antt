@@ -26,7 +26,7 @@ use Rattle.interval_file.specs.Grammar.{file, intervals_bytes, may_stand, no_hea
 use Rattle.interval_file.specs.IntervalFile.{after, answer, end, fault_in, header_answer, interval_answer, no_progress, progress_of}
 use Rattle.interval_file.specs.IntervalHeader.{header_bytes}
 use Rattle.interval_file.specs.NextByte.{Brings, end_of_text, header_in, intervals_in, piece_fault_in, staying}
-use Rattle.interval_file.specs.Piece.{interval_in, least_in, number_in, piece_width, spelling}
+use Rattle.interval_file.specs.Piece.{interval_in, least_in, ticks_in, piece_width, spelling}
 use Rattle.interval_file.specs.Progress.{Progress}
 use Rattle.interval_file.specs.Decoding.{Decoding, decoding_of, decoded_end, fault_at_end, no_decoding, with_byte}
 use Rattle.interval_file.specs.Decoding.{with_taken}
@@ -204,9 +204,9 @@ exactly Two (a ∷ b ∷ part) byte short whole =
 abbrev IsOf : IntervalHeader → List ℕ → Contents → Type 0
 IsOf header intervals contents = (header_in contents ≡ Some header) × (intervals_in contents ≡ intervals)
 
-pub in_range_is : (version : FileVersion) (place : ℕ) (rest : List ℕ) → InRange version rest → interval_in version place rest ≡ Ok (number_in version rest)
+pub in_range_is : (version : FileVersion) (place : ℕ) (rest : List ℕ) → InRange version rest → interval_in version place rest ≡ Ok (ticks_in version rest)
 in_range_is version place rest range =
-    rw (le-leb (least_in version rest) (number_in version rest) range.0, le-leb (number_in version rest) MAX_INTERVAL range.1) refl
+    rw (le-leb (least_in version rest) (ticks_in version rest) range.0, le-leb (ticks_in version rest) MAX_INTERVAL range.1) refl
 
 -- a file with one interval more
 pub file_more : (front rest : List ℕ) (header : IntervalHeader) (intervals : List ℕ) (x : ℕ) → IsFile front header intervals
@@ -276,7 +276,7 @@ open_brings bytes byte header intervals before now are is of says =
         (whole_answer (Err (fault.Interval place)) whole (wrong_interval version place rest wrong))
         (record { front = is.front; rest = rest; are = all; file = is.whole; fails = (refl, whole, wrong) }) refl
     by_width (inr whole) (inl range) =
-        let x = number_in version rest in
+        let x = ticks_in version rest in
         let some = least version rest in
         let low = range.0 in
         let width = exactly version is.rest byte is.short whole in

@@ -16,7 +16,7 @@ use Rattle.interval_file.specs.declared.header.FileVersion.TheVariants.{One, Two
 use Rattle.interval_file.specs.declared.header.IntervalHeader.{IntervalHeader}
 use Rattle.interval_file.specs.Grammar.{AreIntervals, Contents, InRange, IsFaulty, IsFile, IsRestFault, Says, fault_of, faulty, file, intervals_bytes, no_header}
 use Rattle.interval_file.specs.IntervalHeader.{header_bytes}
-use Rattle.interval_file.specs.Piece.{number_in, piece_width, spelling}
+use Rattle.interval_file.specs.Piece.{ticks_in, piece_width, spelling}
 use Rattle.interval_file.specs.Decoding.{decoded_end, decoded}
 use Rattle.interval_file.specs.Recording.{Recording}
 use Rattle.interval_file.specs.Recording.{read_of}
@@ -37,7 +37,7 @@ reads bytes (faulty header intervals first) says = rest_fault_read bytes header 
 
 -- a whole interval in range stands first, and this is it
 abbrev BeginsWith : FileVersion → List ℕ → ℕ → Type 0
-BeginsWith version bytes x = (piece_width version bytes ≤ length bytes) × InRange version bytes × (number_in version bytes ≡ x)
+BeginsWith version bytes x = (piece_width version bytes ≤ length bytes) × InRange version bytes × (ticks_in version bytes ≡ x)
 
 abbrev IsStuck : FileVersion → List ℕ → Type 0
 IsStuck version bytes = (piece_width version bytes ≤ length bytes) → ¬ InRange version bytes
@@ -95,7 +95,7 @@ same_intervals version (x ∷ xs) (y ∷ ys) a b are also stuck ends e =
     sym (append_assoc (spelling version x) (intervals_bytes version xs) a) ∙ e ∙ append_assoc (spelling version y) (intervals_bytes version ys) b in
     let first = begins_with version x left are.0 are.1 in
     let second = begins_with version y right also.0 also.1 in
-    let same : x ≡ y = sym first.2 ∙ ap (λ (l : List ℕ). number_in version l) both ∙ second.2 in
+    let same : x ≡ y = sym first.2 ∙ ap (λ (l : List ℕ). ticks_in version l) both ∙ second.2 in
     let behind : left ≡ right =
     append_cancel_left (spelling version x) left right (both ∙ ap (λ (n : ℕ). spelling version n ++ right) (sym same)) in
     ap₂ (λ (n : ℕ) (l : List ℕ). n ∷ l) same (same_intervals version xs ys a b are.2 also.2 stuck ends behind)

@@ -18,7 +18,7 @@ use Rattle.interval_file.specs.declared.header.FileVersion.TheVariants.{One, Two
 use Rattle.interval_file.specs.declared.header.IntervalHeader.{IntervalHeader}
 use Rattle.interval_file.specs.Grammar.{InRange, IsFaulty, IsRestFault}
 use Rattle.interval_file.specs.IntervalFile.{end}
-use Rattle.interval_file.specs.Piece.{interval_in, least_in, number_in, piece_width}
+use Rattle.interval_file.specs.Piece.{interval_in, least_in, ticks_in, piece_width}
 use Rattle.interval_file.specs.Decoding.{Decoding, decoding_of, decoded_end, fault_at_end, no_decoding, decoded, with_byte}
 use Rattle.interval_file.specs.Decoding.{with_number}
 use Rattle.interval_file.specs.Recording.{Recording}
@@ -70,11 +70,11 @@ is_over header intervals whole first = by_limit (nat_le whole MAX_INTERVALS)
 pub wrong_interval : (version : FileVersion) (place : ℕ) (rest : List ℕ) → ¬ InRange version rest
     → interval_in version place rest ≡ Err (fault.Interval place)
 wrong_interval version place rest wrong =
-    let low = nat_le (least_in version rest) (number_in version rest) in
-    let high = nat_le (number_in version rest) MAX_INTERVAL in
+    let low = nat_le (least_in version rest) (ticks_in version rest) in
+    let high = nat_le (ticks_in version rest) MAX_INTERVAL in
     let not_both : (low && high) ≡ false = false_from_ne_true (low && high) (λ both.
     let parts = and_parts low high both in
-    wrong (leb-true (least_in version rest) (number_in version rest) parts.0, leb-true (number_in version rest) MAX_INTERVAL parts.1)) in
+    wrong (leb-true (least_in version rest) (ticks_in version rest) parts.0, leb-true (ticks_in version rest) MAX_INTERVAL parts.1)) in
     rw not_both refl
 
 pub interval_fails : (d : Decoding) (header : IntervalHeader) (intervals : List ℕ) (place : ℕ) (rest : List ℕ)

@@ -12,7 +12,7 @@ use Rattle.interval_file.specs.declared.header.FileVersion.{FileVersion}
 use Rattle.interval_file.specs.declared.header.IntervalHeader.{IntervalHeader}
 use Rattle.interval_file.specs.declared.header.TheConstants.{MAGIC, HEADER_LENGTH, HEAD_LENGTH}
 use Rattle.interval_file.specs.IntervalHeader.{IsTickRate, header_bytes, system_at, version_at}
-use Rattle.interval_file.specs.Piece.{least_in, number_in, piece_width, spelling}
+use Rattle.interval_file.specs.Piece.{least_in, ticks_in, piece_width, spelling}
 
 -- ---- a file
 
@@ -81,7 +81,7 @@ IsHeaderFault (Truncated place) bytes = (place ≡ length bytes) × EndsInHeader
 
 -- the number in these bytes may be an interval that is spelled so
 abbrev pub InRange : FileVersion → List ℕ → Type 0
-InRange version bytes = (least_in version bytes ≤ number_in version bytes) × (number_in version bytes ≤ MAX_INTERVAL)
+InRange version bytes = (least_in version bytes ≤ ticks_in version bytes) × (ticks_in version bytes ≤ MAX_INTERVAL)
 
 -- the fault of the bytes behind the header and whole intervals, the first of which stands at a place: their first interval is whole and out of range, or
 -- they end inside it

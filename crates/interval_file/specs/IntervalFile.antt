@@ -12,7 +12,7 @@ use Rattle.interval_file.specs.declared.fault.IntervalFileFault.TheVariants as f
 use Rattle.interval_file.specs.declared.decoder.Taken.{Taken}
 use Rattle.interval_file.specs.declared.decoder.Taken.TheVariants.{Nothing, Header, Interval, Fault}
 use Rattle.interval_file.specs.IntervalHeader.{IsTickRate, system_at, version_at}
-use Rattle.interval_file.specs.Piece.{AreWhole, interval_in, most_width, piece_width}
+use Rattle.interval_file.specs.Piece.{MayBeWhole, interval_in, most_width, piece_width}
 use Rattle.interval_file.specs.Progress.{IsBoundary, Progress}
 
 -- the progress of no bytes
@@ -117,7 +117,7 @@ MayBeInside Two taken = ⊤
 abbrev pub CompletesAt : FileVersion → Taken → ℕ → Type 0
 CompletesAt version Nothing taken = (taken ≢ HEADER_LENGTH) × (HEADER_LENGTH < taken → MayBeInside version taken)
 CompletesAt version (Header header) taken = (taken ≡ HEADER_LENGTH) × IsTickRate header.tick_rate
-CompletesAt version (Interval ticks) taken = (HEADER_LENGTH < taken) × AreWhole version taken × (1 ≤ ticks) × (ticks ≤ MAX_INTERVAL)
+CompletesAt version (Interval ticks) taken = (HEADER_LENGTH < taken) × MayBeWhole version taken × (1 ≤ ticks) × (ticks ≤ MAX_INTERVAL)
 CompletesAt version (Fault first) taken = FoundAt version first taken
 
 -- the progress of bytes, one after another

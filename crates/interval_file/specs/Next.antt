@@ -5,7 +5,7 @@ use Rattle.interval_file.specs.declared.fault.IntervalFileFault.{IntervalFileFau
 use Rattle.interval_file.specs.declared.header.FileVersion.{FileVersion}
 use Rattle.interval_file.specs.declared.piece.Next.{Next}
 use Rattle.interval_file.specs.declared.piece.Next.TheVariants.{Short, Interval, Fault}
-use Rattle.interval_file.specs.Piece.{AreWhole, interval_in, piece_width}
+use Rattle.interval_file.specs.Piece.{MayBeWhole, interval_in, piece_width}
 use Rattle.interval_file.specs.Decoding.{Decoding, IsBetween, with_byte, with_number}
 
 -- an interval of so many bytes, or its fault
@@ -28,5 +28,5 @@ Makes version place bytes width result = (d : Decoding) → IsBetween d.progress
 abbrev pub IsNext : FileVersion → ℕ → List ℕ → Next → Type 0
 IsNext version place bytes Short = length bytes < piece_width version bytes
 IsNext version place bytes (Interval x width) = (1 ≤ x) × (x ≤ MAX_INTERVAL) × (2 ≤ width) × (width ≤ 6) × (width ≤ length bytes)
-    × Makes version place bytes width (Ok x) × AreWhole version width
+    × Makes version place bytes width (Ok x) × MayBeWhole version width
 IsNext version place bytes (Fault first) = (width : ℕ) × (width ≤ length bytes) × Makes version place bytes width (Err first)

@@ -19,14 +19,14 @@ most_width One = 4
 most_width Two = 6
 
 -- so many bytes may be whole intervals: in version 1 a multiple of four, in version 2 an even number
-abbrev pub AreWhole : FileVersion → ℕ → Type 0
-AreWhole One count = count % 4 ≡ 0
-AreWhole Two count = count % 2 ≡ 0
+abbrev pub MayBeWhole : FileVersion → ℕ → Type 0
+MayBeWhole One count = count % 4 ≡ 0
+MayBeWhole Two count = count % 2 ≡ 0
 
 -- the number in them, behind the two bytes that are 0
-abbrev pub number_in : FileVersion → List ℕ → ℕ
-number_in One bytes = big_number 4 bytes
-number_in Two bytes = if big_number 2 bytes == 0 then big_number 4 (drop 2 bytes) else big_number 2 bytes
+abbrev pub ticks_in : FileVersion → List ℕ → ℕ
+ticks_in One bytes = big_number 4 bytes
+ticks_in Two bytes = if big_number 2 bytes == 0 then big_number 4 (drop 2 bytes) else big_number 2 bytes
 
 -- the least number that may stand so: what fits in two bytes is not written in six
 abbrev pub least_in : FileVersion → List ℕ → ℕ
@@ -36,7 +36,7 @@ least_in Two bytes = if big_number 2 bytes == 0 then LEAST_LONG else 1
 -- the interval that begins at a place with these bytes, or its fault
 abbrev pub interval_in : FileVersion → ℕ → List ℕ → Result ℕ IntervalFileFault
 interval_in version place bytes =
-    if nat_le (least_in version bytes) (number_in version bytes) && nat_le (number_in version bytes) MAX_INTERVAL then Ok (number_in version bytes)
+    if nat_le (least_in version bytes) (ticks_in version bytes) && nat_le (ticks_in version bytes) MAX_INTERVAL then Ok (ticks_in version bytes)
     else Err (fault.Interval place)
 
 -- the bytes that a recorder writes for an interval

@@ -4,7 +4,7 @@ use Rattle.tc_address.specs.declared.system.System.{System}
 use Rattle.interval_file.specs.declared.fault.IntervalFileFault.{IntervalFileFault}
 use Rattle.interval_file.specs.declared.header.FileVersion.{FileVersion}
 use Rattle.interval_file.specs.declared.header.TheConstants.{HEAD_LENGTH, HEADER_LENGTH}
-use Rattle.interval_file.specs.Piece.{AreWhole, piece_width}
+use Rattle.interval_file.specs.Piece.{MayBeWhole, piece_width}
 
 -- how far the bytes have come: their number, the version and the system where they were read, the
 -- bytes of a number that is not whole, and the first fault
@@ -18,7 +18,7 @@ pub record Progress : Type 0 where
 -- an interval may begin at a place, and the bytes may end there: at the end of the header, in version 1 at each multiple of four behind it, and in
 -- version 2 at each even number
 abbrev pub IsBoundary : FileVersion → ℕ → Type 0
-IsBoundary version place = (HEADER_LENGTH ≤ place) × AreWhole version place
+IsBoundary version place = (HEADER_LENGTH ≤ place) × MayBeWhole version place
 
 -- the bytes are one interval, which begins where one may and ends with so many bytes
 pub record IsWholeAt (version : FileVersion) (taken : ℕ) (piece : List ℕ) : Type 0 where

@@ -23,7 +23,7 @@ ghost use Rattle.tc_io.specs.Bytes.{AreBytes};
 ghost use Rattle.interval_file.specs.Grammar.{Contents, Says};
 ghost use Rattle.interval_file.specs.IntervalHeader.{system_at, version_at};
 ghost use Rattle.interval_file.specs.NextByte.{Brings, end_of_text};
-ghost use Rattle.interval_file.specs.Piece.{AreWhole, interval_in};
+ghost use Rattle.interval_file.specs.Piece.{MayBeWhole, interval_in};
 ghost use Rattle.interval_file.specs.Progress.{IsBoundary, IsProgress, IsWholeAt};
 ghost use Rattle.interval_file.specs.Decoding.{FitsBytes, IsBetween, interval_count};
 
@@ -160,7 +160,7 @@ impl IntervalDecoder {
     /// Passes over so many bytes of whole intervals, all of them in range.
     pub fn pass_over(&mut self, count: usize)
         requires between { IsBetween self.old }
-        requires whole { AreWhole self.old.version count }
+        requires whole { MayBeWhole self.old.version count }
         requires room { self.old.taken + count < 2 ^ 62 }
         ensures { self.new ≡ record self.old { taken = self.old.taken + count } }
     {

@@ -154,7 +154,7 @@ line_step : (left place : ℕ) (bytes : List ℕ) (v : Front (List ℕ)) → 1 �
 line_step zero place bytes v some is = absurd (omega (arith, some))
 line_step (suc left) place bytes v some is = rw (one_less left, is) refl
 
-pub record LinesSoFar (header : LineHeader) (count place : ℕ) (bytes : List ℕ) (done width : ℕ) (reader : answers.Reading) : Type 0 where
+pub record LinesSoFar (header : LineHeader) (count place : ℕ) (bytes : List ℕ) (done width : ℕ) (reader : answers.FieldState) : Type 0 where
   pub lines : List (List ℕ)
   pub said : answers.StandsFor reader lines
   pub system : reader.system ≡ header.system
@@ -164,7 +164,7 @@ pub record LinesSoFar (header : LineHeader) (count place : ℕ) (bytes : List �
   pub within : width ≤ length bytes
   pub few : width ≤ 1 + 179 * done
 
-pub no_lines : (header : LineHeader) (count place : ℕ) (bytes : List ℕ) (reader : answers.Reading) → 1 ≤ length bytes → answers.StandsFor reader []
+pub no_lines : (header : LineHeader) (count place : ℕ) (bytes : List ℕ) (reader : answers.FieldState) → 1 ≤ length bytes → answers.StandsFor reader []
     → reader.system ≡ header.system → reader.length ≡ header.length → LinesSoFar header count place bytes 0 1 reader
 no_lines header count place bytes reader some said system size = record {
   lines = [];
@@ -181,7 +181,7 @@ width_last : (lines : List (List ℕ)) (runs : List ℕ) → lines_width (lines 
 width_last [] runs = omega arith
 width_last (r ∷ lines) runs = let h = width_last lines runs in omega (arith, h)
 
-pub lines_more : (header : LineHeader) (count place : ℕ) (bytes : List ℕ) (done width : ℕ) (reader next : answers.Reading) (runs : List ℕ)
+pub lines_more : (header : LineHeader) (count place : ℕ) (bytes : List ℕ) (done width : ℕ) (reader next : answers.FieldState) (runs : List ℕ)
     → (s : LinesSoFar header count place bytes done width reader) → done < count → line_at (place + width) (drop width bytes) ≡ whole runs
     → answers.StandsFor next (s.lines ++ runs ∷ []) → next.system ≡ reader.system → next.length ≡ reader.length
     → LinesSoFar header count place bytes (done + 1) (width + (1 + 2 * length runs)) next
@@ -209,13 +209,13 @@ lines_more header count place bytes done width reader next runs s lt line said s
       few = omega (arith, few, most);
     }
 
-pub lines_short : (header : LineHeader) (count place : ℕ) (bytes : List ℕ) (done width : ℕ) (reader : answers.Reading)
+pub lines_short : (header : LineHeader) (count place : ℕ) (bytes : List ℕ) (done width : ℕ) (reader : answers.FieldState)
     → LinesSoFar header count place bytes done width reader → done < count → line_at (place + width) (drop width bytes) ≡ short
     → lines_at count (place + 1) (drop 1 bytes) ≡ short
 lines_short header count place bytes done width reader s lt line =
     s.read ∙ ap (after_first s.lines) (line_step (count - done) (place + width) (drop width bytes) short (omega (arith, lt)) line)
 
-pub lines_bad : (header : LineHeader) (count place : ℕ) (bytes : List ℕ) (done width : ℕ) (reader : answers.Reading) (f : LineFileFault)
+pub lines_bad : (header : LineHeader) (count place : ℕ) (bytes : List ℕ) (done width : ℕ) (reader : answers.FieldState) (f : LineFileFault)
     → LinesSoFar header count place bytes done width reader → done < count → line_at (place + width) (drop width bytes) ≡ bad f
     → lines_at count (place + 1) (drop 1 bytes) ≡ bad f
 lines_bad header count place bytes done width reader f s lt line =
@@ -270,17 +270,17 @@ pub record LastLine (bytes : List ℕ) (width last : ℕ) (lines : List (List �
   pub line : (place : ℕ) → line_at place (drop (width - last) bytes) ≡ whole runs
 
 -- the lines so far, and the line before
-pub record LinesWithLast (header : LineHeader) (count place : ℕ) (bytes : List ℕ) (done width last : ℕ) (reader : answers.Reading) : Type 0 where
+pub record LinesWithLast (header : LineHeader) (count place : ℕ) (bytes : List ℕ) (done width last : ℕ) (reader : answers.FieldState) : Type 0 where
   pub far : LinesSoFar header count place bytes done width reader
   pub within : last ≤ width
   pub before : 1 ≤ last → LastLine bytes width last far.lines
 
-pub no_last : (header : LineHeader) (count place : ℕ) (bytes : List ℕ) (reader : answers.Reading) → LinesSoFar header count place bytes 0 1 reader
+pub no_last : (header : LineHeader) (count place : ℕ) (bytes : List ℕ) (reader : answers.FieldState) → LinesSoFar header count place bytes 0 1 reader
     → LinesWithLast header count place bytes 0 1 0 reader
 no_last header count place bytes reader s = record { far = s; within = omega arith; before = λ some. absurd (omega (arith, some)) }
 
 -- one line more, which was read
-pub last_more : (header : LineHeader) (count place : ℕ) (bytes : List ℕ) (done width : ℕ) (reader next : answers.Reading) (runs : List ℕ)
+pub last_more : (header : LineHeader) (count place : ℕ) (bytes : List ℕ) (done width : ℕ) (reader next : answers.FieldState) (runs : List ℕ)
     → (s : LinesSoFar header count place bytes done width reader) → done < count → line_at (place + width) (drop width bytes) ≡ whole runs
     → answers.StandsFor next (s.lines ++ runs ∷ []) → next.system ≡ reader.system → next.length ≡ reader.length
     → LinesWithLast header count place bytes (done + 1) (width + (1 + 2 * length runs)) (1 + 2 * length runs) next
@@ -300,7 +300,7 @@ last_more header count place bytes done width reader next runs s lt line said sy
     }
 
 -- one line more, which is the line before again
-pub last_again : (header : LineHeader) (count place : ℕ) (bytes : List ℕ) (done width last : ℕ) (reader : answers.Reading)
+pub last_again : (header : LineHeader) (count place : ℕ) (bytes : List ℕ) (done width last : ℕ) (reader : answers.FieldState)
     → LinesWithLast header count place bytes done width last reader → done < count → 1 ≤ last
     → drop width bytes ≡ take last (drop (width - last) bytes) ++ drop last (drop width bytes)
     → ((lines : List (List ℕ)) (line : List ℕ) → answers.StandsFor reader (lines ++ line ∷ []) → answers.StandsFor reader ((lines ++ line ∷ []) ++ line ∷ []))

@@ -17,16 +17,6 @@ use Rattle.made_commands.proofs.MadeInPieces.{NoStep, StepsAddUp}
 
 -- ---- runs
 
--- a run was written
-pub run_written : (old before : List ℕ) (runs : List ℕ) (index run : ℕ) → index < length runs → get_or runs index 0 ≡ run
-    → old ++ flat_map (big_bytes 2) (drop index runs) ≡ before ++ flat_map (big_bytes 2) runs
-    → (old ++ big_bytes 2 run) ++ flat_map (big_bytes 2) (drop (index + 1) runs) ≡ before ++ flat_map (big_bytes 2) runs
-run_written old before runs index run lt is so_far =
-    let next : suc index ≡ index + 1 = omega arith in
-    let left : drop index runs ≡ run ∷ drop (index + 1) runs = drop-cons runs index 0 lt ∙ ap₂ (λ (x n : ℕ). x ∷ drop n runs) is next in
-    append_assoc old (big_bytes 2 run) (flat_map (big_bytes 2) (drop (index + 1) runs))
-    ∙ ap (λ (l : List ℕ). old ++ flat_map (big_bytes 2) l) (sym left) ∙ so_far
-
 -- ---- frames
 
 flat_map_later : {A : Type 0} (f g : ℕ → List A) → ((k : ℕ) → f (suc k) ≡ g k) → (start count : ℕ)

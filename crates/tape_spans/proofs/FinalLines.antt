@@ -11,8 +11,8 @@ use Rattle.tc_address.specs.Label.{Address}
 use Rattle.flywheel.specs.declared.frame.Frame.{Frame}
 use Rattle.flywheel.specs.declared.frame.Frame.TheVariants.{Heard, Invented, Gone}
 use Rattle.tape_spans.specs.declared.place.Cut.{Cut}
-use Rattle.tape_spans.specs.declared.place.Place.{Place}
-use Rattle.tape_spans.specs.declared.place.Place.TheVariants.{Before, Within, Behind}
+use Rattle.tape_spans.specs.declared.place.TapePlace.{TapePlace}
+use Rattle.tape_spans.specs.declared.place.TapePlace.TheVariants.{Before, Within, Behind}
 use Rattle.tape_spans.specs.declared.span.Mark.{Mark}
 use Rattle.tape_spans.specs.declared.span.Span.{Span}
 use Rattle.tape_spans.specs.Spans.{SpanFrames, frames_of_spans, mark_at, span_of, spans}
@@ -65,10 +65,6 @@ final-split rate system frames done running split =
     ap (λ (l : List Frame). final_behind rate system None (frames_of_spans l)) (sym (append-nil frames))
     ∙ ap (final_behind rate system None) split ∙ final-append rate system None done (to_come running [])
     ∙ ap (λ (l : List ℕ). final_behind rate system None done ++ l) (final-to_come rate system (latest_end None done) running)
-
-pub final_are : (rate : ℕ) (system : System) (tape : Tape) (frames : List Frame) (stands : StandsFor tape frames)
-    → final_lines rate system frames ≡ final_behind rate system None stands.done ++ opening (latest_end None stands.done) stands.running
-final_are rate system tape frames stands = final-split rate system frames stands.done stands.running (stands.split [])
 
 -- ---- what a frame adds
 
@@ -173,13 +169,13 @@ frame_adds rate system tape frames (Heard label direction true tick) stands =
 frame_adds rate system tape frames (Heard label direction false tick) stands =
     let mark = mark_at label direction tick in
     let frame = Heard label direction false tick in
-    subst (λ (p : Place). final_lines rate system (frames ++ frame ∷ [])
+    subst (λ (p : TapePlace). final_lines rate system (frames ++ frame ∷ [])
     ≡ final_lines rate system frames ++ (ended_lines rate system (ended_at p) ++ gap_lines (gap_at p mark))) (sym stands.place)
     (told-begins rate system frames label direction tick stands.done stands.running (latest_end None stands.done) refl stands.split)
 frame_adds rate system tape frames (Invented label direction step tick) stands =
     told-goes_on rate system frames (Invented label direction step tick) stands.done stands.running refl (invented-same label direction step tick) stands.split
 frame_adds rate system tape frames (Gone tick) stands =
-    subst (λ (p : Place). final_lines rate system (frames ++ Gone tick ∷ [])
+    subst (λ (p : TapePlace). final_lines rate system (frames ++ Gone tick ∷ [])
     ≡ final_lines rate system frames ++ (ended_lines rate system (ended_at p) ++ [])) (sym stands.place)
     (told-gone rate system frames tick stands.done stands.running (latest_end None stands.done) refl stands.split)
 
@@ -213,7 +209,7 @@ open_line_is rate system tape frames stands =
     ap (flat_map (line_if_open rate system)) (split-nil tape frames stands)
     ∙ open-append rate system stands.done (to_come stands.running []) stands.ended
     ∙ open-to_come rate system stands.running (latest_end None stands.done)
-    ∙ ap (λ (p : Place). ended_lines rate system (ended_at p)) (sym stands.place)
+    ∙ ap (λ (p : TapePlace). ended_lines rate system (ended_at p)) (sym stands.place)
 
 -- with the line of the open span, the lines are those of all spans
 all-behind : (rate : ℕ) (system : System) (before : Option Mark) (done more : List SpanFrames) → AreEnded done
@@ -293,7 +289,7 @@ sum-of_spans f (s ∷ more) =
     sum_by-cons f (span_of s) (map span_of more) ∙ ap (λ (n : ℕ). f (span_of s) + n) (sum-of_spans f more) ∙ sym (sum_by-cons (λ (x : SpanFrames). f (span_of x)) s more)
 
 -- what is counted of the spans that have ended, with that of the open one
-abbrev of_place : (Span → ℕ) → Place → ℕ
+abbrev of_place : (Span → ℕ) → TapePlace → ℕ
 of_place f Before = 0
 of_place f (Within current) = f current.span
 of_place f (Behind mark) = 0
@@ -329,7 +325,7 @@ count-spans tape frames stands =
     ∙ ap₂ (λ (a b : ℕ). a + b) (sym stands.spans) (count-to_come stands.running (latest_end None stands.done) ∙ ap (of_place (λ _. 1)) (sym stands.place))
 
 -- the tape with its open span counted
-place-counted : (tape : Tape) (place : Place) → ((counted_at tape place).spans ≡ tape.spans + of_place (λ _. 1) place)
+place-counted : (tape : Tape) (place : TapePlace) → ((counted_at tape place).spans ≡ tape.spans + of_place (λ _. 1) place)
     × ((counted_at tape place).heard ≡ tape.heard + of_place (λ span. span.heard) place)
     × ((counted_at tape place).bridged ≡ tape.bridged + of_place (λ span. span.bridged) place)
 place-counted tape Before = (omega arith, omega arith, omega arith)

@@ -9,21 +9,21 @@ use Rattle.tc_address.specs.declared.direction.Direction.{Direction}
 use Rattle.tc_address.specs.Label.{Address}
 use Rattle.flywheel.specs.declared.frame.Frame.{Frame}
 use Rattle.flywheel.specs.declared.frame.Frame.TheVariants.{Heard, Invented, Gone}
-use Rattle.flywheel.specs.GoOn.{Follows, GoOn, Place, goes_on, next_place, place_of}
+use Rattle.flywheel.specs.GoOn.{Follows, GoOn, Position, goes_on, next_position, position_of}
 use Rattle.tape_spans.specs.declared.span.Span.{Span}
 use Rattle.tape_spans.specs.Shared.{HoldsTogether, first_frame, frames_in, present}
 use Rattle.tape_spans.proofs.SpansGoOn.{gone-same, heard_on-same, invented-same}
 use Rattle.tape_spans.specs.Spans.{SpanFrames, frames_of_spans, is_gone, is_heard, mark_at, span_at, span_of, spans}
 
 -- what the open span takes, where there is a place before the frames
-abbrev taken : Option Place → List Frame → List Frame
+abbrev taken : Option Position → List Frame → List Frame
 taken None frames = []
 taken (Some place) frames = take_while goes_on frames
 
 taken-on : (frame : Frame) (more : List Frame) → goes_on frame ≡ true → take_while goes_on (frame ∷ more) ≡ frame ∷ take_while goes_on more
 taken-on frame more on = take_while-cons goes_on frame more ∙ ap (λ (b : Bool). cond b (frame ∷ take_while goes_on more) []) on
 
-taken-off : (before : Option Place) (frame : Frame) (more : List Frame) → goes_on frame ≡ false → taken before (frame ∷ more) ≡ []
+taken-off : (before : Option Position) (frame : Frame) (more : List Frame) → goes_on frame ≡ false → taken before (frame ∷ more) ≡ []
 taken-off None frame more off = refl
 taken-off (Some place) frame more off = take_while-cons goes_on frame more ∙ ap (λ (b : Bool). cond b (frame ∷ take_while goes_on more) []) off
 
@@ -39,7 +39,7 @@ shared-on frame more on same later =
     ∙ ap (λ (l : List SpanFrames). take_while goes_on (frame ∷ more) ++ flat_map frames_in l) (sym same)
 
 -- one that begins a span
-shared-begun : (before : Option Place) (label : Address) (direction : Direction) (tick : ℕ) (more : List Frame)
+shared-begun : (before : Option Position) (label : Address) (direction : Direction) (tick : ℕ) (more : List Frame)
     → present more ≡ take_while goes_on more ++ frames_shared more
     → Heard label direction false tick ∷ present more
     ≡ taken before (Heard label direction false tick ∷ more) ++ frames_shared (Heard label direction false tick ∷ more)
@@ -50,7 +50,7 @@ shared-begun before label direction tick more later =
     ap (λ (l : List Frame). frame ∷ l) later ∙ sym (flat_map-cons frames_in s (frames_of_spans more))
     ∙ ap (λ (l : List Frame). l ++ frames_shared (frame ∷ more)) (sym (taken-off before frame more refl))
 
-pub shared : (frames : List Frame) (before : Option Place) → GoOn before frames → present frames ≡ taken before frames ++ frames_shared frames
+pub shared : (frames : List Frame) (before : Option Position) → GoOn before frames → present frames ≡ taken before frames ++ frames_shared frames
 unfolding frames_of_spans
 shared [] None on = refl
 shared [] (Some place) on = refl
@@ -71,11 +71,11 @@ when : (b : Bool) (P : List Frame → Type 0) (xs : List Frame) → (b ≡ true 
 when true P xs some none = some refl
 when false P xs some none = none
 
-goes_on-taken : (before : Option Place) (frames : List Frame) → GoOn before frames → GoOn before (take_while goes_on frames)
+goes_on-taken : (before : Option Position) (frames : List Frame) → GoOn before frames → GoOn before (take_while goes_on frames)
 goes_on-taken before [] on = tt
 goes_on-taken before (frame ∷ more) on =
     subst (GoOn before) (sym (take_while-cons goes_on frame more))
-    (when (goes_on frame) (GoOn before) (frame ∷ take_while goes_on more) (λ _. (on.0, goes_on-taken (place_of frame) more on.1)) tt)
+    (when (goes_on frame) (GoOn before) (frame ∷ take_while goes_on more) (λ _. (on.0, goes_on-taken (position_of frame) more on.1)) tt)
 
 all-taken : (frames : List Frame) → All (λ frame. goes_on frame ≡ true) (take_while goes_on frames)
 all-taken [] = All-nil (λ frame. goes_on frame ≡ true)
@@ -88,7 +88,7 @@ holds : (label : Address) (direction : Direction) (tick : ℕ) (more : List Fram
     → HoldsTogether (span_at (mark_at label direction tick) more)
 holds label direction tick more on = record { all = all-taken more; next = goes_on-taken _ more on }
 
-pub hold_together : (frames : List Frame) (before : Option Place) → GoOn before frames → All HoldsTogether (frames_of_spans frames)
+pub hold_together : (frames : List Frame) (before : Option Position) → GoOn before frames → All HoldsTogether (frames_of_spans frames)
 unfolding frames_of_spans
 hold_together [] before on = All-nil HoldsTogether
 hold_together (Heard label direction true tick ∷ more) before on = hold_together more _ on.1

@@ -10,8 +10,8 @@ use Rattle.flywheel.specs.declared.frame.Frame.{Frame}
 use Rattle.flywheel.specs.declared.frame.Frame.TheVariants.{Heard, Invented, Gone}
 use Rattle.flywheel.specs.GoOn.{goes_on}
 use Rattle.tape_spans.specs.declared.place.OpenSpan.{OpenSpan}
-use Rattle.tape_spans.specs.declared.place.Place.{Place}
-use Rattle.tape_spans.specs.declared.place.Place.TheVariants.{Before, Within, Behind}
+use Rattle.tape_spans.specs.declared.place.TapePlace.{TapePlace}
+use Rattle.tape_spans.specs.declared.place.TapePlace.TheVariants.{Before, Within, Behind}
 use Rattle.tape_spans.specs.declared.span.Mark.{Mark}
 use Rattle.tape_spans.specs.declared.span.Span.{Span}
 use Rattle.tape_spans.specs.Spans.{SpanFrames, bridged_in, frames_of_spans, is_heard, is_invented, latest_of, mark_at, span_of}
@@ -122,7 +122,7 @@ are_ended-push [] s all one = (one, tt)
 are_ended-push (first ∷ done) s all one = (all.0, are_ended-push done s all.1 one)
 
 -- one more is done
-counted-push : (tape : Tape) (done : List SpanFrames) (running : Running) (place : Place) → Counted tape done
+counted-push : (tape : Tape) (done : List SpanFrames) (running : Running) (place : TapePlace) → Counted tape done
     → Counted (ended_by tape (span_of (so_far running)) place) (done ++ ended_one running ∷ [])
 counted-push tape done running place all =
     let one = ended_one running in record {
@@ -296,16 +296,16 @@ counts_of tape frames stands = record { ended = stands.ended; spans = stands.spa
 pub stands_on : (tape : Tape) (frames : List Frame) (frame : Frame) → StandsFor tape frames → StandsFor (after_frame tape frame) (frames ++ frame ∷ [])
 stands_on tape frames (Heard label direction true tick) stands =
     let mark = mark_at label direction tick in
-    subst (λ (p : Place). StandsFor (joined_at tape p mark) (frames ++ Heard label direction true tick ∷ [])) (sym stands.place)
+    subst (λ (p : TapePlace). StandsFor (joined_at tape p mark) (frames ++ Heard label direction true tick ∷ [])) (sym stands.place)
     (joins tape frames stands.done stands.running (latest_end None stands.done) label direction tick stands.split (counts_of tape frames stands) refl stands.place)
 stands_on tape frames (Heard label direction false tick) stands =
     let mark = mark_at label direction tick in
-    subst (λ (p : Place). StandsFor (begun_in tape p mark) (frames ++ Heard label direction false tick ∷ [])) (sym stands.place)
+    subst (λ (p : TapePlace). StandsFor (begun_in tape p mark) (frames ++ Heard label direction false tick ∷ [])) (sym stands.place)
     (begins tape frames stands.done stands.running (latest_end None stands.done) label direction tick stands.split (counts_of tape frames stands) refl stands.place)
 stands_on tape frames (Invented label direction step tick) stands =
-    subst (λ (p : Place). StandsFor (invented_at tape p) (frames ++ Invented label direction step tick ∷ [])) (sym stands.place)
+    subst (λ (p : TapePlace). StandsFor (invented_at tape p) (frames ++ Invented label direction step tick ∷ [])) (sym stands.place)
     (invents tape frames stands.done stands.running (latest_end None stands.done) label direction step tick stands.split (counts_of tape frames stands) refl
     stands.place)
 stands_on tape frames (Gone tick) stands =
-    subst (λ (p : Place). StandsFor (counted_at tape p) (frames ++ Gone tick ∷ [])) (sym stands.place)
+    subst (λ (p : TapePlace). StandsFor (counted_at tape p) (frames ++ Gone tick ∷ [])) (sym stands.place)
     (ends tape frames stands.done stands.running (latest_end None stands.done) tick stands.split (counts_of tape frames stands) refl stands.place)

@@ -7,8 +7,8 @@ use Rattle.flywheel.specs.GoOn.{goes_on}
 use Rattle.tape_spans.specs.declared.gap.Gap.{Gap}
 use Rattle.tape_spans.specs.declared.place.Cut.{Cut}
 use Rattle.tape_spans.specs.declared.place.OpenSpan.{OpenSpan}
-use Rattle.tape_spans.specs.declared.place.Place.{Place}
-use Rattle.tape_spans.specs.declared.place.Place.TheVariants.{Before, Within, Behind}
+use Rattle.tape_spans.specs.declared.place.TapePlace.{TapePlace}
+use Rattle.tape_spans.specs.declared.place.TapePlace.TheVariants.{Before, Within, Behind}
 use Rattle.tape_spans.specs.declared.span.Mark.{Mark}
 use Rattle.tape_spans.specs.declared.span.Span.{Span}
 use Rattle.tape_spans.specs.Spans.{SpanFrames, frames_of_spans, is_invented, span_of}
@@ -48,7 +48,7 @@ abbrev pub latest_end : Option Mark → List SpanFrames → Option Mark
 latest_end before done = fold (λ mark s. Some (span_of s).last) before done
 
 -- where the tape is: within the open span, or behind a mark or none
-abbrev pub place_of_tape : Option Running → Option Mark → Place
+abbrev pub place_of_tape : Option Running → Option Mark → TapePlace
 place_of_tape (Some running) before =
     Within (record { span = span_of (so_far running); invented = count_by is_invented running.more })
 place_of_tape None None = Before

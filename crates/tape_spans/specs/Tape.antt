@@ -4,8 +4,8 @@ use Rattle.flywheel.specs.declared.frame.Frame.{Frame}
 use Rattle.flywheel.specs.declared.frame.Frame.TheVariants.{Heard, Invented, Gone}
 use Rattle.tape_spans.specs.declared.gap.Gap.{Gap}
 use Rattle.tape_spans.specs.declared.place.OpenSpan.{OpenSpan}
-use Rattle.tape_spans.specs.declared.place.Place.{Place}
-use Rattle.tape_spans.specs.declared.place.Place.TheVariants.{Before, Within, Behind}
+use Rattle.tape_spans.specs.declared.place.TapePlace.{TapePlace}
+use Rattle.tape_spans.specs.declared.place.TapePlace.TheVariants.{Before, Within, Behind}
 use Rattle.tape_spans.specs.declared.place.Cut.{Cut}
 use Rattle.tape_spans.specs.declared.span.Mark.{Mark}
 use Rattle.tape_spans.specs.declared.span.Span.{Span}
@@ -14,7 +14,7 @@ use Rattle.tape_spans.specs.Spans.{mark_at}
 
 -- where the tape is, and of the spans that have ended: how many, and how many frames were heard and bridged in them
 pub record Tape : Type 0 where
-  pub place : Place
+  pub place : TapePlace
   pub spans : ℕ
   pub heard : ℕ
   pub bridged : ℕ
@@ -37,16 +37,16 @@ abbrev pub with_invented : OpenSpan → OpenSpan
 with_invented current = record { span = current.span; invented = current.invented + 1 }
 
 -- the tape with a place
-abbrev pub placed : Tape → Place → Tape
+abbrev pub placed : Tape → TapePlace → Tape
 placed tape place = record { place = place; spans = tape.spans; heard = tape.heard; bridged = tape.bridged }
 
 -- the span has ended, and the tape is at this place
-abbrev pub ended_by : Tape → Span → Place → Tape
+abbrev pub ended_by : Tape → Span → TapePlace → Tape
 ended_by tape span place =
     record { place = place; spans = tape.spans + 1; heard = tape.heard + span.heard; bridged = tape.bridged + span.bridged }
 
 -- the tape with the span that is current, counted as it is
-abbrev pub counted_at : Tape → Place → Tape
+abbrev pub counted_at : Tape → TapePlace → Tape
 counted_at tape Before = tape
 counted_at tape (Within current) = ended_by tape current.span (Behind current.span.last)
 counted_at tape (Behind mark) = tape
@@ -55,19 +55,19 @@ abbrev pub counted : Tape → Tape
 counted tape = counted_at tape tape.place
 
 -- what a frame makes of a tape at a place. One that was heard and joins
-abbrev pub joined_at : Tape → Place → Mark → Tape
+abbrev pub joined_at : Tape → TapePlace → Mark → Tape
 joined_at tape Before mark = tape
 joined_at tape (Within current) mark = placed tape (Within (joined_by current mark))
 joined_at tape (Behind last) mark = tape
 
 -- one that was heard and does not join
-abbrev pub begun_in : Tape → Place → Mark → Tape
+abbrev pub begun_in : Tape → TapePlace → Mark → Tape
 begun_in tape Before mark = placed tape (Within (begun_at mark))
 begun_in tape (Within current) mark = ended_by tape current.span (Within (begun_at mark))
 begun_in tape (Behind last) mark = placed tape (Within (begun_at mark))
 
 -- one that was invented
-abbrev pub invented_at : Tape → Place → Tape
+abbrev pub invented_at : Tape → TapePlace → Tape
 invented_at tape Before = tape
 invented_at tape (Within current) = placed tape (Within (with_invented current))
 invented_at tape (Behind last) = tape
@@ -85,13 +85,13 @@ abbrev pub no_cut : Cut
 no_cut = record { ended = None; gap = None }
 
 -- the span that ends at a place
-abbrev pub ended_at : Place → Option Span
+abbrev pub ended_at : TapePlace → Option Span
 ended_at Before = None
 ended_at (Within current) = Some current.span
 ended_at (Behind mark) = None
 
 -- the gap up to a mark
-abbrev pub gap_at : Place → Mark → Option Gap
+abbrev pub gap_at : TapePlace → Mark → Option Gap
 gap_at Before mark = None
 gap_at (Within current) mark = Some (gap_between current.span.last mark)
 gap_at (Behind last) mark = Some (gap_between last mark)
@@ -106,7 +106,7 @@ cut_by tape (Gone tick) = record { ended = ended_at tape.place; gap = None }
 
 -- ---- that the numbers have room
 
-abbrev pub frames_at : Place → ℕ
+abbrev pub frames_at : TapePlace → ℕ
 frames_at Before = 0
 frames_at (Within current) = current.span.heard + current.invented
 frames_at (Behind mark) = 0
@@ -132,14 +132,14 @@ pub record IsOpen (current : OpenSpan) : Type 0 where
   pub some : 1 ≤ current.span.heard
   pub bridged : current.span.bridged ≤ current.invented
 
-abbrev pub IsPlace : Place → Type 0
-IsPlace Before = Unit {0}
-IsPlace (Within current) = IsOpen current
-IsPlace (Behind mark) = mark.tick < 2 ^ 60
+abbrev pub IsTapePlace : TapePlace → Type 0
+IsTapePlace Before = Unit {0}
+IsTapePlace (Within current) = IsOpen current
+IsTapePlace (Behind mark) = mark.tick < 2 ^ 60
 
 -- what is kept fits together: each span has a frame that was heard
-pub record IsTape (place : Place) (spans heard : ℕ) : Type 0 where
-  pub at : IsPlace place
+pub record IsTape (place : TapePlace) (spans heard : ℕ) : Type 0 where
+  pub at : IsTapePlace place
   pub some : spans ≤ heard
 
 -- the tick of a frame

@@ -30,7 +30,7 @@ mod tape;
 mod texts;
 
 pub use gap::{Gap, Relation, gap_between};
-pub use place::{Cut, OpenSpan, Place};
+pub use place::{Cut, OpenSpan, TapePlace};
 pub use span::{Mark, Span};
 pub use tape::TapeSpans;
 pub use texts::{SpanText, gap_text, span_text, spans_end_text};

@@ -1,6 +1,6 @@
 //! Where a tape is: before its first span, within one, or behind one. Next: `tape`.
 ghost use Rattle.std.specs.Prelude.{◌≡◌, ◌+◌, ◌<◌, ◌≤◌, ◌^◌};
-ghost use Rattle.tape_spans.specs.Tape.{begun_at, ended_at, gap_at, joined_by, with_invented, IsOpen, IsPlace};
+ghost use Rattle.tape_spans.specs.Tape.{begun_at, ended_at, gap_at, joined_by, with_invented, IsOpen, IsTapePlace};
 
 use crate::gap::{Gap, gap_between};
 use crate::span::{Mark, Span};
@@ -16,7 +16,7 @@ pub struct OpenSpan {
 
 /// Where the frames of a tape are.
 #[derive(Clone, Copy, Debug, PartialEq, Eq)]
-pub enum Place {
+pub enum TapePlace {
     /// No span has begun.
     Before,
     /// A span is open.
@@ -77,15 +77,15 @@ impl OpenSpan {
     }
 }
 
-impl Place {
+impl TapePlace {
     /// The span that is open.
     pub(crate) fn ended(&self) -> Option<Span>
         ensures { result ≡ ended_at self.now }
     {
         match self {
-            Place::Before => None,
-            Place::Within(current) => Some(current.span),
-            Place::Behind(_) => None,
+            TapePlace::Before => None,
+            TapePlace::Within(current) => Some(current.span),
+            TapePlace::Behind(_) => None,
         }
     }
 
@@ -94,9 +94,9 @@ impl Place {
         ensures { result ≡ gap_at self.now next.now }
     {
         match self {
-            Place::Before => None,
-            Place::Within(current) => Some(gap_between(&current.span.last, next)),
-            Place::Behind(last) => Some(gap_between(last, next)),
+            TapePlace::Before => None,
+            TapePlace::Within(current) => Some(gap_between(&current.span.last, next)),
+            TapePlace::Behind(last) => Some(gap_between(last, next)),
         }
     }
 }

@@ -21,7 +21,7 @@ ghost use Rattle.tape_spans.specs.Tape.{
   FitsTick,
 };
 
-use crate::place::{Cut, OpenSpan, Place};
+use crate::place::{Cut, OpenSpan, TapePlace};
 use crate::span::{Mark, Span};
 use crate::texts::spans_end_text;
 use flywheel::Frame;
@@ -46,7 +46,7 @@ const NO_CUT: Cut = Cut {
 /// of the span that is open.
 #[derive(Debug, Drop)]
 pub struct TapeSpans {
-    place: Place,
+    place: TapePlace,
     spans: u64,
     heard: u64,
     bridged: u64,
@@ -69,7 +69,7 @@ impl TapeSpans {
         ensures stands { StandsFor result [] }
     {
         TapeSpans {
-            place: Place::Before,
+            place: TapePlace::Before,
             spans: 0,
             heard: 0,
             bridged: 0,
@@ -139,8 +139,8 @@ impl TapeSpans {
         requires room { frames_taken self.old < 2 ^ 40 - 1 }
         ensures { self.new ≡ joined_at self.old self.old.place mark }
     {
-        if let Place::Within(current) = self.place {
-            self.place = Place::Within(current.join(mark));
+        if let TapePlace::Within(current) = self.place {
+            self.place = TapePlace::Within(current.join(mark));
         }
     }
 
@@ -149,8 +149,8 @@ impl TapeSpans {
         requires room { frames_taken self.old < 2 ^ 40 - 1 }
         ensures { self.new ≡ invented_at self.old self.old.place }
     {
-        if let Place::Within(current) = self.place {
-            self.place = Place::Within(current.invent());
+        if let TapePlace::Within(current) = self.place {
+            self.place = TapePlace::Within(current.invent());
         }
     }
 
@@ -162,14 +162,14 @@ impl TapeSpans {
         ensures taken { frames_taken self.new ≤ frames_taken self.old }
         ensures fits { IfSome result FitsSpan }
     {
-        let Place::Within(current) = self.place else {
+        let TapePlace::Within(current) = self.place else {
             return None;
         };
         let span = current.span;
         self.spans += 1;
         self.heard += span.heard;
         self.bridged += span.bridged;
-        self.place = Place::Behind(span.last);
+        self.place = TapePlace::Behind(span.last);
         Some(span)
     }
 
@@ -185,7 +185,7 @@ impl TapeSpans {
     {
         let gap = self.place.gap_to(&mark);
         let ended = self.end();
-        self.place = Place::Within(OpenSpan::begin(mark));
+        self.place = TapePlace::Within(OpenSpan::begin(mark));
         Cut { ended, gap }
     }
 
@@ -208,7 +208,7 @@ impl TapeSpans {
         ensures bridged { result.bridged ≡ (counted self.now).bridged }
         ensures most { (result.spans < 2 ^ 40) × (result.heard < 2 ^ 40) × (result.bridged < 2 ^ 40) }
     {
-        let Place::Within(current) = self.place else {
+        let TapePlace::Within(current) = self.place else {
             return Counts {
                 spans: self.spans,
                 heard: self.heard,

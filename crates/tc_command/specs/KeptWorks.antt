@@ -53,11 +53,6 @@ works_on start mid after old between new bytes more first second = λ front outp
           (subst (λ (b : List ℕ). after b ((output ++ f.0) ++ s.0)) joined s.2),
     )
 
--- nothing was worked on yet
-pub works_nothing : (start : List ℕ → List ℕ → Type 0) (out : Option (List ℕ)) → Works start start out out []
-works_nothing start out = λ front output stands.
-    ([], Appends-nil out, subst (λ (b : List ℕ). start b (output ++ [])) (sym (append-nil front)) (subst (start front) (sym (append-nil output)) stands))
-
 -- a list is what stands before a place, and the rest
 pub cut_at : (k : ℕ) (xs : List ℕ) → k ≤ length xs → take k xs ++ take (length xs - k) (drop k xs) ≡ xs
 cut_at k xs within = grind (arith, common_steps)

@@ -16,7 +16,7 @@ use Rattle.flywheel.specs.declared.frame.Frame.{Frame}
 use Rattle.flywheel.specs.declared.frame.Frame.TheVariants.{Heard, Invented, Gone}
 use Rattle.flywheel.specs.declared.heard.HeardWord.{HeardWord}
 use Rattle.flywheel.specs.Frames.{frames}
-use Rattle.flywheel.specs.GoOn.{GoOn, Place, place_of}
+use Rattle.flywheel.specs.GoOn.{GoOn, Position, position_of}
 use Rattle.ltc_jam.specs.Labels.{AreEventsOf, AreFramesOf, AreHeardOf, IsFrameOf}
 use Rattle.tc_address.specs.declared.system.System.{System}
 use Rattle.tc_address.specs.Label.{Address, IsLabel}
@@ -70,10 +70,10 @@ frames_of_first system zero fs are = tt
 frames_of_first system (suc n) [] are = tt
 frames_of_first system (suc n) (f ∷ fs) are = (are.0, frames_of_first system n fs are.1)
 
-first_go_on : (before : Option Place) (n : ℕ) (fs : List Frame) → GoOn before fs → GoOn before (take n fs)
+first_go_on : (before : Option Position) (n : ℕ) (fs : List Frame) → GoOn before fs → GoOn before (take n fs)
 first_go_on before zero fs on = tt
 first_go_on before (suc n) [] on = tt
-first_go_on before (suc n) (f ∷ fs) on = (on.0, first_go_on (place_of f) n fs on.1)
+first_go_on before (suc n) (f ∷ fs) on = (on.0, first_go_on (position_of f) n fs on.1)
 
 -- ---- the trace
 

@@ -4,7 +4,7 @@ use Rattle.tc_words.specs.declared.job.Job.TheVariants.{LtcRead}
 use Rattle.tc_words.specs.declared.job.Task.TheVariants.{Stream}
 use Rattle.tc_words.specs.declared.fault.WordsFault.TheVariants.{Dash, Command, CountOfWords, Value}
 use Rattle.tc_words.specs.Job.{answer_to}
-use Rattle.tc_words.specs.Values.{number_in}
+use Rattle.tc_words.specs.Values.{number_spelled}
 
 no_word : answer_to [] ≡ Err Command
 no_word = refl
@@ -28,17 +28,17 @@ count_third = refl
 value_last : answer_to (codes "number" ∷ codes "31" ∷ codes "x" ∷ []) ≡ Err (Value 1)
 value_last = refl
 
-zeros_in_front : number_in (codes "00000000000000000007") ≡ Some 7
+zeros_in_front : number_spelled (codes "00000000000000000007") ≡ Some 7
 zeros_in_front = refl
 
-greatest_number : number_in (codes "18446744073709551615") ≡ Some 18446744073709551615
+greatest_number : number_spelled (codes "18446744073709551615") ≡ Some 18446744073709551615
 greatest_number = refl
 
-past_the_greatest : number_in (codes "18446744073709551616") ≡ None
+past_the_greatest : number_spelled (codes "18446744073709551616") ≡ None
 past_the_greatest = refl
 
-too_many_digits : number_in (codes "000000000000000000007") ≡ None
+too_many_digits : number_spelled (codes "000000000000000000007") ≡ None
 too_many_digits = refl
 
-a_sign : number_in (codes "+7") ≡ None
+a_sign : number_spelled (codes "+7") ≡ None
 a_sign = refl

@@ -11,7 +11,7 @@ use Rattle.std.proofs.lemmas.Bool.{cases_lt, leb-true}
 use Rattle.std.proofs.lemmas.Grind.{common_steps}
 use Rattle.std.proofs.lemmas.Str.{digit_value_digit}
 use Rattle.std.proofs.lemmas.Str.Parse.{without_leading_plus_none}
-use Rattle.tc_words.specs.Values.{Word, is_number, number_in}
+use Rattle.tc_words.specs.Values.{Word, is_number, number_spelled}
 
 first_true : (a b : Bool) → (a && b) ≡ true → a ≡ true
 first_true true b h = refl
@@ -47,7 +47,7 @@ is_numeral word digits =
     let all = second_true (nat_lt 0 (length word) && nat_le (length word) 20) _ digits in
     rw (no_plus word all) (some, all_digits word all)
 
-pub read_number : {E : Type 0} (word : Word) (r : Result ℕ E) → is_number word ≡ true → ParsesUnsigned 64 10 word r → result_ok r ≡ number_in word
+pub read_number : {E : Type 0} (word : Word) (r : Result ℕ E) → is_number word ≡ true → ParsesUnsigned 64 10 word r → result_ok r ≡ number_spelled word
 read_number word (Ok n) digits reads =
     let same = no_plus word (second_true (nat_lt 0 (length word) && nat_le (length word) 20) _ digits) in
     let fits : digits_value 10 word < 2 ^ 64 = rw (← same) reads.0.1 in

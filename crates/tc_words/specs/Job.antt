@@ -22,7 +22,7 @@ use Rattle.tc_words.specs.declared.load.TheConstants.{MAX_WORDS}
 use Rattle.tc_words.specs.Lines.{in_lines}
 use Rattle.tc_words.specs.Live.{is_live, live_in}
 use Rattle.tc_words.specs.Load.{loading_of}
-use Rattle.tc_words.specs.Values.{Word, between, count_in, limit_in, number_in, numbered, spelled, tolerance_in, version_in}
+use Rattle.tc_words.specs.Values.{Word, between, count_in, limit_in, number_spelled, numbered, spelled, tolerance_in, version_in}
 use Rattle.tc_words.specs.Wave.{in_dull_wave, in_smooth_wave, in_wave}
 use Rattle.command_words.specs.CommandLine.{begins_with_dash}
 
@@ -87,7 +87,7 @@ ltc_make _ = Err CountOfWords
 -- `ltc-load SEED WORDS`
 abbrev pub ltc_load : List Word → Answer
 ltc_load (seed ∷ words ∷ []) =
-    with_value 1 (number_in seed) (λ s. with_value 2 (between 1 MAX_WORDS words) (λ w. Ok (jobs.LtcLoad (loading_of s w))))
+    with_value 1 (number_spelled seed) (λ s. with_value 2 (between 1 MAX_WORDS words) (λ w. Ok (jobs.LtcLoad (loading_of s w))))
 ltc_load _ = Err CountOfWords
 
 -- `ltc-convert VERSION`

@@ -53,12 +53,12 @@ abbrev pub is_number : Word → Bool
 is_number word = nat_lt 0 (length word) && nat_le (length word) 20 && list_all is_ascii_digit word
 
 -- the number that the digits write, if it is below 2^64
-abbrev pub number_in : Word → Option ℕ
-number_in word = if is_number word && nat_lt (digits_value 10 word) (2 ^ 64) then Some (digits_value 10 word) else None
+abbrev pub number_spelled : Word → Option ℕ
+number_spelled word = if is_number word && nat_lt (digits_value 10 word) (2 ^ 64) then Some (digits_value 10 word) else None
 
 -- a number up to 255
 abbrev pub limit_in : Word → Option ℕ
-limit_in word = option_and_then (λ n. if nat_le n 255 then Some n else None) (number_in word)
+limit_in word = option_and_then (λ n. if nat_le n 255 then Some n else None) (number_spelled word)
 
 -- a tolerance other than the normal one: `worn` or `rough`
 abbrev pub tolerance_in : Word → Option Profile
@@ -76,7 +76,7 @@ direction_in word =
 
 -- a number of this range
 abbrev pub between : ℕ → ℕ → Word → Option ℕ
-between least greatest word = option_and_then (λ n. if nat_le least n && nat_le n greatest then Some n else None) (number_in word)
+between least greatest word = option_and_then (λ n. if nat_le least n && nat_le n greatest then Some n else None) (number_spelled word)
 
 -- a version of the interval file: `1` or `2`
 abbrev pub version_in : Word → Option FileVersion
@@ -91,4 +91,4 @@ spelled = label_in
 
 -- the label that has this number in the day of the count
 abbrev pub numbered : Count → Word → Option Address
-numbered count word = option_and_then (slice_get (labels count)) (number_in word)
+numbered count word = option_and_then (slice_get (labels count)) (number_spelled word)

@@ -6,7 +6,7 @@ use crate::chase_run::{ChaseRun, MAX_SLIP};
 use crate::fault::WordsFault;
 use crate::flight::Flight;
 use crate::job::Job;
-use crate::values::{between, count_in, limit_in, number_in, spelled};
+use crate::values::{between, count_in, limit_in, number_spelled, spelled};
 use biphase::Profile;
 
 /// The job of five words and the tolerance that the sixth says, or their first fault.
@@ -24,7 +24,7 @@ pub(crate) fn chased(
     let count = count_in(count).ok_or(WordsFault::Value(1))?;
     let label = spelled(count, label).ok_or(WordsFault::Value(2))?;
     let limit = limit_in(limit).ok_or(WordsFault::Value(3))?;
-    let seed = number_in(seed).ok_or(WordsFault::Value(4))?;
+    let seed = number_spelled(seed).ok_or(WordsFault::Value(4))?;
     let bound = between(0, MAX_SLIP, bound).ok_or(WordsFault::Value(5))?;
     let profile = profile.ok_or(WordsFault::Value(6))?;
     Ok(Job::LtcChase {

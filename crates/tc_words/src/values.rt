@@ -2,7 +2,7 @@
 ghost use Rattle.std.specs.Prelude.{◌≡◌, ◌≤◌, IfSome};
 ghost use Rattle.std.specs.Char.{is_ascii_digit};
 ghost use Rattle.std.specs.List.{list_all};
-ghost use Rattle.tc_words.specs.Values.{between, count_in, count_with_lines, direction_in, is_number, limit_in, number_in, numbered, spelled};
+ghost use Rattle.tc_words.specs.Values.{between, count_in, count_with_lines, direction_in, is_number, limit_in, number_spelled, numbered, spelled};
 ghost use Rattle.tc_words.specs.Values.{system_in, tolerance_in, version_in};
 ghost use Rattle.tc_address.specs.Count.{system_with};
 ghost use Rattle.tc_address.specs.Label.{IsLabel};
@@ -49,8 +49,8 @@ pub fn system_in(word: &str) -> Option<System>
 }
 
 /// One to twenty digits, as a number below 2^64.
-pub fn number_in(word: &str) -> Option<u64>
-    ensures { result ≡ number_in word.now }
+pub fn number_spelled(word: &str) -> Option<u64>
+    ensures { result ≡ number_spelled word.now }
 {
     if is_number(word.as_bytes()) {
         word.parse().ok()
@@ -75,7 +75,7 @@ fn are_digits(bytes: &[u8]) -> bool
 pub fn limit_in(word: &str) -> Option<u8>
     ensures { result ≡ limit_in word.now }
 {
-    let number = number_in(word)?;
+    let number = number_spelled(word)?;
     if number <= 255 {
         Some(number as u8)
     } else {
@@ -111,7 +111,7 @@ pub fn between(least: u32, greatest: u32, word: &str) -> Option<u32>
     ensures value { result ≡ between least greatest word.now }
     ensures range { IfSome result (λ n. (least ≤ n) × (n ≤ greatest)) }
 {
-    let number = number_in(word)?;
+    let number = number_spelled(word)?;
     if u64::from(least) <= number && number <= u64::from(greatest) {
         Some(number as u32)
     } else {
@@ -143,7 +143,7 @@ pub fn spelled(count: Count, word: &str) -> Option<Label>
 pub fn numbered(count: Count, word: &str) -> Option<Label>
     ensures { result ≡ numbered count word.now }
 {
-    let number = number_in(word)?;
+    let number = number_spelled(word)?;
     if number < u64::from(day_labels(count)) {
         label_at(count, number as u32)
     } else {

@@ -17,7 +17,7 @@ use crate::sound::{amplitude_in, following, in_samples, in_ticks, summing};
 use crate::stripe::MAX_TICK_RATE;
 use crate::tape::{at_one_length, moving};
 use crate::values::{
-    between, count_in, limit_in, number_in, numbered, spelled, tolerance_in, version_in,
+    between, count_in, limit_in, number_spelled, numbered, spelled, tolerance_in, version_in,
 };
 use crate::wave::{in_dull_wave, in_smooth_wave, in_wave};
 use biphase::{MAX_SHAPED, MIN_SHAPED, Profile};
@@ -227,7 +227,7 @@ fn ltc_load(values: &[&str]) -> Result<Job, WordsFault>
     let [seed, words] = values else {
         return Err(WordsFault::CountOfWords);
     };
-    let seed = number_in(seed).ok_or(WordsFault::Value(1))?;
+    let seed = number_spelled(seed).ok_or(WordsFault::Value(1))?;
     let words = between(1, MAX_WORDS, words).ok_or(WordsFault::Value(2))?;
     Ok(Job::LtcLoad {
         run: LoadRun::new(seed, words),

@@ -7,7 +7,7 @@ use Rattle.vitc_line.specs.declared.word.VitcWord.{VitcWord}
 use Rattle.vitc_reader.specs.declared.fault.ReadFault.{ReadFault}
 use Rattle.vitc_reader.specs.declared.field.FieldAnswer.{FieldAnswer}
 use Rattle.vitc_reader.specs.declared.field.FieldAnswer.TheVariants.{NoLine, Agreed, Conflict, Nothing}
-use Rattle.vitc_reader.specs.Field.{IsSaid, AreSaid, words_of, AllAre, IsAnswerTo, Reading, StandsFor}
+use Rattle.vitc_reader.specs.Field.{IsSaid, AreSaid, words_of, AllAre, IsAnswerTo, FieldState, StandsFor}
 
 abbrev Said : Type 0
 Said = Result VitcWord ReadFault
@@ -122,7 +122,7 @@ again before (Ok word) (Agreed first) a =
 again before (Err next) (Agreed first) a = agreed_still (before ++ Err next ∷ []) first next a
 again before s (Conflict first other) a = conflict_whatever (before ++ s ∷ []) first other s a
 
-pub line_again : (reader : Reading) (lines : List (List ℕ)) (line : List ℕ) → StandsFor reader (lines ++ line ∷ [])
+pub line_again : (reader : FieldState) (lines : List (List ℕ)) (line : List ℕ) → StandsFor reader (lines ++ line ∷ [])
     → StandsFor reader ((lines ++ line ∷ []) ++ line ∷ [])
 line_again reader lines line stands =
     let last = last_said reader.system reader.length lines line stands.0 stands.1 in (

@@ -48,11 +48,11 @@ abbrev pub IsAnswer : System → ℕ → List (List ℕ) → FieldAnswer → Typ
 IsAnswer system n lines answer = (said : List (Result VitcWord ReadFault)) × AreSaid system n lines said × IsAnswerTo said answer
 
 -- a reader of a field: its system, the length of its lines, and its answer so far
-pub record Reading : Type 0 where
+pub record FieldState : Type 0 where
   pub system : System
   pub length : ℕ
   pub answer : FieldAnswer
 
 -- the reader answers as one that was fed these lines
-abbrev pub StandsFor : Reading → List (List ℕ) → Type 0
+abbrev pub StandsFor : FieldState → List (List ℕ) → Type 0
 StandsFor reader lines = IsAnswer reader.system reader.length lines reader.answer

@@ -83,9 +83,9 @@ impl Model for FieldReader {
     ghost use Rattle.vitc_line.specs.Places.{HasLines};
     ghost use Rattle.vitc_reader.specs.KeptLine.{factor_on};
     ghost use Rattle.vitc_reader.specs.Runs.{IsLineLength};
-    ghost use Rattle.vitc_reader.specs.Field.{Reading};
+    ghost use Rattle.vitc_reader.specs.Field.{FieldState};
 
-    ghost Value = { Reading };
+    ghost Value = { FieldState };
 
     ghost view = { λ r. record { system = r.system; length = r.length; answer = r.answer } };
 

@@ -3,7 +3,7 @@ ghost use Rattle.std.specs.Prelude.{◌≡◌, ◌<◌, ◌^◌, ◌%◌, ◌++�
 ghost use Rattle.tc_address.specs.declared.system.System.{System};
 ghost use Rattle.vitc_reader.specs.declared.fault.RunFault.{RunFault};
 ghost use Rattle.vitc_reader.specs.declared.field.FieldAnswer.{FieldAnswer};
-ghost use Rattle.vitc_reader.specs.Field.{IsAnswer, Reading, StandsFor};
+ghost use Rattle.vitc_reader.specs.Field.{IsAnswer, FieldState, StandsFor};
 ghost use Rattle.vitc_reader.specs.Runs.{IsLineLength, IsRunFault, MayBeLine, StandFor};
 ghost use Rattle.vitc_reader.specs.Written.{runs_in};
 
@@ -41,6 +41,6 @@ pub fn lines_have_one_answer()
 
 /// A line that stands again behind itself changes no answer.
 pub fn a_line_again_changes_nothing()
-    ensures { (reader : Reading) (lines : List (List ℕ)) (line : List ℕ) → StandsFor reader (lines ++ line ∷ [])
+    ensures { (reader : FieldState) (lines : List (List ℕ)) (line : List ℕ) → StandsFor reader (lines ++ line ∷ [])
         → StandsFor reader ((lines ++ line ∷ []) ++ line ∷ []) }
 {}

@@ -1,5 +1,5 @@
 use Rattle.std.proofs.Common.{◌-◌, ◌+◌, arith, subst, sym, refl, ap, inl, inr}
-use Rattle.direction_reader.specs.Reader.{Reading}
+use Rattle.direction_reader.specs.Reader.{ReaderState}
 use Rattle.direction_reader.specs.StandsFor.{StandsFor}
 use Rattle.direction_reader.proofs.CellsEnd.{cell_fits}
 use Rattle.direction_reader.proofs.ReaderSteps.{nothing_ended, begins_now, begins_before, broken, cell_told, quiet}
@@ -20,7 +20,7 @@ invariant_of-self c =
 -- the cell is the stretch's next, and its window brings what is told
 pub returns-after-add-clause-stands : goal.returns-after-add-clause-stands
 returns-after-add-clause-stands c = λ l es own stands told.
-    let is = subst (λ (r : Reading). StandsFor r l es) (sym c.self.view_is) stands in
+    let is = subst (λ (r : ReaderState). StandsFor r l es) (sym c.self.view_is) stands in
     cell_told _ _ c.args.x l es own c.in-Cell.bit c.if-add.result
     (record { system = refl; profile = c.step.ensures.profile; intervals = refl; tick = ap (λ m. c.self.inside.tick + m) c.from.ensures })
     c.add.ensures.bits c.add.ensures.boundaries
@@ -33,7 +33,7 @@ returns-after-add-clause-stands c = λ l es own stands told.
 -- no cell ended
 pub returns-in-Nothing-clause-stands : goal.returns-in-Nothing-clause-stands
 returns-in-Nothing-clause-stands c = λ l es own stands told.
-    let is = subst (λ (r : Reading). StandsFor r l es) (sym c.self.view_is) stands in
+    let is = subst (λ (r : ReaderState). StandsFor r l es) (sym c.self.view_is) stands in
     quiet _ _ es own (nothing_ended _ _ c.args.x l es
     (record { system = refl; profile = c.step.ensures.profile; intervals = refl; tick = ap (λ m. c.self.inside.tick + m) c.from.ensures })
     refl is (c.in-Nothing.ensures.stands l is.earlier is.open_yet is.tracker)) told
@@ -41,7 +41,7 @@ returns-in-Nothing-clause-stands c = λ l es own stands told.
 -- the interval is the first zero of a stretch
 pub returns-in-FirstZero-clause-stands : goal.returns-in-FirstZero-clause-stands
 returns-in-FirstZero-clause-stands c = λ l es own stands told.
-    let is = subst (λ (r : Reading). StandsFor r l es) (sym c.self.view_is) stands in
+    let is = subst (λ (r : ReaderState). StandsFor r l es) (sym c.self.view_is) stands in
     quiet _ _ es own (begins_now _ _ c.args.x l es
     (record { system = refl; profile = c.step.ensures.profile; intervals = refl; tick = ap (λ m. c.self.inside.tick + m) c.from.ensures })
     (rw c.begin.ensures at c.add-in-FirstZero.ensures.bits) (rw c.begin.ensures at c.add-in-FirstZero.ensures.boundaries)
@@ -50,7 +50,7 @@ returns-in-FirstZero-clause-stands c = λ l es own stands told.
 -- the interval before is
 pub returns-in-ZeroBefore-clause-stands : goal.returns-in-ZeroBefore-clause-stands
 returns-in-ZeroBefore-clause-stands c = λ l es own stands told.
-    let is = subst (λ (r : Reading). StandsFor r l es) (sym c.self.view_is) stands in
+    let is = subst (λ (r : ReaderState). StandsFor r l es) (sym c.self.view_is) stands in
     quiet _ _ es own (begins_before _ _ c.args.x c.in-ZeroBefore.zero _ l es
     (record { system = refl; profile = c.step.ensures.profile; intervals = refl; tick = ap (λ m. c.self.inside.tick + m) c.from.ensures })
     (ap (λ m. c.self.inside.tick - m) c.from-in-ZeroBefore.ensures)
@@ -61,7 +61,7 @@ returns-in-ZeroBefore-clause-stands c = λ l es own stands told.
 -- the stretch breaks
 pub returns-in-Break-clause-stands : goal.returns-in-Break-clause-stands
 returns-in-Break-clause-stands c = λ l es own stands told.
-    let is = subst (λ (r : Reading). StandsFor r l es) (sym c.self.view_is) stands in
+    let is = subst (λ (r : ReaderState). StandsFor r l es) (sym c.self.view_is) stands in
     rw told (broken _ _ c.args.x l es
     (record { system = refl; profile = c.step.ensures.profile; intervals = refl; tick = ap (λ m. c.self.inside.tick + m) c.from.ensures })
     is (c.in-Break.ensures.stands l is.earlier is.open_yet is.tracker))

@@ -1,6 +1,6 @@
 use Rattle.std.proofs.Common.{[], ◌+◌, ℕ, refl, ap, sym, ◌∙◌, subst, arith}
 use Rattle.direction_reader.specs.Events.{event_list, no_events}
-use Rattle.direction_reader.specs.Reader.{Reading, Takes}
+use Rattle.direction_reader.specs.Reader.{ReaderState, Takes}
 use Rattle.frame_commands.specs.KeptFlight.{GivesDueAll, GivesDueAllFirst}
 use Rattle.frame_commands.specs.OfFrames.{words_heard}
 use Rattle.tc_command.specs.KeptWorks.{on_ok, both_ok, if_err, err_both}
@@ -16,10 +16,10 @@ returns-in-Nothing-clause-works g c =
     on_ok c.give_due.result c.give_due.ensures.gives (λ h choice header intervals written stands.
     flown g.T.FrameSink.flight g.T.FrameSink.made g.T.FrameSink.given f next c.args.self.now.sink c.give_due.new.sink choice header intervals written c.args.x
     no_events h.0 _ _ stands
-    (subst (λ (r : Reading). Takes f.reader c.args.x r) (sym reader) c.step.ensures.next)
-    (subst (λ (r : Reading). Reads f.reader r c.args.x no_events) (sym reader) (λ xs es st. c.in-Nothing.ensures.stands xs es no_events st refl))
+    (subst (λ (r : ReaderState). Takes f.reader c.args.x r) (sym reader) c.step.ensures.next)
+    (subst (λ (r : ReaderState). Reads f.reader r c.args.x no_events) (sym reader) (λ xs es st. c.in-Nothing.ensures.stands xs es no_events st refl))
     c.a_reader_gives_the_events_of_its_list.ensures c.give_due.ensures.keeps.limit
-    (subst (λ (t : ℕ). GivesDueAll f.wheel next.wheel t [] h.0) (c.tick-tick.ensures.value ∙ ap (λ (r : Reading). r.tick) (sym reader))
+    (subst (λ (t : ℕ). GivesDueAll f.wheel next.wheel t [] h.0) (c.tick-tick.ensures.value ∙ ap (λ (r : ReaderState). r.tick) (sym reader))
     (due_alone f.wheel next.wheel c.tick-tick.result h.0 h.3))
     (record { heard = h.1.heard; invented = h.1.invented; gone = h.1.gone }) h.2)
 
@@ -46,7 +46,7 @@ returns-in_default-clause-fits g c =
     on_ok result (both_ok _ _ result e.heard e.ready) (λ h count fits. record {
       flight = record {
         within = (let has = c.requires.fits in let same = has.2.flight.counts in let now = fits.flight.counts in let below = has.1 in omega arith);
-        counts = ap (λ (r : Reading). r.intervals) e.keeps.reader ∙ one ∙ ap (λ (n : ℕ). n + 1) fits.flight.counts;
+        counts = ap (λ (r : ReaderState). r.intervals) e.keeps.reader ∙ one ∙ ap (λ (n : ℕ). n + 1) fits.flight.counts;
         words = (let before = fits.flight.words in omega (arith, h.0));
         more_frames = h.1.fits;
         heard_by = rw e.keeps.reader h.1.heard_by;
@@ -63,10 +63,10 @@ returns-in_default-clause-works g c =
     on_ok c.hear_all.result c.hear_all.ensures.gives (λ h choice header intervals written stands.
     flown g.T.FrameSink.flight g.T.FrameSink.made g.T.FrameSink.given f next c.args.self.now.sink c.hear_all.new.sink choice header intervals written c.args.x
     h.0 h.1 _ _ stands
-    (subst (λ (r : Reading). Takes f.reader c.args.x r) (sym reader) c.step.ensures.next)
-    (subst (λ (r : Reading). Reads f.reader r c.args.x h.0) (sym reader) (λ xs es st. c.step.ensures.stands xs es h.0 st h.2))
+    (subst (λ (r : ReaderState). Takes f.reader c.args.x r) (sym reader) c.step.ensures.next)
+    (subst (λ (r : ReaderState). Reads f.reader r c.args.x h.0) (sym reader) (λ xs es st. c.step.ensures.stands xs es h.0 st h.2))
     c.a_reader_gives_the_events_of_its_list.ensures c.hear_all.ensures.keeps.limit
-    (subst (λ (t : ℕ). GivesDueAll f.wheel next.wheel t (words_heard (event_list h.0)) h.1) (ap (λ (r : Reading). r.tick) (sym reader)) h.5)
+    (subst (λ (t : ℕ). GivesDueAll f.wheel next.wheel t (words_heard (event_list h.0)) h.1) (ap (λ (r : ReaderState). r.tick) (sym reader)) h.5)
     (record { heard = h.3.heard; invented = h.3.invented; gone = h.3.gone }) h.4)
 
 -- a front of them was

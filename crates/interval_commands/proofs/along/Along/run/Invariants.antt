@@ -1,7 +1,7 @@
 use Rattle.std.proofs.Common.{◌≡◌, ◌+◌, ◌-◌, ◌≤◌, take, length}
 use Rattle.std.specs.Prelude.{Some}
 use Rattle.biphase.specs.declared.cell.TheConstants.{MAX_INTERVALS}
-use Rattle.interval_file.specs.Piece.{AreWhole}
+use Rattle.interval_file.specs.Piece.{MayBeWhole}
 use Rattle.interval_file.specs.Decoding.{FitsBytes}
 use Rattle.interval_commands.specs.KeptAlong.{FitsBehind, Stands}
 use Rattle.tc_command.specs.KeptWorks.{Works}
@@ -12,7 +12,7 @@ abbrev pub invariant-run : goal.invariant-run
 invariant-run g l = record {
   within : l.at ≤ length l.bytes;
   room : l.intervals + length l.bytes ≤ MAX_INTERVALS + l.at;
-  whole : AreWhole l.version l.at;
+  whole : MayBeWhole l.version l.at;
   keeps : FitsBehind g.B.Behind.fits (Some l.behind) l.intervals;
   counts : FitsBytes (record l.fn.self.decoder { taken = l.fn.self.decoder.taken + l.at }) l.intervals;
   works : Works (λ front written. Stands g.B.Behind.stands l.fn.self.decoder l.fn.self.behind l.fn.self.intervals l.fn.self.choice front written)

@@ -3,7 +3,7 @@ use Rattle.std.proofs.KnownBytes.{Appends-nil}
 use Rattle.biphase.specs.declared.profile.Profile.{Profile}
 use Rattle.tc_address.specs.declared.system.System.{System}
 use Rattle.direction_reader.specs.ListEvents.{AreEvents}
-use Rattle.direction_reader.specs.Reader.{Reading}
+use Rattle.direction_reader.specs.Reader.{ReaderState}
 use Rattle.direction_reader.specs.Tracker.{profile_of}
 use Rattle.interval_commands.proofs.ltc_read.ReportBehind.begin.Goals as goal
 
@@ -11,8 +11,8 @@ use Rattle.interval_commands.proofs.ltc_read.ReportBehind.begin.Goals as goal
 pub returns-clause-begins : goal.returns-clause-begins
 returns-clause-begins g c =
     let reader = c.new.result in
-    let system : reader.system ≡ c.args.header.system = ap (λ (r : Reading). r.system) c.new.ensures.value in
-    let keeps : profile_of reader.tracker ≡ c.args.profile = ap (λ (r : Reading). profile_of r.tracker) c.new.ensures.value in
+    let system : reader.system ≡ c.args.header.system = ap (λ (r : ReaderState). r.system) c.new.ensures.value in
+    let keeps : profile_of reader.tracker ≡ c.args.profile = ap (λ (r : ReaderState). profile_of r.tracker) c.new.ensures.value in
     let law = c.a_reader_gives_the_events_of_its_list.ensures reader [] [] c.new.ensures.stands in (
       [],
       Appends-nil _,
