@@ -12,6 +12,14 @@ use Rattle.std.proofs.lemmas.List.{length-take-le}
 use Rattle.std.proofs.lemmas.List.Folds.{drop_split, prefix_len-append}
 use Rattle.std.proofs.lemmas.List.Sums.{prefix_len-le-length}
 
+not_not : (b : Bool) → not (not b) ≡ b
+not_not true = refl
+not_not false = refl
+
+module _ {X : Type 0} (p : X → Bool) (xs : List X) (at n : ℕ) (within : at + n ≤ length xs) where
+  abbrev part : List X
+  part = slice_range xs at (at + n)
+
   pub long : length part ≡ n
   long = length-take-le ((at + n) - at) (drop at xs) (omega (arith, length-drop at xs)) ∙ (omega arith)
 

@@ -41,6 +41,15 @@ sum-now n kept xs s some is =
     ap (λ l. total (l ++ s ∷ [])) is ∙ ap total (latest-push (n - 1) (padded n xs) s (enough n xs))
     ∙ ap₂ (λ k l. total (latest k l)) all (behind n xs s)
 
+-- before the first sample, zeros are kept
+pub kept-none : (n : ℕ) → 1 ≤ n → replicate (n - 1) (pos 0) ≡ latest (n - 1) (padded n [])
+kept-none zero some = absurd (omega arith)
+kept-none (suc n) some =
+    let place : length (replicate (suc n) (pos 0) ++ []) - n ≡ 1 =
+    omega (arith, length-append (replicate (suc n) (pos 0)) [], length-replicate (suc n) (pos 0)) in
+    let back : suc n - 1 ≡ n = omega arith in
+    rw back (sym (ap (λ k. drop k (replicate (suc n) (pos 0) ++ [])) place ∙ append-nil (replicate n (pos 0))))
+
 -- ---- how great a sum can be
 
 pub total-push : (xs : List ℤ) (s : ℤ) → total (xs ++ s ∷ []) ≡ total xs +ℤ s

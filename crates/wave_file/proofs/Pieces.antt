@@ -94,6 +94,14 @@ sizes_bring track notes place size p more len least =
     piece_whole 16 (λ body rest. chunks_at track (padded size) (record notes { data_size = Some (little_number 8 (drop 8 body)) }) place (p ++ more))
     p more len ∙ chunks_skip track _ p more (padded size) (padded size - 16) place (omega (arith, len, least))
 
+-- bytes that follow the data
+pub tail_skip : (format : WaveFormat) (left : ℕ) (bytes more : List ℕ) (count : ℕ) → length bytes ≡ count
+    → tail_at format left (bytes ++ more) ≡ tail_at format (left - count) more
+tail_skip format left bytes more count e =
+    let all = length-append bytes more in
+    ap (λ (b : Bool). let r : Reading = record { format = Some format; samples = []; verdict = good; may_end = b } in r)
+    (nat_le_same left (length (bytes ++ more)) (left - count) (length more) (λ h. omega (arith, e, all, h)) (λ h. omega (arith, e, all, h)))
+
 -- ---- what is passed over
 
 pub chunk_alone : (skip : ℕ) → 1 ≤ skip → width_of (stage.Chunk skip) ≡ 1
@@ -113,4 +121,16 @@ chunk_passed skip count most after e some within = record {
   wait = chunk_wait after;
   passes = λ track notes place bytes more len.
       chunks_skip track notes bytes more skip after place (omega (arith, e, len)) ∙ ap (λ (n : ℕ). chunks_at track after notes (place + n) more) len;
+}
+
+pub tail_passed : (format : WaveFormat) (left count most : ℕ) → 1 ≤ count → count ≤ most
+    → IsPassed (stage.Tail format left) most count (stage.Tail format (left - count))
+tail_passed format left count most some within = record {
+  some = some;
+  within = within;
+  format = refl;
+  stays = λ track place is. is;
+  alone = refl;
+  wait = omega arith;
+  passes = λ track notes place bytes more len. tail_skip format left bytes more count len;
 }
