@@ -23,6 +23,7 @@ fn count_of(system: System, drop_frame: bool) -> Count
 }
 
 /// The fields that the digits say, or the first fault of them in the order of `FieldFault`.
+#[inline(always)]
 pub fn check_fields(system: System, raw: &RawFields) -> Result<Fields, FieldFault>
     requires { FitsDigits raw.now }
     ensures reads { IfOk result (Says system raw.now) }

@@ -18,6 +18,7 @@ use crate::user_bits::UserBits;
 use tc_address::System;
 
 /// Whether this bit is set.
+#[inline(always)]
 pub fn is_set_at(bits: u128, number: u32) -> bool
     requires { number < 128 }
     ensures { result ≡ is_set (place number 1) bits }
@@ -26,6 +27,7 @@ pub fn is_set_at(bits: u128, number: u32) -> bool
 }
 
 /// The flags that stand in the bits.
+#[inline(always)]
 fn flags_at(table: &Table, bits: u128) -> Flags
     requires { IsTable table.now }
     ensures { result ≡ flags_in table.now bits }
@@ -40,6 +42,7 @@ fn flags_at(table: &Table, bits: u128) -> Flags
 }
 
 /// The user bits that stand in the bits.
+#[inline(always)]
 fn user_at(table: &Table, bits: u128) -> UserBits
     requires { IsTable table.now }
     ensures { result ≡ user_in table.now bits }
@@ -57,6 +60,7 @@ fn user_at(table: &Table, bits: u128) -> UserBits
 }
 
 /// What stands in the places of the fields, whether or not it is an address.
+#[inline(always)]
 fn raw_at(table: &Table, bits: u128) -> RawFields
     requires { IsTable table.now }
     ensures { result ≡ raw_in table.now bits }
@@ -76,6 +80,7 @@ fn raw_at(table: &Table, bits: u128) -> RawFields
 }
 
 /// The fields that stand in the places of the table, or their first fault.
+#[inline(always)]
 pub fn fields_at(system: System, table: &Table, bits: u128) -> Result<Fields, FieldFault>
     requires { is_table table.now ≡ true }
     ensures reads { IfOk result (Says system (raw_in table.now bits)) }
