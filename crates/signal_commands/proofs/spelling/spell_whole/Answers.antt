@@ -1,4 +1,4 @@
-use Rattle.std.proofs.Common.{◌≡◌, ◌+◌, ◌-◌, ◌++◌, replicate, sym, ap, subst, ◌∙◌, arith}
+use Rattle.std.proofs.Common.{◌≡◌, ◌+◌, ◌-◌, replicate, subst, ◌∙◌, arith}
 use Rattle.tc_files.specs.declared.interval_file.header.FileVersion.TheVariants.{One}
 use Rattle.tc_files.specs.Grammar.{intervals_bytes}
 use Rattle.tc_files.specs.Piece.{spelling}
