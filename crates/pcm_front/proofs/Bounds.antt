@@ -1,5 +1,5 @@
 -- The numbers of a level stay within their bounds: the peak never passes the greatest size, and the sum loses a 1024th of itself.
-use Rattle.std.proofs.Common.{◌≡◌, ℕ, ◌+◌, ◌-◌, ◌*◌, ◌^◌, ◌<◌, ◌≤◌, Bool, true, false, cond, nat_lt, ℤ, unsigned_abs, List, [], ◌∷◌, refl, arith}
+use Rattle.std.proofs.Common.{◌≡◌, ℕ, ◌+◌, ◌-◌, ◌*◌, ◌<◌, ◌≤◌, Bool, true, false, cond, nat_lt, ℤ, unsigned_abs, List, [], ◌∷◌, refl, arith}
 use Rattle.std.specs.List.{fold, AllByRecursion}
 use Rattle.std.specs.Int.{div_ceil}
 use Rattle.std.proofs.lemmas.Bool.Decides.{nat_tests}

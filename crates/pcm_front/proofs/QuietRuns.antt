@@ -1,6 +1,6 @@
 -- Where the sound stays on its side at the least threshold, it stays at every one, so a run of such samples brings nothing.
-use Rattle.std.proofs.Common.{◌≡◌, true, false, ℕ, zero, suc, ◌+◌, ◌-◌, ◌*◌, ◌^◌, ◌<◌, ◌≤◌, max, ℤ, pos, List, [], ◌∷◌, ◌++◌, length, take, drop, length-drop, get_or, Bool, cond, Option, Some, None}
-use Rattle.std.proofs.Common.{refl, ap, ap₂, subst, sym, ◌∙◌, add-one, mul-le-mul_left, mul-suc, arith}
+use Rattle.std.proofs.Common.{◌≡◌, true, false, ℕ, suc, ◌+◌, ◌-◌, ◌*◌, ◌^◌, ◌<◌, ◌≤◌, ℤ, pos, List, [], ◌∷◌, ◌++◌, length, take, drop, length-drop, get_or, Bool, cond, Option, Some, None}
+use Rattle.std.proofs.Common.{refl, ap, subst, sym, ◌∙◌, add-one, mul-le-mul_left, mul-suc, arith}
 use Rattle.std.specs.Prelude.{slice_range}
 use Rattle.std.proofs.lemmas.List.{get_or-drop, length-take-le}
 use Rattle.std.proofs.lemmas.List.Sums.{fold_push}

@@ -4,13 +4,12 @@ use Rattle.std.proofs.Common.{replicate, take, drop, get_or, unsigned_abs, refl,
 use Rattle.std.specs.Prelude.{set}
 use Rattle.std.specs.List.{AllByRecursion}
 use Rattle.std.proofs.lemmas.Bool.Decides.{nat_tests}
-use Rattle.std.proofs.lemmas.Int.{ints}
-use Rattle.std.proofs.lemmas.List.{drop-set-lt, get_or-take, length-drop, length-replicate, length-take, length_push, take_more_set, take-set-le}
+use Rattle.std.proofs.lemmas.List.{drop-set-lt, get_or-take, length-drop, length-replicate, length-take, length_push, take_more_set}
 use Rattle.std.proofs.Math.IntN.{+ℤ_assoc, +ℤ_comm, +ℤ-neg_ℤ_cancel}
 use Rattle.std.proofs.Math.Seq.{drop-cons, take-set-lt}
 use Rattle.std.proofs.Math.ListN.{drop_of_length-le}
-use Rattle.pcm_front.specs.Level.{HasSixteenBits, IsSum}
-use Rattle.pcm_front.specs.State.{ring_of, window_of, IsRing, IsWindow}
+use Rattle.pcm_front.specs.Level.{HasSixteenBits}
+use Rattle.pcm_front.specs.State.{ring_of, IsRing}
 use Rattle.pcm_front.specs.Sums.{total}
 use Rattle.pcm_front.proofs.Windows.{next-fits, total-push, total-within, zeros-fit, zeros-sum}
 

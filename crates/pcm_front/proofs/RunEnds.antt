@@ -1,5 +1,5 @@
 -- A run of samples goes on through a part of a list where the whole part belongs to it, and else ends in the part.
-use Rattle.std.proofs.Common.{◌≡◌, ℕ, ◌+◌, ◌-◌, ◌<◌, ◌≤◌, ◌≢◌, ℤ, [], ◌∷◌, map, FitsSigned, to_z, of_z, to_z-of_z, ap₂, Bool, true, false, not, cond, eqb, List, drop, take, length, length-drop, refl, ap, sym, ◌∙◌, arith}
+use Rattle.std.proofs.Common.{◌≡◌, ℕ, ◌+◌, ◌-◌, ◌<◌, ◌≤◌, ◌≢◌, ℤ, [], ◌∷◌, map, FitsSigned, to_z, of_z, to_z-of_z, ap₂, Bool, true, false, not, cond, eqb, List, drop, length, length-drop, refl, ap, sym, ◌∙◌, arith}
 use Rattle.std.specs.Prelude.{slice_range}
 use Rattle.pcm_front.specs.Quiet.{first_set}
 use Rattle.std.specs.List.{prefix_len, AllByRecursion}

@@ -1,28 +1,19 @@
 -- Samples that were taken one after another, and the distance that they brought.
-use Rattle.std.proofs.Common.{◌≡◌, true, ℕ, zero, suc, ◌+◌, ◌-◌, ◌*◌, ◌<◌, ◌≤◌, ℤ, pos, List, [], ◌∷◌, ◌++◌, length, take, drop, get_or, ◌^◌, Option, None, Some}
-use Rattle.std.proofs.Common.{refl, ap, ap₂, subst, sym, ◌∙◌, append-nil, append_assoc, add-one, mul-add, mul-suc, mul-le-mul_left, arith}
+use Rattle.std.proofs.Common.{◌≡◌, true, ℕ, zero, suc, ◌+◌, ◌*◌, ◌<◌, ◌≤◌, ℤ, pos, List, [], ◌∷◌, ◌++◌, length, take, drop, get_or, ◌^◌, Option, None, Some}
+use Rattle.std.proofs.Common.{refl, ap, subst, sym, ◌∙◌, append-nil, append_assoc, add-one, mul-add, mul-suc, mul-le-mul_left, arith}
 use Rattle.std.specs.Option.{option_to_list}
 use Rattle.std.proofs.lemmas.List.{length-append, length-take-le}
-use Rattle.pcm_front.specs.declared.level.Level.{Level}
-use Rattle.pcm_front.specs.declared.side.Side.{Side}
-use Rattle.pcm_front.specs.declared.start.Start.{Start}
-use Rattle.pcm_front.specs.declared.threshold.Threshold.{Threshold}
-use Rattle.pcm_front.specs.declared.threshold.Threshold.TheVariants.{Fixed}
-use Rattle.pcm_front.specs.Distance.{distances_by, distances_since}
+use Rattle.pcm_front.specs.Distance.{distances_since}
 use Rattle.pcm_front.specs.KeptRuns.{RunsTo}
-use Rattle.pcm_front.specs.Level.{next_level, threshold_by}
-use Rattle.pcm_front.specs.Settings.{Settings}
+use Rattle.pcm_front.specs.Level.{threshold_by}
 use Rattle.pcm_front.specs.Side.{side_of, stays}
 use Rattle.pcm_front.specs.StandsFor.{distances_in, Finds, Stand}
 use Rattle.pcm_front.specs.State.{between, distance_at, level_in, state_after, state_of, window_after, FinderState, IsAlone, WindowState}
 use Rattle.pcm_front.specs.Sums.{sums, total}
 use Rattle.pcm_front.proofs.Sides.{stays_apart, stays_there}
 use Rattle.pcm_front.proofs.StandsStill.{brings_distance, stands_still}
-use Rattle.pcm_front.proofs.SumsStay.{alone, sum_of, sums-more}
+use Rattle.pcm_front.proofs.SumsStay.{alone, sums-more}
 use Rattle.pcm_front.proofs.Windows.{kept-more, sum-now}
-
-abbrev settings : ℕ → Threshold → ℕ → Start → Settings
-settings f t n start = record { fineness = f; threshold = t; smooth = n; start = start }
 
 -- no sample
 pub none_yet : (state : FinderState) (window : WindowState) → RunsTo state state window window [] None
@@ -142,51 +133,12 @@ room_for_one f tick start at xs within is room =
     let now : tick ≡ start + f * at = is ∙ ap (λ n. start + f * n) (length-take-le at xs (omega (arith, within))) in
     omega (arith, all, one, now, room)
 
--- the sound stays on its side, by the threshold and the level that are held beside
-pub still_is : (state : FinderState) (y : ℤ) (side : Option Side) (threshold : Threshold) (next : Level) (t : ℕ) → side ≡ state.side
-    → threshold ≡ state.threshold → next ≡ next_level threshold state.level y → t ≡ threshold_by threshold next
-    → stays side (side_of t y) ≡ true → (IsStill state y) × (next ≡ level_in state y)
-still_is state y side threshold next t same_side same next_is t_is is =
-    let level : next ≡ level_in state y = next_is ∙ ap (λ h. next_level h state.level y) same in
-    let height : t ≡ threshold_by state.threshold (level_in state y) = t_is ∙ ap₂ threshold_by same level in
-    (ap₂ (λ o h. stays o (side_of h y)) (sym same_side) (sym height) ∙ is, level)
-
--- one of them more, in a list
-pub still_to : (start state : FinderState) (window after pushed : WindowState) (at f : ℕ) (xs : List ℤ) (s y : ℤ) (next : Level) → at < length xs
-    → s ≡ get_or xs at (pos 0) → 1 ≤ after.smooth → y ≡ total (after.kept ++ s ∷ []) → IsStill state y → f ≡ state.fineness → next ≡ level_in state y
-    → pushed ≡ window_after after s → RunsTo start state window after (take at xs) None
-    → RunsTo start (state_of state.fineness state.threshold state.start (state.tick + f) y next state.side state.latest) window pushed (take (at + 1) xs) None
-still_to start state window after pushed at f xs s y next within s_is some y_is still f_is next_is pushed_is runs =
-    rw (f_is, next_is, pushed_is, take-more at xs within, sym s_is) (still_on start state window after (take at xs) s y some y_is still runs)
-
 -- one sample, as a step takes it
 pub one_taken : (state now : FinderState) (window pushed : WindowState) (s y : ℤ) (distance : Option ℕ) → 1 ≤ window.smooth
     → y ≡ total (window.kept ++ s ∷ []) → pushed ≡ window_after window s → now ≡ state_after state y → distance ≡ distance_at state y
     → RunsTo state now window pushed (s ∷ []) distance
 one_taken state now window pushed s y distance some is pushed_is now_is distance_is =
     rw (pushed_is, now_is, distance_is) (one_step state window s y some is)
-
--- some samples of a list behind others, and one more
-pub and_one : (front xs : List ℤ) (at : ℕ) (s : ℤ) → at < length xs → s ≡ get_or xs at (pos 0) → (front ++ take at xs) ++ s ∷ [] ≡ front ++ take (at + 1) xs
-and_one front xs at s within is =
-    append_assoc front (take at xs) (s ∷ []) ∙ ap (λ l. front ++ l) (ap (λ x. take at xs ++ x ∷ []) is ∙ sym (take-more at xs within))
-
--- the same numbers are the same settings
-pub same_settings : (f g : ℕ) (t h : Threshold) (n m : ℕ) (start other : Start) → f ≡ g → t ≡ h → n ≡ m → start ≡ other
-    → settings f t n start ≡ settings g h m other
-same_settings f g t h n m start other p q r s = rw (p, q, r, s) refl
-
--- the distances of some samples that brought nothing, and of one more
-pub distances_and_one : (was now : Settings) (front xs : List ℤ) (at : ℕ) (s : ℤ) (distance : Option ℕ) → now ≡ was → at < length xs
-    → s ≡ get_or xs at (pos 0)
-    → distances_by now ((front ++ take at xs) ++ s ∷ []) ≡ distances_by now (front ++ take at xs) ++ option_to_list distance
-    → distances_by was (front ++ take at xs) ≡ distances_by was front
-    → distances_by was (front ++ take (at + 1) xs) ≡ distances_by was front ++ option_to_list distance
-distances_and_one was now front xs at s distance same within is brings none =
-    ap (distances_by was) (sym (and_one front xs at s within is))
-    ∙ ap (λ how. distances_by how ((front ++ take at xs) ++ s ∷ [])) (sym same)
-    ∙ brings
-    ∙ ap (λ ds. ds ++ option_to_list distance) (ap (λ how. distances_by how (front ++ take at xs)) same ∙ none)
 
 -- ---- the same where each sample stands for itself
 
@@ -196,20 +148,3 @@ one_sample window s is = sym (ap (λ kept. total (kept ++ s ∷ [])) is.1 ∙ al
 pub none_kept : (window : WindowState) (s : ℤ) → IsAlone window → window_after window s ≡ window
 none_kept window s is = ap (λ kept. record { smooth = window.smooth; kept = drop 1 (kept ++ s ∷ []) }) is.1
     ∙ ap (λ kept. record { smooth = window.smooth; kept = kept }) (sym is.1)
-
--- at a fixed threshold, the level stays too
-pub alone_to : (start state : FinderState) (at f t : ℕ) (xs : List ℤ) (s : ℤ) → at < length xs → s ≡ get_or xs at (pos 0)
-    → state.threshold ≡ Fixed t → stays state.side (side_of t s) ≡ true → f ≡ state.fineness
-    → ((window : WindowState) → IsAlone window → RunsTo start state window window (take at xs) None)
-    → (window : WindowState) → IsAlone window
-    → RunsTo start (state_of state.fineness state.threshold state.start (state.tick + f) s state.level state.side state.latest) window window (take (at + 1) xs) None
-alone_to start state at f t xs s within s_is fixed is f_is runs window single =
-    let level : state.level ≡ level_in state s = ap (λ h. next_level h state.level s) (sym fixed) in
-    let still : IsStill state s = ap (λ h. stays state.side (side_of (threshold_by h (next_level h state.level s)) s)) fixed ∙ is in
-    still_to start state window window window at f xs s s state.level within s_is (omega (arith, single.0)) (one_sample window s single) still f_is level
-    (sym (none_kept window s single)) (runs window single)
-
--- the tick with one sample more, and the room for it
-pub one_tick : (f g tick start at : ℕ) → g ≡ f → tick ≡ start + f * at → tick + g ≡ start + f * (at + 1)
-one_tick f g tick start at same is =
-    let one : f * (at + 1) ≡ f * at + f = ap (λ k. f * k) (add-one at) ∙ mul-suc f at in omega (arith, same, is, one)

@@ -1,6 +1,6 @@
 -- Samples that bring nothing up to a place, and one more: what was taken runs on.
-use Rattle.std.proofs.Common.{◌≡◌, false, ℕ, ◌+◌, ◌-◌, ◌*◌, ◌^◌, ◌<◌, ◌≤◌, ℤ, pos, List, [], ◌∷◌, ◌++◌, length, take, drop, get_or, IfSome, Option, None, Some}
-use Rattle.std.proofs.Common.{refl, ap, ap₂, subst, sym, ◌∙◌, append-nil, mul-add, take-add, arith}
+use Rattle.std.proofs.Common.{◌≡◌, false, ℕ, ◌+◌, ◌-◌, ◌*◌, ◌^◌, ◌<◌, ◌≤◌, ℤ, pos, List, [], ◌∷◌, ◌++◌, length, take, get_or, IfSome, Option, None, Some}
+use Rattle.std.proofs.Common.{refl, ap, subst, sym, ◌∙◌, append-nil, mul-add, take-add, arith}
 use Rattle.std.specs.Option.{is_some}
 use Rattle.std.specs.Prelude.{slice_range}
 use Rattle.std.proofs.lemmas.List.{length-take-le}

@@ -1,12 +1,11 @@
 -- The latest samples but one, with the sample that comes: their sum is the sum there, and without the oldest they are the latest again.
-use Rattle.std.proofs.Common.{◌≡◌, ℕ, zero, suc, ◌+◌, ◌-◌, ◌*◌, ◌<◌, ◌≤◌, ℤ, pos, ◌+ℤ◌, List, [], ◌∷◌, ◌++◌, length, replicate, take, drop, unsigned_abs}
+use Rattle.std.proofs.Common.{◌≡◌, ℕ, zero, suc, ◌+◌, ◌-◌, ◌*◌, ◌≤◌, ℤ, pos, ◌+ℤ◌, List, [], ◌∷◌, ◌++◌, length, replicate, drop, unsigned_abs}
 use Rattle.std.proofs.Common.{refl, ap, ap₂, sym, ◌∙◌, append-nil, append_assoc, arith}
 use Rattle.std.specs.List.{AllByRecursion}
 use Rattle.std.proofs.lemmas.Int.{ints}
 use Rattle.std.proofs.Math.IntN.{+ℤ_assoc}
 use Rattle.std.proofs.lemmas.List.{length_push, length-append, length-replicate, drop-append-le, drop-drop}
-use Rattle.pcm_front.specs.Level.{HasSixteenBits, IsSum}
-use Rattle.pcm_front.specs.State.{IsWindow, WindowState}
+use Rattle.pcm_front.specs.Level.{HasSixteenBits}
 use Rattle.pcm_front.specs.Sums.{latest, total}
 use Rattle.pcm_front.proofs.SumsStay.{padded, sum_of}
 

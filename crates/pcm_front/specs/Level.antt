@@ -1,5 +1,5 @@
 -- The threshold at each sample: the same at all of them, or one that follows the level of the sound. The rule is this project's own.
-use Rattle.std.specs.Prelude.{ℕ, ◌+◌, ◌-◌, ◌/◌, ◌^◌, ◌<◌, ◌≤◌, max, cond, nat_lt, ℤ, unsigned_abs, List, take}
+use Rattle.std.specs.Prelude.{ℕ, ◌+◌, ◌-◌, ◌/◌, ◌^◌, ◌≤◌, max, cond, nat_lt, ℤ, unsigned_abs, List, take}
 use Rattle.std.specs.List.{fold}
 use Rattle.std.specs.Int.{div_ceil}
 use Rattle.pcm_front.specs.declared.level.Level.{Level}

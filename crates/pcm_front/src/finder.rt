@@ -177,11 +177,7 @@ impl Finder {
         ensures latest { self.new.latest ≡ self.old.latest }
         ensures runs { RunsTo self.old self.new window.old window.new (slice_range (S.list samples.now) at result) None }
     {
-        let (side, least, fineness) = (
-            self.side,
-            self.threshold.least(),
-            u64::from(self.fineness),
-        );
+        let (side, least, fineness) = (self.side, self.threshold.least(), u64::from(self.fineness));
         let (mut tick, mut before, mut level) = (self.tick, self.before, self.level);
         let mut end = at;
         'samples: while end < samples.count() {

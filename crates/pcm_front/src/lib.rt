@@ -16,7 +16,7 @@
 //!   the samples (`specs/StandsFor.antt`, clause `stands`). They come first, whatever samples follow
 //!   (`laws`). Sums of one are the samples.
 //! - `Slicer::run_samples` takes many samples, and `Slicer::run` the whole samples of bytes
-//!   (`specs/Samples.antt`, `samples_of`), up to one that may bring a distance.
+//!   (`specs/Samples.antt`, `samples_of`), up to the first that brings a distance, or else all of them.
 //! - `pieces` writes a distance as intervals of a length and a rest (`specs/Distance.antt`, `pieces_in`).
 //! - `Slicer::intervals_of_samples` and `intervals_of_bytes` give the intervals at a `Pace`: of a distance
 //!   that has ended, or, as it passes, each whole piece as soon as no crossing can end it any more
@@ -26,7 +26,7 @@
 //!   a sample, and runs of samples are sliced into their lengths (`laws`).
 //! - Sound that is made of intervals is sliced into them again (`specs/Sound.antt`, `sound`; `laws`).
 //!
-//! Read `start`, `samples`, `window`, `threshold`, `level`, `side`, `crossing`, `finder`, `slicer`,
+//! Read `start`, `samples`, `window`, `quiet`, `threshold`, `level`, `side`, `crossing`, `finder`, `slicer`,
 //! `interval`, `pace` and `paced`, in this order, and `specs/Sums.antt`, `Level.antt`, `Side.antt`,
 //! `Crossing.antt`, `Distance.antt` and `Pace.antt` beside them. Nothing here allocates or fails.
 #![tactic(auto)]

@@ -1,4 +1,4 @@
-//! The sums of the latest samples. Next: `level`.
+//! The sums of the latest samples. Next: `quiet`.
 ghost use Rattle.std.specs.Prelude.{◌≡◌, ◌≤◌, ◌+◌, ◌*◌, ◌==◌, true, cond, unsigned_abs, ◌+ℤ◌, ◌-ℤ◌, ◌++◌, [], ◌∷◌};
 ghost use Rattle.pcm_front.specs.Level.{IsSum};
 ghost use Rattle.pcm_front.specs.State.{fresh_window, window_after, IsAlone};

@@ -13,7 +13,7 @@ use Rattle.tc_command.specs.Verdict as verdict
 use Rattle.tc_words.specs.Live.{pace_of}
 use Rattle.tc_words.specs.WaveSlicing.{SlicesWave}
 use Rattle.wave_file.specs.declared.format.WaveFormat.{WaveFormat}
-use Rattle.wave_file.specs.Wave.{Reading, Verdict, good, refused, past_limit, end_fault_of, reading_of}
+use Rattle.wave_file.specs.Wave.{Verdict, good, refused, past_limit, end_fault_of, reading_of}
 use Rattle.tc_command.specs.Meaning.{Meaning}
 
 -- in 16 ticks a sample, from the place of the first one on

@@ -69,8 +69,33 @@ impl SlicedSound {
         }
     }
 
-    /// Slices whole samples at the front of the bytes, up to a crossing, and answers on how many bytes.
+    /// Slices the whole samples at the front of the bytes, and answers on how many bytes.
     fn slice<K: Sink>(&mut self, bytes: &[u8], out: &mut K) -> Result<usize, Stop>
+        requires going { IsGoing self.old }
+        requires some { 2 ≤ length bytes.now }
+        ensures going { OnOk result (IsGoing self.new) }
+        ensures count { IfOk result (λ count. (2 ≤ count) × (count ≤ length bytes.now)) }
+        ensures samples { IfOk result (λ count. 2 * self.new.samples ≡ 2 * self.old.samples + count) }
+        ensures slicing { self.new.slicing ≡ self.old.slicing }
+        ensures half { self.new.half ≡ self.old.half }
+        ensures works { IfOk result (λ count. (whole written : List ℕ) → Slices self.old whole written
+            → (more : List ℕ) × Appends (K.written out.old) (K.written out.new) more
+            × Slices self.new (whole ++ take count bytes.now) (written ++ more)) }
+        ensures stops { IfErr result (λ stop. (whole written rest : List ℕ) → Slices self.old whole written
+            → Stops (along_samples self.old.slicing) stop (K.written out.old) (K.written out.new) (whole ++ (bytes.now ++ rest)) written) }
+        ensures cause { HasOutCause (K.faults out.old) (K.faults out.new) result }
+        ensures no_pull { result ≡ Err Stop.ReadFault → ⊥ }
+    {
+        let mut at = 0;
+        'runs: while 2 <= bytes.len() - at {
+            at += self.slice_run(&bytes[at..], out)?;
+        }
+        Ok(at)
+    }
+
+    /// The same of a run of samples, up to one that brings a distance.
+    #[inline(always)]
+    fn slice_run<K: Sink>(&mut self, bytes: &[u8], out: &mut K) -> Result<usize, Stop>
         requires going { IsGoing self.old }
         requires some { 2 ≤ length bytes.now }
         ensures going { OnOk result (IsGoing self.new) }

@@ -1,6 +1,6 @@
 use Rattle.std.specs.Int.{w16}
 use Rattle.std.specs.List.{AllByRecursion}
-use Rattle.std.proofs.Common.{FitsSigned, ◌≡◌, ◌+◌, ℕ, take, length}
+use Rattle.std.proofs.Common.{FitsSigned, ◌≡◌, ◌+◌, take, length}
 use Rattle.std.specs.Prelude.{slice_range}
 use Rattle.pcm_front.proofs.quiet.lanes_at.Given as goal
 

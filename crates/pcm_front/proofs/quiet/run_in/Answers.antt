@@ -1,4 +1,4 @@
-use Rattle.std.proofs.Common.{◌≡◌, ap, ◌∙◌, arith}
+use Rattle.std.proofs.Common.{ap, ◌∙◌, arith}
 use Rattle.pcm_front.specs.Quiet.{first_set, lies_in}
 use Rattle.pcm_front.proofs.RunEnds.{as_they_are, first_outside}
 use Rattle.pcm_front.proofs.quiet.run_in.Goals as goal

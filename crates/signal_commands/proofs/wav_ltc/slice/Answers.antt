@@ -1,10 +1,10 @@
-use Rattle.std.proofs.Common.{◌+◌, ◌-◌, ◌++◌, ℤ, List, ℕ, length, take, drop, sym, ◌∙◌, ap, refl, subst, arith}
+use Rattle.std.proofs.Common.{◌+◌, ◌++◌, ℤ, List, take, drop, ◌∙◌, ap, refl, subst, arith}
 use Rattle.std.proofs.Common.{take-append-drop}
 use Rattle.std.proofs.lemmas.List.{take_all}
 use Rattle.pcm_front.specs.Settings.{Settings}
 use Rattle.pcm_front.specs.StandsFor as pcm
 use Rattle.pcm_front.specs.StandsFor.{settings_of, tick_of}
-use Rattle.tc_command.specs.KeptGathered.{IsPut, put_more}
+use Rattle.tc_command.specs.KeptGathered.{put_more}
 use Rattle.tc_command.specs.KeptWorks.{at_err}
 use Rattle.signal_commands.specs.KeptTrack.{AreDue}
 use Rattle.signal_commands.proofs.DueSamples.{due_at, due_behind, front_of_longer, joined, next_tick, put_then_front}

@@ -1,6 +1,6 @@
 use Rattle.std.specs.Int.{w16, w32}
 use Rattle.std.specs.Prelude.{slice_range}
-use Rattle.std.proofs.Common.{FitsSigned, rules, ◌≡◌, ◌+◌, ◌<◌, None, length, true, ap, ap₂, sym, ◌∙◌, subst, arith, to_z, to_z-of_z}
+use Rattle.std.proofs.Common.{FitsSigned, rules, ◌≡◌, ◌<◌, None, length, true, ap, ap₂, sym, ◌∙◌, subst, arith, to_z, to_z-of_z}
 use Rattle.pcm_front.specs.KeptRuns.{RunsTo}
 use Rattle.pcm_front.specs.Level.{least_of, next_level}
 use Rattle.pcm_front.specs.Side.{side_of, stays}

@@ -1,4 +1,4 @@
-use Rattle.std.proofs.Common.{◌≡◌, ◌+◌, ◌-◌, ◌*◌, ◌≤◌, ℕ, None, length}
+use Rattle.std.proofs.Common.{◌≡◌, ◌-◌, ◌≤◌, None, length}
 use Rattle.std.specs.Prelude.{slice_range}
 use Rattle.pcm_front.specs.KeptRuns.{RunsTo}
 use Rattle.pcm_front.specs.Level.{least_of, IsInRange, IsSum}

@@ -1,5 +1,5 @@
 use Rattle.std.specs.Int.{w16}
-use Rattle.std.proofs.Common.{FitsSigned, rules, ◌+◌, ◌*◌, ap, sym, ◌∙◌, drop, length, arith, to_z-of_z, length-drop}
+use Rattle.std.proofs.Common.{FitsSigned, rules, ◌*◌, ap, sym, ◌∙◌, arith, to_z-of_z, length-drop}
 use Rattle.std.proofs.lemmas.List.{take_rest}
 use Rattle.pcm_front.specs.Samples.{sample_in}
 use Rattle.pcm_front.proofs.InBytes.{place_in, sample-at, twice}

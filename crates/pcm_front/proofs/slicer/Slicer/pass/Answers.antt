@@ -1,4 +1,3 @@
-use Rattle.std.proofs.Common.{length}
 use Rattle.pcm_front.proofs.UpTo.{run_passes}
 use Rattle.pcm_front.proofs.slicer.Slicer.pass.Goals as goal
 

@@ -1,5 +1,4 @@
-use Rattle.std.proofs.Common.{ℤ, List, IfSome, ◌-◌, ◌≡◌, ◌≤◌, ◌+◌, ◌*◌, ◌/◌, ◌^◌, ℕ, ◌++◌, take, length, subst, ap, sym, ◌∙◌, mul-le-mul_left, arith}
-use Rattle.std.specs.Option.{option_to_list}
+use Rattle.std.proofs.Common.{ℤ, List, IfSome, ◌-◌, ◌≡◌, ◌≤◌, ◌*◌, ◌++◌, take, length, subst, ap, sym, ◌∙◌, mul-le-mul_left, arith}
 use Rattle.pcm_front.specs.Distance.{distances_by}
 use Rattle.pcm_front.specs.Samples.{samples_of}
 use Rattle.pcm_front.specs.StandsFor.{settings_of, StandsFor}

@@ -1,4 +1,4 @@
-use Rattle.std.proofs.Common.{◌≡◌, ◌-◌, ◌≤◌, ℕ, None, take, length}
+use Rattle.std.proofs.Common.{◌-◌, ◌≤◌, None, take, length}
 use Rattle.pcm_front.specs.KeptRuns.{RunsTo}
 use Rattle.pcm_front.specs.StandsFor.{passed_of}
 use Rattle.pcm_front.proofs.slicer.Slicer.up_to_distance.Given as goal

@@ -1,5 +1,4 @@
-use Rattle.std.proofs.Common.{pos, replicate, ap, arith}
-use Rattle.pcm_front.specs.State.{WindowState}
+use Rattle.std.proofs.Common.{ap, arith}
 use Rattle.pcm_front.proofs.Ring.{fresh_is, fresh_ring}
 use Rattle.pcm_front.proofs.window.Window.new.Goals as goal
 

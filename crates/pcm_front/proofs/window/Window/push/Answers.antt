@@ -1,8 +1,8 @@
 use Rattle.std.specs.Int.{w16, w32}
-use Rattle.std.proofs.Common.{FitsSigned, rules, ◌≡◌, ◌≤◌, ◌+ℤ◌, ◌-ℤ◌, ℕ, pos, get_or, to_z, of_z, ap, sym, ◌∙◌, arith, to_z-of_z, refl}
+use Rattle.std.proofs.Common.{FitsSigned, rules, ◌≡◌, ◌+ℤ◌, ◌-ℤ◌, pos, get_or, ap, ◌∙◌, arith, to_z-of_z}
 use Rattle.pcm_front.specs.Level.{HasSixteenBits}
 use Rattle.pcm_front.specs.State.{window_after, WindowState}
-use Rattle.pcm_front.proofs.Ring.{kept-within, place_after, pushed, written}
+use Rattle.pcm_front.proofs.Ring.{kept-within, pushed, written}
 use Rattle.pcm_front.proofs.window.Window.push.Goals as goal
 
 pub moved-self-inside-requires : goal.moved-self-inside-requires

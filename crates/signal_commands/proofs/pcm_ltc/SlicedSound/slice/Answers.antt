@@ -1,58 +1,59 @@
-use Rattle.std.proofs.Common.{◌+◌, ◌/◌, ◌++◌, [], take, length, ap, refl, subst, sym, ◌∙◌, append-nil, arith, length-append}
-use Rattle.std.proofs.KnownBytes.{Appends-nil}
-use Rattle.pcm_front.specs.Settings.{Settings}
-use Rattle.tc_io.specs.Sink.{AppendsFront}
-use Rattle.tc_command.specs.KeptWorks.{through}
-use Rattle.signal_commands.proofs.SlicedOn.{at_limit, gathered_part, grown, grown_part, grows, no_longer, ticks_fit}
+use Rattle.std.proofs.Common.{◌-◌, ◌++◌, List, ℕ, take, drop, length, ap, refl, subst, sym, ◌∙◌, append_assoc, arith}
+use Rattle.signal_commands.specs.KeptSlices.{Slices}
+use Rattle.signal_commands.specs.PcmLtc.{along_samples}
+use Rattle.tc_command.specs.KeptWorks.{Works, cut_at, cut_more, stops_on, through, within_rest, works_nothing, works_on}
+use Rattle.tc_command.specs.Stops.{IsStop, Stops}
 use Rattle.signal_commands.proofs.pcm_ltc.SlicedSound.slice.Goals as goal
 
--- so many samples were taken, and what is gathered was not
-pub returns-in_err-push-clause-stops : goal.returns-in_err-push-clause-stops
-returns-in_err-push-clause-stops g c =
+pub runs-init : goal.runs-init
+runs-init g c = record {
+  within = omega arith;
+  some = λ none. absurd (omega (arith, none));
+  going = c.requires.going;
+  samples = omega arith;
+  slicing = refl;
+  half = refl;
+  works = works_nothing (Slices c.args.self.now) (g.K.Sink.written c.args.out.now);
+  same = refl;
+}
+
+-- the samples before these were sliced, and then these
+pub runs-preserved : goal.runs-preserved
+runs-preserved g c =
+    let i = c.runs.invariant in
+    let e = c.in_ok-at.ensures in
+    let n = c.in_ok-at.field-0 in
+    let bytes = c.args.bytes.now in
+    let inside = within_rest c.runs.at n bytes i.within e.count.1 in
+    let cut = cut_more c.runs.at n bytes i.within inside in
+    record {
+      within = inside;
+      some = λ one. omega (arith, e.count.0);
+      going = e.going;
+      samples = omega (arith, e.samples, i.samples);
+      slicing = e.slicing ∙ i.slicing;
+      half = e.half ∙ i.half;
+      works = subst (λ (bs : List ℕ). Works (Slices c.args.self.now) (Slices c.slice_run.new.self) (g.K.Sink.written c.args.out.now)
+          (g.K.Sink.written c.slice_run.new.out) bs) cut
+          (works_on (Slices c.args.self.now) (Slices c.runs.self) (Slices c.slice_run.new.self) (g.K.Sink.written c.args.out.now)
+          (g.K.Sink.written c.runs.out) (g.K.Sink.written c.slice_run.new.out) _ _ i.works e.works);
+      same = e.cause ∙ i.same;
+    }
+
+-- the command stops in one of them
+pub returns-in_err-at-clause-stops : goal.returns-in_err-at-clause-stops
+returns-in_err-at-clause-stops g c =
+    let i = c.runs.invariant in
+    let s = c.args.self.now in
+    let at = c.runs.at in
+    let bytes = c.args.bytes.now in
+    let old = g.K.Sink.written c.args.out.now in
+    let new = g.K.Sink.written c.slice_run.new.out in
+    let left = take (length bytes - at) (drop at bytes) in
     through c.from_residual.result c.from_residual.ensures.1 (λ stop same whole written rest slices.
-    rw (same, c.in_err-push.ensures.why) (gathered_part c.args.self.now whole written (c.args.bytes.now ++ rest) _ _ slices c.in_err-push.ensures.front))
-
--- so many samples were taken, and here is another
-pub returns-then-self-eq-MAX_SAMPLES-clause-stops : goal.returns-then-self-eq-MAX_SAMPLES-clause-stops
-returns-then-self-eq-MAX_SAMPLES-clause-stops g c = λ whole written rest slices.
-    at_limit c.args.self.now whole written (c.args.bytes.now ++ rest) _ _ slices c.if-self-eq-MAX_SAMPLES.true
-    (omega (arith, length-append c.args.bytes.now rest, c.requires.some)) c.in_ok-push.ensures.all
-
-pub intervals_of_bytes-count-requires-clause-room : goal.intervals_of_bytes-count-requires-clause-room
-intervals_of_bytes-count-requires-clause-room g c =
-    let s = c.args.self.now in
-    let going = c.requires.going in
-    let short = no_longer s c.args.bytes.now c.within-samples.result.now c.within-samples.ensures.front in
-    ticks_fit s.slicing.fineness s.samples s.slicer.finder.tick s.slicer.finder.fineness (length c.within-samples.result.now) going.tick
-    (ap (λ (how : Settings). how.fineness) going.settings) going.fine going.within
-    (omega (arith, short))
-
--- the intervals were not taken
-pub returns-in_err-spell-clause-stops : goal.returns-in_err-spell-clause-stops
-returns-in_err-spell-clause-stops g c =
-    let s = c.args.self.now in
-    let e = c.intervals_of_bytes-count.ensures in
-    let going = c.requires.going in
-    let count = c.intervals_of_bytes-count.result.0 in
-    let next = record s { slicer = c.intervals_of_bytes-count.new.self; samples = s.samples + count / 2; gathered = c.spell.new.gathered } in
-    through c.from_residual-in_err-spell.result c.from_residual-in_err-spell.ensures.1 (λ stop same whole written rest slices.
-    rw (same, c.in_err-spell.ensures.why) (grown_part s next whole written c.args.bytes.now rest count c.intervals_of_bytes-count.result.1 _ _ slices
-    (grows s next c.args.bytes.now c.within-samples.result.now count e.whole.0 c.pace.result c.intervals_of_bytes-count.result.1
-    c.within-samples.ensures.front e.within e.whole.1 refl refl going.within going.settings c.pace.ensures.value e.stands e.intervals)
-    c.in_err-spell.ensures.front))
-
--- they were
-pub returns-clause-works : goal.returns-clause-works
-returns-clause-works g c = λ whole written slices.
-    let s = c.args.self.now in
-    let e = c.intervals_of_bytes-count.ensures in
-    let going = c.requires.going in
-    let count = c.intervals_of_bytes-count.result.0 in
-    let next = record s { slicer = c.intervals_of_bytes-count.new.self; samples = s.samples + count / 2; gathered = c.spell.new.gathered } in
-    let put = c.in_ok-spell.ensures.all in (
-      put.0,
-      put.1,
-      grown s next whole written (take count c.args.bytes.now) put.0 c.intervals_of_bytes-count.result.1 slices
-          (grows s next c.args.bytes.now c.within-samples.result.now count e.whole.0 c.pace.result c.intervals_of_bytes-count.result.1
-          c.within-samples.ensures.front e.within e.whole.1 refl refl going.within going.settings c.pace.ensures.value e.stands e.intervals) put.2,
-    )
+    subst (λ (b : List ℕ). Stops (along_samples s.slicing) stop old new (whole ++ b) written)
+    (sym (append_assoc (take at bytes) left rest) ∙ ap (λ (l : List ℕ). l ++ rest) (cut_at at bytes i.within))
+    (subst (λ slicing. Stops (along_samples slicing) stop old new (whole ++ (take at bytes ++ (left ++ rest))) written) i.slicing
+    (stops_on (IsStop (along_samples c.runs.self.slicing) stop) (Slices s) (Slices c.runs.self) old (g.K.Sink.written c.runs.out) new
+    (take at bytes) (left ++ rest) i.works (λ front output stands. rw same (c.in_err-at.ensures.stops front output rest stands))
+    whole written slices)))

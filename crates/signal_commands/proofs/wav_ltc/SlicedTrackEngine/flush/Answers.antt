@@ -1,4 +1,4 @@
-use Rattle.std.proofs.Common.{◌≡◌, ◌++◌, List, ℕ, [], ap, ◌∙◌, append-nil}
+use Rattle.std.proofs.Common.{◌++◌, List, ℕ, ap, ◌∙◌, append-nil}
 use Rattle.tc_command.specs.KeptWorks.{both_ok, err_both, if_err, on_ok}
 use Rattle.signal_commands.proofs.SlicedTracks.{flush_stop, pushed_on}
 use Rattle.signal_commands.proofs.wav_ltc.SlicedTrackEngine.flush.Goals as goal

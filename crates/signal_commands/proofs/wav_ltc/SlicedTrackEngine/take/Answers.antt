@@ -1,4 +1,4 @@
-use Rattle.std.proofs.Common.{ℕ, List, [], take, refl, sym, ◌∙◌, ap, subst, arith}
+use Rattle.std.proofs.Common.{[], take, refl, arith}
 use Rattle.tc_command.specs.KeptWorks.{works_on}
 use Rattle.signal_commands.specs.KeptTrack.{Stands}
 use Rattle.signal_commands.proofs.SlicedTracks.{err_if, falls, going_on, nothing_taken, ok_both, ok_if, ok_to, stop_behind}
