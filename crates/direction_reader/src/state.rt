@@ -11,12 +11,12 @@ use biphase::{LatestFour, MAX_INTERVAL};
 use cell_tracker::{AtCell, FromAtCell, FromHunting, FromMidCell, Hunting, MidCell};
 
 /// A state of the tracker. Most intervals find it at the end of a cell, and the compiler asks for the
-/// last variant first.
+/// first variant first, where another one's arm stands first in a `match`.
 #[derive(Clone, Copy, Debug, PartialEq, Eq)]
 pub enum State {
-    Hunting(Hunting),
-    MidCell(MidCell),
     AtCell(AtCell),
+    MidCell(MidCell),
+    Hunting(Hunting),
 }
 
 /// What an interval brought to the stretch.
@@ -49,30 +49,6 @@ impl State {
             → StandsAfter (tracking_with self.old four.old) (tracking_with self.new four.new) x intervals earlier open_yet result }
     {
         match self {
-            State::AtCell(at_cell) => match at_cell.feed(four, x) {
-                FromAtCell::Zero(next) => {
-                    *at_cell = next;
-                    Step::Cell(false)
-                }
-                FromAtCell::Half(mid_cell) => {
-                    *self = State::MidCell(mid_cell);
-                    Step::Nothing
-                }
-                FromAtCell::Broken(hunting) => {
-                    *self = State::Hunting(hunting);
-                    Step::Break
-                }
-            },
-            State::MidCell(mid_cell) => match mid_cell.feed(four, x) {
-                FromMidCell::One(at_cell, _, _) => {
-                    *self = State::AtCell(at_cell);
-                    Step::Cell(true)
-                }
-                FromMidCell::Broken(hunting) => {
-                    *self = State::Hunting(hunting);
-                    Step::Break
-                }
-            },
             State::Hunting(hunting) => match hunting.feed(four, x) {
                 FromHunting::Hunt(next) => {
                     *hunting = next;
@@ -88,6 +64,30 @@ impl State {
                 }
                 FromHunting::StartBroken(next, _) => {
                     *hunting = next;
+                    Step::Break
+                }
+            },
+            State::MidCell(mid_cell) => match mid_cell.feed(four, x) {
+                FromMidCell::One(at_cell, _, _) => {
+                    *self = State::AtCell(at_cell);
+                    Step::Cell(true)
+                }
+                FromMidCell::Broken(hunting) => {
+                    *self = State::Hunting(hunting);
+                    Step::Break
+                }
+            },
+            State::AtCell(at_cell) => match at_cell.feed(four, x) {
+                FromAtCell::Zero(next) => {
+                    *at_cell = next;
+                    Step::Cell(false)
+                }
+                FromAtCell::Half(mid_cell) => {
+                    *self = State::MidCell(mid_cell);
+                    Step::Nothing
+                }
+                FromAtCell::Broken(hunting) => {
+                    *self = State::Hunting(hunting);
                     Step::Break
                 }
             },

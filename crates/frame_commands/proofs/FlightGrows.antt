@@ -23,7 +23,7 @@ use Rattle.interval_file.specs.declared.header.IntervalHeader.{IntervalHeader}
 use Rattle.std.specs.Io.KnownBytes.{Appends}
 use Rattle.tc_words.specs.declared.flight.Flight.{Flight}
 use Rattle.frame_commands.specs.declared.flight.FrameReader.{FrameReader}
-use Rattle.frame_commands.specs.KeptFlight.{Comes, Counts, CountsAll, GivesDue, GivesDueAll, GivesDueAllFirst, GivesDueFirst, Sends, SendsFront, Stands}
+use Rattle.frame_commands.specs.KeptFlight.{Comes, Counts, CountsAll, GivesDue, GivesDueAll, GivesDueAllFirst, Sends, SendsFront, Stands}
 use Rattle.frame_commands.specs.LtcFly.{is_end, is_heard, is_invented}
 use Rattle.frame_commands.specs.OfFrames.{FrameText, IsFlightPart, IsFlightWhole, frames_of, heard_in, words_heard}
 use Rattle.frame_commands.proofs.FramesInOrder.{Given}
@@ -42,10 +42,6 @@ Reads before after x own = (intervals : List ℕ) (events : List Event) → read
 pub due_alone : (a b : Wheel) (tick : ℕ) (due : List Frame) → GivesDue a b tick due → GivesDueAll a b tick [] due
 due_alone a b tick due gives = λ words earlier given stands before.
     subst (λ (ws : List HeardWord). flies.HasGivenAll b ws tick (given ++ due)) (sym (append-nil words)) (gives words earlier given stands before)
-
-pub due_alone_first : (a : Wheel) (tick : ℕ) (due : List Frame) → GivesDueFirst a tick due → GivesDueAllFirst a tick [] due
-due_alone_first a tick due gives = λ words earlier given stands before.
-    subst (λ (ws : List HeardWord). Comes a.limit ws tick (given ++ due)) (sym (append-nil words)) (gives words earlier given stands before)
 
 -- the events of the intervals with one more
 events_now : (system : System) (profile : Profile) (before next : ReaderState) (intervals : List ℕ) (events : List Event) (x : ℕ) (own : Events) → before.system ≡ system

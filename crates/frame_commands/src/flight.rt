@@ -1,7 +1,7 @@
 //! The way along the frames of a recording, the same for each command that makes something of them: words
 //! become frames, and a flywheel invents those that are missing. Next: `flywheel/src/heard.rt`, and with
 //! the frames `frame_sink`.
-ghost use Rattle.std.specs.Prelude.{◌≡◌, ◌≤◌, ◌<◌, ◌+◌, ◌-◌, ◌*◌, ◌^◌, List, ◌∷◌, ◌++◌, [], ℕ, false, OnOk, OnErr, IfOk, IfErr, IfSome};
+ghost use Rattle.std.specs.Prelude.{◌≡◌, ◌≤◌, ◌<◌, ◌+◌, ◌-◌, ◌*◌, ◌^◌, List, ◌∷◌, ◌++◌, [], ℕ, false, IsTrue, OnOk, OnErr, IfOk, IfErr, IfSome};
 ghost use Rattle.std.specs.Io.KnownBytes.{Appends};
 ghost use Rattle.biphase.specs.declared.cell.TheConstants.{MAX_INTERVAL, MAX_INTERVALS};
 ghost use Rattle.direction_reader.specs.declared.event.Event.{Event};
@@ -14,6 +14,7 @@ ghost use Rattle.flywheel.specs.declared.heard.HeardWord.{HeardWord};
 ghost use Rattle.flywheel.specs.Wheel.{frames_left, has_frame_due, IsInRange};
 ghost use Rattle.report_text.specs.FrameTexts.{fly_end_line, FitsFrameLine};
 ghost use Rattle.tc_io.specs.Sink.{AppendsFront};
+ghost use Rattle.tc_io.specs.Source.{Rose};
 ghost use Rattle.tc_command.specs.Causes.{HasOutCause};
 ghost use Rattle.frame_commands.specs.OfFrames.{words_heard};
 ghost use Rattle.frame_commands.specs.KeptFlight.{
@@ -29,6 +30,7 @@ ghost use Rattle.frame_commands.specs.KeptFlight.{
   GivesDueAllFirst,
   GivesDueFirst,
   GivesFirst,
+  HeardBy,
   IsReady,
   KeepsReading,
   Sends,
@@ -49,7 +51,7 @@ use interval_file::IntervalHeader;
 use line_text::Text;
 use report_text::fly_end_text;
 use tc_command::Stop;
-use tc_io::Sink;
+use tc_io::{Failed, Sink};
 use tc_words::Flight;
 
 /// The frames of a recording: its reader, its flywheel, and how many frames of each kind were given.
@@ -104,8 +106,6 @@ impl FrameReader {
     }
 
     /// Gives the frames that are due at the tick.
-    #[cold]
-    #[inline(never)]
     fn pass<T: FrameSink, K: Sink>(
         &mut self,
         tick: u64,
@@ -230,7 +230,6 @@ impl FrameReader {
     }
 
     /// Gives the frames that are due at the tick, mostly none.
-    #[inline(always)]
     fn give_due<T: FrameSink, K: Sink>(
         &mut self,
         tick: u64,
@@ -257,8 +256,6 @@ impl FrameReader {
     }
 
     /// Gives the frames that are due, and then those of the words of what an interval brought.
-    #[cold]
-    #[inline(never)]
     fn hear_all<T: FrameSink, K: Sink>(
         &mut self,
         brought: Brought,
@@ -285,6 +282,50 @@ impl FrameReader {
         let events = self.reader.events(brought);
         self.give_due(tick, sink, out)?;
         self.hear_both(events, tick, sink, out)
+    }
+
+    /// Whether the latest interval brings no frame: nothing was told of it, and none is due.
+    #[inline(always)]
+    fn is_quiet(&self, brought: Brought) -> bool
+        requires { HeardBy self.now.reader.tick self.now.wheel }
+        ensures quiet { IsTrue result → (brought ≡ Brought.Nothing)
+            × GivesDue self.now.wheel self.now.wheel self.now.reader.tick [] }
+    {
+        match brought {
+            Brought::Nothing => !self.wheel.due(self.reader.tick()),
+            Brought::Candidate | Brought::Break => false,
+        }
+    }
+
+    /// Gives what `hear_all` does. Nearly every interval brings nothing, and a small answer costs those
+    /// nothing.
+    #[cold]
+    #[inline(never)]
+    fn give<T: FrameSink, K: Sink>(
+        &mut self,
+        brought: Brought,
+        sink: &mut T,
+        out: &mut K,
+    ) -> Result<(), Failed>
+        requires ready { IsReady self.old (T.taken sink.old) self.old.reader.tick (2 * MAX_INTERVALS) }
+        requires taken { 1 ≤ self.old.reader.intervals }
+        requires may { MayTell self.old.reader brought }
+        ensures keeps { KeepsReading self.old self.new (T.taken sink.new) }
+        ensures heard { OnOk result (self.new.heard ≤ self.old.heard + 2) }
+        ensures ready { OnOk result (StaysReady self.new self.old.reader.tick) }
+        ensures gives { OnOk result ((own : Events) × (more : List Frame) × Tells self.old.reader brought own × Counts self.old self.new more
+            × Sends T.made T.given sink.old sink.new (K.written out.old) (K.written out.new) more
+            × GivesDueAll self.old.wheel self.new.wheel self.old.reader.tick (words_heard (event_list own)) more) }
+        ensures front { OnErr result ((own : Events) × (more : List Frame) × Tells self.old.reader brought own
+            × SendsFront T.made T.given sink.old (K.written out.old) (K.written out.new) more
+            × GivesDueAllFirst self.old.wheel self.old.reader.tick (words_heard (event_list own)) more) }
+        ensures same { OnOk result (K.faults out.new ≡ K.faults out.old) }
+        ensures rose { OnErr result (Rose (K.faults out.old) (K.faults out.new)) }
+    {
+        match self.hear_all(brought, sink, out) {
+            Ok(()) => Ok(()),
+            Err(_) => Err(Failed),
+        }
     }
 
     /// How many intervals were read.
@@ -359,12 +400,13 @@ impl<T: FrameSink> Behind for FlightTo<T> {
     fn interval<K: Sink>(&mut self, x: u32, out: &mut K) -> Result<(), Stop> {
         a_reader_gives_the_events_of_its_list();
         frames_come_in_order();
-        match self.frames.reader.step(x) {
-            Brought::Nothing => {
-                let tick = self.frames.reader.tick();
-                self.frames.give_due(tick, &mut self.sink, out)
-            }
-            brought => self.frames.hear_all(brought, &mut self.sink, out),
+        let brought = self.frames.reader.step(x);
+        if self.frames.is_quiet(brought) {
+            return Ok(());
+        }
+        match self.frames.give(brought, &mut self.sink, out) {
+            Ok(()) => Ok(()),
+            Err(Failed) => Err(Stop::WriteFault),
         }
     }
 
