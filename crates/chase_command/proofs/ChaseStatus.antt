@@ -40,7 +40,7 @@ pub gather_stop : (label : Address) (stop : ChaseStop) (left : Option (List ℕ)
 gather_stop label (Refused fault) left pulled is = absurd is
 gather_stop label ReadFault left pulled is = (is, refl)
 gather_stop label WriteFault left pulled is = absurd is
-gather_stop label Memory left pulled is = (is, refl)
+gather_stop label Memory left pulled is = (inl is, refl)
 gather_stop label Limit left pulled is = (is, refl)
 
 pub row_stop : (label : Address) (stop : ChaseStop) (left : Option (List ℕ)) (pulled : List ℕ) → IsWhole left pulled
@@ -48,7 +48,7 @@ pub row_stop : (label : Address) (stop : ChaseStop) (left : Option (List ℕ)) (
 row_stop label (Refused fault) left pulled whole is = (whole, is, refl)
 row_stop label ReadFault left pulled whole is = absurd is
 row_stop label WriteFault left pulled whole is = absurd is
-row_stop label Memory left pulled whole is = (omega (arith, whole.short), refl)
+row_stop label Memory left pulled whole is = (inr whole, refl)
 row_stop label Limit left pulled whole is = absurd is
 
 -- ---- the status of the whole input
@@ -91,15 +91,13 @@ chase_stop_is_final label Limit left all pulled written s t k l consumed is sour
 
 -- ---- one pull more
 
-pub pull_stop : (stop : ChaseStop) (room : ℕ) (script bytes : List ℕ) → length script ≤ MAX_SCRIPT → length script + room ≤ MAX_SCRIPT + 1
-    → IsPullStop stop room bytes → IsGatherStop stop (script ++ bytes)
-pull_stop (Refused fault) room script bytes short fits is = absurd is
-pull_stop ReadFault room script bytes short fits is = rw (is, append-nil script) short
-pull_stop WriteFault room script bytes short fits is = absurd is
-pull_stop Memory room script bytes short fits is =
-    let less : length bytes ≤ room = is in
-    omega (arith, fits, less, length-append script bytes)
-pull_stop Limit room script bytes short fits is = absurd is
+pub pull_stop : (stop : ChaseStop) (script bytes : List ℕ) → length script ≤ MAX_SCRIPT → IsPullStop stop bytes
+    → IsGatherStop stop (script ++ bytes)
+pull_stop (Refused fault) script bytes short is = absurd is
+pull_stop ReadFault script bytes short is = rw (is, append-nil script) short
+pull_stop WriteFault script bytes short is = absurd is
+pull_stop Memory script bytes short is = absurd is
+pull_stop Limit script bytes short is = absurd is
 
 -- what an error that is passed on says
 pub passed : {T : Type 0} {P Q : ChaseStop → Type 0} (result : Result T ChaseStop) → IsErrAnd result P → ((stop : ChaseStop) → P stop → Q stop)
