@@ -43,15 +43,13 @@ by_length label all b e = ap (λ (c : Bool). status_of_length c (script_in label
 
 -- ---- one pull more
 
-pub pull_stop : (stop : ChaseStop) (room : ℕ) (script bytes : List ℕ) → length script ≤ MAX_SCRIPT → length script + room ≤ MAX_SCRIPT + 1
-    → IsPullStop stop room bytes → IsGatherStop stop (script ++ bytes)
-pull_stop (Refused fault) room script bytes short fits is = absurd is
-pull_stop ReadFault room script bytes short fits is = rw (is, append-nil script) short
-pull_stop WriteFault room script bytes short fits is = absurd is
-pull_stop Memory room script bytes short fits is =
-    let less : length bytes ≤ room = is in
-    omega (arith, fits, less, length-append script bytes)
-pull_stop Limit room script bytes short fits is = absurd is
+pub pull_stop : (stop : ChaseStop) (script bytes : List ℕ) → length script ≤ MAX_SCRIPT → IsPullStop stop bytes
+    → IsGatherStop stop (script ++ bytes)
+pull_stop (Refused fault) script bytes short is = absurd is
+pull_stop ReadFault script bytes short is = rw (is, append-nil script) short
+pull_stop WriteFault script bytes short is = absurd is
+pull_stop Memory script bytes short is = absurd is
+pull_stop Limit script bytes short is = absurd is
 
 -- what an error that is passed on says
 pub passed : {T : Type 0} {P Q : ChaseStop → Type 0} (result : Result T ChaseStop) → IsErrAnd result P → ((stop : ChaseStop) → P stop → Q stop)

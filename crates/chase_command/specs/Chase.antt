@@ -1,6 +1,6 @@
 -- `chase`: a script is read whole, and then the trace of its rows is written. So it is no stream: it takes memory for its
 -- input, and what is refused is a row and a column.
-use Rattle.std.specs.Prelude.{◌≡◌, ℕ, ◌+◌, ◌≤◌, Bool, true, false, nat_le, List, [], length, Option, Result, Ok, Err}
+use Rattle.std.specs.Prelude.{◌≡◌, ◌⊎◌, ℕ, ◌+◌, ◌≤◌, Bool, true, false, nat_le, List, [], length, Option, Result, Ok, Err}
 use Rattle.std.specs.Io.KnownBytes.{IsAtEnd}
 use Rattle.tc_io.specs.Sink.{IsFront}
 use Rattle.tc_address.specs.Label.{Address}
@@ -39,14 +39,14 @@ pub record IsTraced (label : Address) (left : Option (List ℕ)) (pulled written
   pub text : written ≡ chase_text label rows
 
 -- why a chase stops, and what was written then: nothing, unless a push failed. At most a byte more is pulled than a script
--- may have, and no row is judged before the end of the input
+-- may have, and no row is judged before the end of the input. Memory is wanted before the first pull or for the rows
 abbrev pub IsChaseStop : Address → ChaseStop → Option (List ℕ) → List ℕ → List ℕ → Type 0
 IsChaseStop label (Refused fault) left pulled written =
     IsWhole left pulled × (script_in label.count pulled ≡ Err fault) × (written ≡ [])
 IsChaseStop label ReadFault left pulled written = (length pulled ≤ MAX_SCRIPT) × (written ≡ [])
 IsChaseStop label WriteFault left pulled written =
     (rows : List ScriptRow) × IsScript label left pulled rows × IsFront written (chase_text label rows)
-IsChaseStop label Memory left pulled written = (length pulled ≤ MAX_SCRIPT + 1) × (written ≡ [])
+IsChaseStop label Memory left pulled written = ((pulled ≡ []) ⊎ IsWhole left pulled) × (written ≡ [])
 IsChaseStop label Limit left pulled written = (length pulled ≡ MAX_SCRIPT + 1) × (written ≡ [])
 
 -- of a part of it that came to its end, or stopped

@@ -5,21 +5,21 @@ use Rattle.chase_command.specs.declared.chasing.TheConstants.{MAX_SCRIPT}
 use Rattle.tc_command.specs.declared.stop.ChaseStop.{ChaseStop}
 use Rattle.tc_command.specs.declared.stop.ChaseStop.TheVariants.{Refused, ReadFault, WriteFault, Memory, Limit}
 
--- while the script is pulled
+-- while the script is pulled: its memory is had before the first pull
 abbrev pub IsGatherStop : ChaseStop → List ℕ → Type 0
 IsGatherStop (Refused fault) pulled = ⊥
 IsGatherStop ReadFault pulled = length pulled ≤ MAX_SCRIPT
 IsGatherStop WriteFault pulled = ⊥
-IsGatherStop Memory pulled = length pulled ≤ MAX_SCRIPT + 1
+IsGatherStop Memory pulled = pulled ≡ []
 IsGatherStop Limit pulled = length pulled ≡ MAX_SCRIPT + 1
 
--- in one pull with so much room
-abbrev pub IsPullStop : ChaseStop → ℕ → List ℕ → Type 0
-IsPullStop (Refused fault) room bytes = ⊥
-IsPullStop ReadFault room bytes = bytes ≡ []
-IsPullStop WriteFault room bytes = ⊥
-IsPullStop Memory room bytes = length bytes ≤ room
-IsPullStop Limit room bytes = ⊥
+-- in one pull
+abbrev pub IsPullStop : ChaseStop → List ℕ → Type 0
+IsPullStop (Refused fault) bytes = ⊥
+IsPullStop ReadFault bytes = bytes ≡ []
+IsPullStop WriteFault bytes = ⊥
+IsPullStop Memory bytes = ⊥
+IsPullStop Limit bytes = ⊥
 
 -- while its rows are judged
 abbrev pub IsRowStop : Script → ChaseStop → Type 0

@@ -1,6 +1,6 @@
 //! `chase`: a script is read whole, and then its trace is written. Next: `chase_script/src/script.rt`, and
 //! with its rows `trace`.
-ghost use Rattle.std.specs.Prelude.{◌≡◌, ◌⊎◌, ℕ, ◌+◌, ◌<◌, ◌≤◌, List, ◌++◌, length, Some, Ok, Err};
+ghost use Rattle.std.specs.Prelude.{◌≡◌, ◌⊎◌, ℕ, ◌+◌, ◌<◌, ◌≤◌, List, ◌++◌, length, vec_capacity, Some, Ok, Err};
 ghost use Rattle.std.specs.Prelude.{OnOk, OnErr, IfOk, IfErr};
 ghost use Rattle.std.specs.Io.KnownBytes.{Appends, Consumes, IsAtEnd};
 ghost use Rattle.tc_address.specs.declared.count.Count.{Count};
@@ -107,7 +107,8 @@ fn judge(alloc: Global, script: &[u8], count: Count) -> Result<Script, ChaseStop
     }
 }
 
-/// Pulls a whole script into memory. At most a byte more is pulled than it may have.
+/// Pulls a whole script into memory, which is asked for before the first pull. At most a byte more is pulled than
+/// a script may have.
 fn gather<S: Source>(alloc: Global, source: &mut S) -> Result<Vec<u8>, ChaseStop>
     ensures whole { IfOk result (λ script. Consumes (S.left source.old) (S.left source.new) script.items
         × IsAtEnd (S.left source.new) × (length script.items ≤ MAX_SCRIPT)) }
@@ -116,7 +117,9 @@ fn gather<S: Source>(alloc: Global, source: &mut S) -> Result<Vec<u8>, ChaseStop
     ensures source { SourceCause (chase_ended result) (S.faults source.old) (S.faults source.new) }
     ensures once { ChaseSeesOneEnd (chase_ended result) (S.ends source.old) (S.ends source.new) }
 {
-    let mut script = Vec::new(alloc);
+    let Ok(mut script) = Vec::with_capacity(alloc, MAX_SCRIPT + 1) else {
+        return Err(ChaseStop::Memory);
+    };
     let mut buf = [0; PULLED];
     'pulls: loop {
         let room = PULLED.min(MAX_SCRIPT + 1 - script.len());
@@ -136,12 +139,14 @@ fn pull_behind<S: Source>(
     room: &mut [u8],
     script: &mut Vec<u8>,
 ) -> Result<usize, ChaseStop>
-    requires { 0 < length room.old }
+    requires some { 0 < length room.old }
+    requires fits { length script.old.items + length room.old ≤ vec_capacity script.old }
     ensures takes { IfOk result (λ count. (bytes : List ℕ) × Consumes (S.left source.old) (S.left source.new) bytes
         × (script.new.items ≡ script.old.items ++ bytes) × (length bytes ≡ count) × (count ≤ length room.old)) }
+    ensures capacity { IfOk result (λ _. vec_capacity script.old ≤ vec_capacity script.new) }
     ensures end { IfOk result (λ count. count ≡ 0 → IsAtEnd (S.left source.new)) }
     ensures stops { IfErr result (λ stop. (bytes : List ℕ) × Consumes (S.left source.old) (S.left source.new) bytes
-        × IsPullStop stop (length room.old) bytes) }
+        × IsPullStop stop bytes) }
     ensures source { SourceCause (chase_ended result) (S.faults source.old) (S.faults source.new) }
     ensures seen { OnOk result (S.ends source.new ≡ ends_after (S.ends source.old) result (length room.old)) }
     ensures unseen { OnErr result (ChaseSeesOneEnd (chase_ended result) (S.ends source.old) (S.ends source.new)) }
@@ -149,8 +154,8 @@ fn pull_behind<S: Source>(
     let Ok(count) = source.pull(room) else {
         return Err(ChaseStop::ReadFault);
     };
-    match script.extend_from_slice(&room[..count]) {
-        Ok(()) => Ok(count),
-        Err(_) => Err(ChaseStop::Memory),
+    if script.extend_from_slice(&room[..count]).is_err() {
+        unreachable!();
     }
+    Ok(count)
 }

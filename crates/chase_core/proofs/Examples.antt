@@ -48,6 +48,15 @@ located_and_there : trace (begun C25 0) (bare (Some (Locate 25)) ∷ bare None �
 unfolding begun frame bare line trace
 located_and_there = refl
 
+-- half a frame from its label it waits, and a subframe more it goes on
+located_near_by : trace (begun C25 1_960) (bare (Some (Locate 25)) ∷ []) ≡ line Waiting (pos 40) (pos 0) None 1_960 ∷ []
+unfolding begun bare line trace
+located_near_by = refl
+
+not_there_yet : trace (begun C25 1_959) (bare (Some (Locate 25)) ∷ []) ≡ line Locating (pos 41) (pos 41) None 2_000 ∷ []
+unfolding begun bare line trace
+not_there_yet = refl
+
 -- far from a label it goes 32 frames at once, either way
 far_from_a_label : trace (begun C25 0) (bare (Some (Locate 100)) ∷ []) ≡ line Locating (pos 8_000) (pos 2_560) None 2_560 ∷ []
 unfolding begun frame bare line trace
@@ -62,11 +71,17 @@ far_from_the_master : trace (begun C25 0) (frame (Some Play) Forward 20 (pos 0) 
 unfolding begun frame bare line trace
 far_from_the_master = refl
 
--- near its master it locks, and moves 24 subframes nearer at once; to play again changes nothing of it
+-- near its master it locks, and moves 24 subframes nearer at once
 near_the_master : trace (begun C25 50) (frame (Some Play) Forward 1 (pos 0) ∷ frame (Some Play) Forward 2 (pos 0) ∷ []) ≡
     line Locked (pos 30) (pos 104) None 154 ∷ line Locked (pos 6) (pos 86) None 240 ∷ []
 unfolding begun frame bare line trace
 near_the_master = refl
+
+-- to play again changes nothing of a lock: without a master it is lost
+played_in_the_lock : trace (begun C25 0) (frame (Some Play) Forward 0 (pos 0) ∷ bare (Some Play) ∷ []) ≡
+    line Locked (pos 0) (pos 80) None 80 ∷ line Pulling (pos 0) (pos 0) (Some NoCode) 80 ∷ []
+unfolding begun frame bare line trace
+played_in_the_lock = refl
 
 -- half a frame is near, and a subframe more is not
 at_the_edge : trace (begun C25 40) (frame (Some Play) Forward 1 (pos 0) ∷ []) ≡ line Locked (pos 40) (pos 104) None 144 ∷ []

@@ -1,11 +1,11 @@
 //! Words as they are typed, and what they say.
 use biphase::Profile;
+use interval_file::FileVersion;
 use pcm_front::{Pace, Threshold};
 use std::alloc::{AllocError, Global};
 use std::process::Abort;
 use std::test::Fail;
 use tc_address::text;
-use interval_file::FileVersion;
 use tc_words::{
     Amplitude, ChaseRun, Flight, Jam, Job, LineStripe, Slicing, Task, WaveSlicing, WordsFault,
     read_words,

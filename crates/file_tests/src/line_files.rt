@@ -56,7 +56,10 @@ fn a_header_and_a_field_in_pieces(rt: HostRuntime) {
     assert_eq!(rt; decoder.finish(), Ok(()));
     assert_eq!(rt; decoder.take(b"\x01\x01"), Taken::Nothing(2));
     assert_eq!(rt; decoder.finish(), Err(LineFileFault::Truncated(14)));
-    assert_eq!(rt; decoder.take(b"\x00\x00"), Taken::Fault(LineFileFault::Run(14)));
+    assert_eq!(rt;
+        decoder.take(b"\x00\x00"),
+        Taken::Fault(LineFileFault::Run(14))
+    );
     let answer = FieldAnswer::Nothing(ReadFault::Line(LineFault::SyncPair(1)));
     assert_eq!(rt;
         decoder.take(b"\x00\x04\x00"),

@@ -13,8 +13,8 @@ ghost use Rattle.frame_commands.specs.OfFrames.{AreTooMany, FrameText};
 
 use crate::flight::FrameReader;
 use flywheel::Frame;
-use tc_command::Stop;
 use interval_file::IntervalHeader;
+use tc_command::Stop;
 use tc_io::Sink;
 use tc_words::Flight;
 

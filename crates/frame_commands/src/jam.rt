@@ -13,11 +13,11 @@ use crate::flight::{FlightTo, FrameReader};
 use crate::frame_sink::FrameSink;
 use flywheel::Frame;
 use interval_commands::work_along;
+use interval_file::{FileVersion, IntervalHeader, interval_header};
 use ltc_jam::laws::a_clean_recording_is_written_frame_by_frame;
 use ltc_jam::{frame_cells, lead};
 use made_commands::{push_all, push_interval};
 use tc_command::{PIECE, Piece, Stop, push_piece};
-use interval_file::{FileVersion, IntervalHeader, interval_header};
 use tc_io::{Sink, Source};
 use tc_words::{Flight, Jam};
 

@@ -17,11 +17,11 @@ use code_chase::CodeChase;
 use code_chase::laws::a_frame_adds_a_line;
 use flywheel::Frame;
 use interval_commands::work_along;
+use interval_file::IntervalHeader;
 use line_text::Text;
 use std::marker::Model;
 use tc_address::Count;
 use tc_command::{Stop, push_line};
-use interval_file::IntervalHeader;
 use tc_io::{Sink, Source};
 use tc_words::{ChaseRun, Flight};
 

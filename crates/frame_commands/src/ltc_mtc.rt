@@ -10,9 +10,9 @@ use crate::flight::{FlightTo, FrameReader};
 use crate::frame_sink::FrameSink;
 use flywheel::Frame;
 use interval_commands::work_along;
+use interval_file::IntervalHeader;
 use quarter_frame::QuarterWriter;
 use tc_command::{Stop, push_piece};
-use interval_file::IntervalHeader;
 use tc_io::{Sink, Source};
 use tc_words::Flight;
 

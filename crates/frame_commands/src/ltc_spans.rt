@@ -15,11 +15,11 @@ use crate::flight::{FlightTo, FrameReader};
 use crate::frame_sink::FrameSink;
 use flywheel::Frame;
 use interval_commands::work_along;
+use interval_file::IntervalHeader;
 use tape_spans::laws::final_lines_come_first;
 use tape_spans::{Cut, Gap, Span, SpanText, TapeSpans, gap_text, span_text};
 use tc_address::System;
 use tc_command::{Stop, push_line, push_piece};
-use interval_file::IntervalHeader;
 use tc_io::{Sink, Source};
 use tc_words::Flight;
 

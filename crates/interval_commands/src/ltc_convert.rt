@@ -8,8 +8,8 @@ ghost use Rattle.interval_commands.specs.Along.{along_intervals};
 ghost use Rattle.interval_commands.specs.LtcConvert.{conversion};
 
 use crate::along::{Behind, work_along};
-use tc_command::{Gathered, Stop};
 use interval_file::{FileVersion, IntervalHeader, interval_bytes, interval_header};
+use tc_command::{Gathered, Stop};
 use tc_io::{Sink, Source};
 
 /// Works `ltc-convert`: the same recording in a version of the file.

@@ -15,9 +15,9 @@ use crate::along::{Behind, work_along};
 use arrayvec::ArrayVec;
 use biphase::MAX_INTERVAL;
 use byteorder::{ByteOrder, LittleEndian};
+use interval_file::IntervalHeader;
 use pcm_front::Side;
 use tc_command::{Gathered, Stop, push_piece};
-use interval_file::IntervalHeader;
 use tc_io::{Sink, Source};
 use tc_words::Amplitude;
 

@@ -86,7 +86,11 @@ pub(crate) fn whole_width(version: FileVersion, bytes: &[u8]) -> Option<usize>
 
 /// The interval that stands first, at this byte place.
 #[inline(always)]
-pub(crate) fn interval_in(version: FileVersion, place: u64, bytes: &[u8]) -> Result<u32, IntervalFileFault>
+pub(crate) fn interval_in(
+    version: FileVersion,
+    place: u64,
+    bytes: &[u8],
+) -> Result<u32, IntervalFileFault>
     requires { piece_width version bytes.now ≤ length bytes.now }
     ensures exact { result ≡ interval_in version place bytes.now }
     ensures range { IfOk result (λ x. (1 ≤ x) × (x ≤ MAX_INTERVAL)) }

@@ -12,12 +12,12 @@ ghost use Rattle.made_commands.specs.MadeLines.{made_lines, AreReadBack};
 
 use biphase::laws::shaped_cells_are_a_chain;
 use direction_reader::laws::played_words_are_read;
+use interval_file::laws::a_file_is_read_as_it_was_written;
 use line_file::laws::{
     a_file_is_read_as_it_was_written as line_files_are_read_as_they_were_written,
     runs_of_a_line_fit_the_file,
 };
 use ltc_jam::laws::{steps_lead_to_labels, words_of_labels_are_spelled};
-use interval_file::laws::a_file_is_read_as_it_was_written;
 use vitc_line::laws::each_word_has_its_line;
 use vitc_reader::laws::each_line_has_its_runs;
 

@@ -14,13 +14,13 @@ ghost use Rattle.tc_command.specs.Ran.{CameToItsEnd, StoppedBefore};
 
 use biphase::{Cell, Shaper};
 use byteorder::{BigEndian, ByteOrder};
+use interval_file::{FileVersion, IntervalHeader, interval_header};
 use ltc_jam::played_bits;
 use ltc_word::laws::{each_word_has_its_spelling, spelling_is_exact};
 use ltc_word::{LtcWord, encode};
 use tc_address::laws::steps_add_up;
 use tc_address::{Direction, Label, advance, system_of};
 use tc_command::{Maker, PIECE, Piece, Stop, make};
-use interval_file::{FileVersion, IntervalHeader, interval_header};
 use tc_io::{Sink, Source};
 use tc_words::Stripe;
 

@@ -10,9 +10,9 @@ ghost use Rattle.signal_commands.specs.PcmLtc.{along_samples};
 ghost use Rattle.tc_command.specs.Stops.{Stops};
 
 use crate::spelling::spell;
+use interval_file::{FileVersion, IntervalHeader, interval_header};
 use pcm_front::Slicer;
 use tc_command::{Engine, Gathered, InputFault, Stop, work};
-use interval_file::{FileVersion, IntervalHeader, interval_header};
 use tc_io::{Sink, Source};
 use tc_words::Slicing;
 

@@ -18,10 +18,10 @@ ghost use Rattle.signal_commands.specs.WavLtc.{along_sound_file, track_header};
 ghost use Rattle.interval_file.specs.IntervalHeader.{header_bytes};
 
 use crate::spelling::spell;
+use interval_file::{FileVersion, IntervalHeader, interval_header};
 use pcm_front::laws::intervals_of_a_front_come_first;
 use pcm_front::{Pace, Slicer};
 use tc_command::{Engine, Gathered, InputFault, Stop, work};
-use interval_file::{FileVersion, IntervalHeader, interval_header};
 use tc_io::{Sink, Source};
 use tc_words::WaveSlicing;
 use wave_file::laws::{samples_are_few_and_behind_a_format, what_a_sound_file_shows_stays};

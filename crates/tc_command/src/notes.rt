@@ -5,10 +5,10 @@ ghost use Rattle.tc_io.specs.Source.{Rose};
 ghost use Rattle.tc_io.specs.Sink.{AppendsFront};
 ghost use Rattle.tc_command.specs.Notes.{usage_note, stop_note, refused_note, chase_note, row_note};
 
+use crate::input_fault::InputFault;
 use crate::stop::{ChaseStop, Stop};
 use chase_script::RowFault;
 use line_text::{Text, push_bytes, push_number};
-use crate::input_fault::InputFault;
 use tc_io::{Sink, push_all};
 use tc_words::WordsFault;
 

@@ -1,6 +1,6 @@
 //! Why a job stopped before its end. Next: `status`.
-use chase_script::RowFault;
 use crate::input_fault::InputFault;
+use chase_script::RowFault;
 
 /// Why a job stopped before its end.
 #[derive(Clone, Copy, Debug, PartialEq, Eq)]

@@ -29,6 +29,7 @@ use direction_reader::laws::a_list_has_one_list_of_events;
 use flywheel::laws::a_frame_that_goes_on_is_the_next;
 use frame_commands::laws::{each_sink_of_frames_adds_in_order, what_is_made_of_frames_is_in_order};
 use interval_commands::laws::{recordings_grow, what_is_printed_is_in_order};
+use interval_file::laws::a_file_is_read_as_it_was_written;
 use line_file::laws::bytes_have_one_list_of_answers;
 use ltc_jam::laws::{
     cells_of_one_length_are_shaped, clean_recordings_are_read,
@@ -36,7 +37,6 @@ use ltc_jam::laws::{
 };
 use made_commands::laws::{lines_that_are_made_are_read_back, what_is_made_is_read_whole};
 use signal_commands::laws::each_signal_makes_a_command;
-use interval_file::laws::a_file_is_read_as_it_was_written;
 
 /// The exit numbers, one by one.
 pub fn exit_numbers_are_these()

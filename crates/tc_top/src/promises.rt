@@ -11,6 +11,7 @@ use direction_reader::laws::{
 };
 use flywheel::laws::{a_frame_that_goes_on_is_the_next, invention_is_bounded_and_marked};
 use interval_commands::laws::converting_keeps_the_recording;
+use interval_file::laws::{a_file_is_read_as_it_was_written, bytes_are_read_as_the_text_says};
 use made_commands::is_all_read;
 use made_commands::laws::{lines_that_are_made_are_read_back, what_is_made_is_read_whole};
 use pcm_front::laws::{
@@ -19,7 +20,6 @@ use pcm_front::laws::{
 };
 use quarter_frame::laws::what_is_sent_is_read_back;
 use tape_spans::laws::{spans_share_the_frames_out, the_open_span_has_the_last_line};
-use interval_file::laws::{a_file_is_read_as_it_was_written, bytes_are_read_as_the_text_says};
 use tc_words::{Amplitude, ChaseRun, Jam, Job, LineStripe, LoadRun, Stripe};
 use wave_file::laws::samples_are_few_and_behind_a_format;
 

@@ -8,8 +8,8 @@ use crate::load::LoadRun;
 use crate::slicing::Slicing;
 use crate::stripe::Stripe;
 use crate::wave_slicing::WaveSlicing;
-use tc_address::Label;
 use interval_file::FileVersion;
+use tc_address::Label;
 
 /// What the words name.
 #[derive(Clone, Copy, Debug, PartialEq, Eq)]

@@ -9,8 +9,8 @@ ghost use Rattle.tc_address.specs.Label.{IsLabel};
 ghost use Rattle.vitc_line.specs.Places.{HasLines};
 
 use biphase::Profile;
-use tc_address::{Count, Direction, Label, System, day_labels, label_at, read_text};
 use interval_file::FileVersion;
+use tc_address::{Count, Direction, Label, System, day_labels, label_at, read_text};
 
 /// A count: `24`, `25`, `30` or `30d`.
 pub fn count_in(word: &str) -> Option<Count>
