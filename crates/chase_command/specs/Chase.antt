@@ -128,8 +128,8 @@ ChaseEndsBy label status.Usage e = ⊥
 abbrev pub IsChaseOutput : Address → List ℕ → List ℕ → Type 0
 IsChaseOutput label input whole = whole ≡ chase_output label input
 
--- what a chase answers: it ended by its status, and whatever that is, what was written is a front of the trace where the
--- whole input is a script, and nothing where it is none
+-- what a chase answers: it ended by its status, and whatever that is, what was written is a front of the trace where
+-- the whole input is a script, and nothing where it is none
 pub record IsChaseAnswer (label : Address) (status : Status) (e : Exchange) : Type 0 where
   pub ends : ChaseEndsBy label status e
   pub first : WritesAFront (IsChaseOutput label) e

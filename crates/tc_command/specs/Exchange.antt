@@ -27,4 +27,5 @@ pub record IsNoted (before now : Option (List ℕ)) (faults_before faults_now : 
 
 -- what was written is a front of the output of the whole input, which is what was pulled and what is left
 abbrev pub WritesAFront : (List ℕ → List ℕ → Type 0) → Exchange → Type 0
-WritesAFront output e = (rest whole : List ℕ) → e.left ≡ Some rest → output (e.pulled ++ rest) whole → IsFront e.written whole
+WritesAFront output e =
+    (rest whole : List ℕ) → e.left ≡ Some rest → output (e.pulled ++ rest) whole → IsFront e.written whole

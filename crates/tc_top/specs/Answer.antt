@@ -41,7 +41,8 @@ EndsBy job Limit e = StoppedBy stops.Limit (meaning_of job) e
 EndsBy job Usage e = ⊥
 EndsBy job Memory e = ⊥
 
--- what a job answers: it ended by its status, and whatever that is, what was written is a front of the output of the whole input
+-- what a job answers: it ended by its status, and whatever that is, what was written is a front of the output of the
+-- whole input
 pub record IsAnswer (job : Job) (status : Status) (e : Exchange) : Type 0 where
   pub ends : EndsBy job status e
   pub first : WritesAFront (IsOutput (meaning_of job)) e
