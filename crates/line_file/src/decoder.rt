@@ -185,7 +185,8 @@ fn take_piece(
     piece
 }
 
-/// What stands at the front of the bytes that are kept and of these. They are kept too where that is less than a whole piece.
+/// What stands at the front of the bytes that are kept and of these. They are kept too where that is less than a
+/// whole piece.
 fn piece_behind(
     header: Option<LineHeader>,
     place: u64,
