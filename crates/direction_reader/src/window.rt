@@ -93,11 +93,12 @@ impl Full {
         }
     }
 
-    /// Whether the window ends in the sync word, as read forward or as read backward.
+    /// Whether the window ends in the sync word, as read forward or as read backward. The two tests
+    /// cost less together than a branch between them.
     pub fn is_candidate(&self) -> bool
         ensures { IsTrue result ↔ IsCandidate self.now }
     {
-        ends_in_sync(self.bits) || begins_in_reversed_sync(self.bits)
+        ends_in_sync(self.bits) | begins_in_reversed_sync(self.bits)
     }
 
     /// The bits as one number below 2^80, the oldest in bit 0.

@@ -7,7 +7,6 @@ ghost use Rattle.ltc_word.specs.Reversal.{EndsInSync};
 
 use crate::balance::is_balanced;
 use crate::places::{SYNC, SYNC_PATTERN, table};
-use crate::reversal::ends_in_sync;
 use crate::word::{LtcWord, WordFault};
 use tc_address::System;
 use tc_bits::laws::fields_are_exact;
@@ -21,15 +20,11 @@ fn is_wrong(bits: u128, place: u32) -> bool
     get_field(bits, place, 1) != get_field(SYNC_PATTERN as u128, place - SYNC.first, 1)
 }
 
-/// The first bit of the sync word that is wrong. Mostly none is, and one comparison tells so.
-#[tactic(auto, using(crate::proofs::NoBitDiffers::none_from_right), unfolding(crate::specs::Fault::wrong_sync_bit))]
+/// The first bit of the sync word that is wrong.
+#[tactic(auto, unfolding(crate::specs::Fault::wrong_sync_bit))]
 fn first_wrong_sync_bit(bits: u128) -> Option<u32>
-    requires { bits < 2 ^ 80 }
     ensures { result ≡ wrong_sync_bit bits }
 {
-    if ends_in_sync(bits) {
-        return None;
-    }
     (SYNC.first..SYNC.first + SYNC.width).find(|&place| is_wrong(bits, place))
 }
 
