@@ -2,7 +2,7 @@
 ghost use Rattle.std.specs.Prelude.{◌≤◌, length, IfOk, None};
 
 use std::io;
-use std::io::{Read, Write};
+use std::io::{ErrorKind, Read, Write};
 use std::process::Abort;
 use std::test::Fail;
 use tc_io::{
@@ -20,6 +20,8 @@ enum Answer {
     All,
     /// The error of the operating system with this number.
     Fault(i32),
+    /// An error of this kind that is not the operating system's.
+    Kind(ErrorKind),
 }
 
 /// A reader or a writer that answers as it is told, one answer a call, and from the fourth call on
@@ -44,6 +46,7 @@ impl Told {
             Answer::One => Ok(len.min(1)),
             Answer::All => Ok(len),
             Answer::Fault(code) => Err(io::Error::from_raw_os_error(code)),
+            Answer::Kind(kind) => Err(io::Error::new(kind, "told")),
         }
     }
 }
@@ -101,6 +104,14 @@ const ANSWERS: [Answer; 4] = [Answer::Nothing, Answer::One, Answer::All, Answer:
 /// The greatest number of an error of the operating system.
 const LAST_ERROR: i32 = 133;
 
+/// The kinds of errors that have no such number.
+const KINDS: [ErrorKind; 4] = [
+    ErrorKind::InvalidData,
+    ErrorKind::WriteZero,
+    ErrorKind::UnexpectedEof,
+    ErrorKind::Other,
+];
+
 /// Lengths of pieces and buffers: one byte, a line, the buffer of the program, and more than it has.
 const LENGTHS: [usize; 4] = [1, 200, 4_096, 70_000];
 
@@ -157,13 +168,24 @@ fn what_fits_is_written_before_a_fault(rt: HostRuntime) -> Result<(), Fail> {
     Ok(())
 }
 
+#[test]
+fn memory_is_had_whatever_the_length(rt: HostRuntime) -> Result<(), Fail> {
+    let bytes = [7; 5_000];
+    for len in 0..5_000 {
+        SteadySource::new(rt.alloc(), &bytes[..len])?;
+        MemorySource::new(rt.alloc(), &bytes[..len], &[len], &[len as u64])?;
+        MemorySink::new(rt.alloc(), len, &[len as u64])?;
+    }
+    Ok(())
+}
+
 /// What a pull makes of an answer of the reader.
 fn pulled(answer: Answer, len: usize) -> Result<usize, Failed> {
     match answer {
         Answer::Nothing => Ok(0),
         Answer::One => Ok(1),
         Answer::All => Ok(len),
-        Answer::Fault(_) => Err(Failed),
+        Answer::Fault(_) | Answer::Kind(_) => Err(Failed),
     }
 }
 
@@ -204,6 +226,11 @@ fn a_pull_is_one_read(rt: HostRuntime) {
 fn no_error_is_tried_again(rt: HostRuntime) {
     for code in 1..=LAST_ERROR {
         let answers = [Answer::One, Answer::Fault(code), Answer::All];
+        pull_each(&rt, answers, &mut [0; 200]);
+        push_each(&rt, answers, &[7; 200]);
+    }
+    for kind in KINDS {
+        let answers = [Answer::One, Answer::Kind(kind), Answer::All];
         pull_each(&rt, answers, &mut [0; 200]);
         push_each(&rt, answers, &[7; 200]);
     }
@@ -279,15 +306,23 @@ fn push_in_parts(rt: &impl Abort, piece: &[u8], most: usize, failing: u64)
     }
 }
 
+/// In parts of each of three lengths, each of the first three pushes fails.
+fn push_in_each_part(rt: &impl Abort, piece: &[u8]) {
+    for most in [1, 150, 5_000] {
+        for failing in 1..4u64 {
+            push_in_parts(rt, piece, most, failing);
+        }
+    }
+}
+
 #[test]
 fn nothing_is_pushed_after_a_fault(rt: HostRuntime) {
-    let piece = [7; 5_000];
-    for len in 0..5_000 {
-        for most in [1, 150, 5_000] {
-            for failing in 1..4u64 {
-                push_in_parts(&rt, &piece[..len], most, failing);
-            }
-        }
+    let piece = [7; 70_000];
+    for len in 0..5_001 {
+        push_in_each_part(&rt, &piece[..len]);
+    }
+    for len in LENGTHS {
+        push_in_each_part(&rt, &piece[..len]);
     }
 }
 

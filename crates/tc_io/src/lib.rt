@@ -21,7 +21,8 @@
 //! last `adapters`, with the files of `specs/` beside them. `adapters` is the trusted edge: what a
 //! real reader or writer does is known only by what it answers, so those two tell no bytes.
 //! That a pull is one read and a push one write, and that none is tried again after an error, no
-//! clause can say of them, since a reader does not tell how often it was asked: `tests` shows it.
+//! clause can say of them, since a reader does not tell how often it was asked:
+//! `file_tests/src/streams.rt` shows it.
 #![tactic(auto)]
 
 mod adapters;
