@@ -36,7 +36,10 @@ impl<'a> CommandLine<'a> {
     {
         match matches(alloc, words) {
             Ok(matches) => Ok(CommandLine { matches }),
-            Err(_) => Err(AllocError),
+            Err(error) => match error.kind() {
+                ErrorKind::OutOfMemory => Err(AllocError),
+                _ => unreachable!(),
+            },
         }
     }
 
