@@ -52,6 +52,16 @@ fn the_first_fault_of_a_command_is_told(rt: HostRuntime) -> Result<(), Fail> {
 }
 
 #[test]
+fn many_words_want_no_memory(rt: HostRuntime) -> Result<(), Fail> {
+    let mut words = typed(rt.alloc(), "version x")?;
+    for _ in 0..300u32 {
+        words.push(String::from_str(rt.alloc(), "0123456789012345678901234567890123456789")?)?;
+        assert_eq!(rt; read_words(rt.alloc(), &words), Err(WordsFault::CountOfWords));
+    }
+    Ok(())
+}
+
+#[test]
 fn the_first_fault_is_told_along_frames(rt: HostRuntime) -> Result<(), Fail> {
     for (line, fault) in [
         ("ltc-fly", WordsFault::CountOfWords),
