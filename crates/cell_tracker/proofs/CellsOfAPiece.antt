@@ -9,7 +9,7 @@ use Rattle.biphase.specs.Latest.{Latest}
 use Rattle.biphase.specs.Tolerance.{kept_next}
 use Rattle.biphase.specs.Chain.{intervals_of, flat, kept_after, Follow, IsNextOne}
 use Rattle.biphase.specs.Laws.{zero_is_no_half, first_half}
-use Rattle.cell_tracker.specs.Kept.{cells_between}
+use Rattle.cell_tracker.specs.ChainPiece.{cells_between}
 use Rattle.cell_tracker.specs.Stretch.{IsBreak}
 use Rattle.cell_tracker.proofs.LocalStretch.{NoneFits}
 

@@ -4,7 +4,7 @@ use Rattle.biphase.specs.declared.profile.Profile.TheVariants.{Normal}
 use Rattle.biphase.specs.declared.cell.Cell.{Cell}
 use Rattle.biphase.specs.declared.cell.Cell.TheVariants.{Zero, One}
 use Rattle.biphase.specs.Chain.{flat}
-use Rattle.cell_tracker.specs.Kept.{cells_from}
+use Rattle.cell_tracker.specs.ChainPiece.{cells_from}
 use Rattle.cell_tracker.specs.Stretch.{AreStretches, begun, with_break, with_cell}
 use Rattle.cell_tracker.proofs.Computed.{run, stretches_of, computed_are}
 

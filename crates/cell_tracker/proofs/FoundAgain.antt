@@ -21,7 +21,7 @@ use Rattle.biphase.specs.Kinds.{zeros_equal, halves_equal}
 use Rattle.biphase.specs.Laws.{behind_zero, chain_on, kept_anew, last_at_lock, last_next, unequal_differ, half_or_not}
 use Rattle.biphase.specs.Zeros.{IsZeroAt, greater_is_zero}
 use Rattle.cell_tracker.specs.FoundAgain.{IsSecondLock, BreaksBy, AreFrom}
-use Rattle.cell_tracker.specs.Kept.{IsPiece, cells_between, cells_from}
+use Rattle.cell_tracker.specs.ChainPiece.{IsPiece, cells_between, cells_from}
 use Rattle.cell_tracker.specs.Lock.{IsLock, IsUnequalAt}
 use Rattle.cell_tracker.specs.Stretch.{Stretch, end_of, IsBreak, IsStretch, AreStretchesFrom, AreStretches}
 use Rattle.cell_tracker.proofs.CellsOfAPiece.{has_intervals, from_low, all_between, from_any_low, front_of_front}

@@ -12,7 +12,7 @@ use Rattle.biphase.specs.Tolerance.{kept_at_lock}
 use Rattle.biphase.specs.Chain.{intervals_of, flat, kept_of, IsChain}
 use Rattle.biphase.specs.Laws.{behind_zero, unequal_differ}
 use Rattle.biphase.specs.Zeros.{IsZeroAt, greater_is_zero}
-use Rattle.cell_tracker.specs.Kept.{IsPiece, cells_between, cells_from, stretch_of_piece}
+use Rattle.cell_tracker.specs.ChainPiece.{IsPiece, cells_between, cells_from, stretch_of_piece}
 use Rattle.cell_tracker.specs.Lock.{IsLock, IsUnequalAt}
 use Rattle.cell_tracker.specs.Stretch.{Stretch, end_of, IsStretch, AreStretches}
 use Rattle.cell_tracker.proofs.CellsOfAPiece.{from_low, lies_between, none_fits_cut, no_break_cut, they_lie}

@@ -14,7 +14,7 @@ use Rattle.biphase.specs.Laws.{behind_zero, chain_on, unequal_differ}
 use Rattle.biphase.specs.Mirror.{mirror_of, mirrored, flat_mirrored, unequal_turned, front_kinds, mirrored_kinds, comparable_kinds}
 use Rattle.biphase.specs.Tolerance.{LooksAtLast}
 use Rattle.biphase.specs.Zeros.{IsZeroAt}
-use Rattle.cell_tracker.specs.Kept.{IsPiece, cells_between, cells_from}
+use Rattle.cell_tracker.specs.ChainPiece.{IsPiece, cells_between, cells_from}
 use Rattle.cell_tracker.specs.Lock.{IsLock, IsUnequalAt}
 use Rattle.cell_tracker.specs.Mirrored.{BeginMirrored}
 use Rattle.cell_tracker.proofs.CellsOfAPiece.{has_intervals, all_between}

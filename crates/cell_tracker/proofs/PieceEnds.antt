@@ -14,7 +14,7 @@ use Rattle.biphase.specs.Latest.{Latest}
 use Rattle.biphase.specs.Tolerance.{kept_at_lock, kept_next}
 use Rattle.biphase.specs.Chain.{length_of, intervals_of, flat, kept_after, kept_of}
 use Rattle.biphase.specs.Laws.{last_at_lock, last_next}
-use Rattle.cell_tracker.specs.Kept.{IsPiece, cells_between, cells_from, stretch_of_piece}
+use Rattle.cell_tracker.specs.ChainPiece.{IsPiece, cells_between, cells_from, stretch_of_piece}
 use Rattle.cell_tracker.specs.Lock.{IsLock, HasNoLock}
 use Rattle.cell_tracker.specs.PieceEnd.{StandsAtBoundary, StandsInsideOne}
 use Rattle.cell_tracker.specs.StandsFor.{HuntingStandsFor, AtCellStandsFor, MidCellStandsFor, last_of}

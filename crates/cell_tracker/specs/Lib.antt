@@ -3,8 +3,8 @@ pub use Rattle.biphase.specs.Pair
 pub use Rattle.biphase.specs.Profile
 pub mod Answer
 pub mod FoundAgain
-pub mod GoOn
-pub mod Kept
+pub mod Growing
+pub mod ChainPiece
 pub mod Lock
 pub mod Mirrored
 pub mod PieceEnd

@@ -6,8 +6,8 @@ ghost use Rattle.biphase.specs.declared.cell.Cell.TheVariants.{Zero, One};
 ghost use Rattle.biphase.specs.declared.profile.Profile.TheVariants.{Normal, Rough};
 ghost use Rattle.biphase.specs.Tolerance.{LooksAtLast};
 ghost use Rattle.cell_tracker.specs.FoundAgain.{IsSecondLock, AreFrom};
-ghost use Rattle.cell_tracker.specs.GoOn.{GoOn};
-ghost use Rattle.cell_tracker.specs.Kept.{IsPiece, cells_from, stretch_of_piece};
+ghost use Rattle.cell_tracker.specs.Growing.{GrowTo};
+ghost use Rattle.cell_tracker.specs.ChainPiece.{IsPiece, cells_from, stretch_of_piece};
 ghost use Rattle.cell_tracker.specs.Lock.{HasNoLock, IsLock};
 ghost use Rattle.cell_tracker.specs.Mirrored.{BeginMirrored};
 ghost use Rattle.cell_tracker.specs.PieceEnd.{StandsAtBoundary, StandsInsideOne};
@@ -29,7 +29,7 @@ pub fn a_list_has_one_list_of_stretches()
 pub fn stretches_go_on()
     ensures { (profile : Profile) (front more : List ℕ) (stretches later : List Stretch)
         → AreStretches profile front stretches → AreStretches profile (front ++ more) later
-        → GoOn stretches later }
+        → GrowTo stretches later }
 {}
 
 /// From each place a list has one lock at most.

@@ -14,7 +14,7 @@
 //!   (`specs/StandsFor.antt`, clause `stands`).
 //! - Stretches are the longest chains from their locks, one after another (`specs/Stretch.antt`,
 //!   `AreStretches`), and a list has one list of them. Where more intervals follow, they go on, and a
-//!   broken one stays as it is (`specs/GoOn.antt`, `laws`).
+//!   broken one stays as it is (`specs/Growing.antt`, `laws`).
 //! - A recording within the tolerance is one stretch, and its cells are the recording's own
 //!   (`specs/Kept.antt`). Each state stands at a boundary of such a recording, or inside a one of it
 //!   (`specs/PieceEnd.antt`). Where the tolerance looks at the last cell alone, the recording is found

@@ -14,7 +14,7 @@ use Rattle.chase_core.specs.declared.report.State.{State}
 use Rattle.chase_core.specs.declared.report.State.TheVariants as states
 use Rattle.chase_core.specs.declared.report.Loss.{Loss}
 use Rattle.chase_core.specs.declared.report.Loss.TheVariants.{NoCode, Window}
-use Rattle.chase_core.specs.declared.report.Report.{Report}
+use Rattle.chase_core.specs.declared.report.StepReport.{StepReport}
 use Rattle.chase_core.specs.declared.mode.Mode.{Mode}
 use Rattle.chase_core.specs.declared.mode.Mode.TheVariants.{Waiting, Locating, Pulling, Locked}
 use Rattle.chase_core.specs.declared.outcome.Outcome.{Outcome}
@@ -107,7 +107,7 @@ state_of Pulling = states.Pulling
 state_of Locked = states.Locked
 
 -- the report of a step
-abbrev pub report_of : Outcome → Report
+abbrev pub report_of : Outcome → StepReport
 report_of outcome = record { state = state_of outcome.mode; error = outcome.error; order = outcome.order; loss = outcome.loss }
 
 -- the chase after a step

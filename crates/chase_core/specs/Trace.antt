@@ -10,7 +10,7 @@ use Rattle.tc_address.specs.Circle.{moved}
 use Rattle.transport_model.specs.Move.{TransportState, day_of, after_move, HonoursBound}
 use Rattle.chase_core.specs.declared.command.Command.{Command}
 use Rattle.chase_core.specs.declared.command.Master.{Master}
-use Rattle.chase_core.specs.declared.report.Report.{Report}
+use Rattle.chase_core.specs.declared.report.StepReport.{StepReport}
 use Rattle.chase_core.specs.declared.mode.Mode.TheVariants.{Waiting}
 use Rattle.chase_core.specs.declared.outcome.Outcome.{Outcome}
 use Rattle.chase_core.specs.Step.{ChaseState, step_of, report_of, chase_after}
@@ -52,7 +52,7 @@ after_row loop row = let outcome = outcome_in loop row in
 
 -- a line of the trace: the report of the step, and the position after the move
 pub record Traced : Type 0 where
-  pub report : Report
+  pub report : StepReport
   pub position : ℕ
 
 -- the line of a row

@@ -9,7 +9,7 @@ ghost use Rattle.chase_core.specs.Step.{after_command, state_of, error_to, outco
 use crate::command::{Command, Master};
 use crate::mode::{Mode, after_command, state_of};
 use crate::outcome::{Outcome, kept, located, pulled, still};
-use crate::report::{Loss, Report, State};
+use crate::report::{Loss, State, StepReport};
 use std::marker::Model;
 use tc_address::{Count, day_subframes, shortest};
 
@@ -89,12 +89,12 @@ impl Chase {
         command: Option<Command>,
         master: Option<Master>,
         position: u32,
-    ) -> Report
+    ) -> StepReport
         requires command { IfSome command (λ c. IsCommandOf self.old.count c) }
         requires master { IfSome master (λ m. m.number < day_length self.old.count) }
         requires position { position < day_of self.old.count }
 
-        // Report and state by the table.
+        // StepReport and state by the table.
         ensures report { result ≡ report_of (step_of self.old command master position) }
         ensures after { self.new ≡ chase_after self.old (step_of self.old command master position) }
 
@@ -111,7 +111,7 @@ impl Chase {
         let mode = after_command(self.mode, command);
         let outcome = outcome_of(self.count, mode, master, position);
         self.mode = outcome.mode;
-        Report {
+        StepReport {
             state: state_of(outcome.mode),
             error: outcome.error,
             order: outcome.order,

@@ -7,7 +7,7 @@ ghost use Rattle.chase_core.specs.Trace.{after_row, row_with, starts_at, traced,
 
 use crate::chase::Chase;
 use crate::command::{Command, Master};
-use crate::report::Report;
+use crate::report::StepReport;
 use std::marker::Model;
 use tc_address::{Label, number};
 use transport_model::Transport;
@@ -54,7 +54,12 @@ impl ClosedLoop {
 
     /// Works a frame: the chase steps, and then the transport moves, and slips so many subframes. What the
     /// chase says.
-    pub fn work(&mut self, command: Option<Command>, master: Option<Master>, slip: i32) -> Report
+    pub fn work(
+        &mut self,
+        command: Option<Command>,
+        master: Option<Master>,
+        slip: i32,
+    ) -> StepReport
         requires command { IfSome command (λ c. IsCommandOf self.old.chase.count c) }
         requires master { IfSome master (λ m. m.number < day_length self.old.chase.count) }
         requires slip { IsInRange slip }

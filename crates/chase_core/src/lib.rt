@@ -33,4 +33,4 @@ mod report;
 pub use chase::Chase;
 pub use closed_loop::ClosedLoop;
 pub use command::{Command, Master};
-pub use report::{Loss, Report, State};
+pub use report::{Loss, State, StepReport};

@@ -24,7 +24,7 @@ pub enum Loss {
 
 /// What a chase says of one frame.
 #[derive(Clone, Copy, Debug, PartialEq, Eq)]
-pub struct Report {
+pub struct StepReport {
     /// The state after the frame.
     pub state: State,
     /// The way from the transport to where it is wanted, in subframes. 0 where it is wanted nowhere.

@@ -8,7 +8,7 @@ use Rattle.std.proofs.lemmas.List.{append_assoc, length-drop, length-map}
 use Rattle.std.proofs.lemmas.List.Sums.{sum_by-cons}
 use Rattle.tc_address.specs.declared.count.Count.{Count}
 use Rattle.chase_core.specs.declared.report.Loss.{Loss}
-use Rattle.chase_core.specs.declared.report.Report.{Report}
+use Rattle.chase_core.specs.declared.report.StepReport.{StepReport}
 use Rattle.chase_core.specs.Trace.{Loop, Row, Traced, after_row, traced, trace}
 use Rattle.chase_script.specs.declared.row.ScriptRow.{ScriptRow}
 use Rattle.chase_script.specs.Kept.{text_left}
@@ -62,12 +62,12 @@ pub at_most_one : (loss : Option Loss) → cond (is_lost loss) 1 0 ≤ 1
 at_most_one None = omega arith
 at_most_one (Some loss) = omega arith
 
-lost_same : (losses lost : ℕ) (report told : Report) → lost ≡ cond (is_lost report.loss) 1 0 → report ≡ told
+lost_same : (losses lost : ℕ) (report told : StepReport) → lost ≡ cond (is_lost report.loss) 1 0 → report ≡ told
     → losses + lost ≡ losses + cond (is_lost told.loss) 1 0
-lost_same losses lost report told loses same = ap (λ (n : ℕ). losses + n) (loses ∙ ap (λ (r : Report). cond (is_lost r.loss) 1 0) same)
+lost_same losses lost report told loses same = ap (λ (n : ℕ). losses + n) (loses ∙ ap (λ (r : StepReport). cond (is_lost r.loss) 1 0) same)
 
 -- its line, and then what is left
-pub line_of : (place next : Loop) (row : ScriptRow) (rows left : List ScriptRow) (steps losses lost position : ℕ) (report : Report) (count : Count)
+pub line_of : (place next : Loop) (row : ScriptRow) (rows left : List ScriptRow) (steps losses lost position : ℕ) (report : StepReport) (count : Count)
     (line : List ℕ) (ended : Bool) → ended ≡ false → rows ≡ row ∷ left → place.chase.count ≡ count
     → report ≡ (traced place (row_of row)).report → position ≡ (traced place (row_of row)).position
     → next ≡ after_row place (row_of row) → lost ≡ cond (is_lost report.loss) 1 0

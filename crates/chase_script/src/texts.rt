@@ -4,12 +4,12 @@ ghost use Rattle.arrayvec.specs.ArrayVec.{array_vec_len};
 ghost use Rattle.transport_model.specs.Move.{day_of};
 ghost use Rattle.chase_script.specs.TraceText.{state_name, loss_name, position_text, step_line, step_end_line};
 
-use chase_core::{Loss, Report, State};
+use chase_core::{Loss, State, StepReport};
 use line_text::{Text, push_any_number, push_bytes, push_signed};
 use tc_address::{Count, label_at, text};
 
 /// The line of a step, counted from 1, after which the transport stands at this position.
-pub fn step_text(step: u64, report: &Report, count: Count, position: u32) -> Text
+pub fn step_text(step: u64, report: &StepReport, count: Count, position: u32) -> Text
     requires { position < day_of count }
     ensures { result.items ≡ step_line count step (record { report = report.now; position = position }) }
 {

@@ -14,7 +14,7 @@ use crate::texts::{step_end_text, step_text};
 use chase_core::laws::{
     a_locked_chase_stays_locked, a_trace_has_a_line_for_each_row, pulling_ends,
 };
-use chase_core::{ClosedLoop, Loss, Report};
+use chase_core::{ClosedLoop, Loss, StepReport};
 use line_text::Text;
 use std::marker::Model;
 use tc_address::{Count, Label};
@@ -104,7 +104,7 @@ impl TraceLines {
 }
 
 /// Works a row: what the chase says, and where the transport stands after it.
-fn worked(place: &mut ClosedLoop, row: &ScriptRow) -> (Report, u32)
+fn worked(place: &mut ClosedLoop, row: &ScriptRow) -> (StepReport, u32)
     requires { IsRowFor place.old.chase.count row.now }
     ensures report { result.0 ≡ (traced place.old (row_of row.now)).report }
     ensures position { result.1 ≡ (traced place.old (row_of row.now)).position }

@@ -1,5 +1,5 @@
 //! Scripts whose rows, and traces whose lines, were worked by hand.
-use chase_core::{Command, Loss, Master, Report, State};
+use chase_core::{Command, Loss, Master, State, StepReport};
 use chase_script::{Column, ScriptFault, ScriptRow, script_rows, step_text};
 use std::test::Fail;
 use tc_address::{Count, Direction};
@@ -37,7 +37,7 @@ fn rows_of_a_script(rt: HostRuntime) -> Result<(), Fail> {
 
 #[test]
 fn the_longest_line(rt: HostRuntime) -> Result<(), Fail> {
-    let report = Report {
+    let report = StepReport {
         state: State::Locating,
         error: i32::MIN,
         order: i32::MIN,

@@ -8,7 +8,7 @@ use Count::{C24, C25, C30, Drop30};
 use Direction::{Backward, Forward};
 use Loss::{NoCode, Window};
 use State::{Locating, Locked, Pulling, Waiting};
-use chase_core::{Chase, Command, Loss, Master, Report, State};
+use chase_core::{Chase, Command, Loss, Master, State, StepReport};
 use std::process::Abort;
 use tc_address::{Count, Direction, day_labels, day_subframes};
 use transport_model::Transport;
@@ -62,7 +62,7 @@ fn follow(rt: &impl Abort, count: Count, direction: Direction, from: u32, rows: 
         transport.apply(report.order, slip);
         assert_eq!(rt;
             report,
-            Report {
+            StepReport {
                 state,
                 error,
                 order,

@@ -5,7 +5,7 @@ ghost use Rattle.code_chase.specs.CodeTrace.{after_frame, begun_at, next_line};
 
 use crate::master::master_of;
 use crate::slip::slip_of;
-use chase_core::{ClosedLoop, Command, Report};
+use chase_core::{ClosedLoop, Command, StepReport};
 use flywheel::Frame;
 use generator::Generator;
 use std::marker::Model;
@@ -51,7 +51,7 @@ impl CodeChase {
     }
 
     /// Works the next frame: one step of the chase, and one move of the transport. The first step plays.
-    pub fn frame(&mut self, frame: &Frame) -> Report
+    pub fn frame(&mut self, frame: &Frame) -> StepReport
         ensures report { result ≡ (next_line self.old frame.now).report }
         ensures next { self.new ≡ after_frame self.old frame.now }
     {

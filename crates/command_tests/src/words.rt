@@ -7,7 +7,7 @@ use std::process::Abort;
 use std::test::Fail;
 use tc_address::text;
 use tc_words::{
-    Amplitude, ChaseRun, Flight, Jam, Job, LineStripe, Slicing, Task, WaveSlicing, WordsFault,
+    ChaseRun, Flight, Jam, Job, LineStripe, Slicing, SoundLevel, Task, WaveSlicing, WordsFault,
     read_words,
 };
 
@@ -56,7 +56,10 @@ fn many_words_want_no_memory(rt: HostRuntime) -> Result<(), Fail> {
     let mut words = typed(rt.alloc(), "version x")?;
     for _ in 0..300u32 {
         words.push(String::from_str(rt.alloc(), "0123456789012345678901234567890123456789")?)?;
-        assert_eq!(rt; read_words(rt.alloc(), &words), Err(WordsFault::CountOfWords));
+        assert_eq!(rt;
+            read_words(rt.alloc(), &words),
+            Err(WordsFault::CountOfWords)
+        );
     }
     Ok(())
 }
@@ -341,16 +344,16 @@ fn chase_of(job: &Job) -> Option<ChaseRun> {
     }
 }
 
-fn amplitude_in(task: &Task) -> Option<Amplitude> {
+fn level_in(task: &Task) -> Option<SoundLevel> {
     match task {
-        Task::Stream(job) => amplitude_of(job),
+        Task::Stream(job) => level_of(job),
         Task::Chase { .. } => None,
     }
 }
 
-fn amplitude_of(job: &Job) -> Option<Amplitude> {
+fn level_of(job: &Job) -> Option<SoundLevel> {
     match job {
-        Job::LtcPcm { amplitude } => Some(*amplitude),
+        Job::LtcPcm { level } => Some(*level),
         _ => None,
     }
 }
@@ -611,10 +614,10 @@ fn levels_are_read(rt: HostRuntime) -> Result<(), Fail> {
         let Ok(task) = read_words(alloc, &words) else {
             return Err("no task".into());
         };
-        let Some(amplitude) = amplitude_in(&task) else {
+        let Some(level) = level_in(&task) else {
             return Err("no sound".into());
         };
-        assert_eq!(rt; amplitude.size(), size, "at {line}");
+        assert_eq!(rt; level.level(), size, "at {line}");
     }
     Ok(())
 }

@@ -16,7 +16,7 @@ use Rattle.biphase.specs.Tolerance.{LooksAtLast}
 use Rattle.biphase.specs.Chain.{intervals_of, flat, kept_of}
 use Rattle.biphase.specs.Laws.{half_or_not}
 use Rattle.cell_tracker.specs.FoundAgain.{IsSecondLock, AreFrom, BreaksBy}
-use Rattle.cell_tracker.specs.Kept.{IsPiece, cells_from}
+use Rattle.cell_tracker.specs.ChainPiece.{IsPiece, cells_from}
 use Rattle.cell_tracker.specs.Stretch.{Stretch, end_of, IsBreak, IsStretch, AreStretches, AreStretchesFrom}
 use Rattle.tc_address.specs.declared.system.System.{System}
 use Rattle.tc_address.specs.declared.direction.Direction.{Direction}

@@ -11,7 +11,7 @@ use Rattle.biphase.specs.declared.profile.Profile.{Profile}
 use Rattle.biphase.specs.Latest.{Latest}
 use Rattle.biphase.specs.Chain.{Begins, flat, kept_of}
 use Rattle.biphase.specs.Laws.{half_or_not}
-use Rattle.cell_tracker.specs.GoOn.{GoesOn, GoOn}
+use Rattle.cell_tracker.specs.Growing.{GrowsTo, GrowTo}
 use Rattle.cell_tracker.specs.Stretch.{Stretch, IsBreak, IsStretch, AreStretches, AreStretchesFrom, end_of}
 use Rattle.tc_address.specs.declared.system.System.{System}
 use Rattle.direction_reader.specs.declared.event.Event.{Event}
@@ -27,7 +27,7 @@ use Rattle.direction_reader.proofs.WindowsGrow.{windows_stay}
 -- the stretches of the front of a list go on in those of the list
 abbrev pub StretchesGoOn : Type 0
 StretchesGoOn = (profile : Profile) (front more : List ℕ) (stretches later : List Stretch) → AreStretches profile front stretches
-    → AreStretches profile (front ++ more) later → GoOn stretches later
+    → AreStretches profile (front ++ more) later → GrowTo stretches later
 
 -- ---- the windows of a front of cells
 
@@ -100,7 +100,7 @@ stretch_inside profile l s is =
 
 -- the open stretch
 open_first : IsExact → (system : System) (l more : List ℕ) (s t : Stretch) (es fs : List Event) → s.lock ≤ length l → s.broken_at ≡ None
-    → GoesOn s t → AreEventsOfStretch system l s es → AreEventsOfStretch system (l ++ more) t fs → Begins es fs
+    → GrowsTo s t → AreEventsOfStretch system l s es → AreEventsOfStretch system (l ++ more) t fs → Begins es fs
 open_first exact system l more s t es fs within open_yet go (own, are, join) (own', are', join') =
     let begin : begin_of (l ++ more) t ≡ begin_of l s = ap (λ k. begin_of (l ++ more) (record { lock = k; cells = t.cells; broken_at = None })) go.lock
     ∙ begin_stays l more s within in
@@ -129,7 +129,7 @@ broken_same exact system l more s t es fs inside same are too =
 behind : IsExact → (profile : Profile) (system : System) (l more : List ℕ) (s t : Stretch) (ss ts : List Stretch) (place : Option ℕ)
     (own own' rest rest' all : List Event) → s.broken_at ≡ place
     → ((start : ℕ) → AreStretchesFrom profile l start ss → Begins rest rest')
-    → IsStretch profile l s → MatchOption place (ss ≡ []) (λ start. AreStretchesFrom profile l start ss) → GoesOn s t
+    → IsStretch profile l s → MatchOption place (ss ≡ []) (λ start. AreStretchesFrom profile l start ss) → GrowsTo s t
     → AreEventsOfStretch system l s own → AreEventsOfStretch system (l ++ more) t own'
     → AreEventsOfStretches system l ss rest → all ≡ own' ++ rest' → Begins (own ++ rest) all
 behind exact profile system l more s t ss ts None own own' rest rest' all at again is last go are too others join =
@@ -144,7 +144,7 @@ behind exact profile system l more s t ss ts (Some start) own own' rest rest' al
     joined own own' rest rest' all (broken_same exact system l more s t own own' inside same are too) (again start next) join
 
 stretches_first : IsExact → (profile : Profile) (system : System) (l more : List ℕ) (start : ℕ) (ss ts : List Stretch) (es fs : List Event)
-    → AreStretchesFrom profile l start ss → GoOn ss ts → AreEventsOfStretches system l ss es → AreEventsOfStretches system (l ++ more) ts fs
+    → AreStretchesFrom profile l start ss → GrowTo ss ts → AreEventsOfStretches system l ss es → AreEventsOfStretches system (l ++ more) ts fs
     → Begins es fs
 stretches_first exact profile system l more start [] ts es fs from go are too = (fs, ap (λ e. e ++ fs) (sym are))
 stretches_first exact profile system l more start (s ∷ ss) [] es fs from go are too = absurd go

@@ -19,7 +19,7 @@ use Rattle.biphase.specs.Latest.{Latest}
 use Rattle.biphase.specs.Tolerance.{kept_at_lock, kept_next}
 use Rattle.biphase.specs.Chain.{Begins, intervals_of, flat, length_of, kept_of, Follow}
 use Rattle.biphase.specs.Laws.{half_or_not, unequal_differ}
-use Rattle.cell_tracker.specs.GoOn.{GoesOn, GoOn}
+use Rattle.cell_tracker.specs.Growing.{GrowsTo, GrowTo}
 use Rattle.cell_tracker.specs.Lock.{HasNoLock, IsLock}
 use Rattle.cell_tracker.specs.Stretch.{Stretch, IsBreak, IsChainFrom, IsStretch, AreStretchesFrom, end_of}
 use Rattle.tc_address.specs.declared.system.System.{System}
@@ -305,7 +305,7 @@ record GoesOnLater (tick : ℕ) (es fs : List Event) : Type 0 where
 
 -- the events of the open stretch, and of what it goes on to
 open_later : IsExact → (profile : Profile) (system : System) (l more : List ℕ) (s t : Stretch) (es fs : List Event) → IsStretch profile l s
-    → IsStretch profile (l ++ more) t → s.broken_at ≡ None → GoesOn s t → length l ≤ end_of t + 1 → AreEventsOfStretch system l s es
+    → IsStretch profile (l ++ more) t → s.broken_at ≡ None → GrowsTo s t → length l ≤ end_of t + 1 → AreEventsOfStretch system l s es
     → AreEventsOfStretch system (l ++ more) t fs → GoesOnLater (sum (take (length l) (l ++ more))) es fs
 open_later exact profile system l more s t es fs is goes open_yet go end (own, are, join) (own', are', join') =
     let whole = l ++ more in
@@ -343,7 +343,7 @@ open_later exact profile system l more s t es fs is goes open_yet go end (own, a
     }
 
 -- what it goes on to has its end one interval before that of the list, or later
-open_end : (profile : Profile) (l : List ℕ) (s t : Stretch) → IsStretch profile l s → s.broken_at ≡ None → GoesOn s t → length l ≤ end_of t + 1
+open_end : (profile : Profile) (l : List ℕ) (s t : Stretch) → IsStretch profile l s → s.broken_at ≡ None → GrowsTo s t → length l ≤ end_of t + 1
 open_end profile l s t is open_yet go =
     let c = kept_of profile s.cells in
     let rest = drop (end_of s) l in
@@ -368,7 +368,7 @@ later_step : IsExact → (profile : Profile) (system : System) (l more : List �
     → AreEventsOfStretches system (l ++ more) ts (those ++ rest) → All (IsFrom (sum (take (length l) (l ++ more)))) rest)
     → IsStretch profile l s → MatchOption place (ss ≡ []) (λ start. AreStretchesFrom profile l start ss)
     → IsStretch profile (l ++ more) t → MatchOption t.broken_at (ts ≡ []) (λ start. AreStretchesFrom profile (l ++ more) start ts)
-    → GoesOn s t → AreEventsOfStretch system l s own → AreEventsOfStretch system (l ++ more) t own'
+    → GrowsTo s t → AreEventsOfStretch system l s own → AreEventsOfStretch system (l ++ more) t own'
     → AreEventsOfStretches system l ss those → AreEventsOfStretches system (l ++ more) ts those' → (own ++ those) ++ rest ≡ own' ++ those'
     → All (IsFrom (sum (take (length l) (l ++ more)))) rest
 later_step exact profile system l more s t ss ts None own own' those those' rest at again is last goes next go are too others others' join =
@@ -397,7 +397,7 @@ later_step exact profile system l more s t ss ts (Some start) own own' those tho
 
 -- what follows the events of some stretches
 later : IsExact → (profile : Profile) (system : System) (l more : List ℕ) (start : ℕ) (ss ts : List Stretch) (es rest : List Event)
-    → AreStretchesFrom profile l start ss → AreStretchesFrom profile (l ++ more) start ts → GoOn ss ts → AreEventsOfStretches system l ss es
+    → AreStretchesFrom profile l start ss → AreStretchesFrom profile (l ++ more) start ts → GrowTo ss ts → AreEventsOfStretches system l ss es
     → AreEventsOfStretches system (l ++ more) ts (es ++ rest) → All (IsFrom (sum (take (length l) (l ++ more)))) rest
 later exact profile system l more start [] ts es rest none from go are too =
     late_stretches profile system (l ++ more) (length l) start ts rest (λ lock at. late_lock profile l more start lock none at) from

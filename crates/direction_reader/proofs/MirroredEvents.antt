@@ -16,7 +16,7 @@ use Rattle.biphase.specs.declared.profile.Profile.{Profile}
 use Rattle.biphase.specs.Tolerance.{LooksAtLast}
 use Rattle.biphase.specs.Chain.{intervals_of, flat}
 use Rattle.biphase.specs.Mirror.{mirrored}
-use Rattle.cell_tracker.specs.Kept.{IsPiece, cells_from}
+use Rattle.cell_tracker.specs.ChainPiece.{IsPiece, cells_from}
 use Rattle.cell_tracker.specs.Lock.{IsLock}
 use Rattle.cell_tracker.specs.Mirrored.{BeginMirrored}
 use Rattle.tc_address.specs.declared.system.System.{System}

@@ -4,7 +4,7 @@ use Rattle.std.proofs.Common.{count_by, cond, ◌+◌}
 use Rattle.std.proofs.lemmas.List.Sums.{sum_by-append}
 use Rattle.biphase.specs.declared.cell.Cell.{Cell}
 use Rattle.biphase.specs.declared.profile.Profile.{Profile}
-use Rattle.cell_tracker.specs.Kept.{IsPiece, IsKept, stretch_of_piece}
+use Rattle.cell_tracker.specs.ChainPiece.{IsPiece, IsKept, stretch_of_piece}
 use Rattle.cell_tracker.specs.Lock.{IsLock, HasNoLock}
 use Rattle.cell_tracker.specs.Stretch.{Stretch, AreStretches}
 use Rattle.tc_address.specs.declared.system.System.{System}

@@ -6,7 +6,7 @@ use Rattle.biphase.specs.declared.profile.Profile.{Profile}
 use Rattle.biphase.specs.Tolerance.{LooksAtLast}
 use Rattle.biphase.specs.Chain.{flat}
 use Rattle.biphase.specs.Mirror.{mirrored}
-use Rattle.cell_tracker.specs.Kept.{IsPiece, cells_from}
+use Rattle.cell_tracker.specs.ChainPiece.{IsPiece, cells_from}
 use Rattle.cell_tracker.specs.Lock.{IsLock}
 use Rattle.ltc_word.specs.Reversal.{reversed_bits}
 use Rattle.tc_address.specs.declared.direction.Direction.{Direction}

@@ -4,7 +4,7 @@ use Rattle.biphase.specs.declared.cell.Cell.{Cell}
 use Rattle.biphase.specs.declared.profile.Profile.{Profile}
 use Rattle.biphase.specs.Tolerance.{LooksAtLast}
 use Rattle.cell_tracker.specs.FoundAgain.{IsSecondLock}
-use Rattle.cell_tracker.specs.Kept.{IsPiece, IsKept, cells_from}
+use Rattle.cell_tracker.specs.ChainPiece.{IsPiece, IsKept, cells_from}
 use Rattle.cell_tracker.specs.Lock.{IsLock, HasNoLock}
 use Rattle.tc_address.specs.declared.system.System.{System}
 use Rattle.direction_reader.specs.declared.event.Event.{Event}

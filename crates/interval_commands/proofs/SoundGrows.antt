@@ -17,33 +17,33 @@ use Rattle.interval_commands.specs.LtcPcm.{but_the_last}
 
 -- the runs of intervals, and nothing behind them
 abbrev runs : ℕ → Side → List ℕ → List ℤ
-runs size side [] = []
-runs size side (x ∷ xs) = replicate x (upward side (pos size)) ++ runs size (other_side side) xs
+runs level side [] = []
+runs level side (x ∷ xs) = replicate x (upward side (pos level)) ++ runs level (other_side side) xs
 
 abbrev last_sample : ℕ → Side → List ℕ → ℤ
-last_sample size side xs = upward (side_behind side xs) (pos size)
+last_sample level side xs = upward (side_behind side xs) (pos level)
 
-split_runs : (size : ℕ) (side : Side) (xs : List ℕ) → joined (sound_runs size side xs) ≡ runs size side xs ++ last_sample size side xs ∷ []
-split_runs size side [] = refl
-split_runs size side (x ∷ xs) =
-    let run = replicate x (upward side (pos size)) in
-    ap (λ (l : List ℤ). run ++ l) (split_runs size (other_side side) xs)
-    ∙ sym (append_assoc run (runs size (other_side side) xs) (last_sample size (other_side side) xs ∷ []))
+split_runs : (level : ℕ) (side : Side) (xs : List ℕ) → joined (sound_runs level side xs) ≡ runs level side xs ++ last_sample level side xs ∷ []
+split_runs level side [] = refl
+split_runs level side (x ∷ xs) =
+    let run = replicate x (upward side (pos level)) in
+    ap (λ (l : List ℤ). run ++ l) (split_runs level (other_side side) xs)
+    ∙ sym (append_assoc run (runs level (other_side side) xs) (last_sample level (other_side side) xs ∷ []))
 
-longer_runs : (size : ℕ) (side : Side) (xs : List ℕ) (x : ℕ)
-    → runs size side (xs ++ x ∷ []) ≡ runs size side xs ++ replicate x (last_sample size side xs)
-longer_runs size side [] x = append-nil (replicate x (upward side (pos size)))
-longer_runs size side (y ∷ ys) x =
-    let run = replicate y (upward side (pos size)) in
-    ap (λ (l : List ℤ). run ++ l) (longer_runs size (other_side side) ys x)
-    ∙ sym (append_assoc run (runs size (other_side side) ys) (replicate x (last_sample size (other_side side) ys)))
+longer_runs : (level : ℕ) (side : Side) (xs : List ℕ) (x : ℕ)
+    → runs level side (xs ++ x ∷ []) ≡ runs level side xs ++ replicate x (last_sample level side xs)
+longer_runs level side [] x = append-nil (replicate x (upward side (pos level)))
+longer_runs level side (y ∷ ys) x =
+    let run = replicate y (upward side (pos level)) in
+    ap (λ (l : List ℤ). run ++ l) (longer_runs level (other_side side) ys x)
+    ∙ sym (append_assoc run (runs level (other_side side) ys) (replicate x (last_sample level (other_side side) ys)))
 
 -- the first sample, and the runs
 abbrev begun : ℕ → List ℕ → List ℤ
-begun size xs = upward Low (pos size) ∷ runs size High xs
+begun level xs = upward Low (pos level) ∷ runs level High xs
 
-sound_is : (size : ℕ) (xs : List ℕ) → sound size xs ≡ begun size xs ++ last_sample size High xs ∷ []
-sound_is size xs = ap (λ (l : List ℤ). upward Low (pos size) ∷ l) (split_runs size High xs)
+sound_is : (level : ℕ) (xs : List ℕ) → sound level xs ≡ begun level xs ++ last_sample level High xs ∷ []
+sound_is level xs = ap (λ (l : List ℤ). upward Low (pos level) ∷ l) (split_runs level High xs)
 
 but_the_last_is : (samples : List ℤ) (last : ℤ) → but_the_last (samples ++ last ∷ []) ≡ samples
 but_the_last_is samples last =
@@ -51,27 +51,27 @@ but_the_last_is samples last =
     ap (λ n. take n (samples ++ last ∷ [])) e ∙ take-append-le (length samples) samples (last ∷ []) (omega arith)
     ∙ take_all (length samples) samples (omega arith)
 
-before_the_end : (size : ℕ) (xs : List ℕ) → but_the_last (sound size xs) ≡ begun size xs
-before_the_end size xs = ap but_the_last (sound_is size xs) ∙ but_the_last_is (begun size xs) (last_sample size High xs)
+before_the_end : (level : ℕ) (xs : List ℕ) → but_the_last (sound level xs) ≡ begun level xs
+before_the_end level xs = ap but_the_last (sound_is level xs) ∙ but_the_last_is (begun level xs) (last_sample level High xs)
 
 -- ---- bytes
 
 pub bytes_of-append : (a b : List ℤ) → bytes_of (a ++ b) ≡ bytes_of a ++ bytes_of b
 bytes_of-append a b = flat_map-append sample_bytes a b
 
-pub one_run : (size : ℕ) (xs : List ℕ) (x : ℕ) → bytes_of (but_the_last (sound size (xs ++ x ∷ [])))
-    ≡ bytes_of (but_the_last (sound size xs)) ++ bytes_of (replicate x (last_sample size High xs))
-one_run size xs x =
-    ap bytes_of (before_the_end size (xs ++ x ∷ []) ∙ ap (λ (l : List ℤ). upward Low (pos size) ∷ l) (longer_runs size High xs x))
-    ∙ bytes_of-append (begun size xs) (replicate x (last_sample size High xs))
-    ∙ ap (λ (l : List ℤ). bytes_of l ++ bytes_of (replicate x (last_sample size High xs))) (sym (before_the_end size xs))
+pub one_run : (level : ℕ) (xs : List ℕ) (x : ℕ) → bytes_of (but_the_last (sound level (xs ++ x ∷ [])))
+    ≡ bytes_of (but_the_last (sound level xs)) ++ bytes_of (replicate x (last_sample level High xs))
+one_run level xs x =
+    ap bytes_of (before_the_end level (xs ++ x ∷ []) ∙ ap (λ (l : List ℤ). upward Low (pos level) ∷ l) (longer_runs level High xs x))
+    ∙ bytes_of-append (begun level xs) (replicate x (last_sample level High xs))
+    ∙ ap (λ (l : List ℤ). bytes_of l ++ bytes_of (replicate x (last_sample level High xs))) (sym (before_the_end level xs))
 
-pub with_last : (size : ℕ) (xs : List ℕ) → bytes_of (but_the_last (sound size xs)) ++ sample_bytes (last_sample size High xs) ≡ bytes_of (sound size xs)
-with_last size xs =
-    ap (λ (l : List ℤ). bytes_of l ++ sample_bytes (last_sample size High xs)) (before_the_end size xs)
-    ∙ ap (λ (l : List ℕ). bytes_of (begun size xs) ++ l) (sym (append-nil (sample_bytes (last_sample size High xs))))
-    ∙ sym (bytes_of-append (begun size xs) (last_sample size High xs ∷ []))
-    ∙ ap bytes_of (sym (sound_is size xs))
+pub with_last : (level : ℕ) (xs : List ℕ) → bytes_of (but_the_last (sound level xs)) ++ sample_bytes (last_sample level High xs) ≡ bytes_of (sound level xs)
+with_last level xs =
+    ap (λ (l : List ℤ). bytes_of l ++ sample_bytes (last_sample level High xs)) (before_the_end level xs)
+    ∙ ap (λ (l : List ℕ). bytes_of (begun level xs) ++ l) (sym (append-nil (sample_bytes (last_sample level High xs))))
+    ∙ sym (bytes_of-append (begun level xs) (last_sample level High xs ∷ []))
+    ∙ ap bytes_of (sym (sound_is level xs))
 
 -- ---- the engine
 
@@ -80,28 +80,28 @@ side_behind-more side [] x = refl
 side_behind-more side (y ∷ ys) x = side_behind-more (other_side side) ys x
 
 -- the run of the interval was put
-pub grown : (s next : MadeSound) (size x : ℕ) (xs written more : List ℕ) → Stands s size xs written → next.above ≡ s.above → next.below ≡ s.below
+pub grown : (s next : MadeSound) (level x : ℕ) (xs written more : List ℕ) → Stands s level xs written → next.above ≡ s.above → next.below ≡ s.below
     → next.side ≡ other_side s.side
-    → s.gathered.room.items ++ bytes_of (replicate x (upward s.side (pos size))) ≡ more ++ next.gathered.room.items
-    → Stands next size (xs ++ x ∷ []) (written ++ more)
-grown s next size x xs written more stands same_above same_below turned put =
-    let sample = λ (side : Side). bytes_of (replicate x (upward side (pos size))) in
+    → s.gathered.room.items ++ bytes_of (replicate x (upward s.side (pos level))) ≡ more ++ next.gathered.room.items
+    → Stands next level (xs ++ x ∷ []) (written ++ more)
+grown s next level x xs written more stands same_above same_below turned put =
+    let sample = λ (side : Side). bytes_of (replicate x (upward side (pos level))) in
     record {
       above = ap (λ r. r.items) same_above ∙ stands.above;
       below = ap (λ r. r.items) same_below ∙ stands.below;
       side = turned ∙ ap other_side stands.side ∙ sym (side_behind-more High xs x);
       are = append_assoc written more next.gathered.room.items ∙ ap (λ (l : List ℕ). written ++ l) (sym put)
           ∙ sym (append_assoc written s.gathered.room.items (sample s.side)) ∙ ap (λ (l : List ℕ). l ++ sample s.side) stands.are
-          ∙ ap (λ (side : Side). bytes_of (but_the_last (sound size xs)) ++ sample side) stands.side ∙ sym (one_run size xs x);
+          ∙ ap (λ (side : Side). bytes_of (but_the_last (sound level xs)) ++ sample side) stands.side ∙ sym (one_run level xs x);
     }
 
 -- the part that is due with it
-pub part_due : (s : MadeSound) (size x : ℕ) (xs written : List ℕ) → Stands s size xs written
-    → written ++ (s.gathered.room.items ++ bytes_of (replicate x (upward s.side (pos size)))) ≡ bytes_of (but_the_last (sound size (xs ++ x ∷ [])))
-part_due s size x xs written stands =
-    let sample = λ (side : Side). bytes_of (replicate x (upward side (pos size))) in
+pub part_due : (s : MadeSound) (level x : ℕ) (xs written : List ℕ) → Stands s level xs written
+    → written ++ (s.gathered.room.items ++ bytes_of (replicate x (upward s.side (pos level)))) ≡ bytes_of (but_the_last (sound level (xs ++ x ∷ [])))
+part_due s level x xs written stands =
+    let sample = λ (side : Side). bytes_of (replicate x (upward side (pos level))) in
     sym (append_assoc written s.gathered.room.items (sample s.side)) ∙ ap (λ (l : List ℕ). l ++ sample s.side) stands.are
-    ∙ ap (λ (side : Side). bytes_of (but_the_last (sound size xs)) ++ sample side) stands.side ∙ sym (one_run size xs x)
+    ∙ ap (λ (side : Side). bytes_of (but_the_last (sound level xs)) ++ sample side) stands.side ∙ sym (one_run level xs x)
 
 -- ---- runs
 
@@ -132,9 +132,9 @@ pub first_of_run : (sample : ℤ) (items : List ℕ) → items ≡ bytes_of (rep
 first_of_run sample items is = ap (take 2) is ∙ shorter_run 1 512 sample (omega arith)
 
 -- the last sample stands behind all that was written
-pub finished : (s : MadeSound) (size : ℕ) (xs written : List ℕ) → s.gathered.room.items ≡ [] → Stands s size xs written
-    → written ++ sample_bytes (upward s.side (pos size)) ≡ bytes_of (sound size xs)
-finished s size xs written settled stands =
-    let last = λ (side : Side). sample_bytes (upward side (pos size)) in
+pub finished : (s : MadeSound) (level : ℕ) (xs written : List ℕ) → s.gathered.room.items ≡ [] → Stands s level xs written
+    → written ++ sample_bytes (upward s.side (pos level)) ≡ bytes_of (sound level xs)
+finished s level xs written settled stands =
+    let last = λ (side : Side). sample_bytes (upward side (pos level)) in
     ap (λ (l : List ℕ). l ++ last s.side) (sym (append-nil written) ∙ ap (λ (l : List ℕ). written ++ l) (sym settled) ∙ stands.are)
-    ∙ ap (λ (side : Side). bytes_of (but_the_last (sound size xs)) ++ last side) stands.side ∙ with_last size xs
+    ∙ ap (λ (side : Side). bytes_of (but_the_last (sound level xs)) ++ last side) stands.side ∙ with_last level xs

@@ -1,4 +1,4 @@
--- `ltc-pcm`: the sound of a recording, as raw samples of one size. Each interval is as many samples as it has ticks.
+-- `ltc-pcm`: the sound of a recording, as raw samples of one level. Each interval is as many samples as it has ticks.
 use Rattle.std.specs.Prelude.{◌≡◌, ℕ, ◌-◌, ℤ, List, length, take}
 use Rattle.pcm_front.specs.Samples.{bytes_of}
 use Rattle.pcm_front.specs.Sound.{sound}
@@ -10,8 +10,8 @@ but_the_last samples = take (length samples - 1) samples
 
 -- before the end it is the sound of the intervals so far without its last sample, which nothing follows yet
 abbrev pub made_sound : ℕ → Printing
-made_sound size = record {
+made_sound level = record {
   spent = λ header intervals. ⊥;
-  part = λ header intervals written. written ≡ bytes_of (but_the_last (sound size intervals));
-  whole = λ header intervals written. written ≡ bytes_of (sound size intervals);
+  part = λ header intervals written. written ≡ bytes_of (but_the_last (sound level intervals));
+  whole = λ header intervals written. written ≡ bytes_of (sound level intervals);
 }

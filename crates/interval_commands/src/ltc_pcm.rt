@@ -19,23 +19,23 @@ use interval_file::IntervalHeader;
 use pcm_front::Side;
 use tc_command::{Gathered, Stop, push_piece};
 use tc_io::{Sink, Source};
-use tc_words::Amplitude;
+use tc_words::SoundLevel;
 
-/// Works `ltc-pcm`: the sound of a recording, in samples of one size.
+/// Works `ltc-pcm`: the sound of a recording, in samples of one level.
 pub fn sound_recording<S: Source, K: Sink>(
-    amplitude: Amplitude,
+    level: SoundLevel,
     source: &mut S,
     out: &mut K,
 ) -> Result<(), Stop>
-    ensures ends { OnOk result (CameToItsEnd (along_intervals (made_sound amplitude)) (S.left source.old) (S.left source.new)
+    ensures ends { OnOk result (CameToItsEnd (along_intervals (made_sound level)) (S.left source.old) (S.left source.new)
         (K.written out.old) (K.written out.new)) }
-    ensures stops { IfErr result (λ stop. StoppedBefore (along_intervals (made_sound amplitude)) stop (S.left source.old) (S.left source.new)
+    ensures stops { IfErr result (λ stop. StoppedBefore (along_intervals (made_sound level)) stop (S.left source.old) (S.left source.new)
         (K.written out.old) (K.written out.new)) }
     ensures source { HasSourceCause (S.faults source.old) (S.faults source.new) result }
     ensures once { SeesOneEnd (S.ends source.old) (S.ends source.new) result }
     ensures out { HasOutCause (K.faults out.old) (K.faults out.new) result }
 {
-    work_along::<MadeSound, S, K>(amplitude, source, out)
+    work_along::<MadeSound, S, K>(level, source, out)
 }
 
 /// So many equal samples are put at once, at most.
@@ -54,11 +54,11 @@ struct MadeSound {
     gathered: Gathered,
 }
 
-/// A sample of this size on a side.
-fn sample_on(side: Side, amplitude: Amplitude) -> i16
-    ensures { result ≡ upward side (pos amplitude) }
+/// A sample of this level on a side.
+fn sample_on(side: Side, level: SoundLevel) -> i16
+    ensures { result ≡ upward side (pos level) }
 {
-    let size = amplitude.size() as i16;
+    let size = level.level() as i16;
     match side {
         Side::High => size,
         Side::Low => -size,
@@ -118,25 +118,25 @@ impl Behind for MadeSound {
     ghost use Rattle.interval_commands.specs.LtcPcm.{made_sound};
     ghost use Rattle.interval_commands.specs.KeptSound.{HasRuns, Stands, stands_well};
 
-    type Choice = Amplitude;
+    type Choice = SoundLevel;
 
-    ghost printing = { λ amplitude. made_sound amplitude };
+    ghost printing = { λ level. made_sound level };
 
     ghost fits = { λ s _. HasRuns s };
 
-    ghost stands = { λ s amplitude header intervals written. Stands s amplitude intervals written };
+    ghost stands = { λ s level header intervals written. Stands s level intervals written };
 
     ghost is_settled = { λ s. s.gathered.room.items ≡ [] };
 
-    ghost stands_well = { λ s amplitude header intervals written settled stands. stands_well s amplitude header intervals written settled stands };
+    ghost stands_well = { λ s level header intervals written settled stands. stands_well s level header intervals written settled stands };
 
     fn begin<K: Sink>(
-        amplitude: Amplitude,
+        level: SoundLevel,
         _header: IntervalHeader,
         _out: &mut K,
     ) -> Result<MadeSound, Stop> {
-        let above = sample_on(Side::High, amplitude);
-        let below = sample_on(Side::Low, amplitude);
+        let above = sample_on(Side::High, level);
+        let below = sample_on(Side::Low, level);
         Ok(MadeSound {
             above: run_of(above),
             below: run_of(below),

@@ -22,28 +22,28 @@ use Rattle.signal_commands.specs.WavLtc.{track_header}
 abbrev pub times : ℕ → List ℕ → List ℕ
 times fineness intervals = map (λ interval. fineness * interval) intervals
 
--- `pcm-ltc` takes the sound whole, each sample for itself, at a fixed threshold of at most the size of the samples, and
+-- `pcm-ltc` takes the sound whole, each sample for itself, at a fixed threshold of at most the level of the samples, and
 -- writes each distance when it has ended: this
-pub record SlicesTo (size : ℕ) (slicing : Slices) (sound written : List ℕ) : Type 0 where
+pub record SlicesTo (level : ℕ) (slicing : Slices) (sound written : List ℕ) : Type 0 where
   pub threshold : ℕ
   pub alone : slicing.smooth ≡ 1
   pub ended : slicing.live ≡ false
   pub fixed : slicing.threshold ≡ Fixed threshold
   pub some : 1 ≤ threshold
-  pub most : threshold ≤ size
+  pub most : threshold ≤ level
   pub input : IsInput (meaning_of (PcmLtc slicing)) sound
   pub output : Meaning.output (meaning_of (PcmLtc slicing)) sound written
 
 -- `wav-ltc` takes a sound file whose track has the samples of the sound, each for itself, at a threshold that follows
--- the level and is at least half of the size of the samples, and writes each distance when it has ended: this
-pub record SlicesFileTo (size : ℕ) (w : SlicesWave) (format : WaveFormat) (sound bytes written : List ℕ) : Type 0 where
+-- the level and is at least half of the level of the samples, and writes each distance when it has ended: this
+pub record SlicesFileTo (level : ℕ) (w : SlicesWave) (format : WaveFormat) (sound bytes written : List ℕ) : Type 0 where
   pub least : ℕ
   pub alone : w.smooth ≡ 1
   pub ended : w.live ≡ false
   pub follows : w.threshold ≡ Follow least
   pub some : 1 ≤ least
-  pub most : least ≤ size
-  pub half : size ≤ 2 * least
+  pub most : least ≤ level
+  pub half : level ≤ 2 * least
   pub begins : (reading_of w.track bytes).format ≡ Some format
   pub samples : (reading_of w.track bytes).samples ≡ samples_of sound
   pub output : Meaning.output (meaning_of (WavLtc w)) bytes written
@@ -54,16 +54,16 @@ abbrev pub IsBehindTheFirst : IntervalHeader → List ℕ → List ℕ → Type 
 IsBehindTheFirst header intervals written = (first : List ℕ) × (length first ≤ 1)
     × (written ≡ file_of header (flat_map pieces_of first ++ flat_map pieces_of (times 16 intervals)))
 
--- at each fixed threshold of at most the size, and at each fineness, the crossings of the sound lie so many ticks apart
+-- at each fixed threshold of at most the level, and at each fineness, the crossings of the sound lie so many ticks apart
 -- as each interval of the recording has, so many times. So `pcm-ltc` writes the file of these distances, and in whole
 -- samples that of the intervals themselves; and so does `wav-ltc` of a sound file of these samples, behind the first
 -- interval
-pub record IsSlicedAgain (size : ℕ) (bytes sound : List ℕ) : Type 0 where
-  pub apart : (fineness threshold : ℕ) → 1 ≤ threshold → threshold ≤ size
+pub record IsSlicedAgain (level : ℕ) (bytes sound : List ℕ) : Type 0 where
+  pub apart : (fineness threshold : ℕ) → 1 ≤ threshold → threshold ≤ level
       → distances fineness (Fixed threshold) (samples_of sound) ≡ times fineness (recording_of bytes).intervals
-  pub finer : (slicing : Slices) (again : List ℕ) → SlicesTo size slicing sound again
+  pub finer : (slicing : Slices) (again : List ℕ) → SlicesTo level slicing sound again
       → again ≡ file_of (sliced_header slicing) (flat_map pieces_of (times slicing.fineness (recording_of bytes).intervals))
-  pub whole : (slicing : Slices) (again : List ℕ) → SlicesTo size slicing sound again → slicing.fineness ≡ 1
+  pub whole : (slicing : Slices) (again : List ℕ) → SlicesTo level slicing sound again → slicing.fineness ≡ 1
       → again ≡ file_of (sliced_header slicing) (recording_of bytes).intervals
-  pub in_a_file : (w : SlicesWave) (format : WaveFormat) (file again : List ℕ) → SlicesFileTo size w format sound file again
+  pub in_a_file : (w : SlicesWave) (format : WaveFormat) (file again : List ℕ) → SlicesFileTo level w format sound file again
       → IsBehindTheFirst (track_header w format) (recording_of bytes).intervals again

@@ -20,7 +20,7 @@ use pcm_front::laws::{
 };
 use quarter_frame::laws::what_is_sent_is_read_back;
 use tape_spans::laws::{spans_share_the_frames_out, the_open_span_has_the_last_line};
-use tc_words::{Amplitude, ChaseRun, Jam, Job, LineStripe, LoadRun, Stripe};
+use tc_words::{ChaseRun, Jam, Job, LineStripe, LoadRun, SoundLevel, Stripe};
 use wave_file::laws::samples_are_few_and_behind_a_format;
 
 /// What a job writes of an input that it takes whole is what it promises.
@@ -37,7 +37,7 @@ pub(crate) fn a_promise_is_kept(job: &Job)
         Job::LtcMake { stripe } => is_read_back(stripe),
         Job::LtcLoad { run } => all_is_read(run),
         Job::LtcConvert { .. } => converts_the_file(),
-        Job::LtcPcm { amplitude } => is_sliced_again(*amplitude),
+        Job::LtcPcm { level } => is_sliced_again(*level),
         Job::WavLtc { .. } => slices_the_track(),
         Job::VitcMake { stripe } => are_read_back(stripe),
         Job::MtcRead
@@ -139,8 +139,8 @@ fn slices_the_track()
 }
 
 /// What is made is sliced into its intervals again.
-fn is_sliced_again(amplitude: Amplitude)
-    ensures { KeepsItsPromise (Job.LtcPcm amplitude) }
+fn is_sliced_again(level: SoundLevel)
+    ensures { KeepsItsPromise (Job.LtcPcm level) }
 {
     a_file_is_read_as_it_was_written();
     bytes_are_read_as_the_text_says();
@@ -148,5 +148,5 @@ fn is_sliced_again(amplitude: Amplitude)
     a_sound_is_sliced_into_its_intervals();
     a_sound_is_sliced_at_a_threshold_that_follows();
     sums_of_one_are_the_samples();
-    let _size = amplitude.size();
+    let _level = level.level();
 }

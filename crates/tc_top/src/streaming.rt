@@ -90,7 +90,7 @@ fn work_on<S: Source, K: Sink>(job: &Job, source: &mut S, out: &mut K) -> Result
         Job::LtcMake { stripe } => make_recording(stripe, source, out),
         Job::LtcConvert { version } => convert_recording(*version, source, out),
         Job::LtcLoad { run } => tell_load(run, source, out),
-        Job::LtcPcm { amplitude } => sound_recording(*amplitude, source, out),
+        Job::LtcPcm { level } => sound_recording(*level, source, out),
         Job::PcmLtc { slicing } => slice_sound(slicing, source, out),
         Job::WavLtc { slicing } => slice_track(slicing, source, out),
         Job::MtcRead => read_midi(source, out),

@@ -5,7 +5,7 @@ use Rattle.biphase.specs.declared.profile.Profile.TheVariants.{Normal}
 use Rattle.tc_words.specs.declared.fault.WordsFault.{WordsFault}
 use Rattle.tc_words.specs.declared.fault.WordsFault.TheVariants.{CountOfWords}
 use Rattle.tc_words.specs.declared.flight.Flight.{Flight}
-use Rattle.tc_words.specs.Tape.{value_or}
+use Rattle.tc_words.specs.Values.{value_or}
 use Rattle.tc_words.specs.Values.{Word, limit_in, tolerance_in}
 
 -- at most so many invented frames in a row, between words that are read under this tolerance

@@ -13,17 +13,19 @@ use Rattle.tc_words.specs.declared.fault.WordsFault.TheVariants.{Dash, Command, 
 use Rattle.tc_words.specs.declared.flight.Flight.{Flight}
 use Rattle.biphase.specs.declared.shaper.TheConstants.{MIN_SHAPED, MAX_SHAPED}
 use Rattle.tc_words.specs.declared.stripe.TheConstants.{MAX_TICK_RATE}
-use Rattle.tc_words.specs.ChaseWords.{chased}
+use Rattle.tc_words.specs.LtcChase.{chased}
 use Rattle.tc_words.specs.Flight.{flight_in, flight_of}
 use Rattle.tc_words.specs.Jam.{jamming_of}
-use Rattle.tc_words.specs.Sound.{amplitude_in, following, in_samples, in_ticks, summing}
-use Rattle.tc_words.specs.Tape.{at_one_length, moving, value_or}
-use Rattle.tc_words.specs.declared.load.TheConstants.{MAX_WORDS}
-use Rattle.tc_words.specs.Lines.{in_lines}
+use Rattle.tc_words.specs.PcmLtc.{following, in_samples, in_ticks, summing}
+use Rattle.tc_words.specs.SoundLevel.{level_in}
+use Rattle.tc_words.specs.LtcMake.{at_one_length, moving}
+use Rattle.tc_words.specs.Values.{value_or}
+use Rattle.tc_words.specs.declared.ltc_load.TheConstants.{MAX_WORDS}
+use Rattle.tc_words.specs.VitcMake.{in_lines}
 use Rattle.tc_words.specs.Live.{is_live, live_in}
-use Rattle.tc_words.specs.Load.{loading_of}
+use Rattle.tc_words.specs.LtcLoad.{loading_of}
 use Rattle.tc_words.specs.Values.{Word, between, count_in, limit_in, number_spelled, numbered, spelled, tolerance_in, version_in}
-use Rattle.tc_words.specs.Wave.{in_dull_wave, in_smooth_wave, in_wave}
+use Rattle.tc_words.specs.WavLtc.{in_dull_wave, in_smooth_wave, in_wave}
 use Rattle.command_words.specs.CommandLine.{begins_with_dash}
 
 -- the job, or the first fault
@@ -124,7 +126,7 @@ wav_ltc _ = Err CountOfWords
 
 -- `ltc-pcm LEVEL`
 abbrev pub ltc_pcm : List Word → Answer
-ltc_pcm (level ∷ []) = with_value 1 (amplitude_in level) (λ n. Ok (jobs.LtcPcm n))
+ltc_pcm (level ∷ []) = with_value 1 (level_in level) (λ n. Ok (jobs.LtcPcm n))
 ltc_pcm _ = Err CountOfWords
 
 -- `vitc-make COUNT LABEL FRAMES LENGTH`

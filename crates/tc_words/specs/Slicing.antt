@@ -4,7 +4,7 @@ use Rattle.pcm_front.specs.declared.threshold.Threshold.{Threshold}
 use Rattle.pcm_front.specs.declared.window.TheConstants.{MAX_SMOOTH}
 use Rattle.pcm_front.specs.State.{IsThreshold}
 use Rattle.tc_address.specs.declared.system.System.{System}
-use Rattle.tc_words.specs.declared.slicing.TheConstants.{MAX_FINENESS, MAX_SIZE}
+use Rattle.tc_words.specs.declared.slicing.TheConstants.{MAX_FINENESS, MAX_LEVEL}
 use Rattle.tc_words.specs.declared.stripe.TheConstants.{MAX_TICK_RATE}
 
 -- time code of a system, in sound of so many samples a second, at a threshold of sums, so many ticks a sample, in sums
@@ -36,7 +36,3 @@ pub record IsSlicing (s : Slices) : Type 0 where
   pub not_too_fast : s.rate * s.fineness ≤ MAX_TICK_RATE
   pub some_in_sum : 1 ≤ s.smooth
   pub most_in_sum : s.smooth ≤ MAX_SMOOTH
-
--- the size of samples whose opposites are samples too
-abbrev pub IsSize : ℕ → Type 0
-IsSize size = (1 ≤ size) × (size ≤ MAX_SIZE)

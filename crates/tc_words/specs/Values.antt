@@ -92,3 +92,8 @@ spelled = label_in
 -- the label that has this number in the day of the count
 abbrev pub numbered : Count → Word → Option Address
 numbered count word = option_and_then (slice_get (labels count)) (number_spelled word)
+
+-- what follows from a value, and the fault of its word where it has none
+abbrev pub value_or : {X Y : Type 0} → ℕ → Option X → (X → Result Y WordsFault) → Result Y WordsFault
+value_or place None next = Err (Value place)
+value_or place (Some value) next = next value

@@ -1,11 +1,11 @@
 //! What the words name. Next: `tc_top/src/streaming.rt`, which does it.
-use crate::amplitude::Amplitude;
 use crate::chase_run::ChaseRun;
 use crate::flight::Flight;
 use crate::jam::Jam;
 use crate::line_stripe::LineStripe;
-use crate::load::LoadRun;
+use crate::ltc_load::LoadRun;
 use crate::slicing::Slicing;
+use crate::sound_level::SoundLevel;
 use crate::stripe::Stripe;
 use crate::wave_slicing::WaveSlicing;
 use interval_file::FileVersion;
@@ -61,7 +61,7 @@ pub enum Job {
     /// the distances of the crossings of a track.
     WavLtc { slicing: WaveSlicing },
     /// `ltc-pcm LEVEL`: reads an interval file, and writes it as samples of sound.
-    LtcPcm { amplitude: Amplitude },
+    LtcPcm { level: SoundLevel },
     /// `vitc-read`: reads a line file, and writes a line for each field.
     VitcRead,
     /// `vitc-make COUNT LABEL FRAMES LENGTH`: makes a line file of these frames.

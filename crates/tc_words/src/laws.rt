@@ -1,8 +1,8 @@
 //! The table of usages beside the commands, and the limits that code and definitions share.
 ghost use Rattle.std.specs.Prelude.{◌≡◌, ◌-◌, ◌^◌, true};
 ghost use Rattle.tc_words.specs.declared.chase_run.TheConstants.{MAX_SLIP};
-ghost use Rattle.tc_words.specs.declared.slicing.TheConstants.{MAX_FINENESS, MAX_SIZE};
-ghost use Rattle.tc_words.specs.declared.load.TheConstants.{MAX_WORDS};
+ghost use Rattle.tc_words.specs.declared.slicing.TheConstants.{MAX_FINENESS, MAX_LEVEL};
+ghost use Rattle.tc_words.specs.declared.ltc_load.TheConstants.{MAX_WORDS};
 ghost use Rattle.tc_words.specs.declared.stripe.TheConstants.{MAX_FRAMES, MAX_TICK_RATE};
 ghost use Rattle.tc_words.specs.declared.wave_slicing.TheConstants.{MAX_TRACKS};
 ghost use Rattle.tc_words.specs.Usages.{HaveUsages, are_commands};
@@ -21,7 +21,7 @@ pub fn the_limits_are_these()
     ensures frames { MAX_FRAMES ≡ 1000000 }
     ensures tick_rate { MAX_TICK_RATE ≡ 100000000 }
     ensures fineness { MAX_FINENESS ≡ 64 }
-    ensures size { MAX_SIZE ≡ 2 ^ 15 - 1 }
+    ensures size { MAX_LEVEL ≡ 2 ^ 15 - 1 }
     ensures tracks { MAX_TRACKS ≡ 64 }
     ensures words { MAX_WORDS ≡ 100000 }
     ensures slip { MAX_SLIP ≡ 1000 }

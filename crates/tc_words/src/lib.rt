@@ -7,8 +7,8 @@
 //! the order of `WordsFault`, and want of memory is an answer of its own (`specs/Job.antt`,
 //! `answer_to`). A task is a job that is streamed, or a chase.
 //!
-//! Read `fault`, `job`, `stripe`, `tape`, `flight`, `jam`, `chase_run`, `chase_words`,
-//! `line_stripe`, `lines`, `load`, `live`, `slicing`, `amplitude`, `sound`, `wave_slicing`, `wave`,
+//! Read `fault`, `job`, `stripe`, `ltc_make`, `flight`, `jam`, `chase_run`, `ltc_chase`,
+//! `line_stripe`, `vitc_make`, `ltc_load`, `live`, `slicing`, `sound_level`, `pcm_ltc`, `wave_slicing`, `wav_ltc`,
 //! `values` and `words`, with `specs/Job.antt` and `specs/Values.antt` beside them: `words` and
 //! `Job.antt` have the same rows. `tc_top` stands on this crate.
 //!
@@ -20,37 +20,37 @@
 //! - its lines in the tables of `tests`.
 #![tactic(auto)]
 
-mod amplitude;
 mod chase_run;
-mod chase_words;
 mod fault;
 mod flight;
 mod jam;
 mod job;
 pub mod laws;
 mod line_stripe;
-mod lines;
 mod live;
-mod load;
+mod ltc_chase;
+mod ltc_load;
+mod ltc_make;
+mod pcm_ltc;
 mod slicing;
-mod sound;
+mod sound_level;
 mod stripe;
-mod tape;
 pub mod usages;
 mod values;
-mod wave;
+mod vitc_make;
+mod wav_ltc;
 mod wave_slicing;
 mod words;
 
-pub use amplitude::Amplitude;
 pub use chase_run::{ChaseRun, MAX_SLIP};
 pub use fault::WordsFault;
 pub use flight::Flight;
 pub use jam::Jam;
 pub use job::{Job, Task};
 pub use line_stripe::LineStripe;
-pub use load::{LoadRun, MAX_WORDS};
-pub use slicing::{MAX_FINENESS, MAX_SIZE, Slicing};
+pub use ltc_load::{LoadRun, MAX_WORDS};
+pub use slicing::{MAX_FINENESS, MAX_LEVEL, Slicing};
+pub use sound_level::SoundLevel;
 pub use stripe::{MAX_FRAMES, MAX_TICK_RATE, Stripe};
 pub use wave_slicing::{MAX_TRACKS, WaveSlicing};
 pub use words::read_words;

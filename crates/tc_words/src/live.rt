@@ -1,4 +1,4 @@
-//! The word `live`: a distance is written as it passes, in quarters of a frame. Next: `sound` and `wave`.
+//! The word `live`: a distance is written as it passes, in quarters of a frame. Next: `pcm_ltc` and `wav_ltc`.
 ghost use Rattle.std.specs.Prelude.{◌≡◌, codes};
 ghost use Rattle.std.specs.Str.{bytes_eq};
 ghost use Rattle.pcm_front.specs.Distance.{IsInterval};

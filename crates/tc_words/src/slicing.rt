@@ -14,7 +14,7 @@ use tc_address::System;
 pub const MAX_FINENESS: u32 = 64;
 
 /// The greatest size of a sample whose opposite is a sample too.
-pub const MAX_SIZE: u32 = 32_767;
+pub const MAX_LEVEL: u32 = 32_767;
 
 /// Sound, and how it is sliced.
 #[derive(Clone, Copy, Debug, PartialEq, Eq)]

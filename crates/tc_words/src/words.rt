@@ -5,21 +5,22 @@ ghost use Rattle.command_words.specs.CommandLine.{begins_with_dash};
 ghost use Rattle.tc_words.specs.Job.{answer_to, without_dashes, job_of, no_values, ltc_fly, ltc_spans, ltc_mtc, ltc_jam, ltc_chase, number, label_of, ltc_make};
 ghost use Rattle.tc_words.specs.Job.{ltc_convert, pcm_ltc, wav_ltc, ltc_pcm, task_of, chase, ltc_load, vitc_make, jammed};
 
-use crate::chase_words::chased;
 use crate::fault::WordsFault;
 use crate::flight::{Flight, flight_in};
 use crate::jam::Jam;
 use crate::job::{Job, Task};
-use crate::lines::in_lines;
 use crate::live::{is_live, live_in};
-use crate::load::{LoadRun, MAX_WORDS};
-use crate::sound::{amplitude_in, following, in_samples, in_ticks, summing};
+use crate::ltc_chase::chased;
+use crate::ltc_load::{LoadRun, MAX_WORDS};
+use crate::ltc_make::{at_one_length, moving};
+use crate::pcm_ltc::{following, in_samples, in_ticks, summing};
+use crate::sound_level::level_in;
 use crate::stripe::MAX_TICK_RATE;
-use crate::tape::{at_one_length, moving};
 use crate::values::{
     between, count_in, limit_in, number_spelled, numbered, spelled, tolerance_in, version_in,
 };
-use crate::wave::{in_dull_wave, in_smooth_wave, in_wave};
+use crate::vitc_make::in_lines;
+use crate::wav_ltc::{in_dull_wave, in_smooth_wave, in_wave};
 use biphase::{MAX_SHAPED, MIN_SHAPED, Profile};
 use command_words::CommandLine;
 use std::alloc::Global;
@@ -316,8 +317,8 @@ fn ltc_pcm(values: &[&str]) -> Result<Job, WordsFault>
     let [level] = values else {
         return Err(WordsFault::CountOfWords);
     };
-    let amplitude = amplitude_in(level).ok_or(WordsFault::Value(1))?;
-    Ok(Job::LtcPcm { amplitude })
+    let level = level_in(level).ok_or(WordsFault::Value(1))?;
+    Ok(Job::LtcPcm { level })
 }
 
 // `vitc-make COUNT LABEL FRAMES LENGTH`

@@ -12,4 +12,4 @@ returns c = λ e are input output. sliced_again (record {
   alone = c.sums_of_one_are_the_samples.ensures.sums;
   followed = c.a_sound_is_sliced_at_a_threshold_that_follows.ensures.follow;
   behind = c.a_sound_is_sliced_at_a_threshold_that_follows.ensures.behind;
-}) c.args.amplitude (let valid = c.size-size.ensures.valid in omega (arith, valid.1)) e.pulled e.written are input output
+}) c.args.level (let valid = c.level-level.ensures.valid in omega (arith, valid.1)) e.pulled e.written are input output

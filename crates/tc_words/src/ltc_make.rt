@@ -1,7 +1,7 @@
 //! The values of `ltc-make`, word by word. Next: `stripe`, which holds them.
 ghost use Rattle.std.specs.Prelude.{◌≡◌, IfOk, IfSome};
 ghost use Rattle.biphase.specs.Shape.{shape_with, IsShape, IsShaped};
-ghost use Rattle.tc_words.specs.Tape.{at_one_length, made_job, moving, shaped_to, tape_in, IsTape};
+ghost use Rattle.tc_words.specs.LtcMake.{at_one_length, made_job, moving, shaped_to, tape_in, AreTapeValues};
 
 use crate::fault::WordsFault;
 use crate::job::Job;
@@ -12,7 +12,7 @@ use tc_address::{Direction, Label};
 
 /// The values of the first six words.
 #[derive(Clone, Copy)]
-struct Tape {
+struct TapeValues {
     direction: Direction,
     label: Label,
     frames: u32,
@@ -22,7 +22,7 @@ struct Tape {
 }
 
 /// The job of six words: cells of one length.
-#[tactic(auto, unfolding(crate::specs::Tape::at_one_length))]
+#[tactic(auto, unfolding(crate::specs::TapeValues::at_one_length))]
 pub(crate) fn at_one_length(
     count: &str,
     direction: &str,
@@ -38,7 +38,7 @@ pub(crate) fn at_one_length(
 }
 
 /// The job of eight words: cells whose length moves to another one by a step.
-#[tactic(auto, unfolding(crate::specs::Tape::moving))]
+#[tactic(auto, unfolding(crate::specs::TapeValues::moving))]
 pub(crate) fn moving(
     count: &str,
     direction: &str,
@@ -65,9 +65,9 @@ fn tape_in(
     frames: &str,
     cell: &str,
     tick_rate: &str,
-) -> Result<Tape, WordsFault>
+) -> Result<TapeValues, WordsFault>
     ensures value { result ≡ tape_in count.now direction.now label.now frames.now cell.now tick_rate.now }
-    ensures valid { IfOk result IsTape }
+    ensures valid { IfOk result AreTapeValues }
 {
     let count = count_in(count).ok_or(WordsFault::Value(1))?;
     let direction = direction_in(direction).ok_or(WordsFault::Value(2))?;
@@ -75,7 +75,7 @@ fn tape_in(
     let frames = between(1, MAX_FRAMES, frames).ok_or(WordsFault::Value(4))?;
     let cell = between(MIN_SHAPED, MAX_SHAPED, cell).ok_or(WordsFault::Value(5))?;
     let tick_rate = between(1, MAX_TICK_RATE, tick_rate).ok_or(WordsFault::Value(6))?;
-    Ok(Tape {
+    Ok(TapeValues {
         direction,
         label,
         frames,
@@ -84,10 +84,10 @@ fn tape_in(
     })
 }
 
-impl Tape {
+impl TapeValues {
     /// The job of making it with these cells.
     fn job(self, shaper: Shaper) -> Job
-        requires tape { IsTape self }
+        requires tape { AreTapeValues self }
         requires shape { IsShape shaper }
         ensures { result ≡ made_job self shaper }
     {

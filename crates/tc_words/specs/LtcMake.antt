@@ -8,18 +8,13 @@ use Rattle.tc_words.specs.declared.fault.WordsFault.TheVariants.{Value}
 use Rattle.tc_words.specs.declared.job.Job.{Job}
 use Rattle.tc_words.specs.declared.job.Job.TheVariants.{LtcMake}
 use Rattle.tc_words.specs.declared.stripe.TheConstants.{MAX_FRAMES, MAX_TICK_RATE}
-use Rattle.tc_words.specs.declared.tape.Tape.{Tape}
+use Rattle.tc_words.specs.declared.ltc_make.TapeValues.{TapeValues}
 use Rattle.tc_address.specs.Label.{IsLabel}
 use Rattle.tc_words.specs.Stripe.{stripe_of}
 use Rattle.tc_words.specs.Values.{Word, between, count_in, direction_in, spelled}
 
--- what follows from a value, and the fault of its word where it has none
-abbrev pub value_or : {X Y : Type 0} → ℕ → Option X → (X → Result Y WordsFault) → Result Y WordsFault
-value_or place None next = Err (Value place)
-value_or place (Some value) next = next value
-
 -- the values of the first six words
-abbrev pub tape_in : Word → Word → Word → Word → Word → Word → Result Tape WordsFault
+abbrev pub tape_in : Word → Word → Word → Word → Word → Word → Result TapeValues WordsFault
 tape_in count direction label frames cell tick_rate =
     value_or 1 (count_in count) (λ c. value_or 2 (direction_in direction) (λ d. value_or 3 (spelled c label) (λ l.
     value_or 4 (between 1 MAX_FRAMES frames) (λ f. value_or 5 (between MIN_SHAPED MAX_SHAPED cell) (λ n.
@@ -27,7 +22,7 @@ tape_in count direction label frames cell tick_rate =
     Ok (record { direction = d; label = l; frames = f; cell = n; tick_rate = r })))))))
 
 -- a label of its count, and numbers in their ranges
-pub record IsTape (tape : Tape) : Type 0 where
+pub record AreTapeValues (tape : TapeValues) : Type 0 where
   pub label : IsLabel tape.label
   pub some_frames : 1 ≤ tape.frames
   pub not_too_many : tape.frames ≤ MAX_FRAMES
@@ -36,7 +31,7 @@ pub record IsTape (tape : Tape) : Type 0 where
   pub not_too_fast : tape.tick_rate ≤ MAX_TICK_RATE
 
 -- the job of making it with cells of a shape
-abbrev pub made_job : Tape → Shape → Job
+abbrev pub made_job : TapeValues → Shape → Job
 made_job tape shape = LtcMake (stripe_of tape.direction tape.label tape.frames shape tape.tick_rate)
 
 -- cells from one length to another by a step, which is a number up to an eighth of the lesser
@@ -44,7 +39,7 @@ abbrev pub shaped_to : ℕ → ℕ → Word → Option Shape
 shaped_to from to step = option_map (λ n. shape_with from to n) (between 0 (min from to / 8) step)
 
 -- what follows from the values of the first six words, or their first fault
-abbrev pub with_tape : {Y : Type 0} → Result Tape WordsFault → (Tape → Result Y WordsFault) → Result Y WordsFault
+abbrev pub with_tape : {Y : Type 0} → Result TapeValues WordsFault → (TapeValues → Result Y WordsFault) → Result Y WordsFault
 with_tape (Err fault) next = Err fault
 with_tape (Ok tape) next = next tape
 

@@ -7,26 +7,26 @@ use Rattle.pcm_front.specs.declared.window.TheConstants.{MAX_SMOOTH}
 use Rattle.tc_words.specs.declared.fault.WordsFault.{WordsFault}
 use Rattle.tc_words.specs.declared.job.Job.{Job}
 use Rattle.tc_words.specs.declared.job.Job.TheVariants.{WavLtc}
-use Rattle.tc_words.specs.declared.slicing.TheConstants.{MAX_SIZE}
-use Rattle.tc_words.specs.declared.wave.Wave.{Wave}
+use Rattle.tc_words.specs.declared.slicing.TheConstants.{MAX_LEVEL}
+use Rattle.tc_words.specs.declared.wav_ltc.Wave.{Wave}
 use Rattle.tc_words.specs.declared.wave_slicing.TheConstants.{MAX_TRACKS}
-use Rattle.tc_words.specs.Slicing.{IsSize}
-use Rattle.tc_words.specs.Sound.{of_sums}
-use Rattle.tc_words.specs.Tape.{value_or}
+use Rattle.tc_words.specs.SoundLevel.{IsLevel}
+use Rattle.tc_words.specs.PcmLtc.{of_sums}
+use Rattle.tc_words.specs.Values.{value_or}
 use Rattle.tc_words.specs.Values.{Word, between, system_in}
 use Rattle.tc_words.specs.WaveSlicing.{wave_slicing_of}
 
 -- the values of the first three words: the system, the track, and the threshold
 abbrev pub wave_in : Word → Word → Word → Result Wave WordsFault
 wave_in system track threshold =
-    value_or 1 (system_in system) (λ s. value_or 2 (between 1 MAX_TRACKS track) (λ n. value_or 3 (between 1 MAX_SIZE threshold) (λ t.
+    value_or 1 (system_in system) (λ s. value_or 2 (between 1 MAX_TRACKS track) (λ n. value_or 3 (between 1 MAX_LEVEL threshold) (λ t.
     Ok (record { system = s; track = n; threshold = t }))))
 
 -- numbers in their ranges
 pub record IsWave (wave : Wave) : Type 0 where
   pub some_track : 1 ≤ wave.track
   pub not_too_many : wave.track ≤ MAX_TRACKS
-  pub threshold : IsSize wave.threshold
+  pub threshold : IsLevel wave.threshold
 
 -- the job of slicing it at a threshold, in sums of so many samples, live or not
 abbrev pub wave_job : Wave → Threshold → ℕ → Bool → Job

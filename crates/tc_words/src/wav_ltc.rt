@@ -1,14 +1,14 @@
 //! The values of `wav-ltc`, word by word. Next: `wave_slicing`, which holds them.
 ghost use Rattle.std.specs.Prelude.{◌≡◌, ◌≤◌, IfOk, IfSome};
 ghost use Rattle.pcm_front.specs.declared.window.TheConstants.{MAX_SMOOTH};
-ghost use Rattle.tc_words.specs.Slicing.{IsSize};
-ghost use Rattle.tc_words.specs.Sound.{of_sums, IsSampleThreshold};
-ghost use Rattle.tc_words.specs.Wave.{deep_in, in_dull_wave, in_smooth_wave, in_wave, wave_in, wave_job, IsWave};
+ghost use Rattle.tc_words.specs.SoundLevel.{IsLevel};
+ghost use Rattle.tc_words.specs.PcmLtc.{of_sums, IsSampleThreshold};
+ghost use Rattle.tc_words.specs.WavLtc.{deep_in, in_dull_wave, in_smooth_wave, in_wave, wave_in, wave_job, IsWave};
 
 use crate::fault::WordsFault;
 use crate::job::Job;
-use crate::slicing::MAX_SIZE;
-use crate::sound::of_sums;
+use crate::pcm_ltc::of_sums;
+use crate::slicing::MAX_LEVEL;
 use crate::values::{between, system_in};
 use crate::wave_slicing::{MAX_TRACKS, WaveSlicing};
 use pcm_front::{MAX_SMOOTH, Threshold};
@@ -78,7 +78,7 @@ fn wave_in(system: &str, track: &str, threshold: &str) -> Result<Wave, WordsFaul
 {
     let system = system_in(system).ok_or(WordsFault::Value(1))?;
     let track = between(1, MAX_TRACKS, track).ok_or(WordsFault::Value(2))?;
-    let threshold = between(1, MAX_SIZE, threshold).ok_or(WordsFault::Value(3))?;
+    let threshold = between(1, MAX_LEVEL, threshold).ok_or(WordsFault::Value(3))?;
     Ok(Wave {
         system,
         track,
@@ -104,7 +104,7 @@ impl Wave {
 
 /// A threshold at a quarter of the level, and never below this.
 fn deep_in(least: u32, word: &str) -> Option<Threshold>
-    requires { IsSize least }
+    requires { IsLevel least }
     ensures value { result ≡ deep_in least word.now }
     ensures valid { IfSome result IsSampleThreshold }
 {

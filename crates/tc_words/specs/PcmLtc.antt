@@ -8,30 +8,31 @@ use Rattle.pcm_front.specs.declared.window.TheConstants.{MAX_SMOOTH}
 use Rattle.tc_words.specs.declared.fault.WordsFault.{WordsFault}
 use Rattle.tc_words.specs.declared.job.Job.{Job}
 use Rattle.tc_words.specs.declared.job.Job.TheVariants.{PcmLtc}
-use Rattle.tc_words.specs.declared.slicing.TheConstants.{MAX_FINENESS, MAX_SIZE}
-use Rattle.tc_words.specs.declared.sound.Sound.{Sound}
+use Rattle.tc_words.specs.declared.slicing.TheConstants.{MAX_FINENESS, MAX_LEVEL}
+use Rattle.tc_words.specs.declared.pcm_ltc.Sound.{Sound}
 use Rattle.tc_words.specs.declared.stripe.TheConstants.{MAX_TICK_RATE}
-use Rattle.tc_words.specs.Slicing.{IsSize, slicing_of}
-use Rattle.tc_words.specs.Tape.{value_or}
+use Rattle.tc_words.specs.Slicing.{slicing_of}
+use Rattle.tc_words.specs.SoundLevel.{IsLevel}
+use Rattle.tc_words.specs.Values.{value_or}
 use Rattle.tc_words.specs.Values.{Word, between, system_in}
 
 -- the values of the first three words: the system, the samples a second, and the threshold
 abbrev pub sound_in : Word → Word → Word → Result Sound WordsFault
 sound_in system rate threshold =
-    value_or 1 (system_in system) (λ s. value_or 2 (between 1 MAX_TICK_RATE rate) (λ r. value_or 3 (between 1 MAX_SIZE threshold) (λ t.
+    value_or 1 (system_in system) (λ s. value_or 2 (between 1 MAX_TICK_RATE rate) (λ r. value_or 3 (between 1 MAX_LEVEL threshold) (λ t.
     Ok (record { system = s; rate = r; threshold = t }))))
 
 -- numbers in their ranges
 pub record IsSound (sound : Sound) : Type 0 where
   pub some_samples : 1 ≤ sound.rate
   pub not_too_fast : sound.rate ≤ MAX_TICK_RATE
-  pub threshold : IsSize sound.threshold
+  pub threshold : IsLevel sound.threshold
 
 -- a threshold of samples
 abbrev pub IsSampleThreshold : Threshold → Type 0
-IsSampleThreshold (Fixed threshold) = IsSize threshold
-IsSampleThreshold (Follow least) = IsSize least
-IsSampleThreshold (Deep least) = IsSize least
+IsSampleThreshold (Fixed threshold) = IsLevel threshold
+IsSampleThreshold (Follow least) = IsLevel least
+IsSampleThreshold (Deep least) = IsLevel least
 
 -- the threshold of sums of so many samples
 abbrev pub of_sums : ℕ → Threshold → Threshold
@@ -83,7 +84,3 @@ summing system rate threshold fineness follow smooth live =
     with_sound (sound_in system rate threshold) (λ sound. value_or 4 (fineness_in sound.rate fineness) (λ f.
     value_or 5 (following_in sound.threshold follow) (λ t. value_or 6 (between 1 MAX_SMOOTH smooth) (λ n.
     value_or 7 live (λ l. Ok (sliced_job sound t f n l))))))
-
--- how loud sound is: a size from 1 to the greatest
-abbrev pub amplitude_in : Word → Option ℕ
-amplitude_in word = between 1 MAX_SIZE word

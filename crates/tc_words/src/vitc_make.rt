@@ -1,6 +1,6 @@
 //! The values of `vitc-make`, word by word. Next: `line_stripe`, which holds them.
 ghost use Rattle.std.specs.Prelude.{◌≡◌};
-ghost use Rattle.tc_words.specs.Lines.{in_lines};
+ghost use Rattle.tc_words.specs.VitcMake.{in_lines};
 
 use crate::fault::WordsFault;
 use crate::job::Job;

@@ -7,7 +7,7 @@ use Rattle.tc_words.specs.declared.job.Job.{Job}
 use Rattle.tc_words.specs.declared.job.Job.TheVariants.{LtcChase}
 use Rattle.tc_words.specs.ChaseRun.{chasing_of}
 use Rattle.tc_words.specs.Flight.{flight_of}
-use Rattle.tc_words.specs.Tape.{value_or}
+use Rattle.tc_words.specs.Values.{value_or}
 use Rattle.tc_words.specs.Values.{Word, between, count_in, limit_in, number_spelled, spelled}
 
 -- the job of five words: the count, the label, how many frames are invented in a row, the seed of the slips and their bound; and of

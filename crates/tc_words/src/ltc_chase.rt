@@ -1,6 +1,6 @@
 //! The values of `ltc-chase`, word by word. Next: `chase_run`, which holds them.
 ghost use Rattle.std.specs.Prelude.{◌≡◌};
-ghost use Rattle.tc_words.specs.ChaseWords.{chased};
+ghost use Rattle.tc_words.specs.LtcChase.{chased};
 
 use crate::chase_run::{ChaseRun, MAX_SLIP};
 use crate::fault::WordsFault;

@@ -6,7 +6,7 @@ use Rattle.tc_words.specs.declared.job.Job.{Job}
 use Rattle.tc_words.specs.declared.job.Job.TheVariants.{VitcMake}
 use Rattle.tc_words.specs.declared.stripe.TheConstants.{MAX_FRAMES}
 use Rattle.tc_words.specs.LineStripe.{line_stripe_of}
-use Rattle.tc_words.specs.Tape.{value_or}
+use Rattle.tc_words.specs.Values.{value_or}
 use Rattle.tc_words.specs.Values.{Word, between, count_with_lines, spelled}
 
 -- the job of four words: the count, the label, the number of frames and the length of a line

@@ -1,14 +1,14 @@
-//! The values of `pcm-ltc` and `ltc-pcm`, word by word. Next: `slicing` and `amplitude`, which hold them.
+//! The values of `pcm-ltc`, word by word. Next: `slicing`, which holds them.
 ghost use Rattle.std.specs.Prelude.{◌≡◌, ◌≤◌, ◌*◌, IfOk, IfSome};
 ghost use Rattle.pcm_front.specs.State.{IsThreshold};
 ghost use Rattle.pcm_front.specs.declared.window.TheConstants.{MAX_SMOOTH};
-ghost use Rattle.tc_words.specs.Slicing.{IsSize, IsSlicing, slicing_of};
-ghost use Rattle.tc_words.specs.Sound.{amplitude_in, fineness_in, following, following_in, in_samples, in_ticks, of_sums, sliced_job, sound_in, summing, IsSampleThreshold, IsSound};
+ghost use Rattle.tc_words.specs.Slicing.{IsSlicing, slicing_of};
+ghost use Rattle.tc_words.specs.SoundLevel.{IsLevel};
+ghost use Rattle.tc_words.specs.PcmLtc.{fineness_in, following, following_in, in_samples, in_ticks, of_sums, sliced_job, sound_in, summing, IsSampleThreshold, IsSound};
 
-use crate::amplitude::Amplitude;
 use crate::fault::WordsFault;
 use crate::job::Job;
-use crate::slicing::{MAX_FINENESS, MAX_SIZE, Slicing};
+use crate::slicing::{MAX_FINENESS, MAX_LEVEL, Slicing};
 use crate::stripe::MAX_TICK_RATE;
 use crate::values::{between, system_in};
 use pcm_front::{MAX_SMOOTH, Threshold};
@@ -99,7 +99,7 @@ fn sound_in(system: &str, rate: &str, threshold: &str) -> Result<Sound, WordsFau
 {
     let system = system_in(system).ok_or(WordsFault::Value(1))?;
     let rate = between(1, MAX_TICK_RATE, rate).ok_or(WordsFault::Value(2))?;
-    let threshold = between(1, MAX_SIZE, threshold).ok_or(WordsFault::Value(3))?;
+    let threshold = between(1, MAX_LEVEL, threshold).ok_or(WordsFault::Value(3))?;
     Ok(Sound {
         system,
         rate,
@@ -153,7 +153,7 @@ pub(crate) fn of_sums(smooth: u32, threshold: Threshold) -> Threshold
 
 /// A threshold that follows the level, at a half or a quarter of it, and is never below this.
 fn following_in(least: u32, word: &str) -> Option<Threshold>
-    requires { IsSize least }
+    requires { IsLevel least }
     ensures value { result ≡ following_in least word.now }
     ensures valid { IfSome result IsSampleThreshold }
 {
@@ -162,12 +162,4 @@ fn following_in(least: u32, word: &str) -> Option<Threshold>
         "deep" => Some(Threshold::Deep(least)),
         _ => None,
     }
-}
-
-/// How loud the sound is.
-pub(crate) fn amplitude_in(word: &str) -> Option<Amplitude>
-    ensures { result ≡ amplitude_in word.now }
-{
-    let size = between(1, MAX_SIZE, word)?;
-    Some(Amplitude::new(size as u16))
 }

@@ -1,0 +1,52 @@
+//! What `ltc-pcm` is told: how loud the sound is. Next: `interval_commands/src/ltc_pcm.rt`, which makes it.
+ghost use Rattle.std.specs.Prelude.{◌≡◌, ◌≤◌};
+ghost use Rattle.tc_words.specs.SoundLevel.{IsLevel, level_in};
+
+use crate::slicing::MAX_LEVEL;
+use crate::values::between;
+use std::marker::Model;
+
+/// The level of each sample of a sound, from 1 to `MAX_LEVEL`.
+#[derive(Clone, Copy, Debug, PartialEq, Eq)]
+pub struct SoundLevel {
+    level: u16,
+}
+
+impl Model for SoundLevel {
+    ghost use Rattle.std.specs.Prelude.{ℕ};
+    ghost use Rattle.tc_words.specs.SoundLevel.{IsLevel};
+
+    ghost Value = { ℕ };
+
+    ghost view = { λ s. s.level };
+
+    ghost invariant = { λ s. IsLevel s.level };
+
+    ghost inverse = { λ s. record { level = s } };
+}
+
+impl SoundLevel {
+    /// Samples of this level.
+    pub(crate) fn new(level: u16) -> SoundLevel
+        requires { IsLevel level }
+        ensures { result ≡ level }
+    {
+        SoundLevel { level }
+    }
+
+    /// The level, from 1 to `MAX_LEVEL`.
+    pub fn level(self) -> u16
+        ensures value { result ≡ self }
+        ensures valid { IsLevel self }
+    {
+        self.level
+    }
+}
+
+/// How loud the sound is.
+pub(crate) fn level_in(word: &str) -> Option<SoundLevel>
+    ensures { result ≡ level_in word.now }
+{
+    let level = between(1, MAX_LEVEL, word)?;
+    Some(SoundLevel::new(level as u16))
+}
