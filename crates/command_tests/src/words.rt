@@ -56,7 +56,10 @@ fn many_words_want_no_memory(rt: HostRuntime) -> Result<(), Fail> {
     let mut words = typed(rt.alloc(), "version x")?;
     for _ in 0..300u32 {
         words.push(String::from_str(rt.alloc(), "0123456789012345678901234567890123456789")?)?;
-        assert_eq!(rt; read_words(rt.alloc(), &words), Err(WordsFault::CountOfWords));
+        assert_eq!(rt;
+            read_words(rt.alloc(), &words),
+            Err(WordsFault::CountOfWords)
+        );
     }
     Ok(())
 }
