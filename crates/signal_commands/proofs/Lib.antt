@@ -3,6 +3,7 @@ mod DueSamples
 mod FieldsGrow
 mod MidiGrows
 mod MidiLimit
+mod NothingYet
 mod PutMore
 mod SlicedOn
 mod SlicedTracks

@@ -1,8 +1,9 @@
 use Rattle.std.proofs.Common.{◌-◌, ◌++◌, List, ℕ, take, drop, length, ap, refl, subst, sym, ◌∙◌, append_assoc, arith}
 use Rattle.signal_commands.specs.KeptSlices.{Slices}
 use Rattle.signal_commands.specs.PcmLtc.{along_samples}
-use Rattle.tc_command.specs.KeptWorks.{Works, cut_at, cut_more, stops_on, through, within_rest, works_nothing, works_on}
+use Rattle.tc_command.specs.KeptWorks.{Works, cut_at, cut_more, stops_on, through, within_rest, works_on}
 use Rattle.tc_command.specs.Stops.{IsStop, Stops}
+use Rattle.signal_commands.proofs.NothingYet.{works_nothing}
 use Rattle.signal_commands.proofs.pcm_ltc.SlicedSound.slice.Goals as goal
 
 pub runs-init : goal.runs-init
