@@ -27,8 +27,9 @@ pub record IsChainFrom (profile : Profile) (intervals : List ℕ) (lock : ℕ) (
   pub chain : FollowOn profile cells
   pub front : Begins (flat cells) (drop lock intervals)
 
--- the place where a stretch breaks, if it does: `kept` is kept of its cells, and `rest` is the list from the place `after` them on
--- it breaks at the next interval, or one later where that may be a first half, and not before the list goes on so far
+-- the place where a stretch breaks, if it does. `kept` is what is kept of its cells, and `rest` is the list from the
+-- place `after` them on. It breaks at the next interval, or one later where that may be a first half, and not before
+-- the list goes on so far
 abbrev pub IsBreak : Profile → Latest → ℕ → List ℕ → Option ℕ → Type 0
 IsBreak profile kept after [] place = place ≡ None
 IsBreak profile kept after (x ∷ []) place = (IsFirstHalf profile kept x → place ≡ None) × (¬ IsFirstHalf profile kept x → place ≡ Some after)

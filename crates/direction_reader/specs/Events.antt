@@ -15,6 +15,7 @@ abbrev pub listed : Option Event → List Event
 listed None = []
 listed (Some event) = event ∷ []
 
+-- what one interval brought, as a list in order
 abbrev pub event_list : Events → List Event
 event_list events = listed events.first ++ listed events.second
 

@@ -9,6 +9,7 @@ use Rattle.tc_command.specs.declared.input_fault.InputFault.TheVariants.{Interva
 use Rattle.tc_command.specs.Meaning.{Meaning}
 use Rattle.tc_command.specs.Verdict.{Verdict, good, refused, past_limit}
 
+-- what a command that reads an interval file writes, by its header and its intervals
 pub record Printing : Type 1 where
   -- the header and these intervals pass a limit of the command's own
   pub spent : IntervalHeader → List ℕ → Type 0
@@ -22,6 +23,7 @@ abbrev pub IsPartBehind : Printing → Option IntervalHeader → List ℕ → Li
 IsPartBehind p None intervals written = written ≡ []
 IsPartBehind p (Some header) intervals written = p.part header intervals written
 
+-- what is written of a recording before its end
 abbrev pub IsPartOf : Printing → Recording → List ℕ → Type 0
 IsPartOf p r written = IsPartBehind p r.header r.intervals written
 
@@ -30,14 +32,16 @@ abbrev pub IsWholeBehind : Printing → Option IntervalHeader → List ℕ → L
 IsWholeBehind p None intervals written = ⊥
 IsWholeBehind p (Some header) intervals written = p.whole header intervals written
 
+-- what is written of a whole recording
 abbrev pub IsWholeOf : Printing → Recording → List ℕ → Type 0
 IsWholeOf p r written = IsWholeBehind p r.header r.intervals written
 
--- and nothing passes a limit of the command's own before
+-- the intervals pass a limit of the command's own; nothing does before the header is whole
 abbrev pub IsSpentBehind : Printing → Option IntervalHeader → List ℕ → Type 0
 IsSpentBehind p None intervals = ⊥
 IsSpentBehind p (Some header) intervals = p.spent header intervals
 
+-- what is read of the recording passes a limit of the command's own
 abbrev pub IsSpentOf : Printing → Recording → Type 0
 IsSpentOf p r = IsSpentBehind p r.header r.intervals
 
@@ -47,6 +51,7 @@ verdict_of file.good = good
 verdict_of (file.refused fault) = refused (Intervals fault)
 verdict_of file.past_limit = past_limit
 
+-- what such a command takes and writes: its bytes are an interval file, within the limit of one
 abbrev pub along_intervals : Printing → Meaning
 along_intervals p = record {
   reads = true;

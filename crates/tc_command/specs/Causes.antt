@@ -7,7 +7,7 @@ use Rattle.tc_command.specs.declared.status.Status.{Status}
 use Rattle.tc_command.specs.declared.status.Status.TheVariants.{Done, Usage, Refused, ReadFault, WriteFault, Memory, Limit}
 use Rattle.tc_command.specs.Status.{status_of}
 
--- of the source
+-- a read fault comes only where the count of the source rose, and each other status leaves it as it was
 abbrev pub SourceCause : Status → ℕ → ℕ → Type 0
 SourceCause ReadFault before now = Rose before now
 SourceCause Done before now = now ≡ before
@@ -17,7 +17,7 @@ SourceCause WriteFault before now = now ≡ before
 SourceCause Memory before now = now ≡ before
 SourceCause Limit before now = now ≡ before
 
--- of the output
+-- a write fault comes only where the count of the output rose, and each other status leaves it as it was
 abbrev pub OutCause : Status → ℕ → ℕ → Type 0
 OutCause WriteFault before now = Rose before now
 OutCause Done before now = now ≡ before

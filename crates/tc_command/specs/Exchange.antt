@@ -11,12 +11,12 @@ pub record Exchange : Type 0 where
   pub written : List ℕ
   pub note : List ℕ
 
--- it was pulled from a source
+-- the pulled bytes of the exchange came from a source, which has left what it says
 pub record IsPulled (before now : Option (List ℕ)) (e : Exchange) : Type 0 where
   pub bytes : Consumes before now e.pulled
   pub left : now ≡ e.left
 
--- it was written to a sink
+-- the written bytes of the exchange went to a sink
 abbrev pub IsWritten : Option (List ℕ) → Option (List ℕ) → Exchange → Type 0
 IsWritten before now e = Appends before now e.written
 

@@ -4,6 +4,7 @@ use Rattle.std.specs.Io.KnownBytes.{IsAtEnd}
 use Rattle.tc_command.specs.declared.input_fault.InputFault.{InputFault}
 use Rattle.tc_command.specs.Verdict.{Verdict, good}
 
+-- what a command takes and what it writes, as statements of the bytes pulled so far and of those written
 pub record Meaning : Type 1 where
   -- it pulls an input
   pub reads : Bool

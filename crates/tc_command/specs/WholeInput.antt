@@ -6,10 +6,12 @@ use Rattle.tc_command.specs.declared.status.Status.{Status}
 use Rattle.tc_command.specs.declared.status.Status.TheVariants.{Done, Refused, Limit}
 use Rattle.tc_command.specs.Meaning.{Meaning}
 
+-- the status of an input that is good to its end: done, or refused for the fault of an input that ends there
 abbrev pub status_at_end : Option InputFault → Status
 status_at_end None = Done
 status_at_end (Some fault) = Refused
 
+-- the status by what the bytes show, and else by their end
 abbrev pub status_by : Verdict → Option InputFault → Status
 status_by good end = status_at_end end
 status_by (refused fault) end = Refused

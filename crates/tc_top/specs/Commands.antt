@@ -30,6 +30,7 @@ use Rattle.signal_commands.specs.PcmLtc.{along_samples}
 use Rattle.signal_commands.specs.VitcRead.{along_fields}
 use Rattle.signal_commands.specs.WavLtc.{along_sound_file}
 
+-- what kind of input a job reads, and what it makes of it
 pub data Shape : Type 1 where
   -- it reads nothing, and writes a text
   writes_text : List ℕ → Shape

@@ -57,7 +57,7 @@ pledge_of (LabelOf label) = says_no_more
 pledge_of Help = says_no_more
 pledge_of Version = says_no_more
 
--- these bytes keep it
+-- the bytes pulled and the bytes written keep the promise
 abbrev pub Keep : Pledge → List ℕ → List ℕ → Type 0
 Keep (names_the_text keep) pulled written = keep pulled written
 Keep (binds_the_text keep) pulled written = keep pulled written

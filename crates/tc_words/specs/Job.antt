@@ -28,7 +28,7 @@ use Rattle.tc_words.specs.Values.{Word, between, count_in, limit_in, number_spel
 use Rattle.tc_words.specs.WavLtc.{in_dull_wave, in_smooth_wave, in_wave}
 use Rattle.command_words.specs.CommandLine.{begins_with_dash}
 
--- the job, or the first fault
+-- the job of a command that is streamed, or the first fault of its words
 abbrev pub Answer : Type 0
 Answer = Result Job WordsFault
 
@@ -44,7 +44,7 @@ with_flight (Ok flight) job = Ok (job flight)
 
 -- ---- the commands: the values of each, and how each is read
 
--- a command without values
+-- the job of a command without values: with values the count of words is wrong
 abbrev pub no_values : Job → List Word → Answer
 no_values job [] = Ok job
 no_values job _ = Err CountOfWords
@@ -53,7 +53,7 @@ no_values job _ = Err CountOfWords
 abbrev pub ltc_fly : List Word → Answer
 ltc_fly values = with_flight (flight_in values) (λ flight. jobs.LtcFly flight)
 
--- `ltc-spans LIMIT [worn]`
+-- `ltc-spans LIMIT [worn|rough]`
 abbrev pub ltc_spans : List Word → Answer
 ltc_spans values = with_flight (flight_in values) (λ flight. jobs.LtcSpans flight)
 
@@ -186,11 +186,12 @@ chase (count ∷ label ∷ []) =
     value_or 1 (count_in count) (λ c. value_or 2 (spelled c label) (λ address. Ok (tasks.Chase address)))
 chase _ = Err CountOfWords
 
--- each other command is a job that is streamed
+-- the task of each command but `chase`: its job, or the fault of its words
 abbrev pub streamed : Answer → TaskAnswer
 streamed (Ok job) = Ok (tasks.Stream job)
 streamed (Err fault) = Err fault
 
+-- the command that the first word names, with its values: a job, or a chase
 abbrev pub task_of : Word → List Word → TaskAnswer
 task_of command values = if bytes_eq command (codes "chase") then chase values else streamed (job_of command values)
 

@@ -24,7 +24,7 @@ pub enum Task {
 /// What the program is to do while its input comes.
 #[derive(Clone, Copy, Debug, PartialEq, Eq)]
 pub enum Job {
-    /// `ltc-read`: reads an interval file, and writes a line for each word, refusal and loss.
+    /// `ltc-read`: reads an interval file, and writes a line for each word, refused candidate and break.
     LtcRead,
     /// `ltc-worn`: the same under the tolerance of worn recordings.
     LtcWorn,
