@@ -1,5 +1,5 @@
 -- What a word says as a value.
-use Rattle.std.specs.Prelude.{ℕ, ◌^◌, Bool, ◌&&◌, List, length, Option, Some, None, if◌then◌else◌, nat_lt, nat_le, codes, slice_get, option_and_then}
+use Rattle.std.specs.Prelude.{ℕ, ◌^◌, Bool, ◌&&◌, List, length, Option, Some, None, if◌then◌else◌, nat_lt, nat_le, Result, Err, codes, slice_get, option_and_then}
 use Rattle.std.specs.Char.{is_ascii_digit}
 use Rattle.std.specs.List.{list_all}
 use Rattle.std.specs.Str.{bytes_eq}
@@ -16,6 +16,8 @@ use Rattle.tc_address.specs.Label.{Address, labels}
 use Rattle.tc_address.specs.Spelling.{label_in}
 use Rattle.interval_file.specs.declared.header.FileVersion.{FileVersion}
 use Rattle.interval_file.specs.declared.header.FileVersion.TheVariants.{One, Two}
+use Rattle.tc_words.specs.declared.fault.WordsFault.{WordsFault}
+use Rattle.tc_words.specs.declared.fault.WordsFault.TheVariants.{Value}
 
 -- the bytes of a word
 abbrev pub Word : Type 0

@@ -10,7 +10,7 @@ use crate::values::{between, count_in, limit_in, number_spelled, spelled};
 use biphase::Profile;
 
 /// The job of five words and the tolerance that the sixth says, or their first fault.
-#[tactic(auto, unfolding(crate::specs::ChaseWords::chased))]
+#[tactic(auto, unfolding(crate::specs::LtcChase::chased))]
 pub(crate) fn chased(
     count: &str,
     label: &str,

@@ -22,7 +22,7 @@ struct TapeValues {
 }
 
 /// The job of six words: cells of one length.
-#[tactic(auto, unfolding(crate::specs::TapeValues::at_one_length))]
+#[tactic(auto, unfolding(crate::specs::LtcMake::at_one_length))]
 pub(crate) fn at_one_length(
     count: &str,
     direction: &str,
@@ -38,7 +38,7 @@ pub(crate) fn at_one_length(
 }
 
 /// The job of eight words: cells whose length moves to another one by a step.
-#[tactic(auto, unfolding(crate::specs::TapeValues::moving))]
+#[tactic(auto, unfolding(crate::specs::LtcMake::moving))]
 pub(crate) fn moving(
     count: &str,
     direction: &str,

@@ -24,7 +24,7 @@ struct Sound {
 }
 
 /// The job of three words, and of `live` behind them where it stands there: whole samples, and one threshold.
-#[tactic(auto, unfolding(crate::specs::Sound::in_samples))]
+#[tactic(auto, unfolding(crate::specs::PcmLtc::in_samples))]
 pub(crate) fn in_samples(
     system: &str,
     rate: &str,
@@ -38,7 +38,7 @@ pub(crate) fn in_samples(
 }
 
 /// The same of four words: so many ticks a sample.
-#[tactic(auto, unfolding(crate::specs::Sound::in_ticks))]
+#[tactic(auto, unfolding(crate::specs::PcmLtc::in_ticks))]
 pub(crate) fn in_ticks(
     system: &str,
     rate: &str,
@@ -54,7 +54,7 @@ pub(crate) fn in_ticks(
 }
 
 /// Of five words: a threshold that follows the level.
-#[tactic(auto, unfolding(crate::specs::Sound::following))]
+#[tactic(auto, unfolding(crate::specs::PcmLtc::following))]
 pub(crate) fn following(
     system: &str,
     rate: &str,
@@ -72,7 +72,7 @@ pub(crate) fn following(
 }
 
 /// Of six words, and of a seventh where there is one: sums of so many samples.
-#[tactic(auto, unfolding(crate::specs::Sound::summing))]
+#[tactic(auto, unfolding(crate::specs::PcmLtc::summing))]
 pub(crate) fn summing(
     system: &str,
     rate: &str,

@@ -23,7 +23,7 @@ struct Wave {
 }
 
 /// The job of three words, and of `live` behind them where it stands there: each sample stands for itself.
-#[tactic(auto, unfolding(crate::specs::Wave::in_wave))]
+#[tactic(auto, unfolding(crate::specs::WavLtc::in_wave))]
 pub(crate) fn in_wave(
     system: &str,
     track: &str,
@@ -37,7 +37,7 @@ pub(crate) fn in_wave(
 }
 
 /// The same of four words: sums of so many samples.
-#[tactic(auto, unfolding(crate::specs::Wave::in_smooth_wave))]
+#[tactic(auto, unfolding(crate::specs::WavLtc::in_smooth_wave))]
 pub(crate) fn in_smooth_wave(
     system: &str,
     track: &str,
@@ -53,7 +53,7 @@ pub(crate) fn in_smooth_wave(
 }
 
 /// Of five words, and of a sixth where there is one: a threshold at a quarter of the level.
-#[tactic(auto, unfolding(crate::specs::Wave::in_dull_wave))]
+#[tactic(auto, unfolding(crate::specs::WavLtc::in_dull_wave))]
 pub(crate) fn in_dull_wave(
     system: &str,
     track: &str,
