@@ -22,11 +22,11 @@ use Rattle.interval_file.specs.Progress.{Progress}
 use Rattle.interval_file.specs.Decoding.{Decoding, IsBetween, ReadsWhatIsSaid, decoded, decoding_of, with_byte, with_item}
 use Rattle.interval_file.specs.Decoding.{with_number, with_taken}
 use Rattle.interval_file.specs.Recording.{Recording, recording_of}
-use Rattle.interval_file.specs.Verdict.{Verdict, good, refused, past_limit}
+use Rattle.tc_io.specs.Verdict.{Verdict, good, refused, past_limit, verdict_as}
 use Rattle.tc_command.specs.declared.input_fault.InputFault.TheVariants.{Intervals}
 use Rattle.tc_command.specs.declared.stop.Stop.{Stop}
 use Rattle.tc_command.specs.declared.stop.Stop.TheVariants.{Refused, ReadFault, WriteFault, Limit}
-use Rattle.interval_commands.specs.Along.{Printing, IsPartOf, IsSpentOf, along_intervals, verdict_of}
+use Rattle.interval_commands.specs.Along.{Printing, IsPartOf, IsSpentOf, along_intervals}
 use Rattle.tc_command.specs.Causes.{OutCause}
 use Rattle.interval_commands.specs.KeptAlong.{HasHeader, IntervalStops, Printed, Stands, longer, stop_at, Halts, IsHalt}
 use Rattle.tc_command.specs.Status.{status_of}
@@ -90,7 +90,7 @@ an_interval stands decoder next before behind count now choice x front bytes wri
 -- ---- the command stops
 
 -- a fault, or an interval past the limit: nothing that follows is looked at
-abbrev verdict_now : Recording → Verdict → Recording
+abbrev verdict_now : Recording → Verdict IntervalFileFault → Recording
 verdict_now r v = record { header = r.header; intervals = r.intervals; verdict = v }
 
 -- what is read of the bytes is what is read of more
@@ -111,13 +111,13 @@ ends_past said front bytes rest r e =
     and_rest front bytes rest (past_is_all said (front ++ bytes) rest (ap (λ (s : Recording). s.verdict) e)) ∙ e
 
 -- the verdict says nothing of the header and the intervals
-at_verdict : {B C : Type 0} (stands : Relation B C) (behind : Option B) (choice : C) (r : Recording) (v : Verdict) (written : List ℕ)
+at_verdict : {B C : Type 0} (stands : Relation B C) (behind : Option B) (choice : C) (r : Recording) (v : Verdict IntervalFileFault) (written : List ℕ)
     → Printed stands behind choice r written → Printed stands behind choice (verdict_now r v) written
 at_verdict stands None choice r v written printed = printed
 at_verdict stands (Some b) choice r v written printed = printed
 
 -- nothing was written any more
-printed_now : {B C : Type 0} (stands : Relation B C) (behind : Option B) (choice : C) (r s : Recording) (v : Verdict) (written : List ℕ)
+printed_now : {B C : Type 0} (stands : Relation B C) (behind : Option B) (choice : C) (r s : Recording) (v : Verdict IntervalFileFault) (written : List ℕ)
     → Printed stands behind choice r written → s ≡ verdict_now r v → Printed stands behind choice s (written ++ [])
 printed_now stands behind choice r s v written printed e =
     subst (λ (w : List ℕ). Printed stands behind choice s w) (sym (append-nil written))
@@ -133,7 +133,7 @@ a_limit said p stands decoder next behind count choice x front bytes rest writte
     let past : with_item r (Interval x) ≡ verdict_now r past_limit =
     rw (le-ltb (length r.intervals) MAX_INTERVALS (let counts = s.counts in omega arith)) refl in
     let now = ends_past said front bytes rest r (completed front bytes (Interval x) next is s.good ∙ past) in
-    inl (ap (λ (t : Recording). verdict_of t.verdict) now, printed_now stands behind choice r _ past_limit written s.printed now)
+    inl (ap (λ (t : Recording). verdict_as Intervals t.verdict) now, printed_now stands behind choice r _ past_limit written s.printed now)
 
 -- a fault
 at_fault : ReadsWhatIsSaid → {B C : Type 0} (p : Printing) (stands : Relation B C)
@@ -143,10 +143,10 @@ at_fault : ReadsWhatIsSaid → {B C : Type 0} (p : Printing) (stands : Relation 
     → IsHalt p stands behind choice (if below then Refused (Intervals f) else Limit) (front ++ (bytes ++ rest)) (written ++ [])
 at_fault said p stands behind choice f front bytes rest written true printed e =
     let now = ends_refused said front bytes rest f (recording_of front) e in
-    (ap (λ (t : Recording). verdict_of t.verdict) now, printed_now stands behind choice (recording_of front) _ (refused f) written printed now)
+    (ap (λ (t : Recording). verdict_as Intervals t.verdict) now, printed_now stands behind choice (recording_of front) _ (refused f) written printed now)
 at_fault said p stands behind choice f front bytes rest written false printed e =
     let now = ends_past said front bytes rest (recording_of front) e in
-    inl (ap (λ (t : Recording). verdict_of t.verdict) now, printed_now stands behind choice (recording_of front) _ past_limit written printed now)
+    inl (ap (λ (t : Recording). verdict_as Intervals t.verdict) now, printed_now stands behind choice (recording_of front) _ past_limit written printed now)
 
 pub a_fault : ReadsWhatIsSaid → {B C : Type 0} (p : Printing) (stands : Relation B C)
     → (decoder next : Progress) (behind : Option B) (count : ℕ) (choice : C) (f : IntervalFileFault) (front bytes rest written : List ℕ)

@@ -14,14 +14,14 @@ use Rattle.interval_file.specs.IntervalFile.{answer}
 use Rattle.interval_file.specs.Decoding.{Decoding, ReadsWhatIsSaid, decoded, decoding_of, no_decoding, with_byte}
 use Rattle.interval_file.specs.Decoding.{with_header, with_item, with_taken}
 use Rattle.interval_file.specs.Recording.{Recording, recording_of}
-use Rattle.interval_file.specs.Verdict.{Verdict, good, refused, past_limit}
+use Rattle.tc_io.specs.Verdict.{Verdict, good, refused, past_limit}
 use Rattle.interval_commands.specs.KeptCommand.{Grows, RecordingsGrow}
 use Rattle.interval_commands.proofs.InputBegins.{input_begins}
 
 pub more_bytes : (front more : List ℕ) → decoding_of (front ++ more) ≡ fold with_byte (decoding_of front) more
 more_bytes front more = fold-append with_byte no_decoding front more
 
-at_good : (r : Recording) (item : Taken) (v : Verdict) → v ≡ good
+at_good : (r : Recording) (item : Taken) (v : Verdict IntervalFileFault) → v ≡ good
     → elim v [ good ↦ with_item r item | refused f ↦ r | past_limit ↦ r ] ≡ with_item r item
 at_good r item good e = refl
 at_good r item (refused f) e = absurd cc
@@ -30,13 +30,13 @@ at_good r item past_limit e = absurd cc
 pub good_step : (r : Recording) (item : Taken) → r.verdict ≡ good → with_taken r item ≡ with_item r item
 good_step r item e = at_good r item r.verdict e
 
-at_refused : (r : Recording) (item : Taken) (f : IntervalFileFault) (v : Verdict) → v ≡ refused f
+at_refused : (r : Recording) (item : Taken) (f : IntervalFileFault) (v : Verdict IntervalFileFault) → v ≡ refused f
     → elim v [ good ↦ with_item r item | refused f ↦ r | past_limit ↦ r ] ≡ r
 at_refused r item f good e = absurd cc
 at_refused r item f (refused g) e = refl
 at_refused r item f past_limit e = absurd cc
 
-at_past : (r : Recording) (item : Taken) (v : Verdict) → v ≡ past_limit → elim v [ good ↦ with_item r item | refused f ↦ r | past_limit ↦ r ] ≡ r
+at_past : (r : Recording) (item : Taken) (v : Verdict IntervalFileFault) → v ≡ past_limit → elim v [ good ↦ with_item r item | refused f ↦ r | past_limit ↦ r ] ≡ r
 at_past r item good e = absurd cc
 at_past r item (refused g) e = absurd cc
 at_past r item past_limit e = refl
@@ -77,7 +77,7 @@ item_grows r (Header first) = λ header is. (ap (λ (h : Option IntervalHeader).
 item_grows r (Interval x) = an_interval_grows r x (nat_lt (length r.intervals) MAX_INTERVALS)
 item_grows r (Fault f) = λ header is. (is, ([], sym (append-nil r.intervals)))
 
-taken_grows : (r : Recording) (item : Taken) (v : Verdict)
+taken_grows : (r : Recording) (item : Taken) (v : Verdict IntervalFileFault)
     → Grows r (elim v [ good ↦ with_item r item | refused f ↦ r | past_limit ↦ r ])
 taken_grows r item good = item_grows r item
 taken_grows r item (refused f) = grows_nothing r

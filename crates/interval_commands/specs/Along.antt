@@ -4,10 +4,9 @@ use Rattle.std.specs.Prelude.{◌≡◌, ℕ, true, List, [], Option, Some, None
 use Rattle.std.specs.Option.{option_map}
 use Rattle.interval_file.specs.declared.header.IntervalHeader.{IntervalHeader}
 use Rattle.interval_file.specs.Recording.{Recording, recording_of, end_fault_of}
-use Rattle.interval_file.specs.Verdict as file
 use Rattle.tc_command.specs.declared.input_fault.InputFault.TheVariants.{Intervals}
 use Rattle.tc_command.specs.Meaning.{Meaning}
-use Rattle.tc_command.specs.Verdict.{Verdict, good, refused, past_limit}
+use Rattle.tc_io.specs.Verdict.{verdict_as}
 
 -- what a command that reads an interval file writes, by its header and its intervals
 pub record Printing : Type 1 where
@@ -45,17 +44,11 @@ IsSpentBehind p (Some header) intervals = p.spent header intervals
 abbrev pub IsSpentOf : Printing → Recording → Type 0
 IsSpentOf p r = IsSpentBehind p r.header r.intervals
 
--- the fault of a command is that of its file
-abbrev pub verdict_of : file.Verdict → Verdict
-verdict_of file.good = good
-verdict_of (file.refused fault) = refused (Intervals fault)
-verdict_of file.past_limit = past_limit
-
 -- what such a command takes and writes: its bytes are an interval file, within the limit of one
 abbrev pub along_intervals : Printing → Meaning
 along_intervals p = record {
   reads = true;
-  verdict = λ bytes. verdict_of (recording_of bytes).verdict;
+  verdict = λ bytes. verdict_as Intervals (recording_of bytes).verdict;
   end_fault = λ bytes. option_map Intervals (end_fault_of bytes);
   spent = λ bytes. IsSpentOf p (recording_of bytes);
   part = λ bytes written. IsPartOf p (recording_of bytes) written;

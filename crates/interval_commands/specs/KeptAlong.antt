@@ -10,12 +10,11 @@ use Rattle.interval_file.specs.declared.header.TheConstants.{HEADER_LENGTH}
 use Rattle.interval_file.specs.Progress.{Progress}
 use Rattle.interval_file.specs.Decoding.{decoding_of, FitsBytes}
 use Rattle.interval_file.specs.Recording.{Recording, recording_of}
-use Rattle.interval_file.specs.Verdict as file
 use Rattle.tc_command.specs.declared.input_fault.InputFault.TheVariants.{Intervals}
-use Rattle.tc_command.specs.Verdict.{refused, past_limit}
+use Rattle.tc_io.specs.Verdict.{refused, past_limit, good, verdict_as}
 use Rattle.tc_command.specs.declared.stop.Stop.{Stop}
 use Rattle.tc_command.specs.declared.stop.Stop.TheVariants.{Refused, ReadFault, WriteFault, Limit}
-use Rattle.interval_commands.specs.Along.{Printing, IsPartBehind, IsPartOf, IsSpentOf, along_intervals, verdict_of}
+use Rattle.interval_commands.specs.Along.{Printing, IsPartBehind, IsPartOf, IsSpentOf, along_intervals}
 use Rattle.tc_command.specs.Stops.{IsStop}
 
 -- the header is whole with its last byte
@@ -45,7 +44,7 @@ Printed stands (Some behind) choice r written = (header : IntervalHeader) × (r.
 pub record Stands {B C : Type 0} (stands : B → C → IntervalHeader → List ℕ → List ℕ → Type 0)
     (decoder : Progress) (behind : Option B) (count : ℕ) (choice : C) (bytes written : List ℕ) : Type 0 where
   pub progress : decoder ≡ (decoding_of bytes).progress
-  pub good : (recording_of bytes).verdict ≡ file.good
+  pub good : (recording_of bytes).verdict ≡ good
   pub counts : count ≡ length (recording_of bytes).intervals
   pub printed : Printed stands behind choice (recording_of bytes) written
 
@@ -84,9 +83,9 @@ IsSpentHalt p stands behind choice pulled written = (front : List ℕ) × IsFron
 abbrev pub IsHalt : {B C : Type 0} → Printing → (B → C → IntervalHeader → List ℕ → List ℕ → Type 0) → Option B → C
     → Stop → List ℕ → List ℕ → Type 0
 IsHalt p stands behind choice (Refused fault) pulled written =
-    (verdict_of (recording_of pulled).verdict ≡ refused fault) × Printed stands behind choice (recording_of pulled) written
+    (verdict_as Intervals (recording_of pulled).verdict ≡ refused fault) × Printed stands behind choice (recording_of pulled) written
 IsHalt p stands behind choice Limit pulled written =
-    ((verdict_of (recording_of pulled).verdict ≡ past_limit) × Printed stands behind choice (recording_of pulled) written)
+    ((verdict_as Intervals (recording_of pulled).verdict ≡ past_limit) × Printed stands behind choice (recording_of pulled) written)
     ⊎ IsSpentHalt p stands behind choice pulled written
 IsHalt p stands behind choice WriteFault pulled written = IsStop (along_intervals p) WriteFault pulled written
 IsHalt p stands behind choice ReadFault pulled written = ⊥

@@ -4,11 +4,12 @@ use Rattle.std.proofs.lemmas.Bool.{false≢true}
 use Rattle.interval_file.specs.declared.fault.IntervalFileFault.{IntervalFileFault}
 use Rattle.interval_file.specs.declared.header.IntervalHeader.{IntervalHeader}
 use Rattle.interval_file.specs.Recording.{Recording, end_fault_of, recording_of}
-use Rattle.interval_file.specs.Verdict.{refused, past_limit}
+use Rattle.tc_io.specs.Verdict.{refused, past_limit, verdict_as}
 use Rattle.tc_io.specs.Sink.{IsFront}
 use Rattle.tc_command.specs.Command.{IsCommand}
-use Rattle.interval_commands.specs.Along.{IsPartBehind, IsPartOf, IsSpentBehind, IsSpentOf, IsWholeBehind, IsWholeOf, Printing, along_intervals, verdict_of}
-use Rattle.interval_commands.specs.KeptVerdict.{ends_whole, is_past, is_refused}
+use Rattle.interval_commands.specs.Along.{IsPartBehind, IsPartOf, IsSpentBehind, IsSpentOf, IsWholeBehind, IsWholeOf, Printing, along_intervals}
+use Rattle.tc_io.specs.KeptVerdict.{ends_whole, is_past, is_refused}
+use Rattle.tc_command.specs.declared.input_fault.InputFault.TheVariants.{Intervals}
 
 -- ---- a recording grows
 
@@ -109,19 +110,19 @@ along_is_command r p prints = record {
         nothing_more p prints (recording_of front) (recording_of (front ++ more)) (r.grows front more) (recording_of front).header a b refl spent one all;
   };
   some_part = λ bytes. some_part p prints (recording_of bytes).header (recording_of bytes).intervals;
-  some_output = λ input is. some_whole p prints (recording_of input).header (recording_of input).intervals (r.begins input (ends_whole _ is.end));
+  some_output = λ input is. some_whole p prints (recording_of input).header (recording_of input).intervals (r.begins input (ends_whole Intervals _ is.end));
   one_part = λ bytes a b one all. one_part p prints (recording_of bytes).header (recording_of bytes).intervals a b one all;
   one_output = λ input a b one all. one_whole p prints (recording_of input).header (recording_of input).intervals a b one all;
   fault = λ front rest f e.
-      let file = is_refused (recording_of front).verdict f e in
-      ap (λ (s : Recording). verdict_of s.verdict) (r.refused front rest file.0 file.1) ∙ e;
+      let file = is_refused Intervals (recording_of front).verdict f e in
+      ap (λ (s : Recording). verdict_as Intervals s.verdict) (r.refused front rest file.0 file.1) ∙ e;
   limit = λ front rest e.
-      ap (λ (s : Recording). verdict_of s.verdict) (r.past front rest (is_past (recording_of front).verdict e)) ∙ e;
+      ap (λ (s : Recording). verdict_as Intervals s.verdict) (r.past front rest (is_past Intervals (recording_of front).verdict e)) ∙ e;
   fault_unspent = λ front rest f e spent.
-      let file = is_refused (recording_of front).verdict f e in
+      let file = is_refused Intervals (recording_of front).verdict f e in
       subst (λ (s : Recording). IsSpentOf p s) (r.refused front rest file.0 file.1) spent;
   limit_unspent = λ front rest e spent.
-      subst (λ (s : Recording). IsSpentOf p s) (r.past front rest (is_past (recording_of front).verdict e)) spent;
+      subst (λ (s : Recording). IsSpentOf p s) (r.past front rest (is_past Intervals (recording_of front).verdict e)) spent;
   ends = λ bytes f e. refl;
   idle = λ e all. absurd (false≢true (sym e));
   idle_part = λ e bytes a b one all. absurd (false≢true (sym e));

@@ -4,7 +4,6 @@ pub mod KeptCommand
 pub mod KeptConversion
 pub mod KeptReport
 pub mod KeptSound
-pub mod KeptVerdict
 pub mod LtcConvert
 pub mod LtcPcm
 pub mod LtcRead

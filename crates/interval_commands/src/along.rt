@@ -416,7 +416,8 @@ impl<B: Behind> Engine for Along<B> {
     ghost use Rattle.interval_file.specs.Decoding.{too_many_bytes};
     ghost use Rattle.interval_commands.specs.Along.{along_intervals};
     ghost use Rattle.interval_commands.specs.KeptAlong.{IsGoing, IsSettled, StandsWithin, printed_well};
-    ghost use Rattle.interval_commands.specs.KeptVerdict.{good_too};
+    ghost use Rattle.tc_command.specs.declared.input_fault.InputFault.TheVariants.{Intervals};
+    ghost use Rattle.tc_io.specs.KeptVerdict.{good_too};
 
     type Choice = B::Choice;
 
@@ -433,7 +434,7 @@ impl<B: Behind> Engine for Along<B> {
     ghost budget = { λ s. too_many_bytes - s.decoder.taken };
 
     ghost stands_well = { λ s bytes written settled stands. (
-      record { is = good_too _ stands.stands.good; unspent = stands.unspent },
+      record { is = good_too Intervals _ stands.stands.good; unspent = stands.unspent },
       printed_well B.printing B.stands B.is_settled B.stands_well s.behind s.choice _ written settled stands.stands.printed,
     ) };
 

@@ -19,7 +19,7 @@ use Rattle.interval_file.specs.Grammar.{Contents, InRange, IsFile, Says, fault_o
 use Rattle.interval_file.specs.IntervalFile.{end}
 use Rattle.interval_file.specs.Piece.{interval_in, ticks_in, piece_width}
 use Rattle.interval_file.specs.Recording.{Recording, read_of, within_limit}
-use Rattle.interval_file.specs.Verdict.{good}
+use Rattle.tc_io.specs.Verdict.{good}
 use Rattle.interval_file.proofs.FileReadBack.{IsGood, may_end, one_taken}
 use Rattle.interval_file.proofs.FrontInterval.{least, widths}
 use Rattle.interval_file.proofs.FrontOfBytes.{bytes_behind, in_range_or_not, is_spelled}

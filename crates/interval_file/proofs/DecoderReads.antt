@@ -15,7 +15,7 @@ use Rattle.tc_io.specs.Bytes.{AreBytes}
 use Rattle.interval_file.specs.Grammar.{Contents, IsFile, Says, fault_of, file, file_of}
 use Rattle.interval_file.specs.IntervalHeader.{IsTickRate, header_bytes}
 use Rattle.interval_file.specs.Recording.{end_fault_of, read_of, recording_of}
-use Rattle.interval_file.specs.Verdict.{good}
+use Rattle.tc_io.specs.Verdict.{good}
 use Rattle.interval_file.proofs.ContentsBehind.{IsDecoded, decoded_behind, said_behind}
 use Rattle.interval_file.proofs.FileReadBack.{IsGood, begins, in_range, within}
 use Rattle.interval_file.proofs.FrontOfBytes.{Begins, IsReadAs, bytes_behind, head_of, header_is, read_front}

@@ -7,7 +7,7 @@ use Rattle.interval_file.specs.declared.header.IntervalHeader.{IntervalHeader}
 use Rattle.interval_file.specs.Contents.{contents_of}
 use Rattle.interval_file.specs.Grammar.{file, no_header, faulty}
 use Rattle.interval_file.specs.Recording.{end_fault_of, recording_of}
-use Rattle.interval_file.specs.Verdict.{good, refused}
+use Rattle.tc_io.specs.Verdict.{good, refused}
 
 -- version 1, 25 frames a second, 48,000 ticks a second
 abbrev first_header : List ℕ

@@ -24,9 +24,10 @@ use Rattle.interval_file.specs.Decoding.{Decoding, IsBetween, decoding_of, decod
 use Rattle.interval_file.specs.Decoding.{no_recording, decoded}
 use Rattle.interval_file.specs.Recording.{Recording}
 use Rattle.interval_file.specs.Decoding.{with_byte, with_taken}
-use Rattle.interval_file.specs.Verdict.{Verdict, good, past_limit}
+use Rattle.tc_io.specs.Verdict.{Verdict, good, past_limit}
 use Rattle.interval_file.specs.Recording.{within_limit}
 use Rattle.interval_file.proofs.ReadBack.{spelling_back}
+use Rattle.interval_file.specs.declared.fault.IntervalFileFault.{IntervalFileFault}
 
 -- ---- the header
 
@@ -65,15 +66,15 @@ header_read Two F30 rate range = in_range Two F30 _ rate (four_bytes rate range)
 abbrev pub so_far : IntervalHeader → List ℕ → Recording
 so_far header intervals = within_limit header intervals (length intervals) good
 
-abbrev pub plain : IntervalHeader → List ℕ → Verdict → Recording
+abbrev pub plain : IntervalHeader → List ℕ → Verdict IntervalFileFault → Recording
 plain header intervals verdict = record { header = Some header; intervals = intervals; verdict = verdict }
 
 -- within the limit and past it
-pub within : (header : IntervalHeader) (intervals : List ℕ) (whole : ℕ) (verdict : Verdict) → length intervals ≤ MAX_INTERVALS → whole ≤ MAX_INTERVALS
+pub within : (header : IntervalHeader) (intervals : List ℕ) (whole : ℕ) (verdict : Verdict IntervalFileFault) → length intervals ≤ MAX_INTERVALS → whole ≤ MAX_INTERVALS
     → within_limit header intervals whole verdict ≡ plain header intervals verdict
 within header intervals whole verdict few below = rw (take_all MAX_INTERVALS intervals few, le-leb whole MAX_INTERVALS below) refl
 
-pub past : (header : IntervalHeader) (intervals : List ℕ) (whole : ℕ) (verdict : Verdict) → MAX_INTERVALS < whole
+pub past : (header : IntervalHeader) (intervals : List ℕ) (whole : ℕ) (verdict : Verdict IntervalFileFault) → MAX_INTERVALS < whole
     → within_limit header intervals whole verdict ≡ plain header (take MAX_INTERVALS intervals) past_limit
 past header intervals whole verdict above = rw (lt-leb whole MAX_INTERVALS above) refl
 

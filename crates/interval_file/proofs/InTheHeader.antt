@@ -25,12 +25,12 @@ use Rattle.interval_file.specs.Decoding.{Decoding, decoding_of, decoded_end, fau
 use Rattle.interval_file.specs.Decoding.{decoded, with_byte}
 use Rattle.interval_file.specs.Recording.{Recording}
 use Rattle.interval_file.specs.Decoding.{with_item, with_taken}
-use Rattle.interval_file.specs.Verdict.{Verdict, good, refused, past_limit}
+use Rattle.tc_io.specs.Verdict.{Verdict, good, refused, past_limit}
 use Rattle.interval_file.specs.Recording.{shown}
 
 -- ---- behind a fault nothing changes
 
-abbrev pub IsOver : Verdict → Type 0
+abbrev pub IsOver : Verdict IntervalFileFault → Type 0
 IsOver good = ⊥
 IsOver (refused first) = ⊤
 IsOver past_limit = ⊤
@@ -38,7 +38,7 @@ IsOver past_limit = ⊤
 over_stays : (r : Recording) (item : Taken) → IsOver r.verdict → with_taken r item ≡ r
 over_stays r item over = by_verdict r.verdict over
   where
-    by_verdict : (v : Verdict) → IsOver v → elim v [ good ↦ with_item r item | refused f ↦ r | past_limit ↦ r ] ≡ r
+    by_verdict : (v : Verdict IntervalFileFault) → IsOver v → elim v [ good ↦ with_item r item | refused f ↦ r | past_limit ↦ r ] ≡ r
     by_verdict good over = absurd over
     by_verdict (refused f) over = refl
     by_verdict past_limit over = refl
@@ -145,10 +145,10 @@ split_fold bytes place = ap decoding_of (sym (take-append-drop place bytes)) ∙
 
 -- ---- what is read, and the fault at the end
 
-abbrev pub nothing_with : Verdict → Recording
+abbrev pub nothing_with : Verdict IntervalFileFault → Recording
 nothing_with verdict = record { header = None; intervals = []; verdict = verdict }
 
-abbrev IsRead : List ℕ → Verdict → IntervalFileFault → Type 0
+abbrev IsRead : List ℕ → Verdict IntervalFileFault → IntervalFileFault → Type 0
 IsRead bytes verdict first = (decoded bytes ≡ nothing_with verdict) × (decoded_end bytes ≡ Some first)
 
 abbrev ending : Decoding → Option IntervalFileFault

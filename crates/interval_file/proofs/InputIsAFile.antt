@@ -8,7 +8,7 @@ use Rattle.interval_file.specs.Contents.{contents_of}
 use Rattle.tc_io.specs.Bytes.{AreBytes}
 use Rattle.interval_file.specs.Grammar.{Contents, IsFile, Says, fault_of, faulty, file, no_header}
 use Rattle.interval_file.specs.Recording.{end_fault_of, read_of, recording_of}
-use Rattle.interval_file.specs.Verdict.{good, past_limit}
+use Rattle.tc_io.specs.Verdict.{good, past_limit}
 use Rattle.interval_file.proofs.DecoderReads.{they_say_it}
 
 abbrev IsWithin : List ℕ → Type 0

@@ -23,7 +23,7 @@ use Rattle.interval_file.specs.Decoding.{Decoding, decoding_of, decoded_end, fau
 use Rattle.interval_file.specs.Decoding.{with_number}
 use Rattle.interval_file.specs.Recording.{Recording}
 use Rattle.interval_file.specs.Decoding.{with_taken}
-use Rattle.interval_file.specs.Verdict.{good, refused, past_limit}
+use Rattle.tc_io.specs.Verdict.{good, refused, past_limit}
 use Rattle.interval_file.specs.Recording.{shown, whole_in, within_limit}
 use Rattle.interval_file.proofs.FileReadBack.{IsGood, file_good, past, plain, so_far, within}
 use Rattle.interval_file.proofs.InTheHeader.{IsOver, stays}

@@ -17,7 +17,7 @@ use Rattle.interval_file.specs.Piece.{interval_in, piece_width}
 use Rattle.interval_file.specs.Progress.{Progress}
 use Rattle.interval_file.specs.Decoding.{Decoding, IsBetween, with_byte, with_number, with_taken}
 use Rattle.interval_file.specs.Recording.{Recording}
-use Rattle.interval_file.specs.Verdict.{Verdict, good, refused, past_limit}
+use Rattle.tc_io.specs.Verdict.{Verdict, good, refused, past_limit}
 
 -- so many bytes without a fault, with this part of an interval
 abbrev pub at : ℕ → FileVersion → Option System → List ℕ → Recording → Decoding
@@ -28,7 +28,7 @@ at taken version system part r =
 pub nothing_more : (r : Recording) → with_taken r Nothing ≡ r
 nothing_more r = whatever r.verdict
   where
-    whatever : (v : Verdict) → elim v [ good ↦ r | refused f ↦ r | past_limit ↦ r ] ≡ r
+    whatever : (v : Verdict IntervalFileFault) → elim v [ good ↦ r | refused f ↦ r | past_limit ↦ r ] ≡ r
     whatever good = refl
     whatever (refused f) = refl
     whatever past_limit = refl

@@ -11,7 +11,7 @@ use Rattle.interval_file.specs.declared.header.TheConstants.{HEADER_LENGTH}
 use Rattle.interval_file.specs.IntervalFile.{no_progress, answer, after, end}
 use Rattle.interval_file.specs.Progress.{Progress}
 use Rattle.interval_file.specs.Recording.{Recording, recording_of, end_fault_of}
-use Rattle.interval_file.specs.Verdict.{good, refused, past_limit}
+use Rattle.tc_io.specs.Verdict.{good, refused, past_limit}
 
 -- of no bytes
 abbrev pub no_recording : Recording

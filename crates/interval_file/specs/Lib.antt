@@ -9,4 +9,3 @@ pub mod NextByte
 pub mod Piece
 pub mod Progress
 pub mod Recording
-pub mod Verdict

@@ -7,17 +7,17 @@ use Rattle.interval_file.specs.declared.fault.IntervalFileFault.TheVariants.{Int
 use Rattle.interval_file.specs.declared.header.IntervalHeader.{IntervalHeader}
 use Rattle.interval_file.specs.Contents.{contents_of}
 use Rattle.interval_file.specs.Grammar.{Contents, file, no_header, faulty, fault_of}
-use Rattle.interval_file.specs.Verdict.{Verdict, good, refused, past_limit}
+use Rattle.tc_io.specs.Verdict.{Verdict, good, refused, past_limit}
 
 -- the header where it is whole, the whole intervals before a fault and within the limit, and whether
 -- the bytes have a fault or pass the limit
 pub record Recording : Type 0 where
   pub header : Option IntervalHeader
   pub intervals : List ℕ
-  pub verdict : Verdict
+  pub verdict : Verdict IntervalFileFault
 
 -- the verdict on bytes with this first fault, whatever follows them: what is cut off may go on
-abbrev pub shown : IntervalFileFault → Verdict
+abbrev pub shown : IntervalFileFault → Verdict IntervalFileFault
 shown (Truncated end) = good
 shown fault = refused fault
 
@@ -27,7 +27,7 @@ whole_in (Interval first) = 1
 whole_in fault = 0
 
 -- of so many whole intervals, those within the limit are read, and one more is past it, whatever its length is
-abbrev pub within_limit : IntervalHeader → List ℕ → ℕ → Verdict → Recording
+abbrev pub within_limit : IntervalHeader → List ℕ → ℕ → Verdict IntervalFileFault → Recording
 within_limit header intervals whole verdict = record {
   header = Some header;
   intervals = take MAX_INTERVALS intervals;

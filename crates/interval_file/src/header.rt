@@ -1,7 +1,7 @@
 //! The header of an interval file, and the numbers of its table. Next: `piece`.
 ghost use Rattle.std.specs.Prelude.{◌≡◌, [], Some};
 ghost use Rattle.interval_file.specs.Recording.{recording_of};
-ghost use Rattle.interval_file.specs.Verdict.{good};
+ghost use Rattle.tc_io.specs.Verdict.{good};
 ghost use Rattle.interval_file.specs.IntervalHeader.{IsTickRate, header_bytes, system_at, version_at, version_byte};
 
 use byteorder::{BigEndian, ByteOrder};

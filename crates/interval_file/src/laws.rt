@@ -8,7 +8,7 @@ ghost use Rattle.interval_file.specs.Decoding.{ReadsWhatIsSaid};
 ghost use Rattle.tc_io.specs.Bytes.{AreBytes};
 ghost use Rattle.interval_file.specs.Grammar.{Contents, IsFile, Says, fault_of};
 ghost use Rattle.interval_file.specs.Recording.{end_fault_of, read_of, recording_of};
-ghost use Rattle.interval_file.specs.Verdict.{good};
+ghost use Rattle.tc_io.specs.Verdict.{good};
 ghost use Rattle.interval_file.specs.declared.header.TheConstants as header;
 ghost use Rattle.interval_file.specs.declared.piece.TheConstants as piece;
 ghost use Rattle.interval_file.specs.declared.names.TheConstants as names;

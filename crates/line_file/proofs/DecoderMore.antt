@@ -5,7 +5,7 @@ use Rattle.std.specs.declared.option.Option.{Option}
 use Rattle.std.proofs.lemmas.Bool.{cases_lt}
 use Rattle.std.proofs.lemmas.List.{take-append-drop, take-append-le, take-take, length-append, length-take-le, drop_at}
 use Rattle.line_file.specs.declared.fault.LineFileFault.{LineFileFault}
-use Rattle.line_file.specs.Verdict.{Verdict, good, refused, past_limit}
+use Rattle.tc_io.specs.Verdict.{Verdict, good, refused, past_limit}
 use Rattle.vitc_reader.specs.declared.field.FieldAnswer.{FieldAnswer}
 use Rattle.vitc_reader.specs.Field.{IsAnswer}
 use Rattle.line_file.specs.declared.decoder.TheConstants.{MAX_FIELDS}
@@ -151,11 +151,11 @@ read_on : (header : Option LineHeader) (place count : ℕ) (part front rest : Li
 read_on header place count part front rest answers s =
     ap reading_of (ap (λ (l : List ℕ). l ++ rest) s.split ∙ append_assoc s.before part rest) ∙ s.follows (part ++ rest)
 
-told_as : (r other : Reading) (verdict : Verdict) (answers : List FieldAnswer) → r ≡ other → IsTold other verdict answers → IsTold r verdict answers
+told_as : (r other : Reading) (verdict : Verdict LineFileFault) (answers : List FieldAnswer) → r ≡ other → IsTold other verdict answers → IsTold r verdict answers
 told_as r other verdict answers e told = subst (λ (x : Reading). IsTold x verdict answers) (sym e) told
 
 -- no field is complete with the rest
-none_more : (header : LineHeader) (fields : List (List (List ℕ))) (answers : List FieldAnswer) (verdict : Verdict) (f : Fields)
+none_more : (header : LineHeader) (fields : List (List (List ℕ))) (answers : List FieldAnswer) (verdict : Verdict LineFileFault) (f : Fields)
     → AreAnswers header fields answers
     → f.verdict ≡ verdict → f.fields ≡ [] → IsTold (with_fields header fields f) verdict answers
 none_more header fields answers verdict f are is none = (

@@ -6,7 +6,7 @@ use Rattle.std.specs.declared.option.Option.{Option}
 use Rattle.std.proofs.lemmas.List.{length-append, take-append-drop}
 use Rattle.line_file.specs.declared.fault.LineFileFault.{LineFileFault}
 use Rattle.line_file.specs.declared.fault.LineFileFault.TheVariants as fault
-use Rattle.line_file.specs.Verdict.{good, refused, past_limit}
+use Rattle.tc_io.specs.Verdict.{good, refused, past_limit}
 use Rattle.vitc_reader.specs.declared.field.FieldAnswer.{FieldAnswer}
 use Rattle.vitc_reader.specs.Field.{IsAnswer}
 use Rattle.line_file.specs.declared.decoder.Piece.TheVariants as pieces

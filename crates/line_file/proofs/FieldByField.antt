@@ -2,7 +2,7 @@
 use Rattle.std.proofs.Common.{ap₂, ◌≡◌, ℕ, zero, suc, ◌+◌, ◌≤◌, List, [], ◌∷◌, ◌++◌, length, take, drop, refl, sym, ap, ◌∙◌, arith}
 use Rattle.std.proofs.lemmas.List.{length-take-le, drop_at, drop-append-le}
 use Rattle.line_file.specs.declared.fault.LineFileFault.{LineFileFault}
-use Rattle.line_file.specs.Verdict.{Verdict, good, refused, past_limit}
+use Rattle.tc_io.specs.Verdict.{Verdict, good, refused, past_limit}
 use Rattle.vitc_reader.specs.declared.field.FieldAnswer.{FieldAnswer}
 use Rattle.tc_address.specs.declared.system.System.{System}
 use Rattle.vitc_reader.specs.Field.{IsAnswer}
@@ -45,7 +45,7 @@ fields_behind left place bytes more lines e =
 
 -- ---- what bytes show, more bytes show
 
-stay_by : (left place : ℕ) (bytes more : List ℕ) (verdict : Verdict) (v : Front (List (List ℕ))) → (verdict ≡ good → ⊥) → 1 ≤ length bytes
+stay_by : (left place : ℕ) (bytes more : List ℕ) (verdict : Verdict LineFileFault) (v : Front (List (List ℕ))) → (verdict ≡ good → ⊥) → 1 ≤ length bytes
     → field_at place bytes ≡ v
     → (field_then v (after_field left place bytes)).verdict ≡ verdict
     → ((w : ℕ) → (fields_at left (place + w) (drop w bytes)).verdict ≡ verdict → (fields_at left (place + w) (drop w bytes ++ more)).verdict ≡ verdict)
@@ -62,7 +62,7 @@ stay_by left place (byte ∷ rest) more verdict (bad f) not_good some is e later
     let all = field_stays place (byte ∷ rest) more f is in
     ap (λ (f : Fields). f.verdict) (fields_by left place (byte ∷ (rest ++ more)) (bad f) (omega arith) all) ∙ e
 
-pub fields_stay : (left place : ℕ) (bytes more : List ℕ) (verdict : Verdict) → (verdict ≡ good → ⊥) → (fields_at left place bytes).verdict ≡ verdict
+pub fields_stay : (left place : ℕ) (bytes more : List ℕ) (verdict : Verdict LineFileFault) → (verdict ≡ good → ⊥) → (fields_at left place bytes).verdict ≡ verdict
     → (fields_at left place (bytes ++ more)).verdict ≡ verdict
 unfolding fields_at
 fields_stay zero place [] more verdict not_good e = absurd (not_good (sym e))
@@ -72,7 +72,7 @@ fields_stay (suc left) place (byte ∷ rest) more verdict not_good e =
     stay_by left place (byte ∷ rest) more verdict (field_at place (byte ∷ rest)) not_good (omega arith) refl e
     (λ w. fields_stay left (place + w) (drop w (byte ∷ rest)) more verdict not_good)
 
-reading_by : (bytes more : List ℕ) (verdict : Verdict) (v : Front LineHeader) → (verdict ≡ good → ⊥) → header_at bytes ≡ v
+reading_by : (bytes more : List ℕ) (verdict : Verdict LineFileFault) (v : Front LineHeader) → (verdict ≡ good → ⊥) → header_at bytes ≡ v
     → (behind_header v bytes).verdict ≡ verdict
     → (reading_of (bytes ++ more)).verdict ≡ verdict
 reading_by bytes more verdict (whole header) not_good is e =
@@ -86,7 +86,7 @@ reading_by bytes more verdict (bad f) not_good is e =
     ap (λ (v : Front LineHeader). (behind_header v (bytes ++ more)).verdict) (header_stays bytes more f is) ∙ e
 
 -- a fault and the limit stay
-pub reading_stays : (bytes more : List ℕ) (verdict : Verdict) → (verdict ≡ good → ⊥) → (reading_of bytes).verdict ≡ verdict
+pub reading_stays : (bytes more : List ℕ) (verdict : Verdict LineFileFault) → (verdict ≡ good → ⊥) → (reading_of bytes).verdict ≡ verdict
     → (reading_of (bytes ++ more)).verdict ≡ verdict
 reading_stays bytes more verdict not_good e = reading_by bytes more verdict (header_at bytes) not_good refl e
 

@@ -7,7 +7,7 @@ use Rattle.std.proofs.lemmas.Bool.{and_from, eq-eqb, le-leb, ne_eqb}
 use Rattle.std.proofs.lemmas.List.{drop_at, length-append}
 use Rattle.byteorder.specs.Endian.{big_bytes, big_number}
 use Rattle.byteorder.specs.Numbers.{big_number-reads_back}
-use Rattle.line_file.specs.Verdict.{good}
+use Rattle.tc_io.specs.Verdict.{good}
 use Rattle.vitc_reader.specs.Runs.{IsLineLength, MayBeLine}
 use Rattle.line_file.specs.declared.decoder.TheConstants.{MAX_FIELDS}
 use Rattle.line_file.specs.declared.field.TheConstants.{MAX_LINES, MAX_RUNS}

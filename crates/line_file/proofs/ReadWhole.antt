@@ -16,7 +16,7 @@ use Rattle.tc_address.specs.Count.{rate_of}
 use Rattle.line_file.specs.declared.fault.LineFileFault.{LineFileFault}
 use Rattle.line_file.specs.declared.fault.LineFileFault.TheVariants as fault
 use Rattle.tc_io.specs.Bytes.{AreBytes}
-use Rattle.line_file.specs.Verdict.{good}
+use Rattle.tc_io.specs.Verdict.{good}
 use Rattle.vitc_reader.specs.Runs.{MayBeLine}
 use Rattle.line_file.specs.declared.decoder.TheConstants.{MAX_FIELDS}
 use Rattle.line_file.specs.declared.field.TheConstants.{MAX_LINES, MAX_RUNS}

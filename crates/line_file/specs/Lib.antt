@@ -6,7 +6,6 @@ pub mod LineFile
 pub mod LineHeader
 pub mod StandsFor
 pub mod Texts
-pub mod Verdict
 -- what the public clauses cite of the crates below
 pub use Rattle.vitc_reader.specs.Field as FieldAnswers
 pub use Rattle.vitc_reader.specs.Runs

@@ -7,7 +7,7 @@ use Rattle.byteorder.specs.Endian.{big_number}
 use Rattle.tc_address.specs.declared.system.System.{System}
 use Rattle.line_file.specs.declared.fault.LineFileFault.{LineFileFault}
 use Rattle.line_file.specs.declared.fault.LineFileFault.TheVariants as fault
-use Rattle.line_file.specs.Verdict.{Verdict, good, refused, past_limit}
+use Rattle.tc_io.specs.Verdict.{Verdict, good, refused, past_limit}
 use Rattle.line_file.specs.declared.decoder.TheConstants.{MAX_FIELDS}
 use Rattle.line_file.specs.declared.field.TheConstants.{MAX_LINES, MAX_RUNS}
 use Rattle.line_file.specs.declared.header.LineHeader.{LineHeader}
@@ -128,11 +128,11 @@ field_width lines = 1 + lines_width lines
 -- the whole fields before a fault and within the limit, what the bytes show, and whether they end behind a whole field
 pub record Fields : Type 0 where
   pub fields : List (List (List ℕ))
-  pub verdict : Verdict
+  pub verdict : Verdict LineFileFault
   pub is_whole : Bool
 
 -- no whole field
-abbrev pub no_field : Verdict → Bool → Fields
+abbrev pub no_field : Verdict LineFileFault → Bool → Fields
 no_field verdict is_whole = record { fields = []; verdict = verdict; is_whole = is_whole }
 
 -- a field, and those that follow it
@@ -155,10 +155,10 @@ fields_at (suc left) place (byte ∷ more) =
 pub record Reading : Type 0 where
   pub header : Option LineHeader
   pub fields : List (List (List ℕ))
-  pub verdict : Verdict
+  pub verdict : Verdict LineFileFault
   pub is_whole : Bool
 
-abbrev pub no_header : Verdict → Reading
+abbrev pub no_header : Verdict LineFileFault → Reading
 no_header verdict = record { header = None; fields = []; verdict = verdict; is_whole = false }
 
 -- a header, some fields, and those that follow them

@@ -5,12 +5,13 @@ use Rattle.vitc_reader.specs.declared.field.FieldAnswer.{FieldAnswer}
 use Rattle.line_file.specs.declared.decoder.TheConstants.{FIELD_ROOM, MAX_FIELDS}
 use Rattle.line_file.specs.declared.header.LineHeader.{LineHeader}
 use Rattle.line_file.specs.declared.header.TheConstants.{HEADER_LENGTH}
-use Rattle.line_file.specs.Verdict.{Verdict, refused, past_limit}
+use Rattle.tc_io.specs.Verdict.{Verdict, refused, past_limit}
 use Rattle.line_file.specs.declared.decoder.Taken.{Taken}
 use Rattle.line_file.specs.declared.decoder.Taken.TheVariants.{Nothing, Field, Fault, Limit}
 use Rattle.line_file.specs.Answers.{AreAnswers, AreAnswersOf}
 use Rattle.line_file.specs.LineFile.{Reading, reading_of, with_fields, fields_at, field_at, header_at, short}
 use Rattle.line_file.specs.LineHeader.{IsHeader}
+use Rattle.line_file.specs.declared.fault.LineFileFault.{LineFileFault}
 
 -- how far a decoder has come: the header, the place behind the whole pieces, the number of whole fields, and the bytes of a field that is not whole
 pub record Decoding : Type 0 where
@@ -90,7 +91,7 @@ TakesAll new bytes (Fault f) = ⊤
 TakesAll new bytes Limit = ⊤
 
 -- what was read shows this, and the fields have these answers
-abbrev pub IsTold : Reading → Verdict → List FieldAnswer → Type 0
+abbrev pub IsTold : Reading → Verdict LineFileFault → List FieldAnswer → Type 0
 IsTold r verdict answers = (r.verdict ≡ verdict) × AreAnswersOf r answers
 
 -- bytes that end the reading

@@ -3,7 +3,7 @@
 ghost use Rattle.std.specs.Prelude.{◌≡◌, ◌≤◌, ℕ, List, [], ◌∷◌, ◌++◌, length, Some, None, true, codes};
 ghost use Rattle.line_file.specs.declared.fault.LineFileFault.{LineFileFault};
 ghost use Rattle.tc_io.specs.Bytes.{AreBytes};
-ghost use Rattle.line_file.specs.Verdict.{good, refused, past_limit};
+ghost use Rattle.tc_io.specs.Verdict.{good, refused, past_limit};
 ghost use Rattle.vitc_reader.specs.declared.field.FieldAnswer.{FieldAnswer};
 ghost use Rattle.vitc_reader.specs.declared.line_length.TheConstants as line_length;
 ghost use Rattle.line_file.specs.declared.names.TheConstants as names;

@@ -4,7 +4,7 @@ use Rattle.std.specs.List.{flat_map, range_with_len}
 use Rattle.tc_address.specs.Count.{system_with}
 use Rattle.tc_address.specs.Label.{Address}
 use Rattle.tc_address.specs.Numbering.{step}
-use Rattle.line_file.specs.Verdict.{good}
+use Rattle.tc_io.specs.Verdict.{good}
 use Rattle.vitc_line.specs.declared.word.VitcWord.{VitcWord}
 use Rattle.vitc_line.specs.Spelled.{line_of}
 use Rattle.vitc_reader.specs.declared.field.FieldAnswer.TheVariants.{Agreed}

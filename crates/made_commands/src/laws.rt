@@ -2,7 +2,7 @@
 ghost use Rattle.std.specs.Prelude.{◌≡◌, ◌≤◌, codes, length, None, Some};
 ghost use Rattle.biphase.specs.Chain.{flat};
 ghost use Rattle.interval_file.specs.Recording.{end_fault_of, recording_of};
-ghost use Rattle.interval_file.specs.Verdict.{good};
+ghost use Rattle.tc_io.specs.Verdict.{good};
 ghost use Rattle.tc_words.specs.LineStripe.{IsLineStripe, LineStriping};
 ghost use Rattle.tc_words.specs.Stripe.{IsStripe, Striping};
 ghost use Rattle.made_commands.specs.declared.chance.TheConstants as chance;

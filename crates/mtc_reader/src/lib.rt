@@ -12,7 +12,7 @@
 //!   clause `gives`). `MtcReader::take` takes bytes up to the next event at once, by the same clause.
 //! - Real-time bytes, wherever they stand, change the places of events and nothing else of them;
 //!   events stay whatever bytes come later; the messages of a label are read as that label (`laws`).
-//! - `mtc_text`, `push_mtc_text` and `mtc_end_text` give the lines of a report byte for byte (`specs/Texts.antt`).
+//! - `push_mtc_text` and `mtc_end_text` give the lines of a report byte for byte (`specs/Texts.antt`).
 //!
 //! Read `reader`, `current`, `message`, `row`, `address`, `event` and `texts`, in this order, and
 //! `specs/Messages.antt` and `Events.antt` beside them. Nothing here allocates or fails.
@@ -29,4 +29,4 @@ mod texts;
 
 pub use event::MtcEvent;
 pub use reader::MtcReader;
-pub use texts::{mtc_end_text, mtc_text, push_mtc_text};
+pub use texts::{mtc_end_text, push_mtc_text};

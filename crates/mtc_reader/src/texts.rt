@@ -82,15 +82,6 @@ pub fn push_mtc_text(line: &mut Text, event: &MtcEvent)
     }
 }
 
-/// The line of an event.
-pub fn mtc_text(event: &MtcEvent) -> Text
-    ensures { result.items ≡ event_line event.now }
-{
-    let mut line = Text::new();
-    push_mtc_text(&mut line, event);
-    line
-}
-
 /// The last line of a report: how many bytes were read, and how many labels of full messages, labels of
 /// quarter frames and refused addresses were found.
 pub fn mtc_end_text(bytes: u64, full: u64, quarter: u64, refused: u64) -> Text

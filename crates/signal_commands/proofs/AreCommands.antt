@@ -20,8 +20,7 @@ use Rattle.interval_file.specs.Grammar.{file_of, intervals_bytes}
 use Rattle.interval_file.specs.IntervalHeader.{header_bytes}
 use Rattle.interval_file.specs.Piece.{spelling}
 use Rattle.line_file.specs.declared.fault.LineFileFault.{LineFileFault}
-use Rattle.line_file.specs.Verdict.{Verdict, good, refused, past_limit}
-use Rattle.tc_command.specs.Verdict as verdict
+use Rattle.tc_io.specs.Verdict.{Verdict, good, refused, past_limit}
 use Rattle.tc_io.specs.Sink.{IsFront}
 use Rattle.tc_words.specs.Slicing.{Slices}
 use Rattle.vitc_reader.specs.declared.field.FieldAnswer.{FieldAnswer}
@@ -31,10 +30,12 @@ use Rattle.signal_commands.specs.declared.mtc_read.TheConstants.{MAX_BYTES}
 use Rattle.signal_commands.specs.declared.pcm_ltc.TheConstants.{MAX_SAMPLES}
 use Rattle.signal_commands.specs.MtcRead.{along_midi, event_lines, last_mtc_line}
 use Rattle.signal_commands.specs.PcmLtc.{along_samples, pace_for, settings_for, sliced, sliced_header}
-use Rattle.signal_commands.specs.VitcRead.{along_fields, answer_lines, field_report, last_field_line, verdict_of}
+use Rattle.signal_commands.specs.VitcRead.{along_fields, answer_lines, field_report, last_field_line}
 use Rattle.signal_commands.proofs.MidiLimit.{never_refused, past_within}
 use Rattle.signal_commands.proofs.PutMore.{is_pace}
 use Rattle.signal_commands.proofs.SlicedOn.{never_refused as no_fault_yet, past_within as past_samples}
+use Rattle.tc_io.specs.KeptVerdict.{fault_stays, limit_stays}
+use Rattle.tc_command.specs.declared.input_fault.InputFault.TheVariants.{Lines}
 
 -- the first items of a list come first among those of a longer one
 pub first_items : {A : Type 0} (n : ℕ) (xs ys : List A) → (rest : List A) × (take n (xs ++ ys) ≡ take n xs ++ rest)
@@ -161,17 +162,6 @@ pub record FieldLaws : Type 0 where
   pub some : (bytes : List ℕ) → (answers : List FieldAnswer) × AreAnswersOf (reading_of bytes) answers
   pub one : (bytes : List ℕ) (a b : List FieldAnswer) → AreAnswersOf (reading_of bytes) a → AreAnswersOf (reading_of bytes) b → a ≡ b
 
-fault_stays : (v u : Verdict) (f : InputFault) → ((g : LineFileFault) → v ≡ refused g → u ≡ refused g) → verdict_of v ≡ verdict.refused f
-    → verdict_of u ≡ verdict.refused f
-fault_stays good u f stays e = absurd cc
-fault_stays (refused g) u f stays e = ap verdict_of (stays g refl) ∙ e
-fault_stays past_limit u f stays e = absurd cc
-
-limit_stays : (v u : Verdict) → (v ≡ past_limit → u ≡ past_limit) → verdict_of v ≡ verdict.past_limit → verdict_of u ≡ verdict.past_limit
-limit_stays good u stays e = absurd cc
-limit_stays (refused g) u stays e = absurd cc
-limit_stays past_limit u stays e = ap verdict_of (stays refl)
-
 field_lines_first : (field : ℕ) (answers more : List FieldAnswer) → (rest : List ℕ)
     × (answer_lines field (answers ++ more) ≡ answer_lines field answers ++ rest)
 field_lines_first field [] more = (answer_lines field more, refl)
@@ -201,9 +191,9 @@ fields_are_command laws = record {
   one_part = λ bytes a b one all. one.2 ∙ ap (answer_lines 0) (laws.one bytes one.0 all.0 one.1 all.1) ∙ sym all.2;
   one_output = λ input a b one all. one.2 ∙ ap field_report (laws.one input one.0 all.0 one.1 all.1) ∙ sym all.2;
   fault = λ front rest f e.
-      fault_stays (reading_of front).verdict (reading_of (front ++ rest)).verdict f (laws.fault front rest) e;
+      fault_stays Lines (reading_of front).verdict (reading_of (front ++ rest)).verdict f (laws.fault front rest) e;
   limit = λ front rest e.
-      limit_stays (reading_of front).verdict (reading_of (front ++ rest)).verdict (laws.limit front rest) e;
+      limit_stays Lines (reading_of front).verdict (reading_of (front ++ rest)).verdict (laws.limit front rest) e;
   fault_unspent = λ front rest f e spent. spent;
   limit_unspent = λ front rest e spent. spent;
   ends = λ bytes f e. refl;

@@ -3,11 +3,11 @@ use Rattle.std.proofs.Common.{◌≡◌, ℕ, List, ◌++◌, ◌<◌, ◌≤◌
 use Rattle.std.proofs.lemmas.Bool.{ltb-true, lt-ltb}
 use Rattle.std.proofs.lemmas.List.{length-append, take_all, take-append-le}
 use Rattle.tc_command.specs.declared.input_fault.InputFault.{InputFault}
-use Rattle.tc_command.specs.Verdict.{Verdict, good, refused, past_limit}
+use Rattle.tc_io.specs.Verdict.{Verdict, good, refused, past_limit}
 use Rattle.mtc_reader.specs.Events.{events_in}
 use Rattle.signal_commands.specs.MtcRead.{event_lines, lines_within, verdict_within}
 
-abbrev verdict_by : Bool → Verdict
+abbrev verdict_by : Bool → Verdict InputFault
 verdict_by b = cond b past_limit good
 
 not_refused : (b : Bool) (f : InputFault) → ¬ (verdict_by b ≡ refused f)

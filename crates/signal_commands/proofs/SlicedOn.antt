@@ -18,7 +18,7 @@ use Rattle.interval_file.specs.declared.header.FileVersion.TheVariants.{One}
 use Rattle.interval_file.specs.Grammar.{file_of, intervals_bytes}
 use Rattle.interval_file.specs.IntervalHeader.{header_bytes}
 use Rattle.interval_file.specs.Piece.{spelling}
-use Rattle.tc_command.specs.Verdict.{Verdict, good, refused, past_limit}
+use Rattle.tc_io.specs.Verdict.{Verdict, good, refused, past_limit}
 use Rattle.tc_io.specs.Sink.{AppendsFront}
 use Rattle.tc_words.specs.Slicing as words
 use Rattle.signal_commands.specs.declared.pcm_ltc.SlicedSound.{SlicedSound}
@@ -37,7 +37,7 @@ use Rattle.signal_commands.proofs.PutMore.{none_begun}
 
 -- ---- the limit
 
-abbrev verdict_by : Bool → Verdict
+abbrev verdict_by : Bool → Verdict InputFault
 verdict_by b = cond b past_limit good
 
 not_refused : (b : Bool) (f : InputFault) → ¬ (verdict_by b ≡ refused f)

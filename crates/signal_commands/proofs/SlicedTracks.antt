@@ -22,7 +22,8 @@ use Rattle.wave_file.specs.declared.format.WaveFormat.{WaveFormat}
 use Rattle.wave_file.specs.declared.stage.TheConstants.{MAX_BYTES, MAX_SAMPLES}
 use Rattle.wave_file.specs.GoesOn.{IsWithin}
 use Rattle.wave_file.specs.StandsFor.{StandsFor, IsTold, StopsAt, bytes_taken, format_in_decoding}
-use Rattle.wave_file.specs.Wave.{Verdict, good, refused, past_limit, end_fault_of, reading_of}
+use Rattle.wave_file.specs.Wave.{end_fault_of, reading_of}
+use Rattle.tc_io.specs.Verdict.{Verdict, good, refused, past_limit, verdict_as}
 use Rattle.tc_command.specs.declared.gathered.Gathered.{Gathered}
 use Rattle.std.specs.Prelude.{IfErr, IfOk, OnOk, Ok, Err}
 use Rattle.std.specs.declared.result.Result.{Result}
@@ -35,7 +36,7 @@ use Rattle.pcm_front.specs.declared.slicer.Slicer.{Slicer}
 use Rattle.signal_commands.specs.declared.wav_ltc.SlicedTrack.{SlicedTrack}
 use Rattle.signal_commands.specs.KeptTrack.{AreDue, IsGoing, Stands, pace_in, spelled}
 use Rattle.signal_commands.specs.WavLtc.{along_sound_file, track_file, track_header, track_of, track_pace}
-use Rattle.signal_commands.specs.WavLtc.{track_settings, verdict_of}
+use Rattle.signal_commands.specs.WavLtc.{track_settings}
 use Rattle.signal_commands.proofs.PutMore.{none_begun}
 use Rattle.signal_commands.proofs.TrackGoesOn.{file_with}
 
@@ -45,12 +46,12 @@ Reads = (track : ℕ) (bytes : List ℕ) → IsWithin (reading_of track bytes)
 
 -- ---- the samples that were read
 
-pub none_yet : Reads → (track : ℕ) (bytes : List ℕ) (format : Option WaveFormat) (samples : List ℤ) (v : Verdict)
+pub none_yet : Reads → (track : ℕ) (bytes : List ℕ) (format : Option WaveFormat) (samples : List ℤ) (v : Verdict WaveFault)
     → IsTold (reading_of track bytes) format samples v → format ≡ None → samples ≡ []
 none_yet reads track bytes format samples v told none =
     sym told.samples_are ∙ (reads track bytes).none (told.format_is ∙ none)
 
-pub few_samples : Reads → (track : ℕ) (bytes : List ℕ) (format : Option WaveFormat) (samples : List ℤ) (v : Verdict)
+pub few_samples : Reads → (track : ℕ) (bytes : List ℕ) (format : Option WaveFormat) (samples : List ℤ) (v : Verdict WaveFault)
     → IsTold (reading_of track bytes) format samples v → length samples ≤ MAX_SAMPLES
 few_samples reads track bytes format samples v told =
     let few = (reads track bytes).few in
@@ -236,7 +237,7 @@ flush_stop s front written old new stands f =
     (gathered_stop s front written [] old new stands f)
 
 -- what is told of bytes that end the reading
-told_stop : (s : SlicedTrack) (front written all : List ℕ) (v : Verdict) (stands : Stands s front written)
+told_stop : (s : SlicedTrack) (front written all : List ℕ) (v : Verdict WaveFault) (stands : Stands s front written)
     → ((more : List ℕ) → IsTold (reading_of s.decoder.track (all ++ more)) (format_in_decoding s.decoder) stands.samples v)
     → IsTold (reading_of s.slicing.track all) (format_in_decoding s.decoder) stands.samples v
 told_stop s front written all v stands told =
@@ -251,7 +252,7 @@ fault_stop s front written bytes f old new stands stop pushed =
       s.gathered.room.items,
       pushed,
       (
-        record { is = ap verdict_of told.verdict_is; unspent = λ spent. spent },
+        record { is = ap (verdict_as Sound) told.verdict_is; unspent = λ spent. spent },
         stands.are ∙ ap₂ (track_file s.slicing) (sym told.format_is) (sym told.samples_are),
       ),
     )
@@ -264,7 +265,7 @@ limit_stop s front written bytes old new stands stop pushed =
       s.gathered.room.items,
       pushed,
       inl (
-        record { is = ap verdict_of told.verdict_is; unspent = λ spent. spent },
+        record { is = ap (verdict_as Sound) told.verdict_is; unspent = λ spent. spent },
         stands.are ∙ ap₂ (track_file s.slicing) (sym told.format_is) (sym told.samples_are),
       ),
     )

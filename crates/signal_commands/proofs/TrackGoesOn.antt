@@ -11,18 +11,20 @@ use Rattle.interval_file.specs.declared.header.FileVersion.TheVariants.{One}
 use Rattle.interval_file.specs.Grammar.{intervals_bytes}
 use Rattle.interval_file.specs.IntervalHeader.{header_bytes}
 use Rattle.interval_file.specs.Piece.{spelling}
-use Rattle.tc_command.specs.Verdict as verdict
 use Rattle.tc_io.specs.Sink.{IsFront}
 use Rattle.tc_words.specs.WaveSlicing.{SlicesWave}
 use Rattle.wave_file.specs.declared.fault.WaveFault.{WaveFault}
 use Rattle.wave_file.specs.declared.format.WaveFormat.{WaveFormat}
 use Rattle.wave_file.specs.GoesOn.{GoesOn}
-use Rattle.wave_file.specs.Wave.{Reading, Verdict, good, refused, past_limit, reading_of}
+use Rattle.wave_file.specs.Wave.{Reading, reading_of}
+use Rattle.tc_io.specs.Verdict.{Verdict, good, refused, past_limit}
 use Rattle.tc_command.specs.Command.{IsCommand}
 use Rattle.signal_commands.specs.KeptTrack.{AreDue, spelled}
 use Rattle.signal_commands.specs.WavLtc.{along_sound_file, track_file, track_header, track_of, track_pace}
-use Rattle.signal_commands.specs.WavLtc.{track_settings, verdict_of}
+use Rattle.signal_commands.specs.WavLtc.{track_settings}
 use Rattle.signal_commands.proofs.PutMore.{is_pace}
+use Rattle.tc_io.specs.KeptVerdict.{fault_stays, limit_stays}
+use Rattle.tc_command.specs.declared.input_fault.InputFault.TheVariants.{Sound}
 
 -- ---- the file
 
@@ -66,17 +68,6 @@ file_first laws w r s goes = by_format goes.format
 
 -- ---- what bytes show
 
-fault_stays : (v u : Verdict) (f : InputFault) → ((g : WaveFault) → v ≡ refused g → u ≡ refused g) → verdict_of v ≡ verdict.refused f
-    → verdict_of u ≡ verdict.refused f
-fault_stays good u f stays e = absurd cc
-fault_stays (refused g) u f stays e = ap verdict_of (stays g refl) ∙ e
-fault_stays past_limit u f stays e = absurd cc
-
-limit_stays : (v u : Verdict) → (v ≡ past_limit → u ≡ past_limit) → verdict_of v ≡ verdict.past_limit → verdict_of u ≡ verdict.past_limit
-limit_stays good u stays e = absurd cc
-limit_stays (refused g) u stays e = absurd cc
-limit_stays past_limit u stays e = ap verdict_of (stays refl)
-
 -- what bytes show stays
 abbrev pub ShowsStay : Type 0
 ShowsStay = (track : ℕ) (bytes more : List ℕ) → GoesOn (reading_of track bytes) (reading_of track (bytes ++ more))
@@ -99,8 +90,8 @@ track_is_command laws shows w = record {
   some_output = λ input is. (_, refl);
   one_part = λ bytes a b one all. one ∙ sym all;
   one_output = λ input a b one all. one ∙ sym all;
-  fault = λ front rest f e. let goes = shows w.track front rest in fault_stays _ _ f goes.fault e;
-  limit = λ front rest e. let goes = shows w.track front rest in limit_stays _ _ goes.limit e;
+  fault = λ front rest f e. let goes = shows w.track front rest in fault_stays Sound _ _ f goes.fault e;
+  limit = λ front rest e. let goes = shows w.track front rest in limit_stays Sound _ _ goes.limit e;
   fault_unspent = λ front rest f e spent. spent;
   limit_unspent = λ front rest e spent. spent;
   ends = λ bytes f e. refl;

@@ -2,8 +2,7 @@
 use Rattle.std.specs.Prelude.{◌≡◌, ℕ, ◌+◌, ◌*◌, ◌≤◌, List, length, count_by}
 use Rattle.vitc_reader.specs.declared.field.FieldAnswer.{FieldAnswer}
 use Rattle.vitc_reader.specs.declared.field.FieldAnswer.TheVariants.{NoLine, Agreed, Conflict, Nothing}
-use Rattle.line_file.specs.Verdict as file
-use Rattle.line_file.specs.Verdict.{good}
+use Rattle.tc_io.specs.Verdict.{good, Verdict, past_limit, refused}
 use Rattle.std.proofs.Common.{refl}
 use Rattle.line_file.specs.declared.decoder.TheConstants.{FIELD_ROOM, MAX_FIELDS}
 use Rattle.line_file.specs.declared.header.TheConstants.{HEADER_LENGTH}
@@ -12,8 +11,9 @@ use Rattle.line_file.specs.StandsFor as reads
 use Rattle.line_file.specs.StandsFor.{IsTold}
 use Rattle.signal_commands.specs.declared.vitc_read.FieldReport.{FieldReport}
 use Rattle.tc_command.specs.Meaning.{Meaning, Shows}
-use Rattle.tc_command.specs.Verdict as verdict
-use Rattle.signal_commands.specs.VitcRead.{along_fields, answer_lines, is_agreed, is_conflict, is_nothing, verdict_of}
+use Rattle.signal_commands.specs.VitcRead.{along_fields, answer_lines, is_agreed, is_conflict, is_nothing}
+use Rattle.tc_io.specs.KeptVerdict.{good_too}
+use Rattle.tc_command.specs.declared.input_fault.InputFault.TheVariants.{Lines}
 
 -- one field more, of its kind
 abbrev pub counted : FieldAnswer → FieldReport → FieldReport
@@ -43,13 +43,7 @@ pub record Stands (r : FieldReport) (bytes written : List ℕ) : Type 0 where
   pub conflict : r.conflict ≡ count_by is_conflict answers
   pub nothing : r.nothing ≡ count_by is_nothing answers
 
--- a file that is good so far is an input that is good so far
-pub good_too : (v : file.Verdict) → v ≡ good → verdict_of v ≡ verdict.good
-good_too file.good e = refl
-good_too (file.refused fault) e = absurd cc
-good_too file.past_limit e = absurd cc
-
 -- what was written is the part of the bytes
 pub stands_well : (r : FieldReport) (bytes written : List ℕ) → Stands r bytes written
-    → Shows along_fields verdict.good bytes × Meaning.part along_fields bytes written
-stands_well r bytes written s = (record { is = good_too _ s.told.0; unspent = λ spent. spent }, (s.answers, s.told.1, s.are))
+    → Shows along_fields good bytes × Meaning.part along_fields bytes written
+stands_well r bytes written s = (record { is = good_too Lines _ s.told.0; unspent = λ spent. spent }, (s.answers, s.told.1, s.are))

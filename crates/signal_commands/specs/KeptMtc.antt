@@ -9,7 +9,7 @@ use Rattle.mtc_reader.specs.Events.{events_in}
 use Rattle.mtc_reader.specs.StandsFor as reads
 use Rattle.signal_commands.specs.declared.mtc_read.MtcReport.{MtcReport}
 use Rattle.signal_commands.specs.declared.mtc_read.TheConstants.{MAX_BYTES}
-use Rattle.tc_command.specs.Verdict.{good, past_limit}
+use Rattle.tc_io.specs.Verdict.{good, past_limit}
 use Rattle.tc_command.specs.Meaning.{Meaning, Shows}
 use Rattle.signal_commands.specs.MtcRead.{along_midi, event_lines, is_full, is_quarter, is_refused}
 

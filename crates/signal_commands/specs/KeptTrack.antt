@@ -9,15 +9,16 @@ use Rattle.pcm_front.specs.StandsFor as pcm
 use Rattle.pcm_front.specs.StandsFor.{settings_of}
 use Rattle.interval_file.specs.declared.header.FileVersion.TheVariants.{One}
 use Rattle.interval_file.specs.Grammar.{intervals_bytes}
-use Rattle.tc_command.specs.Verdict as verdict
 use Rattle.tc_words.specs.WaveSlicing.{SlicesWave}
 use Rattle.wave_file.specs.declared.format.WaveFormat.{WaveFormat}
 use Rattle.wave_file.specs.declared.stage.TheConstants.{MAX_BYTES}
 use Rattle.wave_file.specs.StandsFor.{StandsFor, IsTold, bytes_taken, format_in_decoding}
-use Rattle.wave_file.specs.Wave.{good, reading_of}
+use Rattle.wave_file.specs.Wave.{reading_of}
+use Rattle.tc_io.specs.Verdict.{good, verdict_as}
 use Rattle.signal_commands.specs.declared.wav_ltc.SlicedTrack.{SlicedTrack}
-use Rattle.signal_commands.specs.WavLtc.{along_sound_file, track_file, track_pace, track_settings, verdict_of}
+use Rattle.signal_commands.specs.WavLtc.{along_sound_file, track_file, track_pace, track_settings}
 use Rattle.tc_command.specs.Meaning.{Meaning, Shows}
+use Rattle.tc_command.specs.declared.input_fault.InputFault.TheVariants.{Sound}
 
 -- when the intervals of a distance are written, where there can be one
 abbrev pub pace_in : SlicesWave → Option WaveFormat → Pace
@@ -51,10 +52,10 @@ pub record IsGoing (s : SlicedTrack) : Type 0 where
 
 -- what was written is the part of the bytes, where nothing is gathered
 pub stands_well : (s : SlicedTrack) (bytes written : List ℕ) → s.gathered.room.items ≡ [] → Stands s bytes written
-    → Shows (along_sound_file s.slicing) verdict.good bytes × Meaning.part (along_sound_file s.slicing) bytes written
+    → Shows (along_sound_file s.slicing) good bytes × Meaning.part (along_sound_file s.slicing) bytes written
 stands_well s bytes written settled stands =
     let told = stands.told in (
-      record { is = ap verdict_of told.verdict_is; unspent = λ spent. spent },
+      record { is = ap (verdict_as Sound) told.verdict_is; unspent = λ spent. spent },
       sym (append-nil written) ∙ ap (λ (l : List ℕ). written ++ l) (sym settled) ∙ stands.are
           ∙ ap₂ (track_file s.slicing) (sym told.format_is) (sym told.samples_are),
     )

@@ -5,9 +5,10 @@ use Rattle.mtc_reader.specs.declared.event.MtcEvent.{MtcEvent}
 use Rattle.mtc_reader.specs.declared.event.MtcEvent.TheVariants.{Full, Quarter, RefusedFull, RefusedQuarter}
 use Rattle.mtc_reader.specs.Events.{events_in}
 use Rattle.mtc_reader.specs.Texts.{event_line, end_line}
-use Rattle.tc_command.specs.Verdict.{Verdict, good, past_limit}
+use Rattle.tc_io.specs.Verdict.{Verdict, good, past_limit}
 use Rattle.signal_commands.specs.declared.mtc_read.TheConstants.{MAX_BYTES}
 use Rattle.tc_command.specs.Meaning.{Meaning}
+use Rattle.tc_command.specs.declared.input_fault.InputFault.{InputFault}
 
 -- the lines of events, one after another
 abbrev pub event_lines : List MtcEvent → List ℕ
@@ -36,7 +37,7 @@ abbrev pub last_mtc_line : List ℕ → List MtcEvent → List ℕ
 last_mtc_line bytes events = end_line (length bytes) (count_by is_full events) (count_by is_quarter events) (count_by is_refused events)
 
 -- at most so many bytes are read
-abbrev pub verdict_within : ℕ → List ℕ → Verdict
+abbrev pub verdict_within : ℕ → List ℕ → Verdict InputFault
 verdict_within most bytes = cond (nat_lt most (length bytes)) past_limit good
 
 -- the lines whose last byte is among the first bytes, so many

@@ -9,7 +9,7 @@ use Rattle.tc_command.specs.declared.input_fault.InputFault.TheVariants.{HalfSam
 use Rattle.interval_file.specs.declared.header.FileVersion.TheVariants.{One}
 use Rattle.interval_file.specs.declared.header.IntervalHeader.{IntervalHeader}
 use Rattle.interval_file.specs.Grammar.{file_of}
-use Rattle.tc_command.specs.Verdict.{Verdict, good, past_limit}
+use Rattle.tc_io.specs.Verdict.{Verdict, good, past_limit}
 use Rattle.tc_words.specs.Live.{pace_of}
 use Rattle.tc_words.specs.Slicing.{Slices}
 use Rattle.signal_commands.specs.declared.pcm_ltc.TheConstants.{MAX_SAMPLES}
@@ -33,7 +33,7 @@ abbrev pub sliced : Slices → List ℤ → List ℕ
 sliced s samples = file_of (sliced_header s) (intervals_at (pace_for s) (settings_for s) samples)
 
 -- so many whole samples are taken, at most
-abbrev pub samples_within : ℕ → List ℕ → Verdict
+abbrev pub samples_within : ℕ → List ℕ → Verdict InputFault
 samples_within most bytes = cond (nat_lt most (length (samples_of bytes))) past_limit good
 
 -- the input may not end inside a sample

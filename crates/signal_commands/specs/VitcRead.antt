@@ -6,10 +6,9 @@ use Rattle.vitc_reader.specs.declared.field.FieldAnswer.TheVariants.{NoLine, Agr
 use Rattle.line_file.specs.Answers.{AreAnswersOf}
 use Rattle.line_file.specs.LineFile.{reading_of, end_fault_of}
 use Rattle.line_file.specs.Texts.{field_line, field_end_line}
-use Rattle.line_file.specs.Verdict as file
 use Rattle.tc_command.specs.declared.input_fault.InputFault.TheVariants.{Lines}
 use Rattle.tc_command.specs.Meaning.{Meaning}
-use Rattle.tc_command.specs.Verdict.{Verdict, good, refused, past_limit}
+use Rattle.tc_io.specs.Verdict.{verdict_as}
 
 -- the lines of answers, the first of which is that of the field with this number
 abbrev pub answer_lines : ℕ → List FieldAnswer → List ℕ
@@ -43,17 +42,11 @@ last_field_line answers = field_end_line (length answers) (count_by is_agreed an
 abbrev pub field_report : List FieldAnswer → List ℕ
 field_report answers = answer_lines 0 answers ++ last_field_line answers
 
--- the fault of the command is that of its file
-abbrev pub verdict_of : file.Verdict → Verdict
-verdict_of file.good = good
-verdict_of (file.refused fault) = refused (Lines fault)
-verdict_of file.past_limit = past_limit
-
 -- what it takes and what it writes
 abbrev pub along_fields : Meaning
 along_fields = record {
   reads = true;
-  verdict = λ bytes. verdict_of (reading_of bytes).verdict;
+  verdict = λ bytes. verdict_as Lines (reading_of bytes).verdict;
   end_fault = λ bytes. option_map Lines (end_fault_of bytes);
   spent = λ bytes. ⊥;
   part = λ bytes written. (answers : List FieldAnswer) × AreAnswersOf (reading_of bytes) answers × (written ≡ answer_lines 0 answers);

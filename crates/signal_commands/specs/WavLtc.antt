@@ -9,11 +9,11 @@ use Rattle.tc_command.specs.declared.input_fault.InputFault.TheVariants.{Sound}
 use Rattle.interval_file.specs.declared.header.FileVersion.TheVariants.{One}
 use Rattle.interval_file.specs.declared.header.IntervalHeader.{IntervalHeader}
 use Rattle.interval_file.specs.Grammar.{file_of}
-use Rattle.tc_command.specs.Verdict as verdict
 use Rattle.tc_words.specs.Live.{pace_of}
 use Rattle.tc_words.specs.WaveSlicing.{SlicesWave}
 use Rattle.wave_file.specs.declared.format.WaveFormat.{WaveFormat}
-use Rattle.wave_file.specs.Wave.{Verdict, good, refused, past_limit, end_fault_of, reading_of}
+use Rattle.wave_file.specs.Wave.{end_fault_of, reading_of}
+use Rattle.tc_io.specs.Verdict.{verdict_as}
 use Rattle.tc_command.specs.Meaning.{Meaning}
 
 -- in 16 ticks a sample, from the place of the first one on
@@ -43,17 +43,11 @@ pub record SlicesTheTrack (w : SlicesWave) (bytes written : List ℕ) : Type 0 w
   pub begins : (reading_of w.track bytes).format ≡ Some format
   pub are : written ≡ file_of (track_header w format) (intervals_at (track_pace w format) (track_settings w) (reading_of w.track bytes).samples)
 
--- what the bytes of a sound file show, in the terms of every command
-abbrev pub verdict_of : Verdict → verdict.Verdict
-verdict_of good = verdict.good
-verdict_of (refused fault) = verdict.refused (Sound fault)
-verdict_of past_limit = verdict.past_limit
-
 -- what it takes and what it writes: the header stands where the data begin
 abbrev pub along_sound_file : SlicesWave → Meaning
 along_sound_file w = record {
   reads = true;
-  verdict = λ bytes. verdict_of (reading_of w.track bytes).verdict;
+  verdict = λ bytes. verdict_as Sound (reading_of w.track bytes).verdict;
   end_fault = λ bytes. option_map Sound (end_fault_of w.track bytes);
   spent = λ bytes. ⊥;
   part = λ bytes written. written ≡ track_of w bytes;

@@ -1,5 +1,6 @@
 //! Bytes made by other software or by hand, with the addresses that were put in.
-use mtc_reader::{MtcReader, mtc_end_text, mtc_text};
+use line_text::Text;
+use mtc_reader::{MtcReader, mtc_end_text, push_mtc_text};
 
 /// Bytes, and the lines of their events.
 type Read = (&'static [u8], &'static [&'static [u8]]);
@@ -266,7 +267,9 @@ fn gives(bytes: &[u8], lines: &[&[u8]]) -> bool {
             return false;
         }
         if let Some(event) = reader.byte(byte) {
-            if found >= lines.len() || mtc_text(&event).as_slice() != lines[found] {
+            let mut line = Text::new();
+            push_mtc_text(&mut line, &event);
+            if found >= lines.len() || line.as_slice() != lines[found] {
                 return false;
             }
             found += 1;

@@ -5,7 +5,13 @@ use Rattle.std.proofs.lemmas.Nat.{pow-add, pow_pos, shr-shr, shr_below, shr_high
 use Rattle.std.proofs.Math.Nat.{pow-le-pow_right}
 use Rattle.std.proofs.lemmas.Nat.Bits.{bit_at_cat_low}
 use Rattle.std.specs.Int.{bit_at}
-use Rattle.tc_bits.specs.Register.{field, Replaces}
+use Rattle.tc_bits.specs.Register.{field}
+
+-- the new register holds the value in the field, and all other bits as the old one had them
+pub record Replaces (old new first width value : ℕ) : Type 0 where
+  pub put : field new first width ≡ value
+  pub below : new % 2 ^ first ≡ old % 2 ^ first
+  pub above : new / 2 ^ (first + width) ≡ old / 2 ^ (first + width)
 
 -- a number of j digits and one of k digits behind it have j + k digits
 pub joined_below : (j k high low : ℕ) → high < 2 ^ j → low < 2 ^ k → high * 2 ^ k + low < 2 ^ (j + k)
@@ -13,10 +19,6 @@ joined_below j k high low h l = omega (arith, mul-add-lt high (2 ^ k) low (2 ^ j
 
 pub pow_bound : (n j k : ℕ) → j ≤ k → n < 2 ^ j → n < 2 ^ k
 pow_bound n j k le h = omega (arith, pow-le-pow_right {n = 2} (omega arith) le)
-
--- what stands above the field has the bits that are left
-pub above_below : (bits first width rest : ℕ) → bits < 2 ^ (rest + (first + width)) → bits / 2 ^ first / 2 ^ width < 2 ^ rest
-above_below bits first width rest h = rw (shr-shr bits first width) (shr_below bits rest (first + width) h)
 
 -- the three parts put together hold the value, and the rest as it was
 pub put_together : (bits first width value : ℕ) → value < 2 ^ width
@@ -32,34 +34,6 @@ put_together bits first width value fits =
       below = mod_low middle first low below;
       above = rw (← shr-shr (middle * 2 ^ first + low) first width, ← shr-shr bits first width, shifted) (shr_high high width value fits);
     }
-
--- none of the sums and shifts by which the field is written leaves the 128 bits
-pub record Stays (bits first width value : ℕ) : Type 0 where
-  pub one : 1 * 2 ^ first % 2 ^ 128 ≡ 2 ^ first
-  pub above : bits / 2 ^ first / 2 ^ width * 2 ^ width % 2 ^ 128 ≡ bits / 2 ^ first / 2 ^ width * 2 ^ width
-  pub middle : bits / 2 ^ first / 2 ^ width * 2 ^ width + value < 2 ^ 128
-  pub shifted : (bits / 2 ^ first / 2 ^ width * 2 ^ width + value) * 2 ^ first % 2 ^ 128 ≡ (bits / 2 ^ first / 2 ^ width * 2 ^ width + value) * 2 ^ first
-  pub whole : (bits / 2 ^ first / 2 ^ width * 2 ^ width + value) * 2 ^ first + bits % 2 ^ first < 2 ^ 128
-
-stays_with : (bits first width value rest : ℕ) → rest + (first + width) ≡ 128 → bits < 2 ^ 128 → 1 ≤ width → value < 2 ^ width → Stays bits first width value
-stays_with bits first width value rest sum h some fits =
-    let high = bits / 2 ^ first / 2 ^ width in
-    let high_fits : high < 2 ^ rest = above_below bits first width rest (rw sum h) in
-    let middle_fits : high * 2 ^ width + value < 2 ^ (rest + width) = joined_below rest width high value high_fits fits in
-    let low_fits : bits % 2 ^ first < 2 ^ first = mod_below bits (2 ^ first) (pow_pos first) in
-    let whole_fits : (high * 2 ^ width + value) * 2 ^ first + bits % 2 ^ first < 2 ^ (rest + width + first) =
-    joined_below (rest + width) first (high * 2 ^ width + value) (bits % 2 ^ first) middle_fits low_fits in
-    let total : rest + width + first ≡ 128 = omega arith in
-    record {
-      one = one_shl first 128 (omega arith);
-      above = shl_whole high rest width 128 high_fits (omega arith);
-      middle = pow_bound (high * 2 ^ width + value) (rest + width) 128 (omega arith) middle_fits;
-      shifted = shl_whole (high * 2 ^ width + value) (rest + width) first 128 middle_fits (omega arith);
-      whole = rw total at whole_fits;
-    }
-
-pub stays : (bits first width value : ℕ) → bits < 2 ^ 128 → 1 ≤ width → first + width ≤ 128 → value < 2 ^ width → Stays bits first width value
-stays bits first width value h some within fits = stays_with bits first width value (128 - (first + width)) (omega arith) h some fits
 
 pub bit_of_low : (n k i : ℕ) → i < k → bit_at n i ≡ bit_at (n % 2 ^ k) i
 bit_of_low n k i lt = let h = bit_at_cat_low (n / 2 ^ k) k (n % 2 ^ k) i lt in rw (shr_split n k) at h
@@ -82,15 +56,3 @@ parts_of n first width =
     let outer = shr_split n first in
     let inner : n / 2 ^ (first + width) * 2 ^ width + field n first width ≡ n / 2 ^ first = rw (← shr-shr n first width) (shr_split (n / 2 ^ first) width) in
     rw inner (sym outer)
-
--- the parts of a register are all of it
-pub one_register : (old a b first width value : ℕ) → Replaces old a first width value → Replaces old b first width value → a ≡ b
-one_register old a b first width value p q =
-    let above = p.above ∙ sym q.above in
-    let put = p.put ∙ sym q.put in
-    let below = p.below ∙ sym q.below in
-    parts_of a first width
-    ∙ ap (λ (h : ℕ). (h * 2 ^ width + field a first width) * 2 ^ first + a % 2 ^ first) above
-    ∙ ap (λ (m : ℕ). (b / 2 ^ (first + width) * 2 ^ width + m) * 2 ^ first + a % 2 ^ first) put
-    ∙ ap (λ (l : ℕ). (b / 2 ^ (first + width) * 2 ^ width + field b first width) * 2 ^ first + l) below
-    ∙ sym (parts_of b first width)

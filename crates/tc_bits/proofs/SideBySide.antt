@@ -10,9 +10,9 @@ use Rattle.std.proofs.lemmas.List.Sums.{sum_by-cons}
 use Rattle.std.proofs.lemmas.Nat.{pow_pos, shr-shr, mod_below}
 use Rattle.std.proofs.lemmas.Nat.Bits.{same_from_bits_below}
 use Rattle.tc_bits.specs.declared.place.Place.{Place}
-use Rattle.tc_bits.specs.Register.{number_in, Replaces}
+use Rattle.tc_bits.specs.Register.{number_in}
 use Rattle.tc_bits.specs.Row.{is_in, are_within, Entry, places_of, Fit, Holds, sum_of, IsRow, SumHolds, OnlySumHolds}
-use Rattle.tc_bits.proofs.AroundAField.{put_together, parts_of, other_bits, bit_of_low}
+use Rattle.tc_bits.proofs.AroundAField.{Replaces, put_together, parts_of, other_bits, bit_of_low}
 
 -- ---- what a test of all numbers below a bound tells
 

@@ -19,9 +19,3 @@ number_in place bits = field bits place.first place.width
 -- whether the bit of a place is set
 abbrev pub is_set : Place → ℕ → Bool
 is_set place bits = number_in place bits == 1
-
--- the new register holds the value in the field, and all other bits as the old one had them
-pub record Replaces (old new first width value : ℕ) : Type 0 where
-  pub put : field new first width ≡ value
-  pub below : new % 2 ^ first ≡ old % 2 ^ first
-  pub above : new / 2 ^ (first + width) ≡ old / 2 ^ (first + width)

@@ -8,34 +8,13 @@ use Rattle.tc_bits.specs.Fields.{Contents}
 use Rattle.tc_bits.specs.Row.{Entry, entry, are_within}
 use Rattle.tc_bits.specs.UserBits.{group}
 
+-- so many bits from this one on
 abbrev pub place : ℕ → ℕ → Place
 place first width = record { first = first; width = width }
 
 -- the same table, with binary group flags 0 and 2 at these bits
 abbrev pub with_group_flags : Table → ℕ → ℕ → Table
-with_group_flags t flag_zero flag_two = record {
-  frame_units = t.frame_units;
-  frame_tens = t.frame_tens;
-  second_units = t.second_units;
-  second_tens = t.second_tens;
-  minute_units = t.minute_units;
-  minute_tens = t.minute_tens;
-  hour_units = t.hour_units;
-  hour_tens = t.hour_tens;
-  drop_frame = t.drop_frame;
-  colour_frame = t.colour_frame;
-  group_flag_zero = flag_zero;
-  group_flag_one = t.group_flag_one;
-  group_flag_two = flag_two;
-  user_one = t.user_one;
-  user_two = t.user_two;
-  user_three = t.user_three;
-  user_four = t.user_four;
-  user_five = t.user_five;
-  user_six = t.user_six;
-  user_seven = t.user_seven;
-  user_eight = t.user_eight;
-}
+with_group_flags t flag_zero flag_two = record t { group_flag_zero = flag_zero; group_flag_two = flag_two }
 
 -- all places of a table
 abbrev pub places_in : Table → List Place

@@ -1,22 +1,14 @@
 //! What follows from the definitions alone.
 
-ghost use Rattle.std.specs.Prelude.{codes, ◌≡◌, ℕ, ◌+◌, ◌*◌, ◌^◌, ◌<◌, ◌≤◌, ◌⊎◌, None};
-ghost use Rattle.std.specs.Int.{bit_at};
+ghost use Rattle.std.specs.Prelude.{codes, ◌≡◌, ℕ, ◌+◌, ◌*◌, ◌^◌, ◌<◌, None};
 ghost use Rattle.tc_address.specs.declared.system.System.{System};
 ghost use Rattle.tc_bits.specs.declared.raw.RawFields.{RawFields};
-ghost use Rattle.tc_bits.specs.Register.{Replaces};
 ghost use Rattle.tc_bits.specs.Row.{SumHolds, OnlySumHolds};
 ghost use Rattle.tc_bits.specs.Spelling.{AreExact};
 ghost use Rattle.tc_bits.specs.UserBits.{group};
 ghost use Rattle.tc_bits.specs.Fields.{Contents, Says};
 ghost use Rattle.tc_bits.specs.Fault.{first_field_fault};
 ghost use Rattle.tc_bits.specs.declared.names.TheConstants as names;
-
-/// A register with one field replaced keeps all other bits, and there is only one such register.
-pub fn replacing_is_exact()
-    ensures others { (old new first width value i : ℕ) → Replaces old new first width value → (i < first) ⊎ (first + width ≤ i) → bit_at new i ≡ bit_at old i }
-    ensures one { (old a b first width value : ℕ) → Replaces old a first width value → Replaces old b first width value → a ≡ b }
-{}
 
 /// Numbers that fit places which share out the bits of a register stand each in its place of their sum
 /// by weights, and of no other register of so many bits.

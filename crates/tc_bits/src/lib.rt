@@ -15,8 +15,7 @@
 //!   word of any table that shares its bits out has one spelling.
 //! - What stands in the places of a table and what its digits say is the same (`specs/Spelling.antt`,
 //!   `AreExact`; the law `fields_are_exact`).
-//! - `get_field` and `put_field` read and write some neighbouring bits of a register, and leave all
-//!   others (`specs/Register.antt`, `Replaces`).
+//! - `get_field` reads some neighbouring bits of a register (`specs/Register.antt`, `field`).
 //! - Fields of 30 frames have the drop-frame flag exactly where their count is drop-frame.
 //!
 //! Read `place` and `register`, then `user_bits`, `flags`, `fields`, `table`, `reading`, `raw`, `fault`
@@ -44,9 +43,9 @@ pub use fault::FieldFault;
 pub use fields::{DropFlag, Fields};
 pub use flags::Flags;
 pub use place::Place;
-pub use raw::{RawFields, raw_of};
+pub use raw::RawFields;
 pub use reading::{fields_at, is_set_at};
-pub use register::{get_field, put_field};
+pub use register::get_field;
 pub use table::Table;
 pub use user_bits::UserBits;
 pub use writing::field_bits;

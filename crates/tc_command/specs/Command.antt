@@ -1,7 +1,7 @@
 -- What holds of every command, whatever it reads. It is proved once for each shape of a command.
 use Rattle.std.specs.Prelude.{◌≡◌, ℕ, false, IsTrue, List, [], ◌++◌, Some}
 use Rattle.tc_command.specs.declared.input_fault.InputFault.{InputFault}
-use Rattle.tc_command.specs.Verdict.{refused, past_limit}
+use Rattle.tc_io.specs.Verdict.{refused, past_limit}
 use Rattle.tc_io.specs.Sink.{IsFront}
 use Rattle.tc_command.specs.declared.status.Status.TheVariants as status
 use Rattle.tc_command.specs.ComesFirst.{ComesFirst}

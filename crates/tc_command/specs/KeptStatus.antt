@@ -5,7 +5,7 @@ use Rattle.std.specs.declared.option.Option.{Option}
 use Rattle.std.specs.Io.KnownBytes.{Consumes}
 use Rattle.tc_io.specs.Source.{Rose}
 use Rattle.tc_command.specs.declared.input_fault.InputFault.{InputFault}
-use Rattle.tc_command.specs.Verdict.{Verdict, good, refused, past_limit}
+use Rattle.tc_io.specs.Verdict.{Verdict, good, refused, past_limit}
 use Rattle.tc_command.specs.declared.status.Status.{Status}
 use Rattle.tc_command.specs.declared.status.Status.TheVariants as status
 use Rattle.tc_command.specs.declared.stop.Stop.{Stop}
@@ -18,8 +18,8 @@ use Rattle.tc_command.specs.Status.{status_of}
 use Rattle.tc_command.specs.Stops.{StopsAlong}
 use Rattle.tc_command.specs.WholeInput.{HasStatus, status_by, status_on, status_at_end}
 
-by_verdict : (m : Meaning) (all : List ℕ) (v : Verdict) → m.verdict all ≡ v → status_on m all ≡ status_by v (m.end_fault all)
-by_verdict m all v e = ap (λ (w : Verdict). status_by w (m.end_fault all)) e
+by_verdict : (m : Meaning) (all : List ℕ) (v : Verdict InputFault) → m.verdict all ≡ v → status_on m all ≡ status_by v (m.end_fault all)
+by_verdict m all v e = ap (λ (w : Verdict InputFault). status_by w (m.end_fault all)) e
 
 by_end : (m : Meaning) (all : List ℕ) (o : Option InputFault) → m.verdict all ≡ good → m.end_fault all ≡ o → status_on m all ≡ status_at_end o
 by_end m all o e f = by_verdict m all good e ∙ ap status_at_end f

@@ -15,5 +15,4 @@ pub mod Notes
 pub mod Ran
 pub mod Status
 pub mod Stops
-pub mod Verdict
 pub mod WholeInput

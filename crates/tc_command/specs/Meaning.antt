@@ -2,14 +2,14 @@
 use Rattle.std.specs.Prelude.{◌≡◌, ℕ, Bool, false, IsTrue, if◌then◌else◌, List, [], Option, None}
 use Rattle.std.specs.Io.KnownBytes.{IsAtEnd}
 use Rattle.tc_command.specs.declared.input_fault.InputFault.{InputFault}
-use Rattle.tc_command.specs.Verdict.{Verdict, good}
+use Rattle.tc_io.specs.Verdict.{Verdict, good}
 
 -- what a command takes and what it writes, as statements of the bytes pulled so far and of those written
 pub record Meaning : Type 1 where
   -- it pulls an input
   pub reads : Bool
   -- what its grammar and its limit make of bytes, whatever follows them
-  pub verdict : List ℕ → Verdict
+  pub verdict : List ℕ → Verdict InputFault
   -- the fault of an input that ends with these bytes, where they are good
   pub end_fault : List ℕ → Option InputFault
   -- these bytes pass a limit of the command's own, whatever follows them
@@ -31,7 +31,7 @@ writes text = record {
 }
 
 -- what the bytes show, where they do not pass a limit of the command's own: that comes before a fault and before the limit of the grammar
-pub record Shows (m : Meaning) (verdict : Verdict) (bytes : List ℕ) : Type 0 where
+pub record Shows (m : Meaning) (verdict : Verdict InputFault) (bytes : List ℕ) : Type 0 where
   pub is : m.verdict bytes ≡ verdict
   pub unspent : ¬ m.spent bytes
 

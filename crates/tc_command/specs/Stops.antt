@@ -2,7 +2,7 @@
 use Rattle.std.specs.Prelude.{◌≡◌, ◌⊎◌, ℕ, IsTrue, List, ◌++◌, Option, Some}
 use Rattle.std.specs.Io.KnownBytes.{Appends}
 use Rattle.tc_io.specs.Sink.{IsFront}
-use Rattle.tc_command.specs.Verdict.{good, refused, past_limit}
+use Rattle.tc_io.specs.Verdict.{good, refused, past_limit}
 use Rattle.tc_command.specs.declared.stop.Stop.{Stop}
 use Rattle.tc_command.specs.declared.stop.Stop.TheVariants.{Refused, ReadFault, WriteFault, Limit}
 use Rattle.tc_command.specs.Meaning.{Meaning, Shows, IsInput, IsEnd}

@@ -1,7 +1,7 @@
 -- The status that a whole input leaves.
 use Rattle.std.specs.Prelude.{◌≡◌, ◌⊎◌, ℕ, List, Option, Some, None}
 use Rattle.tc_command.specs.declared.input_fault.InputFault.{InputFault}
-use Rattle.tc_command.specs.Verdict.{Verdict, good, refused, past_limit}
+use Rattle.tc_io.specs.Verdict.{Verdict, good, refused, past_limit}
 use Rattle.tc_command.specs.declared.status.Status.{Status}
 use Rattle.tc_command.specs.declared.status.Status.TheVariants.{Done, Refused, Limit}
 use Rattle.tc_command.specs.Meaning.{Meaning}
@@ -12,7 +12,7 @@ status_at_end None = Done
 status_at_end (Some fault) = Refused
 
 -- the status by what the bytes show, and else by their end
-abbrev pub status_by : Verdict → Option InputFault → Status
+abbrev pub status_by : Verdict InputFault → Option InputFault → Status
 status_by good end = status_at_end end
 status_by (refused fault) end = Refused
 status_by past_limit end = Limit

@@ -2,7 +2,7 @@
 //! gives it the bytes.
 ghost use Rattle.std.specs.Prelude.{◌≡◌, ℕ, ◌<◌, ◌≤◌, List, ◌++◌, length, take, OnOk, IfOk, IfErr, Err};
 ghost use Rattle.std.specs.Io.KnownBytes.{Appends};
-ghost use Rattle.tc_command.specs.Verdict.{good};
+ghost use Rattle.tc_io.specs.Verdict.{good};
 ghost use Rattle.tc_command.specs.Causes.{HasOutCause};
 ghost use Rattle.tc_command.specs.Meaning.{Meaning, Shows, IsInput};
 ghost use Rattle.tc_command.specs.Stops.{Stops, StopsAtEnd};

@@ -3,3 +3,5 @@ pub mod Source
 pub mod Sink
 pub mod Memory
 pub mod Adapters
+pub mod Verdict
+pub mod KeptVerdict

@@ -23,7 +23,7 @@ use Rattle.ltc_jam.specs.Labels.{AreEventsOf, AreFramesOf, AreHeardOf}
 use Rattle.interval_file.specs.declared.header.IntervalHeader.{IntervalHeader}
 use Rattle.interval_file.specs.Grammar.{AreIntervals, IsFile}
 use Rattle.interval_file.specs.Recording.{Recording, end_fault_of, recording_of}
-use Rattle.interval_file.specs.Verdict.{good}
+use Rattle.tc_io.specs.Verdict.{good}
 use Rattle.tc_words.specs.Jam.{IsJamming, Jamming}
 use Rattle.interval_commands.specs.Along.{IsWholeBehind, IsWholeOf}
 use Rattle.tc_top.specs.CleanCopy.{CleansTheInput, IsClean}

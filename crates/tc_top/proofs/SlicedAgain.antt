@@ -18,8 +18,8 @@ use Rattle.interval_file.specs.declared.header.IntervalHeader.{IntervalHeader}
 use Rattle.tc_io.specs.Bytes.{AreBytes}
 use Rattle.interval_file.specs.Grammar.{AreIntervals, IsFile, file_of}
 use Rattle.interval_file.specs.Recording.{Recording, end_fault_of, recording_of}
-use Rattle.interval_file.specs.Verdict.{good}
-use Rattle.interval_commands.specs.KeptVerdict.{ends_whole, is_good}
+use Rattle.tc_io.specs.Verdict.{good}
+use Rattle.tc_io.specs.KeptVerdict.{ends_whole, is_good}
 use Rattle.interval_commands.specs.Along.{IsWholeOf, along_intervals}
 use Rattle.interval_commands.specs.LtcPcm.{made_sound}
 use Rattle.tc_command.specs.Meaning.{IsInput}
@@ -31,6 +31,7 @@ use Rattle.tc_words.specs.WaveSlicing.{SlicesWave}
 use Rattle.wave_file.specs.declared.format.WaveFormat.{WaveFormat}
 use Rattle.wave_file.specs.Wave.{reading_of}
 use Rattle.tc_top.specs.SoundAgain.{times, IsBehindTheFirst, IsSlicedAgain, SlicesFileTo}
+use Rattle.tc_command.specs.declared.input_fault.InputFault.TheVariants.{Intervals}
 
 -- what the laws of the files, of samples and of sound say
 pub record SoundLaws : Type 0 where
@@ -105,7 +106,7 @@ behind_the_first laws level xs all w format made bytes again read s =
 pub sliced_again : SoundLaws → (level : ℕ) → level < 2 ^ 15 → (bytes made : List ℕ) → AreBytes bytes
     → IsInput (along_intervals (made_sound level)) bytes → IsWholeOf (made_sound level) (recording_of bytes) made → IsSlicedAgain level bytes made
 sliced_again laws level below bytes made are input whole =
-    let file = laws.inputs bytes are (is_good _ input.verdict) (ends_whole _ input.end) in
+    let file = laws.inputs bytes are (is_good Intervals _ input.verdict) (ends_whole Intervals _ input.end) in
     let xs = file.1 in
     let all = all_intervals xs file.2.range in
     let said = (laws.files bytes file.0 xs file.2 file.3).0 in

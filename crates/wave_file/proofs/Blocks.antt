@@ -17,10 +17,12 @@ use Rattle.wave_file.specs.declared.stage.TheConstants.{MAX_SAMPLES}
 use Rattle.wave_file.specs.Format.{sample_in, samples_at, IsTakenFor}
 use Rattle.wave_file.specs.Stage.{at, data_stage, extent_behind, format_at_stage, width_of, HasBytes, IsStage}
 use Rattle.wave_file.specs.Step.{with_samples, IsPast}
-use Rattle.wave_file.specs.Wave.{Reading, Verdict, good, past_limit, bytes_inside, data_at, may_end_at}
+use Rattle.wave_file.specs.Wave.{Reading, bytes_inside, data_at, may_end_at}
+use Rattle.tc_io.specs.Verdict.{Verdict, good, past_limit}
 use Rattle.wave_file.proofs.Pieces.{nat_le_same}
+use Rattle.wave_file.specs.declared.fault.WaveFault.{WaveFault}
 
-same_reading : (f : Option WaveFormat) (s t : List ℤ) (v w : Verdict) (m n : Bool) → s ≡ t → v ≡ w → m ≡ n
+same_reading : (f : Option WaveFormat) (s t : List ℤ) (v w : Verdict WaveFault) (m n : Bool) → s ≡ t → v ≡ w → m ≡ n
     → let a : Reading = record { format = f; samples = s; verdict = v; may_end = m } in
     let b : Reading = record { format = f; samples = t; verdict = w; may_end = n } in a ≡ b
 same_reading f s t v w m n p q r = rw (p, q, r) refl

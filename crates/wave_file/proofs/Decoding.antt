@@ -23,7 +23,8 @@ use Rattle.wave_file.specs.Format.{format_in, samples_at, IsTakenFor}
 use Rattle.wave_file.specs.Stage.{at, data_stage, extent_behind, format_at_stage, width_of, HasBytes, IsPassed, IsStage}
 use Rattle.wave_file.specs.StandsFor.{decoding_of, Adds, AddsBlocks, IsTold, StandsFor, may_end_before}
 use Rattle.wave_file.specs.Step.{with_samples, IsPast, Leads}
-use Rattle.wave_file.specs.Wave.{Reading, Verdict, good, refused, past_limit, bad, and_more, chunks_at, file_at, behind_form, judged_width, padded, piece, reading_of, taken, unfinished}
+use Rattle.wave_file.specs.Wave.{Reading, bad, and_more, chunks_at, file_at, behind_form, judged_width, padded, piece, reading_of, taken, unfinished}
+use Rattle.tc_io.specs.Verdict.{Verdict, good, refused, past_limit}
 use Rattle.wave_file.proofs.Blocks.{at_data, blocks_more, none_inside}
 use Rattle.wave_file.proofs.Pieces.{chunk_alone}
 
@@ -260,7 +261,7 @@ front_length track notes place stage part front samples s =
     omega (arith, sum, all, there)
 
 -- behind samples
-told_behind : (samples : List ℤ) (r w : Reading) (format : Option WaveFormat) (v : Verdict) → w ≡ with_samples samples r → IsTold r format [] v
+told_behind : (samples : List ℤ) (r w : Reading) (format : Option WaveFormat) (v : Verdict WaveFault) → w ≡ with_samples samples r → IsTold r format [] v
     → IsTold w format samples v
 told_behind samples r w format v is t = rw is (record {
   format_is = t.format_is;
@@ -289,7 +290,7 @@ ends_taken track notes place stage part front samples is less within s =
     (within_file track front (omega (arith, size, within)) ∙ ap (λ (l : List ℕ). file_at track l) s.split ∙ s.follows part) ∙ w.ends
 
 -- what the first bytes show that ends the reading, they show whatever follows, within the limit or past it
-told_within : (track : ℕ) (front rest : List ℕ) (format : Option WaveFormat) (samples : List ℤ) (v : Verdict)
+told_within : (track : ℕ) (front rest : List ℕ) (format : Option WaveFormat) (samples : List ℤ) (v : Verdict WaveFault)
     → length front ≤ MAX_BYTES → and_more v ≡ v → ((more : List ℕ) → IsTold (file_at track (front ++ more)) format samples v)
     → IsTold (reading_of track (front ++ rest)) format samples v
 told_within track front rest format samples v within stays says =
@@ -303,7 +304,7 @@ told_within track front rest format samples v within stays says =
     record { format_is = t.format_is; samples_are = t.samples_are; verdict_is = ap and_more t.verdict_is ∙ stays })
 
 -- a whole piece that ends the reading
-pub told_piece : (track : ℕ) (notes : Notes) (place : ℕ) (stage : Stage) (part bytes front rest : List ℕ) (want : ℕ) (samples : List ℤ) (v : Verdict)
+pub told_piece : (track : ℕ) (notes : Notes) (place : ℕ) (stage : Stage) (part bytes front rest : List ℕ) (want : ℕ) (samples : List ℤ) (v : Verdict WaveFault)
     → want ≤ length bytes → place + length part + want ≤ MAX_BYTES → and_more v ≡ v
     → ((more : List ℕ) → IsTold (at track notes place stage ((part ++ take want bytes) ++ more)) (format_at_stage stage) [] v)
     → StandsFor (decoding_of track notes place stage part) front samples

@@ -22,7 +22,8 @@ use Rattle.wave_file.specs.declared.stage.TheConstants.{MAX_BYTES, MAX_SAMPLES}
 use Rattle.wave_file.specs.Chunk.{chunk_of, form_of, no_notes}
 use Rattle.wave_file.specs.Format.{format_in, sample_in, samples_at}
 use Rattle.wave_file.specs.GoesOn.{GoesOn, IsWithin}
-use Rattle.wave_file.specs.Wave.{Reading, Verdict, good, refused, past_limit, and_more, bad, behind_form, blocks_inside, bytes_inside, chunk_at, chunks_at}
+use Rattle.wave_file.specs.Wave.{Reading, and_more, bad, behind_form, blocks_inside, bytes_inside, chunk_at, chunks_at}
+use Rattle.tc_io.specs.Verdict.{Verdict, good, refused, past_limit}
 use Rattle.wave_file.specs.Wave.{data_at, file_at, format_at, judged_width, padded, piece, reading_of, sizes_at, taken, unfinished, wave_at}
 
 -- ---- a piece

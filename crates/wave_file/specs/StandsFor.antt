@@ -10,9 +10,11 @@ use Rattle.wave_file.specs.declared.stage.TheConstants.{MAX_BYTES}
 use Rattle.wave_file.specs.Chunk.{no_notes, IsNoted}
 use Rattle.wave_file.specs.Stage.{at, format_at_stage, width_of, IsStage}
 use Rattle.wave_file.specs.Step.{with_samples}
-use Rattle.wave_file.specs.Wave.{Reading, Verdict, file_at, reading_of, refused, past_limit}
+use Rattle.wave_file.specs.Wave.{Reading, file_at, reading_of}
+use Rattle.tc_io.specs.Verdict.{Verdict, refused, past_limit}
 use Rattle.std.specs.Prelude.{true, false, ◌==◌}
 use Rattle.wave_file.specs.declared.chunk.Extent.TheVariants as extent
+use Rattle.wave_file.specs.declared.fault.WaveFault.{WaveFault}
 
 -- the track, what the chunks so far say, the place behind the whole pieces, what the next bytes are, and the bytes of a piece that is not whole
 pub record Decoding : Type 0 where
@@ -74,7 +76,7 @@ AddsTaken old new bytes (Fault f) = new ≡ old
 AddsTaken old new bytes Limit = new ≡ old
 
 -- what bytes show that end the reading, behind this format and these samples
-pub record IsTold (r : Reading) (format : Option WaveFormat) (samples : List ℤ) (verdict : Verdict) : Type 0 where
+pub record IsTold (r : Reading) (format : Option WaveFormat) (samples : List ℤ) (verdict : Verdict WaveFault) : Type 0 where
   pub format_is : r.format ≡ format
   pub samples_are : r.samples ≡ samples
   pub verdict_is : r.verdict ≡ verdict

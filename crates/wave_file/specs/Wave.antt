@@ -13,21 +13,16 @@ use Rattle.wave_file.specs.declared.chunk.Extent.TheVariants as extent
 use Rattle.wave_file.specs.declared.chunk.Notes.{Notes}
 use Rattle.wave_file.specs.declared.chunk.TheConstants.{WAVE}
 use Rattle.wave_file.specs.declared.stage.TheConstants.{MAX_BYTES, MAX_SAMPLES}
+use Rattle.tc_io.specs.Verdict.{Verdict, good, refused, past_limit}
 use Rattle.wave_file.specs.Format.{format_in, samples_at}
 use Rattle.wave_file.specs.Chunk.{chunk_of, form_of, no_notes}
-
--- what bytes show: no fault, their first fault, or more than is read
-pub data Verdict : Type 0 where
-  good : Verdict
-  refused : WaveFault → Verdict
-  past_limit : Verdict
 
 -- what bytes say of a sound file: its format, where the data begin; the samples of a track, of whole blocks before the limit; and whether the
 -- input may end there
 pub record Reading : Type 0 where
   pub format : Option WaveFormat
   pub samples : List ℤ
-  pub verdict : Verdict
+  pub verdict : Verdict WaveFault
   pub may_end : Bool
 
 -- the bytes end before the data begin
@@ -120,7 +115,7 @@ abbrev pub file_at : ℕ → List ℕ → Reading
 file_at track bytes = piece 4 (λ letters rest. behind_form track (form_of (big_number 4 letters)) rest) bytes
 
 -- more bytes than are read, where these have no fault and are within the limit
-abbrev pub and_more : Verdict → Verdict
+abbrev pub and_more : Verdict WaveFault → Verdict WaveFault
 and_more good = past_limit
 and_more (refused f) = refused f
 and_more past_limit = past_limit

@@ -11,7 +11,7 @@ use Rattle.interval_file.specs.Recording.{recording_of}
 use Rattle.tc_command.specs.declared.input_fault.InputFault.TheVariants.{Intervals}
 use Rattle.interval_commands.specs.Along.{IsWholeBehind}
 use Rattle.interval_commands.specs.KeptAlong.{Printed, printed_well}
-use Rattle.interval_commands.specs.KeptVerdict.{good_too}
+use Rattle.tc_io.specs.KeptVerdict.{good_too}
 use Rattle.tc_command.specs.KeptWorks.{if_err}
 use Rattle.interval_commands.proofs.along.AlongEngine.finish.Goals as goal
 
@@ -22,7 +22,7 @@ returns-in-Err-clause-stops g c = λ bytes written stands.
       [],
       Appends-nil _,
       (
-        record { is = good_too _ stands.stands.good; unspent = stands.unspent },
+        record { is = good_too Intervals _ stands.stands.good; unspent = stands.unspent },
         ap (λ (o : Option IntervalFileFault). option_map Intervals o) (sym (c.the_decoder_reads_what_is_said.ensures.fault bytes)
             ∙ subst (λ (p : Progress). fault_at_end (end p) ≡ Some c.in-Err.fault) stands.stands.progress
             (ap fault_at_end (sym c.in-Err.ensures.answers))),
@@ -45,4 +45,4 @@ returns-clause-stops g c =
     (ap fault_at_end (sym c.in_default.ensures.answers)) in
     let whole = subst (λ (o : Option IntervalHeader). IsWholeBehind (g.B.Behind.printing s.choice) o r.intervals (written ++ last.0)) (sym p.1) last.1 in
     let e : written ++ last.0 ≡ (written ++ f.0) ++ f.1.0 = ap (λ (l : List ℕ). written ++ l) f.1.1 ∙ sym (append_assoc written f.0 f.1.0) in
-    (f.0, f.2, rw h.0 (record { verdict = good_too _ stands.stands.good; unspent = stands.unspent; end = ap (λ (o : Option IntervalFileFault). option_map Intervals o) ends }, (written ++ last.0, whole, (f.1.0, e)))))
+    (f.0, f.2, rw h.0 (record { verdict = good_too Intervals _ stands.stands.good; unspent = stands.unspent; end = ap (λ (o : Option IntervalFileFault). option_map Intervals o) ends }, (written ++ last.0, whole, (f.1.0, e)))))

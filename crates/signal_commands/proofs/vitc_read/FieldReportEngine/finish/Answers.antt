@@ -2,9 +2,10 @@ use Rattle.std.proofs.Common.{◌++◌, ◌∙◌, [], List, ℕ, refl, ap, ap�
 use Rattle.std.proofs.KnownBytes.{Appends-nil}
 use Rattle.signal_commands.specs.VitcRead.{field_report, last_field_line}
 use Rattle.tc_command.specs.KeptWorks.{err_both, if_err, on_ok}
-use Rattle.signal_commands.specs.KeptFields.{good_too}
+use Rattle.tc_io.specs.KeptVerdict.{good_too}
 use Rattle.signal_commands.proofs.FieldsGrow.{ends_badly, ends_well, last_line_is}
 use Rattle.signal_commands.proofs.vitc_read.FieldReportEngine.finish.Goals as goal
+use Rattle.tc_command.specs.declared.input_fault.InputFault.TheVariants.{Lines}
 
 -- the last line was written
 pub returns-in-Ok-clause-ends : goal.returns-in-Ok-clause-ends
@@ -14,7 +15,7 @@ returns-in-Ok-clause-ends g c =
     on_ok c.push_line.result c.push_line.ensures.all (λ pushed bytes written stands. (
       line,
       pushed,
-      record { verdict = good_too _ stands.told.0; unspent = λ spent. spent; end = ends_well (c.in-Ok.ensures.ok bytes stands.answers stands.decoder) },
+      record { verdict = good_too Lines _ stands.told.0; unspent = λ spent. spent; end = ends_well (c.in-Ok.ensures.ok bytes stands.answers stands.decoder) },
       (
         stands.answers,
         stands.told.1,
@@ -34,7 +35,7 @@ returns-in-Ok-clause-stops g c =
       f.0,
       f.2,
       (
-        record { verdict = good_too _ stands.told.0; unspent = λ spent. spent; end = ends_well (c.in-Ok.ensures.ok bytes stands.answers stands.decoder) },
+        record { verdict = good_too Lines _ stands.told.0; unspent = λ spent. spent; end = ends_well (c.in-Ok.ensures.ok bytes stands.answers stands.decoder) },
         (
           field_report stands.answers,
           (stands.answers, stands.told.1, refl),
@@ -53,7 +54,7 @@ returns-in-Err-clause-stops g c = λ bytes written stands. (
   [],
   Appends-nil _,
   (
-    record { is = good_too _ stands.told.0; unspent = λ spent. spent },
+    record { is = good_too Lines _ stands.told.0; unspent = λ spent. spent },
     ends_badly (c.in-Err.ensures.err bytes stands.answers stands.decoder),
     (stands.answers, stands.told.1, append-nil written ∙ stands.are),
   ),

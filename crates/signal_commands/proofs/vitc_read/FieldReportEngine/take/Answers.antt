@@ -3,10 +3,11 @@ use Rattle.std.proofs.KnownBytes.{Appends-nil}
 use Rattle.std.proofs.lemmas.List.{take-append-drop}
 use Rattle.line_file.specs.Texts.{field_line}
 use Rattle.signal_commands.specs.declared.vitc_read.FieldReport.{FieldReport}
-use Rattle.signal_commands.specs.VitcRead.{verdict_of}
 use Rattle.tc_command.specs.KeptWorks.{through}
 use Rattle.signal_commands.proofs.FieldsGrow.{none_more, one_more_part, printed}
 use Rattle.signal_commands.proofs.vitc_read.FieldReportEngine.take.Goals as goal
+use Rattle.tc_io.specs.Verdict.{verdict_as}
+use Rattle.tc_command.specs.declared.input_fault.InputFault.TheVariants.{Lines}
 
 -- no field is complete
 pub returns-in-Nothing-clause-works : goal.returns-in-Nothing-clause-works
@@ -47,10 +48,10 @@ returns-in_err-print-in-Field-clause-stops g c =
 pub returns-in-Fault-clause-stops : goal.returns-in-Fault-clause-stops
 returns-in-Fault-clause-stops g c = λ front written stands.
     let told = c.in-Fault.ensures.stops front stands.answers stands.decoder in
-    ([], Appends-nil _, (record { is = ap verdict_of told.0; unspent = λ spent. spent }, (stands.answers, told.1, append-nil written ∙ stands.are)))
+    ([], Appends-nil _, (record { is = ap (verdict_as Lines) told.0; unspent = λ spent. spent }, (stands.answers, told.1, append-nil written ∙ stands.are)))
 
 -- or a field too many
 pub returns-in-Limit-clause-stops : goal.returns-in-Limit-clause-stops
 returns-in-Limit-clause-stops g c = λ front written stands.
     let told = c.in-Limit.ensures.stops front stands.answers stands.decoder in
-    ([], Appends-nil _, inl (record { is = ap verdict_of told.0; unspent = λ spent. spent }, (stands.answers, told.1, append-nil written ∙ stands.are)))
+    ([], Appends-nil _, inl (record { is = ap (verdict_as Lines) told.0; unspent = λ spent. spent }, (stands.answers, told.1, append-nil written ∙ stands.are)))
