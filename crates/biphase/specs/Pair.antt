@@ -5,11 +5,11 @@ use Rattle.biphase.specs.declared.pair.PairKind.{PairKind}
 use Rattle.biphase.specs.declared.pair.PairKind.TheVariants.{Same, Step, Wild}
 use Rattle.biphase.specs.Profile.{equal_of, unequal_of, IsAtLeast}
 
--- the lesser is nearly the greater
+-- the lesser is nearly as long as the greater: two zeros, or two halves
 abbrev pub AreEqual : Profile → ℕ → ℕ → Type 0
 AreEqual profile a b = IsAtLeast (equal_of profile) (min a b) (max a b)
 
--- the lesser is less than that, and nearly half the greater or more
+-- the lesser is too short to be equal, and nearly half of the greater or more: a zero and a half
 abbrev pub AreUnequal : Profile → ℕ → ℕ → Type 0
 AreUnequal profile a b = ¬ AreEqual profile a b × IsAtLeast (unequal_of profile) (min a b) (max a b)
 

@@ -26,6 +26,6 @@ IsAtLeast ratio a b = ratio.part * b ≤ ratio.whole * a
 abbrev pub IsAtMost : Ratio → ℕ → ℕ → Type 0
 IsAtMost ratio a b = ratio.whole * a ≤ ratio.part * b
 
--- so many times the difference of a and b is at most the length
+-- a and b differ by at most the length divided by this number
 abbrev pub IsWithin : ℕ → ℕ → ℕ → ℕ → Type 0
 IsWithin number a b length = number * abs_diff a b ≤ length

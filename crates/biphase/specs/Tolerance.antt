@@ -82,7 +82,7 @@ rules_of Rough = by_the_sum ROUGH
 abbrev pub kept_at_lock : Profile → ℕ → Latest
 kept_at_lock profile c = (rules_of profile).at_lock c
 
--- and after one cell more
+-- what a profile keeps after one cell more, of length c
 abbrev pub kept_next : Profile → Latest → ℕ → Latest
 kept_next profile latest c = (rules_of profile).after latest c
 

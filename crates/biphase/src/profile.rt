@@ -16,7 +16,7 @@ pub enum Profile {
     Worn,
 }
 
-/// A part of a whole, as two parts of three.
+/// A part of a whole: 2 of 3 is two thirds.
 #[derive(Clone, Copy, Debug, PartialEq, Eq)]
 pub struct Ratio {
     pub part: u8,
@@ -26,9 +26,9 @@ pub struct Ratio {
 /// The numbers of a tolerance that compares with the last cell.
 #[derive(Clone, Copy, Debug, PartialEq, Eq)]
 pub struct Tolerance {
-    /// So many times the difference of two neighbouring cells is at most the first of them.
+    /// Two neighbouring cells differ by at most the first of them, divided by this number.
     pub cell: u8,
-    /// So many times the difference of the two halves of a one is at most the one.
+    /// The two halves of a one differ by at most the one, divided by this number.
     pub half: u8,
     /// Of two equal intervals, the lesser is at least this part of the greater.
     pub equal: Ratio,

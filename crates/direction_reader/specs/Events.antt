@@ -28,17 +28,14 @@ tick_of (Lost interval tick) = tick
 -- the event is a word
 abbrev pub is_word : Event → Bool
 is_word (Word direction word tick length) = true
-is_word (Refused direction fault tick) = false
-is_word (Lost interval tick) = false
+is_word event = false
 
 -- the event is a candidate whose fields are at fault
 abbrev pub is_refused : Event → Bool
-is_refused (Word direction word tick length) = false
 is_refused (Refused direction fault tick) = true
-is_refused (Lost interval tick) = false
+is_refused event = false
 
 -- the event is the end of a stretch
 abbrev pub is_lost : Event → Bool
-is_lost (Word direction word tick length) = false
-is_lost (Refused direction fault tick) = false
 is_lost (Lost interval tick) = true
+is_lost event = false

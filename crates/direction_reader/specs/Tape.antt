@@ -34,9 +34,8 @@ EndsBy end (Lost interval tick) = Unit {0}
 
 -- a break stands at the place `from` at the latest
 abbrev pub BreaksBy : ℕ → Event → Type 0
-BreaksBy from (Word direction word tick length) = Unit {0}
-BreaksBy from (Refused direction fault tick) = Unit {0}
 BreaksBy from (Lost interval tick) = interval ≤ from
+BreaksBy from event = Unit {0}
 
 -- in the intervals `front` and what comes behind them, the events are from the place `from` to the end of `front` those
 -- of the windows of these cells and nothing else. Before them come words that begin before this place, so that at most

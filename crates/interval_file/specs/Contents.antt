@@ -34,8 +34,7 @@ header_with (Some version) (Some system) rate =
     if nat_le 1 rate && nat_le rate MAX_TICK_RATE
     then Some (record { version = version; system = system; tick_rate = rate })
     else None
-header_with (Some version) None rate = None
-header_with None system rate = None
+header_with version system rate = None
 
 -- the header that these bytes begin with
 abbrev pub header_of : List ℕ → Option IntervalHeader

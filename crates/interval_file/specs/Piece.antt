@@ -23,12 +23,12 @@ abbrev pub MayBeWhole : FileVersion → ℕ → Type 0
 MayBeWhole One count = count % 4 ≡ 0
 MayBeWhole Two count = count % 2 ≡ 0
 
--- the number in them, behind the two bytes that are 0
+-- the number that the bytes of an interval spell; six bytes spell it behind two that are 0
 abbrev pub ticks_in : FileVersion → List ℕ → ℕ
 ticks_in One bytes = big_number 4 bytes
 ticks_in Two bytes = if big_number 2 bytes == 0 then big_number 4 (drop 2 bytes) else big_number 2 bytes
 
--- the least number that may stand so: what fits in two bytes is not written in six
+-- the least interval that may be spelled so: what fits in two bytes is not written in six
 abbrev pub least_in : FileVersion → List ℕ → ℕ
 least_in One bytes = 1
 least_in Two bytes = if big_number 2 bytes == 0 then LEAST_LONG else 1

@@ -21,7 +21,7 @@ abbrev pub shown : IntervalFileFault → Verdict IntervalFileFault
 shown (Truncated end) = good
 shown fault = refused fault
 
--- how many whole intervals a fault is: one that is out of range
+-- how many whole intervals stand at a fault: one that is out of range is whole, and counts for the limit
 abbrev pub whole_in : IntervalFileFault → ℕ
 whole_in (Interval first) = 1
 whole_in fault = 0
@@ -44,6 +44,6 @@ read_of (faulty header intervals fault) = within_limit header intervals (length 
 unfoldable pub recording_of : List ℕ → Recording
 recording_of bytes = read_of (contents_of bytes)
 
--- the fault of bytes after which the input may not end
+-- the fault of an input that ends with these bytes, if it has one
 unfoldable pub end_fault_of : List ℕ → Option IntervalFileFault
 end_fault_of bytes = fault_of (contents_of bytes)

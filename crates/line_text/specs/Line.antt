@@ -6,7 +6,7 @@ use Rattle.tc_address.specs.declared.direction.Direction.{Direction}
 use Rattle.tc_address.specs.declared.direction.Direction.TheVariants.{Forward, Backward}
 use Rattle.tc_bits.specs.declared.flags.Flags.{Flags}
 
--- a truth value
+-- 1 where the flag is set, and else 0
 abbrev pub flag_digit : Bool → List ℕ
 flag_digit flag = if flag then codes "1" else codes "0"
 
@@ -18,6 +18,7 @@ flags_text f = flag_digit f.bit10 ++ flag_digit f.colour ++ flag_digit f.bgf0 ++
 abbrev pub user_text : ℕ → List ℕ
 user_text user = encode_lower (to_be_bytes w32 user)
 
+-- the way of the tape, as a word
 abbrev pub direction_name : Direction → List ℕ
 direction_name Forward = codes "forward"
 direction_name Backward = codes "backward"

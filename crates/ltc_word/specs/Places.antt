@@ -9,19 +9,19 @@ use Rattle.tc_bits.specs.Row as row
 use Rattle.tc_bits.specs.Table.{place, places_in, with_group_flags}
 use Rattle.ltc_word.specs.declared.places.TheConstants as places
 
--- the polarity correction
+-- where the polarity correction stands in a system
 abbrev pub polarity_bit : System → ℕ
 polarity_bit F24 = places.BIT_27
 polarity_bit F25 = places.BIT_59
 polarity_bit F30 = places.BIT_27
 
--- binary group flag 0
+-- where binary group flag 0 stands in a system
 abbrev pub group_flag_zero_bit : System → ℕ
 group_flag_zero_bit F24 = places.BIT_43
 group_flag_zero_bit F25 = places.BIT_27
 group_flag_zero_bit F30 = places.BIT_43
 
--- binary group flag 2
+-- where binary group flag 2 stands in a system
 abbrev pub group_flag_two_bit : System → ℕ
 group_flag_two_bit F24 = places.BIT_59
 group_flag_two_bit F25 = places.BIT_43

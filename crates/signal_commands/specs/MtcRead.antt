@@ -16,15 +16,11 @@ event_lines events = flat_map event_line events
 
 abbrev pub is_full : MtcEvent → Bool
 is_full (Full label place) = true
-is_full (Quarter direction label place) = false
-is_full (RefusedFull fault place) = false
-is_full (RefusedQuarter direction fault place) = false
+is_full event = false
 
 abbrev pub is_quarter : MtcEvent → Bool
-is_quarter (Full label place) = false
 is_quarter (Quarter direction label place) = true
-is_quarter (RefusedFull fault place) = false
-is_quarter (RefusedQuarter direction fault place) = false
+is_quarter event = false
 
 abbrev pub is_refused : MtcEvent → Bool
 is_refused (Full label place) = false

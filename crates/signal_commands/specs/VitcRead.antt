@@ -17,22 +17,17 @@ answer_lines field (answer ∷ answers) = field_line field answer ++ answer_line
 
 abbrev pub is_agreed : FieldAnswer → Bool
 is_agreed (Agreed word) = true
-is_agreed (Conflict word other) = false
-is_agreed NoLine = false
-is_agreed (Nothing fault) = false
+is_agreed answer = false
 
 abbrev pub is_conflict : FieldAnswer → Bool
-is_conflict (Agreed word) = false
 is_conflict (Conflict word other) = true
-is_conflict NoLine = false
-is_conflict (Nothing fault) = false
+is_conflict answer = false
 
 -- a field without lines says nothing, and so does one of which no line says a word
 abbrev pub is_nothing : FieldAnswer → Bool
-is_nothing (Agreed word) = false
-is_nothing (Conflict word other) = false
 is_nothing NoLine = true
 is_nothing (Nothing fault) = true
+is_nothing answer = false
 
 -- the last line counts the fields, and those of each kind
 abbrev pub last_field_line : List FieldAnswer → List ℕ

@@ -25,10 +25,8 @@ drop_frame_drops minutes seconds frames = (seconds == 0) && nat_le frames 1 && n
 
 -- the count drops an address with these parts: only drop-frame does
 abbrev pub is_dropped_by : Count → ℕ → ℕ → ℕ → Bool
-is_dropped_by C24 minutes seconds frames = false
-is_dropped_by C25 minutes seconds frames = false
-is_dropped_by C30 minutes seconds frames = false
 is_dropped_by Drop30 minutes seconds frames = drop_frame_drops minutes seconds frames
+is_dropped_by count minutes seconds frames = false
 
 -- the count drops the address
 abbrev pub is_dropped : Address → Bool

@@ -14,10 +14,8 @@ two_digits n = (48 + n / 10) ∷ (48 + n % 10) ∷ []
 
 -- what stands before the frames, `;` for drop-frame and else `:`
 abbrev pub separator : Count → ℕ
-separator C24 = 58
-separator C25 = 58
-separator C30 = 58
 separator Drop30 = 59
+separator count = 58
 
 -- the text of a label
 abbrev pub text_of : Address → List ℕ

@@ -10,22 +10,12 @@ use Rattle.tc_command.specs.Status.{status_of}
 -- a read fault comes only where the count of the source rose, and each other status leaves it as it was
 abbrev pub SourceCause : Status → ℕ → ℕ → Type 0
 SourceCause ReadFault before now = Rose before now
-SourceCause Done before now = now ≡ before
-SourceCause Usage before now = now ≡ before
-SourceCause Refused before now = now ≡ before
-SourceCause WriteFault before now = now ≡ before
-SourceCause Memory before now = now ≡ before
-SourceCause Limit before now = now ≡ before
+SourceCause status before now = now ≡ before
 
 -- a write fault comes only where the count of the output rose, and each other status leaves it as it was
 abbrev pub OutCause : Status → ℕ → ℕ → Type 0
 OutCause WriteFault before now = Rose before now
-OutCause Done before now = now ≡ before
-OutCause Usage before now = now ≡ before
-OutCause Refused before now = now ≡ before
-OutCause ReadFault before now = now ≡ before
-OutCause Memory before now = now ≡ before
-OutCause Limit before now = now ≡ before
+OutCause status before now = now ≡ before
 
 -- the status of a job that came to its end, or stopped
 abbrev pub ended_with : {T : Type 0} → Result T Stop → Status

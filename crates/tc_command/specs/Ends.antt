@@ -12,12 +12,10 @@ use Rattle.tc_command.specs.declared.status.Status.TheVariants.{Memory, Limit}
 abbrev pub EndsSeen : Bool → Status → ℕ → Type 0
 EndsSeen false status ends = ends ≡ 0
 EndsSeen true Done ends = ends ≡ 1
-EndsSeen true Usage ends = ends ≡ 0
 EndsSeen true Refused ends = ends ≤ 1
-EndsSeen true ReadFault ends = ends ≡ 0
 EndsSeen true WriteFault ends = ends ≤ 1
 EndsSeen true Memory ends = ends ≤ 1
-EndsSeen true Limit ends = ends ≡ 0
+EndsSeen true status ends = ends ≡ 0
 
 -- along a source that was not at its end before
 abbrev pub SeesOneEnd : {T : Type 0} → ℕ → ℕ → Result T Stop → Type 0

@@ -38,8 +38,7 @@ EndsBy job Refused e = (fault : InputFault) × StoppedBy (stops.Refused fault) (
 EndsBy job ReadFault e = StoppedBy stops.ReadFault (meaning_of job) e
 EndsBy job WriteFault e = StoppedBy stops.WriteFault (meaning_of job) e
 EndsBy job Limit e = StoppedBy stops.Limit (meaning_of job) e
-EndsBy job Usage e = ⊥
-EndsBy job Memory e = ⊥
+EndsBy job status e = ⊥
 
 -- what a job answers: it ended by its status, and whatever that is, what was written is a front of the output of the
 -- whole input
@@ -66,8 +65,4 @@ IsNamedAnswer words status e = (task : Task) × (answer_to words ≡ Ok task) ×
 abbrev pub IsRunAnswer : List (List ℕ) → Status → Exchange → Type 0
 IsRunAnswer words Usage e = (fault : WordsFault) × (answer_to words ≡ Err fault) × BeginsNothing (usage_note fault) e
 IsRunAnswer words Memory e = BeginsNothing (codes "tc: out of memory\n") e ⊎ IsNamedAnswer words Memory e
-IsRunAnswer words Done e = IsNamedAnswer words Done e
-IsRunAnswer words Refused e = IsNamedAnswer words Refused e
-IsRunAnswer words ReadFault e = IsNamedAnswer words ReadFault e
-IsRunAnswer words WriteFault e = IsNamedAnswer words WriteFault e
-IsRunAnswer words Limit e = IsNamedAnswer words Limit e
+IsRunAnswer words status e = IsNamedAnswer words status e
