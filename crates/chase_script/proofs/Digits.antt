@@ -1,34 +1,14 @@
 -- What so many digits write at most.
-use Rattle.std.proofs.Common.{◌≡◌, ℕ, zero, suc, ◌<◌, ◌≤◌, ◌+◌, ◌-◌, ◌*◌, ◌^◌, ◌&&◌, Bool, true, false, List, [], ◌∷◌, length, take, get_or, refl, arith}
-use Rattle.std.specs.Char.{is_ascii_digit, digit_value}
+use Rattle.std.proofs.Common.{◌≡◌, ℕ, zero, suc, ◌<◌, ◌≤◌, ◌+◌, ◌-◌, ◌*◌, ◌^◌, true, List, [], ◌∷◌, length, take, get_or, refl, arith}
+use Rattle.std.specs.Char.{is_ascii_digit}
 use Rattle.std.specs.Int.{IsInRange}
 use Rattle.std.specs.List.{list_all}
-use Rattle.std.specs.Str.Parse.{AllDigits, digits_value}
+use Rattle.std.specs.Str.Parse.{digits_value}
 use Rattle.std.proofs.Math.Nat.{pow-le-pow_right}
-use Rattle.std.proofs.lemmas.Grind.{common_steps}
 use Rattle.std.proofs.lemmas.Int.Digits.{digits_value-lt, digits_value_more}
 use Rattle.std.proofs.lemmas.Str.{digit_value_digit}
 use Rattle.std.proofs.lemmas.Str.Parse.{digits_value-take-le}
-
-first_true : (a b : Bool) → (a && b) ≡ true → a ≡ true
-first_true true b h = refl
-first_true false b h = cc
-
-second_true : (a b : Bool) → (a && b) ≡ true → b ≡ true
-second_true true b h = h
-second_true false b h = cc
-
-digit_in_range : (c : ℕ) → is_ascii_digit c ≡ true → IsInRange 48 57 c
-digit_in_range c h = grind (arith, common_steps)
-
-digit_below_ten : (c : ℕ) → is_ascii_digit c ≡ true → digit_value c < 10
-digit_below_ten c h =
-    let within = digit_in_range c h in
-    omega (arith, digit_value_digit c within, within.0, within.1)
-
-all_digits : (ds : List ℕ) → list_all is_ascii_digit ds ≡ true → AllDigits 10 ds
-all_digits [] h = tt
-all_digits (c ∷ ds) h = (digit_below_ten c (first_true (is_ascii_digit c) _ h), all_digits ds (second_true (is_ascii_digit c) _ h))
+use Rattle.line_text.specs.KeptDigits.{first_true, second_true, digit_in_range, all_digits}
 
 -- seven digits write no more than this
 pub short_value : (ds : List ℕ) (i : ℕ) → list_all is_ascii_digit ds ≡ true → length ds ≤ 7 → digits_value 10 (take i ds) < 10_000_000

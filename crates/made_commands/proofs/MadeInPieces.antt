@@ -16,7 +16,7 @@ use Rattle.tc_address.specs.declared.direction.Direction.{Direction}
 use Rattle.tc_address.specs.declared.direction.Direction.TheVariants.{Forward, Backward}
 use Rattle.tc_address.specs.Label.{Address, IsLabel}
 use Rattle.tc_address.specs.Numbering.{step}
-use Rattle.made_commands.specs.KeptTape.{cell_bytes, rest_of}
+use Rattle.made_commands.specs.KeptStriping.{cell_bytes, rest_of}
 use Rattle.ltc_jam.specs.Word.{played_as, time_bits}
 use Rattle.made_commands.specs.Made.{frames_from, interval_bytes}
 

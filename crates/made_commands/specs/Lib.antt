@@ -3,7 +3,7 @@ pub mod KeptIntervals
 pub mod KeptLine
 pub mod KeptLines
 pub mod KeptLoad
-pub mod KeptTape
+pub mod KeptStriping
 pub mod Labels
 pub mod Load
 pub mod Made

@@ -6,7 +6,7 @@ ghost use Rattle.byteorder.specs.Endian.{big_bytes};
 ghost use Rattle.direction_reader.specs.Played.{low_bits};
 ghost use Rattle.flywheel.specs.Frames.{steps_in};
 ghost use Rattle.ltc_word.specs.Spelled.{spelling_of};
-ghost use Rattle.made_commands.specs.KeptTape.{cell_bytes, rest_of};
+ghost use Rattle.made_commands.specs.KeptStriping.{cell_bytes, rest_of};
 ghost use Rattle.made_commands.specs.Made.{interval_bytes, made};
 ghost use Rattle.tc_command.specs.Causes.{HasOutCause};
 ghost use Rattle.tc_command.specs.Meaning.{writes};
@@ -41,12 +41,12 @@ pub fn make_recording<S: Source, K: Sink>(
     ensures why { IfErr result (λ stop. stop ≡ Stop.WriteFault) }
     ensures out { HasOutCause (K.faults out.old) (K.faults out.new) result }
 {
-    make(&mut Tape::new(stripe), source, out)
+    make(&mut Striping::new(stripe), source, out)
 }
 
 /// A recording that is still to be made.
 #[derive(Drop)]
-struct Tape {
+struct Striping {
     header: Option<[u8; 12]>,
     shaper: Shaper,
     direction: Direction,
@@ -54,9 +54,9 @@ struct Tape {
     frames: u32,
 }
 
-impl Tape {
+impl Striping {
     /// The whole recording of a stripe.
-    fn new(stripe: &Stripe) -> Tape
+    fn new(stripe: &Stripe) -> Striping
         ensures rest { rest_of result.header result.shaper result.direction result.label result.frames ≡ made stripe.now }
     {
         let label = stripe.label();
@@ -65,7 +65,7 @@ impl Tape {
             system: system_of(label.count()),
             tick_rate: stripe.tick_rate(),
         };
-        Tape {
+        Striping {
             header: Some(interval_header(&header)),
             shaper: stripe.shaper(),
             direction: stripe.direction(),
@@ -91,8 +91,8 @@ impl Tape {
     }
 }
 
-impl Maker for Tape {
-    ghost use Rattle.made_commands.specs.KeptTape.{pieces_of, rest_of};
+impl Maker for Striping {
+    ghost use Rattle.made_commands.specs.KeptStriping.{pieces_of, rest_of};
 
     ghost rest = { λ s. rest_of s.header s.shaper s.direction s.label s.frames };
 

@@ -2,36 +2,14 @@
 use Rattle.std.proofs.Common.{◌≡◌, ◌≢◌, ◌<◌, ◌&&◌, ◌^◌, ℕ, Bool, true, false, refl, ap, arith, List}
 use Rattle.std.proofs.Common.{[], ◌∷◌, Some, Result, Ok, Err, inl, inr, length, le-ltb, lt-ltb}
 use Rattle.std.specs.Prelude.{nat_le, nat_lt}
-use Rattle.std.specs.Char.{is_ascii_digit, digit_value}
-use Rattle.std.specs.Int.{IsInRange}
+use Rattle.std.specs.Char.{is_ascii_digit}
 use Rattle.std.specs.List.{list_all}
 use Rattle.std.specs.Result.{result_ok}
-use Rattle.std.specs.Str.Parse.{AllDigits, IsNumeral, ParsesUnsigned, digits_value, without_leading_plus}
+use Rattle.std.specs.Str.Parse.{IsNumeral, ParsesUnsigned, digits_value, without_leading_plus}
 use Rattle.std.proofs.lemmas.Bool.{cases_lt, leb-true}
-use Rattle.std.proofs.lemmas.Grind.{common_steps}
-use Rattle.std.proofs.lemmas.Str.{digit_value_digit}
 use Rattle.std.proofs.lemmas.Str.Parse.{without_leading_plus_none}
 use Rattle.tc_words.specs.Values.{Word, is_number, number_spelled}
-
-first_true : (a b : Bool) → (a && b) ≡ true → a ≡ true
-first_true true b h = refl
-first_true false b h = cc
-
-second_true : (a b : Bool) → (a && b) ≡ true → b ≡ true
-second_true true b h = h
-second_true false b h = cc
-
-digit_in_range : (c : ℕ) → is_ascii_digit c ≡ true → IsInRange 48 57 c
-digit_in_range c h = grind (arith, common_steps)
-
-digit_below_ten : (c : ℕ) → is_ascii_digit c ≡ true → digit_value c < 10
-digit_below_ten c h =
-    let within = digit_in_range c h in
-    omega (arith, digit_value_digit c within, within.0, within.1)
-
-all_digits : (ds : List ℕ) → list_all is_ascii_digit ds ≡ true → AllDigits 10 ds
-all_digits [] h = tt
-all_digits (c ∷ ds) h = (digit_below_ten c (first_true (is_ascii_digit c) _ h), all_digits ds (second_true (is_ascii_digit c) _ h))
+use Rattle.line_text.specs.KeptDigits.{first_true, second_true, digit_in_range, all_digits}
 
 no_plus : (word : Word) → list_all is_ascii_digit word ≡ true → without_leading_plus word ≡ word
 no_plus [] h = refl

@@ -1,7 +1,7 @@
 use Rattle.std.proofs.Common.{◌≡◌, ◌+◌, ◌-◌, ◌*◌, ◌≤◌, ◌++◌, Bool, List}
 use Rattle.arrayvec.specs.ArrayVec.{array_vec_len}
 use Rattle.direction_reader.specs.Played.{low_bits}
-use Rattle.made_commands.specs.KeptTape.{cell_bytes}
+use Rattle.made_commands.specs.KeptStriping.{cell_bytes}
 use Rattle.made_commands.proofs.ltc_make.write_bits.Given as goal
 
 -- what was written and the cells of the bits that are left are the whole
