@@ -17,7 +17,7 @@ use line_text::{
     push_ticks,
 };
 use ltc_word::LtcWord;
-use tc_address::{Direction, System, rate, text};
+use tc_address::{Direction, rate, text};
 use tc_bits::FieldFault;
 
 /// The line of an event, for a recording with this header.

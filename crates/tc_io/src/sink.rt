@@ -1,5 +1,5 @@
 //! What is pushed bytes, and the call that pushes all of them. Next: `adapters`.
-ghost use Rattle.std.specs.Prelude.{◌≡◌, ℕ, List, [], Option, OnOk, OnErr, IsOk};
+ghost use Rattle.std.specs.Prelude.{◌≡◌, ℕ, List, [], Option, None, OnOk, OnErr, IsOk};
 ghost use Rattle.std.specs.Io.{WritesAtMost};
 ghost use Rattle.std.specs.Io.KnownBytes.{Appends, WriteAppends};
 ghost use Rattle.tc_io.specs.Source.{HasCause};
@@ -24,7 +24,10 @@ pub trait Sink {
         ensures bytes { WriteAppends (written self.old) (written self.new) result piece.now }
 
         // The count never falls, an `Ok` leaves it, and a `Failed` comes only by a fault.
-        ensures cause { HasCause (faults self.old) (faults self.new) result };
+        ensures cause { HasCause (faults self.old) (faults self.new) result }
+
+        // Told bytes stay told by `bytes`, and untold ones untold.
+        ensures untold { written self.old ≡ None → written self.new ≡ None };
 }
 
 /// Pushes all the bytes, in order, in as many pushes as the sink wants. It stops at the first
@@ -33,6 +36,7 @@ pub fn push_all<K: Sink>(sink: &mut K, bytes: &[u8]) -> Result<(), Failed>
     ensures all { OnOk result (Appends (K.written sink.old) (K.written sink.new) bytes.now) }
     ensures front { OnErr result (AppendsFront (K.written sink.old) (K.written sink.new) bytes.now) }
     ensures cause { HasCause (K.faults sink.old) (K.faults sink.new) result }
+    ensures untold { K.written sink.old ≡ None → K.written sink.new ≡ None }
     ensures nothing { bytes.now ≡ [] → (sink.new ≡ sink.old) × IsOk result }
 {
     let mut at = 0;

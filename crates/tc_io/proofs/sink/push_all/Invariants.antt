@@ -1,4 +1,4 @@
-use Rattle.std.proofs.Common.{length, take, ◌-◌, ◌≡◌, ◌≤◌, []}
+use Rattle.std.proofs.Common.{length, take, ◌-◌, ◌≡◌, ◌≤◌, [], None}
 use Rattle.std.specs.Io.KnownBytes.{Appends}
 use Rattle.tc_io.proofs.sink.push_all.Given as goal
 
@@ -8,6 +8,7 @@ invariant-loop-at g l = record {
   within : l.at ≤ length l.bytes;
   appended : Appends (g.K.Sink.written l.fn.sink) (g.K.Sink.written l.sink) (take l.at l.bytes);
   same : g.K.Sink.faults l.sink ≡ g.K.Sink.faults l.fn.sink;
+  untold : g.K.Sink.written l.fn.sink ≡ None → g.K.Sink.written l.sink ≡ None;
   idle : l.bytes ≡ [] → l.sink ≡ l.fn.sink;
 }
 
