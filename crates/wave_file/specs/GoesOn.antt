@@ -2,7 +2,8 @@
 use Rattle.std.specs.Prelude.{◌≡◌, ◌⊎◌, ◌≤◌, ℤ, false, List, [], ◌++◌, length, None}
 use Rattle.wave_file.specs.declared.fault.WaveFault.{WaveFault}
 use Rattle.wave_file.specs.declared.stage.TheConstants.{MAX_SAMPLES}
-use Rattle.wave_file.specs.Wave.{Reading, refused, past_limit}
+use Rattle.wave_file.specs.Wave.{Reading}
+use Rattle.tc_io.specs.Verdict.{refused, past_limit}
 
 -- a format that is there stays, and so do a fault and the limit; and the samples come first
 pub record GoesOn (front whole : Reading) : Type 0 where

@@ -9,7 +9,8 @@ use Rattle.wave_file.specs.declared.stage.Stage.{Stage}
 use Rattle.wave_file.specs.declared.stage.Stage.TheVariants.{Riff, Wave, Chunk, Format, Sizes, Data, Tail}
 use Rattle.wave_file.specs.declared.stage.TheConstants.{MAX_SAMPLES}
 use Rattle.wave_file.specs.Format.{IsTakenFor}
-use Rattle.wave_file.specs.Wave.{Reading, good, chunks_at, data_at, file_at, format_at, judged_width, padded, sizes_at, wave_at}
+use Rattle.wave_file.specs.Wave.{Reading, chunks_at, data_at, file_at, format_at, judged_width, padded, sizes_at, wave_at}
+use Rattle.tc_io.specs.Verdict.{good}
 
 -- no block of the data is left: so many bytes of them, and what follows
 abbrev pub tail_at : WaveFormat → ℕ → List ℕ → Reading

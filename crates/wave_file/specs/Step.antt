@@ -6,7 +6,8 @@ use Rattle.wave_file.specs.declared.stage.Step.{Step}
 use Rattle.wave_file.specs.declared.stage.Step.TheVariants.{Next, Begin, Sample, Fault, Limit}
 use Rattle.wave_file.specs.Chunk.{IsNoted}
 use Rattle.wave_file.specs.Stage.{at, format_at_stage, width_of, IsStage}
-use Rattle.wave_file.specs.Wave.{Reading, bad, past_limit}
+use Rattle.wave_file.specs.Wave.{Reading, bad}
+use Rattle.tc_io.specs.Verdict.{past_limit}
 
 -- behind other samples
 abbrev pub with_samples : List ℤ → Reading → Reading

@@ -7,7 +7,8 @@ ghost use Rattle.wave_file.specs.Stage.{format_at_stage, width_of, HasBytes, IsS
 ghost use Rattle.wave_file.specs.Step.{IsLeft, IsStep};
 ghost use Rattle.wave_file.specs.StandsFor.{bytes_taken, format_in_decoding, may_end_before, no_decoding, AddsBlocks, AddsTaken};
 ghost use Rattle.wave_file.specs.StandsFor.{IsTold, StandsFor, StopsAt};
-ghost use Rattle.wave_file.specs.Wave.{end_fault_of, good, reading_of};
+ghost use Rattle.wave_file.specs.Wave.{end_fault_of, reading_of};
+ghost use Rattle.tc_io.specs.Verdict.{good};
 
 use crate::chunk::{Extent, Notes};
 use crate::fault::WaveFault;

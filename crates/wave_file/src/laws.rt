@@ -6,7 +6,8 @@ ghost use Rattle.wave_file.specs.declared.chunk.TheConstants as chunk;
 ghost use Rattle.wave_file.specs.declared.stage.TheConstants.{MAX_BYTES, MAX_SAMPLES};
 ghost use Rattle.wave_file.specs.GoesOn.{GoesOn, IsWithin};
 ghost use Rattle.wave_file.specs.StandsFor.{Decoding, StandsFor, IsDecoding, IsTold, format_in_decoding};
-ghost use Rattle.wave_file.specs.Wave.{good, reading_of};
+ghost use Rattle.wave_file.specs.Wave.{reading_of};
+ghost use Rattle.tc_io.specs.Verdict.{good};
 
 /// 2 to the 40th samples, and 2 to the 62nd bytes.
 pub fn the_limits_are_these()

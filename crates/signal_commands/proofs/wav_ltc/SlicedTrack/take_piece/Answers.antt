@@ -2,7 +2,8 @@ use Rattle.std.specs.Int.{w16}
 use Rattle.std.proofs.Common.{FitsSigned, rules, to_z-of_z, [], ◌∷◌, Option, take, refl, subst, ap, ◌∙◌}
 use Rattle.wave_file.specs.declared.format.WaveFormat.{WaveFormat}
 use Rattle.wave_file.specs.StandsFor.{IsTold}
-use Rattle.wave_file.specs.Wave.{good, reading_of}
+use Rattle.wave_file.specs.Wave.{reading_of}
+use Rattle.tc_io.specs.Verdict.{good}
 use Rattle.signal_commands.specs.KeptTrack.{pace_in}
 use Rattle.tc_command.specs.KeptWorks.{through}
 use Rattle.signal_commands.proofs.SlicedTracks.{Decodes, Slices, begun, fault_stop, gathered_stop, limit_stop, passed_on, slice_stop, sliced_on, ticks_fit}

@@ -4,7 +4,7 @@ use Rattle.wave_file.specs.StandsFor.{Decoding, StandsFor}
 use Rattle.wave_file.proofs.Decoding.{next_added, part_added, passed_added, told_piece, told_limit, told_bad, told_past}
 use Rattle.wave_file.proofs.decoder.WaveDecoder.take.Goals as goal
 use Rattle.std.proofs.lemmas.Int.{to_z-of_z}
-use Rattle.wave_file.specs.Wave.{refused, past_limit}
+use Rattle.tc_io.specs.Verdict.{refused, past_limit}
 
 pub returns-then-room-eq0-clause-stops : goal.returns-then-room-eq0-clause-stops
 returns-then-room-eq0-clause-stops c = λ front samples stands more.
