@@ -108,7 +108,8 @@ state_of Locked = states.Locked
 
 -- the report of a step
 abbrev pub report_of : Outcome → StepReport
-report_of outcome = record { state = state_of outcome.mode; error = outcome.error; order = outcome.order; loss = outcome.loss }
+report_of outcome =
+    record { state = state_of outcome.mode; error = outcome.error; order = outcome.order; loss = outcome.loss }
 
 -- the chase after a step
 abbrev pub chase_after : ChaseState → Outcome → ChaseState

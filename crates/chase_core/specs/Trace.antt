@@ -1,6 +1,7 @@
--- The closed loop: chase and transport take turns, a row a frame. First the chase steps, and then the transport moves by
--- its order and slips.
-use Rattle.std.specs.Prelude.{◌≡◌, ℕ, ◌*◌, ◌<◌, ◌≤◌, ℤ, pos, neg_ℤ, List, [], ◌∷◌, Option, Some, None, zero, suc, IfSome, slice_get, take}
+-- The closed loop: chase and transport take turns, a row a frame. First the chase steps, and then the transport moves
+-- by its order and slips.
+use Rattle.std.specs.Prelude.{◌≡◌, ℕ, ◌*◌, ◌<◌, ◌≤◌, ℤ, pos, neg_ℤ, List, [], ◌∷◌, Option, Some, None, zero, suc}
+use Rattle.std.specs.Prelude.{IfSome, slice_get, take}
 use Rattle.tc_address.specs.declared.count.Count.{Count}
 use Rattle.tc_address.specs.declared.direction.Direction.{Direction}
 use Rattle.tc_address.specs.declared.direction.Direction.TheVariants.{Forward, Backward}
@@ -48,7 +49,10 @@ transport_of loop = record { count = loop.chase.count; position = loop.position 
 -- the loop after a row: the chase after its step, and the transport after the move that the step orders
 abbrev pub after_row : Loop → Row → Loop
 after_row loop row = let outcome = outcome_in loop row in
-    record { chase = chase_after loop.chase outcome; position = (after_move (transport_of loop) outcome.order row.slip).position }
+    record {
+      chase = chase_after loop.chase outcome;
+      position = (after_move (transport_of loop) outcome.order row.slip).position;
+    }
 
 -- a line of the trace: the report of the step, and the position after the move
 pub record Traced : Type 0 where
@@ -76,7 +80,8 @@ frame_in Backward = neg_ℤ (pos 1)
 
 -- what a steady master reads one frame later: the label one further in its direction, modulo the day
 abbrev pub next_of : Count → Master → Master
-next_of count master = record { number = moved (day_length count) master.number (frame_in master.direction); direction = master.direction }
+next_of count master =
+    record { number = moved (day_length count) master.number (frame_in master.direction); direction = master.direction }
 
 -- the row after this one goes on steadily: no command, the master one frame further, and the transport slips within its
 -- bound between them
@@ -90,7 +95,8 @@ pub record GoesOn (count : Count) (row next : Row) : Type 0 where
 -- in a list of rows, each one from a first to a last goes on steadily to the next
 abbrev pub IsSteadyFromTo : Count → List Row → ℕ → ℕ → Type 0
 IsSteadyFromTo count rows first last =
-    (i : ℕ) (row next : Row) → first ≤ i → i < last → slice_get rows i ≡ Some row → slice_get rows (suc i) ≡ Some next → GoesOn count row next
+    (i : ℕ) (row next : Row) → first ≤ i → i < last → slice_get rows i ≡ Some row → slice_get rows (suc i) ≡ Some next
+    → GoesOn count row next
 
 -- the row's master reads a label of the count, if it reads one
 abbrev pub IsRowOf : Count → Row → Type 0
@@ -104,8 +110,8 @@ AreRowsOf count rows = (i : ℕ) (row : Row) → slice_get rows i ≡ Some row �
 abbrev pub loop_at : Loop → List Row → ℕ → Loop
 loop_at loop rows i = after_rows loop (take i rows)
 
--- how far a locked transport is from its master, so many rows after the first: the lock takes hold in the first row, the
--- order takes what is left of half a frame in two, and from then on the slip alone is left
+-- how far a locked transport is from its master, so many rows after the first: the lock takes hold in the first row,
+-- the order takes what is left of half a frame in two, and from then on the slip alone is left
 abbrev pub lock_bound : ℕ → ℕ
 lock_bound zero = 40
 lock_bound (suc zero) = 24

@@ -4,7 +4,8 @@ ghost use Rattle.tc_address.specs.Numbering.{day_length};
 ghost use Rattle.transport_model.specs.Move.{day_of};
 ghost use Rattle.chase_core.specs.declared.mode.Mode.TheVariants as modes;
 ghost use Rattle.chase_core.specs.declared.report.Loss.TheVariants.{NoCode, Window};
-ghost use Rattle.chase_core.specs.Step.{after_command, state_of, error_to, outcome_of, step_of, report_of, chase_after, IsCommandOf, IsModeOf};
+ghost use Rattle.chase_core.specs.Step.{after_command, state_of, error_to, outcome_of, step_of, report_of, chase_after};
+ghost use Rattle.chase_core.specs.Step.{IsCommandOf, IsModeOf};
 
 use crate::command::{Command, Master};
 use crate::mode::{Mode, after_command, state_of};

@@ -5,7 +5,8 @@ ghost use Rattle.chase_core.specs.declared.mode.Mode.TheVariants as modes;
 ghost use Rattle.chase_core.specs.declared.report.State.TheVariants as states;
 ghost use Rattle.chase_core.specs.NextRow.{ReadsOn};
 ghost use Rattle.chase_core.specs.Step.{after_command, error_to};
-ghost use Rattle.chase_core.specs.Trace.{Loop, Row, Traced, IsOnTheDay, AreRowsOf, IsSteadyFromTo, traced, trace, loop_at, lock_bound};
+ghost use Rattle.chase_core.specs.Trace.{Loop, Row, Traced, IsOnTheDay, AreRowsOf, IsSteadyFromTo, traced, trace};
+ghost use Rattle.chase_core.specs.Trace.{loop_at, lock_bound};
 
 /// A trace has a line for each row, that of the loop in which the row is worked.
 pub fn a_trace_has_a_line_for_each_row()

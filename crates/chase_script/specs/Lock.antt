@@ -1,5 +1,5 @@
--- What a builder of synchronisers may rely on, of the trace of a script: a locked chase stays locked, and pulling ends. A
--- subframe is the eightieth of a frame, so half a frame is 40 subframes.
+-- What a builder of synchronisers may rely on, of the trace of a script: a locked chase stays locked, and pulling
+-- ends. A subframe is the eightieth of a frame, so half a frame is 40 subframes.
 use Rattle.std.specs.Prelude.{◌≡◌, ℕ, ◌+◌, ◌-◌, ◌*◌, ◌≤◌, List, map, slice_get, Some, None, unsigned_abs}
 use Rattle.tc_address.specs.Label.{Address}
 use Rattle.chase_core.specs.declared.command.Master.{Master}
@@ -32,7 +32,8 @@ pub record KeepsItsLock (label : Address) (rows : List ScriptRow) : Type 0 where
   pub stays : (first last i : ℕ) (leaves line : Traced) → IsSteady label rows first last
       → slice_get (trace_from label rows) first ≡ Some leaves → leaves.report.state ≡ states.Locked
       → first ≤ i → i ≤ last → slice_get (trace_from label rows) i ≡ Some line
-      → (line.report.state ≡ states.Locked) × (line.report.loss ≡ None) × (unsigned_abs line.report.error ≤ lock_bound (i - first))
+      → (line.report.state ≡ states.Locked) × (line.report.loss ≡ None)
+      × (unsigned_abs line.report.error ≤ lock_bound (i - first))
   -- from an error of at most 40 + 1272·n subframes a chase that pulls is Locked n rows later, and loses nothing
   pub pulls : (row : Row) (master : Master) (first last n i : ℕ) (line : Traced) → IsSteady label rows first last
       → IsPulledAt label rows first row master → error_at label rows first master ≤ 40 + 1_272 * n

@@ -1,6 +1,7 @@
 -- The chase script: a text of comma-separated values, a record a row. The form is this project's own; the records are
 -- those of RFC 4180, as `csv` reads them.
-use Rattle.std.specs.Prelude.{ℕ, ◌<◌, ◌≤◌, ◌==◌, suc, Bool, ◌&&◌, List, [], ◌∷◌, length, Option, Some, None, Result, Ok, Err, if◌then◌else◌, nat_lt}
+use Rattle.std.specs.Prelude.{ℕ, ◌<◌, ◌≤◌, ◌==◌, suc, Bool, ◌&&◌, List, [], ◌∷◌, length, Option, Some, None, Result, Ok}
+use Rattle.std.specs.Prelude.{Err, if◌then◌else◌, nat_lt}
 use Rattle.std.specs.Prelude.{nat_le, codes}
 use Rattle.std.specs.Prelude.{ℤ, pos, neg_ℤ, unsigned_abs, IfSome}
 use Rattle.std.specs.Char.{is_ascii_digit}
@@ -69,7 +70,8 @@ direction_in word =
 
 -- a master that reads a label
 abbrev pub master_at : Option Address → Field → Judged (Option master.Master)
-master_at (Some label) direction = and_then (direction_in direction) (λ d. Ok (Some (record { number = number_of label; direction = d })))
+master_at (Some label) direction =
+    and_then (direction_in direction) (λ d. Ok (Some (record { number = number_of label; direction = d })))
 master_at None direction = Err columns.Master
 
 -- no master, and no direction
@@ -78,14 +80,16 @@ no_master direction = if is_empty direction then Ok None else Err columns.Direct
 
 -- columns 3 and 4: a label of the count and a direction, or neither
 abbrev pub master_in : Count → Field → Field → Judged (Option master.Master)
-master_in count label direction = if is_empty label then no_master direction else master_at (label_in count label) direction
+master_in count label direction =
+    if is_empty label then no_master direction else master_at (label_in count label) direction
 
 -- one to seven digits that write a number up to a million
 abbrev pub is_length : Field → Bool
 is_length digits = nat_lt 0 (length digits) && nat_le (length digits) 7 && list_all is_ascii_digit digits
 
 abbrev pub length_in : Field → Option ℕ
-length_in digits = if is_length digits && nat_le (digits_value 10 digits) 1_000_000 then Some (digits_value 10 digits) else None
+length_in digits =
+    if is_length digits && nat_le (digits_value 10 digits) 1_000_000 then Some (digits_value 10 digits) else None
 
 -- a number of subframes, if there is one
 abbrev pub slip_by : (ℕ → ℤ) → Option ℕ → Judged ℤ
@@ -95,7 +99,8 @@ slip_by sign None = Err columns.Slip
 -- column 5: empty for none, and else a number of subframes, behind a `-` where the transport falls back
 abbrev pub slip_in : Field → Judged ℤ
 slip_in [] = Ok (pos 0)
-slip_in (byte ∷ digits) = if byte == 45 then slip_by (λ n. neg_ℤ (pos n)) (length_in digits) else slip_by pos (length_in (byte ∷ digits))
+slip_in (byte ∷ digits) =
+    if byte == 45 then slip_by (λ n. neg_ℤ (pos n)) (length_in digits) else slip_by pos (length_in (byte ∷ digits))
 
 -- ---- a record
 

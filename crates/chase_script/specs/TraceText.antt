@@ -1,5 +1,6 @@
 -- The text of a trace, byte for byte: a line a row, and a last line. The form is this project's own.
-use Rattle.std.specs.Prelude.{ℕ, ◌+◌, ◌/◌, ◌%◌, Bool, true, false, List, [], ◌∷◌, ◌++◌, length, map, codes, decimal, slice_get, Option, Some, None}
+use Rattle.std.specs.Prelude.{ℕ, ◌+◌, ◌/◌, ◌%◌, Bool, true, false, List, [], ◌∷◌, ◌++◌, length, map, codes, decimal}
+use Rattle.std.specs.Prelude.{slice_get, Option, Some, None}
 use Rattle.std.specs.Fmt.{signed_decimal}
 use Rattle.std.specs.List.{count_by}
 use Rattle.tc_address.specs.declared.count.Count.{Count}
@@ -32,12 +33,14 @@ label_text (Some label) = text_of label
 
 -- a position: the label that it lies in, and the subframes behind the label's beginning
 abbrev pub position_text : Count → ℕ → List ℕ
-position_text count position = label_text (slice_get (labels count) (position / 80)) ++ codes "+" ++ two_digits (position % 80)
+position_text count position =
+    label_text (slice_get (labels count) (position / 80)) ++ codes "+" ++ two_digits (position % 80)
 
 -- the line of a step
 abbrev pub step_line : Count → ℕ → Traced → List ℕ
 step_line count step line =
-    codes "step " ++ decimal step ++ codes " " ++ state_name line.report.state ++ codes " error " ++ signed_decimal line.report.error
+    codes "step " ++ decimal step ++ codes " " ++ state_name line.report.state ++ codes " error "
+    ++ signed_decimal line.report.error
     ++ codes " order " ++ signed_decimal line.report.order ++ codes " loss " ++ loss_name line.report.loss
     ++ codes " at " ++ position_text count line.position ++ codes "\n"
 

@@ -4,7 +4,8 @@ ghost use Rattle.csv.specs.Records.{field_at, fields_of};
 ghost use Rattle.tc_address.specs.Numbering.{day_length};
 ghost use Rattle.tc_address.specs.Spelling.{label_in};
 ghost use Rattle.chase_core.specs.Step.{IsCommandOf};
-ghost use Rattle.chase_script.specs.Script.{row_in, row_of_fields, command_in, without_target, to_target, direction_in, master_in, no_master};
+ghost use Rattle.chase_script.specs.Script.{row_in, row_of_fields, command_in, without_target, to_target, direction_in};
+ghost use Rattle.chase_script.specs.Script.{master_in, no_master};
 ghost use Rattle.chase_script.specs.Script.{master_at, IsRowFor};
 
 use crate::column::Column;

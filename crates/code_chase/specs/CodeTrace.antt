@@ -1,6 +1,7 @@
--- The chase over recorded code: each frame of a recording is one step, its label is the master, and the slip is drawn by chance. The rule is this
--- project's own.
-use Rattle.std.specs.Prelude.{ℕ, ◌+◌, ◌*◌, ◌/◌, ◌%◌, ◌^◌, ℤ, pos, ◌-ℤ◌, if◌then◌else◌, List, [], ◌∷◌, fold, Option, Some, None}
+-- The chase over recorded code: each frame of a recording is one step, its label is the master, and the slip is drawn
+-- by chance. The rule is this project's own.
+use Rattle.std.specs.Prelude.{ℕ, ◌+◌, ◌*◌, ◌/◌, ◌%◌, ◌^◌, ℤ, pos, ◌-ℤ◌, if◌then◌else◌, List, [], ◌∷◌, fold, Option}
+use Rattle.std.specs.Prelude.{Some, None}
 use Rattle.tc_address.specs.declared.count.Count.{Count}
 use Rattle.tc_address.specs.declared.direction.Direction.{Direction}
 use Rattle.tc_address.specs.Label.{Address}
@@ -31,7 +32,8 @@ slip_of bound value = pos (value / 2 ^ 33 % (2 * bound + 1)) -ℤ pos bound
 
 -- the row of a frame, where this command comes and this value was drawn
 abbrev pub row_of : Count → ℕ → Option Command → ℕ → Frame → Row
-row_of count bound command value frame = record { command = command; master = master_of count frame; slip = slip_of bound value }
+row_of count bound command value frame =
+    record { command = command; master = master_of count frame; slip = slip_of bound value }
 
 -- the rows of frames, with a draw each: the first has the command, and the others have none
 unfoldable pub rows_from : Count → ℕ → ℕ → Option Command → List Frame → List Row
@@ -49,7 +51,8 @@ code_trace label seed bound frames = trace (starts_at label) (rows_of label.coun
 
 -- ---- step by step
 
--- a chase over recorded code: the chase and its transport, the command of the next step, the generator's state, and the bound of the slip
+-- a chase over recorded code: the chase and its transport, the command of the next step, the generator's state, and
+-- the bound of the slip
 pub record CodeLoop : Type 0 where
   pub loop : Loop
   pub command : Option Command
@@ -67,7 +70,12 @@ next_row chase frame = row_of chase.loop.chase.count chase.bound chase.command (
 -- the chase after it
 abbrev pub after_frame : CodeLoop → Frame → CodeLoop
 after_frame chase frame =
-    record { loop = after_row chase.loop (next_row chase frame); command = None; state = drawn chase.state; bound = chase.bound }
+    record {
+      loop = after_row chase.loop (next_row chase frame);
+      command = None;
+      state = drawn chase.state;
+      bound = chase.bound;
+    }
 
 -- and after frames
 abbrev pub after_frames : CodeLoop → List Frame → CodeLoop

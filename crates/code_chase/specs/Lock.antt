@@ -32,12 +32,14 @@ IsApart (Gone tick) = ⊥
 abbrev pub BringsNoCode : Count → Frame → Type 0
 BringsNoCode count frame = IsGone frame ⊎ HasOtherCount count frame
 
--- the transport slipped by 25 subframes or more: after a step at most 16 are left of the error, and 16 and 24 are 40, the window
+-- the transport slipped by 25 subframes or more: after a step at most 16 are left of the error, and 16 and 24 are 40,
+-- the window
 abbrev pub SlippedFar : Row → Type 0
 SlippedFar row = 25 ≤ unsigned_abs row.slip
 
--- what a loss comes of, at a frame and behind the row before it: the loss of no code, of a frame that brings none; and that of the window, of a
--- frame that brings code, where it does not join the one before it, or where the transport slipped far in the step before
+-- what a loss comes of, at a frame and behind the row before it: the loss of no code, of a frame that brings none; and
+-- that of the window, of a frame that brings code, where it does not join the one before it, or where the transport
+-- slipped far in the step before
 abbrev pub IsCauseOf : Loss → Count → Frame → Row → Type 0
 IsCauseOf NoCode count frame before = BringsNoCode count frame
 IsCauseOf (Window error) count frame before = (¬ BringsNoCode count frame) × (IsApart frame ⊎ SlippedFar before)

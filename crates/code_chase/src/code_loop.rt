@@ -29,7 +29,12 @@ impl Model for CodeChase {
 
     ghost Value = { CodeLoop };
 
-    ghost view = { λ c. record { loop = c.place; command = cond c.has_begun None (Some Play); state = c.generator; bound = c.bound } };
+    ghost view = { λ c. record {
+      loop = c.place;
+      command = cond c.has_begun None (Some Play);
+      state = c.generator;
+      bound = c.bound;
+    } };
 
     ghost invariant = { λ c. (c.place.chase.count ≡ c.count) × (c.bound ≤ 1_000) × (c.place.position < day_of c.place.chase.count) };
 }

@@ -1,5 +1,6 @@
 //! What follows from the tables of frames, chase and transport alone.
-ghost use Rattle.std.specs.Prelude.{◌≡◌, ℕ, suc, ◌-◌, ◌≤◌, List, [], ◌∷◌, ◌++◌, length, slice_get, Some, None, unsigned_abs};
+ghost use Rattle.std.specs.Prelude.{◌≡◌, ℕ, suc, ◌-◌, ◌≤◌, List, [], ◌∷◌, ◌++◌, length, slice_get, Some, None};
+ghost use Rattle.std.specs.Prelude.{unsigned_abs};
 ghost use Rattle.chase_core.specs.declared.report.State.TheVariants as states;
 ghost use Rattle.chase_core.specs.declared.report.Loss.{Loss};
 ghost use Rattle.chase_core.specs.declared.report.Loss.TheVariants as losses;

@@ -1,6 +1,8 @@
--- The frames of the words that were heard up to a tick: each word is heard, and between two neighbouring words, and after the last, frames are
--- invented up to a limit. A word's length is that of a frame. The rule is this project's own.
-use Rattle.std.specs.Prelude.{ℕ, ◌+◌, ◌-◌, ◌*◌, Bool, true, false, not, ◌&&◌, nat_le, cond, ℤ, pos, neg_ℤ, List, [], ◌∷◌, ◌++◌, length, map}
+-- The frames of the words that were heard up to a tick: each word is heard, and between two neighbouring words, and
+-- after the last, frames are invented up to a limit. A word's length is that of a frame. The rule is this project's
+-- own.
+use Rattle.std.specs.Prelude.{ℕ, ◌+◌, ◌-◌, ◌*◌, Bool, true, false, not, ◌&&◌, nat_le, cond, ℤ, pos, neg_ℤ, List, []}
+use Rattle.std.specs.Prelude.{◌∷◌, ◌++◌, length, map}
 use Rattle.std.specs.List.{filter, range_with_len}
 use Rattle.tc_address.specs.declared.count.Count.{Count}
 use Rattle.tc_address.specs.declared.count.Count.TheVariants.{C24, C25, C30, Drop30}
@@ -41,10 +43,12 @@ is_gone limit word tick = is_due word (limit + 1) tick
 abbrev pub invented_after : HeardWord → ℕ → Frame
 invented_after word k = Invented (label_after word k) word.direction k (tick_after word k)
 
--- what follows a word up to a tick, where no other word is heard: the invented frames, and where more is due than the limit, the end
+-- what follows a word up to a tick, where no other word is heard: the invented frames, and where more is due than the
+-- limit, the end
 abbrev pub frames_between : ℕ → HeardWord → ℕ → List Frame
 frames_between limit word tick =
-    map (invented_after word) (due_steps limit word tick) ++ cond (is_gone limit word tick) (Gone (tick_after word (limit + 1)) ∷ []) []
+    map (invented_after word) (due_steps limit word tick)
+    ++ cond (is_gone limit word tick) (Gone (tick_after word (limit + 1)) ∷ []) []
 
 abbrev pub is_same_direction : Direction → Direction → Bool
 is_same_direction Forward Forward = true
@@ -64,7 +68,8 @@ is_same_label a b = is_same_count a.count b.count && is_same_time a b
 
 -- a word has the direction of the word before, and the count and label that lie k steps after it
 abbrev pub is_next : HeardWord → ℕ → HeardWord → Bool
-is_next before k word = is_same_direction before.direction word.direction && is_same_label (label_after before k) word.label
+is_next before k word =
+    is_same_direction before.direction word.direction && is_same_label (label_after before k) word.label
 
 -- a word joins the word before: what was due between them is within the limit, and the word is the next after it
 abbrev pub is_joined : ℕ → HeardWord → HeardWord → Bool

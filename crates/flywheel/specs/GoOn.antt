@@ -1,4 +1,5 @@
--- How a frame goes on from the one before it: an invented frame and a joined one have the next label in the same direction.
+-- How a frame goes on from the one before it: an invented frame and a joined one have the next label in the same
+-- direction.
 use Rattle.std.specs.Prelude.{◌≡◌, Bool, true, false, List, [], ◌∷◌, Option, Some, None}
 use Rattle.tc_address.specs.declared.direction.Direction.{Direction}
 use Rattle.tc_address.specs.Label.{Address}
@@ -30,7 +31,8 @@ goes_on (Gone tick) = false
 
 -- where the frame goes on, there is a place before it, and it stands one frame further
 abbrev pub Follows : Option Position → Frame → Type 0
-Follows before frame = goes_on frame ≡ true → (place : Position) × (before ≡ Some place) × (position_of frame ≡ Some (next_position place))
+Follows before frame =
+    goes_on frame ≡ true → (place : Position) × (before ≡ Some place) × (position_of frame ≡ Some (next_position place))
 
 -- each frame that goes on follows the one before it, where a place or none stands before the first
 abbrev pub GoOn : Option Position → List Frame → Type 0

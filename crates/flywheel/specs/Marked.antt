@@ -12,7 +12,8 @@ use Rattle.flywheel.specs.declared.frame.Frame.TheVariants.{Heard, Invented, Gon
 abbrev pub AreMarked : ℕ → Option ℕ → List Frame → Type 0
 AreMarked limit since [] = Unit {0}
 AreMarked limit since (Heard label direction joined tick ∷ more) = AreMarked limit (Some 0) more
-AreMarked limit (Some n) (Invented label direction step tick ∷ more) = (step ≡ n + 1) × (step ≤ limit) × AreMarked limit (Some (n + 1)) more
+AreMarked limit (Some n) (Invented label direction step tick ∷ more) =
+    (step ≡ n + 1) × (step ≤ limit) × AreMarked limit (Some (n + 1)) more
 AreMarked limit None (Invented label direction step tick ∷ more) = ⊥
 AreMarked limit (Some n) (Gone tick ∷ more) = (n ≡ limit) × AreMarked limit None more
 AreMarked limit None (Gone tick ∷ more) = ⊥

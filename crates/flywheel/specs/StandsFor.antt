@@ -26,7 +26,8 @@ pub record HasGivenUp (limit : ℕ) (words : List HeardWord) (tick : ℕ) (given
   pub earlier : List HeardWord
   pub word : HeardWord
   pub told : words ≡ earlier ++ word ∷ []
-  pub given_are : given ≡ frames limit words word.tick ++ (first_invented word limit ++ Gone (tick_after word (limit + 1)) ∷ [])
+  pub given_are : given ≡ frames limit words word.tick
+      ++ (first_invented word limit ++ Gone (tick_after word (limit + 1)) ∷ [])
   pub least : 1 ≤ word.length
   pub due : is_due word (limit + 1) tick ≡ true
 

@@ -30,7 +30,8 @@ pub fn a_frame_that_goes_on_is_the_next()
 
 /// The steps up to the limit that are due are the first ones, as many as there are.
 pub fn steps_are_due_in_order()
-    ensures first { (limit tick : ℕ) (word : HeardWord) → due_steps limit word tick ≡ range_with_len 1 (length (due_steps limit word tick)) }
+    ensures first { (limit tick : ℕ) (word : HeardWord)
+        → due_steps limit word tick ≡ range_with_len 1 (length (due_steps limit word tick)) }
     ensures due { (limit tick k : ℕ) (word : HeardWord) → 1 ≤ k → k ≤ limit
         → (k ≤ length (due_steps limit word tick)) ↔ (is_due word k tick ≡ true) }
 {}

@@ -27,8 +27,10 @@ abbrev pub with_item : Recording → Taken → Recording
 with_item r Nothing = r
 with_item r (Header header) = record r { header = with_header r.header header }
 with_item r (Interval x) =
-    if nat_lt (length r.intervals) MAX_INTERVALS then record r { intervals = r.intervals ++ x ∷ [] } else record r { verdict = past_limit }
-with_item r (Fault first) = record r { verdict = if nat_lt (length r.intervals) MAX_INTERVALS then refused first else past_limit }
+    if nat_lt (length r.intervals) MAX_INTERVALS then record r { intervals = r.intervals ++ x ∷ [] }
+    else record r { verdict = past_limit }
+with_item r (Fault first) =
+    record r { verdict = if nat_lt (length r.intervals) MAX_INTERVALS then refused first else past_limit }
 
 -- behind a fault or the limit nothing is looked at
 abbrev pub with_taken : Recording → Taken → Recording
@@ -48,7 +50,8 @@ no_decoding = record { progress = no_progress; recording = no_recording }
 
 -- with one byte more
 abbrev pub with_byte : Decoding → ℕ → Decoding
-with_byte d byte = record { progress = after d.progress byte; recording = with_taken d.recording (answer d.progress byte) }
+with_byte d byte =
+    record { progress = after d.progress byte; recording = with_taken d.recording (answer d.progress byte) }
 
 abbrev pub decoding_of : List ℕ → Decoding
 decoding_of bytes = fold with_byte no_decoding bytes

@@ -2,7 +2,8 @@
 use Rattle.std.specs.Prelude.{ℕ, List}
 use Rattle.interval_file.specs.declared.names.TheConstants as names
 use Rattle.interval_file.specs.declared.fault.IntervalFileFault.{IntervalFileFault}
-use Rattle.interval_file.specs.declared.fault.IntervalFileFault.TheVariants.{Magic, Version, System, Reserved, TickRate, Interval, Truncated}
+use Rattle.interval_file.specs.declared.fault.IntervalFileFault.TheVariants.{Magic, Version, System, Reserved, TickRate}
+use Rattle.interval_file.specs.declared.fault.IntervalFileFault.TheVariants.{Interval, Truncated}
 
 -- the name that notes print
 abbrev pub name_of : IntervalFileFault → List ℕ

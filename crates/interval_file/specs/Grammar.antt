@@ -1,13 +1,16 @@
--- The interval file as a whole text: a header, and then the bytes of each interval, one after another. And what any list of bytes says: it is a file, or
--- it has a first fault. Its pieces are the first eight bytes one by one, the tick rate, and each interval. The first whole piece that may not stand is the
--- fault; where there is none, and the bytes end before byte 12 or inside an interval, the text is truncated.
-use Rattle.std.specs.Prelude.{◌≡◌, ⊤, ◌≤◌, ◌<◌, ℕ, ◌+◌, List, [], ◌∷◌, ◌++◌, length, take, drop, slice_index, Bool, true, false, Option, Some, None}
+-- The interval file as a whole text: a header, and then the bytes of each interval, one after another. And what any
+-- list of bytes says: it is a file, or it has a first fault. Its pieces are the first eight bytes one by one, the tick
+-- rate, and each interval. The first whole piece that may not stand is the fault; where there is none, and the bytes
+-- end before byte 12 or inside an interval, the text is truncated.
+use Rattle.std.specs.Prelude.{◌≡◌, ⊤, ◌≤◌, ◌<◌, ℕ, ◌+◌, List, [], ◌∷◌, ◌++◌, length, take, drop, slice_index, Bool}
+use Rattle.std.specs.Prelude.{true, false, Option, Some, None}
 use Rattle.std.specs.Prelude.{is_some, nat_lt, ◌==◌, if◌then◌else◌}
 use Rattle.std.specs.List.{flat_map}
 use Rattle.byteorder.specs.Endian.{big_number}
 use Rattle.biphase.specs.declared.cell.TheConstants.{MAX_INTERVAL}
 use Rattle.interval_file.specs.declared.fault.IntervalFileFault.{IntervalFileFault}
-use Rattle.interval_file.specs.declared.fault.IntervalFileFault.TheVariants.{Magic, Version, System, Reserved, TickRate, Interval, Truncated}
+use Rattle.interval_file.specs.declared.fault.IntervalFileFault.TheVariants.{Magic, Version, System, Reserved, TickRate}
+use Rattle.interval_file.specs.declared.fault.IntervalFileFault.TheVariants.{Interval, Truncated}
 use Rattle.interval_file.specs.declared.header.FileVersion.{FileVersion}
 use Rattle.interval_file.specs.declared.header.IntervalHeader.{IntervalHeader}
 use Rattle.interval_file.specs.declared.header.TheConstants.{MAGIC, HEADER_LENGTH, HEAD_LENGTH}
@@ -83,11 +86,13 @@ IsHeaderFault (Truncated place) bytes = (place ≡ length bytes) × EndsInHeader
 abbrev pub InRange : FileVersion → List ℕ → Type 0
 InRange version bytes = (least_in version bytes ≤ ticks_in version bytes) × (ticks_in version bytes ≤ MAX_INTERVAL)
 
--- the fault of the bytes behind the header and whole intervals, the first of which stands at a place: their first interval is whole and out of range, or
--- they end inside it
+-- the fault of the bytes behind the header and whole intervals, the first of which stands at a place: their first
+-- interval is whole and out of range, or they end inside it
 abbrev pub IsRestFault : FileVersion → ℕ → List ℕ → IntervalFileFault → Type 0
-IsRestFault version place rest (Interval first) = (first ≡ place) × (piece_width version rest ≤ length rest) × ¬ InRange version rest
-IsRestFault version place rest (Truncated end) = (end ≡ place + length rest) × (0 < length rest) × (length rest < piece_width version rest)
+IsRestFault version place rest (Interval first) =
+    (first ≡ place) × (piece_width version rest ≤ length rest) × ¬ InRange version rest
+IsRestFault version place rest (Truncated end) =
+    (end ≡ place + length rest) × (0 < length rest) × (length rest < piece_width version rest)
 IsRestFault version place rest _ = ⊥
 
 -- the bytes begin with the file of this header and these intervals, and behind it stands their first fault
@@ -100,7 +105,8 @@ pub record IsFaulty (bytes : List ℕ) (header : IntervalHeader) (intervals : Li
 
 -- ---- any list of bytes
 
--- what bytes say: a file, by its header and its intervals; a fault, and no header before it; or a header, intervals, and a fault behind them
+-- what bytes say: a file, by its header and its intervals; a fault, and no header before it; or a header, intervals,
+-- and a fault behind them
 pub data Contents : Type 0 where
   file : IntervalHeader → List ℕ → Contents
   no_header : IntervalFileFault → Contents

@@ -1,5 +1,6 @@
 -- The interval file, byte by byte: what each completes, and the first fault.
-use Rattle.std.specs.Prelude.{⊤, ◌≡◌, ◌≢◌, ◌<◌, ◌≤◌, ℕ, ◌+◌, ◌-◌, ◌%◌, List, [], ◌∷◌, ◌++◌, length, slice_index, Bool, Option, Some, None, Result, Ok}
+use Rattle.std.specs.Prelude.{⊤, ◌≡◌, ◌≢◌, ◌<◌, ◌≤◌, ℕ, ◌+◌, ◌-◌, ◌%◌, List, [], ◌∷◌, ◌++◌, length, slice_index, Bool}
+use Rattle.std.specs.Prelude.{Option, Some, None, Result, Ok}
 use Rattle.std.specs.Prelude.{Err, nat_lt, nat_le, ◌==◌, ◌&&◌, is_some, fold, if◌then◌else◌}
 use Rattle.byteorder.specs.Endian.{big_number}
 use Rattle.tc_address.specs.declared.system.System.{System}
@@ -31,7 +32,8 @@ head_answer place byte =
 abbrev pub header_answer : FileVersion → Option System → ℕ → Taken
 header_answer version None rate = Fault (fault.TickRate HEAD_LENGTH)
 header_answer version (Some system) rate =
-    if nat_le 1 rate && nat_le rate MAX_TICK_RATE then Header (record { version = version; system = system; tick_rate = rate })
+    if nat_le 1 rate && nat_le rate MAX_TICK_RATE
+    then Header (record { version = version; system = system; tick_rate = rate })
     else Fault (fault.TickRate HEAD_LENGTH)
 
 -- the interval, or its fault
@@ -41,7 +43,8 @@ interval_answer (Err first) = Fault first
 
 -- whether the piece is whole whose last byte stands at a place: the tick rate has four bytes
 abbrev pub is_whole : ℕ → FileVersion → List ℕ → Bool
-is_whole place version piece = nat_le (if nat_lt place HEADER_LENGTH then 4 else piece_width version piece) (length piece)
+is_whole place version piece =
+    nat_le (if nat_lt place HEADER_LENGTH then 4 else piece_width version piece) (length piece)
 
 -- what a whole piece says
 abbrev pub piece_answer : ℕ → FileVersion → Option System → List ℕ → Taken
@@ -62,7 +65,8 @@ kept_part place version piece = if is_whole place version piece then [] else pie
 abbrev pub answer : Progress → ℕ → Taken
 answer p byte = elim p.fault [
   | Some first ↦ Fault first
-  | None ↦ if nat_lt p.taken HEAD_LENGTH then head_answer p.taken byte else whole_answer p.taken p.version p.system (p.part ++ byte ∷ [])
+  | None ↦ if nat_lt p.taken HEAD_LENGTH then head_answer p.taken byte
+      else whole_answer p.taken p.version p.system (p.part ++ byte ∷ [])
 ]
 
 -- the fault in an answer
@@ -97,8 +101,8 @@ end p = elim p.fault [
   | None ↦ if nat_le HEADER_LENGTH p.taken && (length p.part == 0) then Ok tt else Err (fault.Truncated p.taken)
 ]
 
--- with how many bytes each fault is found: a byte of the first eight at once, the tick rate with the header, and an interval, which begins where one may,
--- with its last byte. In version 2 it has six: two hold no number out of range
+-- with how many bytes each fault is found: a byte of the first eight at once, the tick rate with the header, and an
+-- interval, which begins where one may, with its last byte. In version 2 it has six: two hold no number out of range
 abbrev pub FoundAt : FileVersion → IntervalFileFault → ℕ → Type 0
 FoundAt version (fault.Magic place) taken = (place < 4) × (taken ≡ place + 1)
 FoundAt version (fault.Version place) taken = (place ≡ 4) × (taken ≡ 5)
@@ -117,7 +121,8 @@ MayBeInside Two taken = ⊤
 abbrev pub CompletesAt : FileVersion → Taken → ℕ → Type 0
 CompletesAt version Nothing taken = (taken ≢ HEADER_LENGTH) × (HEADER_LENGTH < taken → MayBeInside version taken)
 CompletesAt version (Header header) taken = (taken ≡ HEADER_LENGTH) × IsTickRate header.tick_rate
-CompletesAt version (Interval ticks) taken = (HEADER_LENGTH < taken) × MayBeWhole version taken × (1 ≤ ticks) × (ticks ≤ MAX_INTERVAL)
+CompletesAt version (Interval ticks) taken =
+    (HEADER_LENGTH < taken) × MayBeWhole version taken × (1 ≤ ticks) × (ticks ≤ MAX_INTERVAL)
 CompletesAt version (Fault first) taken = FoundAt version first taken
 
 -- the progress of bytes, one after another

@@ -35,4 +35,5 @@ system_at byte =
 
 -- the bytes of a header
 abbrev pub header_bytes : IntervalHeader → List ℕ
-header_bytes header = MAGIC ++ version_byte header.version ∷ rate_of header.system ∷ 0 ∷ 0 ∷ big_bytes 4 header.tick_rate
+header_bytes header =
+    MAGIC ++ version_byte header.version ∷ rate_of header.system ∷ 0 ∷ 0 ∷ big_bytes 4 header.tick_rate

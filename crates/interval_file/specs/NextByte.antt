@@ -1,6 +1,8 @@
--- What the next byte of an interval file brings to what its bytes say, each time as a whole text: nothing yet, the header, an interval, or the fault of a
--- whole piece; and what the next bytes behind a file bring. So the decoder's answers speak of the text.
-use Rattle.std.specs.Prelude.{◌≡◌, ◌⊎◌, ◌≤◌, ℕ, ◌+◌, List, [], ◌∷◌, ◌++◌, length, take, Option, Some, None, Result, Ok, Err}
+-- What the next byte of an interval file brings to what its bytes say, each time as a whole text: nothing yet, the
+-- header, an interval, or the fault of a whole piece; and what the next bytes behind a file bring. So the decoder's
+-- answers speak of the text.
+use Rattle.std.specs.Prelude.{◌≡◌, ◌⊎◌, ◌≤◌, ℕ, ◌+◌, List, [], ◌∷◌, ◌++◌, length, take, Option, Some, None, Result, Ok}
+use Rattle.std.specs.Prelude.{Err}
 use Rattle.interval_file.specs.declared.fault.IntervalFileFault.{IntervalFileFault}
 use Rattle.interval_file.specs.declared.fault.IntervalFileFault.TheVariants.{Truncated}
 use Rattle.interval_file.specs.declared.decoder.Taken.{Taken}
@@ -35,18 +37,22 @@ piece_fault_in (faulty header intervals fault) = staying fault
 
 -- what a byte brings to a text that said the one before it, and says the other with it
 abbrev pub Brings : Taken → Contents → Contents → Type 0
-Brings Nothing before now = (header_in now ≡ header_in before) × (intervals_in now ≡ intervals_in before) × (piece_fault_in now ≡ None)
+Brings Nothing before now =
+    (header_in now ≡ header_in before) × (intervals_in now ≡ intervals_in before) × (piece_fault_in now ≡ None)
 Brings (Header header) before now =
     (header_in before ≡ None) × (header_in now ≡ Some header) × (intervals_in now ≡ []) × (piece_fault_in now ≡ None)
 Brings (Interval x) before now =
-    (header_in now ≡ header_in before) × (intervals_in now ≡ intervals_in before ++ x ∷ []) × (piece_fault_in now ≡ None)
+    (header_in now ≡ header_in before) × (intervals_in now ≡ intervals_in before ++ x ∷ [])
+    × (piece_fault_in now ≡ None)
 Brings (Fault first) before now = piece_fault_in now ≡ Some first
 
--- what more bytes bring that stand behind the file of this header and these intervals: no whole interval, as they are none or end inside one; an interval
--- of so many bytes; or one that is out of range
+-- what more bytes bring that stand behind the file of this header and these intervals: no whole interval, as they are
+-- none or end inside one; an interval of so many bytes; or one that is out of range
 abbrev pub BringNext : List ℕ → IntervalHeader → List ℕ → List ℕ → Next → Type 0
-BringNext front header intervals bytes Short = (bytes ≡ []) ⊎ IsFaulty (front ++ bytes) header intervals (Truncated (length front + length bytes))
-BringNext front header intervals bytes (Next.Interval x width) = (width ≤ length bytes) × IsFile (front ++ take width bytes) header (intervals ++ x ∷ [])
+BringNext front header intervals bytes Short =
+    (bytes ≡ []) ⊎ IsFaulty (front ++ bytes) header intervals (Truncated (length front + length bytes))
+BringNext front header intervals bytes (Next.Interval x width) =
+    (width ≤ length bytes) × IsFile (front ++ take width bytes) header (intervals ++ x ∷ [])
 BringNext front header intervals bytes (Next.Fault first) = IsFaulty (front ++ bytes) header intervals first
 
 -- what the end of the input answers to a text: its fault, if it is no interval file

@@ -1,4 +1,5 @@
--- The bytes of an interval, in each version of the file. A number is the sum of its bytes by their weights, the most significant one first.
+-- The bytes of an interval, in each version of the file. A number is the sum of its bytes by their weights, the most
+-- significant one first.
 use Rattle.std.specs.Prelude.{◌≡◌, ◌%◌, ℕ, List, ◌∷◌, drop, nat_le, nat_lt, ◌==◌, ◌&&◌, Result, Ok, Err, if◌then◌else◌}
 use Rattle.byteorder.specs.Endian.{big_bytes, big_number}
 use Rattle.biphase.specs.declared.cell.TheConstants.{MAX_INTERVAL}
@@ -8,7 +9,8 @@ use Rattle.interval_file.specs.declared.header.FileVersion.{FileVersion}
 use Rattle.interval_file.specs.declared.header.FileVersion.TheVariants.{One, Two}
 use Rattle.interval_file.specs.declared.piece.TheConstants.{LEAST_LONG}
 
--- how many bytes the interval has that begins with these: four in version 1; in version 2 six where the first two are 0, and else two
+-- how many bytes the interval has that begins with these: four in version 1; in version 2 six where the first two are
+-- 0, and else two
 abbrev pub piece_width : FileVersion → List ℕ → ℕ
 piece_width One bytes = 4
 piece_width Two bytes = if big_number 2 bytes == 0 then 6 else 2
@@ -36,7 +38,8 @@ least_in Two bytes = if big_number 2 bytes == 0 then LEAST_LONG else 1
 -- the interval that begins at a place with these bytes, or its fault
 abbrev pub interval_in : FileVersion → ℕ → List ℕ → Result ℕ IntervalFileFault
 interval_in version place bytes =
-    if nat_le (least_in version bytes) (ticks_in version bytes) && nat_le (ticks_in version bytes) MAX_INTERVAL then Ok (ticks_in version bytes)
+    if nat_le (least_in version bytes) (ticks_in version bytes) && nat_le (ticks_in version bytes) MAX_INTERVAL
+    then Ok (ticks_in version bytes)
     else Err (fault.Interval place)
 
 -- the bytes that a recorder writes for an interval

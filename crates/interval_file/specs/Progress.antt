@@ -15,8 +15,8 @@ pub record Progress : Type 0 where
   pub part : List ℕ
   pub fault : Option IntervalFileFault
 
--- an interval may begin at a place, and the bytes may end there: at the end of the header, in version 1 at each multiple of four behind it, and in
--- version 2 at each even number
+-- an interval may begin at a place, and the bytes may end there: at the end of the header, in version 1 at each
+-- multiple of four behind it, and in version 2 at each even number
 abbrev pub IsBoundary : FileVersion → ℕ → Type 0
 IsBoundary version place = (HEADER_LENGTH ≤ place) × MayBeWhole version place
 

@@ -38,7 +38,8 @@ within_limit header intervals whole verdict = record {
 abbrev pub read_of : Contents → Recording
 read_of (file header intervals) = within_limit header intervals (length intervals) good
 read_of (no_header fault) = record { header = None; intervals = []; verdict = shown fault }
-read_of (faulty header intervals fault) = within_limit header intervals (length intervals + whole_in fault) (shown fault)
+read_of (faulty header intervals fault) =
+    within_limit header intervals (length intervals + whole_in fault) (shown fault)
 
 -- what is read of bytes
 unfoldable pub recording_of : List ℕ → Recording

@@ -1,5 +1,6 @@
 //! The decoder of an interval file. Next: `interval_commands/src/ltc_read.rt`.
-ghost use Rattle.std.specs.Prelude.{◌≡◌, ◌↔◌, List, ◌<◌, ◌≤◌, ◌^◌, ◌*◌, ◌++◌, ◌+◌, [], ◌∷◌, length, IfErr, IfNone, OnOk, IsTrue, ℕ, ◌-◌, ◌==◌, None};
+ghost use Rattle.std.specs.Prelude.{◌≡◌, ◌↔◌, List, ◌<◌, ◌≤◌, ◌^◌, ◌*◌, ◌++◌, ◌+◌, [], ◌∷◌, length, IfErr, IfNone};
+ghost use Rattle.std.specs.Prelude.{OnOk, IsTrue, ℕ, ◌-◌, ◌==◌, None};
 ghost use Rattle.std.specs.Prelude.{if◌then◌else◌};
 ghost use Rattle.arrayvec.specs.ArrayVec.{array_vec_len};
 ghost use Rattle.interval_file.specs.IntervalFile.{
@@ -78,7 +79,13 @@ impl Model for IntervalDecoder {
 
     ghost Value = { Progress };
 
-    ghost view = { λ d. record { taken = d.taken; version = d.version; system = d.system; part = d.part.items; fault = d.fault } };
+    ghost view = { λ d. record {
+      taken = d.taken;
+      version = d.version;
+      system = d.system;
+      part = d.part.items;
+      fault = d.fault;
+    } };
 
     ghost invariant = { λ d. IsProgress d.taken d.version d.part.items };
 }
@@ -113,7 +120,8 @@ impl IntervalDecoder {
         // For each list of bytes that the decoder stands for, it stands for the list with the byte, and
         // the answer is what the byte brings to the text that these bytes are, and nothing else.
         ensures stands { (bytes : List ℕ) → self.old ≡ progress_of bytes → self.new ≡ progress_of (bytes ++ byte ∷ []) }
-        ensures text { (bytes : List ℕ) (before now : Contents) (taken : Taken) → self.old ≡ progress_of bytes → AreBytes bytes
+        ensures text { (bytes : List ℕ) (before now : Contents) (taken : Taken) → self.old ≡ progress_of bytes
+            → AreBytes bytes
             → Says before bytes → Says now (bytes ++ byte ∷ []) → (result ≡ taken ↔ Brings taken before now) }
     {
         match self.fault {
@@ -195,7 +203,8 @@ impl IntervalDecoder {
         ensures answers { result ≡ end self.now }
         // The input may end after the header or after any interval, and is else cut off where it ends.
         ensures whole { OnOk result (IsBoundary self.now.version self.now.taken) }
-        ensures cut_off { IfNone self.now.fault (IfErr result (λ first. first ≡ IntervalFileFault.Truncated self.now.taken)) }
+        ensures cut_off { IfNone self.now.fault
+            (IfErr result (λ first. first ≡ IntervalFileFault.Truncated self.now.taken)) }
 
         // For each list of bytes that the decoder stands for: whether it is an interval file, or its fault.
         ensures text { (bytes : List ℕ) (contents : Contents) → self.now ≡ progress_of bytes → Says contents bytes

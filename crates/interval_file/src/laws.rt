@@ -48,10 +48,13 @@ pub fn each_list_of_bytes_says_one_thing()
 /// first fault. The fault at the end is the first fault of the whole text. So an input that a command
 /// takes whole is a file within the limit.
 pub fn bytes_are_read_as_the_text_says()
-    ensures recording { (bytes : List ℕ) (contents : Contents) → Says contents bytes → recording_of bytes ≡ read_of contents }
-    ensures fault { (bytes : List ℕ) (contents : Contents) → Says contents bytes → end_fault_of bytes ≡ fault_of contents }
+    ensures recording { (bytes : List ℕ) (contents : Contents) → Says contents bytes
+        → recording_of bytes ≡ read_of contents }
+    ensures fault { (bytes : List ℕ) (contents : Contents) → Says contents bytes
+        → end_fault_of bytes ≡ fault_of contents }
     ensures input { (bytes : List ℕ) → AreBytes bytes → (recording_of bytes).verdict ≡ good → end_fault_of bytes ≡ None
-        → (header : IntervalHeader) × (intervals : List ℕ) × IsFile bytes header intervals × (length intervals ≤ MAX_INTERVALS) }
+        → (header : IntervalHeader) × (intervals : List ℕ) × IsFile bytes header intervals
+        × (length intervals ≤ MAX_INTERVALS) }
 {}
 
 /// The decoder's steps make of bytes what is read of them, and it ends with their fault.
@@ -64,9 +67,11 @@ pub fn the_decoder_reads_what_is_said()
 pub fn a_file_is_read_as_it_was_written()
     ensures read { (bytes : List ℕ) (header : IntervalHeader) (intervals : List ℕ) → IsFile bytes header intervals
         → length intervals ≤ MAX_INTERVALS
-        → (recording_of bytes ≡ record { header = Some header; intervals = intervals; verdict = good }) × (end_fault_of bytes ≡ None) }
+        → (recording_of bytes ≡ record { header = Some header; intervals = intervals; verdict = good })
+        × (end_fault_of bytes ≡ None) }
     ensures one_text { (a b : List ℕ) (header : IntervalHeader) (intervals : List ℕ) → IsFile a header intervals
         → IsFile b header intervals → a ≡ b }
-    ensures one_recording { (bytes : List ℕ) (a b : IntervalHeader) (xs ys : List ℕ) → IsFile bytes a xs → IsFile bytes b ys
+    ensures one_recording { (bytes : List ℕ) (a b : IntervalHeader) (xs ys : List ℕ) → IsFile bytes a xs
+        → IsFile bytes b ys
         → (a ≡ b) × (xs ≡ ys) }
 {}

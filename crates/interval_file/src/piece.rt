@@ -1,5 +1,6 @@
 //! The bytes of an interval, in each version of the file. Next: `decoder`.
-ghost use Rattle.std.specs.Prelude.{◌≡◌, ℕ, List, ◌≤◌, ◌<◌, ◌++◌, ◌==◌, ◌&&◌, length, drop, fold, nat_le, Some, None, Ok, Err, IfOk, OnErr, if◌then◌else◌};
+ghost use Rattle.std.specs.Prelude.{◌≡◌, ℕ, List, ◌≤◌, ◌<◌, ◌++◌, ◌==◌, ◌&&◌, length, drop, fold, nat_le, Some, None};
+ghost use Rattle.std.specs.Prelude.{Ok, Err, IfOk, OnErr, if◌then◌else◌};
 ghost use Rattle.interval_file.specs.declared.fault.IntervalFileFault.TheVariants as fault;
 ghost use Rattle.interval_file.specs.Piece.{interval_in, most_width, piece_width, spelling};
 ghost use Rattle.biphase.specs.declared.cell.TheConstants.{MAX_INTERVAL};
@@ -69,7 +70,8 @@ fn front_interval(version: FileVersion, place: u64, bytes: &[u8]) -> Next
 /// How many bytes the interval has that stands first, where it is whole.
 #[inline(always)]
 pub(crate) fn whole_width(version: FileVersion, bytes: &[u8]) -> Option<usize>
-    ensures { result ≡ (if nat_le (piece_width version bytes.now) (length bytes.now) then Some (piece_width version bytes.now) else None) }
+    ensures { result ≡ (if nat_le (piece_width version bytes.now) (length bytes.now)
+        then Some (piece_width version bytes.now) else None) }
 {
     let width = match version {
         FileVersion::One => 4,
@@ -111,7 +113,8 @@ pub(crate) fn interval_in(
 #[inline(always)]
 fn in_range(place: u64, least: u32, ticks: u32) -> Result<u32, IntervalFileFault>
     requires { least ≤ MAX_INTERVAL }
-    ensures { result ≡ (if nat_le least ticks && nat_le ticks MAX_INTERVAL then Ok ticks else Err (fault.Interval place)) }
+    ensures { result ≡ (if nat_le least ticks && nat_le ticks MAX_INTERVAL then Ok ticks
+        else Err (fault.Interval place)) }
 {
     // One comparison tests both ends.
     if ticks.wrapping_sub(least) <= MAX_INTERVAL - least {

@@ -2,7 +2,8 @@
 use Rattle.std.specs.Prelude.{ℕ, List}
 use Rattle.line_file.specs.declared.names.TheConstants as names
 use Rattle.line_file.specs.declared.fault.LineFileFault.{LineFileFault}
-use Rattle.line_file.specs.declared.fault.LineFileFault.TheVariants.{Magic, Version, System, Reserved, LineLength, LineCount, RunCount, Run, Truncated}
+use Rattle.line_file.specs.declared.fault.LineFileFault.TheVariants.{Magic, Version, System, Reserved, LineLength}
+use Rattle.line_file.specs.declared.fault.LineFileFault.TheVariants.{LineCount, RunCount, Run, Truncated}
 
 -- the name that notes print
 abbrev pub name_of : LineFileFault → List ℕ

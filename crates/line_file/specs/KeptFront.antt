@@ -36,7 +36,8 @@ line_of bytes = runs_behind (slice_index bytes 0) bytes
 -- a field that was found, with its answer
 abbrev pub IsFoundField : LineHeader → ℕ → List ℕ → FoundField → Type 0
 IsFoundField header place bytes (fields.Whole answer width) =
-    (lines : List (List ℕ)) × (field_at place bytes ≡ whole lines) × (width ≡ field_width lines) × IsAnswer header.system header.length lines answer
+    (lines : List (List ℕ)) × (field_at place bytes ≡ whole lines) × (width ≡ field_width lines)
+    × IsAnswer header.system header.length lines answer
 IsFoundField header place bytes fields.Short = field_at place bytes ≡ short
 IsFoundField header place bytes (fields.Fault f) = field_at place bytes ≡ bad f
 
@@ -47,7 +48,8 @@ IsPiece None place count bytes pieces.Short = header_at bytes ≡ short
 IsPiece None place count bytes (pieces.Fault f) = header_at bytes ≡ bad f
 IsPiece None place count bytes _ = ⊥
 IsPiece (Some header) place count bytes (pieces.Header _) = ⊥
-IsPiece (Some header) place count bytes (pieces.Field answer width) = (count < MAX_FIELDS) × IsFoundField header place bytes (fields.Whole answer width)
+IsPiece (Some header) place count bytes (pieces.Field answer width) =
+    (count < MAX_FIELDS) × IsFoundField header place bytes (fields.Whole answer width)
 IsPiece (Some header) place count bytes pieces.Short = (count < MAX_FIELDS) × (field_at place bytes ≡ short)
 IsPiece (Some header) place count bytes (pieces.Fault f) = (count < MAX_FIELDS) × (field_at place bytes ≡ bad f)
 IsPiece (Some header) place count bytes pieces.Limit = count ≡ MAX_FIELDS

@@ -1,7 +1,8 @@
--- The line file as a whole text, as its table says it, piece after piece: the bytes of the head one by one, the line length, and then for each
--- field its number of lines, for each line its number of runs, and each run. The first whole piece that fails its test is the fault. This
--- project's own.
-use Rattle.std.specs.Prelude.{ℕ, zero, suc, ◌+◌, ◌*◌, ◌%◌, Bool, true, false, not, ◌&&◌, ◌==◌, nat_lt, nat_le, is_some, if◌then◌else◌, List, [], ◌∷◌}
+-- The line file as a whole text, as its table says it, piece after piece: the bytes of the head one by one, the line
+-- length, and then for each field its number of lines, for each line its number of runs, and each run. The first whole
+-- piece that fails its test is the fault. This project's own.
+use Rattle.std.specs.Prelude.{ℕ, zero, suc, ◌+◌, ◌*◌, ◌%◌, Bool, true, false, not, ◌&&◌, ◌==◌, nat_lt, nat_le, is_some}
+use Rattle.std.specs.Prelude.{if◌then◌else◌, List, [], ◌∷◌}
 use Rattle.std.specs.Prelude.{◌++◌, length, drop, slice_index, Option, Some, None}
 use Rattle.byteorder.specs.Endian.{big_number}
 use Rattle.tc_address.specs.declared.system.System.{System}
@@ -49,7 +50,8 @@ head_fault place =
 abbrev pub head_at : ℕ → ℕ → List ℕ → Front (Unit {0})
 head_at zero place bytes = whole tt
 head_at (suc count) place [] = short
-head_at (suc count) place (byte ∷ more) = if is_wrong place byte then bad (head_fault place) else head_at count (place + 1) more
+head_at (suc count) place (byte ∷ more) =
+    if is_wrong place byte then bad (head_fault place) else head_at count (place + 1) more
 
 -- a length that a line may have
 abbrev pub is_line_length : ℕ → Bool
@@ -113,7 +115,8 @@ lines_at (suc count) place bytes =
 -- a field: its number of lines, and its lines
 abbrev pub field_at : ℕ → List ℕ → Front (List (List ℕ))
 field_at place [] = short
-field_at place (count ∷ more) = if nat_le count MAX_LINES then lines_at count (place + 1) more else bad (fault.LineCount place)
+field_at place (count ∷ more) =
+    if nat_le count MAX_LINES then lines_at count (place + 1) more else bad (fault.LineCount place)
 
 -- how many bytes lines and a field have
 abbrev pub lines_width : List (List ℕ) → ℕ
@@ -149,7 +152,8 @@ unfoldable pub fields_at : ℕ → ℕ → List ℕ → Fields
 fields_at left place [] = no_field good true
 fields_at zero place (byte ∷ more) = no_field past_limit false
 fields_at (suc left) place (byte ∷ more) =
-    field_then (field_at place (byte ∷ more)) (λ lines. fields_at left (place + field_width lines) (drop (field_width lines) (byte ∷ more)))
+    field_then (field_at place (byte ∷ more))
+    (λ lines. fields_at left (place + field_width lines) (drop (field_width lines) (byte ∷ more)))
 
 -- what bytes say of a line file, as far as they go
 pub record Reading : Type 0 where
@@ -167,7 +171,8 @@ with_fields header before f =
     record { header = Some header; fields = before ++ f.fields; verdict = f.verdict; is_whole = f.is_whole }
 
 abbrev pub behind_header : Front LineHeader → List ℕ → Reading
-behind_header (whole header) bytes = with_fields header [] (fields_at MAX_FIELDS HEADER_LENGTH (drop HEADER_LENGTH bytes))
+behind_header (whole header) bytes =
+    with_fields header [] (fields_at MAX_FIELDS HEADER_LENGTH (drop HEADER_LENGTH bytes))
 behind_header short bytes = no_header good
 behind_header (bad f) bytes = no_header (refused f)
 

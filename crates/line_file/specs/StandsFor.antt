@@ -13,7 +13,8 @@ use Rattle.line_file.specs.LineFile.{Reading, reading_of, with_fields, fields_at
 use Rattle.line_file.specs.LineHeader.{IsHeader}
 use Rattle.line_file.specs.declared.fault.LineFileFault.{LineFileFault}
 
--- how far a decoder has come: the header, the place behind the whole pieces, the number of whole fields, and the bytes of a field that is not whole
+-- how far a decoder has come: the header, the place behind the whole pieces, the number of whole fields, and the bytes
+-- of a field that is not whole
 pub record Decoding : Type 0 where
   pub header : Option LineHeader
   pub place : ℕ
@@ -30,7 +31,8 @@ no_decoding = decoding_of None 0 0 []
 -- what bytes say that stand behind the whole pieces
 abbrev pub reading_behind : Option LineHeader → ℕ → ℕ → List (List (List ℕ)) → List ℕ → Reading
 reading_behind None place count fields more = reading_of more
-reading_behind (Some header) place count fields more = with_fields header fields (fields_at (MAX_FIELDS - count) place more)
+reading_behind (Some header) place count fields more =
+    with_fields header fields (fields_at (MAX_FIELDS - count) place more)
 
 -- the bytes of a field that is not whole are the first of one
 abbrev pub Waits : Option LineHeader → ℕ → ℕ → List ℕ → Type 0

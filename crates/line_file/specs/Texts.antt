@@ -16,7 +16,8 @@ use Rattle.vitc_reader.specs.declared.field.FieldAnswer.TheVariants.{NoLine, Agr
 -- a word: its label, its user bits, its flags and its field mark
 abbrev pub word_text : VitcWord → List ℕ
 word_text word =
-    text_of word.fields.label ++ codes " user " ++ user_text word.fields.user ++ codes " flags " ++ flags_text word.fields.flags
+    text_of word.fields.label ++ codes " user " ++ user_text word.fields.user ++ codes " flags "
+    ++ flags_text word.fields.flags
     ++ codes " mark " ++ flag_digit word.field_mark
 
 -- why a line says nothing
@@ -47,5 +48,6 @@ field_line field answer = codes "field " ++ decimal field ++ answer_text answer 
 -- the last line: how many fields there are, and how many are agreed, in conflict, and without a word
 abbrev pub field_end_line : ℕ → ℕ → ℕ → ℕ → List ℕ
 field_end_line fields agreed conflict nothing =
-    codes "end fields " ++ decimal fields ++ codes " agreed " ++ decimal agreed ++ codes " conflict " ++ decimal conflict
+    codes "end fields " ++ decimal fields ++ codes " agreed " ++ decimal agreed ++ codes " conflict "
+    ++ decimal conflict
     ++ codes " nothing " ++ decimal nothing ++ codes "\n"

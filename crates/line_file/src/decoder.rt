@@ -1,5 +1,6 @@
 //! The decoder of a line file. Next: `found`, and with the answer of a field `texts`.
-ghost use Rattle.std.specs.Prelude.{◌≡◌, ◌≢◌, ◌<◌, ◌≤◌, ◌^◌, ◌+◌, ◌++◌, ℕ, List, [], length, Ok, Err, Some, None, IfSome, OnOk, IfErr};
+ghost use Rattle.std.specs.Prelude.{◌≡◌, ◌≢◌, ◌<◌, ◌≤◌, ◌^◌, ◌+◌, ◌++◌, ℕ, List, [], length, Ok, Err, Some, None};
+ghost use Rattle.std.specs.Prelude.{IfSome, OnOk, IfErr};
 ghost use Rattle.arrayvec.specs.ArrayVec.{array_vec_len};
 ghost use Rattle.vitc_reader.specs.declared.field.FieldAnswer.{FieldAnswer};
 ghost use Rattle.line_file.specs.KeptFront.{IsPiece};
@@ -135,8 +136,10 @@ impl LineDecoder {
 
     /// The end of the input: the fault where it may not end here.
     pub fn finish(&self) -> Result<(), LineFileFault>
-        ensures ok { OnOk result ((bytes : List ℕ) (answers : List FieldAnswer) → StandsFor self.now bytes answers → end_fault_of bytes ≡ None) }
-        ensures err { IfErr result (λ fault. (bytes : List ℕ) (answers : List FieldAnswer) → StandsFor self.now bytes answers
+        ensures ok { OnOk result ((bytes : List ℕ) (answers : List FieldAnswer) → StandsFor self.now bytes answers
+            → end_fault_of bytes ≡ None) }
+        ensures err { IfErr result (λ fault. (bytes : List ℕ) (answers : List FieldAnswer)
+            → StandsFor self.now bytes answers
             → end_fault_of bytes ≡ Some fault) }
     {
         if self.header.is_some() && self.part.is_empty() {
@@ -147,8 +150,8 @@ impl LineDecoder {
     }
 }
 
-/// What stands at the front of the bytes that are kept and of these, behind so many fields. They are kept too where that is less
-/// than a whole piece. Where nothing is kept, no byte of a whole piece is copied.
+/// What stands at the front of the bytes that are kept and of these, behind so many fields. They are kept too where
+/// that is less than a whole piece. Where nothing is kept, no byte of a whole piece is copied.
 fn take_piece(
     header: Option<LineHeader>,
     place: u64,

@@ -1,5 +1,6 @@
 //! A field at the front of bytes. Next: `vitc_reader/src/field.rt`, with each of its lines.
-ghost use Rattle.std.specs.Prelude.{◌≡◌, ◌<◌, ◌≤◌, ◌+◌, ◌-◌, ◌*◌, ◌^◌, ◌++◌, ◌∷◌, [], ℕ, List, length, take, drop, slice_index, true};
+ghost use Rattle.std.specs.Prelude.{◌≡◌, ◌<◌, ◌≤◌, ◌+◌, ◌-◌, ◌*◌, ◌^◌, ◌++◌, ◌∷◌, [], ℕ, List, length, take, drop};
+ghost use Rattle.std.specs.Prelude.{slice_index, true};
 ghost use Rattle.vitc_reader.specs.Field.{StandsFor};
 ghost use Rattle.line_file.specs.KeptFront.{front_of, line_of, runs_behind, IsFoundField};
 ghost use Rattle.line_file.specs.LineFile.{is_run_count, line_at, runs_at};
@@ -73,7 +74,8 @@ fn stands_again(bytes: &[u8], at: usize, last: usize) -> bool
     requires at { at ≤ length bytes.now }
     requires last { last ≤ at }
     ensures some { result ≡ true → 1 ≤ last }
-    ensures again { result ≡ true → drop at bytes.now ≡ take last (drop (at - last) bytes.now) ++ drop last (drop at bytes.now) }
+    ensures again { result ≡ true → drop at bytes.now ≡ take last (drop (at - last) bytes.now)
+        ++ drop last (drop at bytes.now) }
 {
     last > 0 && bytes[at..].starts_with(&bytes[at - last..at])
 }
@@ -84,7 +86,8 @@ fn line_in(place: u64, bytes: &[u8], reader: &mut FieldReader) -> Found
     ensures front { front_of result (line_of bytes.now) ≡ line_at place bytes.now }
     ensures within { result ≡ things.Whole → 1 + 2 * slice_index bytes.now 0 ≤ length bytes.now }
     ensures same { (reader.new.system ≡ reader.old.system) × (reader.new.length ≡ reader.old.length) }
-    ensures next { result ≡ things.Whole → (lines : List (List ℕ)) → StandsFor reader.old lines → StandsFor reader.new (lines ++ line_of bytes.now ∷ []) }
+    ensures next { result ≡ things.Whole → (lines : List (List ℕ)) → StandsFor reader.old lines
+        → StandsFor reader.new (lines ++ line_of bytes.now ∷ []) }
 {
     if bytes.is_empty() {
         return Found::Short;

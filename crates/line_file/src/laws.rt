@@ -52,12 +52,14 @@ pub fn each_fault_has_its_name()
 pub fn what_bytes_show_stays()
     ensures fault { (bytes more : List ℕ) (fault : LineFileFault) → (reading_of bytes).verdict ≡ refused fault
         → (reading_of (bytes ++ more)).verdict ≡ refused fault }
-    ensures limit { (bytes more : List ℕ) → (reading_of bytes).verdict ≡ past_limit → (reading_of (bytes ++ more)).verdict ≡ past_limit }
+    ensures limit { (bytes more : List ℕ) → (reading_of bytes).verdict ≡ past_limit
+        → (reading_of (bytes ++ more)).verdict ≡ past_limit }
 {}
 
 /// Bytes that a decoder took are good, and the answers that it gave are those of their fields.
 pub fn a_decoder_tells_the_file()
-    ensures { (d : Decoding) (bytes : List ℕ) (answers : List FieldAnswer) → StandsFor d bytes answers → IsTold (reading_of bytes) good answers }
+    ensures { (d : Decoding) (bytes : List ℕ) (answers : List FieldAnswer) → StandsFor d bytes answers
+        → IsTold (reading_of bytes) good answers }
 {}
 
 /// All bytes have a list of answers: those of the whole fields among them.
@@ -69,7 +71,8 @@ pub fn bytes_have_answers()
 
 /// Bytes have one list of answers.
 pub fn bytes_have_one_list_of_answers()
-    ensures { (bytes : List ℕ) (a b : List FieldAnswer) → AreAnswersOf (reading_of bytes) a → AreAnswersOf (reading_of bytes) b → a ≡ b }
+    ensures { (bytes : List ℕ) (a b : List FieldAnswer) → AreAnswersOf (reading_of bytes) a
+        → AreAnswersOf (reading_of bytes) b → a ≡ b }
 {
     lines_have_one_answer();
 }
@@ -84,8 +87,10 @@ pub fn answers_of_a_front_come_first()
 
 /// The file of a header and fields is read as that header and these fields, and the input may end there.
 pub fn a_file_is_read_as_it_was_written()
-    ensures { (header : LineHeader) (fields : List (List (List ℕ))) → IsHeader header → AreFields fields → length fields ≤ decoder.MAX_FIELDS
-        → reading_of (file_of header fields) ≡ record { header = Some header; fields = fields; verdict = good; is_whole = true } }
+    ensures { (header : LineHeader) (fields : List (List (List ℕ))) → IsHeader header → AreFields fields
+        → length fields ≤ decoder.MAX_FIELDS
+        → reading_of (file_of header fields)
+        ≡ record { header = Some header; fields = fields; verdict = good; is_whole = true } }
 {}
 
 /// Each input that is taken whole is the file of a header and fields within the limit.

@@ -1,7 +1,8 @@
 //! The lines of a report on fields. Next: `line_text/src/line.rt`.
 ghost use Rattle.std.specs.Prelude.{◌≡◌, ◌<◌, ◌≤◌, ◌+◌, ◌^◌, ◌++◌};
 ghost use Rattle.arrayvec.specs.ArrayVec.{array_vec_len};
-ghost use Rattle.line_file.specs.Texts.{answer_text, field_line, field_end_line, line_reason, reason, run_reason, word_text};
+ghost use Rattle.line_file.specs.Texts.{answer_text, field_line, field_end_line, line_reason, reason, run_reason};
+ghost use Rattle.line_file.specs.Texts.{word_text};
 
 use line_text::{
     Text, push_any_number, push_bytes, push_count, push_flag, push_flags, push_hexadecimal,

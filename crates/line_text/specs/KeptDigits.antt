@@ -25,4 +25,5 @@ digit_below_ten c h =
 
 pub all_digits : (ds : List ℕ) → list_all is_ascii_digit ds ≡ true → AllDigits 10 ds
 all_digits [] h = tt
-all_digits (c ∷ ds) h = (digit_below_ten c (first_true (is_ascii_digit c) _ h), all_digits ds (second_true (is_ascii_digit c) _ h))
+all_digits (c ∷ ds) h =
+    (digit_below_ten c (first_true (is_ascii_digit c) _ h), all_digits ds (second_true (is_ascii_digit c) _ h))

@@ -1,5 +1,5 @@
--- A clean recording of frames: cells of one length, with the bits 0 and 1 and then those of a word for each frame that was heard or invented. And
--- what is read from it.
+-- A clean recording of frames: cells of one length, with the bits 0 and 1 and then those of a word for each frame that
+-- was heard or invented. And what is read from it.
 use Rattle.std.specs.Prelude.{ℕ, suc, ◌+◌, ◌*◌, Bool, true, false, List, [], ◌∷◌, map}
 use Rattle.std.specs.List.{flat_map}
 use Rattle.biphase.specs.declared.cell.Cell.{Cell}
@@ -40,11 +40,12 @@ clean_cells cell frames = steady_cells cell (false ∷ true ∷ bits_of_words (w
 
 -- ---- what is read from it
 
--- of words behind k others: each is read with the tick at its end, which is that of 82 cells and of 80 more for each word before it, and
--- with the length of 80 cells
+-- of words behind k others: each is read with the tick at its end, which is that of 82 cells and of 80 more for each
+-- word before it, and with the length of 80 cells
 unfoldable pub events_of_played : ℕ → ℕ → List Played → List Event
 events_of_played cell k [] = []
-events_of_played cell k (p ∷ more) = Word p.direction p.word ((82 + 80 * k) * cell) (80 * cell) ∷ events_of_played cell (suc k) more
+events_of_played cell k (p ∷ more) =
+    Word p.direction p.word ((82 + 80 * k) * cell) (80 * cell) ∷ events_of_played cell (suc k) more
 
 -- an event for each frame that was heard or invented, in order, and no other
 abbrev pub clean_events : ℕ → List Frame → List Event

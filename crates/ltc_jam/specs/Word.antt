@@ -1,4 +1,5 @@
--- The word that is written for a label, as `ltc-make` and `ltc-jam` write it. What it leaves out is this project's own choice.
+-- The word that is written for a label, as `ltc-make` and `ltc-jam` write it. What it leaves out is this project's own
+-- choice.
 use Rattle.std.specs.Prelude.{ℕ, Bool, true, false}
 use Rattle.tc_address.specs.declared.count.Count.{Count}
 use Rattle.tc_address.specs.declared.count.Count.TheVariants.{C24, C25, C30, Drop30}
@@ -19,7 +20,8 @@ drops Drop30 = true
 
 -- the word of a label: no flag is set but that of drop-frame, the user bits are 0, and it is balanced
 abbrev pub word_of : Address → LtcWord
-word_of label = record { fields = contents label (flags (drops label.count) false false false false) 0; balanced = true }
+word_of label =
+    record { fields = contents label (flags (drops label.count) false false false false) 0; balanced = true }
 
 -- this word, played in a direction
 abbrev pub played_as : Direction → Address → Played

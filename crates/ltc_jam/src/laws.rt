@@ -40,7 +40,8 @@ pub fn a_clean_recording_is_written_frame_by_frame()
 
 /// The word of a label has its spelling.
 pub fn words_of_labels_are_spelled()
-    ensures { (label : Address) → IsLabel label → Spells (system_with label.count) (word_of label) (spelling_of (word_of label)) }
+    ensures { (label : Address) → IsLabel label
+        → Spells (system_with label.count) (word_of label) (spelling_of (word_of label)) }
 {
     each_word_has_its_spelling();
 }
@@ -59,7 +60,8 @@ pub fn words_of_round_labels_are_written_so()
 
 /// A step from a label leads to a label of its count.
 pub fn steps_lead_to_labels()
-    ensures { (label : Address) (steps : ℤ) → IsLabel label → IsLabel (step label steps) × ((step label steps).count ≡ label.count) }
+    ensures { (label : Address) (steps : ℤ) → IsLabel label
+        → IsLabel (step label steps) × ((step label steps).count ≡ label.count) }
 {
     number_and_label_are_inverse();
 }

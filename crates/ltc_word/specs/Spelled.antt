@@ -15,7 +15,8 @@ use Rattle.ltc_word.specs.Places.{polarity_bit, table_of}
 -- all numbers of a word in their places, with this one at the polarity correction
 abbrev pub row_with : System → Contents → ℕ → List Entry
 row_with system fields polarity =
-    entry (place (polarity_bit system) 1) polarity ∷ entry places.SYNC places.SYNC_PATTERN ∷ row_of (table_of system) fields
+    entry (place (polarity_bit system) 1) polarity ∷ entry places.SYNC places.SYNC_PATTERN
+    ∷ row_of (table_of system) fields
 
 -- their sum by weights
 abbrev pub bits_with : LtcWord → ℕ → ℕ

@@ -31,4 +31,5 @@ word_with count hours minutes seconds frames flags user balanced =
 
 -- flags in the order of a report: drop-frame, colour-frame, binary group flags 0, 1 and 2
 abbrev pub flags : Bool → Bool → Bool → Bool → Bool → Flags
-flags drop_frame colour zero one two = record { bit10 = drop_frame; colour = colour; bgf0 = zero; bgf1 = one; bgf2 = two }
+flags drop_frame colour zero one two =
+    record { bit10 = drop_frame; colour = colour; bgf0 = zero; bgf1 = one; bgf2 = two }

@@ -28,9 +28,12 @@ pub fn each_bit_has_one_place()
 /// 80 bits spell one word at most, a word has one spelling at most, and bits that spell a word have
 /// no fault.
 pub fn spelling_is_exact()
-    ensures one_word { (system : System) (a b : LtcWord) (bits : ℕ) → Spells system a bits → Spells system b bits → a ≡ b }
-    ensures one_spelling { (system : System) (word : LtcWord) (a b : ℕ) → Spells system word a → Spells system word b → a ≡ b }
-    ensures no_fault { (system : System) (word : LtcWord) (bits : ℕ) → Spells system word bits → first_fault system bits ≡ None }
+    ensures one_word { (system : System) (a b : LtcWord) (bits : ℕ) → Spells system a bits → Spells system b bits
+        → a ≡ b }
+    ensures one_spelling { (system : System) (word : LtcWord) (a b : ℕ) → Spells system word a → Spells system word b
+        → a ≡ b }
+    ensures no_fault { (system : System) (word : LtcWord) (bits : ℕ) → Spells system word bits
+        → first_fault system bits ≡ None }
 {
     a_row_is_its_sum();
     digits_are_exact();
@@ -59,7 +62,8 @@ pub fn bits_in_sync_spell_a_word_or_have_a_fault()
 /// Twelve ones in a row stand in a word only in its sync word, at the bits 66 to 77. In two words
 /// that follow each other they stand only in the two sync words.
 pub fn twelve_ones_are_the_sync_word()
-    ensures one { (system : System) (word : LtcWord) (bits i : ℕ) → Spells system word bits → i ≤ 68 → HasTwelveOnes bits i → i ≡ 66 }
+    ensures one { (system : System) (word : LtcWord) (bits i : ℕ) → Spells system word bits → i ≤ 68
+        → HasTwelveOnes bits i → i ≡ 66 }
     ensures between { (system : System) (a b : LtcWord) (x y i : ℕ) → Spells system a x → Spells system b y
         → i < 80 → HasTwelveOnes (x + y * 2 ^ 80) i → i ≡ 66 }
 {}

@@ -21,7 +21,8 @@ high n = n / 16
 -- the four bits of each of the eight pieces of a label, piece 0 first: the count stands above the high bit of the hours
 abbrev pub pieces_of : Address → List ℕ
 pieces_of a =
-    low a.frames ∷ high a.frames ∷ low a.seconds ∷ high a.seconds ∷ low a.minutes ∷ high a.minutes ∷ low a.hours ∷ (high a.hours + 2 * code_of a.count) ∷ []
+    low a.frames ∷ high a.frames ∷ low a.seconds ∷ high a.seconds ∷ low a.minutes ∷ high a.minutes ∷ low a.hours
+    ∷ (high a.hours + 2 * code_of a.count) ∷ []
 
 -- a quarter frame: its status, and the number of the piece above the piece's four bits
 abbrev pub quarter_of : Address → ℕ → List ℕ
@@ -29,4 +30,5 @@ quarter_of a piece = 0xf1 ∷ (16 * piece + slice_index (pieces_of a) piece) ∷
 
 -- the full message, to all devices: the count stands above the hours
 abbrev pub full_of : Address → List ℕ
-full_of a = 0xf0 ∷ 0x7f ∷ 0x7f ∷ 0x01 ∷ 0x01 ∷ (32 * code_of a.count + a.hours) ∷ a.minutes ∷ a.seconds ∷ a.frames ∷ 0xf7 ∷ []
+full_of a =
+    0xf0 ∷ 0x7f ∷ 0x7f ∷ 0x01 ∷ 0x01 ∷ (32 * code_of a.count + a.hours) ∷ a.minutes ∷ a.seconds ∷ a.frames ∷ 0xf7 ∷ []

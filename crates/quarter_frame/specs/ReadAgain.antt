@@ -1,4 +1,5 @@
--- What a reader of MIDI Time Code reads of frames that are sent: run by run, one full message and then one label for each two frames.
+-- What a reader of MIDI Time Code reads of frames that are sent: run by run, one full message and then one label for
+-- each two frames.
 use Rattle.std.specs.Prelude.{◌≡◌, Bool, true, cond, List, [], ◌∷◌, ◌++◌, map}
 use Rattle.std.specs.List.{flat_map, take_while}
 use Rattle.tc_address.specs.declared.direction.Direction.{Direction}
@@ -25,7 +26,8 @@ placed (Gone tick) = []
 abbrev pub all_placed : List Frame → List Placed
 all_placed frames = flat_map placed frames
 
--- of two frames that follow each other in a run, the label that is one before the other: the first one's forward, the second one's backward
+-- of two frames that follow each other in a run, the label that is one before the other: the first one's forward, the
+-- second one's backward
 abbrev pub earlier : Direction → Address → Address → Address
 earlier Forward first second = first
 earlier Backward first second = second
@@ -35,16 +37,19 @@ abbrev pub later : Direction → Address → Address → Address
 later Forward first second = second
 later Backward first second = first
 
--- a frame goes on where the frame before it leads: it has its direction, and of their labels the earlier one is one before the later
+-- a frame goes on where the frame before it leads: it has its direction, and of their labels the earlier one is one
+-- before the later
 pub record IsNeighbour (first second : Placed) : Type 0 where
   pub direction : second.direction ≡ first.direction
   pub label : before (later first.direction first.label second.label) ≡ earlier first.direction first.label second.label
 
--- the labels of the quarter frames of a run: for each two frames the earlier one, with the run's direction. The last frame is read where it is one of two
+-- the labels of the quarter frames of a run: for each two frames the earlier one, with the run's direction. The last
+-- frame is read where it is one of two
 abbrev pub pairs_read : List Placed → List MtcEvent
 pairs_read [] = []
 pairs_read (first ∷ []) = []
-pairs_read (first ∷ second ∷ more) = Quarter first.direction (earlier first.direction first.label second.label) 0 ∷ pairs_read more
+pairs_read (first ∷ second ∷ more) =
+    Quarter first.direction (earlier first.direction first.label second.label) 0 ∷ pairs_read more
 
 -- a run, by its first frame and the others: a full message with the first label, and the pairs
 abbrev pub run_read : Frame → List Frame → List MtcEvent
@@ -53,7 +58,8 @@ run_read first others = map (λ (f : Placed). Full f.label 0) (placed first) ++ 
 -- the runs, one after another; `fresh` says whether the first frame here comes first or after an end
 abbrev pub read_from : Bool → List Frame → List MtcEvent
 read_from fresh [] = []
-read_from fresh (frame ∷ more) = cond (begins_run fresh frame) (run_read frame (take_while goes_on more)) [] ++ read_from (is_end frame) more
+read_from fresh (frame ∷ more) =
+    cond (begins_run fresh frame) (run_read frame (take_while goes_on more)) [] ++ read_from (is_end frame) more
 
 -- what is read of frames, but for the places
 abbrev pub read_of : List Frame → List MtcEvent

@@ -1,6 +1,6 @@
--- The MIDI Time Code of a list of frames (MIDI 1.0, MIDI Time Code). A run of frames is sent as a full message and then four quarter frames for
--- each of its frames, so that eight quarter frames carry one address and span two frames. Where a run begins, and how the frames of a backward run
--- are paired, is this project's own.
+-- The MIDI Time Code of a list of frames (MIDI 1.0, MIDI Time Code). A run of frames is sent as a full message and
+-- then four quarter frames for each of its frames, so that eight quarter frames carry one address and span two frames.
+-- Where a run begins, and how the frames of a backward run are paired, is this project's own.
 use Rattle.std.specs.Prelude.{ℕ, ◌+◌, ◌%◌, Bool, true, false, not, ◌==◌, cond, pos, neg_ℤ, List, [], ◌∷◌, ◌++◌}
 use Rattle.std.specs.List.{flat_map, take_while}
 use Rattle.tc_address.specs.declared.direction.Direction.{Direction}
@@ -19,8 +19,8 @@ quarters label pieces = flat_map (λ piece. quarter_of label piece) pieces
 abbrev pub before : Address → Address
 before label = step label (neg_ℤ (pos 1))
 
--- the four quarter frames of a frame, by its direction and whether its position in the run is even. Both frames of a pair carry
--- the earlier label of the two
+-- the four quarter frames of a frame, by its direction and whether its position in the run is even. Both frames of a
+-- pair carry the earlier label of the two
 abbrev pub four_of : Address → Direction → Bool → List ℕ
 four_of label Forward true = quarters label (0 ∷ 1 ∷ 2 ∷ 3 ∷ [])
 four_of label Forward false = quarters (before label) (4 ∷ 5 ∷ 6 ∷ 7 ∷ [])
@@ -69,10 +69,12 @@ begins_run false (Heard label direction joined tick) = not joined
 begins_run false (Invented label direction invented tick) = false
 begins_run false (Gone tick) = false
 
--- the texts of the runs, each of which lasts as long as frames go on it. `fresh` says whether the first frame here comes first or after an end
+-- the texts of the runs, each of which lasts as long as frames go on it. `fresh` says whether the first frame here
+-- comes first or after an end
 abbrev pub mtc_from : Bool → List Frame → List ℕ
 mtc_from fresh [] = []
-mtc_from fresh (frame ∷ more) = cond (begins_run fresh frame) (run_text frame (take_while goes_on more)) [] ++ mtc_from (is_end frame) more
+mtc_from fresh (frame ∷ more) =
+    cond (begins_run fresh frame) (run_text frame (take_while goes_on more)) [] ++ mtc_from (is_end frame) more
 
 -- the MIDI Time Code of a list of frames
 abbrev pub mtc_of : List Frame → List ℕ

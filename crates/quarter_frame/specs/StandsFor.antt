@@ -15,7 +15,8 @@ abbrev pub other_half : Half → Half
 other_half First = Second
 other_half Second = First
 
--- what is written of a frame, where no run is open or the next half of the open run is known: it begins a run, unless it is an end, or goes on
+-- what is written of a frame, where no run is open or the next half of the open run is known: it begins a run, unless
+-- it is an end, or goes on
 abbrev pub written : Option Half → Frame → List ℕ
 written None frame = run_text frame []
 written (Some half) frame = cond (goes_on frame) (quarters_of (position_of half) frame) (run_text frame [])

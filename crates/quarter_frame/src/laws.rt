@@ -47,7 +47,8 @@ pub fn messages_of_each_count()
 pub fn what_is_sent_is_read_back()
     ensures events { (limit last : ℕ) (words : List HeardWord) → AreLabelled words
         → map at_no_place (events_in (mtc_of (frames limit words last))) ≡ read_of (frames limit words last) }
-    ensures neighbours { (limit last : ℕ) (words : List HeardWord) (front rest : List Frame) (first second : Frame) → AreLabelled words
+    ensures neighbours { (limit last : ℕ) (words : List HeardWord) (front rest : List Frame) (first second : Frame)
+        → AreLabelled words
         → frames limit words last ≡ front ++ first ∷ second ∷ rest → goes_on second ≡ true
         → (a b : Placed) × (placed first ≡ a ∷ []) × (placed second ≡ b ∷ []) × IsNeighbour a b }
 {

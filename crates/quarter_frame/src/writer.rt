@@ -1,5 +1,6 @@
 //! The writer of the messages. Next: `half`.
-ghost use Rattle.std.specs.Prelude.{◌≡◌, ◌≤◌, IfSome, List, [], ◌∷◌, ◌++◌, Option, None, Some, true, false, not, take, drop, length};
+ghost use Rattle.std.specs.Prelude.{◌≡◌, ◌≤◌, IfSome, List, [], ◌∷◌, ◌++◌, Option, None, Some, true, false, not, take};
+ghost use Rattle.std.specs.Prelude.{drop, length};
 ghost use Rattle.tc_address.specs.declared.direction.Direction.{Direction};
 ghost use Rattle.flywheel.specs.declared.frame.Frame.{Frame};
 ghost use Rattle.quarter_frame.specs.declared.half.Half.TheVariants.{First, Second};
@@ -53,7 +54,8 @@ impl QuarterWriter {
     /// Goes on the open run, or begins one where none is open.
     fn go_on(&mut self, label: &Label, direction: Direction, room: &mut [u8; 18]) -> usize
         ensures none { self.old ≡ None
-            → (result ≡ 18) × (room.new ≡ full_of label.now ++ four_of label.now direction true) × (self.new ≡ Some Second) }
+            → (result ≡ 18) × (room.new ≡ full_of label.now ++ four_of label.now direction true)
+            × (self.new ≡ Some Second) }
         ensures some { IfSome self.old (λ half. (result ≡ 8)
             × (room.new ≡ four_of label.now direction (is_even (position_of half)) ++ drop 8 room.old)
             × (self.new ≡ Some (other_half half))) }

@@ -18,7 +18,8 @@ frame_line (Gone tick) = codes "gone tick " ++ decimal tick ++ codes "\n"
 -- the last line of the frames of a recording
 abbrev pub fly_end_line : ℕ → ℕ → ℕ → ℕ → ℕ → List ℕ
 fly_end_line intervals heard invented gone ticks =
-    codes "end intervals " ++ decimal intervals ++ codes " heard " ++ decimal heard ++ codes " invented " ++ decimal invented
+    codes "end intervals " ++ decimal intervals ++ codes " heard " ++ decimal heard ++ codes " invented "
+    ++ decimal invented
     ++ codes " gone " ++ decimal gone ++ codes " ticks " ++ decimal ticks ++ codes "\n"
 
 -- the numbers of a frame are small enough for its line

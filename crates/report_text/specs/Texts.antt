@@ -26,7 +26,8 @@ word_line header direction word tick length =
 -- the line of a refused word
 abbrev pub refused_line : Direction → FieldFault → ℕ → List ℕ
 refused_line direction fault tick =
-    codes "refused " ++ direction_name direction ++ codes " " ++ name_of fault ++ codes " tick " ++ decimal tick ++ codes "\n"
+    codes "refused " ++ direction_name direction ++ codes " " ++ name_of fault ++ codes " tick " ++ decimal tick
+    ++ codes "\n"
 
 -- the line of a break
 abbrev pub lost_line : ℕ → ℕ → List ℕ
@@ -41,7 +42,8 @@ event_line header (Lost interval tick) = lost_line interval tick
 -- the last line of a reading
 abbrev pub read_end_line : ℕ → ℕ → ℕ → ℕ → ℕ → List ℕ
 read_end_line intervals words refused lost ticks =
-    codes "end intervals " ++ decimal intervals ++ codes " words " ++ decimal words ++ codes " refused " ++ decimal refused
+    codes "end intervals " ++ decimal intervals ++ codes " words " ++ decimal words ++ codes " refused "
+    ++ decimal refused
     ++ codes " lost " ++ decimal lost ++ codes " ticks " ++ decimal ticks ++ codes "\n"
 
 -- the numbers of an event are small enough for its line

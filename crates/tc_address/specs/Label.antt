@@ -43,15 +43,18 @@ pub record IsLabel (a : Address) : Type 0 where
 -- whether the address is one of the labels of its count
 abbrev pub is_label : Address → Bool
 is_label a =
-    nat_lt a.hours 24 && nat_lt a.minutes 60 && nat_lt a.seconds 60 && nat_lt a.frames (rate_of (system_with a.count)) && not (is_dropped a)
+    nat_lt a.hours 24 && nat_lt a.minutes 60 && nat_lt a.seconds 60 && nat_lt a.frames (rate_of (system_with a.count))
+    && not (is_dropped a)
 
 -- the fault is there, and none that is tested before it
 abbrev pub IsFirstFault : LabelFault → Address → Type 0
 IsFirstFault Hours a = 24 ≤ a.hours
 IsFirstFault Minutes a = (a.hours < 24) × (60 ≤ a.minutes)
 IsFirstFault Seconds a = (a.hours < 24) × (a.minutes < 60) × (60 ≤ a.seconds)
-IsFirstFault Frames a = (a.hours < 24) × (a.minutes < 60) × (a.seconds < 60) × (rate_of (system_with a.count) ≤ a.frames)
-IsFirstFault Dropped a = (a.hours < 24) × (a.minutes < 60) × (a.seconds < 60) × (a.frames < rate_of (system_with a.count)) × (is_dropped a ≡ true)
+IsFirstFault Frames a =
+    (a.hours < 24) × (a.minutes < 60) × (a.seconds < 60) × (rate_of (system_with a.count) ≤ a.frames)
+IsFirstFault Dropped a = (a.hours < 24) × (a.minutes < 60) × (a.seconds < 60)
+    × (a.frames < rate_of (system_with a.count)) × (is_dropped a ≡ true)
 
 -- the addresses of a second, in ascending order
 unfoldable pub second_of : Count → ℕ → ℕ → ℕ → List Address

@@ -16,7 +16,8 @@ day_length Drop30 = 2_589_408
 
 -- the same hours, minutes, seconds and frames
 abbrev pub is_same_time : Address → Address → Bool
-is_same_time a b = (a.hours == b.hours) && (a.minutes == b.minutes) && (a.seconds == b.seconds) && (a.frames == b.frames)
+is_same_time a b =
+    (a.hours == b.hours) && (a.minutes == b.minutes) && (a.seconds == b.seconds) && (a.frames == b.frames)
 
 -- how many labels stand before it in the list of its day
 unfoldable pub number_of : Address → ℕ

@@ -20,7 +20,8 @@ separator count = 58
 -- the text of a label
 abbrev pub text_of : Address → List ℕ
 text_of a =
-    two_digits a.hours ++ 58 ∷ two_digits a.minutes ++ 58 ∷ two_digits a.seconds ++ separator a.count ∷ two_digits a.frames
+    two_digits a.hours ++ 58 ∷ two_digits a.minutes ++ 58 ∷ two_digits a.seconds ++ separator a.count
+    ∷ two_digits a.frames
 
 -- a decimal digit in ASCII
 abbrev pub is_digit : ℕ → Bool
@@ -28,7 +29,11 @@ is_digit byte = nat_le 48 byte && nat_le byte 57
 
 -- the byte may stand at the place: a separator at places 2, 5 and 8, else a digit
 abbrev pub may_stand : Count → ℕ → ℕ → Bool
-may_stand c place byte = if place == 2 then byte == 58 else if place == 5 then byte == 58 else if place == 8 then byte == separator c else is_digit byte
+may_stand c place byte =
+    if place == 2 then byte == 58
+    else if place == 5 then byte == 58
+    else if place == 8 then byte == separator c
+    else is_digit byte
 
 -- the number of two digits from a place on
 abbrev pub number_at : List ℕ → ℕ → ℕ
@@ -57,4 +62,5 @@ IsFirstTextFault c text (faults.Label fault) =
 
 -- the label that the text spells, if it spells one
 abbrev pub label_in : Count → List ℕ → Option Address
-label_in c text = cond (is_label (address_in c text) && bytes_eq text (text_of (address_in c text))) (Some (address_in c text)) None
+label_in c text =
+    cond (is_label (address_in c text) && bytes_eq text (text_of (address_in c text))) (Some (address_in c text)) None

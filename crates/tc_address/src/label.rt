@@ -27,7 +27,13 @@ impl Model for Label {
 
     ghost invariant = { λ l. IsLabel (address l.count l.hours l.minutes l.seconds l.frames) };
 
-    ghost inverse = { λ a. record { count = a.count; hours = a.hours; minutes = a.minutes; seconds = a.seconds; frames = a.frames } };
+    ghost inverse = { λ a. record {
+      count = a.count;
+      hours = a.hours;
+      minutes = a.minutes;
+      seconds = a.seconds;
+      frames = a.frames;
+    } };
 }
 
 /// The first fault of a frame address, in the order of these variants.
@@ -69,9 +75,11 @@ impl Label {
         seconds: u32,
         frames: u32,
     ) -> Result<Label, LabelFault>
-        ensures reads { let parts = address count hours minutes seconds frames in IfOk result (λ label. (label ≡ parts) × IsLabel parts) }
+        ensures reads { let parts = address count hours minutes seconds frames in
+            IfOk result (λ label. (label ≡ parts) × IsLabel parts) }
         ensures only { let parts = address count hours minutes seconds frames in IsLabel parts → result ≡ Ok parts }
-        ensures refuses { let parts = address count hours minutes seconds frames in IfErr result (λ fault. IsFirstFault fault parts) }
+        ensures refuses { let parts = address count hours minutes seconds frames in
+            IfErr result (λ fault. IsFirstFault fault parts) }
     {
         if hours > 23 {
             return Err(LabelFault::Hours);

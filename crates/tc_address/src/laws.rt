@@ -11,7 +11,8 @@ ghost use Rattle.tc_address.specs.Spelling.{text_of, IsFirstTextFault};
 /// has a number of the day.
 pub fn number_and_label_are_inverse()
     ensures label { (a : Address) → IsLabel a → slice_get (labels a.count) (number_of a) ≡ Some a }
-    ensures number { (c : Count) (n : ℕ) (a : Address) → slice_get (labels c) n ≡ Some a → (number_of a ≡ n) × (a.count ≡ c) × IsLabel a }
+    ensures number { (c : Count) (n : ℕ) (a : Address) → slice_get (labels c) n ≡ Some a
+        → (number_of a ≡ n) × (a.count ≡ c) × IsLabel a }
     ensures below { (a : Address) → IsLabel a → number_of a < day_length a.count }
 {}
 
@@ -24,7 +25,8 @@ pub fn steps_add_up()
 /// A step moves the number by as many places on the circle of the day, and leads to a label of the same
 /// count.
 pub fn a_step_moves_the_number()
-    ensures number { (a : Address) (steps : ℤ) → number_of (step a steps) ≡ moved (day_length a.count) (number_of a) steps }
+    ensures number { (a : Address) (steps : ℤ)
+        → number_of (step a steps) ≡ moved (day_length a.count) (number_of a) steps }
     ensures label { (a : Address) (steps : ℤ) → ((step a steps).count ≡ a.count) × IsLabel (step a steps) }
 {}
 

@@ -1,8 +1,10 @@
 //! The text of a label, and the label of a text or the text's first fault. Next: `line_text/src/line.rt`,
 //! with the text of a label.
-ghost use Rattle.std.specs.Prelude.{◌≡◌, ◌+◌, ◌<◌, length, slice_index, IfOk, IfErr, IfSome, IfNone, IsTrue, MatchResult};
+ghost use Rattle.std.specs.Prelude.{◌≡◌, ◌+◌, ◌<◌, length, slice_index, IfOk, IfErr, IfSome, IfNone, IsTrue};
+ghost use Rattle.std.specs.Prelude.{MatchResult};
 ghost use Rattle.tc_address.specs.Label.{Address, IsLabel};
-ghost use Rattle.tc_address.specs.Spelling.{text_of, label_in, separator, is_digit, may_stand, number_at, IsFirstTextFault, IsFirstWrongPlace, IsGoodBelow};
+ghost use Rattle.tc_address.specs.Spelling.{text_of, label_in, separator, is_digit, may_stand, number_at};
+ghost use Rattle.tc_address.specs.Spelling.{IsFirstTextFault, IsFirstWrongPlace, IsGoodBelow};
 
 use crate::count::Count;
 use crate::label::{Label, LabelFault};
@@ -80,9 +82,11 @@ fn number_at(text: &[u8], place: usize) -> u32
 /// Reads `HH:MM:SS:FF`, and `HH:MM:SS;FF` for drop-frame.
 pub fn read_text(text: &[u8], count: Count) -> Result<Label, TextFault>
     ensures reads { IfOk result (λ label. (text.now ≡ text_of label) × (label.count ≡ count) × IsLabel label) }
-    ensures only { (label : Address) → IsLabel label → label.count ≡ count → text.now ≡ text_of label → result ≡ Ok label }
+    ensures only { (label : Address) → IsLabel label → label.count ≡ count → text.now ≡ text_of label
+        → result ≡ Ok label }
     ensures refuses { IfErr result (λ fault. IsFirstTextFault count text.now fault) }
-    ensures spelled { MatchResult result (λ label. label_in count text.now ≡ Some label) (λ _. label_in count text.now ≡ None) }
+    ensures spelled { MatchResult result
+        (λ label. label_in count text.now ≡ Some label) (λ _. label_in count text.now ≡ None) }
 {
     if text.len() != 11 {
         return Err(TextFault::Length);

@@ -6,7 +6,8 @@ use Rattle.tc_address.specs.Count.{rate_of}
 use Rattle.tc_address.specs.Label.{is_dropped}
 use Rattle.tc_bits.specs.declared.names.TheConstants as names
 use Rattle.tc_bits.specs.declared.fault.FieldFault.{FieldFault}
-use Rattle.tc_bits.specs.declared.fault.FieldFault.TheVariants.{FrameUnits, Frames, SecondUnits, SecondTens, MinuteUnits, MinuteTens}
+use Rattle.tc_bits.specs.declared.fault.FieldFault.TheVariants.{FrameUnits, Frames, SecondUnits, SecondTens}
+use Rattle.tc_bits.specs.declared.fault.FieldFault.TheVariants.{MinuteUnits, MinuteTens}
 use Rattle.tc_bits.specs.declared.fault.FieldFault.TheVariants.{HourUnits, Hours, DroppedLabel}
 use Rattle.tc_bits.specs.declared.raw.RawFields.{RawFields}
 use Rattle.tc_bits.specs.Fields.{address_of}

@@ -52,7 +52,8 @@ pub record SpellsFields (t : Table) (c : Contents) (bits : ℕ) : Type 0 where
 -- fields are spelled exactly where the digits say them, and exactly where their numbers stand in the
 -- places of the table, which they fit
 pub record AreExact : Type 0 where
-  pub said : (system : System) (t : Table) (c : Contents) (bits : ℕ) → Says system (raw_in t bits) c → SpellsFields t c bits
+  pub said : (system : System) (t : Table) (c : Contents) (bits : ℕ) → Says system (raw_in t bits) c
+      → SpellsFields t c bits
   pub says : (system : System) (t : Table) (c : Contents) (bits : ℕ) → IsFields c → system_with c.label.count ≡ system
       → SpellsFields t c bits → Says system (raw_in t bits) c
   pub held : (t : Table) (c : Contents) (bits : ℕ) → c.user < 2 ^ 32 → Holds (row_of t c) bits → SpellsFields t c bits

@@ -13,7 +13,8 @@ good_too name good e = refl
 good_too name (refused fault) e = absurd cc
 good_too name past_limit e = absurd cc
 
-pub is_refused : {F G : Type 0} (name : F → G) (v : Verdict F) (g : G) → verdict_as name v ≡ refused g → (fault : F) × (v ≡ refused fault)
+pub is_refused : {F G : Type 0} (name : F → G) (v : Verdict F) (g : G) → verdict_as name v ≡ refused g
+    → (fault : F) × (v ≡ refused fault)
 is_refused name good g e = absurd cc
 is_refused name (refused fault) g e = (fault, refl)
 is_refused name past_limit g e = absurd cc
@@ -25,7 +26,8 @@ is_past name past_limit e = refl
 
 -- a fault and the limit stay with more bytes where those of the file do
 pub fault_stays : {F G : Type 0} (name : F → G) (v u : Verdict F) (g : G)
-    → ((fault : F) → v ≡ refused fault → u ≡ refused fault) → verdict_as name v ≡ refused g → verdict_as name u ≡ refused g
+    → ((fault : F) → v ≡ refused fault → u ≡ refused fault) → verdict_as name v ≡ refused g
+    → verdict_as name u ≡ refused g
 fault_stays name good u g stays e = absurd cc
 fault_stays name (refused fault) u g stays e = ap (verdict_as name) (stays fault refl) ∙ e
 fault_stays name past_limit u g stays e = absurd cc

@@ -45,7 +45,8 @@ table_of system = with_group_flags places.TABLE (group_flag_zero_bit system) (gr
 -- all places of a system
 abbrev pub places_of : System → List Place
 places_of system =
-    places.CHECK ∷ place (field_mark_bit system) 1 ∷ map sync_pair_place (range_with_len 0 9) ++ places_in (table_of system)
+    places.CHECK ∷ place (field_mark_bit system) 1 ∷ map sync_pair_place (range_with_len 0 9)
+    ++ places_in (table_of system)
 
 -- each of the 90 bits belongs to exactly one of the places
 abbrev pub are_shared_out : List Place → Bool

@@ -16,7 +16,8 @@ use Rattle.vitc_line.specs.Places.{field_mark_bit, sync_pair_place, table_of}
 abbrev pub row_with : System → Contents → Bool → ℕ → List Entry
 row_with system fields mark check =
     entry places.CHECK check ∷ entry (place (field_mark_bit system) 1) (digit mark)
-    ∷ map (λ pair. entry (sync_pair_place pair) places.SYNC_PAIR) (range_with_len 0 9) ++ row_of (table_of system) fields
+    ∷ map (λ pair. entry (sync_pair_place pair) places.SYNC_PAIR) (range_with_len 0 9)
+    ++ row_of (table_of system) fields
 
 -- their sum by weights
 abbrev pub bits_with : VitcWord → ℕ → ℕ

@@ -24,9 +24,12 @@ pub fn each_bit_has_one_place()
 /// 90 bits spell one word at most, a word has one spelling at most, and bits that spell a word have
 /// no fault.
 pub fn spelling_is_exact()
-    ensures one_word { (system : System) (a b : VitcWord) (bits : ℕ) → Spells system a bits → Spells system b bits → a ≡ b }
-    ensures one_spelling { (system : System) (word : VitcWord) (a b : ℕ) → Spells system word a → Spells system word b → a ≡ b }
-    ensures no_fault { (system : System) (word : VitcWord) (bits : ℕ) → Spells system word bits → first_fault system bits ≡ None }
+    ensures one_word { (system : System) (a b : VitcWord) (bits : ℕ) → Spells system a bits → Spells system b bits
+        → a ≡ b }
+    ensures one_spelling { (system : System) (word : VitcWord) (a b : ℕ) → Spells system word a → Spells system word b
+        → a ≡ b }
+    ensures no_fault { (system : System) (word : VitcWord) (bits : ℕ) → Spells system word bits
+        → first_fault system bits ≡ None }
 {
     a_row_is_its_sum();
     digits_are_exact();
@@ -36,7 +39,8 @@ pub fn spelling_is_exact()
 /// 90 bits spell a word, or they have a first fault.
 pub fn bits_spell_a_word_or_have_a_fault()
     ensures { (system : System) (bits : ℕ) → bits < 2 ^ 90
-        → ((word : VitcWord) × Spells system word bits) ⊎ ((fault : LineFault) × (first_fault system bits ≡ Some fault)) }
+        → ((word : VitcWord) × Spells system word bits)
+        ⊎ ((fault : LineFault) × (first_fault system bits ≡ Some fault)) }
 {
     digits_are_exact();
     fields_are_exact();
@@ -44,7 +48,8 @@ pub fn bits_spell_a_word_or_have_a_fault()
 
 /// A word that has lines is spelled by one: the sum of its numbers by their weights, with the check.
 pub fn each_word_has_its_line()
-    ensures spells { (word : VitcWord) → IsFields word.fields → word.fields.user < 2 ^ 32 → Spells (system_with word.fields.label.count) word (line_of word) }
+    ensures spells { (word : VitcWord) → IsFields word.fields → word.fields.user < 2 ^ 32
+        → Spells (system_with word.fields.label.count) word (line_of word) }
     ensures width { (word : VitcWord) → IsFields word.fields → word.fields.user < 2 ^ 32 → line_of word < 2 ^ 90 }
     ensures odd { (word : VitcWord) → IsFields word.fields → word.fields.user < 2 ^ 32 → line_of word % 2 ≡ 1 }
 {

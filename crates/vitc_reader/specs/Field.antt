@@ -38,14 +38,16 @@ AllAre word (w ∷ words) = (w ≡ word) × AllAre word words
 -- other; the first word and the first that differs from it
 abbrev pub IsAnswerTo : List (Result VitcWord ReadFault) → FieldAnswer → Type 0
 IsAnswerTo said NoLine = said ≡ []
-IsAnswerTo said (Nothing fault) = (more : List (Result VitcWord ReadFault)) × (said ≡ Err fault ∷ more) × (words_of said ≡ [])
+IsAnswerTo said (Nothing fault) =
+    (more : List (Result VitcWord ReadFault)) × (said ≡ Err fault ∷ more) × (words_of said ≡ [])
 IsAnswerTo said (Agreed word) = (more : List VitcWord) × (words_of said ≡ word ∷ more) × AllAre word more
 IsAnswerTo said (Conflict word other) =
     (same more : List VitcWord) × (words_of said ≡ word ∷ same ++ other ∷ more) × AllAre word same × (other ≢ word)
 
 -- the answer of a field over the list of its lines
 abbrev pub IsAnswer : System → ℕ → List (List ℕ) → FieldAnswer → Type 0
-IsAnswer system n lines answer = (said : List (Result VitcWord ReadFault)) × AreSaid system n lines said × IsAnswerTo said answer
+IsAnswer system n lines answer =
+    (said : List (Result VitcWord ReadFault)) × AreSaid system n lines said × IsAnswerTo said answer
 
 -- a reader of a field: its system, the length of its lines, and its answer so far
 pub record FieldState : Type 0 where

@@ -1,6 +1,7 @@
 -- The runs of a line and the bits that they stand for. The profile of a line is this project's own: a
 -- cell lasts 1/115 of the line, and a run is within a quarter of a cell of whole cells.
-use Rattle.std.specs.Prelude.{◌≡◌, ℕ, ◌+◌, ◌-◌, ◌*◌, ◌/◌, ◌%◌, ◌^◌, ◌<◌, ◌≤◌, Bool, true, false, not, List, [], ◌∷◌, ◌++◌, length}
+use Rattle.std.specs.Prelude.{◌≡◌, ℕ, ◌+◌, ◌-◌, ◌*◌, ◌/◌, ◌%◌, ◌^◌, ◌<◌, ◌≤◌, Bool, true, false, not, List, [], ◌∷◌}
+use Rattle.std.specs.Prelude.{◌++◌, length}
 use Rattle.std.specs.Int.{abs_diff}
 use Rattle.vitc_reader.specs.declared.fault.RunFault.{RunFault}
 use Rattle.vitc_reader.specs.declared.fault.RunFault.TheVariants.{Run, TooLong}
@@ -62,7 +63,8 @@ pub record AreGoodUpTo (n : ℕ) (runs : List ℕ) (i : ℕ) : Type 0 where
 -- the first run that can't be taken: it is no number of cells, or it has more than are left
 abbrev pub IsRunFault : ℕ → List ℕ → RunFault → Type 0
 IsRunFault n runs (Run i) = (good : AreGoodUpTo n runs i) × ((k : ℕ) → ¬ IsCells n good.run k)
-IsRunFault n runs (TooLong i) = (good : AreGoodUpTo n runs i) × (k : ℕ) × IsCells n good.run k × (90 < total good.cells + k)
+IsRunFault n runs (TooLong i) =
+    (good : AreGoodUpTo n runs i) × (k : ℕ) × IsCells n good.run k × (90 < total good.cells + k)
 
 -- the runs of so many cells each, where cell i begins at tick `i * n / 115`, rounded down
 abbrev pub runs_from : ℕ → ℕ → List ℕ → List ℕ
@@ -76,4 +78,5 @@ HaveCells (k ∷ cells) = (1 ≤ k) × HaveCells cells
 
 -- the runs that a line of n ticks with these bits has, up to its last high one
 abbrev pub AreRunsOf : ℕ → ℕ → List ℕ → Type 0
-AreRunsOf n bits runs = (cells : List ℕ) × HaveCells cells × (length cells % 2 ≡ 1) × (bits ≡ bits_of true cells) × (runs ≡ runs_from n 0 cells)
+AreRunsOf n bits runs = (cells : List ℕ) × HaveCells cells × (length cells % 2 ≡ 1) × (bits ≡ bits_of true cells)
+    × (runs ≡ runs_from n 0 cells)

@@ -36,7 +36,8 @@ fn is_same(one: &VitcWord, other: &VitcWord) -> bool
 impl FieldAnswer {
     /// The answer with one line more.
     fn with(self, said: Result<VitcWord, ReadFault>) -> FieldAnswer
-        ensures { (before : List (Result VitcWord ReadFault)) → IsAnswerTo before self → IsAnswerTo (before ++ said ∷ []) result }
+        ensures { (before : List (Result VitcWord ReadFault)) → IsAnswerTo before self
+            → IsAnswerTo (before ++ said ∷ []) result }
     {
         match (self, said) {
             (FieldAnswer::NoLine, Ok(word)) => FieldAnswer::Agreed(word),
@@ -58,7 +59,8 @@ impl FieldAnswer {
 fn say(system: System, read: Result<u128, RunFault>) -> Result<VitcWord, ReadFault>
     requires system { HasLines system }
     requires width { IfOk read (λ bits. bits < 2 ^ 90) }
-    ensures { (n : ℕ) (runs : List ℕ) → IfOk read (StandFor n runs) → IfErr read (IsRunFault n runs) → IsSaid system n runs result }
+    ensures { (n : ℕ) (runs : List ℕ) → IfOk read (StandFor n runs) → IfErr read (IsRunFault n runs)
+        → IsSaid system n runs result }
 {
     match read {
         Ok(bits) => match decode(system, bits) {
@@ -117,7 +119,8 @@ impl FieldReader {
     pub fn line(&mut self, runs: &[u16])
         requires { MayBeLine runs.now }
         ensures same { (self.new.system ≡ self.old.system) × (self.new.length ≡ self.old.length) }
-        ensures next { (lines : List (List ℕ)) → StandsFor self.old lines → StandsFor self.new (lines ++ runs.now ∷ []) }
+        ensures next { (lines : List (List ℕ)) → StandsFor self.old lines
+            → StandsFor self.new (lines ++ runs.now ∷ []) }
     {
         let said = say(self.system, read_runs(self.length, runs));
         self.answer = self.answer.with(said);
@@ -128,8 +131,10 @@ impl FieldReader {
     pub fn line_of_bytes(&mut self, bytes: &[u8]) -> bool
         requires { MayBeLine (runs_of_bytes bytes.now) }
         ensures same { (self.new.system ≡ self.old.system) × (self.new.length ≡ self.old.length) }
-        ensures next { (lines : List (List ℕ)) → StandsFor self.old lines → StandsFor self.new (lines ++ runs_of_bytes bytes.now ∷ []) }
-        ensures reads { result ≡ true → IsLineLength self.old.length × ((bits : ℕ) × StandFor self.old.length (runs_of_bytes bytes.now) bits) }
+        ensures next { (lines : List (List ℕ)) → StandsFor self.old lines
+            → StandsFor self.new (lines ++ runs_of_bytes bytes.now ∷ []) }
+        ensures reads { result ≡ true → IsLineLength self.old.length
+            × ((bits : ℕ) × StandFor self.old.length (runs_of_bytes bytes.now) bits) }
         ensures only { (bits : ℕ) → StandFor self.old.length (runs_of_bytes bytes.now) bits → result ≡ true }
     {
         let read = read_bytes(self.length, self.factor, bytes);
@@ -142,7 +147,8 @@ impl FieldReader {
     /// What the lines so far say together.
     pub fn answer(&self) -> FieldAnswer
         ensures value { result ≡ self.now.answer }
-        ensures lines { (lines : List (List ℕ)) → StandsFor self.now lines → IsAnswer self.now.system self.now.length lines result }
+        ensures lines { (lines : List (List ℕ)) → StandsFor self.now lines
+            → IsAnswer self.now.system self.now.length lines result }
     {
         self.answer
     }

@@ -12,9 +12,12 @@ use vitc_line::laws::{bits_spell_a_word_or_have_a_fault, spelling_is_exact};
 /// Runs stand for one number of bits at most, and have one first fault at most; runs that stand for
 /// bits have none.
 pub fn runs_say_one_thing()
-    ensures one_number { (n : ℕ) (runs : List ℕ) (a b : ℕ) → IsLineLength n → StandFor n runs a → StandFor n runs b → a ≡ b }
-    ensures one_fault { (n : ℕ) (runs : List ℕ) (a b : RunFault) → IsLineLength n → IsRunFault n runs a → IsRunFault n runs b → a ≡ b }
-    ensures no_fault { (n : ℕ) (runs : List ℕ) (bits : ℕ) (fault : RunFault) → IsLineLength n → StandFor n runs bits → ¬ IsRunFault n runs fault }
+    ensures one_number { (n : ℕ) (runs : List ℕ) (a b : ℕ) → IsLineLength n → StandFor n runs a → StandFor n runs b
+        → a ≡ b }
+    ensures one_fault { (n : ℕ) (runs : List ℕ) (a b : RunFault) → IsLineLength n → IsRunFault n runs a
+        → IsRunFault n runs b → a ≡ b }
+    ensures no_fault { (n : ℕ) (runs : List ℕ) (bits : ℕ) (fault : RunFault) → IsLineLength n → StandFor n runs bits
+        → ¬ IsRunFault n runs fault }
 {}
 
 /// Bits of which bit 0 is 1 have their runs on a line of each length, and these stand for them.
@@ -33,7 +36,8 @@ pub fn lines_have_an_answer()
 
 /// The lines of a field have one answer.
 pub fn lines_have_one_answer()
-    ensures { (system : System) (n : ℕ) (lines : List (List ℕ)) (a b : FieldAnswer) → IsLineLength n → IsAnswer system n lines a
+    ensures { (system : System) (n : ℕ) (lines : List (List ℕ)) (a b : FieldAnswer) → IsLineLength n
+        → IsAnswer system n lines a
         → IsAnswer system n lines b → a ≡ b }
 {
     spelling_is_exact();

@@ -13,8 +13,8 @@
 //!   all of them (`specs/Field.antt`, `StandsFor`, `IsAnswer`): agreed, in conflict, or nothing, with the
 //!   fault of the first line.
 //!
-//! Read `fault`, `line_length`, `ones`, `reading`, `writing` and `field`, in this order, and the files of specs/ beside them.
-//! `vitc_line` says what the bits of a line spell. Nothing here allocates or fails in any other way.
+//! Read `fault`, `line_length`, `ones`, `reading`, `writing` and `field`, in this order, and the files of specs/
+//! beside them. `vitc_line` says what the bits of a line spell. Nothing here allocates or fails in any other way.
 #![tactic(auto)]
 
 mod fault;

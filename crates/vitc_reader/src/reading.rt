@@ -44,8 +44,8 @@ fn cells_of(length: u32, factor: u64, run: u16) -> Option<u32>
     }
 }
 
-/// The runs so far of a line: how many cells they are, and their bits, with the last run taken to be high. Each run before it
-/// turns, so behind an odd number of runs the first one is high.
+/// The runs so far of a line: how many cells they are, and their bits, with the last run taken to be high. Each run
+/// before it turns, so behind an odd number of runs the first one is high.
 #[derive(Clone, Copy, Debug, PartialEq, Eq)]
 struct Turned {
     cells: u32,
@@ -104,7 +104,8 @@ pub fn read_runs(length: u32, runs: &[u16]) -> Result<u128, RunFault>
     Ok(line.bits)
 }
 
-/// The same of runs that stand as two bytes each, the most significant first. Alone it has the registers that its loop wants.
+/// The same of runs that stand as two bytes each, the most significant first. Alone it has the registers that its loop
+/// wants.
 #[inline(never)]
 pub(crate) fn read_bytes(length: u32, factor: u64, bytes: &[u8]) -> Result<u128, RunFault>
     requires length { IsLineLength length }
