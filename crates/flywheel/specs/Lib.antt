@@ -5,3 +5,4 @@ pub mod GoOn
 pub mod Marked
 pub mod StandsFor
 pub mod Wheel
+pub mod Kinds

@@ -24,9 +24,9 @@ use Rattle.std.specs.Io.KnownBytes.{Appends}
 use Rattle.tc_words.specs.declared.flight.Flight.{Flight}
 use Rattle.frame_commands.specs.declared.flight.FrameReader.{FrameReader}
 use Rattle.frame_commands.specs.KeptFlight.{Comes, Counts, CountsAll, GivesDue, GivesDueAll, GivesDueAllFirst, Sends, SendsFront, Stands}
-use Rattle.frame_commands.specs.LtcFly.{is_end, is_heard, is_invented}
 use Rattle.frame_commands.specs.OfFrames.{FrameText, IsFlightPart, IsFlightWhole, frames_of, heard_in, words_heard}
 use Rattle.frame_commands.proofs.FramesInOrder.{Given}
+use Rattle.flywheel.specs.Kinds.{is_gone, is_heard, is_invented}
 
 -- what a reader stands for are the events of its intervals
 abbrev pub TheEvents : Type 0
@@ -95,7 +95,7 @@ flown flight made has f next sink after choice header intervals written x own mo
         are = ap (λ (l : List ℕ). l ++ sent.1.0) s.are ∙ sym sent.1.1;
         heard = counts.heard ∙ ap (λ (n : ℕ). n + count_by is_heard more) s.heard ∙ sym (count_of_more is_heard s.given more);
         invented = counts.invented ∙ ap (λ (n : ℕ). n + count_by is_invented more) s.invented ∙ sym (count_of_more is_invented s.given more);
-        gone = counts.gone ∙ ap (λ (n : ℕ). n + count_by is_end more) s.gone ∙ sym (count_of_more is_end s.given more);
+        gone = counts.gone ∙ ap (λ (n : ℕ). n + count_by is_gone more) s.gone ∙ sym (count_of_more is_gone s.given more);
       },
     )
 

@@ -18,9 +18,9 @@ use Rattle.std.proofs.KnownBytes.{Appends-nil, Appends-trans}
 use Rattle.interval_file.specs.declared.header.IntervalHeader.{IntervalHeader}
 use Rattle.frame_commands.specs.declared.flight.FrameReader.{FrameReader}
 use Rattle.frame_commands.specs.KeptFlight.{counted, Comes, Counts, GivesAll, GivesDue, GivesDueAll, GivesDueAllFirst, GivesFirst, Sends, SendsFront}
-use Rattle.frame_commands.specs.LtcFly.{is_end, is_heard, is_invented}
 use Rattle.frame_commands.specs.OfFrames.{FrameText, heard_in, words_heard}
 use Rattle.tc_command.specs.KeptPushed.{front_of_piece}
+use Rattle.flywheel.specs.Kinds.{is_gone, is_heard, is_invented}
 
 -- ---- counts
 
@@ -34,19 +34,19 @@ one_counted before mid after (Heard l d j t) h i g e =
     rw e (record {
       heard = omega (arith, h, one_of is_heard (Heard l d j t));
       invented = omega (arith, i, one_of is_invented (Heard l d j t));
-      gone = omega (arith, g, one_of is_end (Heard l d j t));
+      gone = omega (arith, g, one_of is_gone (Heard l d j t));
     })
 one_counted before mid after (Invented l d s t) h i g e =
     rw e (record {
       heard = omega (arith, h, one_of is_heard (Invented l d s t));
       invented = omega (arith, i, one_of is_invented (Invented l d s t));
-      gone = omega (arith, g, one_of is_end (Invented l d s t));
+      gone = omega (arith, g, one_of is_gone (Invented l d s t));
     })
 one_counted before mid after (Gone t) h i g e =
     rw e (record {
       heard = omega (arith, h, one_of is_heard (Gone t));
       invented = omega (arith, i, one_of is_invented (Gone t));
-      gone = omega (arith, g, one_of is_end (Gone t));
+      gone = omega (arith, g, one_of is_gone (Gone t));
     })
 
 pub none_counted : (f : FrameReader) → Counts f f []
@@ -60,7 +60,7 @@ pub both_counted : (a b c : FrameReader) (fs more : List Frame) → Counts a b f
 both_counted a b c fs more first second = record {
   heard = omega (arith, first.heard, second.heard, count_of_more is_heard fs more);
   invented = omega (arith, first.invented, second.invented, count_of_more is_invented fs more);
-  gone = omega (arith, first.gone, second.gone, count_of_more is_end fs more);
+  gone = omega (arith, first.gone, second.gone, count_of_more is_gone fs more);
 }
 
 -- ---- what is sent

@@ -17,8 +17,8 @@ use Rattle.interval_file.specs.declared.header.IntervalHeader.{IntervalHeader}
 use Rattle.frame_commands.specs.declared.flight.FrameReader.{FrameReader}
 use Rattle.tc_words.specs.declared.flight.Flight.{Flight}
 use Rattle.tc_io.specs.Sink.{AppendsFront}
-use Rattle.frame_commands.specs.LtcFly.{is_end, is_heard, is_invented}
 use Rattle.frame_commands.specs.OfFrames.{FrameText, IsFlightPart, words_heard}
+use Rattle.flywheel.specs.Kinds.{is_gone, is_heard, is_invented}
 
 -- one frame more of its kind
 abbrev pub counted : Frame → FrameReader → FrameReader
@@ -30,7 +30,7 @@ counted (Gone tick) f = record f { gone = f.gone + 1 }
 pub record Counts (before after : FrameReader) (more : List Frame) : Type 0 where
   pub heard : after.heard ≡ before.heard + count_by is_heard more
   pub invented : after.invented ≡ before.invented + count_by is_invented more
-  pub gone : after.gone ≡ before.gone + count_by is_end more
+  pub gone : after.gone ≡ before.gone + count_by is_gone more
 
 -- a word brings so many frames after it at most
 abbrev pub FitsFrames : FrameReader → Type 0
@@ -144,7 +144,7 @@ pub record CountsAll (f : FrameReader) (intervals : List ℕ) (given : List Fram
   pub ticks : f.reader.tick ≡ sum intervals
   pub heard : f.heard ≡ count_by is_heard given
   pub invented : f.invented ≡ count_by is_invented given
-  pub gone : f.gone ≡ count_by is_end given
+  pub gone : f.gone ≡ count_by is_gone given
 
 -- it was given these intervals behind this header, and sent the frames of their words
 pub record Stands {S C : Type 0} (flight : C → Flight) (made : C → FrameText) (has_given : S → C → IntervalHeader → List Frame → Type 0)
@@ -161,7 +161,7 @@ pub record Stands {S C : Type 0} (flight : C → Flight) (made : C → FrameText
   pub are : written ≡ (made choice).text header given
   pub heard : f.heard ≡ count_by is_heard given
   pub invented : f.invented ≡ count_by is_invented given
-  pub gone : f.gone ≡ count_by is_end given
+  pub gone : f.gone ≡ count_by is_gone given
 
 -- what was written is a part of what the frames make
 pub stands_well : {S C : Type 0} (flight : C → Flight) (made : C → FrameText) (has_given : S → C → IntervalHeader → List Frame → Type 0)

@@ -12,30 +12,16 @@ use Rattle.interval_file.specs.Recording.{recording_of}
 use Rattle.tc_words.specs.declared.flight.Flight.{Flight}
 use Rattle.interval_commands.specs.Along.{Printing}
 use Rattle.frame_commands.specs.OfFrames.{FrameText, along_frames, frames_of, words_heard}
+use Rattle.flywheel.specs.Kinds.{is_gone, is_heard, is_invented}
 
 -- the lines of frames, one after another
 abbrev pub frame_lines : List Frame → List ℕ
 frame_lines fs = flat_map frame_line fs
 
-abbrev pub is_heard : Frame → Bool
-is_heard (Heard label direction joined tick) = true
-is_heard (Invented label direction step tick) = false
-is_heard (Gone tick) = false
-
-abbrev pub is_invented : Frame → Bool
-is_invented (Heard label direction joined tick) = false
-is_invented (Invented label direction step tick) = true
-is_invented (Gone tick) = false
-
-abbrev pub is_end : Frame → Bool
-is_end (Heard label direction joined tick) = false
-is_end (Invented label direction step tick) = false
-is_end (Gone tick) = true
-
 -- the last line counts the intervals, the frames of each kind and the ticks
 abbrev pub last_fly_line : List ℕ → List Frame → List ℕ
 last_fly_line intervals fs =
-    fly_end_line (length intervals) (count_by is_heard fs) (count_by is_invented fs) (count_by is_end fs) (sum intervals)
+    fly_end_line (length intervals) (count_by is_heard fs) (count_by is_invented fs) (count_by is_gone fs) (sum intervals)
 
 -- the lines of the frames, and the last line
 abbrev pub lines_of_frames : FrameText

@@ -10,8 +10,9 @@ use Rattle.flywheel.specs.declared.frame.Frame.{Frame}
 use Rattle.flywheel.specs.declared.frame.Frame.TheVariants.{Heard, Invented, Gone}
 use Rattle.quarter_frame.specs.declared.half.Half.{Half}
 use Rattle.quarter_frame.specs.declared.half.Half.TheVariants.{First, Second}
-use Rattle.quarter_frame.specs.Runs.{four_of, goes_on, is_even, quarters_of, quarters_from, mtc_of}
+use Rattle.quarter_frame.specs.Runs.{four_of, is_even, quarters_of, quarters_from, mtc_of}
 use Rattle.quarter_frame.specs.StandsFor.{position_of, other_half, written, next_half, text_to_come, StandsFor}
+use Rattle.flywheel.specs.GoOn.{goes_on}
 
 is_even-two : (position : ℕ) → is_even (position + 2) ≡ is_even position
 is_even-two position = let same : (position + 2) % 2 ≡ position % 2 = omega arith in rw same refl

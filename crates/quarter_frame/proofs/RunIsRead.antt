@@ -20,8 +20,9 @@ use Rattle.mtc_reader.specs.Laws.{all_falling, all_rising, at_no_place, falling,
 use Rattle.mtc_reader.specs.Laws as read
 use Rattle.quarter_frame.specs.Message.{code_of, full_of}
 use Rattle.quarter_frame.specs.ReadAgain.{all_placed, earlier, later, pairs_read, IsNeighbour, Placed}
-use Rattle.quarter_frame.specs.Runs.{before, four_of, goes_on, is_even, quarters_from}
+use Rattle.quarter_frame.specs.Runs.{before, four_of, is_even, quarters_from}
 use Rattle.quarter_frame.proofs.GoesOn.{Follows, GoOn, Laws, placed_at, step_label}
+use Rattle.flywheel.specs.GoOn.{goes_on}
 
 -- what the reader's crate says of a run
 pub record ReadsRuns : Type 0 where

@@ -9,9 +9,10 @@ use Rattle.mtc_reader.specs.declared.event.MtcEvent.{MtcEvent}
 use Rattle.mtc_reader.specs.Events.{events_in}
 use Rattle.mtc_reader.specs.Laws.{at_no_place}
 use Rattle.quarter_frame.specs.ReadAgain.{placed, read_from, read_of, run_read, AreLabelled, IsNeighbour, Placed}
-use Rattle.quarter_frame.specs.Runs.{goes_on, mtc_from, mtc_of, run_text}
+use Rattle.quarter_frame.specs.Runs.{mtc_from, mtc_of, run_text}
 use Rattle.quarter_frame.proofs.GoesOn.{frames_go_on, placed_at, GoOn, Laws}
 use Rattle.quarter_frame.proofs.RunIsRead.{one_before, run_of, ReadsRuns}
+use Rattle.flywheel.specs.GoOn.{goes_on}
 
 -- no frame came before, or an end
 abbrev IsFresh : Bool → Option Placed → Type 0

@@ -10,7 +10,9 @@ use Rattle.flywheel.specs.declared.frame.Frame.{Frame}
 use Rattle.flywheel.specs.declared.frame.Frame.TheVariants.{Heard, Invented, Gone}
 use Rattle.mtc_reader.specs.declared.event.MtcEvent.{MtcEvent}
 use Rattle.mtc_reader.specs.declared.event.MtcEvent.TheVariants.{Full, Quarter}
-use Rattle.quarter_frame.specs.Runs.{before, begins_run, goes_on, is_end}
+use Rattle.quarter_frame.specs.Runs.{before, begins_run}
+use Rattle.flywheel.specs.Kinds.{is_gone}
+use Rattle.flywheel.specs.GoOn.{goes_on}
 
 -- the label of a frame, and the way in which the tape moved
 pub record Placed : Type 0 where
@@ -59,7 +61,7 @@ run_read first others = map (λ (f : Placed). Full f.label 0) (placed first) ++ 
 abbrev pub read_from : Bool → List Frame → List MtcEvent
 read_from fresh [] = []
 read_from fresh (frame ∷ more) =
-    cond (begins_run fresh frame) (run_read frame (take_while goes_on more)) [] ++ read_from (is_end frame) more
+    cond (begins_run fresh frame) (run_read frame (take_while goes_on more)) [] ++ read_from (is_gone frame) more
 
 -- what is read of frames, but for the places
 abbrev pub read_of : List Frame → List MtcEvent

@@ -10,6 +10,8 @@ use Rattle.tc_address.specs.Numbering.{step}
 use Rattle.flywheel.specs.declared.frame.Frame.{Frame}
 use Rattle.flywheel.specs.declared.frame.Frame.TheVariants.{Heard, Invented, Gone}
 use Rattle.quarter_frame.specs.Message.{quarter_of, full_of}
+use Rattle.flywheel.specs.Kinds.{is_gone}
+use Rattle.flywheel.specs.GoOn.{goes_on}
 
 -- the quarter frames of these pieces of a label
 abbrev pub quarters : Address → List ℕ → List ℕ
@@ -51,20 +53,9 @@ full_message (Gone tick) = []
 abbrev pub run_text : Frame → List Frame → List ℕ
 run_text first others = full_message first ++ quarters_from 0 (first ∷ others)
 
-abbrev pub is_end : Frame → Bool
-is_end (Heard label direction joined tick) = false
-is_end (Invented label direction invented tick) = false
-is_end (Gone tick) = true
-
--- a frame goes on the run of the frame before it, where there is one
-abbrev pub goes_on : Frame → Bool
-goes_on (Heard label direction joined tick) = joined
-goes_on (Invented label direction invented tick) = true
-goes_on (Gone tick) = false
-
 -- a frame begins a run: it is no end, and goes on no run, or is the first frame or directly follows an end (is `fresh`)
 abbrev pub begins_run : Bool → Frame → Bool
-begins_run true frame = not (is_end frame)
+begins_run true frame = not (is_gone frame)
 begins_run false (Heard label direction joined tick) = not joined
 begins_run false (Invented label direction invented tick) = false
 begins_run false (Gone tick) = false
@@ -74,7 +65,7 @@ begins_run false (Gone tick) = false
 abbrev pub mtc_from : Bool → List Frame → List ℕ
 mtc_from fresh [] = []
 mtc_from fresh (frame ∷ more) =
-    cond (begins_run fresh frame) (run_text frame (take_while goes_on more)) [] ++ mtc_from (is_end frame) more
+    cond (begins_run fresh frame) (run_text frame (take_while goes_on more)) [] ++ mtc_from (is_gone frame) more
 
 -- the MIDI Time Code of a list of frames
 abbrev pub mtc_of : List Frame → List ℕ

@@ -4,7 +4,9 @@ use Rattle.std.specs.List.{take_while}
 use Rattle.flywheel.specs.declared.frame.Frame.{Frame}
 use Rattle.quarter_frame.specs.declared.half.Half.{Half}
 use Rattle.quarter_frame.specs.declared.half.Half.TheVariants.{First, Second}
-use Rattle.quarter_frame.specs.Runs.{is_end, goes_on, quarters_of, quarters_from, run_text, mtc_from, mtc_of}
+use Rattle.quarter_frame.specs.Runs.{quarters_of, quarters_from, run_text, mtc_from, mtc_of}
+use Rattle.flywheel.specs.Kinds.{is_gone}
+use Rattle.flywheel.specs.GoOn.{goes_on}
 
 -- a position that a frame of this half has, and the half of the next frame
 abbrev pub position_of : Half → ℕ
@@ -23,7 +25,7 @@ written (Some half) frame = cond (goes_on frame) (quarters_of (position_of half)
 
 -- the half that follows a frame that goes on no run: the second of the run that it begins, and none after an end
 abbrev pub begun_half : Frame → Option Half
-begun_half frame = cond (is_end frame) None (Some Second)
+begun_half frame = cond (is_gone frame) None (Some Second)
 
 -- the half that follows a frame
 abbrev pub next_half : Option Half → Frame → Option Half

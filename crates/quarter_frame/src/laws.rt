@@ -10,7 +10,8 @@ ghost use Rattle.flywheel.specs.Frames.{frames};
 ghost use Rattle.mtc_reader.specs.Events.{events_in};
 ghost use Rattle.mtc_reader.specs.Laws.{at_no_place};
 ghost use Rattle.quarter_frame.specs.ReadAgain.{placed, read_of, AreLabelled, IsNeighbour, Placed};
-ghost use Rattle.quarter_frame.specs.Runs.{before, four_of, goes_on, mtc_of, quarters};
+ghost use Rattle.quarter_frame.specs.Runs.{before, four_of, mtc_of, quarters};
+ghost use Rattle.flywheel.specs.GoOn.{goes_on};
 
 use flywheel::laws::{steps_are_due_in_order, the_next_word_fits};
 use mtc_reader::laws::a_run_is_read_back;

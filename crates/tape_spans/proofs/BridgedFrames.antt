@@ -8,7 +8,8 @@ use Rattle.tc_address.specs.declared.direction.Direction.{Direction}
 use Rattle.tc_address.specs.Label.{Address}
 use Rattle.flywheel.specs.declared.frame.Frame.{Frame}
 use Rattle.flywheel.specs.declared.frame.Frame.TheVariants.{Heard, Invented, Gone}
-use Rattle.tape_spans.specs.Spans.{bridged_in, is_heard, is_invented}
+use Rattle.tape_spans.specs.Spans.{bridged_in}
+use Rattle.flywheel.specs.Kinds.{is_heard, is_invented}
 
 or-false : (a : Bool) → (a || false) ≡ a
 or-false true = refl

@@ -13,7 +13,8 @@ use Rattle.flywheel.specs.GoOn.{Follows, GoOn, Position, goes_on, next_position,
 use Rattle.tape_spans.specs.declared.span.Span.{Span}
 use Rattle.tape_spans.specs.Shared.{HoldsTogether, first_frame, frames_in, present}
 use Rattle.tape_spans.proofs.SpansGoOn.{gone-same, heard_on-same, invented-same}
-use Rattle.tape_spans.specs.Spans.{SpanFrames, frames_of_spans, is_gone, is_heard, mark_at, span_at, span_of, spans}
+use Rattle.tape_spans.specs.Spans.{SpanFrames, frames_of_spans, mark_at, span_at, span_of, spans}
+use Rattle.flywheel.specs.Kinds.{is_heard}
 
 -- what the open span takes, where there is a place before the frames
 abbrev taken : Option Position → List Frame → List Frame

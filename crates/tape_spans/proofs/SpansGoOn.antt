@@ -14,11 +14,12 @@ use Rattle.tape_spans.specs.declared.place.TapePlace.{TapePlace}
 use Rattle.tape_spans.specs.declared.place.TapePlace.TheVariants.{Before, Within, Behind}
 use Rattle.tape_spans.specs.declared.span.Mark.{Mark}
 use Rattle.tape_spans.specs.declared.span.Span.{Span}
-use Rattle.tape_spans.specs.Spans.{SpanFrames, bridged_in, frames_of_spans, is_heard, is_invented, latest_of, mark_at, span_of}
+use Rattle.tape_spans.specs.Spans.{SpanFrames, bridged_in, frames_of_spans, latest_of, mark_at, span_of}
 use Rattle.tape_spans.specs.StandsFor.{AreEnded, Running, StandsFor, latest_end, place_of_tape, so_far, to_come}
 use Rattle.tape_spans.specs.Tape.{Tape, after_frame, begun_at, begun_in, blank, counted, counted_at, ended_by, invented_at, joined_at, joined_by}
 use Rattle.tape_spans.specs.Tape.{placed, with_invented}
 use Rattle.tape_spans.proofs.BridgedFrames.{bridged-heard, bridged-invented}
+use Rattle.flywheel.specs.Kinds.{is_heard, is_invented}
 
 -- ---- the open span with a frame more
 

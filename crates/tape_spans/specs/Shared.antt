@@ -5,7 +5,8 @@ use Rattle.flywheel.specs.declared.frame.Frame.{Frame}
 use Rattle.flywheel.specs.declared.frame.Frame.TheVariants.{Heard}
 use Rattle.flywheel.specs.GoOn.{GoOn, goes_on, position_of}
 use Rattle.tape_spans.specs.declared.span.Mark.{Mark}
-use Rattle.tape_spans.specs.Spans.{SpanFrames, is_gone}
+use Rattle.tape_spans.specs.Spans.{SpanFrames}
+use Rattle.flywheel.specs.Kinds.{is_gone}
 
 -- the frame with which a span begins: it was heard, and does not join
 abbrev pub first_frame : Mark → Frame

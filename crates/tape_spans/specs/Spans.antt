@@ -8,25 +8,10 @@ use Rattle.flywheel.specs.declared.frame.Frame.TheVariants.{Heard, Invented, Gon
 use Rattle.flywheel.specs.GoOn.{goes_on}
 use Rattle.tape_spans.specs.declared.span.Mark.{Mark}
 use Rattle.tape_spans.specs.declared.span.Span.{Span}
+use Rattle.flywheel.specs.Kinds.{is_heard, is_invented}
 
 abbrev pub mark_at : Address → Direction → ℕ → Mark
 mark_at label direction tick = record { label = label; direction = direction; tick = tick }
-
-abbrev pub is_heard : Frame → Bool
-is_heard (Heard label direction joined tick) = true
-is_heard (Invented label direction step tick) = false
-is_heard (Gone tick) = false
-
-abbrev pub is_invented : Frame → Bool
-is_invented (Heard label direction joined tick) = false
-is_invented (Invented label direction step tick) = true
-is_invented (Gone tick) = false
-
--- the time code is gone there
-abbrev pub is_gone : Frame → Bool
-is_gone (Heard label direction joined tick) = false
-is_gone (Invented label direction step tick) = false
-is_gone (Gone tick) = true
 
 -- where frames stand in the list: the frame that was heard first, those that go on from it, up to the first that does not, and whether one that
 -- does not stands behind them, so that the span has ended

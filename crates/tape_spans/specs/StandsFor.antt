@@ -11,9 +11,10 @@ use Rattle.tape_spans.specs.declared.place.TapePlace.{TapePlace}
 use Rattle.tape_spans.specs.declared.place.TapePlace.TheVariants.{Before, Within, Behind}
 use Rattle.tape_spans.specs.declared.span.Mark.{Mark}
 use Rattle.tape_spans.specs.declared.span.Span.{Span}
-use Rattle.tape_spans.specs.Spans.{SpanFrames, frames_of_spans, is_invented, span_of}
+use Rattle.tape_spans.specs.Spans.{SpanFrames, frames_of_spans, span_of}
 use Rattle.tape_spans.specs.SpanTexts.{gap_line, span_line}
 use Rattle.tape_spans.specs.Tape.{Tape}
+use Rattle.flywheel.specs.Kinds.{is_invented}
 
 -- the lines of what a frame tells
 abbrev pub ended_lines : ℕ → System → Option Span → List ℕ

@@ -5,8 +5,9 @@ ghost use Rattle.tc_address.specs.declared.system.System.{System};
 ghost use Rattle.flywheel.specs.declared.frame.Frame.{Frame};
 ghost use Rattle.flywheel.specs.GoOn.{GoOn};
 ghost use Rattle.tape_spans.specs.Shared.{frames_in, present, HoldsTogether};
-ghost use Rattle.tape_spans.specs.Spans.{frames_of_spans, is_heard, spans};
+ghost use Rattle.tape_spans.specs.Spans.{frames_of_spans, spans};
 ghost use Rattle.tape_spans.specs.SpanTexts.{final_lines, lines_behind, open_line};
+ghost use Rattle.flywheel.specs.Kinds.{is_heard};
 
 /// Where each frame that goes on follows the one before it, as the frames of a flywheel do: each frame that
 /// was heard or invented stands in exactly one span, in order. Each span begins with a frame that does not

@@ -13,7 +13,7 @@ use Rattle.mtc_reader.specs.Events.{events_in}
 use Rattle.mtc_reader.specs.Laws.{at_no_place}
 use Rattle.mtc_reader.specs.Texts.{end_line}
 use Rattle.quarter_frame.specs.ReadAgain.{all_placed, pairs_read, placed, read_from, read_of, run_read, AreLabelled, Placed}
-use Rattle.quarter_frame.specs.Runs.{begins_run, goes_on, is_end, mtc_of}
+use Rattle.quarter_frame.specs.Runs.{begins_run, mtc_of}
 use Rattle.tc_words.specs.declared.flight.Flight.{Flight}
 use Rattle.interval_file.specs.declared.header.IntervalHeader.{IntervalHeader}
 use Rattle.interval_file.specs.Recording.{recording_of}
@@ -23,6 +23,8 @@ use Rattle.signal_commands.specs.MtcRead.{event_lines, is_full, is_quarter, is_r
 use Rattle.frame_commands.specs.OfFrames.{frames_of, words_heard}
 use Rattle.tc_top.specs.SentAgain.{none_refused, SendsTheFrames}
 use Rattle.tc_top.proofs.LabelsHeard.{labels_heard}
+use Rattle.flywheel.specs.Kinds.{is_gone}
+use Rattle.flywheel.specs.GoOn.{goes_on}
 
 -- what is sent of frames is read as these frames
 abbrev pub AreReadBack : Type 0
@@ -85,8 +87,8 @@ none_where false first others = refl
 none_from : (fresh : Bool) (fs : List Frame) → count_by is_refused (read_from fresh fs) ≡ 0
 none_from fresh [] = refl
 none_from fresh (f ∷ fs) =
-    none_in_both (cond (begins_run fresh f) (run_read f (take_while goes_on fs)) []) (read_from (is_end f) fs)
-    (none_where (begins_run fresh f) f (take_while goes_on fs)) (none_from (is_end f) fs)
+    none_in_both (cond (begins_run fresh f) (run_read f (take_while goes_on fs)) []) (read_from (is_gone f) fs)
+    (none_where (begins_run fresh f) f (take_while goes_on fs)) (none_from (is_gone f) fs)
 
 -- ---- the report
 
