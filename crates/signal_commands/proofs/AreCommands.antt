@@ -22,7 +22,7 @@ use Rattle.interval_file.specs.Piece.{spelling}
 use Rattle.line_file.specs.declared.fault.LineFileFault.{LineFileFault}
 use Rattle.tc_io.specs.Verdict.{Verdict, good, refused, past_limit}
 use Rattle.tc_io.specs.Sink.{IsFront}
-use Rattle.tc_words.specs.Slicing.{Slices}
+use Rattle.tc_job.specs.Slicing.{Slices}
 use Rattle.vitc_reader.specs.declared.field.FieldAnswer.{FieldAnswer}
 use Rattle.tc_command.specs.Command.{IsCommand}
 use Rattle.tc_command.specs.KeptFirst.{front_of_more}
