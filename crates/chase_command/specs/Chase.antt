@@ -1,6 +1,7 @@
--- `chase`: a script is read whole, and then the trace of its rows is written. So it is no stream: it takes memory for its
--- input, and what is refused is a row and a column.
-use Rattle.std.specs.Prelude.{◌≡◌, ◌⊎◌, ℕ, ◌+◌, ◌≤◌, Bool, true, false, nat_le, List, [], length, Option, Result, Ok, Err}
+-- `chase`: a script is read whole, and then the trace of its rows is written. So it is no stream: it takes memory for
+-- its input, and what is refused is a row and a column.
+use Rattle.std.specs.Prelude.{◌≡◌, ◌⊎◌, ℕ, ◌+◌, ◌≤◌, Bool, true, false, nat_le, List, [], length, Option, Result, Ok}
+use Rattle.std.specs.Prelude.{Err}
 use Rattle.std.specs.Io.KnownBytes.{IsAtEnd}
 use Rattle.tc_io.specs.Sink.{IsFront}
 use Rattle.tc_address.specs.Label.{Address}
@@ -38,8 +39,9 @@ pub record IsTraced (label : Address) (left : Option (List ℕ)) (pulled written
   pub script : IsScript label left pulled rows
   pub text : written ≡ chase_text label rows
 
--- why a chase stops, and what was written then: nothing, unless a push failed. At most a byte more is pulled than a script
--- may have, and no row is judged before the end of the input. Memory is wanted before the first pull or for the rows
+-- why a chase stops, and what was written then: nothing, unless a push failed. At most a byte more is pulled than a
+-- script may have, and no row is judged before the end of the input. Memory is wanted before the first pull or for the
+-- rows
 abbrev pub IsChaseStop : Address → ChaseStop → Option (List ℕ) → List ℕ → List ℕ → Type 0
 IsChaseStop label (Refused fault) left pulled written =
     IsWhole left pulled × (script_in label.count pulled ≡ Err fault) × (written ≡ [])

@@ -37,8 +37,9 @@ pub fn chase<S: Source, K: Sink, N: Sink>(
     out: &mut K,
     notes: &mut N,
 ) -> Status
-    // What was pulled, what was written, and the note are those of the status. A trace that was written keeps its lock.
-    // Whatever the status, what was written is a front of the trace where the whole input is a script, and else nothing.
+    // What was pulled, what was written, and the note are those of the status. A trace that was written keeps its
+    // lock. Whatever the status, what was written is a front of the trace where the whole input is a script, and else
+    // nothing.
     ensures answer { (e : Exchange) × IsPulled (S.left source.old) (S.left source.new) e
         × IsWritten (K.written out.old) (K.written out.new) e
         × IsNoted (N.written notes.old) (N.written notes.new) (N.faults notes.old) (N.faults notes.new) e
@@ -76,10 +77,12 @@ fn trace_script<S: Source, K: Sink>(
     out: &mut K,
 ) -> Result<(), ChaseStop>
     ensures ends { OnOk result ((pulled written : List ℕ) × (rows : List ScriptRow)
-        × Consumes (S.left source.old) (S.left source.new) pulled × Appends (K.written out.old) (K.written out.new) written
+        × Consumes (S.left source.old) (S.left source.new) pulled
+        × Appends (K.written out.old) (K.written out.new) written
         × IsTraced label.now (S.left source.new) pulled written rows × KeepsItsLock label.now rows) }
     ensures stops { IfErr result (λ stop. (pulled written : List ℕ)
-        × Consumes (S.left source.old) (S.left source.new) pulled × Appends (K.written out.old) (K.written out.new) written
+        × Consumes (S.left source.old) (S.left source.new) pulled
+        × Appends (K.written out.old) (K.written out.new) written
         × IsChaseStop label.now stop (S.left source.new) pulled written) }
     ensures source { SourceCause (chase_ended result) (S.faults source.old) (S.faults source.new) }
     ensures once { ChaseSeesOneEnd (chase_ended result) (S.ends source.old) (S.ends source.new) }

@@ -83,32 +83,38 @@ Comes limit words tick front = (rest : List Frame) × (frames limit words tick �
 
 -- with these frames more, all of the words so far and these words were given up to the tick
 abbrev pub GivesAll : Wheel → Wheel → ℕ → List HeardWord → List Frame → Type 0
-GivesAll before after tick more_words more = (words : List HeardWord) (given : List Frame) → flies.HasGivenAll before words tick given
+GivesAll before after tick more_words more =
+    (words : List HeardWord) (given : List Frame) → flies.HasGivenAll before words tick given
     → flies.HasGivenAll after (words ++ more_words) tick (given ++ more)
 
 -- they come first among those of the words so far and these
 abbrev pub GivesFirst : Wheel → ℕ → List HeardWord → List Frame → Type 0
-GivesFirst before tick more_words more = (words : List HeardWord) (given : List Frame) → flies.HasGivenAll before words tick given
+GivesFirst before tick more_words more =
+    (words : List HeardWord) (given : List Frame) → flies.HasGivenAll before words tick given
     → Comes before.limit (words ++ more_words) tick (given ++ more)
 
 -- with these frames more, all that were due up to a later tick were given
 abbrev pub GivesDue : Wheel → Wheel → ℕ → List Frame → Type 0
-GivesDue before after tick more = (words : List HeardWord) (earlier : ℕ) (given : List Frame) → flies.StandsFor before words earlier given
+GivesDue before after tick more =
+    (words : List HeardWord) (earlier : ℕ) (given : List Frame) → flies.StandsFor before words earlier given
     → earlier ≤ tick → flies.HasGivenAll after words tick (given ++ more)
 
 -- they come first
 abbrev pub GivesDueFirst : Wheel → ℕ → List Frame → Type 0
-GivesDueFirst before tick more = (words : List HeardWord) (earlier : ℕ) (given : List Frame) → flies.StandsFor before words earlier given
+GivesDueFirst before tick more =
+    (words : List HeardWord) (earlier : ℕ) (given : List Frame) → flies.StandsFor before words earlier given
     → earlier ≤ tick → Comes before.limit words tick (given ++ more)
 
 -- with these frames more, all that were due and those of these words were given up to a later tick
 abbrev pub GivesDueAll : Wheel → Wheel → ℕ → List HeardWord → List Frame → Type 0
-GivesDueAll before after tick more_words more = (words : List HeardWord) (earlier : ℕ) (given : List Frame) → flies.StandsFor before words earlier given
+GivesDueAll before after tick more_words more =
+    (words : List HeardWord) (earlier : ℕ) (given : List Frame) → flies.StandsFor before words earlier given
     → earlier ≤ tick → flies.HasGivenAll after (words ++ more_words) tick (given ++ more)
 
 -- they come first
 abbrev pub GivesDueAllFirst : Wheel → ℕ → List HeardWord → List Frame → Type 0
-GivesDueAllFirst before tick more_words more = (words : List HeardWord) (earlier : ℕ) (given : List Frame) → flies.StandsFor before words earlier given
+GivesDueAllFirst before tick more_words more =
+    (words : List HeardWord) (earlier : ℕ) (given : List Frame) → flies.StandsFor before words earlier given
     → earlier ≤ tick → Comes before.limit (words ++ more_words) tick (given ++ more)
 
 -- before the first interval
@@ -126,17 +132,24 @@ pub record BeginsFlight (f : FrameReader) (flight : Flight) (header : IntervalHe
 -- ---- what becomes of frames, in a sink of frames. `made` says what it writes, and `given` which frames it was given
 
 -- with these frames more, all of their bytes were written
-abbrev pub Sends : {S C : Type 0} → (C → FrameText) → (S → C → IntervalHeader → List Frame → Type 0) → S → S → Option (List ℕ) → Option (List ℕ)
+abbrev pub Sends : {S C : Type 0} → (C → FrameText) → (S → C → IntervalHeader → List Frame → Type 0) → S → S
+    → Option (List ℕ) → Option (List ℕ)
     → List Frame → Type 0
-Sends {S} {C} made given before after old new more = (choice : C) (header : IntervalHeader) (frames : List Frame) → given before choice header frames
+Sends {S} {C} made given before after old new more =
+    (choice : C) (header : IntervalHeader) (frames : List Frame) → given before choice header frames
     → given after choice header (frames ++ more)
-    × ((bytes : List ℕ) × ((made choice).text header (frames ++ more) ≡ (made choice).text header frames ++ bytes) × Appends old new bytes)
+    × ((bytes : List ℕ) × ((made choice).text header (frames ++ more) ≡ (made choice).text header frames ++ bytes)
+    × Appends old new bytes)
 
 -- a front of their bytes was written, whatever frames come after them
-abbrev pub SendsFront : {S C : Type 0} → (C → FrameText) → (S → C → IntervalHeader → List Frame → Type 0) → S → Option (List ℕ) → Option (List ℕ)
+abbrev pub SendsFront : {S C : Type 0} → (C → FrameText) → (S → C → IntervalHeader → List Frame → Type 0) → S
+    → Option (List ℕ) → Option (List ℕ)
     → List Frame → Type 0
-SendsFront {S} {C} made given before old new more = (choice : C) (header : IntervalHeader) (frames rest : List Frame) → given before choice header frames
-    → (bytes : List ℕ) × ((made choice).text header (frames ++ (more ++ rest)) ≡ (made choice).text header frames ++ bytes) × AppendsFront old new bytes
+SendsFront {S} {C} made given before old new more =
+    (choice : C) (header : IntervalHeader) (frames rest : List Frame) → given before choice header frames
+    → (bytes : List ℕ)
+    × ((made choice).text header (frames ++ (more ++ rest)) ≡ (made choice).text header frames ++ bytes)
+    × AppendsFront old new bytes
 
 -- the intervals and frames were counted
 pub record CountsAll (f : FrameReader) (intervals : List ℕ) (given : List Frame) : Type 0 where
@@ -147,7 +160,8 @@ pub record CountsAll (f : FrameReader) (intervals : List ℕ) (given : List Fram
   pub gone : f.gone ≡ count_by is_gone given
 
 -- it was given these intervals behind this header, and sent the frames of their words
-pub record Stands {S C : Type 0} (flight : C → Flight) (made : C → FrameText) (has_given : S → C → IntervalHeader → List Frame → Type 0)
+pub record Stands {S C : Type 0} (flight : C → Flight) (made : C → FrameText)
+    (has_given : S → C → IntervalHeader → List Frame → Type 0)
     (f : FrameReader) (sink : S) (choice : C) (header : IntervalHeader) (intervals written : List ℕ) : Type 0 where
   pub system : f.reader.system ≡ header.system
   pub keeps : profile_of f.reader.tracker ≡ (flight choice).profile
@@ -164,12 +178,15 @@ pub record Stands {S C : Type 0} (flight : C → Flight) (made : C → FrameText
   pub gone : f.gone ≡ count_by is_gone given
 
 -- what was written is a part of what the frames make
-pub stands_well : {S C : Type 0} (flight : C → Flight) (made : C → FrameText) (has_given : S → C → IntervalHeader → List Frame → Type 0)
+pub stands_well : {S C : Type 0} (flight : C → Flight) (made : C → FrameText)
+    (has_given : S → C → IntervalHeader → List Frame → Type 0)
     (f : FrameReader) (sink : S) (choice : C) (header : IntervalHeader) (intervals written : List ℕ)
-    → Stands flight made has_given f sink choice header intervals written → IsFlightPart (flight choice) (made choice) header intervals written
+    → Stands flight made has_given f sink choice header intervals written
+    → IsFlightPart (flight choice) (made choice) header intervals written
 stands_well flight made has_given f sink choice header intervals written stands = record {
   events = stands.events;
   are_events = stands.are_events;
   are = stands.are ∙ ap ((made choice).text header)
-      (sym (ap (λ (n : ℕ). frames n (words_heard stands.events) (sum intervals)) (sym stands.limit_is) ∙ stands.wheel.1));
+      (sym (ap (λ (n : ℕ). frames n (words_heard stands.events) (sum intervals)) (sym stands.limit_is)
+      ∙ stands.wheel.1));
 }

@@ -6,10 +6,12 @@ use Rattle.frame_commands.specs.OfFrames.{AreTooMany, FrameText}
 
 -- a text of frames begins with that of the first of them
 abbrev pub IsAddedTo : FrameText → Type 0
-IsAddedTo made = (header : IntervalHeader) (fs more : List Frame) → (rest : List ℕ) × (made.text header (fs ++ more) ≡ made.text header fs ++ rest)
+IsAddedTo made = (header : IntervalHeader) (fs more : List Frame)
+    → (rest : List ℕ) × (made.text header (fs ++ more) ≡ made.text header fs ++ rest)
 
 pub record AddsInOrder (made : FrameText) : Type 0 where
   -- what it makes of frames comes first
   pub added : IsAddedTo made
   -- and behind a limit of its own it adds nothing
-  pub none_more : (header : IntervalHeader) (fs more : List Frame) → AreTooMany made.most fs → made.text header (fs ++ more) ≡ made.text header fs
+  pub none_more : (header : IntervalHeader) (fs more : List Frame) → AreTooMany made.most fs
+      → made.text header (fs ++ more) ≡ made.text header fs

@@ -40,19 +40,22 @@ chased_recording c = along_frames c.flight (lines_of_steps c)
 
 -- ---- why the lock is lost
 
--- each loss has its cause, by its kind: no code exactly where the frame of the step is gone or has another count; and out of the window only
--- where the frame was heard and does not join the one before it, or where the transport slipped by 25 subframes or more in the step before. So where
--- each frame behind the first is invented or joined and has the chase's count, and the transport slips by at most 24 subframes, no step has a loss,
--- and from the first step that ends Locked on each error is at most half a frame; and where it slips by at most 8, the error is at most 40 subframes
--- there, then 24, and then 8
+-- each loss has its cause, by its kind: no code exactly where the frame of the step is gone or has another count; and
+-- out of the window only where the frame was heard and does not join the one before it, or where the transport slipped
+-- by 25 subframes or more in the step before. So where each frame behind the first is invented or joined and has the
+-- chase's count, and the transport slips by at most 24 subframes, no step has a loss, and from the first step that
+-- ends Locked on each error is at most half a frame; and where it slips by at most 8, the error is at most 40
+-- subframes there, then 24, and then 8
 pub record LosesWithCause (c : Chasing) (frames : List Frame) : Type 0 where
-  pub cause : (j : ℕ) (line : Traced) (loss : Loss) → slice_get (steps_over c frames) j ≡ Some line → line.report.loss ≡ Some loss
+  pub cause : (j : ℕ) (line : Traced) (loss : Loss) → slice_get (steps_over c frames) j ≡ Some line
+      → line.report.loss ≡ Some loss
       → HasCauseOfLoss c.label c.seed c.bound frames j loss
   pub no_code : (i : ℕ) (leaves line : Traced) (frame : Frame)
       → slice_get (steps_over c frames) i ≡ Some leaves → leaves.report.state ≡ Locked
       → slice_get frames (suc i) ≡ Some frame → BringsNoCode c.label.count frame
       → slice_get (steps_over c frames) (suc i) ≡ Some line → line.report.loss ≡ Some NoCode
-  pub no_loss : AreWhole c.label.count frames → c.bound ≤ 24 → (j : ℕ) (line : Traced) → slice_get (steps_over c frames) j ≡ Some line
+  pub no_loss : AreWhole c.label.count frames → c.bound ≤ 24 → (j : ℕ) (line : Traced)
+      → slice_get (steps_over c frames) j ≡ Some line
       → line.report.loss ≡ None
   pub near : AreWhole c.label.count frames → c.bound ≤ 24 → (first j : ℕ) (leaves line : Traced)
       → slice_get (steps_over c frames) first ≡ Some leaves → leaves.report.state ≡ Locked
@@ -63,17 +66,19 @@ pub record LosesWithCause (c : Chasing) (frames : List Frame) : Type 0 where
       → first ≤ j → slice_get (steps_over c frames) j ≡ Some line
       → unsigned_abs line.report.error ≤ lock_bound (j - first)
 
--- what was written is the trace of the chase over the frames of the recording, in which each loss has its cause: over all of them, where they are
--- within the limit, and else over the first
+-- what was written is the trace of the chase over the frames of the recording, in which each loss has its cause: over
+-- all of them, where they are within the limit, and else over the first
 pub record FollowsTheCode (c : Chasing) (input : Recording) (written : List ℕ) : Type 0 where
   pub header : IntervalHeader
   pub begins : input.header ≡ Some header
   pub events : List Event
   pub are_events : AreEvents header.system c.flight.profile input.intervals events
-  pub all : ¬ IsSpentOf (chased_recording c) input → length (frames_of c.flight.limit input.intervals events) ≤ MAX_FRAMES
+  pub all : ¬ IsSpentOf (chased_recording c) input
+      → length (frames_of c.flight.limit input.intervals events) ≤ MAX_FRAMES
   pub text : written ≡ trace_text c.label.count (first_steps MAX_FRAMES c (frames_of c.flight.limit input.intervals events))
   pub lock : LosesWithCause c (take MAX_FRAMES (frames_of c.flight.limit input.intervals events))
 
 -- what is written of a whole input is
 abbrev pub ChasesTheInput : Chasing → Type 0
-ChasesTheInput c = (input written : List ℕ) → IsWholeOf (chased_recording c) (recording_of input) written → FollowsTheCode c (recording_of input) written
+ChasesTheInput c = (input written : List ℕ) → IsWholeOf (chased_recording c) (recording_of input) written
+    → FollowsTheCode c (recording_of input) written

@@ -31,9 +31,9 @@ lines_of_frames = record { text = λ header fs. frame_lines fs; last = λ header
 abbrev pub flown_recording : Flight → Printing
 flown_recording flight = along_frames flight lines_of_frames
 
--- what was written are the lines of the frames of the recording, and the line that counts them. The heard frames are its words under the tolerance
--- of the flight, one after another, each with its label, its direction and its tick; between two of them, and after the last, at most so many frames are invented, and
--- each has its step in its line
+-- what was written are the lines of the frames of the recording, and the line that counts them. The heard frames are
+-- its words under the tolerance of the flight, one after another, each with its label, its direction and its tick;
+-- between two of them, and after the last, at most so many frames are invented, and each has its step in its line
 pub record ShowsTheFrames (flight : Flight) (bytes written : List ℕ) : Type 0 where
   pub header : IntervalHeader
   pub begins : (recording_of bytes).header ≡ Some header

@@ -14,7 +14,8 @@ use Rattle.tc_job.specs.declared.flight.Flight.{Flight}
 use Rattle.interval_commands.specs.Along.{Printing}
 use Rattle.frame_commands.specs.OfFrames.{FrameText, along_frames, frames_of, words_heard}
 
--- the lines of the spans of frames, with the header's tick rate and system: each has its own, and between two of them stands that of the gap
+-- the lines of the spans of frames, with the header's tick rate and system: each has its own, and between two of them
+-- stands that of the gap
 abbrev pub span_lines : IntervalHeader → List Frame → List ℕ
 span_lines header fs = lines_behind header.tick_rate header.system None (spans fs)
 
@@ -22,7 +23,8 @@ span_lines header fs = lines_behind header.tick_rate header.system None (spans f
 abbrev pub spans_counted : List ℕ → List Frame → List ℕ
 spans_counted intervals fs = last_spans_line (length intervals) (spans fs) (sum intervals)
 
--- before the end, the lines that are final whatever frames follow; and last the line of the span that is open, and that which counts them
+-- before the end, the lines that are final whatever frames follow; and last the line of the span that is open, and
+-- that which counts them
 abbrev pub lines_of_spans : FrameText
 lines_of_spans = record {
   text = λ header fs. final_lines header.tick_rate header.system fs;
@@ -34,9 +36,10 @@ lines_of_spans = record {
 abbrev pub spanned_recording : Flight → Printing
 spanned_recording flight = along_frames flight lines_of_spans
 
--- what was written are the lines of the spans of the recording's frames, and the line that counts them. The heard frames are its words under the
--- tolerance of the flight. Each frame that was heard or invented stands in exactly one span, in order; a span begins with a heard frame that does
--- not join, and each further frame of it goes on from the one before
+-- what was written are the lines of the spans of the recording's frames, and the line that counts them. The heard
+-- frames are its words under the tolerance of the flight. Each frame that was heard or invented stands in exactly one
+-- span, in order; a span begins with a heard frame that does not join, and each further frame of it goes on from the
+-- one before
 pub record ShowsTheSpans (flight : Flight) (bytes written : List ℕ) : Type 0 where
   pub header : IntervalHeader
   pub begins : (recording_of bytes).header ≡ Some header

@@ -1,4 +1,5 @@
--- A command that writes what it makes of the frames of a recording: those of the words heard in it, and those that a flywheel invents between them.
+-- A command that writes what it makes of the frames of a recording: those of the words heard in it, and those that a
+-- flywheel invents between them.
 use Rattle.std.specs.Prelude.{◌≡◌, ℕ, ◌<◌, List, [], ◌∷◌, ◌++◌, length, sum, Option, Some, None}
 use Rattle.std.specs.List.{flat_map}
 use Rattle.direction_reader.specs.declared.event.Event.{Event}
@@ -50,7 +51,8 @@ pub record IsFlightPart (flight : Flight) (made : FrameText) (header : IntervalH
 pub record IsFlightWhole (flight : Flight) (made : FrameText) (header : IntervalHeader) (intervals written : List ℕ) : Type 0 where
   pub events : List Event
   pub are_events : AreEvents header.system flight.profile intervals events
-  pub are : written ≡ made.text header (frames_of flight.limit intervals events) ++ made.last header intervals (frames_of flight.limit intervals events)
+  pub are : written ≡ made.text header (frames_of flight.limit intervals events)
+      ++ made.last header intervals (frames_of flight.limit intervals events)
 
 -- the frames of the intervals are too many
 pub record IsFlightSpent (flight : Flight) (made : FrameText) (header : IntervalHeader) (intervals : List ℕ) : Type 0 where
@@ -60,4 +62,5 @@ pub record IsFlightSpent (flight : Flight) (made : FrameText) (header : Interval
 
 -- what is written of the frames that are had so
 abbrev pub along_frames : Flight → FrameText → Printing
-along_frames flight made = record { spent = IsFlightSpent flight made; part = IsFlightPart flight made; whole = IsFlightWhole flight made }
+along_frames flight made =
+    record { spent = IsFlightSpent flight made; part = IsFlightPart flight made; whole = IsFlightWhole flight made }

@@ -1,7 +1,8 @@
 //! The way along the frames of a recording, the same for each command that makes something of them: words
 //! become frames, and a flywheel invents those that are missing. Next: `flywheel/src/heard.rt`, and with
 //! the frames `frame_sink`.
-ghost use Rattle.std.specs.Prelude.{◌≡◌, ◌≤◌, ◌<◌, ◌+◌, ◌-◌, ◌*◌, ◌^◌, List, ◌∷◌, ◌++◌, [], ℕ, false, IsTrue, OnOk, OnErr, IfOk, IfErr, IfSome};
+ghost use Rattle.std.specs.Prelude.{◌≡◌, ◌≤◌, ◌<◌, ◌+◌, ◌-◌, ◌*◌, ◌^◌, List, ◌∷◌, ◌++◌, [], ℕ, false, IsTrue, OnOk};
+ghost use Rattle.std.specs.Prelude.{OnErr, IfOk, IfErr, IfSome};
 ghost use Rattle.std.specs.Io.KnownBytes.{Appends};
 ghost use Rattle.biphase.specs.declared.cell.TheConstants.{MAX_INTERVAL, MAX_INTERVALS};
 ghost use Rattle.direction_reader.specs.declared.event.Event.{Event};
@@ -118,8 +119,10 @@ impl FrameReader {
         ensures ready { OnOk result (StaysReady self.new tick) }
         ensures none_due { OnOk result (has_frame_due self.new.wheel tick ≡ false) }
         ensures gives { OnOk result ((more : List Frame) × Counts self.old self.new more
-            × Sends T.made T.given sink.old sink.new (K.written out.old) (K.written out.new) more × GivesDue self.old.wheel self.new.wheel tick more) }
-        ensures front { OnErr result ((more : List Frame) × SendsFront T.made T.given sink.old (K.written out.old) (K.written out.new) more
+            × Sends T.made T.given sink.old sink.new (K.written out.old) (K.written out.new) more
+            × GivesDue self.old.wheel self.new.wheel tick more) }
+        ensures front { OnErr result ((more : List Frame)
+            × SendsFront T.made T.given sink.old (K.written out.old) (K.written out.new) more
             × GivesDueFirst self.old.wheel tick more) }
         ensures why { IfErr result (λ stop. stop ≡ Stop.WriteFault) }
         ensures cause { HasOutCause (K.faults out.old) (K.faults out.new) result }
@@ -148,7 +151,8 @@ impl FrameReader {
         ensures heard { self.new.heard ≤ self.old.heard + 1 }
         ensures ready { StaysReady self.new tick }
         ensures none_due { has_frame_due self.new.wheel tick ≡ false }
-        ensures gives { (more : List Frame) × Counts self.old self.new more × GivesAll self.old.wheel self.new.wheel tick (words_heard (listed event)) more
+        ensures gives { (more : List Frame) × Counts self.old self.new more
+            × GivesAll self.old.wheel self.new.wheel tick (words_heard (listed event)) more
             × OnOk result (Sends T.made T.given sink.old sink.new (K.written out.old) (K.written out.new) more)
             × OnErr result (SendsFront T.made T.given sink.old (K.written out.old) (K.written out.new) more) }
         ensures why { IfErr result (λ stop. stop ≡ Stop.WriteFault) }
@@ -219,7 +223,8 @@ impl FrameReader {
         ensures gives { OnOk result ((more : List Frame) × Counts self.old self.new more
             × Sends T.made T.given sink.old sink.new (K.written out.old) (K.written out.new) more
             × GivesAll self.old.wheel self.new.wheel tick (words_heard (event_list events)) more) }
-        ensures front { OnErr result ((more : List Frame) × SendsFront T.made T.given sink.old (K.written out.old) (K.written out.new) more
+        ensures front { OnErr result ((more : List Frame)
+            × SendsFront T.made T.given sink.old (K.written out.old) (K.written out.new) more
             × GivesFirst self.old.wheel tick (words_heard (event_list events)) more) }
         ensures why { IfErr result (λ stop. stop ≡ Stop.WriteFault) }
         ensures cause { HasOutCause (K.faults out.old) (K.faults out.new) result }
@@ -242,8 +247,10 @@ impl FrameReader {
         ensures ready { OnOk result (StaysReady self.new tick) }
         ensures none_due { OnOk result (has_frame_due self.new.wheel tick ≡ false) }
         ensures gives { OnOk result ((more : List Frame) × Counts self.old self.new more
-            × Sends T.made T.given sink.old sink.new (K.written out.old) (K.written out.new) more × GivesDue self.old.wheel self.new.wheel tick more) }
-        ensures front { OnErr result ((more : List Frame) × SendsFront T.made T.given sink.old (K.written out.old) (K.written out.new) more
+            × Sends T.made T.given sink.old sink.new (K.written out.old) (K.written out.new) more
+            × GivesDue self.old.wheel self.new.wheel tick more) }
+        ensures front { OnErr result ((more : List Frame)
+            × SendsFront T.made T.given sink.old (K.written out.old) (K.written out.new) more
             × GivesDueFirst self.old.wheel tick more) }
         ensures why { IfErr result (λ stop. stop ≡ Stop.WriteFault) }
         ensures cause { HasOutCause (K.faults out.old) (K.faults out.new) result }
@@ -268,7 +275,8 @@ impl FrameReader {
         ensures keeps { KeepsReading self.old self.new (T.taken sink.new) }
         ensures heard { OnOk result (self.new.heard ≤ self.old.heard + 2) }
         ensures ready { OnOk result (StaysReady self.new self.old.reader.tick) }
-        ensures gives { OnOk result ((own : Events) × (more : List Frame) × Tells self.old.reader brought own × Counts self.old self.new more
+        ensures gives { OnOk result ((own : Events) × (more : List Frame) × Tells self.old.reader brought own
+            × Counts self.old self.new more
             × Sends T.made T.given sink.old sink.new (K.written out.old) (K.written out.new) more
             × GivesDueAll self.old.wheel self.new.wheel self.old.reader.tick (words_heard (event_list own)) more) }
         ensures front { OnErr result ((own : Events) × (more : List Frame) × Tells self.old.reader brought own
@@ -313,7 +321,8 @@ impl FrameReader {
         ensures keeps { KeepsReading self.old self.new (T.taken sink.new) }
         ensures heard { OnOk result (self.new.heard ≤ self.old.heard + 2) }
         ensures ready { OnOk result (StaysReady self.new self.old.reader.tick) }
-        ensures gives { OnOk result ((own : Events) × (more : List Frame) × Tells self.old.reader brought own × Counts self.old self.new more
+        ensures gives { OnOk result ((own : Events) × (more : List Frame) × Tells self.old.reader brought own
+            × Counts self.old self.new more
             × Sends T.made T.given sink.old sink.new (K.written out.old) (K.written out.new) more
             × GivesDueAll self.old.wheel self.new.wheel self.old.reader.tick (words_heard (event_list own)) more) }
         ensures front { OnErr result ((own : Events) × (more : List Frame) × Tells self.old.reader brought own

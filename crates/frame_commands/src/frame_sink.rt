@@ -1,6 +1,7 @@
 //! What a command makes of the frames of a recording. Next: `ltc_fly`, `ltc_spans`, `ltc_mtc`, `jam` and
 //! `ltc_chase`.
-ghost use Rattle.std.specs.Prelude.{◌≡◌, ℕ, true, false, List, [], ◌∷◌, ◌++◌, ◌+◌, ◌-◌, ◌<◌, ◌≤◌, ◌^◌, OnOk, OnErr, IfOk, IfErr};
+ghost use Rattle.std.specs.Prelude.{◌≡◌, ℕ, true, false, List, [], ◌∷◌, ◌++◌, ◌+◌, ◌-◌, ◌<◌, ◌≤◌, ◌^◌, OnOk, OnErr};
+ghost use Rattle.std.specs.Prelude.{IfOk, IfErr};
 ghost use Rattle.std.specs.Io.KnownBytes.{Appends};
 ghost use Rattle.flywheel.specs.declared.frame.Frame.{Frame};
 ghost use Rattle.interval_file.specs.declared.header.IntervalHeader.{IntervalHeader};
@@ -58,7 +59,8 @@ pub(crate) trait FrameSink: Drop {
         requires room { taken self.old < 2 ^ 40 - 1 }
         ensures taken { taken self.new ≤ taken self.old + 1 }
         ensures sends { OnOk result (Sends made given self.old self.new (K.written out.old) (K.written out.new) (frame.now ∷ [])) }
-        ensures front { OnErr result (SendsFront made given self.old (K.written out.old) (K.written out.new) (frame.now ∷ [])) }
+        ensures front { OnErr result
+            (SendsFront made given self.old (K.written out.old) (K.written out.new) (frame.now ∷ [])) }
         ensures why { IfErr result (λ stop. stop ≡ Stop.WriteFault) }
         ensures cause { HasOutCause (K.faults out.old) (K.faults out.new) result };
 

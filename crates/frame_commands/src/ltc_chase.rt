@@ -62,14 +62,21 @@ impl Model for StepLines {
 
     ghost view = { λ s. record { chase = s.chase; count = s.count; steps = s.steps; losses = s.losses; is_spent = s.is_spent } };
 
-    ghost invariant = { λ s. IsStepping (record { chase = s.chase; count = s.count; steps = s.steps; losses = s.losses; is_spent = s.is_spent }) };
+    ghost invariant = { λ s. IsStepping (record {
+      chase = s.chase;
+      count = s.count;
+      steps = s.steps;
+      losses = s.losses;
+      is_spent = s.is_spent;
+    }) };
 }
 
 impl StepLines {
     /// Makes the step of a frame, and its line.
     fn step(&mut self, frame: &Frame) -> Text
         requires { self.old.steps < MAX_FRAMES }
-        ensures line { result.items ≡ step_line self.old.count (self.old.steps + 1) (next_line self.old.chase frame.now) }
+        ensures line { result.items
+            ≡ step_line self.old.count (self.old.steps + 1) (next_line self.old.chase frame.now) }
         ensures next { self.new ≡ stepped self.old frame.now }
     {
         let report = self.chase.frame(frame);

@@ -1,5 +1,6 @@
 -- The lines of the spans of a tape, byte for byte. Their form is this project's own.
-use Rattle.std.specs.Prelude.{ℕ, ◌+◌, ◌-◌, ◌*◌, ◌/◌, ◌==◌, ◌<◌, ◌^◌, if◌then◌else◌, List, [], ◌∷◌, ◌++◌, codes, decimal, length, map, Option, Some, None}
+use Rattle.std.specs.Prelude.{ℕ, ◌+◌, ◌-◌, ◌*◌, ◌/◌, ◌==◌, ◌<◌, ◌^◌, if◌then◌else◌, List, [], ◌∷◌, ◌++◌, codes, decimal}
+use Rattle.std.specs.Prelude.{length, map, Option, Some, None}
 use Rattle.std.specs.Fmt.{signed_decimal}
 use Rattle.std.specs.List.{flat_map, sum_by}
 use Rattle.tc_address.specs.declared.system.System.{System}
@@ -15,8 +16,8 @@ use Rattle.tape_spans.specs.declared.span.Span.{Span}
 use Rattle.tape_spans.specs.Gap.{gap_between}
 use Rattle.tape_spans.specs.Spans.{SpanFrames, frames_of_spans, span_of, spans}
 
--- the mean speed of a span at a tick rate, in thousandths of nominal, rounded down: at nominal speed so many frames last a second. A span of no
--- ticks, as of one word, has none
+-- the mean speed of a span at a tick rate, in thousandths of nominal, rounded down: at nominal speed so many frames
+-- last a second. A span of no ticks, as of one word, has none
 abbrev pub mean_speed : ℕ → System → Span → ℕ
 mean_speed tick_rate system span =
     let ticks = span.last.tick - span.first.tick in
@@ -25,7 +26,8 @@ mean_speed tick_rate system span =
 -- the line of a span
 abbrev pub span_line : ℕ → System → Span → List ℕ
 span_line tick_rate system span =
-    codes "span " ++ direction_name span.first.direction ++ codes " " ++ text_of span.first.label ++ codes " " ++ text_of span.last.label
+    codes "span " ++ direction_name span.first.direction ++ codes " " ++ text_of span.first.label ++ codes " "
+    ++ text_of span.last.label
     ++ codes " heard " ++ decimal span.heard ++ codes " bridged " ++ decimal span.bridged
     ++ codes " tick " ++ decimal span.first.tick ++ codes " " ++ decimal span.last.tick
     ++ codes " speed " ++ decimal (mean_speed tick_rate system span) ++ codes "\n"
@@ -48,9 +50,11 @@ gap_before (Some last) next = gap_line (gap_between last next)
 unfoldable pub lines_behind : ℕ → System → Option Mark → List Span → List ℕ
 lines_behind tick_rate system before [] = []
 lines_behind tick_rate system before (span ∷ more) =
-    gap_before before span.first ++ (span_line tick_rate system span ++ lines_behind tick_rate system (Some span.last) more)
+    gap_before before span.first ++ (span_line tick_rate system span
+    ++ lines_behind tick_rate system (Some span.last) more)
 
--- the last line: the intervals, the spans, how many frames were heard and bridged in them, and the ticks of the recording
+-- the last line: the intervals, the spans, how many frames were heard and bridged in them, and the ticks of the
+-- recording
 abbrev pub spans_end_line : ℕ → ℕ → ℕ → ℕ → ℕ → List ℕ
 spans_end_line intervals spans heard bridged ticks =
     codes "end intervals " ++ decimal intervals ++ codes " spans " ++ decimal spans ++ codes " heard " ++ decimal heard
@@ -75,7 +79,8 @@ line_if_open tick_rate system s = if s.has_ended then [] else span_line tick_rat
 unfoldable pub final_behind : ℕ → System → Option Mark → List SpanFrames → List ℕ
 final_behind tick_rate system before [] = []
 final_behind tick_rate system before (s ∷ more) =
-    gap_before before s.first ++ (line_if_ended tick_rate system s ++ final_behind tick_rate system (Some (span_of s).last) more)
+    gap_before before s.first ++ (line_if_ended tick_rate system s
+    ++ final_behind tick_rate system (Some (span_of s).last) more)
 
 -- the lines of frames that are final
 abbrev pub final_lines : ℕ → System → List Frame → List ℕ

@@ -13,8 +13,8 @@ use Rattle.flywheel.specs.Kinds.{is_heard, is_invented}
 abbrev pub mark_at : Address → Direction → ℕ → Mark
 mark_at label direction tick = record { label = label; direction = direction; tick = tick }
 
--- where frames stand in the list: the frame that was heard first, those that go on from it, up to the first that does not, and whether one that
--- does not stands behind them, so that the span has ended
+-- where frames stand in the list: the frame that was heard first, those that go on from it, up to the first that does
+-- not, and whether one that does not stands behind them, so that the span has ended
 pub record SpanFrames : Type 0 where
   pub first : Mark
   pub more : List Frame
@@ -22,7 +22,11 @@ pub record SpanFrames : Type 0 where
 
 -- the frames behind a heard one that go on from it
 abbrev pub span_at : Mark → List Frame → SpanFrames
-span_at first behind = record { first = first; more = take_while goes_on behind; has_ended = list_any (λ frame. not (goes_on frame)) behind }
+span_at first behind = record {
+  first = first;
+  more = take_while goes_on behind;
+  has_ended = list_any (λ frame. not (goes_on frame)) behind;
+}
 
 -- a frame begins a span where it was heard and does not join
 abbrev pub begun_by : Frame → List Frame → List SpanFrames
@@ -49,10 +53,15 @@ unfoldable pub bridged_in : List Frame → ℕ
 bridged_in [] = 0
 bridged_in (frame ∷ behind) = cond (is_invented frame && list_any is_heard behind) 1 0 + bridged_in behind
 
--- the frame heard first and the one heard last, how many were heard, and how many were invented between two of them: those behind the last one
--- heard count for nothing
+-- the frame heard first and the one heard last, how many were heard, and how many were invented between two of them:
+-- those behind the last one heard count for nothing
 abbrev pub span_of : SpanFrames → Span
-span_of s = record { first = s.first; last = fold latest_of s.first s.more; heard = 1 + count_by is_heard s.more; bridged = bridged_in s.more }
+span_of s = record {
+  first = s.first;
+  last = fold latest_of s.first s.more;
+  heard = 1 + count_by is_heard s.more;
+  bridged = bridged_in s.more;
+}
 
 -- the spans of a list of frames
 abbrev pub spans : List Frame → List Span

@@ -37,7 +37,11 @@ pub record Running : Type 0 where
 abbrev pub to_come : Option Running → List Frame → List SpanFrames
 to_come None behind = frames_of_spans behind
 to_come (Some running) behind =
-    record { first = running.first; more = running.more ++ take_while goes_on behind; has_ended = list_any (λ frame. not (goes_on frame)) behind }
+    record {
+      first = running.first;
+      more = running.more ++ take_while goes_on behind;
+      has_ended = list_any (λ frame. not (goes_on frame)) behind;
+    }
     ∷ frames_of_spans behind
 
 -- the open span, as it is so far
@@ -60,8 +64,8 @@ abbrev pub AreEnded : List SpanFrames → Type 0
 AreEnded [] = Unit {0}
 AreEnded (s ∷ more) = (s.has_ended ≡ true) × AreEnded more
 
--- the spans of these frames that have ended are done and counted, and the place is that of the open one; whatever frames come, their spans go on
--- where the tape is
+-- the spans of these frames that have ended are done and counted, and the place is that of the open one; whatever
+-- frames come, their spans go on where the tape is
 pub record StandsFor (tape : Tape) (frames : List Frame) : Type 0 where
   pub done : List SpanFrames
   pub running : Option Running

@@ -23,7 +23,8 @@ pub record Tape : Type 0 where
 abbrev pub blank : Tape
 blank = record { place = Before; spans = 0; heard = 0; bridged = 0 }
 
--- a span that begins, that a further heard frame joins, and in which a frame is invented: it bridges only where one is heard behind it
+-- a span that begins, that a further heard frame joins, and in which a frame is invented: it bridges only where one is
+-- heard behind it
 abbrev pub begun_at : Mark → OpenSpan
 begun_at mark = record { span = record { first = mark; last = mark; heard = 1; bridged = 0 }; invented = 0 }
 
@@ -43,7 +44,12 @@ placed tape place = record { place = place; spans = tape.spans; heard = tape.hea
 -- the span has ended, and the tape is at this place
 abbrev pub ended_by : Tape → Span → TapePlace → Tape
 ended_by tape span place =
-    record { place = place; spans = tape.spans + 1; heard = tape.heard + span.heard; bridged = tape.bridged + span.bridged }
+    record {
+      place = place;
+      spans = tape.spans + 1;
+      heard = tape.heard + span.heard;
+      bridged = tape.bridged + span.bridged;
+    }
 
 -- the tape with the span that is current, counted as it is
 abbrev pub counted_at : Tape → TapePlace → Tape

@@ -14,19 +14,23 @@ ghost use Rattle.flywheel.specs.Kinds.{is_heard};
 /// join, and behind it each goes on from the one before, so no two neighbours could be one. The spans count
 /// each frame that was heard.
 pub fn spans_share_the_frames_out()
-    ensures all { (frames : List Frame) → GoOn None frames → present frames ≡ flat_map frames_in (frames_of_spans frames) }
+    ensures all { (frames : List Frame) → GoOn None frames
+        → present frames ≡ flat_map frames_in (frames_of_spans frames) }
     ensures within { (frames : List Frame) → GoOn None frames → All HoldsTogether (frames_of_spans frames) }
-    ensures heard { (frames : List Frame) → GoOn None frames → sum_by (λ span. span.heard) (spans frames) ≡ count_by is_heard frames }
+    ensures heard { (frames : List Frame) → GoOn None frames
+        → sum_by (λ span. span.heard) (spans frames) ≡ count_by is_heard frames }
 {}
 
 /// The lines that are final come first, whatever frames follow.
 pub fn final_lines_come_first()
     ensures { (tick_rate : ℕ) (system : System) (frames more : List Frame)
-        → (rest : List ℕ) × (final_lines tick_rate system (frames ++ more) ≡ final_lines tick_rate system frames ++ rest) }
+        → (rest : List ℕ)
+        × (final_lines tick_rate system (frames ++ more) ≡ final_lines tick_rate system frames ++ rest) }
 {}
 
 /// At the end of a recording the open span, if one is, has the last line of all spans.
 pub fn the_open_span_has_the_last_line()
     ensures { (tick_rate : ℕ) (system : System) (frames : List Frame)
-        → final_lines tick_rate system frames ++ open_line tick_rate system frames ≡ lines_behind tick_rate system None (spans frames) }
+        → final_lines tick_rate system frames ++ open_line tick_rate system frames
+        ≡ lines_behind tick_rate system None (spans frames) }
 {}

@@ -87,9 +87,11 @@ impl TapeSpans {
         ensures fits { FitsCut result }
 
         // What it means for the lines of the frames so far.
-        ensures stands { (frames : List Frame) → StandsFor self.old frames → StandsFor self.new (frames ++ frame.now ∷ []) }
+        ensures stands { (frames : List Frame) → StandsFor self.old frames
+            → StandsFor self.new (frames ++ frame.now ∷ []) }
         ensures lines { (frames : List Frame) (tick_rate : ℕ) (system : System) → StandsFor self.old frames
-            → final_lines tick_rate system (frames ++ frame.now ∷ []) ≡ final_lines tick_rate system frames ++ cut_lines tick_rate system result }
+            → final_lines tick_rate system (frames ++ frame.now ∷ [])
+            ≡ final_lines tick_rate system frames ++ cut_lines tick_rate system result }
     {
         self.take(frame)
     }
@@ -228,7 +230,8 @@ impl TapeSpans {
         requires room { frames_taken self.now < 2 ^ 40 }
         requires intervals { intervals < 2 ^ 40 }
         requires ticks { ticks < 2 ^ 60 }
-        ensures { (frames : List Frame) → StandsFor self.now frames → result.items ≡ last_spans_line intervals (spans frames) ticks }
+        ensures { (frames : List Frame) → StandsFor self.now frames
+            → result.items ≡ last_spans_line intervals (spans frames) ticks }
     {
         let counts = self.counts();
         spans_end_text(intervals, counts.spans, counts.heard, counts.bridged, ticks)

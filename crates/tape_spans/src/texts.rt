@@ -32,8 +32,10 @@ pub fn span_text(span: &Span, tick_rate: u32, system: System) -> SpanText
 /// What the line says of labels and frames.
 fn labels_text(span: &Span) -> Text
     requires { FitsSpan span.now }
-    ensures items { result.items ≡ codes "span " ++ direction_name span.now.first.direction ++ codes " " ++ text_of span.now.first.label
-        ++ codes " " ++ text_of span.now.last.label ++ codes " heard " ++ decimal span.now.heard ++ codes " bridged " ++ decimal span.now.bridged }
+    ensures items { result.items ≡ codes "span " ++ direction_name span.now.first.direction ++ codes " "
+        ++ text_of span.now.first.label
+        ++ codes " " ++ text_of span.now.last.label ++ codes " heard " ++ decimal span.now.heard ++ codes " bridged "
+        ++ decimal span.now.bridged }
     ensures len { array_vec_len result ≤ 79 }
 {
     let mut line = Text::new();
@@ -55,7 +57,8 @@ fn labels_text(span: &Span) -> Text
 fn ticks_text(span: &Span, speed: u128) -> Text
     requires fits { FitsSpan span.now }
     requires speed { speed < 10 ^ 25 }
-    ensures items { result.items ≡ codes " tick " ++ decimal span.now.first.tick ++ codes " " ++ decimal span.now.last.tick
+    ensures items { result.items ≡ codes " tick " ++ decimal span.now.first.tick ++ codes " "
+        ++ decimal span.now.last.tick
         ++ codes " speed " ++ decimal speed ++ codes "\n" }
     ensures len { array_vec_len result ≤ 78 }
 {

@@ -9,7 +9,8 @@ use Rattle.tc_command.specs.Meaning.{Meaning, IsInput, IsOutput}
 use Rattle.tc_command.specs.WholeInput.{HasStatus}
 
 pub record IsCommand (m : Meaning) : Type 0 where
-  -- what is written of some bytes comes first in what is written of more, and a limit of its own that is passed stays so
+  -- what is written of some bytes comes first in what is written of more, and a limit of its own that is passed stays
+  -- so
   pub first : ComesFirst m
   -- all bytes have a part, and each input has an output
   pub some_part : (bytes : List ℕ) → (written : List ℕ) × m.part bytes written
@@ -18,10 +19,12 @@ pub record IsCommand (m : Meaning) : Type 0 where
   pub one_part : (bytes a b : List ℕ) → m.part bytes a → m.part bytes b → a ≡ b
   pub one_output : (input a b : List ℕ) → m.output input a → m.output input b → a ≡ b
   -- a fault and the limit of its grammar stay, whatever bytes follow
-  pub fault : (front rest : List ℕ) (f : InputFault) → m.verdict front ≡ refused f → m.verdict (front ++ rest) ≡ refused f
+  pub fault : (front rest : List ℕ) (f : InputFault) → m.verdict front ≡ refused f
+      → m.verdict (front ++ rest) ≡ refused f
   pub limit : (front rest : List ℕ) → m.verdict front ≡ past_limit → m.verdict (front ++ rest) ≡ past_limit
   -- and behind these a limit of its own is not passed any more
-  pub fault_unspent : (front rest : List ℕ) (f : InputFault) → m.verdict front ≡ refused f → m.spent (front ++ rest) → m.spent front
+  pub fault_unspent : (front rest : List ℕ) (f : InputFault) → m.verdict front ≡ refused f → m.spent (front ++ rest)
+      → m.spent front
   pub limit_unspent : (front rest : List ℕ) → m.verdict front ≡ past_limit → m.spent (front ++ rest) → m.spent front
   -- only an input has a fault at its end
   pub ends : (bytes : List ℕ) (f : InputFault) → m.end_fault bytes ≡ Some f → IsTrue m.reads

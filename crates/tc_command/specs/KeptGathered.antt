@@ -1,5 +1,5 @@
--- Bytes that are put one after another were pushed or are gathered, all of them in order; and a push that fails leaves a front of them. No promise
--- speaks of it.
+-- Bytes that are put one after another were pushed or are gathered, all of them in order; and a push that fails leaves
+-- a front of them. No promise speaks of it.
 use Rattle.std.proofs.Common.{◌≡◌, ℕ, List, [], ◌++◌, sym, ◌∙◌, ap, append_assoc, append-nil}
 use Rattle.std.specs.declared.option.Option.{Option}
 use Rattle.std.specs.Io.KnownBytes.{Appends}
@@ -15,7 +15,8 @@ pub none_put : (out : Option (List ℕ)) (first bytes : List ℕ) → bytes ≡ 
 none_put out first bytes none = ([], Appends-nil out, ap (λ (l : List ℕ). first ++ l) none ∙ append-nil first)
 
 -- and some bytes more
-pub put_more : (a b c : Option (List ℕ)) (first bytes room piece next all : List ℕ) → IsPut a b first bytes room → IsPut b c room piece next
+pub put_more : (a b c : Option (List ℕ)) (first bytes room piece next all : List ℕ) → IsPut a b first bytes room
+    → IsPut b c room piece next
     → all ≡ bytes ++ piece → IsPut a c first all next
 put_more a b c first bytes room piece next all p q is = (
   p.0 ++ q.0,
@@ -25,13 +26,15 @@ put_more a b c first bytes room piece next all p q is = (
 )
 
 -- what is gathered was not taken
-pub put_front : (a b c : Option (List ℕ)) (first bytes room rest all : List ℕ) → IsPut a b first bytes room → AppendsFront b c room
+pub put_front : (a b c : Option (List ℕ)) (first bytes room rest all : List ℕ) → IsPut a b first bytes room
+    → AppendsFront b c room
     → all ≡ bytes ++ rest → AppendsFront a c (first ++ all)
 put_front a b c first bytes room rest all p f is = (
   p.0 ++ f.0,
   (
     f.1.0 ++ rest,
-    ap (λ (l : List ℕ). first ++ l) is ∙ sym (append_assoc first bytes rest) ∙ ap (λ (l : List ℕ). l ++ rest) (p.2 ∙ ap (λ (l : List ℕ). p.0 ++ l) f.1.1)
+    ap (λ (l : List ℕ). first ++ l) is ∙ sym (append_assoc first bytes rest)
+        ∙ ap (λ (l : List ℕ). l ++ rest) (p.2 ∙ ap (λ (l : List ℕ). p.0 ++ l) f.1.1)
         ∙ append_assoc p.0 (f.0 ++ f.1.0) rest ∙ ap (λ (l : List ℕ). p.0 ++ l) (append_assoc f.0 f.1.0 rest)
         ∙ sym (append_assoc p.0 f.0 (f.1.0 ++ rest)),
   ),

@@ -1,5 +1,7 @@
--- What was pushed for some bytes and then for those after them was pushed for all of them, in order. No promise speaks of it.
-use Rattle.std.proofs.Common.{◌≡◌, ℕ, ◌+◌, ◌-◌, ◌<◌, ◌≤◌, List, [], ◌∷◌, ◌++◌, length, take, drop, get_or, arith, subst, append_assoc, append-nil}
+-- What was pushed for some bytes and then for those after them was pushed for all of them, in order. No promise speaks
+-- of it.
+use Rattle.std.proofs.Common.{◌≡◌, ℕ, ◌+◌, ◌-◌, ◌<◌, ◌≤◌, List, [], ◌∷◌, ◌++◌, length, take, drop, get_or, arith, subst}
+use Rattle.std.proofs.Common.{append_assoc, append-nil}
 use Rattle.std.proofs.Common.{refl, inl, inr, sym, ◌∙◌, ap}
 use Rattle.std.specs.Prelude.{OnOk, OnErr, IfErr, Ok, Err, Some, None}
 use Rattle.std.specs.Result.{IsErrAnd}
@@ -15,16 +17,19 @@ use Rattle.tc_command.specs.declared.stop.Stop.TheVariants.{Refused, ReadFault, 
 use Rattle.tc_command.specs.Stops.{IsStop, IsEndStop, StopsAlong}
 
 -- bytes that were worked on take each state and output to a later state and a longer output
-abbrev pub Works : (List ℕ → List ℕ → Type 0) → (List ℕ → List ℕ → Type 0) → Option (List ℕ) → Option (List ℕ) → List ℕ → Type 0
+abbrev pub Works : (List ℕ → List ℕ → Type 0) → (List ℕ → List ℕ → Type 0) → Option (List ℕ) → Option (List ℕ) → List ℕ
+    → Type 0
 Works before after old new bytes =
-    (front output : List ℕ) → before front output → (more : List ℕ) × Appends old new more × after (front ++ bytes) (output ++ more)
+    (front output : List ℕ) → before front output
+    → (more : List ℕ) × Appends old new more × after (front ++ bytes) (output ++ more)
 
 -- a stop, as it is said of the bytes and what was written for them, where some of it was written before
 abbrev pub After : (List ℕ → List ℕ → Type 0) → Option (List ℕ) → Option (List ℕ) → List ℕ → List ℕ → Type 0
 After is old new pulled written = (more : List ℕ) × Appends old new more × is pulled (written ++ more)
 
 -- a stop after some bytes
-pub stops_on : (is : List ℕ → List ℕ → Type 0) (start mid : List ℕ → List ℕ → Type 0) (old between new : Option (List ℕ)) (bytes more : List ℕ)
+pub stops_on : (is : List ℕ → List ℕ → Type 0) (start mid : List ℕ → List ℕ
+    → Type 0) (old between new : Option (List ℕ)) (bytes more : List ℕ)
     → Works start mid old between bytes
     → ((front output : List ℕ) → mid front output → After is between new (front ++ more) output)
     → (front output : List ℕ) → start front output → After is old new (front ++ (bytes ++ more)) output
@@ -58,7 +63,8 @@ pub cut_at : (k : ℕ) (xs : List ℕ) → k ≤ length xs → take k xs ++ take
 cut_at k xs within = grind (arith, common_steps)
 
 -- what is taken of the rest is no more than that
-pub within_rest : (k n : ℕ) (xs : List ℕ) → k ≤ length xs → n ≤ length (take (length xs - k) (drop k xs)) → k + n ≤ length xs
+pub within_rest : (k n : ℕ) (xs : List ℕ) → k ≤ length xs → n ≤ length (take (length xs - k) (drop k xs))
+    → k + n ≤ length xs
 within_rest k n xs within less = grind (arith, common_steps)
 
 -- and what is taken of the rest
@@ -72,7 +78,8 @@ cut_more k n xs within less =
     rw (all, ← behind, ← front) cut
 
 -- what an error that is passed on says
-pub through : {T : Type 0} {P Q : Stop → Type 0} (result : Result T Stop) → IsErrAnd result P → ((stop : Stop) → P stop → Q stop) → IfErr result Q
+pub through : {T : Type 0} {P Q : Stop → Type 0} (result : Result T Stop) → IsErrAnd result P
+    → ((stop : Stop) → P stop → Q stop) → IfErr result Q
 through (Ok done) says to = absurd says
 through (Err stop) says to = to stop says
 
@@ -85,7 +92,8 @@ pub both_ok : (P Q : Type 0) (result : Result (Unit {0}) Stop) → OnOk result P
 both_ok P Q (Ok done) p q = (p, q)
 both_ok P Q (Err stop) p q = tt
 
-pub err_both : (P : Stop → Type 0) (Q : Type 0) (result : Result (Unit {0}) Stop) → IfErr result P → OnErr result Q → IfErr result (λ stop. P stop × Q)
+pub err_both : (P : Stop → Type 0) (Q : Type 0) (result : Result (Unit {0}) Stop) → IfErr result P → OnErr result Q
+    → IfErr result (λ stop. P stop × Q)
 err_both P Q (Ok done) p q = tt
 err_both P Q (Err stop) p q = (p, q)
 
@@ -97,12 +105,14 @@ pub at_err : {P : Type 0} (result : Result (Unit {0}) Stop) → P → OnErr resu
 at_err (Ok done) says = tt
 at_err (Err stop) says = says
 
-pub if_err : {P Q : Stop → Type 0} (result : Result (Unit {0}) Stop) → IfErr result P → ((stop : Stop) → P stop → Q stop) → IfErr result Q
+pub if_err : {P Q : Stop → Type 0} (result : Result (Unit {0}) Stop) → IfErr result P
+    → ((stop : Stop) → P stop → Q stop) → IfErr result Q
 if_err (Ok done) says to = tt
 if_err (Err stop) says to = to stop says
 
 -- a pull that gives no byte is the end
-pub ended_at : (a b c : Option (List ℕ)) (bytes read : List ℕ) (count : ℕ) → Consumes a b bytes → count ≡ 0 → 0 < length read
+pub ended_at : (a b c : Option (List ℕ)) (bytes read : List ℕ) (count : ℕ) → Consumes a b bytes → count ≡ 0
+    → 0 < length read
     → Consumes b c (take count read) × (count ≡ 0 → 0 < length read → IsAtEnd c) → Consumes a c bytes × IsAtEnd c
 ended_at a b c bytes read count first none room pulled =
     let nothing : take count read ≡ [] = rw none refl in
@@ -143,11 +153,13 @@ first_only [] some = absurd (omega (arith, some))
 first_only (x ∷ xs) some = refl
 
 -- what was consumed is a front
-pub front_of_all : (all bytes : List ℕ) (left : Option (List ℕ)) → Consumes (Some all) left bytes → (more : List ℕ) × (all ≡ bytes ++ more)
+pub front_of_all : (all bytes : List ℕ) (left : Option (List ℕ)) → Consumes (Some all) left bytes
+    → (more : List ℕ) × (all ≡ bytes ++ more)
 front_of_all all bytes None consumed = absurd consumed
 front_of_all all bytes (Some more) consumed = (more, consumed)
 
 -- and all of it at the end
-pub all_at_end : (all bytes : List ℕ) (left : Option (List ℕ)) → Consumes (Some all) left bytes → IsAtEnd left → all ≡ bytes
+pub all_at_end : (all bytes : List ℕ) (left : Option (List ℕ)) → Consumes (Some all) left bytes → IsAtEnd left
+    → all ≡ bytes
 all_at_end all bytes None consumed ended = absurd consumed
 all_at_end all bytes (Some more) consumed ended = consumed ∙ ap (λ (l : List ℕ). bytes ++ l) ended ∙ append-nil bytes

@@ -30,7 +30,8 @@ writes text = record {
   output = λ bytes written. (bytes ≡ []) × (written ≡ text);
 }
 
--- what the bytes show, where they do not pass a limit of the command's own: that comes before a fault and before the limit of the grammar
+-- what the bytes show, where they do not pass a limit of the command's own: that comes before a fault and before the
+-- limit of the grammar
 pub record Shows (m : Meaning) (verdict : Verdict InputFault) (bytes : List ℕ) : Type 0 where
   pub is : m.verdict bytes ≡ verdict
   pub unspent : ¬ m.spent bytes

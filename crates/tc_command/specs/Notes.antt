@@ -13,7 +13,8 @@ use Rattle.tc_command.specs.declared.stop.Stop.TheVariants.{Refused, ReadFault, 
 
 -- the fault of the file and its byte place
 abbrev pub refused_note : InputFault → List ℕ
-refused_note fault = codes "tc: refused: " ++ name_of fault ++ codes " at byte " ++ decimal (place_of fault) ++ codes "\n"
+refused_note fault =
+    codes "tc: refused: " ++ name_of fault ++ codes " at byte " ++ decimal (place_of fault) ++ codes "\n"
 
 -- why a job stopped
 abbrev pub stop_note : Stop → List ℕ
@@ -24,7 +25,8 @@ stop_note Limit = codes "tc: limit\n"
 
 -- the first refused row of a script and its least refused column
 abbrev pub row_note : RowFault → List ℕ
-row_note fault = codes "tc: refused: row " ++ decimal fault.row ++ codes " column " ++ decimal (number_of_column fault.column) ++ codes "\n"
+row_note fault = codes "tc: refused: row " ++ decimal fault.row ++ codes " column "
+    ++ decimal (number_of_column fault.column) ++ codes "\n"
 
 -- why a chase stopped
 abbrev pub chase_note : ChaseStop → List ℕ

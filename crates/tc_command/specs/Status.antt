@@ -7,7 +7,8 @@ use Rattle.tc_command.specs.declared.stop.ChaseStop.TheVariants as chase
 use Rattle.tc_command.specs.declared.stop.Stop.{Stop}
 use Rattle.tc_command.specs.declared.stop.Stop.TheVariants as stops
 use Rattle.tc_command.specs.declared.status.Status.{Status}
-use Rattle.tc_command.specs.declared.status.Status.TheVariants.{Done, Usage, Refused, ReadFault, WriteFault, Memory, Limit}
+use Rattle.tc_command.specs.declared.status.Status.TheVariants.{Done, Usage, Refused, ReadFault, WriteFault, Memory}
+use Rattle.tc_command.specs.declared.status.Status.TheVariants.{Limit}
 
 -- the exit number of a status
 abbrev pub code_of : Status → ℕ

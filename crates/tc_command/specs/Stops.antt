@@ -11,12 +11,13 @@ use Rattle.tc_command.specs.Meaning.{Meaning, Shows, IsInput, IsEnd}
 abbrev pub IsSpentStop : Meaning → List ℕ → List ℕ → Type 0
 IsSpentStop m pulled written = (front : List ℕ) × IsFront front pulled × m.spent front × m.part front written
 
--- the job stops for this cause at some of the bytes pulled, and this was written for them: where a push failed, a front of what was due for
--- a front of them, and at a limit of the command's own the part of a front that passes it
+-- the job stops for this cause at some of the bytes pulled, and this was written for them: where a push failed, a
+-- front of what was due for a front of them, and at a limit of the command's own the part of a front that passes it
 abbrev pub IsStop : Meaning → Stop → List ℕ → List ℕ → Type 0
 IsStop m (Refused fault) pulled written = Shows m (refused fault) pulled × m.part pulled written
 IsStop m ReadFault pulled written = ⊥
-IsStop m WriteFault pulled written = (front part : List ℕ) × IsFront front pulled × m.part front part × IsFront written part
+IsStop m WriteFault pulled written =
+    (front part : List ℕ) × IsFront front pulled × m.part front part × IsFront written part
 IsStop m Limit pulled written = (Shows m past_limit pulled × m.part pulled written) ⊎ IsSpentStop m pulled written
 
 -- the same, where some of it was written before
@@ -25,17 +26,20 @@ Stops m stop old new pulled written = (more : List ℕ) × Appends old new more 
 
 -- the job stops for this cause at the end of the bytes pulled, which are good before it
 abbrev pub IsEndStop : Meaning → Stop → List ℕ → List ℕ → Type 0
-IsEndStop m (Refused fault) pulled written = Shows m good pulled × (m.end_fault pulled ≡ Some fault) × m.part pulled written
+IsEndStop m (Refused fault) pulled written =
+    Shows m good pulled × (m.end_fault pulled ≡ Some fault) × m.part pulled written
 IsEndStop m ReadFault pulled written = ⊥
-IsEndStop m WriteFault pulled written = IsInput m pulled × ((output : List ℕ) × m.output pulled output × IsFront written output)
+IsEndStop m WriteFault pulled written =
+    IsInput m pulled × ((output : List ℕ) × m.output pulled output × IsFront written output)
 IsEndStop m Limit pulled written = ⊥
 
 -- the same, where some of it was written before
 abbrev pub StopsAtEnd : Meaning → Stop → Option (List ℕ) → Option (List ℕ) → List ℕ → List ℕ → Type 0
-StopsAtEnd m stop old new pulled written = (more : List ℕ) × Appends old new more × IsEndStop m stop pulled (written ++ more)
+StopsAtEnd m stop old new pulled written =
+    (more : List ℕ) × Appends old new more × IsEndStop m stop pulled (written ++ more)
 
--- why a job stops along its input, of which this is left: at some of the bytes pulled, or at their end. A pull that failed stops it at
--- neither a fault nor a limit
+-- why a job stops along its input, of which this is left: at some of the bytes pulled, or at their end. A pull that
+-- failed stops it at neither a fault nor a limit
 abbrev pub StopsAlong : Meaning → Stop → Option (List ℕ) → List ℕ → List ℕ → Type 0
 StopsAlong m ReadFault left pulled written = IsTrue m.reads × Shows m good pulled × m.part pulled written
 StopsAlong m (Refused fault) left pulled written =

@@ -54,7 +54,8 @@ pub trait Engine {
             × stands self.new (front ++ take count bytes.now) (written ++ more)) }
         // The bytes pulled show why the job stops among them.
         ensures stops { IfErr result (λ stop. (front written : List ℕ) → stands self.old front written
-            → Stops (meaning (choice self.old)) stop (K.written out.old) (K.written out.new) (front ++ bytes.now) written) }
+            → Stops (meaning (choice self.old)) stop (K.written out.old) (K.written out.new) (front
+            ++ bytes.now) written) }
         ensures cause { HasOutCause (K.faults out.old) (K.faults out.new) result }
         ensures no_pull { result ≡ Err Stop.ReadFault → ⊥ };
 
@@ -66,7 +67,8 @@ pub trait Engine {
         ensures budget { OnOk result (budget self.new ≤ budget self.old) }
         ensures choice { choice self.new ≡ choice self.old }
         ensures works { OnOk result ((bytes written : List ℕ) → stands self.old bytes written
-            → (more : List ℕ) × Appends (K.written out.old) (K.written out.new) more × stands self.new bytes (written ++ more)) }
+            → (more : List ℕ) × Appends (K.written out.old) (K.written out.new) more
+            × stands self.new bytes (written ++ more)) }
         ensures stops { IfErr result (λ stop. (bytes written : List ℕ) → stands self.old bytes written
             → Stops (meaning (choice self.old)) stop (K.written out.old) (K.written out.new) bytes written) }
         ensures cause { HasOutCause (K.faults out.old) (K.faults out.new) result }
@@ -78,7 +80,8 @@ pub trait Engine {
         requires settled { is_settled self.now }
         ensures ends { OnOk result ((bytes written : List ℕ) → stands self.now bytes written
             → (more : List ℕ) × Appends (K.written out.old) (K.written out.new) more
-            × IsInput (meaning (choice self.now)) bytes × Meaning.output (meaning (choice self.now)) bytes (written ++ more)) }
+            × IsInput (meaning (choice self.now)) bytes
+            × Meaning.output (meaning (choice self.now)) bytes (written ++ more)) }
         ensures stops { IfErr result (λ stop. (bytes written : List ℕ) → stands self.now bytes written
             → StopsAtEnd (meaning (choice self.now)) stop (K.written out.old) (K.written out.new) bytes written) }
         ensures cause { HasOutCause (K.faults out.old) (K.faults out.new) result }

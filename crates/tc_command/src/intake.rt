@@ -59,7 +59,8 @@ fn feed<E: Engine, K: Sink>(engine: &mut E, bytes: &[u8], out: &mut K) -> Result
         → (more : List ℕ) × Appends (K.written out.old) (K.written out.new) more
         × E.stands engine.new (front ++ bytes.now) (written ++ more)) }
     ensures stops { IfErr result (λ stop. (front written : List ℕ) → E.stands engine.old front written
-        → Stops (E.meaning (E.choice engine.old)) stop (K.written out.old) (K.written out.new) (front ++ bytes.now) written) }
+        → Stops (E.meaning (E.choice engine.old)) stop (K.written out.old) (K.written out.new) (front
+        ++ bytes.now) written) }
     ensures cause { HasOutCause (K.faults out.old) (K.faults out.new) result }
     ensures no_pull { result ≡ Err Stop.ReadFault → ⊥ }
 {

@@ -15,7 +15,8 @@ pub record LineStriping : Type 0 where
 abbrev pub line_stripe_of : Address → ℕ → ℕ → LineStriping
 line_stripe_of label frames length = record { label = label; frames = frames; length = length }
 
--- a label of a count whose pictures have lines of time code, some frames and not too many, and a length that a line may have
+-- a label of a count whose pictures have lines of time code, some frames and not too many, and a length that a line
+-- may have
 pub record IsLineStripe (s : LineStriping) : Type 0 where
   pub label : IsLabel s.label
   pub lines : HasLines (system_with s.label.count)

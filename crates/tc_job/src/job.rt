@@ -38,8 +38,8 @@ pub enum Job {
     LtcSpans { flight: Flight },
     /// `ltc-mtc LIMIT [worn|rough]`: reads an interval file, and writes MIDI Time Code of the same frames.
     LtcMtc { flight: Flight },
-    /// `ltc-jam LIMIT CELL TICK-RATE [worn|rough]`: reads an interval file, and writes the same frames anew as an interval
-    /// file of cells of one length.
+    /// `ltc-jam LIMIT CELL TICK-RATE [worn|rough]`: reads an interval file, and writes the same frames anew as an
+    /// interval file of cells of one length.
     LtcJam { jam: Jam },
     /// `ltc-chase COUNT LABEL LIMIT SEED BOUND [worn|rough]`: reads an interval file, and writes the steps of a
     /// chase that begins at the label and follows the same frames.

@@ -36,7 +36,14 @@ impl Model for Slicing {
 
     ghost invariant = { λ s. IsSlicing (slicing_of s.system s.rate s.threshold s.fineness s.smooth s.live) };
 
-    ghost inverse = { λ s. record { system = s.system; rate = s.rate; threshold = s.threshold; fineness = s.fineness; smooth = s.smooth; live = s.live } };
+    ghost inverse = { λ s. record {
+      system = s.system;
+      rate = s.rate;
+      threshold = s.threshold;
+      fineness = s.fineness;
+      smooth = s.smooth;
+      live = s.live;
+    } };
 }
 
 impl Slicing {

@@ -28,11 +28,23 @@ impl Model for Stripe {
 
     ghost Value = { Striping };
 
-    ghost view = { λ s. record { direction = s.direction; label = s.label; frames = s.frames; shape = s.shaper; tick_rate = s.tick_rate } };
+    ghost view = { λ s. record {
+      direction = s.direction;
+      label = s.label;
+      frames = s.frames;
+      shape = s.shaper;
+      tick_rate = s.tick_rate;
+    } };
 
     ghost invariant = { λ s. IsStripe (stripe_of s.direction s.label s.frames s.shaper s.tick_rate) };
 
-    ghost inverse = { λ s. record { direction = s.direction; label = s.label; frames = s.frames; shaper = s.shape; tick_rate = s.tick_rate } };
+    ghost inverse = { λ s. record {
+      direction = s.direction;
+      label = s.label;
+      frames = s.frames;
+      shaper = s.shape;
+      tick_rate = s.tick_rate;
+    } };
 }
 
 impl Stripe {

@@ -32,7 +32,13 @@ impl Model for WaveSlicing {
 
     ghost invariant = { λ s. IsWaveSlicing (wave_slicing_of s.system s.track s.threshold s.smooth s.live) };
 
-    ghost inverse = { λ s. record { system = s.system; track = s.track; threshold = s.threshold; smooth = s.smooth; live = s.live } };
+    ghost inverse = { λ s. record {
+      system = s.system;
+      track = s.track;
+      threshold = s.threshold;
+      smooth = s.smooth;
+      live = s.live;
+    } };
 }
 
 impl WaveSlicing {

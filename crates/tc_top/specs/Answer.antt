@@ -9,7 +9,8 @@ use Rattle.tc_words.specs.Words.{answer_to}
 use Rattle.tc_command.specs.declared.stop.Stop.{Stop}
 use Rattle.tc_command.specs.declared.stop.Stop.TheVariants as stops
 use Rattle.tc_command.specs.declared.status.Status.{Status}
-use Rattle.tc_command.specs.declared.status.Status.TheVariants.{Done, Usage, Refused, ReadFault, WriteFault, Memory, Limit}
+use Rattle.tc_command.specs.declared.status.Status.TheVariants.{Done, Usage, Refused, ReadFault, WriteFault, Memory}
+use Rattle.tc_command.specs.declared.status.Status.TheVariants.{Limit}
 use Rattle.chase_command.specs.Chase.{IsChaseAnswer}
 use Rattle.tc_top.specs.Commands.{meaning_of}
 use Rattle.tc_command.specs.Exchange.{Exchange, WritesAFront}

@@ -18,9 +18,9 @@ use Rattle.interval_commands.specs.LtcRead.{last_line, lines}
 use Rattle.tc_command.specs.Meaning.{Meaning}
 use Rattle.frame_commands.specs.OfFrames.{frames_of}
 
--- it is a file of the input's system, and of its intervals each frame of the input that was heard or invented is read, in
--- order and in its place, and nothing else: no word is refused, and no code is lost. So the report of `ltc-read` of it is
--- known, where it is within the limit of a reading: a line for each of these frames, and the last line
+-- it is a file of the input's system, and of its intervals each frame of the input that was heard or invented is read,
+-- in order and in its place, and nothing else: no word is refused, and no code is lost. So the report of `ltc-read` of
+-- it is known, where it is within the limit of a reading: a line for each of these frames, and the last line
 pub record IsClean (j : Jamming) (input : Recording) (written : List ℕ) : Type 0 where
   pub header : IntervalHeader
   pub begins : input.header ≡ Some header

@@ -4,7 +4,8 @@ use Rattle.biphase.specs.declared.profile.Profile.TheVariants.{Normal, Worn, Rou
 use Rattle.tc_address.specs.Numbering.{number_of}
 use Rattle.tc_job.specs.declared.flight.Flight.{Flight}
 use Rattle.tc_job.specs.declared.job.Job.{Job}
-use Rattle.tc_job.specs.declared.job.Job.TheVariants.{LtcRead, LtcWorn, LtcRough, LtcFly, LtcSpans, LtcMtc, LtcJam, LtcChase, MtcRead, Number, LabelOf, LtcMake}
+use Rattle.tc_job.specs.declared.job.Job.TheVariants.{LtcRead, LtcWorn, LtcRough, LtcFly, LtcSpans, LtcMtc, LtcJam}
+use Rattle.tc_job.specs.declared.job.Job.TheVariants.{LtcChase, MtcRead, Number, LabelOf, LtcMake}
 use Rattle.tc_job.specs.declared.job.Job.TheVariants.{LtcConvert, PcmLtc, WavLtc, LtcPcm, LtcLoad, VitcRead}
 use Rattle.tc_job.specs.declared.job.Job.TheVariants.{VitcMake, Help, Version}
 use Rattle.tc_job.specs.Slicing.{Slices}

@@ -20,9 +20,10 @@ use Rattle.frame_commands.specs.OfFrames.{frames_of}
 abbrev pub none_refused : List ℕ → List MtcEvent → List ℕ
 none_refused bytes labels = end_line (length bytes) (count_by is_full labels) (count_by is_quarter labels) 0
 
--- the labels that a reader finds in what was written are those of the frames of the recording, which are had so: run by run a full
--- message with the first label, and then one label for each two frames. And the report of `mtc-read` of it is known: a line for each of these
--- labels, with the place where it is complete, and the last line that counts them
+-- the labels that a reader finds in what was written are those of the frames of the recording, which are had so: run
+-- by run a full message with the first label, and then one label for each two frames. And the report of `mtc-read` of
+-- it is known: a line for each of these labels, with the place where it is complete, and the last line that counts
+-- them
 pub record SendsTheFrames (flight : Flight) (bytes written : List ℕ) : Type 0 where
   pub header : IntervalHeader
   pub begins : (recording_of bytes).header ≡ Some header

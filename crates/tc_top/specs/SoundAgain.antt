@@ -22,8 +22,8 @@ use Rattle.signal_commands.specs.WavLtc.{track_header}
 abbrev pub times : ℕ → List ℕ → List ℕ
 times fineness intervals = map (λ interval. fineness * interval) intervals
 
--- `pcm-ltc` takes the sound whole, each sample for itself, at a fixed threshold of at most the level of the samples, and
--- writes each distance when it has ended: this
+-- `pcm-ltc` takes the sound whole, each sample for itself, at a fixed threshold of at most the level of the samples,
+-- and writes each distance when it has ended: this
 pub record SlicesTo (level : ℕ) (slicing : Slices) (sound written : List ℕ) : Type 0 where
   pub threshold : ℕ
   pub alone : slicing.smooth ≡ 1
@@ -54,10 +54,10 @@ abbrev pub IsBehindTheFirst : IntervalHeader → List ℕ → List ℕ → Type 
 IsBehindTheFirst header intervals written = (first : List ℕ) × (length first ≤ 1)
     × (written ≡ file_of header (flat_map pieces_of first ++ flat_map pieces_of (times 16 intervals)))
 
--- at each fixed threshold of at most the level, and at each fineness, the crossings of the sound lie so many ticks apart
--- as each interval of the recording has, so many times. So `pcm-ltc` writes the file of these distances, and in whole
--- samples that of the intervals themselves; and so does `wav-ltc` of a sound file of these samples, behind the first
--- interval
+-- at each fixed threshold of at most the level, and at each fineness, the crossings of the sound lie so many ticks
+-- apart as each interval of the recording has, so many times. So `pcm-ltc` writes the file of these distances, and in
+-- whole samples that of the intervals themselves; and so does `wav-ltc` of a sound file of these samples, behind the
+-- first interval
 pub record IsSlicedAgain (level : ℕ) (bytes sound : List ℕ) : Type 0 where
   pub apart : (fineness threshold : ℕ) → 1 ≤ threshold → threshold ≤ level
       → distances fineness (Fixed threshold) (samples_of sound) ≡ times fineness (recording_of bytes).intervals
@@ -65,5 +65,6 @@ pub record IsSlicedAgain (level : ℕ) (bytes sound : List ℕ) : Type 0 where
       → again ≡ file_of (sliced_header slicing) (flat_map pieces_of (times slicing.fineness (recording_of bytes).intervals))
   pub whole : (slicing : Slices) (again : List ℕ) → SlicesTo level slicing sound again → slicing.fineness ≡ 1
       → again ≡ file_of (sliced_header slicing) (recording_of bytes).intervals
-  pub in_a_file : (w : SlicesWave) (format : WaveFormat) (file again : List ℕ) → SlicesFileTo level w format sound file again
+  pub in_a_file : (w : SlicesWave) (format : WaveFormat) (file again : List ℕ)
+      → SlicesFileTo level w format sound file again
       → IsBehindTheFirst (track_header w format) (recording_of bytes).intervals again

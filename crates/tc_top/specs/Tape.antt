@@ -22,5 +22,6 @@ pub record ReportsTheTape (profile : Profile) (bytes written : List ℕ) : Type 
   pub are : written ≡ lines header events ++ last_line (recording_of bytes).intervals events
   pub truth : TellsTheTape header.system profile (recording_of bytes).intervals events
   pub damage : FindsTheTape header.system profile (recording_of bytes).intervals events
-  pub mirror : (mirrored : List Event) → AreEvents header.system profile (reverse (recording_of bytes).intervals) mirrored
+  pub mirror : (mirrored : List Event)
+      → AreEvents header.system profile (reverse (recording_of bytes).intervals) mirrored
       → MirrorsTheTape header.system profile (recording_of bytes).intervals events mirrored

@@ -67,7 +67,8 @@ pub fn each_job_is_a_command()
 pub fn an_input_has_one_status()
     ensures one { (job : Job) (input : List ℕ) (a b : Status) → HasStatus (meaning_of job) input a
         → HasStatus (meaning_of job) input b → a ≡ b }
-    ensures file { (job : Job) (input : List ℕ) (status : Status) → ¬ HasOwnLimit job → HasStatus (meaning_of job) input status
+    ensures file { (job : Job) (input : List ℕ) (status : Status) → ¬ HasOwnLimit job
+        → HasStatus (meaning_of job) input status
         → status ≡ status_on (meaning_of job) input }
 {}
 
@@ -121,7 +122,8 @@ pub fn what_is_chased_follows_the_code()
 /// frame's word, and the field mark is 0 and then 1.
 pub fn lines_that_are_made_are_reported_whole()
     ensures input { (s : LineStriping) → IsLineStripe s → IsInput (meaning_of Job.VitcRead) (made_lines s) }
-    ensures report { (s : LineStriping) (written : List ℕ) → IsLineStripe s → Meaning.output (meaning_of Job.VitcRead) (made_lines s) written
+    ensures report { (s : LineStriping) (written : List ℕ) → IsLineStripe s
+        → Meaning.output (meaning_of Job.VitcRead) (made_lines s) written
         → written ≡ field_report (map (λ word. FieldAnswer.Agreed word) (made_words s)) }
 {
     lines_that_are_made_are_read_back();

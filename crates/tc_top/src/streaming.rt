@@ -30,8 +30,8 @@ pub fn stream<S: Source, K: Sink, N: Sink>(
     out: &mut K,
     notes: &mut N,
 ) -> Status
-    // What was pulled, what was written, and the note are those of the status, and a job that is done keeps its promise.
-    // Whatever the status, what was written is a front of the output of the whole input.
+    // What was pulled, what was written, and the note are those of the status, and a job that is done keeps its
+    // promise. Whatever the status, what was written is a front of the output of the whole input.
     ensures answer { (e : Exchange) × IsPulled (S.left source.old) (S.left source.new) e
         × IsWritten (K.written out.old) (K.written out.new) e
         × IsNoted (N.written notes.old) (N.written notes.new) (N.faults notes.old) (N.faults notes.new) e
@@ -47,7 +47,8 @@ pub fn stream<S: Source, K: Sink, N: Sink>(
 
     // A job that reads nothing leaves the source, and stops only where the output fails.
     ensures idle { Meaning.reads (meaning_of job.now) ≡ false → source.new ≡ source.old }
-    ensures writes { Meaning.reads (meaning_of job.now) ≡ false → (result ≡ Status.Done) ⊎ (result ≡ Status.WriteFault) }
+    ensures writes { Meaning.reads (meaning_of job.now) ≡ false
+        → (result ≡ Status.Done) ⊎ (result ≡ Status.WriteFault) }
 
     // Where no count of faults rises, the job and the whole input leave one status.
     ensures status { (input : List ℕ) → S.left source.old ≡ Some input

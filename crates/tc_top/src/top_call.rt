@@ -33,8 +33,8 @@ pub fn run<S: Source, K: Sink, N: Sink>(
     out: &mut K,
     notes: &mut N,
 ) -> Status
-    // What was pulled, what was written, and the note are those of the status, and what is done keeps its promise. Whatever
-    // the status, what was written is a front of the output of the whole input.
+    // What was pulled, what was written, and the note are those of the status, and what is done keeps its promise.
+    // Whatever the status, what was written is a front of the output of the whole input.
     ensures answer { (e : Exchange) × IsPulled (S.left source.old) (S.left source.new) e
         × IsWritten (K.written out.old) (K.written out.new) e
         × IsNoted (N.written notes.old) (N.written notes.new) (N.faults notes.old) (N.faults notes.new) e
@@ -60,8 +60,10 @@ pub fn run<S: Source, K: Sink, N: Sink>(
         → ChaseSeesOneEnd result (S.ends source.old) (S.ends source.new) }
 
     // A job that reads nothing leaves the source, and stops only where the output fails.
-    ensures idle { (job : Job) → answer_to (map string_bytes words.now) ≡ Ok (Task.Stream job) → Meaning.reads (meaning_of job) ≡ false
-        → (source.new ≡ source.old) × ((result ≡ Status.Done) ⊎ (result ≡ Status.WriteFault) ⊎ (result ≡ Status.Memory)) }
+    ensures idle { (job : Job) → answer_to (map string_bytes words.now) ≡ Ok (Task.Stream job)
+        → Meaning.reads (meaning_of job) ≡ false
+        → (source.new ≡ source.old) × ((result ≡ Status.Done) ⊎ (result ≡ Status.WriteFault)
+        ⊎ (result ≡ Status.Memory)) }
 
     // Where no count of faults rises, the job and the whole input leave one status, want of memory aside.
     ensures status { (job : Job) (input : List ℕ) → answer_to (map string_bytes words.now) ≡ Ok (Task.Stream job)
@@ -70,7 +72,8 @@ pub fn run<S: Source, K: Sink, N: Sink>(
         → HasStatus (meaning_of job) input result ⊎ (result ≡ Status.Memory) }
 
     // The same of a chase.
-    ensures chase_status { (label : Address) (input : List ℕ) → answer_to (map string_bytes words.now) ≡ Ok (Task.Chase label)
+    ensures chase_status { (label : Address) (input : List ℕ)
+        → answer_to (map string_bytes words.now) ≡ Ok (Task.Chase label)
         → S.left source.old ≡ Some input
         → ¬ Rose (S.faults source.old) (S.faults source.new) → ¬ Rose (K.faults out.old) (K.faults out.new)
         → (result ≡ chase_status_on label input) ⊎ (result ≡ Status.Memory) }

@@ -9,8 +9,8 @@ use Rattle.tc_job.specs.ChaseRun.{chasing_of}
 use Rattle.tc_words.specs.Flight.{flight_of}
 use Rattle.tc_words.specs.Values.{Word, between, count_in, limit_in, number_spelled, spelled, value_or}
 
--- the job of five words: the count, the label, how many frames are invented in a row, the seed of the slips and their bound; and of
--- the tolerance that the sixth word says, where it says one
+-- the job of five words: the count, the label, how many frames are invented in a row, the seed of the slips and their
+-- bound; and of the tolerance that the sixth word says, where it says one
 unfoldable pub chased : Word → Word → Word → Word → Word → Option Profile → Result Job WordsFault
 chased count label limit seed bound profile =
     value_or 1 (count_in count) (λ c. value_or 2 (spelled c label) (λ l. value_or 3 (limit_in limit) (λ n. value_or 4 (number_spelled seed) (λ s.

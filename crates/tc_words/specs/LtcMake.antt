@@ -38,7 +38,8 @@ abbrev pub shaped_to : ℕ → ℕ → Word → Option Shape
 shaped_to from to step = option_map (λ n. shape_with from to n) (between 0 (min from to / 8) step)
 
 -- what follows from the values of the first six words, or their first fault
-abbrev pub with_tape : {Y : Type 0} → Result TapeValues WordsFault → (TapeValues → Result Y WordsFault) → Result Y WordsFault
+abbrev pub with_tape : {Y : Type 0} → Result TapeValues WordsFault → (TapeValues → Result Y WordsFault)
+    → Result Y WordsFault
 with_tape (Err fault) next = Err fault
 with_tape (Ok tape) next = next tape
 

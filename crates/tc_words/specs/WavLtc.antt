@@ -29,7 +29,8 @@ pub record IsWave (wave : Wave) : Type 0 where
 
 -- the job of slicing it at a threshold, in sums of so many samples, live or not
 abbrev pub wave_job : Wave → Threshold → ℕ → Bool → Job
-wave_job wave threshold smooth live = WavLtc (wave_slicing_of wave.system wave.track (of_sums smooth threshold) smooth live)
+wave_job wave threshold smooth live =
+    WavLtc (wave_slicing_of wave.system wave.track (of_sums smooth threshold) smooth live)
 
 -- `deep`: a threshold at a quarter of the level, and never below this
 abbrev pub deep_in : ℕ → Word → Option Threshold

@@ -4,7 +4,8 @@ ghost use Rattle.pcm_front.specs.State.{IsThreshold};
 ghost use Rattle.pcm_front.specs.declared.window.TheConstants.{MAX_SMOOTH};
 ghost use Rattle.tc_job.specs.Slicing.{IsSlicing, slicing_of};
 ghost use Rattle.tc_job.specs.SoundLevel.{IsLevel};
-ghost use Rattle.tc_words.specs.PcmLtc.{fineness_in, following, following_in, in_samples, in_ticks, of_sums, sliced_job, sound_in, summing, IsSampleThreshold, IsSound};
+ghost use Rattle.tc_words.specs.PcmLtc.{fineness_in, following, following_in, in_samples, in_ticks, of_sums};
+ghost use Rattle.tc_words.specs.PcmLtc.{sliced_job, sound_in, summing, IsSampleThreshold, IsSound};
 
 use crate::values::{between, system_in};
 use pcm_front::{MAX_SMOOTH, Threshold};

@@ -2,7 +2,8 @@
 ghost use Rattle.std.specs.Prelude.{◌≡◌, ◌≤◌, IfSome};
 ghost use Rattle.std.specs.Char.{is_ascii_digit};
 ghost use Rattle.std.specs.List.{list_all};
-ghost use Rattle.tc_words.specs.Values.{between, count_in, count_with_lines, direction_in, is_number, limit_in, number_spelled, numbered, spelled};
+ghost use Rattle.tc_words.specs.Values.{between, count_in, count_with_lines, direction_in, is_number, limit_in};
+ghost use Rattle.tc_words.specs.Values.{number_spelled, numbered, spelled};
 ghost use Rattle.tc_words.specs.Values.{system_in, tolerance_in, version_in};
 ghost use Rattle.tc_address.specs.Count.{system_with};
 ghost use Rattle.tc_address.specs.Label.{IsLabel};
