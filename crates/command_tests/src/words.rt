@@ -6,10 +6,10 @@ use std::alloc::{AllocError, Global};
 use std::process::Abort;
 use std::test::Fail;
 use tc_address::text;
-use tc_words::{
+use tc_job::{
     ChaseRun, Flight, Jam, Job, LineStripe, Slicing, SoundLevel, Task, WaveSlicing, WordsFault,
-    read_words,
 };
+use tc_words::read_words;
 
 fn typed(alloc: Global, line: &str) -> Result<Vec<String>, AllocError> {
     let mut words = Vec::new(alloc);

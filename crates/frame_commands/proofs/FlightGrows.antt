@@ -21,7 +21,7 @@ use Rattle.flywheel.specs.StandsFor as flies
 use Rattle.flywheel.specs.Wheel.{Wheel}
 use Rattle.interval_file.specs.declared.header.IntervalHeader.{IntervalHeader}
 use Rattle.std.specs.Io.KnownBytes.{Appends}
-use Rattle.tc_words.specs.declared.flight.Flight.{Flight}
+use Rattle.tc_job.specs.declared.flight.Flight.{Flight}
 use Rattle.frame_commands.specs.declared.flight.FrameReader.{FrameReader}
 use Rattle.frame_commands.specs.KeptFlight.{Comes, Counts, CountsAll, GivesDue, GivesDueAll, GivesDueAllFirst, Sends, SendsFront, Stands}
 use Rattle.frame_commands.specs.LtcFly.{is_end, is_heard, is_invented}

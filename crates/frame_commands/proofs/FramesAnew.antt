@@ -8,7 +8,7 @@ use Rattle.flywheel.specs.declared.frame.Frame.{Frame}
 use Rattle.ltc_jam.specs.Cells.{clean_cells, intervals_of_frame, intervals_of_lead}
 use Rattle.interval_file.specs.declared.header.IntervalHeader.{IntervalHeader}
 use Rattle.interval_file.specs.IntervalHeader.{header_bytes}
-use Rattle.tc_words.specs.Jam.{Jamming}
+use Rattle.tc_job.specs.Jam.{Jamming}
 use Rattle.frame_commands.specs.LtcJam.{clean_file, clean_header}
 use Rattle.made_commands.specs.Made.{interval_bytes}
 

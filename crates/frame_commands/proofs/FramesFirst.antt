@@ -23,8 +23,8 @@ use Rattle.tc_address.specs.declared.count.Count.{Count}
 use Rattle.tc_address.specs.declared.system.System.{System}
 use Rattle.report_text.specs.FrameTexts.{frame_line}
 use Rattle.interval_file.specs.declared.header.IntervalHeader.{IntervalHeader}
-use Rattle.tc_words.specs.ChaseRun.{Chasing}
-use Rattle.tc_words.specs.Jam.{Jamming}
+use Rattle.tc_job.specs.ChaseRun.{Chasing}
+use Rattle.tc_job.specs.Jam.{Jamming}
 use Rattle.frame_commands.specs.LtcChase.{lines_of_steps, steps_over}
 use Rattle.tape_spans.specs.SpanTexts.{final_lines}
 use Rattle.frame_commands.specs.LtcFly.{lines_of_frames}

@@ -1,7 +1,7 @@
 -- What a command along frames prints is in order: the frames of some intervals come first, and its sink only adds to what it wrote.
 use Rattle.std.proofs.Common.{◌≡◌, ℕ, List, ◌++◌, refl, sym, ◌∙◌, ap, subst}
 use Rattle.direction_reader.specs.declared.event.Event.{Event}
-use Rattle.tc_words.specs.declared.flight.Flight.{Flight}
+use Rattle.tc_job.specs.declared.flight.Flight.{Flight}
 use Rattle.tc_io.specs.Sink.{IsFront}
 use Rattle.tc_command.specs.KeptFirst.{front_of_more}
 use Rattle.interval_commands.specs.KeptCommand.{PrintsInOrder}

@@ -10,7 +10,7 @@ use Rattle.code_chase.specs.CodeTrace.{CodeLoop, after_frame, after_frames, begu
 use Rattle.flywheel.specs.declared.frame.Frame.{Frame}
 use Rattle.tc_address.specs.declared.count.Count.{Count}
 use Rattle.tc_address.specs.Label.{Address}
-use Rattle.tc_words.specs.ChaseRun.{Chasing}
+use Rattle.tc_job.specs.ChaseRun.{Chasing}
 use Rattle.frame_commands.specs.KeptSteps.{HasFollowed, Stepping, stepped}
 use Rattle.frame_commands.specs.LtcChase.{first_steps, steps_over}
 

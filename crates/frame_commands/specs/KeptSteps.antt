@@ -5,7 +5,7 @@ use Rattle.chase_script.specs.TraceText.{loses}
 use Rattle.code_chase.specs.CodeTrace.{CodeLoop, after_frame, after_frames, begun_at, next_line}
 use Rattle.flywheel.specs.declared.frame.Frame.{Frame}
 use Rattle.tc_address.specs.declared.count.Count.{Count}
-use Rattle.tc_words.specs.ChaseRun.{Chasing}
+use Rattle.tc_job.specs.ChaseRun.{Chasing}
 use Rattle.frame_commands.specs.declared.ltc_chase.TheConstants.{MAX_FRAMES}
 use Rattle.frame_commands.specs.LtcChase.{first_steps}
 

@@ -9,7 +9,7 @@ use Rattle.flywheel.specs.Marked.{AreMarked, word_of, words_in}
 use Rattle.report_text.specs.FrameTexts.{frame_line, fly_end_line}
 use Rattle.interval_file.specs.declared.header.IntervalHeader.{IntervalHeader}
 use Rattle.interval_file.specs.Recording.{recording_of}
-use Rattle.tc_words.specs.declared.flight.Flight.{Flight}
+use Rattle.tc_job.specs.declared.flight.Flight.{Flight}
 use Rattle.interval_commands.specs.Along.{Printing}
 use Rattle.frame_commands.specs.OfFrames.{FrameText, along_frames, frames_of, words_heard}
 

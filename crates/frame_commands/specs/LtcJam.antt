@@ -6,7 +6,7 @@ use Rattle.ltc_jam.specs.Cells.{clean_cells}
 use Rattle.interval_file.specs.declared.header.FileVersion.TheVariants.{One}
 use Rattle.interval_file.specs.declared.header.IntervalHeader.{IntervalHeader}
 use Rattle.interval_file.specs.Grammar.{file_of}
-use Rattle.tc_words.specs.Jam.{Jamming}
+use Rattle.tc_job.specs.Jam.{Jamming}
 use Rattle.interval_commands.specs.Along.{Printing}
 use Rattle.frame_commands.specs.OfFrames.{FrameText, along_frames}
 

@@ -1,7 +1,7 @@
 -- `ltc-mtc`: the frames of a recording as MIDI Time Code.
 use Rattle.std.specs.Prelude.{[], None}
 use Rattle.quarter_frame.specs.Runs.{mtc_of}
-use Rattle.tc_words.specs.declared.flight.Flight.{Flight}
+use Rattle.tc_job.specs.declared.flight.Flight.{Flight}
 use Rattle.interval_commands.specs.Along.{Printing}
 use Rattle.frame_commands.specs.OfFrames.{FrameText, along_frames}
 

@@ -52,7 +52,7 @@ use line_text::Text;
 use report_text::fly_end_text;
 use tc_command::Stop;
 use tc_io::{Failed, Sink};
-use tc_words::Flight;
+use tc_job::Flight;
 
 /// The frames of a recording: its reader, its flywheel, and how many frames of each kind were given.
 #[derive(Drop)]

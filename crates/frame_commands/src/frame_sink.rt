@@ -5,7 +5,7 @@ ghost use Rattle.std.specs.Io.KnownBytes.{Appends};
 ghost use Rattle.flywheel.specs.declared.frame.Frame.{Frame};
 ghost use Rattle.interval_file.specs.declared.header.IntervalHeader.{IntervalHeader};
 ghost use Rattle.report_text.specs.FrameTexts.{FitsFrameLine};
-ghost use Rattle.tc_words.specs.declared.flight.Flight.{Flight};
+ghost use Rattle.tc_job.specs.declared.flight.Flight.{Flight};
 ghost use Rattle.tc_io.specs.Sink.{AppendsFront};
 ghost use Rattle.tc_command.specs.Causes.{HasOutCause};
 ghost use Rattle.frame_commands.specs.KeptFlight.{CountsAll, FitsFlight, Sends, SendsFront};
@@ -16,7 +16,7 @@ use flywheel::Frame;
 use interval_file::IntervalHeader;
 use tc_command::Stop;
 use tc_io::Sink;
-use tc_words::Flight;
+use tc_job::Flight;
 
 /// What a command makes of the frames of a recording, one after another.
 pub(crate) trait FrameSink: Drop {

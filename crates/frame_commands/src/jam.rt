@@ -19,7 +19,7 @@ use ltc_jam::{frame_cells, lead};
 use made_commands::{push_all, push_interval};
 use tc_command::{PIECE, Piece, Stop, push_piece};
 use tc_io::{Sink, Source};
-use tc_words::{Flight, Jam};
+use tc_job::{Flight, Jam};
 
 /// Works `ltc-jam`: a clean recording of the frames of a recording.
 pub fn jam_sync<S: Source, K: Sink>(jam: Jam, source: &mut S, out: &mut K) -> Result<(), Stop>

@@ -23,7 +23,7 @@ use std::marker::Model;
 use tc_address::Count;
 use tc_command::{Stop, push_line};
 use tc_io::{Sink, Source};
-use tc_words::{ChaseRun, Flight};
+use tc_job::{ChaseRun, Flight};
 
 /// How many frames one run follows at most. A further one ends it.
 pub const MAX_FRAMES: u64 = 100_000_000;

@@ -14,7 +14,7 @@ use interval_file::IntervalHeader;
 use report_text::frame_text;
 use tc_command::{Stop, push_line};
 use tc_io::{Sink, Source};
-use tc_words::Flight;
+use tc_job::Flight;
 
 /// Works `ltc-fly`: a line for each frame of a recording, where its frames are had so.
 pub fn fly_along<S: Source, K: Sink>(

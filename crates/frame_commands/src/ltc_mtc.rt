@@ -14,7 +14,7 @@ use interval_file::IntervalHeader;
 use quarter_frame::QuarterWriter;
 use tc_command::{Stop, push_piece};
 use tc_io::{Sink, Source};
-use tc_words::Flight;
+use tc_job::Flight;
 
 /// Works `ltc-mtc`: the frames of a recording, where they are had so, as MIDI Time Code.
 pub fn send_time_code<S: Source, K: Sink>(

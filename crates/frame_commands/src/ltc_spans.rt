@@ -21,7 +21,7 @@ use tape_spans::{Cut, Gap, Span, SpanText, TapeSpans, gap_text, span_text};
 use tc_address::System;
 use tc_command::{Stop, push_line, push_piece};
 use tc_io::{Sink, Source};
-use tc_words::Flight;
+use tc_job::Flight;
 
 /// Works `ltc-spans`: a line for each span of a recording, where its frames are had so, and between two
 /// of them one for the gap.

@@ -19,7 +19,7 @@ use interval_file::IntervalHeader;
 use pcm_front::Side;
 use tc_command::{Gathered, Stop, push_piece};
 use tc_io::{Sink, Source};
-use tc_words::SoundLevel;
+use tc_job::SoundLevel;
 
 /// Works `ltc-pcm`: the sound of a recording, in samples of one level.
 pub fn sound_recording<S: Source, K: Sink>(

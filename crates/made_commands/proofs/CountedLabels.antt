@@ -7,7 +7,7 @@ use Rattle.direction_reader.specs.declared.event.Event.{Event}
 use Rattle.direction_reader.specs.declared.event.Event.TheVariants.{Word, Refused, Lost}
 use Rattle.direction_reader.specs.Events.{is_lost, is_refused, is_word}
 use Rattle.tc_address.specs.Label.{Address}
-use Rattle.tc_words.specs.LtcLoad.{Loading}
+use Rattle.tc_job.specs.LoadRun.{Loading}
 use Rattle.made_commands.specs.declared.ltc_load.Counts.{Counts}
 use Rattle.made_commands.specs.KeptLoad.{first_or, line_with, no_counts, with_event}
 use Rattle.made_commands.specs.Load.{first_in, labels_in, load_line}

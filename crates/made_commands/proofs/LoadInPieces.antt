@@ -6,7 +6,7 @@ use Rattle.biphase.specs.declared.cell.Cell.{Cell}
 use Rattle.biphase.specs.Chain.{flat, intervals_of}
 use Rattle.tc_address.specs.Label.{Address}
 use Rattle.tc_address.specs.Numbering.{step}
-use Rattle.tc_words.specs.LtcLoad.{Loading}
+use Rattle.tc_job.specs.LoadRun.{Loading}
 use Rattle.made_commands.specs.declared.chance.Chance.{Chance}
 use Rattle.made_commands.specs.Load.{begun, behind, cell_of, cells_by, first_label, load_cells, next_bits, one_cell, one_draw, word_cells_by}
 

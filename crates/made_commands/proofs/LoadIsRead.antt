@@ -23,7 +23,7 @@ use Rattle.tc_address.specs.Count.{system_with}
 use Rattle.tc_address.specs.Label.{Address, IsLabel}
 use Rattle.tc_address.specs.Numbering.{step}
 use Rattle.tc_bits.specs.Fields.{IsFields}
-use Rattle.tc_words.specs.LtcLoad.{Loading}
+use Rattle.tc_job.specs.LoadRun.{Loading}
 use Rattle.made_commands.specs.declared.chance.Chance.{Chance}
 use Rattle.made_commands.specs.Load.{IsAllRead, IsChance, begun, behind, cell_of, cells_by, first_label, load_cells, load_word, load_words, lock, next_bits}
 use Rattle.made_commands.specs.Load.{load_text, one_cell, one_draw, word_cells_by, words_by}

@@ -18,7 +18,7 @@ use Rattle.tc_address.specs.declared.system.System.{System}
 use Rattle.tc_address.specs.Count.{system_with}
 use Rattle.tc_address.specs.Label.{Address, IsLabel}
 use Rattle.tc_address.specs.Numbering.{step}
-use Rattle.tc_words.specs.Stripe.{IsStripe, Striping}
+use Rattle.tc_job.specs.Stripe.{IsStripe, Striping}
 use Rattle.ltc_jam.specs.Word.{played_as, word_of}
 use Rattle.made_commands.specs.KeptIntervals.{ShapesAreIntervals, in_range}
 use Rattle.made_commands.specs.Made.{IsReadBack, frames_from, made, made_cells, made_events, made_frames}

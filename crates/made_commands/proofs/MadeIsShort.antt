@@ -12,7 +12,7 @@ use Rattle.ltc_word.specs.Spelled.{spelling_of}
 use Rattle.tc_address.specs.declared.direction.Direction.{Direction}
 use Rattle.tc_address.specs.Label.{Address}
 use Rattle.tc_address.specs.Numbering.{step}
-use Rattle.tc_words.specs.Stripe.{IsStripe, Striping}
+use Rattle.tc_job.specs.Stripe.{IsStripe, Striping}
 use Rattle.made_commands.specs.Made.{frames_from, made_cells, made_frames}
 use Rattle.ltc_jam.specs.Word.{played_as}
 use Rattle.made_commands.proofs.MadeIsRead.{ShapesHaveBits}

@@ -17,7 +17,7 @@ use Rattle.tc_address.specs.Label.{Address, IsLabel}
 use Rattle.tc_address.specs.Numbering.{step}
 use Rattle.ltc_jam.specs.Word.{drops}
 use Rattle.tc_bits.specs.Fields.{IsFields, agrees}
-use Rattle.tc_words.specs.LineStripe.{LineStriping, IsLineStripe}
+use Rattle.tc_job.specs.LineStripe.{LineStriping, IsLineStripe}
 use Rattle.vitc_line.specs.declared.word.VitcWord.{VitcWord}
 use Rattle.vitc_line.specs.Spelled.{line_of}
 use Rattle.vitc_line.specs.Spelling.{Spells}

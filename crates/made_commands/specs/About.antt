@@ -2,7 +2,7 @@
 use Rattle.std.specs.Prelude.{ℕ, List, ◌++◌, codes, map}
 use Rattle.std.specs.List.{flat_map}
 use Rattle.made_commands.specs.declared.about.TheConstants.{MANUAL, VERSION}
-use Rattle.tc_words.specs.declared.usages.TheConstants.{USAGES}
+use Rattle.tc_job.specs.declared.usages.TheConstants.{USAGES}
 
 -- the word of a command, and what stands behind it in its line
 abbrev pub Usage : Type 0

@@ -9,7 +9,7 @@ use Rattle.direction_reader.specs.StandsFor.{StandsFor}
 use Rattle.direction_reader.specs.Tracker.{profile_of}
 use Rattle.tc_address.specs.Label.{Address}
 use Rattle.tc_address.specs.declared.system.System.TheVariants.{F25}
-use Rattle.tc_words.specs.LtcLoad.{Loading}
+use Rattle.tc_job.specs.LoadRun.{Loading}
 use Rattle.made_commands.specs.declared.ltc_load.Counts.{Counts}
 use Rattle.made_commands.specs.declared.ltc_load.Tally.{Tally}
 use Rattle.made_commands.specs.Load.{label_text}

@@ -23,7 +23,7 @@ use Rattle.direction_reader.specs.Events.{is_lost, is_refused, is_word}
 use Rattle.direction_reader.specs.ListEvents.{AreEvents, duration}
 use Rattle.direction_reader.specs.Played.{Played, events_of_words, played_bits}
 use Rattle.generator.specs.Draw.{drawn}
-use Rattle.tc_words.specs.LtcLoad.{Loading}
+use Rattle.tc_job.specs.LoadRun.{Loading}
 use Rattle.made_commands.specs.declared.chance.Chance.{Chance}
 use Rattle.made_commands.specs.declared.chance.TheConstants.{FIRST_LENGTH, LEAST_LENGTH, GREATEST_LENGTH}
 

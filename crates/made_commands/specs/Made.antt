@@ -19,7 +19,7 @@ use Rattle.interval_file.specs.declared.header.IntervalHeader.{IntervalHeader}
 use Rattle.interval_file.specs.Grammar.{IsFile}
 use Rattle.interval_file.specs.IntervalHeader.{header_bytes}
 use Rattle.ltc_jam.specs.Word.{played_as}
-use Rattle.tc_words.specs.Stripe.{Striping}
+use Rattle.tc_job.specs.Stripe.{Striping}
 
 -- so many frames from a label on in a direction, each with its word
 unfoldable pub frames_from : Direction → Address → ℕ → List Played

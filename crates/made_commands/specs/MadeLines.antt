@@ -14,7 +14,7 @@ use Rattle.line_file.specs.Answers.{AreAnswersOf}
 use Rattle.line_file.specs.Grammar.{file_of}
 use Rattle.line_file.specs.LineFile.{Reading, reading_of}
 use Rattle.ltc_jam.specs.Word.{word_of}
-use Rattle.tc_words.specs.LineStripe.{LineStriping}
+use Rattle.tc_job.specs.LineStripe.{LineStriping}
 
 -- the word of a label in one of its fields, with the fields that a word of linear code has there: no flag is set but that of drop-frame, and the user
 -- bits are 0

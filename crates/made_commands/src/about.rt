@@ -11,7 +11,7 @@ ghost use Rattle.tc_command.specs.Ran.{CameToItsEnd, StoppedBefore};
 use crate::ltc_make::push_all;
 use tc_command::{Maker, PIECE, Piece, Stop, make};
 use tc_io::{Sink, Source};
-use tc_words::usages::USAGES;
+use tc_job::usages::USAGES;
 
 /// The number of this version, which stands in the file `VERSION` at the top too.
 pub const VERSION: &str = "1.0.0";

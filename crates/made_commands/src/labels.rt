@@ -14,7 +14,7 @@ use line_text::{Text, push_bytes, push_number};
 use tc_address::{Label, number, text};
 use tc_command::{Maker, Piece, Stop, make};
 use tc_io::{Sink, Source};
-use tc_words::LoadRun;
+use tc_job::LoadRun;
 
 /// Works `ltc-load`: what was read of a recording that was made by chance.
 pub fn tell_load<S: Source, K: Sink>(run: &LoadRun, source: &mut S, out: &mut K) -> Result<(), Stop>

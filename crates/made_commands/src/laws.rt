@@ -3,8 +3,8 @@ ghost use Rattle.std.specs.Prelude.{◌≡◌, ◌≤◌, codes, length, None, S
 ghost use Rattle.biphase.specs.Chain.{flat};
 ghost use Rattle.interval_file.specs.Recording.{end_fault_of, recording_of};
 ghost use Rattle.interval_file.specs.Verdict.{good};
-ghost use Rattle.tc_words.specs.LineStripe.{IsLineStripe, LineStriping};
-ghost use Rattle.tc_words.specs.Stripe.{IsStripe, Striping};
+ghost use Rattle.tc_job.specs.LineStripe.{IsLineStripe, LineStriping};
+ghost use Rattle.tc_job.specs.Stripe.{IsStripe, Striping};
 ghost use Rattle.made_commands.specs.declared.chance.TheConstants as chance;
 ghost use Rattle.made_commands.specs.About.{usage_line, version_line};
 ghost use Rattle.made_commands.specs.Made.{made, made_cells, made_header, IsReadBack};

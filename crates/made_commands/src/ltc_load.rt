@@ -28,7 +28,7 @@ use ltc_word::LtcWord;
 use ltc_word::laws::each_word_has_its_spelling;
 use tc_address::{Count, Label, System, advance, day_labels, label_at, text};
 use tc_bits::{Fields, Flags, UserBits};
-use tc_words::LoadRun;
+use tc_job::LoadRun;
 
 /// How many events of each kind were read, and the labels of the first and the last word.
 #[derive(Clone, Copy)]

@@ -22,7 +22,7 @@ use tc_address::laws::steps_add_up;
 use tc_address::{Direction, Label, advance, system_of};
 use tc_command::{Maker, PIECE, Piece, Stop, make};
 use tc_io::{Sink, Source};
-use tc_words::Stripe;
+use tc_job::Stripe;
 
 /// The room that the intervals of a frame take at most: 80 ones of two intervals of four bytes.
 const FRAME_ROOM: usize = 640;

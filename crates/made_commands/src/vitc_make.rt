@@ -26,7 +26,7 @@ use tc_address::laws::steps_add_up;
 use tc_address::{Label, advance, system_of};
 use tc_command::{Maker, PIECE, Piece, Stop, make};
 use tc_io::{Sink, Source};
-use tc_words::LineStripe;
+use tc_job::LineStripe;
 use vitc_line::laws::{each_word_has_its_line, spelling_is_exact};
 use vitc_line::{VitcWord, encode};
 use vitc_reader::runs_of;

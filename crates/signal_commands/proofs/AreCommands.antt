@@ -23,7 +23,7 @@ use Rattle.line_file.specs.declared.fault.LineFileFault.{LineFileFault}
 use Rattle.line_file.specs.Verdict.{Verdict, good, refused, past_limit}
 use Rattle.tc_command.specs.Verdict as verdict
 use Rattle.tc_io.specs.Sink.{IsFront}
-use Rattle.tc_words.specs.Slicing.{Slices}
+use Rattle.tc_job.specs.Slicing.{Slices}
 use Rattle.vitc_reader.specs.declared.field.FieldAnswer.{FieldAnswer}
 use Rattle.tc_command.specs.Command.{IsCommand}
 use Rattle.tc_command.specs.KeptFirst.{front_of_more}

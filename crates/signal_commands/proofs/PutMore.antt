@@ -13,7 +13,7 @@ use Rattle.tc_address.specs.declared.system.System.{System}
 use Rattle.interval_file.specs.declared.header.FileVersion.TheVariants.{One}
 use Rattle.interval_file.specs.Grammar.{intervals_bytes}
 use Rattle.interval_file.specs.Piece.{spelling}
-use Rattle.tc_words.specs.Live.{pace_of}
+use Rattle.tc_job.specs.Pace.{pace_of}
 
 -- ---- intervals of one length
 

@@ -20,7 +20,7 @@ use Rattle.interval_file.specs.IntervalHeader.{header_bytes}
 use Rattle.interval_file.specs.Piece.{spelling}
 use Rattle.tc_command.specs.Verdict.{Verdict, good, refused, past_limit}
 use Rattle.tc_io.specs.Sink.{AppendsFront}
-use Rattle.tc_words.specs.Slicing as words
+use Rattle.tc_job.specs.Slicing as words
 use Rattle.signal_commands.specs.declared.pcm_ltc.SlicedSound.{SlicedSound}
 use Rattle.signal_commands.specs.declared.pcm_ltc.TheConstants.{MAX_SAMPLES}
 use Rattle.std.specs.Prelude.{IfErr, IfOk, Ok, Err}

@@ -15,7 +15,7 @@ use Rattle.tc_command.specs.declared.input_fault.InputFault.TheVariants.{Sound}
 use Rattle.interval_file.specs.Grammar.{file_of}
 use Rattle.interval_file.specs.IntervalHeader.{header_bytes}
 use Rattle.tc_io.specs.Sink.{AppendsFront}
-use Rattle.tc_words.specs.WaveSlicing.{SlicesWave}
+use Rattle.tc_job.specs.WaveSlicing.{SlicesWave}
 use Rattle.wave_file.specs.declared.decoder.Taken.TheVariants as taken
 use Rattle.wave_file.specs.declared.fault.WaveFault.{WaveFault}
 use Rattle.wave_file.specs.declared.format.WaveFormat.{WaveFormat}

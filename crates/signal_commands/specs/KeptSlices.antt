@@ -8,7 +8,7 @@ use Rattle.std.proofs.lemmas.List.{take_all}
 use Rattle.pcm_front.specs.Samples.{sample_in, samples_of}
 use Rattle.pcm_front.specs.StandsFor as pcm
 use Rattle.tc_command.specs.Verdict.{good, past_limit}
-use Rattle.tc_words.specs.declared.slicing.TheConstants.{MAX_FINENESS}
+use Rattle.tc_job.specs.declared.slicing.TheConstants.{MAX_FINENESS}
 use Rattle.signal_commands.specs.declared.pcm_ltc.SlicedSound.{SlicedSound}
 use Rattle.signal_commands.specs.declared.pcm_ltc.TheConstants.{MAX_SAMPLES}
 use Rattle.tc_command.specs.Meaning.{Meaning, Shows}

@@ -10,7 +10,7 @@ use Rattle.pcm_front.specs.StandsFor.{settings_of}
 use Rattle.interval_file.specs.declared.header.FileVersion.TheVariants.{One}
 use Rattle.interval_file.specs.Grammar.{intervals_bytes}
 use Rattle.tc_command.specs.Verdict as verdict
-use Rattle.tc_words.specs.WaveSlicing.{SlicesWave}
+use Rattle.tc_job.specs.WaveSlicing.{SlicesWave}
 use Rattle.wave_file.specs.declared.format.WaveFormat.{WaveFormat}
 use Rattle.wave_file.specs.declared.stage.TheConstants.{MAX_BYTES}
 use Rattle.wave_file.specs.StandsFor.{StandsFor, IsTold, bytes_taken, format_in_decoding}

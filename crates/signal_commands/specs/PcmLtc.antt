@@ -10,8 +10,8 @@ use Rattle.interval_file.specs.declared.header.FileVersion.TheVariants.{One}
 use Rattle.interval_file.specs.declared.header.IntervalHeader.{IntervalHeader}
 use Rattle.interval_file.specs.Grammar.{file_of}
 use Rattle.tc_command.specs.Verdict.{Verdict, good, past_limit}
-use Rattle.tc_words.specs.Live.{pace_of}
-use Rattle.tc_words.specs.Slicing.{Slices}
+use Rattle.tc_job.specs.Pace.{pace_of}
+use Rattle.tc_job.specs.Slicing.{Slices}
 use Rattle.signal_commands.specs.declared.pcm_ltc.TheConstants.{MAX_SAMPLES}
 use Rattle.tc_command.specs.Meaning.{Meaning}
 

@@ -10,8 +10,8 @@ use Rattle.interval_file.specs.declared.header.FileVersion.TheVariants.{One}
 use Rattle.interval_file.specs.declared.header.IntervalHeader.{IntervalHeader}
 use Rattle.interval_file.specs.Grammar.{file_of}
 use Rattle.tc_command.specs.Verdict as verdict
-use Rattle.tc_words.specs.Live.{pace_of}
-use Rattle.tc_words.specs.WaveSlicing.{SlicesWave}
+use Rattle.tc_job.specs.Pace.{pace_of}
+use Rattle.tc_job.specs.WaveSlicing.{SlicesWave}
 use Rattle.wave_file.specs.declared.format.WaveFormat.{WaveFormat}
 use Rattle.wave_file.specs.Wave.{Verdict, good, refused, past_limit, end_fault_of, reading_of}
 use Rattle.tc_command.specs.Meaning.{Meaning}

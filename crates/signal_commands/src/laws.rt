@@ -1,7 +1,7 @@
 //! What follows from the definitions alone.
 ghost use Rattle.std.specs.Prelude.{◌≡◌};
-ghost use Rattle.tc_words.specs.Slicing.{Slices};
-ghost use Rattle.tc_words.specs.WaveSlicing.{SlicesWave};
+ghost use Rattle.tc_job.specs.Slicing.{Slices};
+ghost use Rattle.tc_job.specs.WaveSlicing.{SlicesWave};
 ghost use Rattle.tc_command.specs.Command.{IsCommand};
 ghost use Rattle.signal_commands.specs.declared.mtc_read.TheConstants.{MAX_BYTES};
 ghost use Rattle.signal_commands.specs.declared.pcm_ltc.TheConstants.{MAX_SAMPLES};

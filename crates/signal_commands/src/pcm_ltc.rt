@@ -14,7 +14,7 @@ use interval_file::{FileVersion, IntervalHeader, interval_header};
 use pcm_front::Slicer;
 use tc_command::{Engine, Gathered, InputFault, Stop, work};
 use tc_io::{Sink, Source};
-use tc_words::Slicing;
+use tc_job::Slicing;
 
 /// So many samples are taken, at most.
 pub const MAX_SAMPLES: u64 = 1_000_000_000;

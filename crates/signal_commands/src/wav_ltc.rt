@@ -23,7 +23,7 @@ use pcm_front::laws::intervals_of_a_front_come_first;
 use pcm_front::{Pace, Slicer};
 use tc_command::{Engine, Gathered, InputFault, Stop, work};
 use tc_io::{Sink, Source};
-use tc_words::WaveSlicing;
+use tc_job::WaveSlicing;
 use wave_file::laws::{samples_are_few_and_behind_a_format, what_a_sound_file_shows_stays};
 use wave_file::{Taken, WaveDecoder, WaveFormat};
 

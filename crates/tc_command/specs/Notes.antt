@@ -2,8 +2,8 @@
 use Rattle.std.specs.Prelude.{ℕ, List, ◌++◌, codes, decimal}
 use Rattle.tc_command.specs.declared.input_fault.InputFault.{InputFault}
 use Rattle.tc_command.specs.InputFault.{name_of, place_of}
-use Rattle.tc_words.specs.declared.fault.WordsFault.{WordsFault}
-use Rattle.tc_words.specs.declared.fault.WordsFault.TheVariants as words
+use Rattle.tc_job.specs.declared.fault.WordsFault.{WordsFault}
+use Rattle.tc_job.specs.declared.fault.WordsFault.TheVariants as words
 use Rattle.chase_script.specs.declared.fault.RowFault.{RowFault}
 use Rattle.chase_script.specs.Column.{number_of_column}
 use Rattle.tc_command.specs.declared.stop.ChaseStop.{ChaseStop}

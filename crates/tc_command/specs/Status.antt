@@ -1,7 +1,7 @@
 -- The status of each end of a run, and its exit number.
 use Rattle.std.specs.Prelude.{ℕ}
-use Rattle.tc_words.specs.declared.fault.WordsFault.{WordsFault}
-use Rattle.tc_words.specs.declared.fault.WordsFault.TheVariants as words
+use Rattle.tc_job.specs.declared.fault.WordsFault.{WordsFault}
+use Rattle.tc_job.specs.declared.fault.WordsFault.TheVariants as words
 use Rattle.tc_command.specs.declared.stop.ChaseStop.{ChaseStop}
 use Rattle.tc_command.specs.declared.stop.ChaseStop.TheVariants as chase
 use Rattle.tc_command.specs.declared.stop.Stop.{Stop}

@@ -10,7 +10,7 @@ use crate::stop::{ChaseStop, Stop};
 use chase_script::RowFault;
 use line_text::{Text, push_bytes, push_number};
 use tc_io::{Sink, push_all};
-use tc_words::WordsFault;
+use tc_job::WordsFault;
 
 /// Pushes a note. A sink of notes that fails changes nothing else.
 pub fn push_note<N: Sink>(notes: &mut N, note: &Text)

@@ -3,7 +3,7 @@ ghost use Rattle.std.specs.Prelude.{◌≡◌};
 ghost use Rattle.tc_command.specs.Status.{code_of, status_of, status_of_words, status_of_chase};
 
 use crate::stop::{ChaseStop, Stop};
-use tc_words::WordsFault;
+use tc_job::WordsFault;
 
 /// How a run ended.
 #[derive(Clone, Copy, Debug, PartialEq, Eq)]

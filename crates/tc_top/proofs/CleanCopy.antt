@@ -24,7 +24,7 @@ use Rattle.interval_file.specs.declared.header.IntervalHeader.{IntervalHeader}
 use Rattle.interval_file.specs.Grammar.{AreIntervals, IsFile}
 use Rattle.interval_file.specs.Recording.{Recording, end_fault_of, recording_of}
 use Rattle.interval_file.specs.Verdict.{good}
-use Rattle.tc_words.specs.Jam.{IsJamming, Jamming}
+use Rattle.tc_job.specs.Jam.{IsJamming, Jamming}
 use Rattle.interval_commands.specs.Along.{IsWholeBehind, IsWholeOf}
 use Rattle.tc_top.specs.CleanCopy.{CleansTheInput, IsClean}
 use Rattle.frame_commands.specs.LtcJam.{clean_file, clean_header, clean_intervals, clean_recording}

@@ -5,13 +5,13 @@ use Rattle.interval_file.specs.declared.header.FileVersion.{FileVersion}
 use Rattle.interval_file.specs.declared.header.IntervalHeader.{IntervalHeader}
 use Rattle.interval_file.specs.Recording.{recording_of}
 use Rattle.flywheel.specs.declared.frame.Frame.{Frame}
-use Rattle.tc_words.specs.ChaseRun.{Chasing}
-use Rattle.tc_words.specs.Jam.{Jamming}
-use Rattle.tc_words.specs.Slicing.{Slices}
-use Rattle.tc_words.specs.WaveSlicing.{SlicesWave}
-use Rattle.tc_words.specs.declared.flight.Flight.{Flight}
-use Rattle.tc_words.specs.declared.job.Job.{Job}
-use Rattle.tc_words.specs.declared.job.Job.TheVariants.{LtcRead, LtcWorn, LtcRough, LtcFly, LtcSpans, LtcMtc, LtcJam, LtcChase, LtcConvert, LtcPcm}
+use Rattle.tc_job.specs.ChaseRun.{Chasing}
+use Rattle.tc_job.specs.Jam.{Jamming}
+use Rattle.tc_job.specs.Slicing.{Slices}
+use Rattle.tc_job.specs.WaveSlicing.{SlicesWave}
+use Rattle.tc_job.specs.declared.flight.Flight.{Flight}
+use Rattle.tc_job.specs.declared.job.Job.{Job}
+use Rattle.tc_job.specs.declared.job.Job.TheVariants.{LtcRead, LtcWorn, LtcRough, LtcFly, LtcSpans, LtcMtc, LtcJam, LtcChase, LtcConvert, LtcPcm}
 use Rattle.tc_command.specs.Command.{IsCommand}
 use Rattle.tc_command.specs.KeptText.{text_is_command}
 use Rattle.tc_command.specs.Meaning.{Meaning}

@@ -22,7 +22,7 @@ use Rattle.tc_address.specs.declared.system.System.{System}
 use Rattle.tc_address.specs.Label.{Address, IsLabel}
 use Rattle.interval_file.specs.declared.header.IntervalHeader.{IntervalHeader}
 use Rattle.interval_file.specs.Recording.{Recording, recording_of}
-use Rattle.tc_words.specs.ChaseRun.{Chasing, IsChasing}
+use Rattle.tc_job.specs.ChaseRun.{Chasing, IsChasing}
 use Rattle.frame_commands.specs.declared.ltc_chase.TheConstants.{MAX_FRAMES}
 use Rattle.interval_commands.specs.Along.{IsSpentBehind, IsWholeBehind}
 use Rattle.frame_commands.specs.LtcChase.{ChasesTheInput, FollowsTheCode, LosesWithCause, chased_recording}

@@ -4,7 +4,7 @@ use Rattle.std.specs.Prelude.{if◌then◌else◌}
 use Rattle.std.specs.Option.{option_map}
 use Rattle.line_file.specs.declared.fault.LineFileFault.TheVariants as fault
 use Rattle.line_file.specs.LineFile.{Reading}
-use Rattle.tc_words.specs.LineStripe.{LineStriping}
+use Rattle.tc_job.specs.LineStripe.{LineStriping}
 use Rattle.tc_command.specs.declared.input_fault.InputFault.TheVariants.{Lines}
 use Rattle.tc_command.specs.Meaning.{IsInput}
 use Rattle.made_commands.specs.MadeLines.{AreReadBack, made_lines}

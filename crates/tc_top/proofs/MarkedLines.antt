@@ -4,7 +4,7 @@ use Rattle.std.specs.Prelude.{sum}
 use Rattle.flywheel.specs.declared.heard.HeardWord.{HeardWord}
 use Rattle.flywheel.specs.Frames.{frames}
 use Rattle.flywheel.specs.Marked.{AreMarked, word_of, words_in}
-use Rattle.tc_words.specs.declared.flight.Flight.{Flight}
+use Rattle.tc_job.specs.declared.flight.Flight.{Flight}
 use Rattle.interval_file.specs.declared.header.IntervalHeader.{IntervalHeader}
 use Rattle.interval_file.specs.Recording.{recording_of}
 use Rattle.interval_commands.specs.Along.{IsWholeBehind, IsWholeOf}

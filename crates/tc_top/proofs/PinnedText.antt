@@ -12,13 +12,13 @@ use Rattle.interval_file.specs.declared.header.FileVersion.{FileVersion}
 use Rattle.interval_file.specs.declared.header.IntervalHeader.{IntervalHeader}
 use Rattle.interval_file.specs.Grammar.{IsFile, file_of}
 use Rattle.interval_file.specs.Recording.{Recording, recording_of}
-use Rattle.tc_words.specs.ChaseRun.{Chasing}
-use Rattle.tc_words.specs.Jam.{Jamming}
-use Rattle.tc_words.specs.WaveSlicing.{SlicesWave}
-use Rattle.tc_words.specs.declared.flight.Flight.{Flight}
-use Rattle.tc_words.specs.declared.job.Job.{Job}
-use Rattle.tc_words.specs.declared.job.Job.TheVariants.{LtcRead, LtcWorn, LtcRough, LtcFly, LtcSpans, LtcJam, LtcChase, LtcMake, LtcLoad}
-use Rattle.tc_words.specs.declared.job.Job.TheVariants.{LtcConvert, WavLtc, VitcMake}
+use Rattle.tc_job.specs.ChaseRun.{Chasing}
+use Rattle.tc_job.specs.Jam.{Jamming}
+use Rattle.tc_job.specs.WaveSlicing.{SlicesWave}
+use Rattle.tc_job.specs.declared.flight.Flight.{Flight}
+use Rattle.tc_job.specs.declared.job.Job.{Job}
+use Rattle.tc_job.specs.declared.job.Job.TheVariants.{LtcRead, LtcWorn, LtcRough, LtcFly, LtcSpans, LtcJam, LtcChase, LtcMake, LtcLoad}
+use Rattle.tc_job.specs.declared.job.Job.TheVariants.{LtcConvert, WavLtc, VitcMake}
 use Rattle.frame_commands.specs.declared.ltc_chase.TheConstants.{MAX_FRAMES}
 use Rattle.pcm_front.specs.Pace.{intervals_at}
 use Rattle.wave_file.specs.declared.format.WaveFormat.{WaveFormat}

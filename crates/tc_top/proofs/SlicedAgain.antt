@@ -25,9 +25,9 @@ use Rattle.interval_commands.specs.LtcPcm.{made_sound}
 use Rattle.tc_command.specs.Meaning.{IsInput}
 use Rattle.signal_commands.specs.PcmLtc.{pace_for, settings_for, sliced_header}
 use Rattle.signal_commands.specs.WavLtc.{track_file, track_header, track_of, track_pace, track_settings}
-use Rattle.tc_words.specs.Live.{pace_of}
-use Rattle.tc_words.specs.Slicing.{Slices}
-use Rattle.tc_words.specs.WaveSlicing.{SlicesWave}
+use Rattle.tc_job.specs.Pace.{pace_of}
+use Rattle.tc_job.specs.Slicing.{Slices}
+use Rattle.tc_job.specs.WaveSlicing.{SlicesWave}
 use Rattle.wave_file.specs.declared.format.WaveFormat.{WaveFormat}
 use Rattle.wave_file.specs.Wave.{reading_of}
 use Rattle.tc_top.specs.SoundAgain.{times, IsBehindTheFirst, IsSlicedAgain, SlicesFileTo}

@@ -11,7 +11,7 @@ use Rattle.flywheel.specs.Marked.{word_of, words_in}
 use Rattle.tape_spans.specs.Shared.{HoldsTogether, frames_in, present}
 use Rattle.tape_spans.specs.Spans.{frames_of_spans, spans}
 use Rattle.tape_spans.specs.SpanTexts.{final_lines, lines_behind, open_line}
-use Rattle.tc_words.specs.declared.flight.Flight.{Flight}
+use Rattle.tc_job.specs.declared.flight.Flight.{Flight}
 use Rattle.interval_file.specs.declared.header.IntervalHeader.{IntervalHeader}
 use Rattle.interval_file.specs.Recording.{recording_of}
 use Rattle.interval_commands.specs.Along.{IsWholeBehind, IsWholeOf}

@@ -1,6 +1,6 @@
 -- A job that stopped answers by why it stopped.
 use Rattle.std.proofs.Common.{◌≡◌}
-use Rattle.tc_words.specs.declared.job.Job.{Job}
+use Rattle.tc_job.specs.declared.job.Job.{Job}
 use Rattle.tc_command.specs.declared.stop.Stop.{Stop}
 use Rattle.tc_command.specs.declared.stop.Stop.TheVariants.{Refused, ReadFault, WriteFault, Limit}
 use Rattle.tc_top.specs.Answer.{EndsBy, IsAnswer}

@@ -3,12 +3,12 @@ use Rattle.std.proofs.Common.{◌≡◌, ◌⊎◌, ℕ, List, [], Ok, Err, refl
 use Rattle.std.specs.Prelude.{alloc_error}
 use Rattle.std.specs.declared.option.Option.{Option}
 use Rattle.std.specs.declared.result.Result.{Result}
-use Rattle.tc_words.specs.declared.job.Job.{Job}
-use Rattle.tc_words.specs.declared.job.Task.{Task}
-use Rattle.tc_words.specs.declared.job.Task.TheVariants.{Stream, Chase}
-use Rattle.tc_words.specs.declared.fault.WordsFault.{WordsFault}
-use Rattle.tc_words.specs.declared.fault.WordsFault.TheVariants as words
-use Rattle.tc_words.specs.Job.{answer_to}
+use Rattle.tc_job.specs.declared.job.Job.{Job}
+use Rattle.tc_job.specs.declared.job.Task.{Task}
+use Rattle.tc_job.specs.declared.job.Task.TheVariants.{Stream, Chase}
+use Rattle.tc_job.specs.declared.fault.WordsFault.{WordsFault}
+use Rattle.tc_job.specs.declared.fault.WordsFault.TheVariants as words
+use Rattle.tc_words.specs.Words.{answer_to}
 use Rattle.tc_command.specs.Notes.{usage_note}
 use Rattle.tc_top.specs.Answer.{IsRunAnswer}
 use Rattle.tc_command.specs.Status.{status_of_words}

@@ -1,11 +1,11 @@
 -- The answer of a run: what was pulled and written, and the note, by status.
 use Rattle.std.specs.Prelude.{◌≡◌, ◌⊎◌, ℕ, List, [], codes, Ok, Err}
 use Rattle.tc_command.specs.declared.input_fault.InputFault.{InputFault}
-use Rattle.tc_words.specs.declared.job.Job.{Job}
-use Rattle.tc_words.specs.declared.job.Task.{Task}
-use Rattle.tc_words.specs.declared.job.Task.TheVariants.{Stream, Chase}
-use Rattle.tc_words.specs.declared.fault.WordsFault.{WordsFault}
-use Rattle.tc_words.specs.Job.{answer_to}
+use Rattle.tc_job.specs.declared.job.Job.{Job}
+use Rattle.tc_job.specs.declared.job.Task.{Task}
+use Rattle.tc_job.specs.declared.job.Task.TheVariants.{Stream, Chase}
+use Rattle.tc_job.specs.declared.fault.WordsFault.{WordsFault}
+use Rattle.tc_words.specs.Words.{answer_to}
 use Rattle.tc_command.specs.declared.stop.Stop.{Stop}
 use Rattle.tc_command.specs.declared.stop.Stop.TheVariants as stops
 use Rattle.tc_command.specs.declared.status.Status.{Status}

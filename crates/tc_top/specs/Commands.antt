@@ -2,13 +2,13 @@
 use Rattle.std.specs.Prelude.{ℕ, List, Option, Some, None}
 use Rattle.biphase.specs.declared.profile.Profile.TheVariants.{Normal, Worn, Rough}
 use Rattle.tc_address.specs.Numbering.{number_of}
-use Rattle.tc_words.specs.declared.flight.Flight.{Flight}
-use Rattle.tc_words.specs.declared.job.Job.{Job}
-use Rattle.tc_words.specs.declared.job.Job.TheVariants.{LtcRead, LtcWorn, LtcRough, LtcFly, LtcSpans, LtcMtc, LtcJam, LtcChase, MtcRead, Number, LabelOf, LtcMake}
-use Rattle.tc_words.specs.declared.job.Job.TheVariants.{LtcConvert, PcmLtc, WavLtc, LtcPcm, LtcLoad, VitcRead}
-use Rattle.tc_words.specs.declared.job.Job.TheVariants.{VitcMake, Help, Version}
-use Rattle.tc_words.specs.Slicing.{Slices}
-use Rattle.tc_words.specs.WaveSlicing.{SlicesWave}
+use Rattle.tc_job.specs.declared.flight.Flight.{Flight}
+use Rattle.tc_job.specs.declared.job.Job.{Job}
+use Rattle.tc_job.specs.declared.job.Job.TheVariants.{LtcRead, LtcWorn, LtcRough, LtcFly, LtcSpans, LtcMtc, LtcJam, LtcChase, MtcRead, Number, LabelOf, LtcMake}
+use Rattle.tc_job.specs.declared.job.Job.TheVariants.{LtcConvert, PcmLtc, WavLtc, LtcPcm, LtcLoad, VitcRead}
+use Rattle.tc_job.specs.declared.job.Job.TheVariants.{VitcMake, Help, Version}
+use Rattle.tc_job.specs.Slicing.{Slices}
+use Rattle.tc_job.specs.WaveSlicing.{SlicesWave}
 use Rattle.tc_command.specs.Meaning.{Meaning, writes}
 use Rattle.interval_commands.specs.Along.{Printing, along_intervals}
 use Rattle.interval_commands.specs.LtcConvert.{conversion}

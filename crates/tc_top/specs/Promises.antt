@@ -4,10 +4,10 @@ use Rattle.std.specs.Prelude.{ℕ, List}
 use Rattle.biphase.specs.declared.profile.Profile.TheVariants.{Normal, Worn, Rough}
 use Rattle.tc_io.specs.Bytes.{AreBytes}
 use Rattle.interval_file.specs.Recording.{recording_of}
-use Rattle.tc_words.specs.declared.job.Job.{Job}
-use Rattle.tc_words.specs.declared.job.Job.TheVariants.{LtcRead, LtcWorn, LtcRough, LtcFly, LtcSpans, LtcMtc, LtcJam, LtcChase, MtcRead}
-use Rattle.tc_words.specs.declared.job.Job.TheVariants.{LtcMake, LtcLoad, LtcConvert, PcmLtc, WavLtc, LtcPcm, VitcRead}
-use Rattle.tc_words.specs.declared.job.Job.TheVariants.{VitcMake, Number, LabelOf, Help, Version}
+use Rattle.tc_job.specs.declared.job.Job.{Job}
+use Rattle.tc_job.specs.declared.job.Job.TheVariants.{LtcRead, LtcWorn, LtcRough, LtcFly, LtcSpans, LtcMtc, LtcJam, LtcChase, MtcRead}
+use Rattle.tc_job.specs.declared.job.Job.TheVariants.{LtcMake, LtcLoad, LtcConvert, PcmLtc, WavLtc, LtcPcm, VitcRead}
+use Rattle.tc_job.specs.declared.job.Job.TheVariants.{VitcMake, Number, LabelOf, Help, Version}
 use Rattle.tc_top.specs.CleanCopy.{IsClean}
 use Rattle.tc_top.specs.Commands.{meaning_of}
 use Rattle.tc_command.specs.Exchange.{Exchange}

@@ -8,9 +8,9 @@ use Rattle.pcm_front.specs.Samples.{samples_of}
 use Rattle.interval_file.specs.declared.header.IntervalHeader.{IntervalHeader}
 use Rattle.interval_file.specs.Grammar.{file_of}
 use Rattle.interval_file.specs.Recording.{recording_of}
-use Rattle.tc_words.specs.declared.job.Job.TheVariants.{PcmLtc, WavLtc}
-use Rattle.tc_words.specs.Slicing.{Slices}
-use Rattle.tc_words.specs.WaveSlicing.{SlicesWave}
+use Rattle.tc_job.specs.declared.job.Job.TheVariants.{PcmLtc, WavLtc}
+use Rattle.tc_job.specs.Slicing.{Slices}
+use Rattle.tc_job.specs.WaveSlicing.{SlicesWave}
 use Rattle.wave_file.specs.declared.format.WaveFormat.{WaveFormat}
 use Rattle.wave_file.specs.Wave.{reading_of}
 use Rattle.tc_top.specs.Commands.{meaning_of}

@@ -1,11 +1,11 @@
 //! What follows from the definitions alone.
 ghost use Rattle.std.specs.Prelude.{◌≡◌, List, ℕ, ◌++◌, map, Ok, Err};
 ghost use Rattle.biphase.specs.Chain.{flat};
-ghost use Rattle.tc_words.specs.declared.job.Job.{Job};
-ghost use Rattle.tc_words.specs.ChaseRun.{Chasing, IsChasing};
-ghost use Rattle.tc_words.specs.Jam.{IsJamming, Jamming};
-ghost use Rattle.tc_words.specs.LineStripe.{IsLineStripe, LineStriping};
-ghost use Rattle.tc_words.specs.Stripe.{IsStripe, Striping};
+ghost use Rattle.tc_job.specs.declared.job.Job.{Job};
+ghost use Rattle.tc_job.specs.ChaseRun.{Chasing, IsChasing};
+ghost use Rattle.tc_job.specs.Jam.{IsJamming, Jamming};
+ghost use Rattle.tc_job.specs.LineStripe.{IsLineStripe, LineStriping};
+ghost use Rattle.tc_job.specs.Stripe.{IsStripe, Striping};
 ghost use Rattle.vitc_reader.specs.declared.field.FieldAnswer.{FieldAnswer};
 ghost use Rattle.tc_command.specs.declared.status.Status.{Status};
 ghost use Rattle.tc_command.specs.Command.{IsCommand};

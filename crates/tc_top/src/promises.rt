@@ -1,8 +1,8 @@
 //! What each job writes of an input keeps its promise. Next: `laws`.
 ghost use Rattle.interval_file.specs.declared.header.FileVersion.{FileVersion};
-ghost use Rattle.tc_words.specs.declared.flight.Flight.{Flight};
-ghost use Rattle.tc_words.specs.declared.job.Job.{Job};
-ghost use Rattle.tc_words.specs.WaveSlicing.{SlicesWave};
+ghost use Rattle.tc_job.specs.declared.flight.Flight.{Flight};
+ghost use Rattle.tc_job.specs.declared.job.Job.{Job};
+ghost use Rattle.tc_job.specs.WaveSlicing.{SlicesWave};
 ghost use Rattle.tc_top.specs.Promises.{KeepsItsPromise};
 
 use crate::laws::{what_is_chased_follows_the_code, what_is_jammed_is_read};
@@ -20,7 +20,7 @@ use pcm_front::laws::{
 };
 use quarter_frame::laws::what_is_sent_is_read_back;
 use tape_spans::laws::{spans_share_the_frames_out, the_open_span_has_the_last_line};
-use tc_words::{ChaseRun, Jam, Job, LineStripe, LoadRun, SoundLevel, Stripe};
+use tc_job::{ChaseRun, Jam, Job, LineStripe, LoadRun, SoundLevel, Stripe};
 use wave_file::laws::samples_are_few_and_behind_a_format;
 
 /// What a job writes of an input that it takes whole is what it promises.

@@ -21,7 +21,7 @@ use made_commands::{
 use signal_commands::{read_fields, read_midi, slice_sound, slice_track};
 use tc_command::{Status, Stop, push_note, stop_note};
 use tc_io::{Sink, Source};
-use tc_words::Job;
+use tc_job::Job;
 
 /// Works a job along its input, in fixed memory. It never answers `Usage` or `Memory`.
 pub fn stream<S: Source, K: Sink, N: Sink>(

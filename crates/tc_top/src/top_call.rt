@@ -2,11 +2,11 @@
 //! with the job `streaming`.
 ghost use Rattle.std.specs.Prelude.{◌≡◌, ◌⊎◌, ℕ, List, map, string_bytes, Some, false, Ok, Err};
 ghost use Rattle.tc_io.specs.Source.{Rose};
-ghost use Rattle.tc_words.specs.declared.fault.WordsFault.{WordsFault};
+ghost use Rattle.tc_job.specs.declared.fault.WordsFault.{WordsFault};
 ghost use Rattle.tc_address.specs.Label.{Address};
-ghost use Rattle.tc_words.specs.declared.job.Job.{Job};
-ghost use Rattle.tc_words.specs.declared.job.Task.{Task};
-ghost use Rattle.tc_words.specs.Job.{answer_to};
+ghost use Rattle.tc_job.specs.declared.job.Job.{Job};
+ghost use Rattle.tc_job.specs.declared.job.Task.{Task};
+ghost use Rattle.tc_words.specs.Words.{answer_to};
 ghost use Rattle.tc_top.specs.Answer.{IsRunAnswer};
 ghost use Rattle.tc_command.specs.WholeInput.{HasStatus};
 ghost use Rattle.tc_command.specs.Causes.{SourceCause, OutCause};
@@ -21,7 +21,8 @@ use chase_command::chase;
 use std::alloc::Global;
 use tc_command::{Status, push_note, usage_note};
 use tc_io::{Sink, Source};
-use tc_words::{Task, read_words};
+use tc_job::Task;
+use tc_words::read_words;
 
 /// Does all that the program does. The words are those after the program's own name, the command
 /// first. The output goes to `out`, and one line to `notes` for each status but Done.

@@ -1,9 +1,9 @@
 -- The first fault where words have several, and the edges of a number.
 use Rattle.std.proofs.Common.{◌≡◌, [], ◌∷◌, Some, None, Ok, Err, refl, codes}
-use Rattle.tc_words.specs.declared.job.Job.TheVariants.{LtcRead}
-use Rattle.tc_words.specs.declared.job.Task.TheVariants.{Stream}
-use Rattle.tc_words.specs.declared.fault.WordsFault.TheVariants.{Dash, Command, CountOfWords, Value}
-use Rattle.tc_words.specs.Job.{answer_to}
+use Rattle.tc_job.specs.declared.job.Job.TheVariants.{LtcRead}
+use Rattle.tc_job.specs.declared.job.Task.TheVariants.{Stream}
+use Rattle.tc_job.specs.declared.fault.WordsFault.TheVariants.{Dash, Command, CountOfWords, Value}
+use Rattle.tc_words.specs.Words.{answer_to}
 use Rattle.tc_words.specs.Values.{number_spelled}
 
 no_word : answer_to [] ≡ Err Command

@@ -2,11 +2,10 @@
 use Rattle.std.specs.Prelude.{ℕ, List, [], ◌∷◌, Option, Some, Result, Ok, Err}
 use Rattle.biphase.specs.declared.profile.Profile.{Profile}
 use Rattle.biphase.specs.declared.profile.Profile.TheVariants.{Normal}
-use Rattle.tc_words.specs.declared.fault.WordsFault.{WordsFault}
-use Rattle.tc_words.specs.declared.fault.WordsFault.TheVariants.{CountOfWords}
-use Rattle.tc_words.specs.declared.flight.Flight.{Flight}
-use Rattle.tc_words.specs.Values.{value_or}
-use Rattle.tc_words.specs.Values.{Word, limit_in, tolerance_in}
+use Rattle.tc_job.specs.declared.fault.WordsFault.{WordsFault}
+use Rattle.tc_job.specs.declared.fault.WordsFault.TheVariants.{CountOfWords}
+use Rattle.tc_job.specs.declared.flight.Flight.{Flight}
+use Rattle.tc_words.specs.Values.{Word, limit_in, tolerance_in, value_or}
 
 -- at most so many invented frames in a row, between words that are read under this tolerance
 abbrev pub flight_of : ℕ → Profile → Flight

@@ -1,14 +1,13 @@
 -- The values of `ltc-chase`, word by word.
 use Rattle.std.specs.Prelude.{Option, Result, Ok}
 use Rattle.biphase.specs.declared.profile.Profile.{Profile}
-use Rattle.tc_words.specs.declared.chase_run.TheConstants.{MAX_SLIP}
-use Rattle.tc_words.specs.declared.fault.WordsFault.{WordsFault}
-use Rattle.tc_words.specs.declared.job.Job.{Job}
-use Rattle.tc_words.specs.declared.job.Job.TheVariants.{LtcChase}
-use Rattle.tc_words.specs.ChaseRun.{chasing_of}
+use Rattle.tc_job.specs.declared.chase_run.TheConstants.{MAX_SLIP}
+use Rattle.tc_job.specs.declared.fault.WordsFault.{WordsFault}
+use Rattle.tc_job.specs.declared.job.Job.{Job}
+use Rattle.tc_job.specs.declared.job.Job.TheVariants.{LtcChase}
+use Rattle.tc_job.specs.ChaseRun.{chasing_of}
 use Rattle.tc_words.specs.Flight.{flight_of}
-use Rattle.tc_words.specs.Values.{value_or}
-use Rattle.tc_words.specs.Values.{Word, between, count_in, limit_in, number_spelled, spelled}
+use Rattle.tc_words.specs.Values.{Word, between, count_in, limit_in, number_spelled, spelled, value_or}
 
 -- the job of five words: the count, the label, how many frames are invented in a row, the seed of the slips and their bound; and of
 -- the tolerance that the sixth word says, where it says one

@@ -3,13 +3,13 @@ use Rattle.std.specs.Prelude.{ℕ, ◌/◌, ◌≤◌, min, Option, Some, None, 
 use Rattle.std.specs.Option.{option_map}
 use Rattle.biphase.specs.declared.shaper.TheConstants.{MIN_SHAPED, MAX_SHAPED}
 use Rattle.biphase.specs.Shape.{Shape, shape_with, IsShaped}
-use Rattle.tc_words.specs.declared.fault.WordsFault.{WordsFault}
-use Rattle.tc_words.specs.declared.job.Job.{Job}
-use Rattle.tc_words.specs.declared.job.Job.TheVariants.{LtcMake}
-use Rattle.tc_words.specs.declared.stripe.TheConstants.{MAX_FRAMES, MAX_TICK_RATE}
-use Rattle.tc_words.specs.declared.ltc_make.TapeValues.{TapeValues}
 use Rattle.tc_address.specs.Label.{IsLabel}
-use Rattle.tc_words.specs.Stripe.{stripe_of}
+use Rattle.tc_job.specs.declared.fault.WordsFault.{WordsFault}
+use Rattle.tc_job.specs.declared.job.Job.{Job}
+use Rattle.tc_job.specs.declared.job.Job.TheVariants.{LtcMake}
+use Rattle.tc_job.specs.declared.stripe.TheConstants.{MAX_FRAMES, MAX_TICK_RATE}
+use Rattle.tc_job.specs.Stripe.{stripe_of}
+use Rattle.tc_words.specs.declared.ltc_make.TapeValues.{TapeValues}
 use Rattle.tc_words.specs.Values.{Word, between, count_in, direction_in, spelled, value_or}
 
 -- the values of the first six words

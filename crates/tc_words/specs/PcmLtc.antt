@@ -5,16 +5,15 @@ use Rattle.std.specs.Str.{bytes_eq}
 use Rattle.pcm_front.specs.declared.threshold.Threshold.{Threshold}
 use Rattle.pcm_front.specs.declared.threshold.Threshold.TheVariants.{Fixed, Follow, Deep}
 use Rattle.pcm_front.specs.declared.window.TheConstants.{MAX_SMOOTH}
-use Rattle.tc_words.specs.declared.fault.WordsFault.{WordsFault}
-use Rattle.tc_words.specs.declared.job.Job.{Job}
-use Rattle.tc_words.specs.declared.job.Job.TheVariants.{PcmLtc}
-use Rattle.tc_words.specs.declared.slicing.TheConstants.{MAX_FINENESS, MAX_LEVEL}
+use Rattle.tc_job.specs.declared.fault.WordsFault.{WordsFault}
+use Rattle.tc_job.specs.declared.job.Job.{Job}
+use Rattle.tc_job.specs.declared.job.Job.TheVariants.{PcmLtc}
+use Rattle.tc_job.specs.declared.slicing.TheConstants.{MAX_FINENESS, MAX_LEVEL}
+use Rattle.tc_job.specs.declared.stripe.TheConstants.{MAX_TICK_RATE}
+use Rattle.tc_job.specs.Slicing.{slicing_of}
+use Rattle.tc_job.specs.SoundLevel.{IsLevel}
 use Rattle.tc_words.specs.declared.pcm_ltc.Sound.{Sound}
-use Rattle.tc_words.specs.declared.stripe.TheConstants.{MAX_TICK_RATE}
-use Rattle.tc_words.specs.Slicing.{slicing_of}
-use Rattle.tc_words.specs.SoundLevel.{IsLevel}
-use Rattle.tc_words.specs.Values.{value_or}
-use Rattle.tc_words.specs.Values.{Word, between, system_in}
+use Rattle.tc_words.specs.Values.{Word, between, system_in, value_or}
 
 -- the values of the first three words: the system, the samples a second, and the threshold
 abbrev pub sound_in : Word → Word → Word → Result Sound WordsFault

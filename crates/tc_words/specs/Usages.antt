@@ -2,9 +2,9 @@
 use Rattle.std.specs.Prelude.{◌≡◌, Bool, true, false, List, [], Err}
 use Rattle.std.specs.List.{list_all, list_any}
 use Rattle.std.specs.Str.{bytes_eq}
-use Rattle.tc_words.specs.declared.fault.WordsFault.TheVariants.{Command}
-use Rattle.tc_words.specs.declared.usages.TheConstants.{USAGES}
-use Rattle.tc_words.specs.Job.{TaskAnswer, task_of}
+use Rattle.tc_job.specs.declared.fault.WordsFault.TheVariants.{Command}
+use Rattle.tc_job.specs.declared.usages.TheConstants.{USAGES}
+use Rattle.tc_words.specs.Words.{TaskAnswer, task_of}
 use Rattle.tc_words.specs.Values.{Word}
 
 -- the answer is another than that the word names no command

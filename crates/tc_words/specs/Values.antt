@@ -16,8 +16,8 @@ use Rattle.tc_address.specs.Label.{Address, labels}
 use Rattle.tc_address.specs.Spelling.{label_in}
 use Rattle.interval_file.specs.declared.header.FileVersion.{FileVersion}
 use Rattle.interval_file.specs.declared.header.FileVersion.TheVariants.{One, Two}
-use Rattle.tc_words.specs.declared.fault.WordsFault.{WordsFault}
-use Rattle.tc_words.specs.declared.fault.WordsFault.TheVariants.{Value}
+use Rattle.tc_job.specs.declared.fault.WordsFault.{WordsFault}
+use Rattle.tc_job.specs.declared.fault.WordsFault.TheVariants.{Value}
 
 -- the bytes of a word
 abbrev pub Word : Type 0

@@ -1,13 +1,12 @@
 -- The values of `vitc-make`, word by word.
 use Rattle.std.specs.Prelude.{Result, Ok}
 use Rattle.vitc_reader.specs.declared.line_length.TheConstants.{MAX_LINE_LENGTH, MIN_LINE_LENGTH}
-use Rattle.tc_words.specs.declared.fault.WordsFault.{WordsFault}
-use Rattle.tc_words.specs.declared.job.Job.{Job}
-use Rattle.tc_words.specs.declared.job.Job.TheVariants.{VitcMake}
-use Rattle.tc_words.specs.declared.stripe.TheConstants.{MAX_FRAMES}
-use Rattle.tc_words.specs.LineStripe.{line_stripe_of}
-use Rattle.tc_words.specs.Values.{value_or}
-use Rattle.tc_words.specs.Values.{Word, between, count_with_lines, spelled}
+use Rattle.tc_job.specs.declared.fault.WordsFault.{WordsFault}
+use Rattle.tc_job.specs.declared.job.Job.{Job}
+use Rattle.tc_job.specs.declared.job.Job.TheVariants.{VitcMake}
+use Rattle.tc_job.specs.declared.stripe.TheConstants.{MAX_FRAMES}
+use Rattle.tc_job.specs.LineStripe.{line_stripe_of}
+use Rattle.tc_words.specs.Values.{Word, between, count_with_lines, spelled, value_or}
 
 -- the job of four words: the count, the label, the number of frames and the length of a line
 abbrev pub in_lines : Word → Word → Word → Word → Result Job WordsFault

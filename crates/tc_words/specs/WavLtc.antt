@@ -4,17 +4,16 @@ use Rattle.std.specs.Str.{bytes_eq}
 use Rattle.pcm_front.specs.declared.threshold.Threshold.{Threshold}
 use Rattle.pcm_front.specs.declared.threshold.Threshold.TheVariants.{Follow, Deep}
 use Rattle.pcm_front.specs.declared.window.TheConstants.{MAX_SMOOTH}
-use Rattle.tc_words.specs.declared.fault.WordsFault.{WordsFault}
-use Rattle.tc_words.specs.declared.job.Job.{Job}
-use Rattle.tc_words.specs.declared.job.Job.TheVariants.{WavLtc}
-use Rattle.tc_words.specs.declared.slicing.TheConstants.{MAX_LEVEL}
+use Rattle.tc_job.specs.declared.fault.WordsFault.{WordsFault}
+use Rattle.tc_job.specs.declared.job.Job.{Job}
+use Rattle.tc_job.specs.declared.job.Job.TheVariants.{WavLtc}
+use Rattle.tc_job.specs.declared.slicing.TheConstants.{MAX_LEVEL}
+use Rattle.tc_job.specs.declared.wave_slicing.TheConstants.{MAX_TRACKS}
+use Rattle.tc_job.specs.SoundLevel.{IsLevel}
+use Rattle.tc_job.specs.WaveSlicing.{wave_slicing_of}
 use Rattle.tc_words.specs.declared.wav_ltc.Wave.{Wave}
-use Rattle.tc_words.specs.declared.wave_slicing.TheConstants.{MAX_TRACKS}
-use Rattle.tc_words.specs.SoundLevel.{IsLevel}
 use Rattle.tc_words.specs.PcmLtc.{of_sums}
-use Rattle.tc_words.specs.Values.{value_or}
-use Rattle.tc_words.specs.Values.{Word, between, system_in}
-use Rattle.tc_words.specs.WaveSlicing.{wave_slicing_of}
+use Rattle.tc_words.specs.Values.{Word, between, system_in, value_or}
 
 -- the values of the first three words: the system, the track, and the threshold
 abbrev pub wave_in : Word → Word → Word → Result Wave WordsFault

@@ -1,20 +1,10 @@
-//! How the frames of a recording are had. Next: `frame_commands/src/flight.rt`, which has them.
+//! How the frames of a recording are had, as words say it. Next: `tc_job/src/flight.rt`, which holds it.
 ghost use Rattle.std.specs.Prelude.{◌≡◌, map};
 ghost use Rattle.tc_words.specs.Flight.{flight_in, flight_with};
 
-use crate::fault::WordsFault;
 use crate::values::{limit_in, tolerance_in};
 use biphase::Profile;
-
-/// How the frames of a recording are had: under which tolerance its words are read, and how many frames
-/// are invented in a row at most.
-#[derive(Clone, Copy, Debug, PartialEq, Eq)]
-pub struct Flight {
-    /// How many frames are invented in a row, at most.
-    pub limit: u8,
-    /// The tolerance under which words are read.
-    pub profile: Profile,
-}
+use tc_job::{Flight, WordsFault};
 
 /// The flight of a limit, and of the word behind it that says the tolerance, if there is one.
 pub(crate) fn flight_in(values: &[&str]) -> Result<Flight, WordsFault>

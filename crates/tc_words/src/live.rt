@@ -1,12 +1,7 @@
-//! The word `live`: a distance is written as it passes, in quarters of a frame. Next: `pcm_ltc` and `wav_ltc`.
+//! The word `live`: a distance is written as it passes. Next: `pcm_ltc` and `wav_ltc`.
 ghost use Rattle.std.specs.Prelude.{◌≡◌, codes};
 ghost use Rattle.std.specs.Str.{bytes_eq};
-ghost use Rattle.pcm_front.specs.Distance.{IsInterval};
-ghost use Rattle.pcm_front.specs.Pace.{IsPace};
-ghost use Rattle.tc_words.specs.Live.{is_live, live_in, pace_of, quarter_frame};
-
-use pcm_front::{MAX_INTERVAL, Pace};
-use tc_address::{System, rate};
+ghost use Rattle.tc_words.specs.Live.{is_live, live_in};
 
 /// Whether a word is `live`.
 pub(crate) fn is_live(word: &str) -> bool
@@ -23,25 +18,4 @@ pub(crate) fn live_in(word: &str) -> Option<bool>
     ensures { result ≡ live_in word.now }
 {
     if is_live(word) { Some(true) } else { None }
-}
-
-/// When the intervals of a distance are written: as it passes where the recording is live.
-pub(crate) fn pace_of(live: bool, system: System, tick_rate: u32) -> Pace
-    ensures value { result ≡ pace_of live system tick_rate }
-    ensures valid { IsPace result }
-{
-    if live {
-        Pace::Passing(quarter_frame(system, tick_rate))
-    } else {
-        Pace::Ended
-    }
-}
-
-/// A quarter of a frame at play speed, in ticks: as long as an interval can be.
-fn quarter_frame(system: System, tick_rate: u32) -> u32
-    ensures value { result ≡ quarter_frame system tick_rate }
-    ensures valid { IsInterval result }
-{
-    let quarter = tick_rate / (4 * rate(system));
-    quarter.max(1).min(MAX_INTERVAL)
 }

@@ -1,13 +1,10 @@
-//! The values of `ltc-chase`, word by word. Next: `chase_run`, which holds them.
+//! The values of `ltc-chase`, word by word. Next: `tc_job/src/chase_run.rt`, which holds them.
 ghost use Rattle.std.specs.Prelude.{◌≡◌};
 ghost use Rattle.tc_words.specs.LtcChase.{chased};
 
-use crate::chase_run::{ChaseRun, MAX_SLIP};
-use crate::fault::WordsFault;
-use crate::flight::Flight;
-use crate::job::Job;
 use crate::values::{between, count_in, limit_in, number_spelled, spelled};
 use biphase::Profile;
+use tc_job::{ChaseRun, Flight, Job, MAX_SLIP, WordsFault};
 
 /// The job of five words and the tolerance that the sixth says, or their first fault.
 #[tactic(auto, unfolding(crate::specs::LtcChase::chased))]

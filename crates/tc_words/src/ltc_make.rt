@@ -1,14 +1,12 @@
-//! The values of `ltc-make`, word by word. Next: `stripe`, which holds them.
+//! The values of `ltc-make`, word by word. Next: `tc_job/src/stripe.rt`, which holds them.
 ghost use Rattle.std.specs.Prelude.{◌≡◌, IfOk, IfSome};
 ghost use Rattle.biphase.specs.Shape.{shape_with, IsShape, IsShaped};
 ghost use Rattle.tc_words.specs.LtcMake.{at_one_length, made_job, moving, shaped_to, tape_in, AreTapeValues};
 
-use crate::fault::WordsFault;
-use crate::job::Job;
-use crate::stripe::{MAX_FRAMES, MAX_TICK_RATE, Stripe};
 use crate::values::{between, count_in, direction_in, spelled};
 use biphase::{MAX_SHAPED, MIN_SHAPED, Shaper};
 use tc_address::{Direction, Label};
+use tc_job::{Job, MAX_FRAMES, MAX_TICK_RATE, Stripe, WordsFault};
 
 /// The values of the first six words.
 #[derive(Clone, Copy)]

@@ -1,18 +1,15 @@
-//! The values of `pcm-ltc`, word by word. Next: `slicing`, which holds them.
+//! The values of `pcm-ltc`, word by word. Next: `tc_job/src/slicing.rt`, which holds them.
 ghost use Rattle.std.specs.Prelude.{◌≡◌, ◌≤◌, ◌*◌, IfOk, IfSome};
 ghost use Rattle.pcm_front.specs.State.{IsThreshold};
 ghost use Rattle.pcm_front.specs.declared.window.TheConstants.{MAX_SMOOTH};
-ghost use Rattle.tc_words.specs.Slicing.{IsSlicing, slicing_of};
-ghost use Rattle.tc_words.specs.SoundLevel.{IsLevel};
+ghost use Rattle.tc_job.specs.Slicing.{IsSlicing, slicing_of};
+ghost use Rattle.tc_job.specs.SoundLevel.{IsLevel};
 ghost use Rattle.tc_words.specs.PcmLtc.{fineness_in, following, following_in, in_samples, in_ticks, of_sums, sliced_job, sound_in, summing, IsSampleThreshold, IsSound};
 
-use crate::fault::WordsFault;
-use crate::job::Job;
-use crate::slicing::{MAX_FINENESS, MAX_LEVEL, Slicing};
-use crate::stripe::MAX_TICK_RATE;
 use crate::values::{between, system_in};
 use pcm_front::{MAX_SMOOTH, Threshold};
 use tc_address::System;
+use tc_job::{Job, MAX_FINENESS, MAX_LEVEL, MAX_TICK_RATE, Slicing, WordsFault};
 
 /// The values of the first three words.
 #[derive(Clone, Copy)]

@@ -1,12 +1,10 @@
-//! The values of `vitc-make`, word by word. Next: `line_stripe`, which holds them.
+//! The values of `vitc-make`, word by word. Next: `tc_job/src/line_stripe.rt`, which holds
+//! them.
 ghost use Rattle.std.specs.Prelude.{◌≡◌};
 ghost use Rattle.tc_words.specs.VitcMake.{in_lines};
 
-use crate::fault::WordsFault;
-use crate::job::Job;
-use crate::line_stripe::LineStripe;
-use crate::stripe::MAX_FRAMES;
 use crate::values::{between, count_with_lines, spelled};
+use tc_job::{Job, LineStripe, MAX_FRAMES, WordsFault};
 use vitc_reader::{MAX_LINE_LENGTH, MIN_LINE_LENGTH};
 
 /// The job of four words, or their first fault.

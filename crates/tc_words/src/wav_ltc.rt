@@ -1,18 +1,15 @@
-//! The values of `wav-ltc`, word by word. Next: `wave_slicing`, which holds them.
+//! The values of `wav-ltc`, word by word. Next: `tc_job/src/wave_slicing.rt`, which holds them.
 ghost use Rattle.std.specs.Prelude.{◌≡◌, ◌≤◌, IfOk, IfSome};
 ghost use Rattle.pcm_front.specs.declared.window.TheConstants.{MAX_SMOOTH};
-ghost use Rattle.tc_words.specs.SoundLevel.{IsLevel};
+ghost use Rattle.tc_job.specs.SoundLevel.{IsLevel};
 ghost use Rattle.tc_words.specs.PcmLtc.{of_sums, IsSampleThreshold};
 ghost use Rattle.tc_words.specs.WavLtc.{deep_in, in_dull_wave, in_smooth_wave, in_wave, wave_in, wave_job, IsWave};
 
-use crate::fault::WordsFault;
-use crate::job::Job;
 use crate::pcm_ltc::of_sums;
-use crate::slicing::MAX_LEVEL;
 use crate::values::{between, system_in};
-use crate::wave_slicing::{MAX_TRACKS, WaveSlicing};
 use pcm_front::{MAX_SMOOTH, Threshold};
 use tc_address::System;
+use tc_job::{Job, MAX_LEVEL, MAX_TRACKS, WaveSlicing, WordsFault};
 
 /// The values of the first three words.
 #[derive(Clone, Copy)]

@@ -1,21 +1,16 @@
 //! The words of the command line as a task, or their first fault. Next: `values` for each value, then
-//! `job`.
+//! `tc_job/src/job.rt`.
 ghost use Rattle.std.specs.Prelude.{◌≡◌, ◌⊎◌, map, position, string_bytes, alloc_error};
 ghost use Rattle.command_words.specs.CommandLine.{begins_with_dash};
-ghost use Rattle.tc_words.specs.Job.{answer_to, without_dashes, job_of, no_values, ltc_fly, ltc_spans, ltc_mtc, ltc_jam, ltc_chase, number, label_of, ltc_make};
-ghost use Rattle.tc_words.specs.Job.{ltc_convert, pcm_ltc, wav_ltc, ltc_pcm, task_of, chase, ltc_load, vitc_make, jammed};
+ghost use Rattle.tc_words.specs.Words.{answer_to, without_dashes, job_of, no_values, ltc_fly, ltc_spans, ltc_mtc, ltc_jam, ltc_chase, number, label_of, ltc_make};
+ghost use Rattle.tc_words.specs.Words.{ltc_convert, pcm_ltc, wav_ltc, ltc_pcm, task_of, chase, ltc_load, vitc_make, jammed};
 
-use crate::fault::WordsFault;
-use crate::flight::{Flight, flight_in};
-use crate::jam::Jam;
-use crate::job::{Job, Task};
+use crate::flight::flight_in;
 use crate::live::{is_live, live_in};
 use crate::ltc_chase::chased;
-use crate::ltc_load::{LoadRun, MAX_WORDS};
 use crate::ltc_make::{at_one_length, moving};
+use crate::ltc_pcm::level_in;
 use crate::pcm_ltc::{following, in_samples, in_ticks, summing};
-use crate::sound_level::level_in;
-use crate::stripe::MAX_TICK_RATE;
 use crate::values::{
     between, count_in, limit_in, number_spelled, numbered, spelled, tolerance_in, version_in,
 };
@@ -24,6 +19,7 @@ use crate::wav_ltc::{in_dull_wave, in_smooth_wave, in_wave};
 use biphase::{MAX_SHAPED, MIN_SHAPED, Profile};
 use command_words::CommandLine;
 use std::alloc::Global;
+use tc_job::{Flight, Jam, Job, LoadRun, MAX_TICK_RATE, MAX_WORDS, Task, WordsFault};
 
 /// The task of the words, or their first fault. Word 0 is the command.
 pub fn read_words(alloc: Global, words: &[String]) -> Result<Task, WordsFault>

@@ -1,6 +1,6 @@
 use Rattle.std.proofs.Common.{inl, [], refl, map, string_bytes, subst, sym}
 use Rattle.std.proofs.KnownBytes.{Appends-nil, Consumes-nil}
-use Rattle.tc_words.specs.declared.job.Task.TheVariants.{Stream}
+use Rattle.tc_job.specs.declared.job.Task.TheVariants.{Stream}
 use Rattle.tc_command.specs.WholeInput.{HasStatus}
 use Rattle.tc_top.specs.Commands.{meaning_of}
 use Rattle.tc_command.specs.Exchange.{Exchange}

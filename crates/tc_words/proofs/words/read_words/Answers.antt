@@ -1,6 +1,6 @@
 use Rattle.std.proofs.Common.{◌∙◌, map, string_bytes, sym, ap, inl, inr}
 use Rattle.command_words.specs.CommandLine.{begins_with_dash}
-use Rattle.tc_words.specs.Job.{after_dashes}
+use Rattle.tc_words.specs.Words.{after_dashes}
 use Rattle.tc_words.proofs.FirstDash.{position-map}
 use Rattle.tc_words.proofs.words.read_words.Goals as goal
 

@@ -3,7 +3,7 @@ use Rattle.biphase.specs.declared.profile.Profile.{Profile}
 use Rattle.tc_address.specs.declared.system.System.{System}
 use Rattle.direction_reader.specs.ListEvents.{AreEvents}
 use Rattle.direction_reader.specs.Tracker.{profile_of}
-use Rattle.tc_words.specs.declared.flight.Flight.{Flight}
+use Rattle.tc_job.specs.declared.flight.Flight.{Flight}
 use Rattle.tc_command.specs.KeptWorks.{through}
 use Rattle.frame_commands.proofs.flight.FlightToBehind.begin.Goals as goal
 

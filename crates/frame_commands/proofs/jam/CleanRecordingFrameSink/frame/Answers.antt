@@ -1,6 +1,6 @@
 use Rattle.std.proofs.Common.{◌∙◌, ◌++◌, ◌∷◌, [], ℕ, List, ap, append-nil}
 use Rattle.ltc_jam.specs.Cells.{intervals_of_frame}
-use Rattle.tc_words.specs.Jam.{Jamming}
+use Rattle.tc_job.specs.Jam.{Jamming}
 use Rattle.frame_commands.specs.LtcJam.{clean_file}
 use Rattle.tc_command.specs.KeptWorks.{on_ok, on_err}
 use Rattle.frame_commands.proofs.FramesAnew.{bytes_of_frames, bytes_of_one, file_grows, piece_is}

@@ -2,10 +2,10 @@
 //! which slices it.
 ghost use Rattle.std.specs.Prelude.{◌≡◌, ◌*◌};
 ghost use Rattle.pcm_front.specs.Pace.{IsPace};
-ghost use Rattle.tc_words.specs.Live.{pace_of};
-ghost use Rattle.tc_words.specs.Slicing.{IsSlicing, slicing_of};
+ghost use Rattle.tc_job.specs.Pace.{pace_of};
+ghost use Rattle.tc_job.specs.Slicing.{IsSlicing, slicing_of};
 
-use crate::live::pace_of;
+use crate::pace::pace_of;
 use pcm_front::{Pace, Threshold};
 use std::marker::Model;
 use tc_address::System;
@@ -28,7 +28,7 @@ pub struct Slicing {
 }
 
 impl Model for Slicing {
-    ghost use Rattle.tc_words.specs.Slicing.{IsSlicing, Slices, slicing_of};
+    ghost use Rattle.tc_job.specs.Slicing.{IsSlicing, Slices, slicing_of};
 
     ghost Value = { Slices };
 
@@ -42,7 +42,7 @@ impl Model for Slicing {
 impl Slicing {
     /// Sound of this system, of so many samples a second, sliced at this threshold of sums, so many
     /// ticks a sample, in sums of so many samples, and written as it passes where it is live.
-    pub(crate) fn new(
+    pub fn new(
         system: System,
         rate: u32,
         threshold: Threshold,

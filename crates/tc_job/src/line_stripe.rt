@@ -1,7 +1,7 @@
 //! What `vitc-make` is told: which labels to write to lines, and how long a line lasts. Next:
 //! `made_commands/src/vitc_make.rt`, which makes them.
 ghost use Rattle.std.specs.Prelude.{◌≡◌};
-ghost use Rattle.tc_words.specs.LineStripe.{IsLineStripe, LineStriping, line_stripe_of};
+ghost use Rattle.tc_job.specs.LineStripe.{IsLineStripe, LineStriping, line_stripe_of};
 
 use std::marker::Model;
 use tc_address::Label;
@@ -15,7 +15,7 @@ pub struct LineStripe {
 }
 
 impl Model for LineStripe {
-    ghost use Rattle.tc_words.specs.LineStripe.{IsLineStripe, LineStriping, line_stripe_of};
+    ghost use Rattle.tc_job.specs.LineStripe.{IsLineStripe, LineStriping, line_stripe_of};
 
     ghost Value = { LineStriping };
 
@@ -28,7 +28,7 @@ impl Model for LineStripe {
 
 impl LineStripe {
     /// So many frames, from this label on, in lines that last so many ticks.
-    pub(crate) fn new(label: Label, frames: u32, length: u32) -> LineStripe
+    pub fn new(label: Label, frames: u32, length: u32) -> LineStripe
         requires { IsLineStripe (line_stripe_of label frames length) }
         ensures { result ≡ line_stripe_of label frames length }
     {

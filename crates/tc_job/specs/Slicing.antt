@@ -4,8 +4,8 @@ use Rattle.pcm_front.specs.declared.threshold.Threshold.{Threshold}
 use Rattle.pcm_front.specs.declared.window.TheConstants.{MAX_SMOOTH}
 use Rattle.pcm_front.specs.State.{IsThreshold}
 use Rattle.tc_address.specs.declared.system.System.{System}
-use Rattle.tc_words.specs.declared.slicing.TheConstants.{MAX_FINENESS, MAX_LEVEL}
-use Rattle.tc_words.specs.declared.stripe.TheConstants.{MAX_TICK_RATE}
+use Rattle.tc_job.specs.declared.slicing.TheConstants.{MAX_FINENESS}
+use Rattle.tc_job.specs.declared.stripe.TheConstants.{MAX_TICK_RATE}
 
 -- time code of a system, in sound of so many samples a second, at a threshold of sums, so many ticks a sample, in sums
 -- of so many samples; and whether its distances are written as they pass

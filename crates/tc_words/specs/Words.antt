@@ -4,29 +4,28 @@ use Rattle.std.specs.Prelude.{codes, position}
 use Rattle.std.specs.Str.{bytes_eq}
 use Rattle.biphase.specs.declared.profile.Profile.{Profile}
 use Rattle.biphase.specs.declared.profile.Profile.TheVariants.{Normal}
-use Rattle.tc_words.specs.declared.job.Job.{Job}
-use Rattle.tc_words.specs.declared.job.Job.TheVariants as jobs
-use Rattle.tc_words.specs.declared.job.Task.{Task}
-use Rattle.tc_words.specs.declared.job.Task.TheVariants as tasks
-use Rattle.tc_words.specs.declared.fault.WordsFault.{WordsFault}
-use Rattle.tc_words.specs.declared.fault.WordsFault.TheVariants.{Dash, Command, CountOfWords, Value}
-use Rattle.tc_words.specs.declared.flight.Flight.{Flight}
 use Rattle.biphase.specs.declared.shaper.TheConstants.{MIN_SHAPED, MAX_SHAPED}
-use Rattle.tc_words.specs.declared.stripe.TheConstants.{MAX_TICK_RATE}
+use Rattle.command_words.specs.CommandLine.{begins_with_dash}
+use Rattle.tc_job.specs.declared.job.Job.{Job}
+use Rattle.tc_job.specs.declared.job.Job.TheVariants as jobs
+use Rattle.tc_job.specs.declared.job.Task.{Task}
+use Rattle.tc_job.specs.declared.job.Task.TheVariants as tasks
+use Rattle.tc_job.specs.declared.fault.WordsFault.{WordsFault}
+use Rattle.tc_job.specs.declared.fault.WordsFault.TheVariants.{Dash, Command, CountOfWords, Value}
+use Rattle.tc_job.specs.declared.flight.Flight.{Flight}
+use Rattle.tc_job.specs.declared.stripe.TheConstants.{MAX_TICK_RATE}
+use Rattle.tc_job.specs.Jam.{jamming_of}
+use Rattle.tc_job.specs.declared.load_run.TheConstants.{MAX_WORDS}
+use Rattle.tc_job.specs.LoadRun.{loading_of}
 use Rattle.tc_words.specs.LtcChase.{chased}
 use Rattle.tc_words.specs.Flight.{flight_in, flight_of}
-use Rattle.tc_words.specs.Jam.{jamming_of}
 use Rattle.tc_words.specs.PcmLtc.{following, in_samples, in_ticks, summing}
-use Rattle.tc_words.specs.SoundLevel.{level_in}
+use Rattle.tc_words.specs.LtcPcm.{level_in}
 use Rattle.tc_words.specs.LtcMake.{at_one_length, moving}
-use Rattle.tc_words.specs.Values.{value_or}
-use Rattle.tc_words.specs.declared.ltc_load.TheConstants.{MAX_WORDS}
 use Rattle.tc_words.specs.VitcMake.{in_lines}
 use Rattle.tc_words.specs.Live.{is_live, live_in}
-use Rattle.tc_words.specs.LtcLoad.{loading_of}
-use Rattle.tc_words.specs.Values.{Word, between, count_in, limit_in, number_spelled, numbered, spelled, tolerance_in, version_in}
+use Rattle.tc_words.specs.Values.{Word, between, count_in, limit_in, number_spelled, numbered, spelled, tolerance_in, version_in, value_or}
 use Rattle.tc_words.specs.WavLtc.{in_dull_wave, in_smooth_wave, in_wave}
-use Rattle.command_words.specs.CommandLine.{begins_with_dash}
 
 -- the job of a command that is streamed, or the first fault of its words
 abbrev pub Answer : Type 0

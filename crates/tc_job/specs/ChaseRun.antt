@@ -1,8 +1,8 @@
 -- What is told of a chase over the frames of a recording.
 use Rattle.std.specs.Prelude.{ℕ, ◌^◌, ◌<◌, ◌≤◌}
 use Rattle.tc_address.specs.Label.{Address, IsLabel}
-use Rattle.tc_words.specs.declared.flight.Flight.{Flight}
-use Rattle.tc_words.specs.declared.chase_run.TheConstants.{MAX_SLIP}
+use Rattle.tc_job.specs.declared.flight.Flight.{Flight}
+use Rattle.tc_job.specs.declared.chase_run.TheConstants.{MAX_SLIP}
 
 -- the label at which the transport begins, how the frames are had that it follows, and slips from this seed of at most so many subframes
 pub record Chasing : Type 0 where

@@ -2,10 +2,10 @@
 //! `signal_commands/src/wav_ltc.rt`, which slices it.
 ghost use Rattle.std.specs.Prelude.{◌≡◌};
 ghost use Rattle.pcm_front.specs.Pace.{IsPace};
-ghost use Rattle.tc_words.specs.Live.{pace_of};
-ghost use Rattle.tc_words.specs.WaveSlicing.{IsWaveSlicing, wave_slicing_of};
+ghost use Rattle.tc_job.specs.Pace.{pace_of};
+ghost use Rattle.tc_job.specs.WaveSlicing.{IsWaveSlicing, wave_slicing_of};
 
-use crate::live::pace_of;
+use crate::pace::pace_of;
 use pcm_front::{Pace, Threshold};
 use std::marker::Model;
 use tc_address::System;
@@ -24,7 +24,7 @@ pub struct WaveSlicing {
 }
 
 impl Model for WaveSlicing {
-    ghost use Rattle.tc_words.specs.WaveSlicing.{IsWaveSlicing, SlicesWave, wave_slicing_of};
+    ghost use Rattle.tc_job.specs.WaveSlicing.{IsWaveSlicing, SlicesWave, wave_slicing_of};
 
     ghost Value = { SlicesWave };
 
@@ -38,7 +38,7 @@ impl Model for WaveSlicing {
 impl WaveSlicing {
     /// Time code of this system, in this track, sliced at this threshold of sums, in sums of so many
     /// samples, and written as it passes where it is live.
-    pub(crate) fn new(
+    pub fn new(
         system: System,
         track: u32,
         threshold: Threshold,

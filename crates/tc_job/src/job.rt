@@ -3,7 +3,7 @@ use crate::chase_run::ChaseRun;
 use crate::flight::Flight;
 use crate::jam::Jam;
 use crate::line_stripe::LineStripe;
-use crate::ltc_load::LoadRun;
+use crate::load_run::LoadRun;
 use crate::slicing::Slicing;
 use crate::sound_level::SoundLevel;
 use crate::stripe::Stripe;

@@ -1,7 +1,7 @@
 //! What `ltc-load` is told: a seed, and how many words to make and to read. Next:
 //! `made_commands/src/ltc_load.rt`, which does both.
 ghost use Rattle.std.specs.Prelude.{◌≡◌};
-ghost use Rattle.tc_words.specs.LtcLoad.{IsLoading, loading_of};
+ghost use Rattle.tc_job.specs.LoadRun.{IsLoading, loading_of};
 
 use std::marker::Model;
 
@@ -16,7 +16,7 @@ pub struct LoadRun {
 }
 
 impl Model for LoadRun {
-    ghost use Rattle.tc_words.specs.LtcLoad.{IsLoading, Loading, loading_of};
+    ghost use Rattle.tc_job.specs.LoadRun.{IsLoading, Loading, loading_of};
 
     ghost Value = { Loading };
 
@@ -29,7 +29,7 @@ impl Model for LoadRun {
 
 impl LoadRun {
     /// So many words from this seed.
-    pub(crate) fn new(seed: u64, words: u32) -> LoadRun
+    pub fn new(seed: u64, words: u32) -> LoadRun
         requires { IsLoading (loading_of seed words) }
         ensures { result ≡ loading_of seed words }
     {

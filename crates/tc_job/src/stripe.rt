@@ -1,7 +1,7 @@
 //! What `ltc-make` is told: which labels to write to a tape, and how long its cells last. Next:
 //! `made_commands/src/ltc_make.rt`, which makes it.
-ghost use Rattle.std.specs.Prelude.{◌≡◌, IfSome};
-ghost use Rattle.tc_words.specs.Stripe.{IsStripe, Striping, stripe_of};
+ghost use Rattle.std.specs.Prelude.{◌≡◌};
+ghost use Rattle.tc_job.specs.Stripe.{IsStripe, Striping, stripe_of};
 
 use biphase::Shaper;
 use std::marker::Model;
@@ -24,7 +24,7 @@ pub struct Stripe {
 }
 
 impl Model for Stripe {
-    ghost use Rattle.tc_words.specs.Stripe.{IsStripe, Striping, stripe_of};
+    ghost use Rattle.tc_job.specs.Stripe.{IsStripe, Striping, stripe_of};
 
     ghost Value = { Striping };
 
@@ -38,7 +38,7 @@ impl Model for Stripe {
 impl Stripe {
     /// So many frames, from this label on in this direction, with the cells of the shaper, whose
     /// lengths are in ticks of a clock of so many ticks a second.
-    pub(crate) fn new(
+    pub fn new(
         direction: Direction,
         label: Label,
         frames: u32,

@@ -1,6 +1,6 @@
 -- What is told of a load run.
 use Rattle.std.specs.Prelude.{ℕ, ◌^◌, ◌<◌, ◌≤◌}
-use Rattle.tc_words.specs.declared.ltc_load.TheConstants.{MAX_WORDS}
+use Rattle.tc_job.specs.declared.load_run.TheConstants.{MAX_WORDS}
 
 -- a seed, and how many words are made and read
 pub record Loading : Type 0 where

@@ -1,7 +1,7 @@
 //! What `ltc-jam` is told: how the frames are had, and what the clean recording is made of. Next:
 //! `frame_commands/src/jam.rt`, which makes it.
 ghost use Rattle.std.specs.Prelude.{◌≡◌};
-ghost use Rattle.tc_words.specs.Jam.{IsJamming, jamming_of};
+ghost use Rattle.tc_job.specs.Jam.{IsJamming, jamming_of};
 
 use crate::flight::Flight;
 use std::marker::Model;
@@ -15,7 +15,7 @@ pub struct Jam {
 }
 
 impl Model for Jam {
-    ghost use Rattle.tc_words.specs.Jam.{IsJamming, Jamming, jamming_of};
+    ghost use Rattle.tc_job.specs.Jam.{IsJamming, Jamming, jamming_of};
 
     ghost Value = { Jamming };
 
@@ -28,7 +28,7 @@ impl Model for Jam {
 
 impl Jam {
     /// Of frames that are had so, in cells of so many ticks of a clock of so many ticks a second.
-    pub(crate) fn new(flight: Flight, cell: u32, tick_rate: u32) -> Jam
+    pub fn new(flight: Flight, cell: u32, tick_rate: u32) -> Jam
         requires { IsJamming (jamming_of flight cell tick_rate) }
         ensures { result ≡ jamming_of flight cell tick_rate }
     {

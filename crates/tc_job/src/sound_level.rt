@@ -1,9 +1,7 @@
 //! What `ltc-pcm` is told: how loud the sound is. Next: `interval_commands/src/ltc_pcm.rt`, which makes it.
 ghost use Rattle.std.specs.Prelude.{◌≡◌, ◌≤◌};
-ghost use Rattle.tc_words.specs.SoundLevel.{IsLevel, level_in};
+ghost use Rattle.tc_job.specs.SoundLevel.{IsLevel};
 
-use crate::slicing::MAX_LEVEL;
-use crate::values::between;
 use std::marker::Model;
 
 /// The level of each sample of a sound, from 1 to `MAX_LEVEL`.
@@ -14,7 +12,7 @@ pub struct SoundLevel {
 
 impl Model for SoundLevel {
     ghost use Rattle.std.specs.Prelude.{ℕ};
-    ghost use Rattle.tc_words.specs.SoundLevel.{IsLevel};
+    ghost use Rattle.tc_job.specs.SoundLevel.{IsLevel};
 
     ghost Value = { ℕ };
 
@@ -27,7 +25,7 @@ impl Model for SoundLevel {
 
 impl SoundLevel {
     /// Samples of this level.
-    pub(crate) fn new(level: u16) -> SoundLevel
+    pub fn new(level: u16) -> SoundLevel
         requires { IsLevel level }
         ensures { result ≡ level }
     {
@@ -41,12 +39,4 @@ impl SoundLevel {
     {
         self.level
     }
-}
-
-/// How loud the sound is.
-pub(crate) fn level_in(word: &str) -> Option<SoundLevel>
-    ensures { result ≡ level_in word.now }
-{
-    let level = between(1, MAX_LEVEL, word)?;
-    Some(SoundLevel::new(level as u16))
 }

@@ -1,7 +1,7 @@
 //! What `ltc-chase` is told: where the chase begins, how the frames are had that it follows, and how the
 //! transport slips. Next: `frame_commands/src/ltc_chase.rt`, which makes it.
 ghost use Rattle.std.specs.Prelude.{◌≡◌};
-ghost use Rattle.tc_words.specs.ChaseRun.{IsChasing, chasing_of};
+ghost use Rattle.tc_job.specs.ChaseRun.{IsChasing, chasing_of};
 
 use crate::flight::Flight;
 use std::marker::Model;
@@ -20,7 +20,7 @@ pub struct ChaseRun {
 }
 
 impl Model for ChaseRun {
-    ghost use Rattle.tc_words.specs.ChaseRun.{Chasing, IsChasing, chasing_of};
+    ghost use Rattle.tc_job.specs.ChaseRun.{Chasing, IsChasing, chasing_of};
 
     ghost Value = { Chasing };
 
@@ -34,7 +34,7 @@ impl Model for ChaseRun {
 impl ChaseRun {
     /// From this label on, over frames that are had so, and with slips from this seed of at most so many
     /// subframes.
-    pub(crate) fn new(label: Label, flight: Flight, seed: u64, bound: u32) -> ChaseRun
+    pub fn new(label: Label, flight: Flight, seed: u64, bound: u32) -> ChaseRun
         requires { IsChasing (chasing_of label flight seed bound) }
         ensures { result ≡ chasing_of label flight seed bound }
     {

@@ -1,8 +1,8 @@
 -- What is told of a clean recording that is to be made.
 use Rattle.std.specs.Prelude.{ℕ, ◌≤◌}
 use Rattle.biphase.specs.Shape.{IsShaped}
-use Rattle.tc_words.specs.declared.flight.Flight.{Flight}
-use Rattle.tc_words.specs.declared.stripe.TheConstants.{MAX_TICK_RATE}
+use Rattle.tc_job.specs.declared.flight.Flight.{Flight}
+use Rattle.tc_job.specs.declared.stripe.TheConstants.{MAX_TICK_RATE}
 
 -- frames that are had so, in cells of so many ticks of a clock of so many ticks a second
 pub record Jamming : Type 0 where

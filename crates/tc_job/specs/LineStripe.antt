@@ -2,7 +2,7 @@
 use Rattle.std.specs.Prelude.{ℕ, ◌≤◌}
 use Rattle.tc_address.specs.Count.{system_with}
 use Rattle.tc_address.specs.Label.{Address, IsLabel}
-use Rattle.tc_words.specs.declared.stripe.TheConstants.{MAX_FRAMES}
+use Rattle.tc_job.specs.declared.stripe.TheConstants.{MAX_FRAMES}
 use Rattle.vitc_line.specs.Places.{HasLines}
 use Rattle.vitc_reader.specs.Runs.{IsLineLength}
 

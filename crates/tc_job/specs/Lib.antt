@@ -1,0 +1,9 @@
+pub mod Stripe
+pub mod Jam
+pub mod ChaseRun
+pub mod LineStripe
+pub mod LoadRun
+pub mod Pace
+pub mod Slicing
+pub mod SoundLevel
+pub mod WaveSlicing

@@ -1,0 +1,12 @@
+//! How the frames of a recording are had. Next: `frame_commands/src/flight.rt`, which has them.
+use biphase::Profile;
+
+/// How the frames of a recording are had: under which tolerance its words are read, and how many frames
+/// are invented in a row at most.
+#[derive(Clone, Copy, Debug, PartialEq, Eq)]
+pub struct Flight {
+    /// How many frames are invented in a row, at most.
+    pub limit: u8,
+    /// The tolerance under which words are read.
+    pub profile: Profile,
+}

@@ -1,0 +1,43 @@
+//! The jobs that a command line of `tc` can name, with their values, and the faults that its words can have.
+//!
+//! A task is a job that is streamed, or a chase. The commands take the values of their jobs from here, so none of
+//! them stands on the reading of words.
+//!
+//! What this crate promises: each value keeps the ranges of its words, whoever made it (the definitions of
+//! `specs/`, as `IsStripe` of `Stripe.antt`), and gives back what it was made of.
+//!
+//! Read `fault`, `job`, `stripe`, `flight`, `jam`, `chase_run`, `line_stripe`, `load_run`, `pace`, `slicing`,
+//! `sound_level` and `wave_slicing`, with `specs/` beside them, and `usages`, the table that `help` prints.
+//! `tc_words`, which reads words as tasks, and `tc_command` stand on this crate. Nothing here allocates or fails.
+//!
+//! A later command joins in these places:
+//! - its job, a variant of `Job` (`job`), whose doc line begins with its word;
+//! - its row in `USAGES` (`usages`); the law `each_command_has_its_usage` of `tc_words` misses none.
+#![tactic(auto)]
+
+mod chase_run;
+mod fault;
+mod flight;
+mod jam;
+mod job;
+pub mod laws;
+mod line_stripe;
+mod load_run;
+mod pace;
+mod slicing;
+mod sound_level;
+mod stripe;
+pub mod usages;
+mod wave_slicing;
+
+pub use chase_run::{ChaseRun, MAX_SLIP};
+pub use fault::WordsFault;
+pub use flight::Flight;
+pub use jam::Jam;
+pub use job::{Job, Task};
+pub use line_stripe::LineStripe;
+pub use load_run::{LoadRun, MAX_WORDS};
+pub use slicing::{MAX_FINENESS, MAX_LEVEL, Slicing};
+pub use sound_level::SoundLevel;
+pub use stripe::{MAX_FRAMES, MAX_TICK_RATE, Stripe};
+pub use wave_slicing::{MAX_TRACKS, WaveSlicing};
