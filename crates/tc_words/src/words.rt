@@ -6,16 +6,18 @@ ghost use Rattle.tc_words.specs.Words.{answer_to, without_dashes, job_of, no_val
 ghost use Rattle.tc_words.specs.Words.{ltc_convert, pcm_ltc, wav_ltc, ltc_pcm, task_of, chase, ltc_load, vitc_make, jammed};
 
 use crate::flight::flight_in;
-use crate::live::{is_live, live_in};
+use crate::live::live_in;
 use crate::ltc_chase::chased;
 use crate::ltc_make::{at_one_length, moving};
 use crate::ltc_pcm::level_in;
-use crate::pcm_ltc::{following, in_samples, in_ticks, summing};
+use crate::pcm_ltc::{
+    following_or_summing, in_samples, samples_or_ticks, summing, ticks_or_following,
+};
 use crate::values::{
     between, count_in, limit_in, number_spelled, numbered, spelled, tolerance_in, version_in,
 };
 use crate::vitc_make::in_lines;
-use crate::wav_ltc::{in_dull_wave, in_smooth_wave, in_wave};
+use crate::wav_ltc::{in_dull_wave, in_wave, smooth_or_dull, wave_or_smooth};
 use biphase::{MAX_SHAPED, MIN_SHAPED, Profile};
 use command_words::CommandLine;
 use std::alloc::Global;
@@ -248,29 +250,12 @@ fn pcm_ltc(values: &[&str]) -> Result<Job, WordsFault>
 {
     match values {
         [system, rate, threshold] => in_samples(system, rate, threshold, false),
-        [system, rate, threshold, last] if is_live(last) => {
-            in_samples(system, rate, threshold, true)
+        [system, rate, threshold, last] => samples_or_ticks(system, rate, threshold, last),
+        [system, rate, threshold, fineness, last] => {
+            ticks_or_following(system, rate, threshold, fineness, last)
         }
-        [system, rate, threshold, fineness] => in_ticks(system, rate, threshold, fineness, false),
-        [system, rate, threshold, fineness, last] if is_live(last) => {
-            in_ticks(system, rate, threshold, fineness, true)
-        }
-        [system, rate, threshold, fineness, follow] => {
-            following(system, rate, threshold, fineness, follow, false)
-        }
-        [system, rate, threshold, fineness, follow, last] if is_live(last) => {
-            following(system, rate, threshold, fineness, follow, true)
-        }
-        [system, rate, threshold, fineness, follow, smooth] => {
-            summing(
-                system,
-                rate,
-                threshold,
-                fineness,
-                follow,
-                smooth,
-                Some(false),
-            )
+        [system, rate, threshold, fineness, follow, last] => {
+            following_or_summing(system, rate, threshold, fineness, follow, last)
         }
         [system, rate, threshold, fineness, follow, smooth, last] => {
             let live = live_in(last);
@@ -286,17 +271,9 @@ fn wav_ltc(values: &[&str]) -> Result<Job, WordsFault>
 {
     match values {
         [system, track, threshold] => in_wave(system, track, threshold, false),
-        [system, track, threshold, last] if is_live(last) => {
-            in_wave(system, track, threshold, true)
-        }
-        [system, track, threshold, smooth] => {
-            in_smooth_wave(system, track, threshold, smooth, false)
-        }
-        [system, track, threshold, smooth, last] if is_live(last) => {
-            in_smooth_wave(system, track, threshold, smooth, true)
-        }
-        [system, track, threshold, smooth, deep] => {
-            in_dull_wave(system, track, threshold, smooth, deep, Some(false))
+        [system, track, threshold, last] => wave_or_smooth(system, track, threshold, last),
+        [system, track, threshold, smooth, last] => {
+            smooth_or_dull(system, track, threshold, smooth, last)
         }
         [system, track, threshold, smooth, deep, last] => {
             let live = live_in(last);
