@@ -147,6 +147,7 @@ pub(crate) fn following_or_summing(
 }
 
 /// The values of the first three words, or the first fault of them.
+#[tactic(auto, unfolding(crate::specs::PcmLtc::sound_in))]
 fn sound_in(system: &str, rate: &str, threshold: &str) -> Result<Sound, WordsFault>
     ensures value { result ≡ sound_in system.now rate.now threshold.now }
     ensures valid { IfOk result IsSound }
@@ -178,6 +179,7 @@ impl Sound {
 }
 
 /// So many ticks a sample, where they are not too many a second.
+#[tactic(auto, unfolding(crate::specs::PcmLtc::fineness_in))]
 fn fineness_in(rate: u32, word: &str) -> Option<u32>
     ensures value { result ≡ fineness_in rate word.now }
     ensures range { IfSome result (λ n. (1 ≤ n) × (n ≤ MAX_FINENESS) × (rate * n ≤ MAX_TICK_RATE)) }
@@ -206,6 +208,7 @@ pub(crate) fn of_sums(smooth: u32, threshold: Threshold) -> Threshold
 }
 
 /// A threshold that follows the level, at a half or a quarter of it, and is never below this.
+#[tactic(auto, unfolding(crate::specs::PcmLtc::following_in))]
 fn following_in(least: u32, word: &str) -> Option<Threshold>
     requires { IsLevel least }
     ensures value { result ≡ following_in least word.now }

@@ -106,6 +106,7 @@ pub(crate) fn smooth_or_dull(
 }
 
 /// The values of the first three words, or the first fault of them.
+#[tactic(auto, unfolding(crate::specs::WavLtc::wave_in))]
 fn wave_in(system: &str, track: &str, threshold: &str) -> Result<Wave, WordsFault>
     ensures value { result ≡ wave_in system.now track.now threshold.now }
     ensures valid { IfOk result IsWave }
@@ -137,6 +138,7 @@ impl Wave {
 }
 
 /// A threshold at a quarter of the level, and never below this.
+#[tactic(auto, unfolding(crate::specs::WavLtc::deep_in))]
 fn deep_in(least: u32, word: &str) -> Option<Threshold>
     requires { IsLevel least }
     ensures value { result ≡ deep_in least word.now }

@@ -72,6 +72,7 @@ fn task_of(command: &str, values: &[&str]) -> Result<Task, WordsFault>
 }
 
 // `chase COUNT LABEL`
+#[tactic(auto, unfolding(crate::specs::Words::chase))]
 fn chase(values: &[&str]) -> Result<Task, WordsFault>
     ensures { result ≡ chase (map (λ v. v.now) values.now) }
 {
@@ -124,6 +125,7 @@ fn no_values(values: &[&str], job: Job) -> Result<Job, WordsFault>
 }
 
 // `ltc-fly LIMIT [worn|rough]`
+#[tactic(auto, unfolding(crate::specs::Words::ltc_fly))]
 fn ltc_fly(values: &[&str]) -> Result<Job, WordsFault>
     ensures { result ≡ ltc_fly (map (λ v. v.now) values.now) }
 {
@@ -132,6 +134,7 @@ fn ltc_fly(values: &[&str]) -> Result<Job, WordsFault>
 }
 
 // `ltc-spans LIMIT [worn]`
+#[tactic(auto, unfolding(crate::specs::Words::ltc_spans))]
 fn ltc_spans(values: &[&str]) -> Result<Job, WordsFault>
     ensures { result ≡ ltc_spans (map (λ v. v.now) values.now) }
 {
@@ -140,6 +143,7 @@ fn ltc_spans(values: &[&str]) -> Result<Job, WordsFault>
 }
 
 // `ltc-mtc LIMIT [worn|rough]`
+#[tactic(auto, unfolding(crate::specs::Words::ltc_mtc))]
 fn ltc_mtc(values: &[&str]) -> Result<Job, WordsFault>
     ensures { result ≡ ltc_mtc (map (λ v. v.now) values.now) }
 {
@@ -148,6 +152,7 @@ fn ltc_mtc(values: &[&str]) -> Result<Job, WordsFault>
 }
 
 // `ltc-jam LIMIT CELL TICK-RATE [worn|rough]`
+#[tactic(auto, unfolding(crate::specs::Words::ltc_jam))]
 fn ltc_jam(values: &[&str]) -> Result<Job, WordsFault>
     ensures { result ≡ ltc_jam (map (λ v. v.now) values.now) }
 {
@@ -161,6 +166,7 @@ fn ltc_jam(values: &[&str]) -> Result<Job, WordsFault>
 }
 
 // The job of three words and the tolerance that the fourth says, or their first fault.
+#[tactic(auto, unfolding(crate::specs::Words::jammed))]
 fn jammed(
     limit: &str,
     cell: &str,
@@ -179,6 +185,7 @@ fn jammed(
 }
 
 // `ltc-chase COUNT LABEL LIMIT SEED BOUND [worn|rough]`
+#[tactic(auto, unfolding(crate::specs::Words::ltc_chase))]
 fn ltc_chase(values: &[&str]) -> Result<Job, WordsFault>
     ensures { result ≡ ltc_chase (map (λ v. v.now) values.now) }
 {
@@ -196,6 +203,7 @@ fn ltc_chase(values: &[&str]) -> Result<Job, WordsFault>
 }
 
 // `ltc-make COUNT DIRECTION LABEL FRAMES CELL TICK-RATE [TO-CELL STEP]`
+#[tactic(auto, unfolding(crate::specs::Words::ltc_make))]
 fn ltc_make(values: &[&str]) -> Result<Job, WordsFault>
     ensures { result ≡ ltc_make (map (λ v. v.now) values.now) }
 {
@@ -220,6 +228,7 @@ fn ltc_make(values: &[&str]) -> Result<Job, WordsFault>
 }
 
 // `ltc-load SEED WORDS`
+#[tactic(auto, unfolding(crate::specs::Words::ltc_load))]
 fn ltc_load(values: &[&str]) -> Result<Job, WordsFault>
     ensures { result ≡ ltc_load (map (λ v. v.now) values.now) }
 {
@@ -234,6 +243,7 @@ fn ltc_load(values: &[&str]) -> Result<Job, WordsFault>
 }
 
 // `ltc-convert VERSION`
+#[tactic(auto, unfolding(crate::specs::Words::ltc_convert))]
 fn ltc_convert(values: &[&str]) -> Result<Job, WordsFault>
     ensures { result ≡ ltc_convert (map (λ v. v.now) values.now) }
 {
@@ -245,6 +255,7 @@ fn ltc_convert(values: &[&str]) -> Result<Job, WordsFault>
 }
 
 // `pcm-ltc SYSTEM RATE THRESHOLD [FINENESS [follow|deep [SMOOTH]]] [live]`
+#[tactic(auto, unfolding(crate::specs::Words::pcm_ltc))]
 fn pcm_ltc(values: &[&str]) -> Result<Job, WordsFault>
     ensures { result ≡ pcm_ltc (map (λ v. v.now) values.now) }
 {
@@ -266,6 +277,7 @@ fn pcm_ltc(values: &[&str]) -> Result<Job, WordsFault>
 }
 
 // `wav-ltc SYSTEM TRACK THRESHOLD [SMOOTH [deep]] [live]`
+#[tactic(auto, unfolding(crate::specs::Words::wav_ltc))]
 fn wav_ltc(values: &[&str]) -> Result<Job, WordsFault>
     ensures { result ≡ wav_ltc (map (λ v. v.now) values.now) }
 {
@@ -284,6 +296,7 @@ fn wav_ltc(values: &[&str]) -> Result<Job, WordsFault>
 }
 
 // `ltc-pcm LEVEL`
+#[tactic(auto, unfolding(crate::specs::Words::ltc_pcm))]
 fn ltc_pcm(values: &[&str]) -> Result<Job, WordsFault>
     ensures { result ≡ ltc_pcm (map (λ v. v.now) values.now) }
 {
@@ -295,6 +308,7 @@ fn ltc_pcm(values: &[&str]) -> Result<Job, WordsFault>
 }
 
 // `vitc-make COUNT LABEL FRAMES LENGTH`
+#[tactic(auto, unfolding(crate::specs::Words::vitc_make))]
 fn vitc_make(values: &[&str]) -> Result<Job, WordsFault>
     ensures { result ≡ vitc_make (map (λ v. v.now) values.now) }
 {
@@ -305,6 +319,7 @@ fn vitc_make(values: &[&str]) -> Result<Job, WordsFault>
 }
 
 // `number COUNT LABEL`
+#[tactic(auto, unfolding(crate::specs::Words::number))]
 fn number(values: &[&str]) -> Result<Job, WordsFault>
     ensures { result ≡ number (map (λ v. v.now) values.now) }
 {
@@ -317,6 +332,7 @@ fn number(values: &[&str]) -> Result<Job, WordsFault>
 }
 
 // `label COUNT NUMBER`
+#[tactic(auto, unfolding(crate::specs::Words::label_of))]
 fn label_of(values: &[&str]) -> Result<Job, WordsFault>
     ensures { result ≡ label_of (map (λ v. v.now) values.now) }
 {
