@@ -10,6 +10,7 @@ use Rattle.tc_job.specs.declared.job.Job.TheVariants.{LtcConvert, PcmLtc, WavLtc
 use Rattle.tc_job.specs.declared.job.Job.TheVariants.{VitcMake, Help, Version}
 use Rattle.tc_job.specs.Slicing.{Slices}
 use Rattle.tc_job.specs.WaveSlicing.{SlicesWave}
+use Rattle.tc_job.specs.declared.job.Job.TheVariants.{LtcRead, LtcWorn, LtcRough, LtcFly, LtcSpans, LtcMtc, LtcJam, LtcChase, MtcRead, Number, LabelOf, LtcMake}
 use Rattle.tc_command.specs.Meaning.{Meaning, writes}
 use Rattle.interval_commands.specs.Along.{Printing, along_intervals}
 use Rattle.interval_commands.specs.LtcConvert.{conversion}

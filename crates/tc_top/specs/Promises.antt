@@ -9,6 +9,7 @@ use Rattle.tc_job.specs.declared.job.Job.TheVariants.{LtcRead, LtcWorn, LtcRough
 use Rattle.tc_job.specs.declared.job.Job.TheVariants.{LtcChase, MtcRead}
 use Rattle.tc_job.specs.declared.job.Job.TheVariants.{LtcMake, LtcLoad, LtcConvert, PcmLtc, WavLtc, LtcPcm, VitcRead}
 use Rattle.tc_job.specs.declared.job.Job.TheVariants.{VitcMake, Number, LabelOf, Help, Version}
+use Rattle.tc_job.specs.declared.job.Job.TheVariants.{LtcRead, LtcWorn, LtcRough, LtcFly, LtcSpans, LtcMtc, LtcJam, LtcChase, MtcRead}
 use Rattle.tc_top.specs.CleanCopy.{IsClean}
 use Rattle.tc_top.specs.Commands.{meaning_of}
 use Rattle.tc_command.specs.Exchange.{Exchange}

@@ -26,6 +26,7 @@ is_numeral word digits =
     rw (no_plus word all) (some, all_digits word all)
 
 pub read_number : {E : Type 0} (word : Word) (r : Result ℕ E) → is_number word ≡ true → ParsesUnsigned 64 10 word r → result_ok r ≡ number_spelled word
+unfolding number_spelled
 read_number word (Ok n) digits reads =
     let same = no_plus word (second_true (nat_lt 0 (length word) && nat_le (length word) 20) _ digits) in
     let fits : digits_value 10 word < 2 ^ 64 = rw (← same) reads.0.1 in

@@ -12,11 +12,11 @@ abbrev pub flight_of : ℕ → Profile → Flight
 flight_of limit profile = record { limit = limit; profile = profile }
 
 -- the flight of a limit, and of the tolerance that the second word says, where it says one
-abbrev pub flight_with : Word → Option Profile → Result Flight WordsFault
+unfoldable pub flight_with : Word → Option Profile → Result Flight WordsFault
 flight_with limit profile = value_or 1 (limit_in limit) (λ n. value_or 2 profile (λ p. Ok (flight_of n p)))
 
 -- `LIMIT [worn|rough]`: without the last word it is the normal tolerance
-abbrev pub flight_in : List Word → Result Flight WordsFault
+unfoldable pub flight_in : List Word → Result Flight WordsFault
 flight_in (limit ∷ []) = flight_with limit (Some Normal)
 flight_in (limit ∷ tolerance ∷ []) = flight_with limit (tolerance_in tolerance)
 flight_in _ = Err CountOfWords

@@ -13,7 +13,7 @@ use Rattle.tc_words.specs.declared.ltc_make.TapeValues.{TapeValues}
 use Rattle.tc_words.specs.Values.{Word, between, count_in, direction_in, spelled, value_or}
 
 -- the values of the first six words
-abbrev pub tape_in : Word → Word → Word → Word → Word → Word → Result TapeValues WordsFault
+unfoldable pub tape_in : Word → Word → Word → Word → Word → Word → Result TapeValues WordsFault
 tape_in count direction label frames cell tick_rate =
     value_or 1 (count_in count) (λ c. value_or 2 (direction_in direction) (λ d. value_or 3 (spelled c label) (λ l.
     value_or 4 (between 1 MAX_FRAMES frames) (λ f. value_or 5 (between MIN_SHAPED MAX_SHAPED cell) (λ n.
@@ -34,7 +34,7 @@ abbrev pub made_job : TapeValues → Shape → Job
 made_job tape shape = LtcMake (stripe_of tape.direction tape.label tape.frames shape tape.tick_rate)
 
 -- cells from one length to another by a step, which is a number up to an eighth of the lesser
-abbrev pub shaped_to : ℕ → ℕ → Word → Option Shape
+unfoldable pub shaped_to : ℕ → ℕ → Word → Option Shape
 shaped_to from to step = option_map (λ n. shape_with from to n) (between 0 (min from to / 8) step)
 
 -- what follows from the values of the first six words, or their first fault

@@ -4,5 +4,5 @@ use Rattle.tc_job.specs.declared.slicing.TheConstants.{MAX_LEVEL}
 use Rattle.tc_words.specs.Values.{Word, between}
 
 -- a level from 1 to the greatest
-abbrev pub level_in : Word → Option ℕ
+unfoldable pub level_in : Word → Option ℕ
 level_in word = between 1 MAX_LEVEL word

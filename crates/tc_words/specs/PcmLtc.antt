@@ -16,7 +16,7 @@ use Rattle.tc_words.specs.declared.pcm_ltc.Sound.{Sound}
 use Rattle.tc_words.specs.Values.{Word, between, system_in, value_or}
 
 -- the values of the first three words: the system, the samples a second, and the threshold
-abbrev pub sound_in : Word → Word → Word → Result Sound WordsFault
+unfoldable pub sound_in : Word → Word → Word → Result Sound WordsFault
 sound_in system rate threshold =
     value_or 1 (system_in system) (λ s. value_or 2 (between 1 MAX_TICK_RATE rate) (λ r. value_or 3 (between 1 MAX_LEVEL threshold) (λ t.
     Ok (record { system = s; rate = r; threshold = t }))))
@@ -45,12 +45,11 @@ sliced_job sound threshold fineness smooth live =
     PcmLtc (slicing_of sound.system sound.rate (of_sums smooth threshold) fineness smooth live)
 
 -- so many ticks a sample, where they are not too many a second
-abbrev pub fineness_in : ℕ → Word → Option ℕ
-fineness_in rate word =
-    option_and_then (λ n. if nat_le (rate * n) MAX_TICK_RATE then Some n else None) (between 1 MAX_FINENESS word)
+unfoldable pub fineness_in : ℕ → Word → Option ℕ
+fineness_in rate word = option_and_then (λ n. if nat_le (rate * n) MAX_TICK_RATE then Some n else None) (between 1 MAX_FINENESS word)
 
 -- `follow` or `deep`: a threshold that follows the level, at a half or a quarter of it, and is never below this
-abbrev pub following_in : ℕ → Word → Option Threshold
+unfoldable pub following_in : ℕ → Word → Option Threshold
 following_in least word =
     if bytes_eq word (codes "follow") then Some (Follow least)
     else if bytes_eq word (codes "deep") then Some (Deep least)

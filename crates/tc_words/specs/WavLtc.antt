@@ -16,7 +16,7 @@ use Rattle.tc_words.specs.PcmLtc.{of_sums}
 use Rattle.tc_words.specs.Values.{Word, between, system_in, value_or}
 
 -- the values of the first three words: the system, the track, and the threshold
-abbrev pub wave_in : Word → Word → Word → Result Wave WordsFault
+unfoldable pub wave_in : Word → Word → Word → Result Wave WordsFault
 wave_in system track threshold =
     value_or 1 (system_in system) (λ s. value_or 2 (between 1 MAX_TRACKS track) (λ n. value_or 3 (between 1 MAX_LEVEL threshold) (λ t.
     Ok (record { system = s; track = n; threshold = t }))))
@@ -33,7 +33,7 @@ wave_job wave threshold smooth live =
     WavLtc (wave_slicing_of wave.system wave.track (of_sums smooth threshold) smooth live)
 
 -- `deep`: a threshold at a quarter of the level, and never below this
-abbrev pub deep_in : ℕ → Word → Option Threshold
+unfoldable pub deep_in : ℕ → Word → Option Threshold
 deep_in least word = if bytes_eq word (codes "deep") then Some (Deep least) else None
 
 -- what follows from the values of the first three words, or their first fault

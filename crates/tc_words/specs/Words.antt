@@ -24,8 +24,7 @@ use Rattle.tc_words.specs.LtcPcm.{level_in}
 use Rattle.tc_words.specs.LtcMake.{at_one_length, moving}
 use Rattle.tc_words.specs.VitcMake.{in_lines}
 use Rattle.tc_words.specs.Live.{is_live, live_in}
-use Rattle.tc_words.specs.Values.{Word, between, count_in, limit_in, number_spelled, numbered, spelled, tolerance_in}
-use Rattle.tc_words.specs.Values.{version_in, value_or}
+use Rattle.tc_words.specs.Values.{Word, between, count_in, limit_in, number_spelled, numbered, spelled, tolerance_in, version_in, value_or}
 use Rattle.tc_words.specs.WavLtc.{in_dull_wave, in_smooth_wave, in_wave}
 
 -- the job of a command that is streamed, or the first fault of its words
@@ -50,65 +49,61 @@ no_values job [] = Ok job
 no_values job _ = Err CountOfWords
 
 -- `ltc-fly LIMIT [worn|rough]`
-abbrev pub ltc_fly : List Word → Answer
+unfoldable pub ltc_fly : List Word → Answer
 ltc_fly values = with_flight (flight_in values) (λ flight. jobs.LtcFly flight)
 
 -- `ltc-spans LIMIT [worn|rough]`
-abbrev pub ltc_spans : List Word → Answer
+unfoldable pub ltc_spans : List Word → Answer
 ltc_spans values = with_flight (flight_in values) (λ flight. jobs.LtcSpans flight)
 
 -- `ltc-mtc LIMIT [worn|rough]`
-abbrev pub ltc_mtc : List Word → Answer
+unfoldable pub ltc_mtc : List Word → Answer
 ltc_mtc values = with_flight (flight_in values) (λ flight. jobs.LtcMtc flight)
 
 -- the job of three words, and of the tolerance that the fourth says, where it says one
-abbrev pub jammed : Word → Word → Word → Option Profile → Answer
+unfoldable pub jammed : Word → Word → Word → Option Profile → Answer
 jammed limit cell tick_rate profile =
     with_value 1 (limit_in limit) (λ n. with_value 2 (between MIN_SHAPED MAX_SHAPED cell) (λ c.
     with_value 3 (between 1 MAX_TICK_RATE tick_rate) (λ r. with_value 4 profile (λ p. Ok (jobs.LtcJam (jamming_of (flight_of n p) c r))))))
 
 -- `ltc-jam LIMIT CELL TICK-RATE [worn|rough]`
-abbrev pub ltc_jam : List Word → Answer
+unfoldable pub ltc_jam : List Word → Answer
 ltc_jam (limit ∷ cell ∷ tick_rate ∷ []) = jammed limit cell tick_rate (Some Normal)
 ltc_jam (limit ∷ cell ∷ tick_rate ∷ tolerance ∷ []) = jammed limit cell tick_rate (tolerance_in tolerance)
 ltc_jam _ = Err CountOfWords
 
 -- `ltc-chase COUNT LABEL LIMIT SEED BOUND [worn|rough]`
-abbrev pub ltc_chase : List Word → Answer
+unfoldable pub ltc_chase : List Word → Answer
 ltc_chase (count ∷ label ∷ limit ∷ seed ∷ bound ∷ []) = chased count label limit seed bound (Some Normal)
-ltc_chase (count ∷ label ∷ limit ∷ seed ∷ bound ∷ tolerance ∷ []) =
-    chased count label limit seed bound (tolerance_in tolerance)
+ltc_chase (count ∷ label ∷ limit ∷ seed ∷ bound ∷ tolerance ∷ []) = chased count label limit seed bound (tolerance_in tolerance)
 ltc_chase _ = Err CountOfWords
 
--- `ltc-make COUNT DIRECTION LABEL FRAMES CELL TICK-RATE [TO-CELL STEP]`: without the last two words the cells are of
--- one length
-abbrev pub ltc_make : List Word → Answer
-ltc_make (count ∷ direction ∷ label ∷ frames ∷ cell ∷ tick_rate ∷ []) =
-    at_one_length count direction label frames cell tick_rate
+-- `ltc-make COUNT DIRECTION LABEL FRAMES CELL TICK-RATE [TO-CELL STEP]`: without the last two words the cells are of one length
+unfoldable pub ltc_make : List Word → Answer
+ltc_make (count ∷ direction ∷ label ∷ frames ∷ cell ∷ tick_rate ∷ []) = at_one_length count direction label frames cell tick_rate
 ltc_make (count ∷ direction ∷ label ∷ frames ∷ cell ∷ tick_rate ∷ to_cell ∷ step ∷ []) =
     moving count direction label frames cell tick_rate to_cell step
 ltc_make _ = Err CountOfWords
 
 -- `ltc-load SEED WORDS`
-abbrev pub ltc_load : List Word → Answer
+unfoldable pub ltc_load : List Word → Answer
 ltc_load (seed ∷ words ∷ []) =
     with_value 1 (number_spelled seed) (λ s. with_value 2 (between 1 MAX_WORDS words) (λ w. Ok (jobs.LtcLoad (loading_of s w))))
 ltc_load _ = Err CountOfWords
 
 -- `ltc-convert VERSION`
-abbrev pub ltc_convert : List Word → Answer
+unfoldable pub ltc_convert : List Word → Answer
 ltc_convert (version ∷ []) = with_value 1 (version_in version) (λ v. Ok (jobs.LtcConvert v))
 ltc_convert _ = Err CountOfWords
 
 -- `pcm-ltc SYSTEM RATE THRESHOLD [FINENESS [follow|deep [SMOOTH]]] [live]`: without the last words the ticks are
 -- samples, the threshold stays where it is, each sample stands for itself, and a distance is written when it has ended
-abbrev pub pcm_ltc : List Word → Answer
+unfoldable pub pcm_ltc : List Word → Answer
 pcm_ltc (system ∷ rate ∷ threshold ∷ []) = in_samples system rate threshold false
 pcm_ltc (system ∷ rate ∷ threshold ∷ fineness ∷ []) =
     if is_live fineness then in_samples system rate threshold true else in_ticks system rate threshold fineness false
 pcm_ltc (system ∷ rate ∷ threshold ∷ fineness ∷ follow ∷ []) =
-    if is_live follow then in_ticks system rate threshold fineness true
-    else following system rate threshold fineness follow false
+    if is_live follow then in_ticks system rate threshold fineness true else following system rate threshold fineness follow false
 pcm_ltc (system ∷ rate ∷ threshold ∷ fineness ∷ follow ∷ smooth ∷ []) =
     if is_live smooth then following system rate threshold fineness follow true
     else summing system rate threshold fineness follow smooth (Some false)
@@ -118,35 +113,34 @@ pcm_ltc _ = Err CountOfWords
 
 -- `wav-ltc SYSTEM TRACK THRESHOLD [SMOOTH [deep]] [live]`: without the last words each sample stands for itself, the
 -- threshold is at a half, and a distance is written when it has ended
-abbrev pub wav_ltc : List Word → Answer
+unfoldable pub wav_ltc : List Word → Answer
 wav_ltc (system ∷ track ∷ threshold ∷ []) = in_wave system track threshold false
 wav_ltc (system ∷ track ∷ threshold ∷ smooth ∷ []) =
     if is_live smooth then in_wave system track threshold true else in_smooth_wave system track threshold smooth false
 wav_ltc (system ∷ track ∷ threshold ∷ smooth ∷ deep ∷ []) =
     if is_live deep then in_smooth_wave system track threshold smooth true
     else in_dull_wave system track threshold smooth deep (Some false)
-wav_ltc (system ∷ track ∷ threshold ∷ smooth ∷ deep ∷ live ∷ []) =
-    in_dull_wave system track threshold smooth deep (live_in live)
+wav_ltc (system ∷ track ∷ threshold ∷ smooth ∷ deep ∷ live ∷ []) = in_dull_wave system track threshold smooth deep (live_in live)
 wav_ltc _ = Err CountOfWords
 
 -- `ltc-pcm LEVEL`
-abbrev pub ltc_pcm : List Word → Answer
+unfoldable pub ltc_pcm : List Word → Answer
 ltc_pcm (level ∷ []) = with_value 1 (level_in level) (λ n. Ok (jobs.LtcPcm n))
 ltc_pcm _ = Err CountOfWords
 
 -- `vitc-make COUNT LABEL FRAMES LENGTH`
-abbrev pub vitc_make : List Word → Answer
+unfoldable pub vitc_make : List Word → Answer
 vitc_make (count ∷ label ∷ frames ∷ length ∷ []) = in_lines count label frames length
 vitc_make _ = Err CountOfWords
 
 -- `number COUNT LABEL`
-abbrev pub number : List Word → Answer
+unfoldable pub number : List Word → Answer
 number (count ∷ label ∷ []) =
     with_value 1 (count_in count) (λ c. with_value 2 (spelled c label) (λ address. Ok (jobs.Number address)))
 number _ = Err CountOfWords
 
 -- `label COUNT NUMBER`
-abbrev pub label_of : List Word → Answer
+unfoldable pub label_of : List Word → Answer
 label_of (count ∷ number ∷ []) =
     with_value 1 (count_in count) (λ c. with_value 2 (numbered c number) (λ address. Ok (jobs.LabelOf address)))
 label_of _ = Err CountOfWords
@@ -186,7 +180,7 @@ abbrev pub TaskAnswer : Type 0
 TaskAnswer = Result Task WordsFault
 
 -- `chase COUNT LABEL`
-abbrev pub chase : List Word → TaskAnswer
+unfoldable pub chase : List Word → TaskAnswer
 chase (count ∷ label ∷ []) =
     value_or 1 (count_in count) (λ c. value_or 2 (spelled c label) (λ address. Ok (tasks.Chase address)))
 chase _ = Err CountOfWords

@@ -7,6 +7,7 @@ use biphase::Profile;
 use tc_job::{Flight, WordsFault};
 
 /// The flight of a limit, and of the word behind it that says the tolerance, if there is one.
+#[tactic(auto, unfolding(crate::specs::Flight::flight_in))]
 pub(crate) fn flight_in(values: &[&str]) -> Result<Flight, WordsFault>
     ensures { result ≡ flight_in (map (λ v. v.now) values.now) }
 {
@@ -18,6 +19,7 @@ pub(crate) fn flight_in(values: &[&str]) -> Result<Flight, WordsFault>
 }
 
 // The same with the tolerance that the second word says, or with none where it says none.
+#[tactic(auto, unfolding(crate::specs::Flight::flight_with))]
 fn flight_with(limit: &str, profile: Option<Profile>) -> Result<Flight, WordsFault>
     ensures { result ≡ flight_with limit.now profile }
 {

@@ -56,6 +56,7 @@ pub(crate) fn moving(
 }
 
 /// The values of the first six words, or the first fault of them.
+#[tactic(auto, unfolding(crate::specs::LtcMake::tape_in))]
 fn tape_in(
     count: &str,
     direction: &str,
@@ -114,6 +115,7 @@ fn steady(cell: u32) -> Shaper
 }
 
 /// The cells from one length to another by a step, where the step is at most an eighth of the lesser.
+#[tactic(auto, unfolding(crate::specs::LtcMake::shaped_to))]
 fn shaper_to(from: u32, to: u32, step: &str) -> Option<Shaper>
     requires from { IsShaped from }
     requires to { IsShaped to }

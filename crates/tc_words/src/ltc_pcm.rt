@@ -6,6 +6,7 @@ use crate::values::between;
 use tc_job::{MAX_LEVEL, SoundLevel};
 
 /// How loud the sound is.
+#[tactic(auto, unfolding(crate::specs::LtcPcm::level_in))]
 pub(crate) fn level_in(word: &str) -> Option<SoundLevel>
     ensures { result ≡ level_in word.now }
 {

@@ -1,12 +1,13 @@
 //! The values of `pcm-ltc`, word by word. Next: `tc_job/src/slicing.rt`, which holds them.
-ghost use Rattle.std.specs.Prelude.{◌≡◌, ◌≤◌, ◌*◌, IfOk, IfSome};
+ghost use Rattle.std.specs.Prelude.{◌≡◌, ◌≤◌, ◌*◌, IfOk, IfSome, Some, false, true, if◌then◌else◌};
 ghost use Rattle.pcm_front.specs.State.{IsThreshold};
 ghost use Rattle.pcm_front.specs.declared.window.TheConstants.{MAX_SMOOTH};
 ghost use Rattle.tc_job.specs.Slicing.{IsSlicing, slicing_of};
 ghost use Rattle.tc_job.specs.SoundLevel.{IsLevel};
-ghost use Rattle.tc_words.specs.PcmLtc.{fineness_in, following, following_in, in_samples, in_ticks, of_sums};
-ghost use Rattle.tc_words.specs.PcmLtc.{sliced_job, sound_in, summing, IsSampleThreshold, IsSound};
+ghost use Rattle.tc_words.specs.Live.{is_live};
+ghost use Rattle.tc_words.specs.PcmLtc.{fineness_in, following, following_in, in_samples, in_ticks, of_sums, sliced_job, sound_in, summing, IsSampleThreshold, IsSound};
 
+use crate::live::is_live;
 use crate::values::{between, system_in};
 use pcm_front::{MAX_SMOOTH, Threshold};
 use tc_address::System;
@@ -37,7 +38,7 @@ pub(crate) fn in_samples(
 
 /// The same of four words: so many ticks a sample.
 #[tactic(auto, unfolding(crate::specs::PcmLtc::in_ticks))]
-pub(crate) fn in_ticks(
+fn in_ticks(
     system: &str,
     rate: &str,
     threshold: &str,
@@ -53,7 +54,7 @@ pub(crate) fn in_ticks(
 
 /// Of five words: a threshold that follows the level.
 #[tactic(auto, unfolding(crate::specs::PcmLtc::following))]
-pub(crate) fn following(
+fn following(
     system: &str,
     rate: &str,
     threshold: &str,
@@ -90,7 +91,63 @@ pub(crate) fn summing(
     Ok(sound.job(threshold, fineness, smooth, live))
 }
 
+/// The job of four words: the last one is `live`, or how many ticks a sample has.
+pub(crate) fn samples_or_ticks(
+    system: &str,
+    rate: &str,
+    threshold: &str,
+    last: &str,
+) -> Result<Job, WordsFault>
+    ensures { result ≡ (if is_live last.now then in_samples system.now rate.now threshold.now true
+        else in_ticks system.now rate.now threshold.now last.now false) }
+{
+    if is_live(last) {
+        in_samples(system, rate, threshold, true)
+    } else {
+        in_ticks(system, rate, threshold, last, false)
+    }
+}
+
+/// Of five words: the last one is `live`, or the threshold follows the level.
+pub(crate) fn ticks_or_following(
+    system: &str,
+    rate: &str,
+    threshold: &str,
+    fineness: &str,
+    last: &str,
+) -> Result<Job, WordsFault>
+    ensures { result ≡ (if is_live last.now then in_ticks system.now rate.now threshold.now fineness.now true
+        else following system.now rate.now threshold.now fineness.now last.now false) }
+{
+    if is_live(last) {
+        in_ticks(system, rate, threshold, fineness, true)
+    } else {
+        following(system, rate, threshold, fineness, last, false)
+    }
+}
+
+/// Of six words: the last one is `live`, or how many samples are in a sum.
+pub(crate) fn following_or_summing(
+    system: &str,
+    rate: &str,
+    threshold: &str,
+    fineness: &str,
+    follow: &str,
+    last: &str,
+) -> Result<Job, WordsFault>
+    ensures { result ≡ (if is_live last.now then following system.now rate.now threshold.now fineness.now follow.now true
+        else summing system.now rate.now threshold.now fineness.now follow.now last.now (Some false)) }
+{
+    if is_live(last) {
+        following(system, rate, threshold, fineness, follow, true)
+    } else {
+        let live = Some(false);
+        summing(system, rate, threshold, fineness, follow, last, live)
+    }
+}
+
 /// The values of the first three words, or the first fault of them.
+#[tactic(auto, unfolding(crate::specs::PcmLtc::sound_in))]
 fn sound_in(system: &str, rate: &str, threshold: &str) -> Result<Sound, WordsFault>
     ensures value { result ≡ sound_in system.now rate.now threshold.now }
     ensures valid { IfOk result IsSound }
@@ -122,6 +179,7 @@ impl Sound {
 }
 
 /// So many ticks a sample, where they are not too many a second.
+#[tactic(auto, unfolding(crate::specs::PcmLtc::fineness_in))]
 fn fineness_in(rate: u32, word: &str) -> Option<u32>
     ensures value { result ≡ fineness_in rate word.now }
     ensures range { IfSome result (λ n. (1 ≤ n) × (n ≤ MAX_FINENESS) × (rate * n ≤ MAX_TICK_RATE)) }
@@ -150,6 +208,7 @@ pub(crate) fn of_sums(smooth: u32, threshold: Threshold) -> Threshold
 }
 
 /// A threshold that follows the level, at a half or a quarter of it, and is never below this.
+#[tactic(auto, unfolding(crate::specs::PcmLtc::following_in))]
 fn following_in(least: u32, word: &str) -> Option<Threshold>
     requires { IsLevel least }
     ensures value { result ≡ following_in least word.now }

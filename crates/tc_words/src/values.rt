@@ -14,6 +14,7 @@ use interval_file::FileVersion;
 use tc_address::{Count, Direction, Label, System, day_labels, label_at, read_text};
 
 /// A count: `24`, `25`, `30` or `30d`.
+#[tactic(auto, unfolding(crate::specs::Values::count_in))]
 pub fn count_in(word: &str) -> Option<Count>
     ensures { result ≡ count_in word.now }
 {
@@ -27,6 +28,7 @@ pub fn count_in(word: &str) -> Option<Count>
 }
 
 /// A count whose pictures have lines of time code: `25`, `30` or `30d`.
+#[tactic(auto, unfolding(crate::specs::Values::count_with_lines))]
 pub fn count_with_lines(word: &str) -> Option<Count>
     ensures value { result ≡ count_with_lines word.now }
     ensures valid { IfSome result (λ count. HasLines (system_with count)) }
@@ -38,6 +40,7 @@ pub fn count_with_lines(word: &str) -> Option<Count>
 }
 
 /// A system: `24`, `25` or `30`.
+#[tactic(auto, unfolding(crate::specs::Values::system_in))]
 pub fn system_in(word: &str) -> Option<System>
     ensures { result ≡ system_in word.now }
 {
@@ -50,6 +53,7 @@ pub fn system_in(word: &str) -> Option<System>
 }
 
 /// One to twenty digits, as a number below 2^64.
+#[tactic(auto, unfolding(crate::specs::Values::number_spelled))]
 pub fn number_spelled(word: &str) -> Option<u64>
     ensures { result ≡ number_spelled word.now }
 {
@@ -73,6 +77,7 @@ fn are_digits(bytes: &[u8]) -> bool
 }
 
 /// A number of frames from 0 to 255.
+#[tactic(auto, unfolding(crate::specs::Values::limit_in))]
 pub fn limit_in(word: &str) -> Option<u8>
     ensures { result ≡ limit_in word.now }
 {
@@ -86,6 +91,7 @@ pub fn limit_in(word: &str) -> Option<u8>
 
 /// A tolerance other than the normal one: `worn`, that of worn recordings, or `rough`, that of hissy and
 /// dull ones.
+#[tactic(auto, unfolding(crate::specs::Values::tolerance_in))]
 pub fn tolerance_in(word: &str) -> Option<Profile>
     ensures { result ≡ tolerance_in word.now }
 {
@@ -97,6 +103,7 @@ pub fn tolerance_in(word: &str) -> Option<Profile>
 }
 
 /// A way of the tape: `forward` or `backward`.
+#[tactic(auto, unfolding(crate::specs::Values::direction_in))]
 pub fn direction_in(word: &str) -> Option<Direction>
     ensures { result ≡ direction_in word.now }
 {
@@ -108,6 +115,7 @@ pub fn direction_in(word: &str) -> Option<Direction>
 }
 
 /// A number of this range, in which no number passes a `u32`.
+#[tactic(auto, unfolding(crate::specs::Values::between))]
 pub fn between(least: u32, greatest: u32, word: &str) -> Option<u32>
     ensures value { result ≡ between least greatest word.now }
     ensures range { IfSome result (λ n. (least ≤ n) × (n ≤ greatest)) }
@@ -121,6 +129,7 @@ pub fn between(least: u32, greatest: u32, word: &str) -> Option<u32>
 }
 
 /// A version of the interval file: `1` or `2`.
+#[tactic(auto, unfolding(crate::specs::Values::version_in))]
 pub fn version_in(word: &str) -> Option<FileVersion>
     ensures { result ≡ version_in word.now }
 {
@@ -132,6 +141,7 @@ pub fn version_in(word: &str) -> Option<FileVersion>
 }
 
 /// The label of the count that is spelled so.
+#[tactic(auto, unfolding(crate::specs::Values::spelled))]
 pub fn spelled(count: Count, word: &str) -> Option<Label>
     ensures value { result ≡ spelled count word.now }
     ensures valid { IfSome result IsLabel }
@@ -141,6 +151,7 @@ pub fn spelled(count: Count, word: &str) -> Option<Label>
 }
 
 /// The label of the count that has this number in the day.
+#[tactic(auto, unfolding(crate::specs::Values::numbered))]
 pub fn numbered(count: Count, word: &str) -> Option<Label>
     ensures { result ≡ numbered count word.now }
 {

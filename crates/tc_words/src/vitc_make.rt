@@ -8,6 +8,7 @@ use tc_job::{Job, LineStripe, MAX_FRAMES, WordsFault};
 use vitc_reader::{MAX_LINE_LENGTH, MIN_LINE_LENGTH};
 
 /// The job of four words, or their first fault.
+#[tactic(auto, unfolding(crate::specs::VitcMake::in_lines))]
 pub(crate) fn in_lines(
     count: &str,
     label: &str,

@@ -1,10 +1,12 @@
 //! The values of `wav-ltc`, word by word. Next: `tc_job/src/wave_slicing.rt`, which holds them.
-ghost use Rattle.std.specs.Prelude.{◌≡◌, ◌≤◌, IfOk, IfSome};
+ghost use Rattle.std.specs.Prelude.{◌≡◌, ◌≤◌, IfOk, IfSome, Some, false, true, if◌then◌else◌};
 ghost use Rattle.pcm_front.specs.declared.window.TheConstants.{MAX_SMOOTH};
 ghost use Rattle.tc_job.specs.SoundLevel.{IsLevel};
+ghost use Rattle.tc_words.specs.Live.{is_live};
 ghost use Rattle.tc_words.specs.PcmLtc.{of_sums, IsSampleThreshold};
 ghost use Rattle.tc_words.specs.WavLtc.{deep_in, in_dull_wave, in_smooth_wave, in_wave, wave_in, wave_job, IsWave};
 
+use crate::live::is_live;
 use crate::pcm_ltc::of_sums;
 use crate::values::{between, system_in};
 use pcm_front::{MAX_SMOOTH, Threshold};
@@ -35,7 +37,7 @@ pub(crate) fn in_wave(
 
 /// The same of four words: sums of so many samples.
 #[tactic(auto, unfolding(crate::specs::WavLtc::in_smooth_wave))]
-pub(crate) fn in_smooth_wave(
+fn in_smooth_wave(
     system: &str,
     track: &str,
     threshold: &str,
@@ -68,7 +70,43 @@ pub(crate) fn in_dull_wave(
     Ok(wave.job(threshold, smooth, live))
 }
 
+/// The job of four words: the last one is `live`, or how many samples are in a sum.
+pub(crate) fn wave_or_smooth(
+    system: &str,
+    track: &str,
+    threshold: &str,
+    last: &str,
+) -> Result<Job, WordsFault>
+    ensures { result ≡ (if is_live last.now then in_wave system.now track.now threshold.now true
+        else in_smooth_wave system.now track.now threshold.now last.now false) }
+{
+    if is_live(last) {
+        in_wave(system, track, threshold, true)
+    } else {
+        in_smooth_wave(system, track, threshold, last, false)
+    }
+}
+
+/// Of five words: the last one is `live` or `deep`.
+pub(crate) fn smooth_or_dull(
+    system: &str,
+    track: &str,
+    threshold: &str,
+    smooth: &str,
+    last: &str,
+) -> Result<Job, WordsFault>
+    ensures { result ≡ (if is_live last.now then in_smooth_wave system.now track.now threshold.now smooth.now true
+        else in_dull_wave system.now track.now threshold.now smooth.now last.now (Some false)) }
+{
+    if is_live(last) {
+        in_smooth_wave(system, track, threshold, smooth, true)
+    } else {
+        in_dull_wave(system, track, threshold, smooth, last, Some(false))
+    }
+}
+
 /// The values of the first three words, or the first fault of them.
+#[tactic(auto, unfolding(crate::specs::WavLtc::wave_in))]
 fn wave_in(system: &str, track: &str, threshold: &str) -> Result<Wave, WordsFault>
     ensures value { result ≡ wave_in system.now track.now threshold.now }
     ensures valid { IfOk result IsWave }
@@ -100,6 +138,7 @@ impl Wave {
 }
 
 /// A threshold at a quarter of the level, and never below this.
+#[tactic(auto, unfolding(crate::specs::WavLtc::deep_in))]
 fn deep_in(least: u32, word: &str) -> Option<Threshold>
     requires { IsLevel least }
     ensures value { result ≡ deep_in least word.now }

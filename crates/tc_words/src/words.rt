@@ -2,22 +2,22 @@
 //! `tc_job/src/job.rt`.
 ghost use Rattle.std.specs.Prelude.{◌≡◌, ◌⊎◌, map, position, string_bytes, alloc_error};
 ghost use Rattle.command_words.specs.CommandLine.{begins_with_dash};
-ghost use Rattle.tc_words.specs.Words.{answer_to, without_dashes, job_of, no_values, ltc_fly, ltc_spans, ltc_mtc};
-ghost use Rattle.tc_words.specs.Words.{ltc_jam, ltc_chase, number, label_of, ltc_make};
-ghost use Rattle.tc_words.specs.Words.{ltc_convert, pcm_ltc, wav_ltc, ltc_pcm, task_of, chase, ltc_load, vitc_make};
-ghost use Rattle.tc_words.specs.Words.{jammed};
+ghost use Rattle.tc_words.specs.Words.{answer_to, without_dashes, job_of, no_values, ltc_fly, ltc_spans, ltc_mtc, ltc_jam, ltc_chase, number, label_of, ltc_make};
+ghost use Rattle.tc_words.specs.Words.{ltc_convert, pcm_ltc, wav_ltc, ltc_pcm, task_of, chase, ltc_load, vitc_make, jammed};
 
 use crate::flight::flight_in;
-use crate::live::{is_live, live_in};
+use crate::live::live_in;
 use crate::ltc_chase::chased;
 use crate::ltc_make::{at_one_length, moving};
 use crate::ltc_pcm::level_in;
-use crate::pcm_ltc::{following, in_samples, in_ticks, summing};
+use crate::pcm_ltc::{
+    following_or_summing, in_samples, samples_or_ticks, summing, ticks_or_following,
+};
 use crate::values::{
     between, count_in, limit_in, number_spelled, numbered, spelled, tolerance_in, version_in,
 };
 use crate::vitc_make::in_lines;
-use crate::wav_ltc::{in_dull_wave, in_smooth_wave, in_wave};
+use crate::wav_ltc::{in_dull_wave, in_wave, smooth_or_dull, wave_or_smooth};
 use biphase::{MAX_SHAPED, MIN_SHAPED, Profile};
 use command_words::CommandLine;
 use std::alloc::Global;
@@ -72,6 +72,7 @@ fn task_of(command: &str, values: &[&str]) -> Result<Task, WordsFault>
 }
 
 // `chase COUNT LABEL`
+#[tactic(auto, unfolding(crate::specs::Words::chase))]
 fn chase(values: &[&str]) -> Result<Task, WordsFault>
     ensures { result ≡ chase (map (λ v. v.now) values.now) }
 {
@@ -124,6 +125,7 @@ fn no_values(values: &[&str], job: Job) -> Result<Job, WordsFault>
 }
 
 // `ltc-fly LIMIT [worn|rough]`
+#[tactic(auto, unfolding(crate::specs::Words::ltc_fly))]
 fn ltc_fly(values: &[&str]) -> Result<Job, WordsFault>
     ensures { result ≡ ltc_fly (map (λ v. v.now) values.now) }
 {
@@ -132,6 +134,7 @@ fn ltc_fly(values: &[&str]) -> Result<Job, WordsFault>
 }
 
 // `ltc-spans LIMIT [worn]`
+#[tactic(auto, unfolding(crate::specs::Words::ltc_spans))]
 fn ltc_spans(values: &[&str]) -> Result<Job, WordsFault>
     ensures { result ≡ ltc_spans (map (λ v. v.now) values.now) }
 {
@@ -140,6 +143,7 @@ fn ltc_spans(values: &[&str]) -> Result<Job, WordsFault>
 }
 
 // `ltc-mtc LIMIT [worn|rough]`
+#[tactic(auto, unfolding(crate::specs::Words::ltc_mtc))]
 fn ltc_mtc(values: &[&str]) -> Result<Job, WordsFault>
     ensures { result ≡ ltc_mtc (map (λ v. v.now) values.now) }
 {
@@ -148,6 +152,7 @@ fn ltc_mtc(values: &[&str]) -> Result<Job, WordsFault>
 }
 
 // `ltc-jam LIMIT CELL TICK-RATE [worn|rough]`
+#[tactic(auto, unfolding(crate::specs::Words::ltc_jam))]
 fn ltc_jam(values: &[&str]) -> Result<Job, WordsFault>
     ensures { result ≡ ltc_jam (map (λ v. v.now) values.now) }
 {
@@ -161,6 +166,7 @@ fn ltc_jam(values: &[&str]) -> Result<Job, WordsFault>
 }
 
 // The job of three words and the tolerance that the fourth says, or their first fault.
+#[tactic(auto, unfolding(crate::specs::Words::jammed))]
 fn jammed(
     limit: &str,
     cell: &str,
@@ -179,6 +185,7 @@ fn jammed(
 }
 
 // `ltc-chase COUNT LABEL LIMIT SEED BOUND [worn|rough]`
+#[tactic(auto, unfolding(crate::specs::Words::ltc_chase))]
 fn ltc_chase(values: &[&str]) -> Result<Job, WordsFault>
     ensures { result ≡ ltc_chase (map (λ v. v.now) values.now) }
 {
@@ -196,6 +203,7 @@ fn ltc_chase(values: &[&str]) -> Result<Job, WordsFault>
 }
 
 // `ltc-make COUNT DIRECTION LABEL FRAMES CELL TICK-RATE [TO-CELL STEP]`
+#[tactic(auto, unfolding(crate::specs::Words::ltc_make))]
 fn ltc_make(values: &[&str]) -> Result<Job, WordsFault>
     ensures { result ≡ ltc_make (map (λ v. v.now) values.now) }
 {
@@ -220,6 +228,7 @@ fn ltc_make(values: &[&str]) -> Result<Job, WordsFault>
 }
 
 // `ltc-load SEED WORDS`
+#[tactic(auto, unfolding(crate::specs::Words::ltc_load))]
 fn ltc_load(values: &[&str]) -> Result<Job, WordsFault>
     ensures { result ≡ ltc_load (map (λ v. v.now) values.now) }
 {
@@ -234,6 +243,7 @@ fn ltc_load(values: &[&str]) -> Result<Job, WordsFault>
 }
 
 // `ltc-convert VERSION`
+#[tactic(auto, unfolding(crate::specs::Words::ltc_convert))]
 fn ltc_convert(values: &[&str]) -> Result<Job, WordsFault>
     ensures { result ≡ ltc_convert (map (λ v. v.now) values.now) }
 {
@@ -245,34 +255,18 @@ fn ltc_convert(values: &[&str]) -> Result<Job, WordsFault>
 }
 
 // `pcm-ltc SYSTEM RATE THRESHOLD [FINENESS [follow|deep [SMOOTH]]] [live]`
+#[tactic(auto, unfolding(crate::specs::Words::pcm_ltc))]
 fn pcm_ltc(values: &[&str]) -> Result<Job, WordsFault>
     ensures { result ≡ pcm_ltc (map (λ v. v.now) values.now) }
 {
     match values {
         [system, rate, threshold] => in_samples(system, rate, threshold, false),
-        [system, rate, threshold, last] if is_live(last) => {
-            in_samples(system, rate, threshold, true)
+        [system, rate, threshold, last] => samples_or_ticks(system, rate, threshold, last),
+        [system, rate, threshold, fineness, last] => {
+            ticks_or_following(system, rate, threshold, fineness, last)
         }
-        [system, rate, threshold, fineness] => in_ticks(system, rate, threshold, fineness, false),
-        [system, rate, threshold, fineness, last] if is_live(last) => {
-            in_ticks(system, rate, threshold, fineness, true)
-        }
-        [system, rate, threshold, fineness, follow] => {
-            following(system, rate, threshold, fineness, follow, false)
-        }
-        [system, rate, threshold, fineness, follow, last] if is_live(last) => {
-            following(system, rate, threshold, fineness, follow, true)
-        }
-        [system, rate, threshold, fineness, follow, smooth] => {
-            summing(
-                system,
-                rate,
-                threshold,
-                fineness,
-                follow,
-                smooth,
-                Some(false),
-            )
+        [system, rate, threshold, fineness, follow, last] => {
+            following_or_summing(system, rate, threshold, fineness, follow, last)
         }
         [system, rate, threshold, fineness, follow, smooth, last] => {
             let live = live_in(last);
@@ -283,22 +277,15 @@ fn pcm_ltc(values: &[&str]) -> Result<Job, WordsFault>
 }
 
 // `wav-ltc SYSTEM TRACK THRESHOLD [SMOOTH [deep]] [live]`
+#[tactic(auto, unfolding(crate::specs::Words::wav_ltc))]
 fn wav_ltc(values: &[&str]) -> Result<Job, WordsFault>
     ensures { result ≡ wav_ltc (map (λ v. v.now) values.now) }
 {
     match values {
         [system, track, threshold] => in_wave(system, track, threshold, false),
-        [system, track, threshold, last] if is_live(last) => {
-            in_wave(system, track, threshold, true)
-        }
-        [system, track, threshold, smooth] => {
-            in_smooth_wave(system, track, threshold, smooth, false)
-        }
-        [system, track, threshold, smooth, last] if is_live(last) => {
-            in_smooth_wave(system, track, threshold, smooth, true)
-        }
-        [system, track, threshold, smooth, deep] => {
-            in_dull_wave(system, track, threshold, smooth, deep, Some(false))
+        [system, track, threshold, last] => wave_or_smooth(system, track, threshold, last),
+        [system, track, threshold, smooth, last] => {
+            smooth_or_dull(system, track, threshold, smooth, last)
         }
         [system, track, threshold, smooth, deep, last] => {
             let live = live_in(last);
@@ -309,6 +296,7 @@ fn wav_ltc(values: &[&str]) -> Result<Job, WordsFault>
 }
 
 // `ltc-pcm LEVEL`
+#[tactic(auto, unfolding(crate::specs::Words::ltc_pcm))]
 fn ltc_pcm(values: &[&str]) -> Result<Job, WordsFault>
     ensures { result ≡ ltc_pcm (map (λ v. v.now) values.now) }
 {
@@ -320,6 +308,7 @@ fn ltc_pcm(values: &[&str]) -> Result<Job, WordsFault>
 }
 
 // `vitc-make COUNT LABEL FRAMES LENGTH`
+#[tactic(auto, unfolding(crate::specs::Words::vitc_make))]
 fn vitc_make(values: &[&str]) -> Result<Job, WordsFault>
     ensures { result ≡ vitc_make (map (λ v. v.now) values.now) }
 {
@@ -330,6 +319,7 @@ fn vitc_make(values: &[&str]) -> Result<Job, WordsFault>
 }
 
 // `number COUNT LABEL`
+#[tactic(auto, unfolding(crate::specs::Words::number))]
 fn number(values: &[&str]) -> Result<Job, WordsFault>
     ensures { result ≡ number (map (λ v. v.now) values.now) }
 {
@@ -342,6 +332,7 @@ fn number(values: &[&str]) -> Result<Job, WordsFault>
 }
 
 // `label COUNT NUMBER`
+#[tactic(auto, unfolding(crate::specs::Words::label_of))]
 fn label_of(values: &[&str]) -> Result<Job, WordsFault>
     ensures { result ≡ label_of (map (λ v. v.now) values.now) }
 {
