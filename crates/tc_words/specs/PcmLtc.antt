@@ -46,7 +46,8 @@ sliced_job sound threshold fineness smooth live =
 
 -- so many ticks a sample, where they are not too many a second
 unfoldable pub fineness_in : ℕ → Word → Option ℕ
-fineness_in rate word = option_and_then (λ n. if nat_le (rate * n) MAX_TICK_RATE then Some n else None) (between 1 MAX_FINENESS word)
+fineness_in rate word =
+    option_and_then (λ n. if nat_le (rate * n) MAX_TICK_RATE then Some n else None) (between 1 MAX_FINENESS word)
 
 -- `follow` or `deep`: a threshold that follows the level, at a half or a quarter of it, and is never below this
 unfoldable pub following_in : ℕ → Word → Option Threshold

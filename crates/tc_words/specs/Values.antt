@@ -1,5 +1,6 @@
 -- What a word says as a value.
-use Rattle.std.specs.Prelude.{ℕ, ◌^◌, Bool, ◌&&◌, List, length, Option, Some, None, if◌then◌else◌, nat_lt, nat_le, Result, Err, codes, slice_get, option_and_then}
+use Rattle.std.specs.Prelude.{ℕ, ◌^◌, Bool, ◌&&◌, List, length, Option, Some, None, if◌then◌else◌, nat_lt, nat_le}
+use Rattle.std.specs.Prelude.{Result, Err, codes, slice_get, option_and_then}
 use Rattle.std.specs.Char.{is_ascii_digit}
 use Rattle.std.specs.List.{list_all}
 use Rattle.std.specs.Str.{bytes_eq}
@@ -56,7 +57,8 @@ is_number word = nat_lt 0 (length word) && nat_le (length word) 20 && list_all i
 
 -- the number that the digits write, if it is below 2^64
 unfoldable pub number_spelled : Word → Option ℕ
-number_spelled word = if is_number word && nat_lt (digits_value 10 word) (2 ^ 64) then Some (digits_value 10 word) else None
+number_spelled word =
+    if is_number word && nat_lt (digits_value 10 word) (2 ^ 64) then Some (digits_value 10 word) else None
 
 -- a number up to 255
 unfoldable pub limit_in : Word → Option ℕ
@@ -78,7 +80,8 @@ direction_in word =
 
 -- a number of this range
 unfoldable pub between : ℕ → ℕ → Word → Option ℕ
-between least greatest word = option_and_then (λ n. if nat_le least n && nat_le n greatest then Some n else None) (number_spelled word)
+between least greatest word =
+    option_and_then (λ n. if nat_le least n && nat_le n greatest then Some n else None) (number_spelled word)
 
 -- a version of the interval file: `1` or `2`
 unfoldable pub version_in : Word → Option FileVersion

@@ -24,7 +24,8 @@ use Rattle.tc_words.specs.LtcPcm.{level_in}
 use Rattle.tc_words.specs.LtcMake.{at_one_length, moving}
 use Rattle.tc_words.specs.VitcMake.{in_lines}
 use Rattle.tc_words.specs.Live.{is_live, live_in}
-use Rattle.tc_words.specs.Values.{Word, between, count_in, limit_in, number_spelled, numbered, spelled, tolerance_in, version_in, value_or}
+use Rattle.tc_words.specs.Values.{Word, between, count_in, limit_in, number_spelled, numbered, spelled, tolerance_in}
+use Rattle.tc_words.specs.Values.{version_in, value_or}
 use Rattle.tc_words.specs.WavLtc.{in_dull_wave, in_smooth_wave, in_wave}
 
 -- the job of a command that is streamed, or the first fault of its words
@@ -75,12 +76,15 @@ ltc_jam _ = Err CountOfWords
 -- `ltc-chase COUNT LABEL LIMIT SEED BOUND [worn|rough]`
 unfoldable pub ltc_chase : List Word → Answer
 ltc_chase (count ∷ label ∷ limit ∷ seed ∷ bound ∷ []) = chased count label limit seed bound (Some Normal)
-ltc_chase (count ∷ label ∷ limit ∷ seed ∷ bound ∷ tolerance ∷ []) = chased count label limit seed bound (tolerance_in tolerance)
+ltc_chase (count ∷ label ∷ limit ∷ seed ∷ bound ∷ tolerance ∷ []) =
+    chased count label limit seed bound (tolerance_in tolerance)
 ltc_chase _ = Err CountOfWords
 
--- `ltc-make COUNT DIRECTION LABEL FRAMES CELL TICK-RATE [TO-CELL STEP]`: without the last two words the cells are of one length
+-- `ltc-make COUNT DIRECTION LABEL FRAMES CELL TICK-RATE [TO-CELL STEP]`: without the last two words the cells are of
+-- one length
 unfoldable pub ltc_make : List Word → Answer
-ltc_make (count ∷ direction ∷ label ∷ frames ∷ cell ∷ tick_rate ∷ []) = at_one_length count direction label frames cell tick_rate
+ltc_make (count ∷ direction ∷ label ∷ frames ∷ cell ∷ tick_rate ∷ []) =
+    at_one_length count direction label frames cell tick_rate
 ltc_make (count ∷ direction ∷ label ∷ frames ∷ cell ∷ tick_rate ∷ to_cell ∷ step ∷ []) =
     moving count direction label frames cell tick_rate to_cell step
 ltc_make _ = Err CountOfWords
@@ -103,7 +107,8 @@ pcm_ltc (system ∷ rate ∷ threshold ∷ []) = in_samples system rate threshol
 pcm_ltc (system ∷ rate ∷ threshold ∷ fineness ∷ []) =
     if is_live fineness then in_samples system rate threshold true else in_ticks system rate threshold fineness false
 pcm_ltc (system ∷ rate ∷ threshold ∷ fineness ∷ follow ∷ []) =
-    if is_live follow then in_ticks system rate threshold fineness true else following system rate threshold fineness follow false
+    if is_live follow then in_ticks system rate threshold fineness true
+    else following system rate threshold fineness follow false
 pcm_ltc (system ∷ rate ∷ threshold ∷ fineness ∷ follow ∷ smooth ∷ []) =
     if is_live smooth then following system rate threshold fineness follow true
     else summing system rate threshold fineness follow smooth (Some false)
@@ -120,7 +125,8 @@ wav_ltc (system ∷ track ∷ threshold ∷ smooth ∷ []) =
 wav_ltc (system ∷ track ∷ threshold ∷ smooth ∷ deep ∷ []) =
     if is_live deep then in_smooth_wave system track threshold smooth true
     else in_dull_wave system track threshold smooth deep (Some false)
-wav_ltc (system ∷ track ∷ threshold ∷ smooth ∷ deep ∷ live ∷ []) = in_dull_wave system track threshold smooth deep (live_in live)
+wav_ltc (system ∷ track ∷ threshold ∷ smooth ∷ deep ∷ live ∷ []) =
+    in_dull_wave system track threshold smooth deep (live_in live)
 wav_ltc _ = Err CountOfWords
 
 -- `ltc-pcm LEVEL`

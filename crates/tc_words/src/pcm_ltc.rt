@@ -5,7 +5,8 @@ ghost use Rattle.pcm_front.specs.declared.window.TheConstants.{MAX_SMOOTH};
 ghost use Rattle.tc_job.specs.Slicing.{IsSlicing, slicing_of};
 ghost use Rattle.tc_job.specs.SoundLevel.{IsLevel};
 ghost use Rattle.tc_words.specs.Live.{is_live};
-ghost use Rattle.tc_words.specs.PcmLtc.{fineness_in, following, following_in, in_samples, in_ticks, of_sums, sliced_job, sound_in, summing, IsSampleThreshold, IsSound};
+ghost use Rattle.tc_words.specs.PcmLtc.{fineness_in, following, following_in, in_samples, in_ticks, of_sums};
+ghost use Rattle.tc_words.specs.PcmLtc.{sliced_job, sound_in, summing, IsSampleThreshold, IsSound};
 
 use crate::live::is_live;
 use crate::values::{between, system_in};
@@ -135,7 +136,8 @@ pub(crate) fn following_or_summing(
     follow: &str,
     last: &str,
 ) -> Result<Job, WordsFault>
-    ensures { result ≡ (if is_live last.now then following system.now rate.now threshold.now fineness.now follow.now true
+    ensures { result ≡ (if is_live last.now
+        then following system.now rate.now threshold.now fineness.now follow.now true
         else summing system.now rate.now threshold.now fineness.now follow.now last.now (Some false)) }
 {
     if is_live(last) {

@@ -2,8 +2,10 @@
 //! `tc_job/src/job.rt`.
 ghost use Rattle.std.specs.Prelude.{◌≡◌, ◌⊎◌, map, position, string_bytes, alloc_error};
 ghost use Rattle.command_words.specs.CommandLine.{begins_with_dash};
-ghost use Rattle.tc_words.specs.Words.{answer_to, without_dashes, job_of, no_values, ltc_fly, ltc_spans, ltc_mtc, ltc_jam, ltc_chase, number, label_of, ltc_make};
-ghost use Rattle.tc_words.specs.Words.{ltc_convert, pcm_ltc, wav_ltc, ltc_pcm, task_of, chase, ltc_load, vitc_make, jammed};
+ghost use Rattle.tc_words.specs.Words.{answer_to, without_dashes, job_of, no_values, ltc_fly, ltc_spans, ltc_mtc};
+ghost use Rattle.tc_words.specs.Words.{ltc_jam, ltc_chase, number, label_of, ltc_make};
+ghost use Rattle.tc_words.specs.Words.{ltc_convert, pcm_ltc, wav_ltc, ltc_pcm, task_of, chase, ltc_load, vitc_make};
+ghost use Rattle.tc_words.specs.Words.{jammed};
 
 use crate::flight::flight_in;
 use crate::live::live_in;
