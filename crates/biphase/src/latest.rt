@@ -83,11 +83,11 @@ impl Profile {
         ensures kept { kept_by self result four.new ≡ kept_at_lock self c }
     {
         match self {
-            Profile::Normal | Profile::Worn => c,
             Profile::Rough => {
                 four.begin(c);
                 four.sum()
             }
+            Profile::Normal | Profile::Worn => c,
         }
     }
 
@@ -99,11 +99,11 @@ impl Profile {
         ensures kept { (before : ℕ) → kept_by self result four.new ≡ kept_next self (kept_by self before four.old) c }
     {
         match self {
-            Profile::Normal | Profile::Worn => c,
             Profile::Rough => {
                 four.push(c);
                 four.sum()
             }
+            Profile::Normal | Profile::Worn => c,
         }
     }
 }

@@ -2,18 +2,19 @@
 ghost use Rattle.std.specs.Prelude.{◌≡◌, ◌*◌, ◌<◌, ◌^◌, ◌↔◌, IsTrue};
 ghost use Rattle.biphase.specs.Profile.{equal_of, unequal_of, IsAtLeast, IsAtMost, IsWithin};
 
-/// How much the cells of a recording may differ. The compiler asks for the last variant first, and
-/// each interval asks: so the one that is slowest anyway stands first.
+/// How much the cells of a recording may differ.
+// Each interval asks which one it is. The compiler asks for the first variant first, where another
+// one's arm stands first in a `match`.
 #[derive(Clone, Copy, Debug, PartialEq, Eq)]
 pub enum Profile {
-    /// For hissy and dull recordings: a cell is compared with the mean of the latest four.
-    Rough,
     /// A cell lasts within one eighth of the cell before, and halves differ by at most one sixteenth
     /// of their cell.
     Normal,
     /// For worn recordings: a cell lasts within one sixth of the cell before, and halves differ by at
     /// most one twelfth of their cell.
     Worn,
+    /// For hissy and dull recordings: a cell is compared with the mean of the latest four.
+    Rough,
 }
 
 /// A part of a whole: 2 of 3 is two thirds.

@@ -17,9 +17,9 @@ pub fn is_zero(profile: Profile, reference: u32, x: u32) -> bool
     ensures { (latest : Latest) → reference_of profile latest ≡ reference → IsTrue result ↔ IsNextZero profile latest x }
 {
     match profile {
-        Profile::Normal => next_zero(NORMAL, reference, x),
-        Profile::Worn => next_zero(WORN, reference, x),
         Profile::Rough => is_cell_of_sum(u64::from(reference), u64::from(x)),
+        Profile::Worn => next_zero(WORN, reference, x),
+        Profile::Normal => next_zero(NORMAL, reference, x),
     }
 }
 
@@ -30,9 +30,9 @@ pub fn may_begin_one(profile: Profile, reference: u32, x: u32) -> bool
     ensures { (latest : Latest) → reference_of profile latest ≡ reference → IsTrue result ↔ IsFirstHalf profile latest x }
 {
     match profile {
-        Profile::Normal => first_half(NORMAL, reference, x),
-        Profile::Worn => first_half(WORN, reference, x),
         Profile::Rough => is_half_of_sum(u64::from(reference), u64::from(x)),
+        Profile::Worn => first_half(WORN, reference, x),
+        Profile::Normal => first_half(NORMAL, reference, x),
     }
 }
 
@@ -43,9 +43,9 @@ pub fn is_one(profile: Profile, reference: u32, x: u32, y: u32) -> bool
     ensures { (latest : Latest) → reference_of profile latest ≡ reference → IsTrue result ↔ IsNextOne profile latest x y }
 {
     match profile {
-        Profile::Normal => next_one(NORMAL, reference, x, y),
-        Profile::Worn => next_one(WORN, reference, x, y),
         Profile::Rough => is_one_of_sum(u64::from(reference), u64::from(x), u64::from(y)),
+        Profile::Worn => next_one(WORN, reference, x, y),
+        Profile::Normal => next_one(NORMAL, reference, x, y),
     }
 }
 

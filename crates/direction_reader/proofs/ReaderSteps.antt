@@ -1,6 +1,6 @@
 -- Each step of the tracker takes the reader from a list with its events to the list with one interval more, with the events that are new.
 use Rattle.std.proofs.Common.{◌≡◌, ◌<◌, ◌≤◌, ℕ, ◌+◌, ◌-◌, List, [], ◌∷◌, ◌++◌, length, take, sum, ap, sym, ◌∙◌, arith, refl, subst}
-use Rattle.std.proofs.Common.{append-nil, append_assoc, length-append, Some, None, Option, IsSome, false, get_or, Bool, ◌⊎◌, inl, inr}
+use Rattle.std.proofs.Common.{append-nil, append_assoc, length-append, Some, None, Option, IsSome, false, get_or, Bool, inl, inr}
 use Rattle.std.proofs.lemmas.List.{take-append-le, take_all, take_more}
 use Rattle.std.proofs.lemmas.Option.{slice_get_within, get_or_from_slice_get}
 use Rattle.std.proofs.lemmas.List.Sums.{sum_by-append}
@@ -19,7 +19,7 @@ use Rattle.direction_reader.specs.declared.state.Step.TheVariants.{Nothing, Firs
 use Rattle.direction_reader.specs.declared.state.Step.{Step}
 use Rattle.direction_reader.specs.Events.{event_list, no_events, one_event}
 use Rattle.direction_reader.specs.LatestBits.{after_bit, EndsInCandidate}
-use Rattle.direction_reader.specs.LatestCells.{Cells, no_cells, with_boundary, AreWindowEvents}
+use Rattle.direction_reader.specs.LatestCells.{Cells, no_cells, with_boundary, AreWindowEvents, CellBrings}
 use Rattle.direction_reader.specs.ListEvents.{duration, begin_of, windows, AreEventsOfWindows, AreEventsOfStretch}
 use Rattle.direction_reader.specs.Reader.{ReaderState, Takes}
 use Rattle.direction_reader.specs.StandsFor.{waiting, CellsStandFor, OpenStandsFor, LatestStandsFor, TrackerStandsFor, StandsFor, StandsAfter}
@@ -281,20 +281,20 @@ quiet_window system (latest.Full n) boundaries end own quiet none = rw none (rec
 quiet_window system (latest.Filling f) boundaries end own quiet none = none
 
 -- what is told of a cell is what its window brings
-told_of_cell : (n : ReaderState) (brought : Brought) (own : Events) → (brought ≡ Candidate) ⊎ ((brought ≡ Brought.Nothing) × ¬ EndsInCandidate n.cells.bits)
-    → Tells n brought own → AreWindowEvents n.system n.cells.bits n.cells.boundaries n.tick own
-told_of_cell n brought own (inl is) told = subst (λ (b : Brought). Tells n b own) is told
-told_of_cell n brought own (inr is) told =
-    quiet_window n.system n.cells.bits n.cells.boundaries n.tick own is.1 (subst (λ (b : Brought). Tells n b own) is.0 told)
+told_of_cell : (n : ReaderState) (brought : Brought) (own : Events) → CellBrings n.cells.bits brought → Tells n brought own
+    → AreWindowEvents n.system n.cells.bits n.cells.boundaries n.tick own
+told_of_cell n Brought.Nothing own brings told = quiet_window n.system n.cells.bits n.cells.boundaries n.tick own brings told
+told_of_cell n Candidate own brings told = told
+told_of_cell n Brought.Break own brings told = absurd brings
 
 pub cell_told : (r n : ReaderState) (x : ℕ) (l : List ℕ) (es : List Event) (own : Events) (bit : Bool) (brought : Brought) → Takes r x n
     → n.cells.bits ≡ after_bit r.cells.bits bit → n.cells.boundaries ≡ with_boundary r.cells.boundaries n.tick
-    → (brought ≡ Candidate) ⊎ ((brought ≡ Brought.Nothing) × ¬ EndsInCandidate n.cells.bits)
-    → (stands : StandsFor r l es) → StandsAfter r.tracker n.tracker x l stands.earlier stands.open_yet (Step.Cell bit) → Tells n brought own
+    → CellBrings n.cells.bits brought → (stands : StandsFor r l es)
+    → StandsAfter r.tracker n.tracker x l stands.earlier stands.open_yet (Step.Cell bit) → Tells n brought own
     → StandsFor n (l ++ x ∷ []) (es ++ event_list own)
-cell_told r n x l es own bit brought takes is_bits is_boundaries may stands (s, cell, open_yet, is_bit, long, waits, tracker) told =
+cell_told r n x l es own bit brought takes is_bits is_boundaries brings stands (s, cell, open_yet, is_bit, long, waits, tracker) told =
     let bits_too : n.cells.bits ≡ after_bit r.cells.bits (bit_of cell) = rw is_bit is_bits in
-    cell_ended r n x l es own s cell takes bits_too is_boundaries (told_of_cell n brought own may told) long waits stands open_yet tracker
+    cell_ended r n x l es own s cell takes bits_too is_boundaries (told_of_cell n brought own brings told) long waits stands open_yet tracker
 
 -- where nothing is told there is nothing new
 pub quiet : (n : ReaderState) (l : List ℕ) (es : List Event) (own : Events) → StandsFor n l es → own ≡ no_events → StandsFor n l (es ++ event_list own)

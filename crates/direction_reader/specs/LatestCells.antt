@@ -2,11 +2,14 @@
 use Rattle.std.specs.Prelude.{◌≡◌, ℕ, ◌-◌, List, [], ◌∷◌, ◌++◌, length, drop, slice_index, if◌then◌else◌, nat_lt}
 use Rattle.tc_address.specs.declared.system.System.{System}
 use Rattle.direction_reader.specs.declared.boundaries.TheConstants.{BOUNDARIES}
+use Rattle.direction_reader.specs.declared.brought.Brought.{Brought}
+use Rattle.direction_reader.specs.declared.brought.Brought.TheVariants.{Nothing, Candidate, Break}
 use Rattle.direction_reader.specs.declared.event.Events.{Events}
 use Rattle.direction_reader.specs.declared.latest_bits.LatestBits.{LatestBits}
 use Rattle.direction_reader.specs.declared.latest_bits.LatestBits.TheVariants as latest
 use Rattle.direction_reader.specs.Candidate.{AreEventsOf}
 use Rattle.direction_reader.specs.Events.{no_events}
+use Rattle.direction_reader.specs.LatestBits.{EndsInCandidate}
 
 -- the latest bits, and the ticks at the boundaries of their cells: one before each, and one at the end
 pub record Cells : Type 0 where
@@ -21,6 +24,12 @@ no_cells tick = record { bits = latest.Filling (record { bits = 0; count = 0 });
 abbrev pub with_boundary : List ℕ → ℕ → List ℕ
 with_boundary boundaries tick =
     if nat_lt (length boundaries) BOUNDARIES then boundaries ++ tick ∷ [] else drop 1 boundaries ++ tick ∷ []
+
+-- what a cell brings, by the bits that end with it: a candidate where they are a window with one, and else nothing
+abbrev pub CellBrings : LatestBits → Brought → Type 0
+CellBrings bits Nothing = ¬ EndsInCandidate bits
+CellBrings bits Candidate = EndsInCandidate bits
+CellBrings bits Break = ⊥
 
 -- the events of the latest window, which ends at a tick: none before it is full, and then those of its bits, with the length from its
 -- oldest boundary on

@@ -19,10 +19,7 @@ impl LatestBits {
         ensures candidate { IsTrue result ↔ EndsInCandidate self.new }
     {
         match self {
-            LatestBits::Full(full) => {
-                *full = full.bit(bit);
-                full.is_candidate()
-            }
+            LatestBits::Full(full) => full.push(bit),
             LatestBits::Filling(filling) => match filling.bit(bit) {
                 FromFilling::Filling(next) => {
                     *filling = next;

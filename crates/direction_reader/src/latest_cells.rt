@@ -1,11 +1,12 @@
 //! The cells of the stretch that is open. Next: `latest_bits`, and with the tick `boundaries`.
-ghost use Rattle.std.specs.Prelude.{◌≡◌, ◌↔◌, IsTrue};
+ghost use Rattle.std.specs.Prelude.{◌≡◌};
 ghost use Rattle.direction_reader.specs.Brings.{BringsAt};
 ghost use Rattle.direction_reader.specs.Invariants.{AreBoundariesTo};
-ghost use Rattle.direction_reader.specs.LatestBits.{after_bit, EndsInCandidate};
-ghost use Rattle.direction_reader.specs.LatestCells.{no_cells, with_boundary, AreWindowEvents};
+ghost use Rattle.direction_reader.specs.LatestBits.{after_bit};
+ghost use Rattle.direction_reader.specs.LatestCells.{no_cells, with_boundary, AreWindowEvents, CellBrings};
 
 use crate::boundaries::Boundaries;
+use crate::brought::Brought;
 use crate::candidates::window_events;
 use crate::event::Events;
 use crate::latest_bits::LatestBits;
@@ -54,16 +55,20 @@ impl LatestCells {
         self.boundaries.push(tick);
     }
 
-    /// Adds a cell of this bit, which ends at this tick, and tells whether it ends a window with a
-    /// candidate.
+    /// Adds a cell of this bit, which ends at this tick, and tells what it brings: a candidate, where
+    /// it ends a window with one.
     #[inline(always)]
-    pub fn add(&mut self, tick: u64, bit: bool) -> bool
+    pub fn add(&mut self, tick: u64, bit: bool) -> Brought
         ensures bits { self.new.bits ≡ after_bit self.old.bits bit }
         ensures boundaries { self.new.boundaries ≡ with_boundary self.old.boundaries tick }
-        ensures candidate { IsTrue result ↔ EndsInCandidate self.new.bits }
+        ensures brings { CellBrings self.new.bits result }
     {
         self.boundaries.push(tick);
-        self.bits.add(bit)
+        if self.bits.add(bit) {
+            Brought::Candidate
+        } else {
+            Brought::Nothing
+        }
     }
 
     /// The events of the latest window, which ends at this tick.

@@ -142,13 +142,9 @@ impl DirectionReader {
         self.tick = now;
         self.intervals += 1;
         match self.tracker.step(x) {
-            Step::Cell(bit) => {
-                if self.cells.add(now, bit) {
-                    Brought::Candidate
-                } else {
-                    Brought::Nothing
-                }
-            }
+            // The compiler adds a known bit to the window at less cost.
+            Step::Cell(false) => self.cells.add(now, false),
+            Step::Cell(true) => self.cells.add(now, true),
             Step::Nothing => Brought::Nothing,
             Step::FirstZero => {
                 self.cells.begin(before);

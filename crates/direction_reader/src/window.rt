@@ -93,6 +93,18 @@ impl Full {
         }
     }
 
+    /// Adds a bit at the end, drops the oldest, and tells whether the window is a candidate. The sync
+    /// word ends in a one, so behind a zero one test is enough.
+    #[inline(always)]
+    pub(crate) fn push(&mut self, bit: bool) -> bool
+        ensures value { self.new ≡ slid_by self.old bit }
+        ensures candidate { IsTrue result ↔ IsCandidate self.new }
+    {
+        let bits = slid(self.bits, bit);
+        self.bits = bits;
+        (bit & ends_in_sync(bits)) | begins_in_reversed_sync(bits)
+    }
+
     /// Whether the window ends in the sync word, as read forward or as read backward. The two tests
     /// cost less together than a branch between them.
     pub fn is_candidate(&self) -> bool

@@ -1,15 +1,14 @@
-use Rattle.std.proofs.Common.{◌-◌, ◌+◌, arith, subst, sym, refl, ap, inl, inr}
+use Rattle.std.proofs.Common.{◌-◌, ◌+◌, arith, subst, sym, refl, ap}
 use Rattle.direction_reader.specs.Reader.{ReaderState}
 use Rattle.direction_reader.specs.StandsFor.{StandsFor}
 use Rattle.direction_reader.proofs.CellsEnd.{cell_fits}
 use Rattle.direction_reader.proofs.ReaderSteps.{nothing_ended, begins_now, begins_before, broken, cell_told, quiet}
 use Rattle.direction_reader.proofs.reader.DirectionReader.step.Goals as goal
-use Rattle.direction_reader.proofs.reader.DirectionReader.step.Goals.{then-add, else-add}
 
--- what is kept fits the cell's end
+-- what is kept fits the cell's end: a one
 pub invariant_of-self : goal.invariant_of-self
 invariant_of-self c =
-    let steps = rw c.in-Cell.is at c.step.ensures.steps in
+    let steps = rw c.in-Cell-true.is at c.step.ensures.steps in
     let room = rw (← c.self.view_is) at c.requires.room in
     record {
       count = omega arith;
@@ -17,18 +16,35 @@ invariant_of-self c =
       fits = cell_fits _ _ _ _ _ _ _ _ c.self.invariant.fits c.requires.least c.requires.most steps (omega arith) c.add.ensures.boundaries;
     }
 
--- the cell is the stretch's next, and its window brings what is told
-pub returns-after-add-clause-stands : goal.returns-after-add-clause-stands
-returns-after-add-clause-stands c = λ l es own stands told.
+-- and a zero
+pub invariant_of-self-in-Cell-false : goal.invariant_of-self-in-Cell-false
+invariant_of-self-in-Cell-false c =
+    let steps = rw c.in-Cell-false.is at c.step.ensures.steps in
+    let room = rw (← c.self.view_is) at c.requires.room in
+    record {
+      count = omega arith;
+      sum = omega arith;
+      fits = cell_fits _ _ _ _ _ _ _ _ c.self.invariant.fits c.requires.least c.requires.most steps (omega arith)
+          c.add-in-Cell-false.ensures.boundaries;
+    }
+
+-- the cell is the stretch's next, and its window brings what is told: a one
+pub returns-in-Cell-true-clause-stands : goal.returns-in-Cell-true-clause-stands
+returns-in-Cell-true-clause-stands c = λ l es own stands told.
     let is = subst (λ (r : ReaderState). StandsFor r l es) (sym c.self.view_is) stands in
-    cell_told _ _ c.args.x l es own c.in-Cell.bit c.if-add.result
+    cell_told _ _ c.args.x l es own c.in-Cell-true.field-0 c.add.result
     (record { system = refl; profile = c.step.ensures.profile; intervals = refl; tick = ap (λ m. c.self.inside.tick + m) c.from.ensures })
-    c.add.ensures.bits c.add.ensures.boundaries
-    (elim c.if-add.branch [
-      | then-add w ↦ inl w.result-is
-      | else-add w ↦ inr (w.result-is, (λ sync. let is_one = c.add.ensures.candidate.1 sync in let is_not = w.if-add.false in cc))
-    ])
-    is (c.in-Cell.ensures.stands l is.earlier is.open_yet is.tracker) told
+    (rw c.in-Cell-true.field-0-test c.add.ensures.bits) c.add.ensures.boundaries c.add.ensures.brings
+    is (c.in-Cell-true.ensures.stands l is.earlier is.open_yet is.tracker) told
+
+-- and a zero
+pub returns-in-Cell-false-clause-stands : goal.returns-in-Cell-false-clause-stands
+returns-in-Cell-false-clause-stands c = λ l es own stands told.
+    let is = subst (λ (r : ReaderState). StandsFor r l es) (sym c.self.view_is) stands in
+    cell_told _ _ c.args.x l es own c.in-Cell-false.field-0 c.add-in-Cell-false.result
+    (record { system = refl; profile = c.step.ensures.profile; intervals = refl; tick = ap (λ m. c.self.inside.tick + m) c.from.ensures })
+    (rw c.in-Cell-false.field-0-test c.add-in-Cell-false.ensures.bits) c.add-in-Cell-false.ensures.boundaries
+    c.add-in-Cell-false.ensures.brings is (c.in-Cell-false.ensures.stands l is.earlier is.open_yet is.tracker) told
 
 -- no cell ended
 pub returns-in-Nothing-clause-stands : goal.returns-in-Nothing-clause-stands
