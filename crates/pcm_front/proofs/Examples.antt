@@ -46,7 +46,7 @@ at_a_half = refl
 sum_of_a_thousand : (level_of (replicate 1_000 (pos 1_000))).sum ≡ 638_859
 sum_of_a_thousand = refl
 
--- the peak has the height at once, and then falls by a 1024th, rounded up
+-- the peak rises by a quarter of what it lacks, to 1000, and then falls by a 1024th, rounded up: by 1 at each sample
 peak_falls : (level_of (pos 4_000 ∷ replicate 100 (pos 0))).peak ≡ 900
 peak_falls = refl
 

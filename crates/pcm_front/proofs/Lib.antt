@@ -1,5 +1,6 @@
 pub mod Sides
 mod Examples
+pub mod StillSums
 pub mod OneMore
 pub mod DistancesStay
 pub mod Rounding

@@ -1,6 +1,6 @@
 -- Where the sound stays on its side at the least threshold, it stays at every one, so a run of such samples brings nothing.
-use Rattle.std.proofs.Common.{◌≡◌, true, false, ℕ, suc, ◌+◌, ◌-◌, ◌*◌, ◌^◌, ◌<◌, ◌≤◌, ℤ, pos, List, [], ◌∷◌, ◌++◌, length, take, drop, length-drop, get_or, Bool, cond, Option, Some, None}
-use Rattle.std.proofs.Common.{refl, ap, subst, sym, ◌∙◌, add-one, mul-le-mul_left, mul-suc, arith}
+use Rattle.std.proofs.Common.{◌≡◌, true, false, ℕ, suc, ◌+◌, ◌-◌, ◌*◌, ◌<◌, ◌≤◌, ℤ, pos, List, [], ◌∷◌, ◌++◌, length, take, drop, length-drop, get_or, Bool, cond, Option, Some, None}
+use Rattle.std.proofs.Common.{refl, ap, subst, sym, ◌∙◌, mul-suc, arith}
 use Rattle.std.specs.Prelude.{slice_range}
 use Rattle.std.proofs.lemmas.List.{get_or-drop, length-take-le}
 use Rattle.std.proofs.lemmas.List.Sums.{fold_push}
@@ -132,12 +132,3 @@ pub still_range : (start state : FinderState) (window after pushed : WindowState
 still_range start state window after pushed xs at end f s y next order within s_is some y_is still f_is next_is pushed_is runs =
     rw (f_is, next_is, pushed_is, range-more xs at end order within, sym s_is)
     (still_on start state window after (slice_range xs at end) s y some y_is still runs)
-
--- after so many samples there is room for one more
-pub room_in_range : (f tick start at end : ℕ) (xs : List ℤ) → at ≤ end → end < length xs → tick ≡ start + f * length (slice_range xs at end)
-    → start + f * (length xs - at) ≤ 2 ^ 62 → tick + f ≤ 2 ^ 62
-room_in_range f tick start at end xs order within is room =
-    let all : f * ((end - at) + 1) ≤ f * (length xs - at) = mul-le-mul_left f (omega (arith, order, within)) in
-    let one : f * ((end - at) + 1) ≡ f * (end - at) + f = ap (λ n. f * n) (add-one (end - at)) ∙ mul-suc f (end - at) in
-    let now : tick ≡ start + f * (end - at) = is ∙ ap (λ n. start + f * n) (length-range xs at end (omega (arith, within))) in
-    omega (arith, all, one, now, room)

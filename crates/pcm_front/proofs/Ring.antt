@@ -4,14 +4,14 @@ use Rattle.std.proofs.Common.{replicate, take, drop, get_or, unsigned_abs, refl,
 use Rattle.std.specs.Prelude.{set}
 use Rattle.std.specs.List.{AllByRecursion}
 use Rattle.std.proofs.lemmas.Bool.Decides.{nat_tests}
-use Rattle.std.proofs.lemmas.List.{drop-set-lt, get_or-take, length-drop, length-replicate, length-take, length_push, take_more_set}
+use Rattle.std.proofs.lemmas.List.{drop-set-lt, get_or-take, length-replicate, length-take, take_more_set}
 use Rattle.std.proofs.Math.IntN.{+ℤ_assoc, +ℤ_comm, +ℤ-neg_ℤ_cancel}
 use Rattle.std.proofs.Math.Seq.{drop-cons, take-set-lt}
 use Rattle.std.proofs.Math.ListN.{drop_of_length-le}
 use Rattle.pcm_front.specs.Level.{HasSixteenBits}
-use Rattle.pcm_front.specs.State.{ring_of, IsRing}
+use Rattle.pcm_front.specs.State.{ring_of, window_of, IsRing, IsWindow}
 use Rattle.pcm_front.specs.Sums.{total}
-use Rattle.pcm_front.proofs.Windows.{next-fits, total-push, total-within, zeros-fit, zeros-sum}
+use Rattle.pcm_front.proofs.Windows.{total-push, window-stays, window-within, zeros-fit, zeros-sum}
 
 -- the place behind, in a ring of so many but one
 abbrev pub place_after : ℕ → ℕ → ℕ
@@ -75,12 +75,11 @@ place-by true smooth oldest is within = omega arith
 place-by false smooth oldest is within = let not_last : ¬ (oldest + 2 ≡ smooth) = grind (arith, nat_tests) in omega arith
 
 -- and it is a ring again
-pub pushed : (smooth : ℕ) (ring : List ℤ) (oldest next : ℕ) (sum now s : ℤ) → IsRing smooth ring oldest sum → ¬ (smooth ≡ 1) → length ring ≡ 15
+pub pushed : (smooth : ℕ) (ring : List ℤ) (oldest next : ℕ) (sum now s : ℤ) → IsRing smooth ring oldest sum → 2 ≤ smooth → length ring ≡ 15
     → HasSixteenBits s → next ≡ place_after smooth oldest → now ≡ (sum +ℤ s) -ℤ get_or ring oldest (pos 0)
     → IsRing smooth (set ring oldest s) next now
-pushed smooth ring oldest next sum now s is some long bits next_is now_is =
+pushed smooth ring oldest next sum now s is two long bits next_is now_is =
     let w = is.window in
-    let two : 2 ≤ smooth = omega (arith, w.least, some) in
     let place = is.place two in
     let enough : smooth ≤ length ring + 1 = omega (arith, w.most) in
     let kept = ring_of smooth ring oldest in
@@ -88,12 +87,7 @@ pushed smooth ring oldest next sum now s is some long bits next_is now_is =
     ap (ring_of smooth (set ring oldest s)) next_is ∙ written smooth ring oldest s (omega arith) enough in
     let first = oldest_first smooth ring oldest (omega arith) enough in
     record {
-      window = record {
-        least = w.least;
-        most = w.most;
-        long = ap (λ l. length l + 1) same ∙ omega (arith, length-drop 1 (kept ++ s ∷ []), length_push kept s, w.long);
-        bits = subst (AllByRecursion HasSixteenBits) (sym same) (next-fits kept s w.bits bits);
-      };
+      window = subst (λ l. IsWindow (record { smooth = smooth; kept = l })) (sym same) (window-stays (window_of smooth ring oldest) s w bits);
       sum_is = sum-moves kept (rest_of smooth ring oldest) (get_or ring oldest (pos 0)) sum s now first is.sum_is now_is
           ∙ ap (λ l. total (drop 1 (l ++ s ∷ []))) (sym first) ∙ ap total (sym same);
       alone = λ one. absurd (omega arith);
@@ -128,9 +122,4 @@ fresh_is smooth n some most enough =
 
 -- the sum of what is kept
 pub kept-within : (smooth : ℕ) (ring : List ℤ) (oldest : ℕ) (sum : ℤ) → IsRing smooth ring oldest sum → unsigned_abs sum ≤ 32_768 * 15
-kept-within smooth ring oldest sum is =
-    let w = is.window in
-    let kept = ring_of smooth ring oldest in
-    let within = total-within kept w.bits in
-    let same : unsigned_abs sum ≡ unsigned_abs (total kept) = ap unsigned_abs is.sum_is in
-    omega (arith, within, same, w.long, w.most)
+kept-within smooth ring oldest sum is = window-within (window_of smooth ring oldest) sum is.window is.sum_is

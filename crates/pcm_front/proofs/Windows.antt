@@ -1,11 +1,12 @@
 -- The latest samples but one, with the sample that comes: their sum is the sum there, and without the oldest they are the latest again.
 use Rattle.std.proofs.Common.{◌≡◌, ℕ, zero, suc, ◌+◌, ◌-◌, ◌*◌, ◌≤◌, ℤ, pos, ◌+ℤ◌, List, [], ◌∷◌, ◌++◌, length, replicate, drop, unsigned_abs}
-use Rattle.std.proofs.Common.{refl, ap, ap₂, sym, ◌∙◌, append-nil, append_assoc, arith}
+use Rattle.std.proofs.Common.{refl, ap, ap₂, sym, ◌∙◌, append_assoc, arith}
 use Rattle.std.specs.List.{AllByRecursion}
 use Rattle.std.proofs.lemmas.Int.{ints}
 use Rattle.std.proofs.Math.IntN.{+ℤ_assoc}
-use Rattle.std.proofs.lemmas.List.{length_push, length-append, length-replicate, drop-append-le, drop-drop}
+use Rattle.std.proofs.lemmas.List.{length_push, length-append, length-drop, length-replicate, drop-append-le, drop-drop}
 use Rattle.pcm_front.specs.Level.{HasSixteenBits}
+use Rattle.pcm_front.specs.State.{window_after, IsWindow, WindowState}
 use Rattle.pcm_front.specs.Sums.{latest, total}
 use Rattle.pcm_front.proofs.SumsStay.{padded, sum_of}
 
@@ -40,15 +41,6 @@ sum-now n kept xs s some is =
     ap (λ l. total (l ++ s ∷ [])) is ∙ ap total (latest-push (n - 1) (padded n xs) s (enough n xs))
     ∙ ap₂ (λ k l. total (latest k l)) all (behind n xs s)
 
--- before the first sample, zeros are kept
-pub kept-none : (n : ℕ) → 1 ≤ n → replicate (n - 1) (pos 0) ≡ latest (n - 1) (padded n [])
-kept-none zero some = absurd (omega arith)
-kept-none (suc n) some =
-    let place : length (replicate (suc n) (pos 0) ++ []) - n ≡ 1 =
-    omega (arith, length-append (replicate (suc n) (pos 0)) [], length-replicate (suc n) (pos 0)) in
-    let back : suc n - 1 ≡ n = omega arith in
-    rw back (sym (ap (λ k. drop k (replicate (suc n) (pos 0) ++ [])) place ∙ append-nil (replicate n (pos 0))))
-
 -- ---- how great a sum can be
 
 pub total-push : (xs : List ℤ) (s : ℤ) → total (xs ++ s ∷ []) ≡ total xs +ℤ s
@@ -56,7 +48,7 @@ unfolding total
 total-push [] s = grind (arith, ints)
 total-push (x ∷ xs) s = ap (λ t. x +ℤ t) (total-push xs s) ∙ sym (+ℤ_assoc x (total xs) s)
 
-pub total-within : (xs : List ℤ) → AllByRecursion HasSixteenBits xs → unsigned_abs (total xs) ≤ 32_768 * length xs
+total-within : (xs : List ℤ) → AllByRecursion HasSixteenBits xs → unsigned_abs (total xs) ≤ 32_768 * length xs
 unfolding total
 total-within [] bits = omega arith
 total-within (x ∷ xs) bits = let more = total-within xs bits.1 in let one = bits.0 in grind (arith, ints)
@@ -78,5 +70,22 @@ rest-fits : (xs : List ℤ) → AllByRecursion HasSixteenBits xs → AllByRecurs
 rest-fits [] bits = tt
 rest-fits (x ∷ xs) bits = bits.1
 
-pub next-fits : (xs : List ℤ) (s : ℤ) → AllByRecursion HasSixteenBits xs → HasSixteenBits s → AllByRecursion HasSixteenBits (drop 1 (xs ++ s ∷ []))
+next-fits : (xs : List ℤ) (s : ℤ) → AllByRecursion HasSixteenBits xs → HasSixteenBits s → AllByRecursion HasSixteenBits (drop 1 (xs ++ s ∷ []))
 next-fits xs s bits one = rest-fits (xs ++ s ∷ []) (push-fits xs s bits one)
+
+-- ---- what a window keeps is in its range
+
+pub window-stays : (window : WindowState) (s : ℤ) → IsWindow window → HasSixteenBits s → IsWindow (window_after window s)
+window-stays window s is bits = record {
+  least = is.least;
+  most = is.most;
+  long = omega (arith, length-drop 1 (window.kept ++ s ∷ []), length_push window.kept s, is.long);
+  bits = next-fits window.kept s is.bits bits;
+}
+
+-- and so is its sum
+pub window-within : (window : WindowState) (sum : ℤ) → IsWindow window → sum ≡ total window.kept → unsigned_abs sum ≤ 32_768 * 15
+window-within window sum is sum_is =
+    let within = total-within window.kept is.bits in
+    let same : unsigned_abs sum ≡ unsigned_abs (total window.kept) = ap unsigned_abs sum_is in
+    omega (arith, within, same, is.long, is.most)

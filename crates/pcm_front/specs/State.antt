@@ -102,10 +102,9 @@ pub record IsRing (smooth : ℕ) (ring : List ℤ) (oldest : ℕ) (sum : ℤ) : 
 
 -- The steps of finding crossings. No promise speaks of them.
 
--- the moment, a sample late, of the crossing at a sample, by the level there
-abbrev pub crossing_after : FinderState → Level → ℤ → Option ℕ
-crossing_after state level sample =
-    let threshold = threshold_by state.threshold level in
+-- the moment, a sample late, of the crossing at a sample, by the threshold there
+abbrev pub crossing_after : FinderState → ℕ → ℤ → Option ℕ
+crossing_after state threshold sample =
     let side = side_of threshold sample in
     cond (differs state.side side) (Some (state.tick + tick_to side state.fineness threshold state.before sample)) None
 
@@ -115,7 +114,7 @@ level_in state sample = next_level state.threshold state.level sample
 
 -- the moment of the crossing at a sample
 abbrev pub crossing_in : FinderState → ℤ → Option ℕ
-crossing_in state sample = crossing_after state (level_in state sample) sample
+crossing_in state sample = crossing_after state (threshold_by state.threshold (level_in state sample)) sample
 
 -- what is kept after a sample
 abbrev pub state_after : FinderState → ℤ → FinderState

@@ -1,8 +1,8 @@
-//! The tick of a crossing in the step to its sample. Next: `finder`.
-ghost use Rattle.std.specs.Prelude.{◌≡◌, ◌≤◌, Some, pos, ◌≤ℤ◌};
+//! The tick of a crossing in the step to its sample. Next: `still`.
+ghost use Rattle.std.specs.Prelude.{◌≡◌, ◌≤◌, ◌^◌, Some, pos, ◌≤ℤ◌};
 ghost use Rattle.pcm_front.specs.Level.{IsSum};
 ghost use Rattle.pcm_front.specs.Side.{side_of};
-ghost use Rattle.pcm_front.specs.Crossing.{tick_in_step, tick_to};
+ghost use Rattle.pcm_front.specs.Crossing.{apart, tick_in_step, tick_to};
 
 use crate::side::Side;
 
@@ -39,7 +39,18 @@ fn tick_in_step(fineness: u32, threshold: u32, a: i32, b: i32) -> u32
     if threshold <= a {
         return 1;
     }
-    let rise = (threshold - a).unsigned_abs();
-    let step = (b - a).unsigned_abs();
+    let rise = ascent(a, threshold);
+    let step = ascent(a, b);
     (fineness * rise).div_ceil(step)
+}
+
+/// How far a sum lies above another.
+fn ascent(from: i32, to: i32) -> u32
+    requires from { IsSum from }
+    requires to { IsSum to }
+    requires order { from ≤ℤ to }
+    ensures value { result ≡ apart to from }
+    ensures most { result ≤ 2 ^ 20 }
+{
+    (to - from) as u32
 }

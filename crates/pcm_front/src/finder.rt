@@ -2,8 +2,9 @@
 ghost use Rattle.std.specs.Prelude.{◌≡◌, ◌+◌, ◌-◌, ◌*◌, ◌<◌, ◌≤◌, ◌^◌, None, length, slice_range, IfSome};
 ghost use Rattle.std.specs.List.{fold};
 ghost use Rattle.pcm_front.specs.KeptRuns.{latest, RunsTo};
-ghost use Rattle.pcm_front.specs.Level.{IsInRange, IsSum};
+ghost use Rattle.pcm_front.specs.Level.{IsSum};
 ghost use Rattle.pcm_front.specs.Pace.{Passes};
+ghost use Rattle.pcm_front.specs.Side.{side_of};
 ghost use Rattle.pcm_front.specs.StandsFor.{passed_in};
 ghost use Rattle.pcm_front.specs.State.{between, crossing_after, distance_at, fresh, late_start, state_after, IsAlone, IsThreshold, WindowState};
 
@@ -11,8 +12,9 @@ use crate::crossing::tick_to;
 use crate::level::Level;
 use crate::quiet::{Band, end_of_run};
 use crate::samples::Samples;
-use crate::side::{Side, differs, side_of, stays};
+use crate::side::{Side, differs, side_of};
 use crate::start::Start;
+use crate::still::Passed;
 use crate::threshold::Threshold;
 use crate::window::Window;
 use std::marker::Model;
@@ -95,17 +97,16 @@ impl Finder {
         }
     }
 
-    /// The moment, a sample late, of the crossing at a sum, if it is one.
+    /// The moment, a sample late, of the crossing at a sum on a side of a threshold, if it is one.
     #[tactic(auto, using(crate::proofs::Sides::differs_none))]
-    fn crossing(&self, level: Level, sum: i32) -> Option<u64>
-        requires level { IsInRange level }
+    fn crossing(&self, threshold: u32, now: Option<Side>, sum: i32) -> Option<u64>
+        requires threshold { threshold ≤ 524_272 }
+        requires side { now ≡ side_of threshold sum }
         requires sum { IsSum sum }
         requires room { self.now.tick + self.now.fineness ≤ 2 ^ 62 }
-        ensures value { result ≡ crossing_after self.now level sum }
+        ensures value { result ≡ crossing_after self.now threshold sum }
         ensures later { IfSome result (λ moment. (self.now.tick + 1 ≤ moment) × (moment ≤ self.now.tick + self.now.fineness)) }
     {
-        let threshold = self.threshold.at(level);
-        let now = side_of(threshold, sum);
         if !differs(self.side, now) {
             return None;
         }
@@ -124,6 +125,7 @@ impl Finder {
     }
 
     /// Takes the next sum, and says all that changes.
+    #[inline(always)]
     pub(crate) fn step(&mut self, sum: i32) -> Option<u64>
         requires sum { IsSum sum }
         requires room { self.old.tick + self.old.fineness ≤ 2 ^ 62 }
@@ -133,8 +135,9 @@ impl Finder {
         ensures passes { Passes (passed_in self.old) result (passed_in self.new) }
     {
         let level = self.threshold.next_level(self.level, sum);
-        let side = side_of(self.threshold.at(level), sum);
-        let crossing = self.crossing(level, sum);
+        let threshold = self.threshold.at(level);
+        let side = side_of(threshold, sum);
+        let crossing = self.crossing(threshold, side, sum);
         let distance = between(self.latest, crossing);
         self.tick += u64::from(self.fineness);
         self.before = sum;
@@ -164,12 +167,14 @@ impl Finder {
     }
 
     /// The same with sums of samples, which the window makes.
+    #[inline(never)]
     pub(crate) fn pass_sums<S: Samples>(
         &mut self,
         window: &mut Window,
         samples: &S,
         at: usize,
     ) -> usize
+        requires more { 2 ≤ window.old.smooth }
         requires place { at ≤ length (S.list samples.now) }
         requires room { self.old.tick + self.old.fineness * (length (S.list samples.now) - at) ≤ 2 ^ 62 }
         ensures order { at ≤ result }
@@ -177,24 +182,15 @@ impl Finder {
         ensures latest { self.new.latest ≡ self.old.latest }
         ensures runs { RunsTo self.old self.new window.old window.new (slice_range (S.list samples.now) at result) None }
     {
-        let (side, least, fineness) = (self.side, self.threshold.least(), u64::from(self.fineness));
-        let (mut tick, mut before, mut level) = (self.tick, self.before, self.level);
-        let mut end = at;
-        'samples: while end < samples.count() {
-            let sample = samples.at(end);
-            let sum = window.sum_with(sample);
-            if !stays(side, least, sum) {
-                break;
-            }
-            window.push(sample);
-            end += 1;
-            tick += fineness;
-            before = sum;
-            level = self.threshold.next_level(level, sum);
-        }
-        self.tick = tick;
-        self.before = before;
-        self.level = level;
-        end
+        let from = Passed {
+            end: at,
+            before: self.before,
+            level: self.level,
+        };
+        let passed = window.pass(samples, from, self.side, self.threshold);
+        self.before = passed.before;
+        self.level = passed.level;
+        self.tick += u64::from(self.fineness) * (passed.end - at) as u64;
+        passed.end
     }
 }

@@ -31,8 +31,9 @@ impl Level {
         ensures range { IsInRange result }
     {
         let size = sum.unsigned_abs();
-        // Both are computed, since a choice between two numbers takes no branch.
-        let risen = self.peak + (size.saturating_sub(self.peak) + 3) / 4;
+        // Both are computed, since a choice between two numbers takes no branch. A quarter of what the
+        // peak lacks, rounded up, comes to it.
+        let risen = (3 * self.peak + size + 3) / 4;
         let fallen = self.peak - (self.peak + 1_023) / 1_024;
         let peak = if self.peak < size { risen } else { fallen };
         Level {

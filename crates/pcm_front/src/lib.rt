@@ -26,8 +26,8 @@
 //!   a sample, and runs of samples are sliced into their lengths (`laws`).
 //! - Sound that is made of intervals is sliced into them again (`specs/Sound.antt`, `sound`; `laws`).
 //!
-//! Read `start`, `samples`, `window`, `quiet`, `threshold`, `level`, `side`, `crossing`, `finder`, `slicer`,
-//! `interval`, `pace` and `paced`, in this order, and `specs/Sums.antt`, `Level.antt`, `Side.antt`,
+//! Read `start`, `samples`, `window`, `quiet`, `threshold`, `level`, `side`, `crossing`, `still`, `finder`,
+//! `slicer`, `interval`, `pace` and `paced`, in this order, and `specs/Sums.antt`, `Level.antt`, `Side.antt`,
 //! `Crossing.antt`, `Distance.antt` and `Pace.antt` beside them. Nothing here allocates or fails.
 #![tactic(auto)]
 
@@ -43,6 +43,7 @@ mod samples;
 mod side;
 mod slicer;
 mod start;
+mod still;
 mod threshold;
 mod window;
 

@@ -12,6 +12,7 @@ use crate::slicer::Slicer;
 impl Slicer {
     /// Takes samples from the front, as `run_samples` does, and gives how many these are, and the
     /// intervals that come to those before.
+    #[inline(always)]
     pub fn intervals_of_samples(&mut self, pace: Pace, samples: &[i16]) -> (usize, Intervals)
         requires pace { IsPace pace }
         requires room { tick_of self.old + (settings_of self.old).fineness * length samples.now ≤ 2 ^ 62 }
@@ -39,6 +40,7 @@ impl Slicer {
     }
 
     /// The same of samples as bytes, as `run` takes them.
+    #[inline(always)]
     pub fn intervals_of_bytes(&mut self, pace: Pace, bytes: &[u8]) -> (usize, Intervals)
         requires pace { IsPace pace }
         requires room { tick_of self.old + (settings_of self.old).fineness * length bytes.now ≤ 2 ^ 62 }

@@ -1,9 +1,14 @@
 //! The sums of the latest samples. Next: `quiet`.
-ghost use Rattle.std.specs.Prelude.{◌≡◌, ◌≤◌, ◌+◌, ◌*◌, ◌==◌, true, cond, unsigned_abs, ◌+ℤ◌, ◌-ℤ◌, ◌++◌, [], ◌∷◌};
-ghost use Rattle.pcm_front.specs.Level.{IsSum};
-ghost use Rattle.pcm_front.specs.State.{fresh_window, window_after, IsAlone};
+ghost use Rattle.std.specs.Prelude.{◌≡◌, ◌≤◌, ◌+◌, ◌*◌, ◌==◌, true, false, cond, unsigned_abs, ◌+ℤ◌, ◌-ℤ◌, ◌++◌, [], ◌∷◌, length};
+ghost use Rattle.pcm_front.specs.KeptRuns.{PassesTo};
+ghost use Rattle.pcm_front.specs.Level.{IsInRange, IsSum};
+ghost use Rattle.pcm_front.specs.State.{fresh_window, window_after, window_of, IsAlone, IsRing, IsThreshold};
 ghost use Rattle.pcm_front.specs.Sums.{total};
 
+use crate::samples::Samples;
+use crate::side::Side;
+use crate::still::{Passed, pass_ring};
+use crate::threshold::Threshold;
 use std::marker::Model;
 
 /// The greatest number of samples in a sum.
@@ -12,13 +17,21 @@ pub const MAX_SMOOTH: u32 = 16;
 /// The latest samples, but for one of those in a sum.
 #[derive(Debug, Drop)]
 pub(crate) struct Window {
-    /// Of how many samples sums are made, from 1 to `MAX_SMOOTH`.
-    smooth: u32,
-    /// The latest samples, as a ring: `smooth` less one, the oldest in a place of its own.
+    /// The latest samples, as a ring: one less than are in a sum.
     ring: [i16; 15],
-    oldest: usize,
-    /// Their sum.
-    sum: i32,
+    turn: Turn,
+}
+
+/// How a ring of samples stands. These numbers are not in one struct with the samples, so that they can
+/// stay in registers from sample to sample.
+#[derive(Clone, Copy, Debug)]
+pub(crate) struct Turn {
+    /// Of how many samples sums are made, from 1 to `MAX_SMOOTH`.
+    pub(crate) smooth: u32,
+    /// The place of the oldest sample in the ring.
+    pub(crate) oldest: usize,
+    /// The sum of all samples in it.
+    pub(crate) sum: i32,
 }
 
 impl Model for Window {
@@ -26,13 +39,13 @@ impl Model for Window {
 
     ghost Value = { WindowState };
 
-    ghost view = { λ w. window_of w.smooth w.ring w.oldest };
+    ghost view = { λ w. window_of w.turn.smooth w.ring w.turn.oldest };
 
-    ghost invariant = { λ w. IsRing w.smooth w.ring w.oldest w.sum };
+    ghost invariant = { λ w. IsRing w.turn.smooth w.ring w.turn.oldest w.turn.sum };
 }
 
 /// A sum to which a sample comes.
-fn summed(sum: i32, comes: i16) -> i32
+pub(crate) fn summed(sum: i32, comes: i16) -> i32
     requires { unsigned_abs sum ≤ 32_768 * 15 }
     ensures value { result ≡ sum +ℤ comes }
     ensures size { IsSum result }
@@ -60,6 +73,28 @@ fn place_after(smooth: u32, place: usize) -> usize
     }
 }
 
+impl Turn {
+    /// Writes a sample over the oldest one of a ring.
+    #[inline(always)]
+    pub(crate) fn put(self, ring: &mut [i16; 15], sample: i16) -> Turn
+        requires ring { IsRing self.smooth ring.old self.oldest self.sum }
+        requires more { 2 ≤ self.smooth }
+        ensures ring { IsRing result.smooth ring.new result.oldest result.sum }
+        ensures window { window_of result.smooth ring.new result.oldest
+            ≡ window_after (window_of self.smooth ring.old self.oldest) sample }
+        ensures smooth { result.smooth ≡ self.smooth }
+    {
+        let sum = moved(self.sum, sample, ring[self.oldest]);
+        ring[self.oldest] = sample;
+        let oldest = place_after(self.smooth, self.oldest);
+        Turn {
+            smooth: self.smooth,
+            oldest,
+            sum,
+        }
+    }
+}
+
 impl Window {
     /// Before the first sample, where each is 0.
     pub(crate) fn new(smooth: u32) -> Window
@@ -68,18 +103,21 @@ impl Window {
         ensures { result ≡ fresh_window smooth }
     {
         Window {
-            smooth,
             ring: [0; 15],
-            oldest: 0,
-            sum: 0,
+            turn: Turn {
+                smooth,
+                oldest: 0,
+                sum: 0,
+            },
         }
     }
 
     /// Whether each sample stands for itself.
     pub(crate) fn is_alone(&self) -> bool
-        ensures { result ≡ true → IsAlone self.now }
+        ensures alone { result ≡ true → IsAlone self.now }
+        ensures more { result ≡ false → 2 ≤ self.now.smooth }
     {
-        self.smooth == 1
+        self.turn.smooth == 1
     }
 
     /// The sum of the latest samples, this one among them.
@@ -88,19 +126,40 @@ impl Window {
         ensures size { IsSum result }
         ensures some { 1 ≤ self.now.smooth }
     {
-        summed(self.sum, sample)
+        summed(self.turn.sum, sample)
     }
 
     /// Keeps a sample in place of the oldest one.
     pub(crate) fn push(&mut self, sample: i16)
         ensures { self.new ≡ window_after self.old sample }
     {
-        if self.smooth == 1 {
+        if self.turn.smooth == 1 {
             return;
         }
-        let place = self.oldest;
-        self.sum = moved(self.sum, sample, self.ring[place]);
-        self.ring[place] = sample;
-        self.oldest = place_after(self.smooth, place);
+        self.turn = self.turn.put(&mut self.ring, sample);
+    }
+
+    /// Passes over samples in whose sums the sound stays on its side.
+    pub(crate) fn pass<S: Samples>(
+        &mut self,
+        samples: &S,
+        from: Passed,
+        side: Option<Side>,
+        threshold: Threshold,
+    ) -> Passed
+        requires more { 2 ≤ self.old.smooth }
+        requires place { from.end ≤ length (S.list samples.now) }
+        requires before { IsSum from.before }
+        requires level { IsInRange from.level }
+        requires threshold { IsThreshold threshold }
+        ensures order { from.end ≤ result.end }
+        ensures within { result.end ≤ length (S.list samples.now) }
+        ensures before { IsSum result.before }
+        ensures level { IsInRange result.level }
+        ensures passes { PassesTo side threshold (S.list samples.now) from result self.old self.new }
+    {
+        let (turn, passed) = pass_ring(self.turn, &mut self.ring, samples, from, side, threshold);
+        self.turn = turn;
+        passed
     }
 }

@@ -234,35 +234,43 @@ ticks_fit fineness samples tick other length is same fine within short =
     let all : other * length ≡ fineness * length = ap (λ (n : ℕ). n * length) same in
     omega (arith, is, before, now, all)
 
-pub no_longer : (s : SlicedSound) (bytes inner : List ℕ) → inner ≡ take (2 * (MAX_SAMPLES - s.samples)) bytes → length inner ≤ 2 * (MAX_SAMPLES - s.samples)
-no_longer s bytes inner is = omega (arith, ap length is, length-take (2 * (MAX_SAMPLES - s.samples)) bytes)
-
--- the samples that it took of those within the limit
-pub grows : (s next : SlicedSound) (bytes inner : List ℕ) (count k : ℕ) (pace : Pace) (brought : Intervals)
-    → inner ≡ take (2 * (MAX_SAMPLES - s.samples)) bytes → count ≤ length inner → count ≡ 2 * k
-    → next.samples ≡ s.samples + count / 2 → next.slicing ≡ s.slicing → s.samples ≤ MAX_SAMPLES
+-- the samples that it took
+pub grows : (s next : SlicedSound) (bytes : List ℕ) (count k : ℕ) (pace : Pace) (brought : Intervals)
+    → 2 * s.samples + length bytes ≤ 2 * MAX_SAMPLES → count ≤ length bytes → count ≡ 2 * k
+    → next.samples ≡ s.samples + count / 2 → next.slicing ≡ s.slicing
     → pcm.settings_of s.slicer ≡ settings_for s.slicing → pace ≡ pace_for s.slicing
-    → ((samples : List ℤ) → pcm.StandsFor s.slicer samples → pcm.StandsFor next.slicer (samples ++ samples_of (take count inner)))
-    → ((samples : List ℤ) → pcm.StandsFor s.slicer samples → intervals_at pace (pcm.settings_of s.slicer) (samples ++ samples_of (take count inner))
+    → ((samples : List ℤ) → pcm.StandsFor s.slicer samples → pcm.StandsFor next.slicer (samples ++ samples_of (take count bytes)))
+    → ((samples : List ℤ) → pcm.StandsFor s.slicer samples → intervals_at pace (pcm.settings_of s.slicer) (samples ++ samples_of (take count bytes))
     ≡ intervals_at pace (pcm.settings_of s.slicer) samples ++ intervals_in brought)
     → Grows s next (take count bytes) brought
-grows s next bytes inner count k pace brought is within whole counted same_slicing few same_settings same_pace stands brings =
-    let most = 2 * (MAX_SAMPLES - s.samples) in
-    let short = no_longer s bytes inner is in
-    let inside : length inner ≤ length bytes = omega (arith, ap length is, length-take most bytes) in
-    let same : take count inner ≡ take count bytes = ap (take count) is ∙ take-take count most bytes (omega (arith, within, short)) in
-    let long : length (take count bytes) ≡ count = length-take-le count bytes (omega (arith, within, inside)) in
+grows s next bytes count k pace brought few within whole counted same_slicing same_settings same_pace stands brings =
+    let long : length (take count bytes) ≡ count = length-take-le count bytes within in
     let by_words : (xs : List ℤ) → intervals_at pace (pcm.settings_of s.slicer) xs ≡ intervals_at (pace_for s.slicing) (settings_for s.slicing) xs =
     λ xs. ap₂ (λ (p : Pace) (how : Settings). intervals_at p how xs) same_pace same_settings in
     record {
       count = omega (arith, long, whole, counted);
-      within = omega (arith, whole, counted, within, short, few);
+      within = omega (arith, whole, counted, within, few);
       slicing = same_slicing;
-      stands = λ samples is_for. subst (λ (b : List ℕ). pcm.StandsFor next.slicer (samples ++ samples_of b)) same (stands samples is_for);
-      brings = λ samples is_for. sym (by_words (samples ++ samples_of (take count bytes)))
-          ∙ ap (λ (b : List ℕ). intervals_at pace (pcm.settings_of s.slicer) (samples ++ samples_of b)) (sym same) ∙ brings samples is_for
+      stands = stands;
+      brings = λ samples is_for. sym (by_words (samples ++ samples_of (take count bytes))) ∙ brings samples is_for
           ∙ ap (λ (l : List ℕ). l ++ intervals_in brought) (by_words samples);
     }
+
+-- ---- bytes of which as many are taken as may still come
+
+pub within_few : (samples : ℕ) (bytes inner : List ℕ) → samples ≤ MAX_SAMPLES → inner ≡ take (2 * (MAX_SAMPLES - samples)) bytes
+    → 2 * samples + length inner ≤ 2 * MAX_SAMPLES
+within_few samples bytes inner within is = omega (arith, within, ap length is, length-take (2 * (MAX_SAMPLES - samples)) bytes)
+
+-- a sample may
+pub within_some : (samples : ℕ) (bytes inner : List ℕ) → samples < MAX_SAMPLES → 2 ≤ length bytes → inner ≡ take (2 * (MAX_SAMPLES - samples)) bytes
+    → 2 ≤ length inner
+within_some samples bytes inner more some is = omega (arith, more, some, ap length is, length-take (2 * (MAX_SAMPLES - samples)) bytes)
+
+-- what is taken of them is taken of all
+pub same_front : (n count : ℕ) (bytes inner : List ℕ) → inner ≡ take n bytes → count ≤ length inner → take count inner ≡ take count bytes
+same_front n count bytes inner is within =
+    ap (take count) is ∙ take-take count n bytes (omega (arith, within, ap length is, length-take n bytes))
 
 -- ---- a byte that begins or ends a sample
 
@@ -299,3 +307,7 @@ err_to (Err stop) says to = to stop says
 pub ok_to : {T : Type 0} {P Q : T → Type 0} (result : Result T Stop) → IfOk result P → ((value : T) → P value → Q value) → IfOk result Q
 ok_to (Ok value) says to = to value says
 ok_to (Err stop) says to = tt
+
+pub ok_both : {T : Type 0} {P Q : T → Type 0} (result : Result T Stop) → IfOk result P → IfOk result Q → IfOk result (λ value. P value × Q value)
+ok_both (Ok value) p q = (p, q)
+ok_both (Err stop) p q = tt

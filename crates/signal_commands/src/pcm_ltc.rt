@@ -1,17 +1,18 @@
 //! The engine of `pcm-ltc`: an interval file of the crossings of sound. Next:
 //! `pcm_front/src/slicer.rt`, and then `tc_command/src/gathered.rt`.
-ghost use Rattle.std.specs.Prelude.{◌≡◌, ◌+◌, ◌*◌, ◌≤◌, ◌^◌, ◌++◌, ℕ, List, [], length, take, OnOk, IfOk, IfErr, Err};
+ghost use Rattle.std.specs.Prelude.{◌≡◌, ◌+◌, ◌*◌, ◌≤◌, ◌++◌, ℕ, List, [], length, take, OnOk, IfOk, IfErr, Err};
 ghost use Rattle.std.specs.Io.KnownBytes.{Appends};
+ghost use Rattle.pcm_front.specs.Pace.{IsPace};
 ghost use Rattle.tc_command.specs.Causes.{HasOutCause, HasSourceCause};
 ghost use Rattle.tc_command.specs.Ends.{SeesOneEnd};
 ghost use Rattle.tc_command.specs.Ran.{CameToItsEnd, StoppedBefore};
 ghost use Rattle.signal_commands.specs.KeptSlices.{IsGoing, Slices, Stands};
-ghost use Rattle.signal_commands.specs.PcmLtc.{along_samples};
+ghost use Rattle.signal_commands.specs.PcmLtc.{along_samples, pace_for};
 ghost use Rattle.tc_command.specs.Stops.{Stops};
 
 use crate::spelling::spell;
 use interval_file::{FileVersion, IntervalHeader, interval_header};
-use pcm_front::Slicer;
+use pcm_front::{Pace, Slicer};
 use tc_command::{Engine, Gathered, InputFault, Stop, work};
 use tc_io::{Sink, Source};
 use tc_job::Slicing;
@@ -69,33 +70,9 @@ impl SlicedSound {
         }
     }
 
-    /// Slices the whole samples at the front of the bytes, and answers on how many bytes.
+    /// Slices whole samples at the front of the bytes, all of them or as many as may still come, and
+    /// answers on how many bytes.
     fn slice<K: Sink>(&mut self, bytes: &[u8], out: &mut K) -> Result<usize, Stop>
-        requires going { IsGoing self.old }
-        requires some { 2 ≤ length bytes.now }
-        ensures going { OnOk result (IsGoing self.new) }
-        ensures count { IfOk result (λ count. (2 ≤ count) × (count ≤ length bytes.now)) }
-        ensures samples { IfOk result (λ count. 2 * self.new.samples ≡ 2 * self.old.samples + count) }
-        ensures slicing { self.new.slicing ≡ self.old.slicing }
-        ensures half { self.new.half ≡ self.old.half }
-        ensures works { IfOk result (λ count. (whole written : List ℕ) → Slices self.old whole written
-            → (more : List ℕ) × Appends (K.written out.old) (K.written out.new) more
-            × Slices self.new (whole ++ take count bytes.now) (written ++ more)) }
-        ensures stops { IfErr result (λ stop. (whole written rest : List ℕ) → Slices self.old whole written
-            → Stops (along_samples self.old.slicing) stop (K.written out.old) (K.written out.new) (whole ++ (bytes.now ++ rest)) written) }
-        ensures cause { HasOutCause (K.faults out.old) (K.faults out.new) result }
-        ensures no_pull { result ≡ Err Stop.ReadFault → ⊥ }
-    {
-        let mut at = 0;
-        'runs: while 2 <= bytes.len() - at {
-            at += self.slice_run(&bytes[at..], out)?;
-        }
-        Ok(at)
-    }
-
-    /// The same of a run of samples, up to one that brings a distance.
-    #[inline(always)]
-    fn slice_run<K: Sink>(&mut self, bytes: &[u8], out: &mut K) -> Result<usize, Stop>
         requires going { IsGoing self.old }
         requires some { 2 ≤ length bytes.now }
         ensures going { OnOk result (IsGoing self.new) }
@@ -116,7 +93,57 @@ impl SlicedSound {
             return Err(Stop::Limit);
         }
         let samples = within(bytes, MAX_SAMPLES - self.samples);
-        let (count, intervals) = self.slicer.intervals_of_bytes(self.slicing.pace(), samples);
+        self.slice_all(samples, out)
+    }
+
+    /// The same of bytes that are within the limit.
+    fn slice_all<K: Sink>(&mut self, bytes: &[u8], out: &mut K) -> Result<usize, Stop>
+        requires going { IsGoing self.old }
+        requires some { 2 ≤ length bytes.now }
+        requires within { 2 * self.old.samples + length bytes.now ≤ 2 * MAX_SAMPLES }
+        ensures going { OnOk result (IsGoing self.new) }
+        ensures count { IfOk result (λ count. (2 ≤ count) × (count ≤ length bytes.now)) }
+        ensures samples { IfOk result (λ count. 2 * self.new.samples ≡ 2 * self.old.samples + count) }
+        ensures slicing { self.new.slicing ≡ self.old.slicing }
+        ensures half { self.new.half ≡ self.old.half }
+        ensures works { IfOk result (λ count. (whole written : List ℕ) → Slices self.old whole written
+            → (more : List ℕ) × Appends (K.written out.old) (K.written out.new) more
+            × Slices self.new (whole ++ take count bytes.now) (written ++ more)) }
+        ensures stops { IfErr result (λ stop. (whole written rest : List ℕ) → Slices self.old whole written
+            → Stops (along_samples self.old.slicing) stop (K.written out.old) (K.written out.new) (whole ++ (bytes.now ++ rest)) written) }
+        ensures cause { HasOutCause (K.faults out.old) (K.faults out.new) result }
+        ensures no_pull { result ≡ Err Stop.ReadFault → ⊥ }
+    {
+        let pace = self.slicing.pace();
+        let mut at = 0;
+        'runs: while 2 <= bytes.len() - at {
+            at += self.slice_run(pace, &bytes[at..], out)?;
+        }
+        Ok(at)
+    }
+
+    /// The same of a run of samples, up to one that brings a distance.
+    #[inline(always)]
+    fn slice_run<K: Sink>(&mut self, pace: Pace, bytes: &[u8], out: &mut K) -> Result<usize, Stop>
+        requires going { IsGoing self.old }
+        requires pace { pace ≡ pace_for self.old.slicing }
+        requires valid { IsPace pace }
+        requires some { 2 ≤ length bytes.now }
+        requires within { 2 * self.old.samples + length bytes.now ≤ 2 * MAX_SAMPLES }
+        ensures going { OnOk result (IsGoing self.new) }
+        ensures count { IfOk result (λ count. (2 ≤ count) × (count ≤ length bytes.now)) }
+        ensures samples { IfOk result (λ count. 2 * self.new.samples ≡ 2 * self.old.samples + count) }
+        ensures slicing { self.new.slicing ≡ self.old.slicing }
+        ensures half { self.new.half ≡ self.old.half }
+        ensures works { IfOk result (λ count. (whole written : List ℕ) → Slices self.old whole written
+            → (more : List ℕ) × Appends (K.written out.old) (K.written out.new) more
+            × Slices self.new (whole ++ take count bytes.now) (written ++ more)) }
+        ensures stops { IfErr result (λ stop. (whole written rest : List ℕ) → Slices self.old whole written
+            → Stops (along_samples self.old.slicing) stop (K.written out.old) (K.written out.new) (whole ++ (bytes.now ++ rest)) written) }
+        ensures cause { HasOutCause (K.faults out.old) (K.faults out.new) result }
+        ensures no_pull { result ≡ Err Stop.ReadFault → ⊥ }
+    {
+        let (count, intervals) = self.slicer.intervals_of_bytes(pace, bytes);
         self.samples += (count / 2) as u64;
         spell(&mut self.gathered, intervals, out)?;
         Ok(count)

@@ -1,5 +1,5 @@
 -- A piece that is whole is judged by itself, whatever stands behind it; and bytes that are passed over change nothing but the place.
-use Rattle.std.proofs.Common.{true, ◌≡◌, ℕ, zero, suc, ◌+◌, ◌-◌, ◌<◌, ◌≤◌, ◌⊎◌, inl, inr, Bool, List, [], ◌∷◌, ◌++◌, Some, length, take, drop, refl, ap}
+use Rattle.std.proofs.Common.{true, ◌≡◌, ℕ, zero, suc, ◌+◌, ◌-◌, ◌<◌, ◌≤◌, ◌⊎◌, inl, inr, List, [], ◌∷◌, ◌++◌, Some, length, take, drop, refl, ap}
 use Rattle.std.proofs.Common.{◌∙◌, arith, subst, sym}
 use Rattle.std.specs.Prelude.{nat_le, ◌==◌, Result, Ok, Err}
 use Rattle.std.proofs.lemmas.Bool.{cases_lt, cond_both, le-leb, lt-leb, ne_eqb}
@@ -12,7 +12,7 @@ use Rattle.wave_file.specs.declared.fault.WaveFault.{WaveFault}
 use Rattle.wave_file.specs.declared.format.WaveFormat.{WaveFormat}
 use Rattle.wave_file.specs.Format.{format_in}
 use Rattle.wave_file.specs.Chunk.{chunk_of}
-use Rattle.wave_file.specs.Stage.{tail_at, width_of, IsPassed}
+use Rattle.wave_file.specs.Stage.{width_of, IsPassed}
 use Rattle.wave_file.specs.declared.stage.Stage.TheVariants as stage
 use Rattle.wave_file.specs.Wave.{Reading, bad, chunk_at, chunks_at, format_at, judged_width, padded, piece, sizes_at, taken}
 use Rattle.tc_io.specs.Verdict.{good}
@@ -95,14 +95,6 @@ sizes_bring track notes place size p more len least =
     piece_whole 16 (λ body rest. chunks_at track (padded size) (record notes { data_size = Some (little_number 8 (drop 8 body)) }) place (p ++ more))
     p more len ∙ chunks_skip track _ p more (padded size) (padded size - 16) place (omega (arith, len, least))
 
--- bytes that follow the data
-pub tail_skip : (format : WaveFormat) (left : ℕ) (bytes more : List ℕ) (count : ℕ) → length bytes ≡ count
-    → tail_at format left (bytes ++ more) ≡ tail_at format (left - count) more
-tail_skip format left bytes more count e =
-    let all = length-append bytes more in
-    ap (λ (b : Bool). let r : Reading = record { format = Some format; samples = []; verdict = good; may_end = b } in r)
-    (nat_le_same left (length (bytes ++ more)) (left - count) (length more) (λ h. omega (arith, e, all, h)) (λ h. omega (arith, e, all, h)))
-
 -- ---- what is passed over
 
 pub chunk_alone : (skip : ℕ) → 1 ≤ skip → width_of (stage.Chunk skip) ≡ 1
@@ -122,16 +114,4 @@ chunk_passed skip count most after e some within = record {
   wait = chunk_wait after;
   passes = λ track notes place bytes more len.
       chunks_skip track notes bytes more skip after place (omega (arith, e, len)) ∙ ap (λ (n : ℕ). chunks_at track after notes (place + n) more) len;
-}
-
-pub tail_passed : (format : WaveFormat) (left count most : ℕ) → 1 ≤ count → count ≤ most
-    → IsPassed (stage.Tail format left) most count (stage.Tail format (left - count))
-tail_passed format left count most some within = record {
-  some = some;
-  within = within;
-  format = refl;
-  stays = λ track place is. is;
-  alone = refl;
-  wait = omega arith;
-  passes = λ track notes place bytes more len. tail_skip format left bytes more count len;
 }

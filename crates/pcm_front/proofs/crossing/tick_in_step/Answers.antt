@@ -7,8 +7,8 @@ use Rattle.pcm_front.proofs.crossing.tick_in_step.Goals as goal
 pub returns-clause-value : goal.returns-clause-value
 returns-clause-value c =
     let below : int_le (pos c.args.threshold) c.args.a ≡ false = grind (arith, ints) in
-    let rise : c.unsigned_abs-rise.result ≡ apart (pos c.args.threshold) c.args.a = grind (arith, ints) in
-    let step : c.unsigned_abs-step.result ≡ apart c.args.b c.args.a = grind (arith, ints) in
+    let rise : c.ascent-rise.result ≡ apart (pos c.args.threshold) c.args.a = grind (arith, ints) in
+    let step : c.ascent-step.result ≡ apart c.args.b c.args.a = grind (arith, ints) in
     c.div_ceil.ensures ∙ tick_is c.args.fineness c.args.threshold c.args.a c.args.b _ _ below rise step
 
 pub returns-clause-least : goal.returns-clause-least

@@ -1,60 +1,60 @@
-use Rattle.std.proofs.Common.{◌-◌, ◌++◌, List, ℕ, take, drop, length, ap, refl, subst, sym, ◌∙◌, append_assoc, arith}
+use Rattle.std.proofs.Common.{◌≡◌, ◌+◌, ◌-◌, ◌*◌, ◌≤◌, ◌++◌, List, ℕ, take, drop, length, ap, sym, subst, ◌∙◌, append_assoc, arith, length-append}
+use Rattle.std.proofs.lemmas.List.{length-take, take-append-drop}
+use Rattle.signal_commands.specs.declared.pcm_ltc.TheConstants.{MAX_SAMPLES}
 use Rattle.signal_commands.specs.KeptSlices.{Slices}
 use Rattle.signal_commands.specs.PcmLtc.{along_samples}
-use Rattle.tc_command.specs.KeptWorks.{Works, cut_at, cut_more, stops_on, through, within_rest, works_on}
-use Rattle.tc_command.specs.Stops.{IsStop, Stops}
-use Rattle.signal_commands.proofs.NothingYet.{works_nothing}
+use Rattle.tc_command.specs.KeptWorks.{through}
+use Rattle.tc_command.specs.Stops.{Stops}
+use Rattle.signal_commands.proofs.SlicedOn.{at_limit, err_to, gathered_part, ok_to, ok_both, same_front, within_few, within_some}
 use Rattle.signal_commands.proofs.pcm_ltc.SlicedSound.slice.Goals as goal
 
-pub runs-init : goal.runs-init
-runs-init g c = record {
-  within = omega arith;
-  some = λ none. absurd (omega (arith, none));
-  going = c.requires.going;
-  samples = omega arith;
-  slicing = refl;
-  half = refl;
-  works = works_nothing (Slices c.args.self.now) (g.K.Sink.written c.args.out.now);
-  same = refl;
-}
-
--- the samples before these were sliced, and then these
-pub runs-preserved : goal.runs-preserved
-runs-preserved g c =
-    let i = c.runs.invariant in
-    let e = c.in_ok-at.ensures in
-    let n = c.in_ok-at.field-0 in
-    let bytes = c.args.bytes.now in
-    let inside = within_rest c.runs.at n bytes i.within e.count.1 in
-    let cut = cut_more c.runs.at n bytes i.within inside in
-    record {
-      within = inside;
-      some = λ one. omega (arith, e.count.0);
-      going = e.going;
-      samples = omega (arith, e.samples, i.samples);
-      slicing = e.slicing ∙ i.slicing;
-      half = e.half ∙ i.half;
-      works = subst (λ (bs : List ℕ). Works (Slices c.args.self.now) (Slices c.slice_run.new.self) (g.K.Sink.written c.args.out.now)
-          (g.K.Sink.written c.slice_run.new.out) bs) cut
-          (works_on (Slices c.args.self.now) (Slices c.runs.self) (Slices c.slice_run.new.self) (g.K.Sink.written c.args.out.now)
-          (g.K.Sink.written c.runs.out) (g.K.Sink.written c.slice_run.new.out) _ _ i.works e.works);
-      same = e.cause ∙ i.same;
-    }
-
--- the command stops in one of them
-pub returns-in_err-at-clause-stops : goal.returns-in_err-at-clause-stops
-returns-in_err-at-clause-stops g c =
-    let i = c.runs.invariant in
-    let s = c.args.self.now in
-    let at = c.runs.at in
-    let bytes = c.args.bytes.now in
-    let old = g.K.Sink.written c.args.out.now in
-    let new = g.K.Sink.written c.slice_run.new.out in
-    let left = take (length bytes - at) (drop at bytes) in
+-- so many samples were taken, and what is gathered was not
+pub returns-in_err-push-clause-stops : goal.returns-in_err-push-clause-stops
+returns-in_err-push-clause-stops g c =
     through c.from_residual.result c.from_residual.ensures.1 (λ stop same whole written rest slices.
-    subst (λ (b : List ℕ). Stops (along_samples s.slicing) stop old new (whole ++ b) written)
-    (sym (append_assoc (take at bytes) left rest) ∙ ap (λ (l : List ℕ). l ++ rest) (cut_at at bytes i.within))
-    (subst (λ slicing. Stops (along_samples slicing) stop old new (whole ++ (take at bytes ++ (left ++ rest))) written) i.slicing
-    (stops_on (IsStop (along_samples c.runs.self.slicing) stop) (Slices s) (Slices c.runs.self) old (g.K.Sink.written c.runs.out) new
-    (take at bytes) (left ++ rest) i.works (λ front output stands. rw same (c.in_err-at.ensures.stops front output rest stands))
-    whole written slices)))
+    rw (same, c.in_err-push.ensures.why) (gathered_part c.args.self.now whole written (c.args.bytes.now ++ rest) _ _ slices c.in_err-push.ensures.front))
+
+-- so many samples were taken, and here is another
+pub returns-then-self-eq-MAX_SAMPLES-clause-stops : goal.returns-then-self-eq-MAX_SAMPLES-clause-stops
+returns-then-self-eq-MAX_SAMPLES-clause-stops g c = λ whole written rest slices.
+    at_limit c.args.self.now whole written (c.args.bytes.now ++ rest) _ _ slices c.if-self-eq-MAX_SAMPLES.true
+    (omega (arith, length-append c.args.bytes.now rest, c.requires.some)) c.in_ok-push.ensures.all
+
+pub slice_all-requires-clause-some : goal.slice_all-requires-clause-some
+slice_all-requires-clause-some g c =
+    within_some c.args.self.now.samples c.args.bytes.now c.within-samples.result.now (omega (arith, c.requires.going.within, c.if-self-eq-MAX_SAMPLES.false))
+    c.requires.some c.within-samples.ensures.front
+
+pub slice_all-requires-clause-within : goal.slice_all-requires-clause-within
+slice_all-requires-clause-within g c =
+    within_few c.args.self.now.samples c.args.bytes.now c.within-samples.result.now c.requires.going.within c.within-samples.ensures.front
+
+-- those within the limit stand first
+pub returns-clause-count : goal.returns-clause-count
+returns-clause-count g c =
+    let most = 2 * (MAX_SAMPLES - c.args.self.now.samples) in
+    let inside : length c.within-samples.result.now ≤ length c.args.bytes.now =
+    omega (arith, ap length c.within-samples.ensures.front, length-take most c.args.bytes.now) in
+    ok_to c.slice_all.result c.slice_all.ensures.count (λ count within. (within.0, omega (arith, within.1, inside)))
+
+pub returns-clause-works : goal.returns-clause-works
+returns-clause-works g c =
+    let most = 2 * (MAX_SAMPLES - c.args.self.now.samples) in
+    let inner = c.within-samples.result.now in
+    ok_to c.slice_all.result (ok_both c.slice_all.result c.slice_all.ensures.count c.slice_all.ensures.works) (λ count h whole written slices.
+    let works = h.1 whole written slices in
+    let front = same_front most count c.args.bytes.now inner c.within-samples.ensures.front h.0.1 in
+    (works.0, works.1, subst (λ (b : List ℕ). Slices c.slice_all.new.self (whole ++ b) (written ++ works.0)) front works.2))
+
+pub returns-clause-stops : goal.returns-clause-stops
+returns-clause-stops g c =
+    let s = c.args.self.now in
+    let bytes = c.args.bytes.now in
+    let inner = c.within-samples.result.now in
+    let most = 2 * (MAX_SAMPLES - s.samples) in
+    err_to c.slice_all.result c.slice_all.ensures.stops (λ stop stops whole written rest slices.
+    let all : inner ++ (drop most bytes ++ rest) ≡ bytes ++ rest =
+    ap (λ (b : List ℕ). b ++ (drop most bytes ++ rest)) c.within-samples.ensures.front ∙ sym (append_assoc (take most bytes) (drop most bytes) rest)
+    ∙ ap (λ (b : List ℕ). b ++ rest) (take-append-drop most bytes) in
+    subst (λ (b : List ℕ). Stops (along_samples s.slicing) stop (g.K.Sink.written c.args.out.now) (g.K.Sink.written c.slice_all.new.out) (whole ++ b) written)
+    all (stops whole written (drop most bytes ++ rest) slices))

@@ -1,7 +1,7 @@
 use Rattle.std.proofs.Common.{◌≡◌, ◌≤◌, ◌+◌, ◌-◌, ◌*◌, take, length}
 use Rattle.signal_commands.specs.KeptSlices.{IsGoing, Slices}
 use Rattle.tc_command.specs.KeptWorks.{Works}
-use Rattle.signal_commands.proofs.pcm_ltc.SlicedSound.slice.Given as goal
+use Rattle.signal_commands.proofs.pcm_ltc.SlicedSound.slice_all.Given as goal
 
 -- the runs so far were sliced
 abbrev pub invariant-runs : goal.invariant-runs
