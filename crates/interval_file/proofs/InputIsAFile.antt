@@ -3,18 +3,20 @@ use Rattle.std.proofs.Common.{◌≡◌, ℕ, ◌≤◌, List, length, None, ref
 use Rattle.std.specs.Prelude.{nat_le, if◌then◌else◌}
 use Rattle.std.proofs.lemmas.Bool.{leb-true}
 use Rattle.biphase.specs.declared.cell.TheConstants.{MAX_INTERVALS}
+use Rattle.interval_file.specs.declared.fault.IntervalFileFault.{IntervalFileFault}
 use Rattle.interval_file.specs.declared.header.IntervalHeader.{IntervalHeader}
 use Rattle.interval_file.specs.Contents.{contents_of}
 use Rattle.tc_io.specs.Bytes.{AreBytes}
 use Rattle.interval_file.specs.Grammar.{Contents, IsFile, Says, fault_of, faulty, file, no_header}
 use Rattle.interval_file.specs.Recording.{end_fault_of, read_of, recording_of}
-use Rattle.tc_io.specs.Verdict.{good, past_limit}
+use Rattle.tc_io.specs.Verdict.{Verdict, good, past_limit}
 use Rattle.interval_file.proofs.DecoderReads.{they_say_it}
 
 abbrev IsWithin : List ℕ → Type 0
 IsWithin bytes = (header : IntervalHeader) × (intervals : List ℕ) × IsFile bytes header intervals × (length intervals ≤ MAX_INTERVALS)
 
-below : (n : ℕ) (within : Bool) → nat_le n MAX_INTERVALS ≡ within → (if within then good else past_limit) ≡ good → n ≤ MAX_INTERVALS
+below : (n : ℕ) (within : Bool) → nat_le n MAX_INTERVALS ≡ within
+    → if◌then◌else◌ {A = Verdict IntervalFileFault} within good past_limit ≡ good → n ≤ MAX_INTERVALS
 below n true e is = leb-true n MAX_INTERVALS e
 below n false e is = (cc)
 

@@ -93,7 +93,7 @@ reading_stays bytes more verdict not_good e = reading_by bytes more verdict (hea
 pub refused_not_good : (f : LineFileFault) → refused f ≡ good → ⊥
 refused_not_good f e = absurd cc
 
-pub past_not_good : past_limit ≡ good → ⊥
+pub past_not_good : ◌≡◌ {A = Verdict LineFileFault} past_limit good → ⊥
 past_not_good e = absurd cc
 
 -- ---- one list of answers

@@ -97,7 +97,7 @@ never_refused : (b : Bool) (f : WaveFault) → ¬ ((if b then good else past_lim
 never_refused true f e = absurd cc
 never_refused false f e = absurd cc
 
-is_past : (b : Bool) → (if b then good else past_limit) ≡ past_limit → b ≡ false
+is_past : (b : Bool) → if◌then◌else◌ {A = Verdict WaveFault} b good past_limit ≡ past_limit → b ≡ false
 is_past true e = absurd cc
 is_past false e = refl
 
