@@ -1,5 +1,5 @@
 -- The values of `ltc-make`, word by word.
-use Rattle.std.specs.Prelude.{ℕ, ◌/◌, ◌≤◌, min, Option, Some, None, Result, Ok, Err}
+use Rattle.std.specs.Prelude.{ℕ, ◌/◌, ◌≤◌, min, Option, Result, Ok, Err}
 use Rattle.std.specs.Option.{option_map}
 use Rattle.biphase.specs.declared.shaper.TheConstants.{MIN_SHAPED, MAX_SHAPED}
 use Rattle.biphase.specs.Shape.{Shape, shape_with, IsShaped}
