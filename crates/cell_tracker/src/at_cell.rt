@@ -44,7 +44,8 @@ pub enum FromAtCell {
 }
 
 impl AtCell {
-    pub(crate) fn new(profile: Profile, reference: u32) -> AtCell
+    /// At the end of a cell, with the number that the profile compares with, in ticks.
+    pub fn new(profile: Profile, reference: u32) -> AtCell
         ensures { result ≡ record { profile = profile; reference = reference } }
     {
         AtCell { profile, reference }
