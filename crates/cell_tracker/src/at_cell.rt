@@ -19,19 +19,15 @@ use std::marker::Model;
 #[derive(Clone, Copy, Debug, PartialEq, Eq)]
 pub struct AtCell {
     profile: Profile,
-    // Below 2^32. In four bytes it would share a register with the profile, and be shifted at each cell.
-    reference: u64,
+    reference: u32,
 }
 
 impl Model for AtCell {
-    ghost use Rattle.std.specs.Prelude.{◌<◌, ◌^◌};
     ghost use Rattle.cell_tracker.specs.State.{AtCellHeld};
 
     ghost Value = { AtCellHeld };
 
     ghost view = { λ a. record { profile = a.profile; reference = a.reference } };
-
-    ghost invariant = { λ a. a.reference < 2 ^ 32 };
 
     ghost inverse = { λ v. record { profile = v.profile; reference = v.reference } };
 }
@@ -48,13 +44,11 @@ pub enum FromAtCell {
 }
 
 impl AtCell {
-    pub(crate) fn new(profile: Profile, reference: u32) -> AtCell
+    /// At the end of a cell, with the number that the profile compares with, in ticks.
+    pub fn new(profile: Profile, reference: u32) -> AtCell
         ensures { result ≡ record { profile = profile; reference = reference } }
     {
-        AtCell {
-            profile,
-            reference: u64::from(reference),
-        }
+        AtCell { profile, reference }
     }
 
     /// What the profile compares with: the length of the last cell, or the sum of the latest four, in
@@ -62,7 +56,7 @@ impl AtCell {
     pub fn reference(&self) -> u32
         ensures { result ≡ self.now.reference }
     {
-        self.reference as u32
+        self.reference
     }
 
     /// Takes the next interval, of `x` ticks, with the four lengths beside this state.
@@ -88,7 +82,7 @@ impl AtCell {
             → AtCellStandsFor (at_cell_with self four.old) intervals earlier stretch
             → StandsAfterAtCell result four.new x intervals earlier stretch }
     {
-        let (profile, reference) = (self.profile, self.reference as u32);
+        let (profile, reference) = (self.profile, self.reference);
         if is_zero(profile, reference, x) {
             FromAtCell::Zero(AtCell::new(profile, profile.after(four, x)))
         } else if may_begin_one(profile, reference, x) {

@@ -47,7 +47,8 @@ pub enum FromMidCell {
 }
 
 impl MidCell {
-    pub(crate) fn new(profile: Profile, reference: u32, half: u32) -> MidCell
+    /// Inside a one, with the number that the profile compares with and the waiting half, in ticks.
+    pub fn new(profile: Profile, reference: u32, half: u32) -> MidCell
         requires { half ≤ MAX_INTERVAL }
         ensures { result ≡ record { profile = profile; reference = reference; half = half } }
     {

@@ -1,5 +1,6 @@
 -- Where the tracker stands: its state, with what the tolerance keeps of the cells so far.
-use Rattle.std.specs.Prelude.{None}
+use Rattle.std.specs.Prelude.{◌≡◌, ◌≤◌, None}
+use Rattle.biphase.specs.declared.cell.TheConstants.{MAX_INTERVAL}
 use Rattle.biphase.specs.declared.profile.Profile.{Profile}
 use Rattle.biphase.specs.Latest.{Latest}
 use Rattle.biphase.specs.Tolerance.{Fits}
@@ -17,14 +18,15 @@ pub data Tracking : Type 0 where
 abbrev pub searching : Profile → Tracking
 searching profile = Hunting (record { profile = profile; before = None })
 
--- by what a state holds, and the latest four lengths beside it
-abbrev pub tracking_with : State → Latest → Tracking
-tracking_with (held.AtCell a) four = AtCell (at_cell_with a four)
-tracking_with (held.MidCell m) four = MidCell (mid_cell_with m four)
-tracking_with (held.Hunting h) four = Hunting h
+-- by what a state holds, and the profile and the latest four lengths beside it
+abbrev pub tracking_with : Profile → State → Latest → Tracking
+tracking_with profile (held.AtCell reference) four = AtCell (at_cell_with (record { profile = profile; reference = reference }) four)
+tracking_with profile (held.MidCell reference half) four =
+    MidCell (mid_cell_with (record { profile = profile; reference = reference; half = half }) four)
+tracking_with profile (held.Hunting h) four = Hunting h
 
--- the two fit each other
-abbrev pub StateFits : State → Latest → Type 0
-StateFits (held.AtCell a) four = Fits a.profile a.reference four
-StateFits (held.MidCell m) four = Fits m.profile m.reference four
-StateFits (held.Hunting h) four = Unit {0}
+-- the three fit each other
+abbrev pub StateFits : Profile → State → Latest → Type 0
+StateFits profile (held.AtCell reference) four = Fits profile reference four
+StateFits profile (held.MidCell reference half) four = Fits profile reference four × (half ≤ MAX_INTERVAL)
+StateFits profile (held.Hunting h) four = h.profile ≡ profile

@@ -7,15 +7,20 @@ ghost use Rattle.direction_reader.specs.StandsFor.{TrackerStandsFor, StandsAfter
 ghost use Rattle.direction_reader.specs.Tracker.{profile_of, Steps};
 ghost use Rattle.direction_reader.specs.Tracking.{tracking_with, StateFits};
 
-use biphase::{LatestFour, MAX_INTERVAL};
+use biphase::{LatestFour, MAX_INTERVAL, Profile};
 use cell_tracker::{AtCell, FromAtCell, FromHunting, FromMidCell, Hunting, MidCell};
 
 /// A state of the tracker. Most intervals find it at the end of a cell, and the compiler asks for the
 /// first variant first, where another one's arm stands first in a `match`.
 #[derive(Clone, Copy, Debug, PartialEq, Eq)]
 pub enum State {
-    AtCell(AtCell),
-    MidCell(MidCell),
+    /// With the number that the profile compares with.
+    AtCell(u32),
+    /// With this number, and the waiting half.
+    MidCell {
+        reference: u32,
+        half: u32,
+    },
     Hunting(Hunting),
 }
 
@@ -35,18 +40,18 @@ pub enum Step {
 }
 
 impl State {
-    /// Takes an interval, of `x` ticks, with the latest four lengths beside this state.
+    /// Takes an interval, of `x` ticks, with the profile and the latest four lengths beside this state.
     #[inline(always)]
-    pub fn step(&mut self, four: &mut LatestFour, x: u32) -> Step
+    pub fn step(&mut self, profile: Profile, four: &mut LatestFour, x: u32) -> Step
         requires least { 1 ≤ x }
         requires most { x ≤ MAX_INTERVAL }
-        requires fits { StateFits self.old four.old }
-        ensures fits { StateFits self.new four.new }
-        ensures steps { Steps (tracking_with self.old four.old) x (tracking_with self.new four.new) result }
-        ensures profile { profile_of (tracking_with self.new four.new) ≡ profile_of (tracking_with self.old four.old) }
+        requires fits { StateFits profile self.old four.old }
+        ensures fits { StateFits profile self.new four.new }
+        ensures steps { Steps (tracking_with profile self.old four.old) x (tracking_with profile self.new four.new) result }
+        ensures profile { profile_of (tracking_with profile self.new four.new) ≡ profile_of (tracking_with profile self.old four.old) }
         ensures stands { (intervals : List ℕ) (earlier : List Stretch) (open_yet : Option Stretch)
-            → TrackerStandsFor (tracking_with self.old four.old) intervals earlier open_yet
-            → StandsAfter (tracking_with self.old four.old) (tracking_with self.new four.new) x intervals earlier open_yet result }
+            → TrackerStandsFor (tracking_with profile self.old four.old) intervals earlier open_yet
+            → StandsAfter (tracking_with profile self.old four.old) (tracking_with profile self.new four.new) x intervals earlier open_yet result }
     {
         match self {
             State::Hunting(hunting) => match hunting.feed(four, x) {
@@ -55,11 +60,14 @@ impl State {
                     Step::Nothing
                 }
                 FromHunting::StartAt(at_cell) => {
-                    *self = State::AtCell(at_cell);
+                    *self = State::AtCell(at_cell.reference());
                     Step::FirstZero
                 }
                 FromHunting::StartMid(mid_cell, zero) => {
-                    *self = State::MidCell(mid_cell);
+                    *self = State::MidCell {
+                        reference: mid_cell.reference(),
+                        half: mid_cell.half(),
+                    };
                     Step::ZeroBefore(zero)
                 }
                 FromHunting::StartBroken(next, _) => {
@@ -67,9 +75,9 @@ impl State {
                     Step::Break
                 }
             },
-            State::MidCell(mid_cell) => match mid_cell.feed(four, x) {
+            State::MidCell { reference, half } => match MidCell::new(profile, *reference, *half).feed(four, x) {
                 FromMidCell::One(at_cell, _, _) => {
-                    *self = State::AtCell(at_cell);
+                    *self = State::AtCell(at_cell.reference());
                     Step::Cell(true)
                 }
                 FromMidCell::Broken(hunting) => {
@@ -77,13 +85,16 @@ impl State {
                     Step::Break
                 }
             },
-            State::AtCell(at_cell) => match at_cell.feed(four, x) {
+            State::AtCell(reference) => match AtCell::new(profile, *reference).feed(four, x) {
                 FromAtCell::Zero(next) => {
-                    *at_cell = next;
+                    *reference = next.reference();
                     Step::Cell(false)
                 }
                 FromAtCell::Half(mid_cell) => {
-                    *self = State::MidCell(mid_cell);
+                    *self = State::MidCell {
+                        reference: mid_cell.reference(),
+                        half: mid_cell.half(),
+                    };
                     Step::Nothing
                 }
                 FromAtCell::Broken(hunting) => {

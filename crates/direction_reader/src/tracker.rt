@@ -11,10 +11,11 @@ use biphase::{LatestFour, MAX_INTERVAL, Profile};
 use cell_tracker::Hunting;
 use std::marker::Model;
 
-/// The tracker: a state, and beside it the lengths of the latest four cells of its stretch. They stand
-/// in one place, so that no state carries them.
+/// The tracker: a state, and beside it the profile and the lengths of the latest four cells of its
+/// stretch. They stand in one place, so that no state carries them.
 #[derive(Drop)]
 pub struct Tracker {
+    profile: Profile,
     state: State,
     four: LatestFour,
 }
@@ -24,9 +25,9 @@ impl Model for Tracker {
 
     ghost Value = { Tracking };
 
-    ghost view = { λ t. tracking_with t.state t.four };
+    ghost view = { λ t. tracking_with t.profile t.state t.four };
 
-    ghost invariant = { λ t. StateFits t.state t.four };
+    ghost invariant = { λ t. StateFits t.profile t.state t.four };
 }
 
 impl Tracker {
@@ -36,6 +37,7 @@ impl Tracker {
         ensures stands { TrackerStandsFor result [] [] None }
     {
         Tracker {
+            profile,
             state: State::Hunting(Hunting::new(profile)),
             four: LatestFour::new(),
         }
@@ -52,7 +54,7 @@ impl Tracker {
             → TrackerStandsFor self.old intervals earlier open_yet
             → StandsAfter self.old self.new x intervals earlier open_yet result }
     {
-        self.state.step(&mut self.four, x)
+        self.state.step(self.profile, &mut self.four, x)
     }
 
     /// Whether a cell ended with the latest interval.
@@ -61,7 +63,7 @@ impl Tracker {
     {
         match self.state {
             State::AtCell(_) => true,
-            State::MidCell(_) | State::Hunting(_) => false,
+            State::MidCell { .. } | State::Hunting(_) => false,
         }
     }
 }
