@@ -1,5 +1,5 @@
--- Laws of the tolerance, for the proofs of the crates above: a half lasts about half a cell and a zero a whole one, so the tests never take
--- one for the other. All of this is proved here, and no promise rests on it.
+-- Laws of the tolerance, for the proofs of the crates above: a half lasts about half a cell and a zero a whole one, so
+-- the tests never take one for the other. All of this is proved here, and no promise rests on it.
 use Rattle.std.proofs.Common.{◌≡◌, ℕ, ◌*◌, ◌≤◌, ◌≢◌, ◌⊎◌, inl, inr, List, [], ◌∷◌, ◌++◌, refl, arith}
 use Rattle.std.proofs.lemmas.Bool.{cases_lt}
 use Rattle.biphase.specs.declared.cell.Cell.{Cell}
@@ -14,16 +14,19 @@ use Rattle.biphase.specs.Tolerance.{LooksAtLast, kept_at_lock, kept_next, sum_of
 use Rattle.biphase.specs.declared.pair.PairKind.{PairKind}
 use Rattle.biphase.specs.declared.pair.PairKind.TheVariants.{Same, Step, Wild}
 use Rattle.biphase.specs.Pair.{AreUnequal, IsKind}
-use Rattle.biphase.specs.Chain.{length_of, Follow, FollowOn, FollowEachZero, IsChain, IsChainAfter, IsNextZero, IsFirstHalf, IsNextOne}
+use Rattle.biphase.specs.Chain.{length_of, Follow, FollowOn, FollowEachZero, IsChain, IsChainAfter, IsNextZero}
+use Rattle.biphase.specs.Chain.{IsFirstHalf, IsNextOne}
 
 -- no interval is both a next zero and a next first half
-pub zero_is_no_half : (profile : Profile) (latest : Latest) (x : ℕ) → 1 ≤ x → IsNextZero profile latest x → IsFirstHalf profile latest x → ⊥
+pub zero_is_no_half : (profile : Profile) (latest : Latest) (x : ℕ) → 1 ≤ x → IsNextZero profile latest x
+    → IsFirstHalf profile latest x → ⊥
 zero_is_no_half Normal latest x tick zero half = omega arith
 zero_is_no_half Worn latest x tick zero half = omega arith
 zero_is_no_half Rough latest x tick zero half = omega arith
 
 -- the first half of a one that follows passes the test of first halves
-pub first_half : (profile : Profile) (latest : Latest) (x y : ℕ) → IsNextOne profile latest x y → IsFirstHalf profile latest x
+pub first_half : (profile : Profile) (latest : Latest) (x y : ℕ) → IsNextOne profile latest x y
+    → IsFirstHalf profile latest x
 first_half Normal latest x y one = (omega arith, omega arith)
 first_half Worn latest x y one = (omega arith, omega arith)
 first_half Rough latest x y one = one.0.0
@@ -35,7 +38,8 @@ zero_lasts Worn latest x ticks zero = omega arith
 zero_lasts Rough latest x ticks zero = omega arith
 
 -- so do the halves of a one
-pub one_lasts : (profile : Profile) (latest : Latest) (x y : ℕ) → 1 ≤ latest.last → IsNextOne profile latest x y → (1 ≤ x) × (1 ≤ y)
+pub one_lasts : (profile : Profile) (latest : Latest) (x y : ℕ) → 1 ≤ latest.last → IsNextOne profile latest x y
+    → (1 ≤ x) × (1 ≤ y)
 one_lasts Normal latest x y ticks one = (omega arith, omega arith)
 one_lasts Worn latest x y ticks one = (omega arith, omega arith)
 one_lasts Rough latest x y ticks one = let first = one.0.0.0 in let second = one.0.1.0 in (omega arith, omega arith)
@@ -47,7 +51,8 @@ half_lasts Worn latest x ticks half = omega arith
 half_lasts Rough latest x ticks half = let low = half.0 in omega arith
 
 -- after a first cell of an unequal pair's greater interval the lesser is no zero
-pub step_is_no_zero : (profile : Profile) (c x : ℕ) → AreUnequal profile c x → IsNextZero profile (kept_at_lock profile c) x → ⊥
+pub step_is_no_zero : (profile : Profile) (c x : ℕ) → AreUnequal profile c x
+    → IsNextZero profile (kept_at_lock profile c) x → ⊥
 step_is_no_zero Normal c x unequal zero = absurd (unequal.0 (omega arith))
 step_is_no_zero Worn c x unequal zero = absurd (unequal.0 (omega arith))
 step_is_no_zero Rough c x unequal zero = absurd (unequal.0 (omega arith))
@@ -59,7 +64,8 @@ unequal_differ Worn a b unequal = omega arith
 unequal_differ Rough a b unequal = omega arith
 
 -- a length lies between two parts of another, or it does not
-between_or_not : (low high : Ratio) (a b : ℕ) → (IsAtLeast low a b × IsAtMost high a b) ⊎ ¬ (IsAtLeast low a b × IsAtMost high a b)
+between_or_not : (low high : Ratio) (a b : ℕ)
+    → (IsAtLeast low a b × IsAtMost high a b) ⊎ ¬ (IsAtLeast low a b × IsAtMost high a b)
 between_or_not low high a b =
     elim (cases_lt (low.whole * a) (low.part * b)) [
       | inl below ↦ inr (λ both. omega (arith, both.0))
@@ -70,7 +76,8 @@ between_or_not low high a b =
     ]
 
 -- an interval can be a first half, or it cannot
-pub half_or_not : (profile : Profile) (latest : Latest) (x : ℕ) → IsFirstHalf profile latest x ⊎ ¬ IsFirstHalf profile latest x
+pub half_or_not : (profile : Profile) (latest : Latest) (x : ℕ)
+    → IsFirstHalf profile latest x ⊎ ¬ IsFirstHalf profile latest x
 half_or_not Normal latest x = between_or_not NORMAL.least_half NORMAL.greatest_half x latest.last
 half_or_not Worn latest x = between_or_not WORN.least_half WORN.greatest_half x latest.last
 half_or_not Rough latest x = between_or_not ROUGH.least_half ROUGH.greatest_half x (sum_of latest)
@@ -87,13 +94,15 @@ last_next Worn latest c = refl
 last_next Rough latest c = refl
 
 -- where the last cell alone is kept, what is kept after one cell more is what is kept at a lock there
-pub kept_anew : (profile : Profile) → LooksAtLast profile → (latest : Latest) (c : ℕ) → kept_next profile latest c ≡ kept_at_lock profile c
+pub kept_anew : (profile : Profile) → LooksAtLast profile → (latest : Latest) (c : ℕ)
+    → kept_next profile latest c ≡ kept_at_lock profile c
 kept_anew Normal looks latest c = refl
 kept_anew Worn looks latest c = refl
 kept_anew Rough looks latest c = absurd looks
 
 -- there cells that follow on from the first of them are a chain, and the other way round
-pub chain_on : (profile : Profile) → LooksAtLast profile → (cells : List Cell) → FollowOn profile cells → IsChain profile cells
+pub chain_on : (profile : Profile) → LooksAtLast profile → (cells : List Cell) → FollowOn profile cells
+    → IsChain profile cells
 chain_on Normal looks cells follow = follow
 chain_on Worn looks cells follow = follow
 chain_on Rough looks cells follow = absurd looks
@@ -106,13 +115,15 @@ follow_behind profile looks latest [] after x follow =
 follow_behind profile looks latest (cell ∷ before) after x follow =
     follow_behind profile looks (kept_next profile latest (length_of cell)) before after x follow.2
 
-on_behind : (profile : Profile) → LooksAtLast profile → (before after : List Cell) (x : ℕ) → FollowOn profile (before ++ Zero x ∷ after)
+on_behind : (profile : Profile) → LooksAtLast profile → (before after : List Cell) (x : ℕ)
+    → FollowOn profile (before ++ Zero x ∷ after)
     → (1 ≤ x) × IsChainAfter profile x after
 on_behind profile looks [] after x follow = follow
 on_behind profile looks (cell ∷ before) after x follow =
     follow_behind profile looks (kept_at_lock profile (length_of cell)) before after x follow.1
 
-each_behind : (before after : List Cell) (x : ℕ) → FollowEachZero Rough (before ++ Zero x ∷ after) → (1 ≤ x) × IsChainAfter Rough x after
+each_behind : (before after : List Cell) (x : ℕ) → FollowEachZero Rough (before ++ Zero x ∷ after)
+    → (1 ≤ x) × IsChainAfter Rough x after
 each_behind [] after x follow = (follow.0, follow.1)
 each_behind (Zero y ∷ before) after x follow = each_behind before after x follow.2
 each_behind (One a b ∷ before) after x follow = each_behind before after x follow
@@ -124,7 +135,8 @@ behind_zero Worn before after x chain = on_behind Worn tt before after x chain
 behind_zero Rough before after x chain = each_behind before after x chain.0
 
 -- a pair of another kind is not unequal
-pub other_kind : (profile : Profile) (a b : ℕ) (kind : PairKind) → IsKind profile a b kind → (kind ≡ Same) ⊎ (kind ≡ Wild)
+pub other_kind : (profile : Profile) (a b : ℕ) (kind : PairKind) → IsKind profile a b kind
+    → (kind ≡ Same) ⊎ (kind ≡ Wild)
     → AreUnequal profile a b → ⊥
 other_kind profile a b Same is other unequal = unequal.0 is
 other_kind profile a b Step is (inl other) unequal = cc

@@ -1,6 +1,8 @@
--- Cells in the other order of time, as a tape that runs backward gives them; and a law for the proofs of the crates above: the kinds of its
--- pairs tell the cells of a list, in either order, once one cell is known. No promise rests on these proofs.
-use Rattle.std.proofs.Common.{◌≡◌, ℕ, List, [], ◌∷◌, ◌++◌, map, reverse, ◌⊎◌, inl, inr, refl, ap, sym, ◌∙◌, arith, append-nil, append_assoc, subst}
+-- Cells in the other order of time, as a tape that runs backward gives them; and a law for the proofs of the crates
+-- above: the kinds of its pairs tell the cells of a list, in either order, once one cell is known. No promise rests on
+-- these proofs.
+use Rattle.std.proofs.Common.{◌≡◌, ℕ, List, [], ◌∷◌, ◌++◌, map, reverse, ◌⊎◌, inl, inr, refl, ap, sym, ◌∙◌, arith}
+use Rattle.std.proofs.Common.{append-nil, append_assoc, subst}
 use Rattle.std.proofs.lemmas.Grind.{flat_map-append, reverse_onto}
 use Rattle.std.proofs.lemmas.List.{reverse-append}
 use Rattle.biphase.specs.declared.profile.Profile.{Profile}
@@ -53,7 +55,8 @@ unequal_turned Worn a b unequal = (at_least_turned Worn a b unequal, omega (arit
 unequal_turned Rough a b unequal = (at_least_turned Rough a b unequal, omega (arith, unequal.1))
 
 -- the kinds of a front of the cells
-pub front_kinds : (profile : Profile) (cell : Cell) (one two : List Cell) → Kinds profile (cell ∷ (one ++ two)) → Kinds profile (cell ∷ one)
+pub front_kinds : (profile : Profile) (cell : Cell) (one two : List Cell) → Kinds profile (cell ∷ (one ++ two))
+    → Kinds profile (cell ∷ one)
 front_kinds profile cell [] [] kinds = kinds
 front_kinds profile cell [] (next ∷ two) kinds = kinds.0
 front_kinds profile cell (next ∷ one) two kinds = (kinds.0, kinds.1, front_kinds profile next one two kinds.2)
@@ -63,7 +66,8 @@ inner_turned : (profile : Profile) (cell : Cell) → Inner profile cell → Inne
 inner_turned profile (Zero x) inner = tt
 inner_turned profile (One a b) inner = equal_turned profile a b inner
 
-meets_turned : (profile : Profile) (cell next : Cell) → Meets profile cell next → Meets profile (mirror_of next) (mirror_of cell)
+meets_turned : (profile : Profile) (cell next : Cell) → Meets profile cell next
+    → Meets profile (mirror_of next) (mirror_of cell)
 meets_turned profile (Zero x) (Zero y) meets = equal_turned profile x y meets
 meets_turned profile (Zero x) (One a b) meets = (unequal_turned profile x a meets.0, meets.1)
 meets_turned profile (One a b) (Zero y) meets = (unequal_turned profile b y meets.0, meets.1)
@@ -73,14 +77,17 @@ abbrev Joins : Profile → Cell → List Cell → Type 0
 Joins profile cell [] = Unit {0}
 Joins profile cell (next ∷ cells) = Meets profile cell next
 
-in_front : (profile : Profile) (cell : Cell) (cells : List Cell) → Inner profile cell → Joins profile cell cells → Kinds profile cells
+in_front : (profile : Profile) (cell : Cell) (cells : List Cell) → Inner profile cell → Joins profile cell cells
+    → Kinds profile cells
     → Kinds profile (cell ∷ cells)
 in_front profile cell [] inner joins kinds = inner
 in_front profile cell (next ∷ cells) inner joins kinds = (inner, joins, kinds)
 
-kinds_onto : (profile : Profile) (cell : Cell) (cells others : List Cell) → Kinds profile (cell ∷ cells) → Kinds profile others
+kinds_onto : (profile : Profile) (cell : Cell) (cells others : List Cell) → Kinds profile (cell ∷ cells)
+    → Kinds profile others
     → Joins profile (mirror_of cell) others → Kinds profile (mirrored (cell ∷ cells) ++ others)
-kinds_onto profile cell [] others kinds too joins = in_front profile (mirror_of cell) others (inner_turned profile cell kinds) joins too
+kinds_onto profile cell [] others kinds too joins =
+    in_front profile (mirror_of cell) others (inner_turned profile cell kinds) joins too
 kinds_onto profile cell (next ∷ cells) others kinds too joins =
     let more = kinds_onto profile next cells (mirror_of cell ∷ others) kinds.2
     (in_front profile (mirror_of cell) others (inner_turned profile cell kinds.0) joins too) (meets_turned profile cell next kinds.1) in
@@ -97,12 +104,14 @@ mirrored_kinds profile cell cells kinds =
 -- ---- they tell the cells
 
 -- an interval behind a cell is a zero or a half
-differ : (profile : Profile) (cell : Cell) (x a b : ℕ) → Meets profile cell (Zero x) → Meets profile cell (One a b) → x ≡ a → ⊥
+differ : (profile : Profile) (cell : Cell) (x a b : ℕ) → Meets profile cell (Zero x) → Meets profile cell (One a b)
+    → x ≡ a → ⊥
 differ profile (Zero z) x a b equal unequal same = unequal.0.0 (rw (← same) equal)
 differ profile (One p q) x a b unequal equal same = unequal.0.0 (rw same equal)
 
 -- two lists of cells that begin with one cell and have one list of intervals
-pub comparable_kinds : (profile : Profile) (cell : Cell) (one two : List Cell) (rest other : List ℕ) → Kinds profile (cell ∷ one)
+pub comparable_kinds : (profile : Profile) (cell : Cell) (one two : List Cell) (rest other : List ℕ)
+    → Kinds profile (cell ∷ one)
     → Kinds profile (cell ∷ two) → flat one ++ rest ≡ flat two ++ other → Begins one two ⊎ Begins two one
 comparable_kinds profile cell [] two rest other ones twos same = inl (two, refl)
 comparable_kinds profile cell (next ∷ one) [] rest other ones twos same = inr (next ∷ one, refl)
@@ -120,6 +129,7 @@ comparable_kinds profile cell (One a b ∷ one) (One x y ∷ two) rest other one
     let second : b ≡ y = cc in
     let tail : flat one ++ rest ≡ flat two ++ other = cc in
     let twos_too : Kinds profile (One a b ∷ two) =
-    subst (λ v. Kinds profile (One v b ∷ two)) (sym first) (subst (λ v. Kinds profile (One x v ∷ two)) (sym second) twos.2) in
+    subst (λ v. Kinds profile (One v b ∷ two)) (sym first)
+    (subst (λ v. Kinds profile (One x v ∷ two)) (sym second) twos.2) in
     rw (← first, ← second) (front_with (One a b) one two
     (comparable_kinds profile (One a b) one two rest other ones.2 twos_too tail))

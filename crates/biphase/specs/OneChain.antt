@@ -1,5 +1,5 @@
--- A law of chains, for the proofs of the crates above: each next cell is fixed by the intervals, so of two chains at the front of one list
--- one is a front of the other. All of this is proved here, and no promise rests on it.
+-- A law of chains, for the proofs of the crates above: each next cell is fixed by the intervals, so of two chains at
+-- the front of one list one is a front of the other. All of this is proved here, and no promise rests on it.
 use Rattle.std.proofs.Common.{◌≡◌, ℕ, ◌+◌, List, [], ◌∷◌, ◌++◌, ◌⊎◌, inl, inr, refl, ap, sym, ◌∙◌}
 use Rattle.biphase.specs.declared.profile.Profile.{Profile}
 use Rattle.biphase.specs.declared.cell.Cell.{Cell}

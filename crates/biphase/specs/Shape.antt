@@ -1,5 +1,5 @@
--- Shapes of recordings that are made: the length of the cells begins with one length and moves by a step a cell towards another, as where a
--- tape is striped at a changing speed. They are this project's own.
+-- Shapes of recordings that are made: the length of the cells begins with one length and moves by a step a cell
+-- towards another, as where a tape is striped at a changing speed. They are this project's own.
 use Rattle.std.specs.Prelude.{ℕ, suc, ◌+◌, ◌-◌, ◌*◌, ◌/◌, ◌<◌, ◌≤◌, min, max, List, [], ◌∷◌, Bool, true, false}
 use Rattle.biphase.specs.declared.cell.Cell.{Cell}
 use Rattle.biphase.specs.declared.cell.Cell.TheVariants.{Zero, One}

@@ -1,4 +1,5 @@
--- The tolerances: what each keeps of the cells so far, and its tests of what may come next. They are this project's own.
+-- The tolerances: what each keeps of the cells so far, and its tests of what may come next. They are this project's
+-- own.
 use Rattle.std.specs.Prelude.{◌≡◌, ℕ, ◌+◌}
 use Rattle.biphase.specs.declared.cell.Cell.{Cell}
 use Rattle.biphase.specs.declared.cell.Cell.TheVariants.{Zero, One}
@@ -25,7 +26,8 @@ sum_of latest = latest.last + latest.second + latest.third + latest.fourth
 
 -- a cell of this length may follow four of this sum
 abbrev pub IsCellOfSum : SumTolerance → ℕ → ℕ → Type 0
-IsCellOfSum tolerance sum length = IsAtLeast tolerance.least_cell length sum × IsAtMost tolerance.greatest_cell length sum
+IsCellOfSum tolerance sum length =
+    IsAtLeast tolerance.least_cell length sum × IsAtMost tolerance.greatest_cell length sum
 
 -- an interval may be a half of a one that follows four cells of this sum
 abbrev pub IsHalfOfSum : SumTolerance → ℕ → ℕ → Type 0
@@ -33,7 +35,8 @@ IsHalfOfSum tolerance sum x = IsAtLeast tolerance.least_half x sum × IsAtMost t
 
 -- two intervals may be a one that follows four cells of this sum
 abbrev pub IsOneOfSum : SumTolerance → ℕ → ℕ → ℕ → Type 0
-IsOneOfSum tolerance sum x y = IsHalfOfSum tolerance sum x × IsHalfOfSum tolerance sum y × IsCellOfSum tolerance sum (x + y)
+IsOneOfSum tolerance sum x y =
+    IsHalfOfSum tolerance sum x × IsHalfOfSum tolerance sum y × IsCellOfSum tolerance sum (x + y)
 
 -- a tolerance: what it keeps of the cells of a stretch, and its tests
 pub record Rules : Type 1 where
@@ -53,7 +56,8 @@ by_the_last tolerance = record {
   at_lock = λ c. latest_with c 0 0 0;
   after = λ latest c. latest_with c 0 0 0;
   IsNext = λ latest cell. IsWithin tolerance.cell (ticks_of cell) latest.last latest.last;
-  IsFirstHalf = λ latest x. IsAtLeast tolerance.least_half x latest.last × IsAtMost tolerance.greatest_half x latest.last;
+  IsFirstHalf =
+      λ latest x. IsAtLeast tolerance.least_half x latest.last × IsAtMost tolerance.greatest_half x latest.last;
   AreHalves = λ a b. IsWithin tolerance.half a b (a + b);
 }
 
@@ -62,7 +66,8 @@ abbrev pub FollowsSum : SumTolerance → ℕ → Cell → Type 0
 FollowsSum tolerance sum (Zero x) = IsCellOfSum tolerance sum x
 FollowsSum tolerance sum (One a b) = IsOneOfSum tolerance sum a b
 
--- the latest four cells are kept, at a lock the first one four times, and a cell and its halves are compared with their sum
+-- the latest four cells are kept, at a lock the first one four times, and a cell and its halves are compared with
+-- their sum
 abbrev pub by_the_sum : SumTolerance → Rules
 by_the_sum tolerance = record {
   at_lock = λ c. latest_with c c c c;
@@ -98,7 +103,8 @@ reference_of Normal latest = latest.last
 reference_of Worn latest = latest.last
 reference_of Rough latest = sum_of latest
 
--- what is kept, by this number and by four lengths beside it: a profile that compares with the last cell does not look at them
+-- what is kept, by this number and by four lengths beside it: a profile that compares with the last cell does not look
+-- at them
 abbrev pub kept_by : Profile → ℕ → Latest → Latest
 kept_by Normal reference four = latest_with reference 0 0 0
 kept_by Worn reference four = latest_with reference 0 0 0

@@ -1,6 +1,7 @@
--- A law of chains, for the proofs of the crates above: in the intervals of a chain the greater one of an unequal pair is a zero. All of this
--- is proved here, and no promise rests on it.
-use Rattle.std.proofs.Common.{◌≡◌, ℕ, zero, suc, ◌+◌, ◌<◌, List, [], ◌∷◌, ◌++◌, length, drop, refl, ap, arith, length-append}
+-- A law of chains, for the proofs of the crates above: in the intervals of a chain the greater one of an unequal pair
+-- is a zero. All of this is proved here, and no promise rests on it.
+use Rattle.std.proofs.Common.{◌≡◌, ℕ, zero, suc, ◌+◌, ◌<◌, List, [], ◌∷◌, ◌++◌, length, drop, refl, ap, arith}
+use Rattle.std.proofs.Common.{length-append}
 use Rattle.std.proofs.Math.Seq.{drop-nil}
 use Rattle.biphase.specs.declared.profile.Profile.{Profile}
 use Rattle.biphase.specs.declared.cell.Cell.{Cell}
@@ -25,7 +26,8 @@ equal_at : (profile : Profile) (x y a b : ℕ) → AreEqual profile x y → x �
 equal_at profile x y a b equal first second unequal = unequal.0 (rw (← first, ← second) equal)
 
 -- a zero with one cell more before it
-zero_on : (cell : Cell) (cells : List Cell) (k there x : ℕ) → length (intervals_of cell) + k ≡ there → IsZeroAt cells k x
+zero_on : (cell : Cell) (cells : List Cell) (k there x : ℕ) → length (intervals_of cell) + k ≡ there
+    → IsZeroAt cells k x
     → IsZeroAt (cell ∷ cells) there x
 zero_on cell cells k there x at is = record {
   before = cell ∷ is.before;
@@ -62,7 +64,8 @@ greater_by_kinds profile (One x y ∷ more) zero a b rest kinds there unequal =
     let first : x ≡ a = cc in
     let second : y ≡ b = cc in
     absurd (equal_at profile x y a b (kinds_first profile (One x y) more kinds) first second unequal)
-greater_by_kinds profile (One x y ∷ []) (suc zero) a b rest kinds there unequal = absurd (omega (arith, ap length there))
+greater_by_kinds profile (One x y ∷ []) (suc zero) a b rest kinds there unequal =
+    absurd (omega (arith, ap length there))
 greater_by_kinds profile (One x y ∷ Zero z ∷ more) (suc zero) a b rest kinds there unequal =
     let first : y ≡ a = cc in
     let second : z ≡ b = cc in

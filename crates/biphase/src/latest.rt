@@ -95,7 +95,8 @@ impl Profile {
     #[inline(always)]
     pub fn after(self, four: &mut LatestFour, c: u32) -> u32
         requires { c ≤ 2 * MAX_INTERVAL }
-        ensures reference { (before : ℕ) → result ≡ reference_of self (kept_next self (kept_by self before four.old) c) }
+        ensures reference { (before : ℕ)
+            → result ≡ reference_of self (kept_next self (kept_by self before four.old) c) }
         ensures kept { (before : ℕ) → kept_by self result four.new ≡ kept_next self (kept_by self before four.old) c }
     {
         match self {

@@ -1,5 +1,6 @@
 //! What follows from the tolerance alone, and the numbers that code and definitions share.
-ghost use Rattle.std.specs.Prelude.{◌≡◌, ℕ, ◌+◌, ◌-◌, ◌*◌, ◌^◌, ◌<◌, ◌≤◌, ◌↔◌, ◌⊎◌, List, [], ◌∷◌, drop, min, max, All, Bool};
+ghost use Rattle.std.specs.Prelude.{◌≡◌, ℕ, ◌+◌, ◌-◌, ◌*◌, ◌^◌, ◌<◌, ◌≤◌, ◌↔◌, ◌⊎◌, List, [], ◌∷◌, drop, min, max, All};
+ghost use Rattle.std.specs.Prelude.{Bool};
 ghost use Rattle.std.specs.Int.{abs_diff};
 ghost use Rattle.biphase.specs.declared.cell.Cell.{Cell};
 ghost use Rattle.biphase.specs.declared.cell.TheConstants.{MAX_INTERVAL};
@@ -9,7 +10,8 @@ ghost use Rattle.biphase.specs.Latest.{Latest};
 ghost use Rattle.biphase.specs.declared.profile.Profile.TheVariants.{Normal, Worn, Rough};
 ghost use Rattle.biphase.specs.Tolerance.{kept_at_lock, kept_next, latest_with, sum_of, LooksAtLast};
 ghost use Rattle.biphase.specs.Pair.{AreEqual, AreUnequal, IsKind};
-ghost use Rattle.biphase.specs.Chain.{flat, Begins, AreHalves, Follow, IsChain, Kinds, IsNextZero, IsFirstHalf, IsNextOne, bits};
+ghost use Rattle.biphase.specs.Chain.{flat, Begins, AreHalves, Follow, IsChain, Kinds, IsNextZero, IsFirstHalf};
+ghost use Rattle.biphase.specs.Chain.{IsNextOne, bits};
 ghost use Rattle.biphase.specs.Mean.{StayFromEachZero};
 ghost use Rattle.biphase.specs.Zeros.{GreaterIsZero};
 ghost use Rattle.biphase.specs.declared.cell.Cell.TheVariants.{Zero};
@@ -23,8 +25,10 @@ pub fn the_greatest_interval_is_this()
 
 /// The tests of the normal tolerance in numbers: cells within an eighth, halves within a sixteenth.
 pub fn the_normal_tests_are_these()
-    ensures zero { (latest : Latest) (x : ℕ) → let c = latest.last in IsNextZero Normal latest x ↔ (8 * abs_diff x c ≤ c) }
-    ensures half { (latest : Latest) (x : ℕ) → let c = latest.last in IsFirstHalf Normal latest x ↔ ((3 * c ≤ 8 * x) × (8 * x ≤ 5 * c)) }
+    ensures zero { (latest : Latest) (x : ℕ)
+        → let c = latest.last in IsNextZero Normal latest x ↔ (8 * abs_diff x c ≤ c) }
+    ensures half { (latest : Latest) (x : ℕ)
+        → let c = latest.last in IsFirstHalf Normal latest x ↔ ((3 * c ≤ 8 * x) × (8 * x ≤ 5 * c)) }
     ensures one { (latest : Latest) (x y : ℕ) → let c = latest.last in IsNextOne Normal latest x y
         ↔ ((8 * abs_diff (x + y) c ≤ c) × (16 * abs_diff x y ≤ x + y)) }
     ensures equal { (a b : ℕ) → a ≤ b → AreEqual Normal a b ↔ (2 * b ≤ 3 * a) }
@@ -33,8 +37,10 @@ pub fn the_normal_tests_are_these()
 
 /// The tests of the tolerance for worn recordings: cells within a sixth, halves within a twelfth.
 pub fn the_worn_tests_are_these()
-    ensures zero { (latest : Latest) (x : ℕ) → let c = latest.last in IsNextZero Worn latest x ↔ (6 * abs_diff x c ≤ c) }
-    ensures half { (latest : Latest) (x : ℕ) → let c = latest.last in IsFirstHalf Worn latest x ↔ ((3 * c ≤ 8 * x) × (3 * x ≤ 2 * c)) }
+    ensures zero { (latest : Latest) (x : ℕ)
+        → let c = latest.last in IsNextZero Worn latest x ↔ (6 * abs_diff x c ≤ c) }
+    ensures half { (latest : Latest) (x : ℕ)
+        → let c = latest.last in IsFirstHalf Worn latest x ↔ ((3 * c ≤ 8 * x) × (3 * x ≤ 2 * c)) }
     ensures one { (latest : Latest) (x y : ℕ) → let c = latest.last in IsNextOne Worn latest x y
         ↔ ((6 * abs_diff (x + y) c ≤ c) × (12 * abs_diff x y ≤ x + y)) }
     ensures equal { (a b : ℕ) → a ≤ b → AreEqual Worn a b ↔ (2 * b ≤ 3 * a) }

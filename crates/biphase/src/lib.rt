@@ -19,10 +19,10 @@
 //! All of it holds for each profile, but for what says that a profile looks at the last cell alone
 //! (`LooksAtLast`).
 //!
-//! Read `cell`, `pair`, `latest`, `tolerance`, `profile` and `shaper`, in this order, and
-//! `specs/Tolerance.antt` and `Chain.antt` beside them.
-//! What the proofs of the crates above want of a tolerance stands, proved, in `specs/Laws.antt`,
-//! `specs/Kinds.antt`, `specs/OneChain.antt` and `specs/Zeros.antt`. `cell_tracker` stands on this crate. Nothing here allocates or refuses.
+//! Read `cell`, `pair`, `latest`, `tolerance`, `profile` and `shaper`, in this order, and `specs/Tolerance.antt` and
+//! `Chain.antt` beside them. What the proofs of the crates above want of a tolerance stands, proved, in
+//! `specs/Laws.antt`, `specs/Kinds.antt`, `specs/OneChain.antt` and `specs/Zeros.antt`. `cell_tracker` stands on this
+//! crate. Nothing here allocates or refuses.
 #![tactic(auto)]
 
 mod cell;

@@ -46,7 +46,8 @@ impl Shaper {
     /// A shaper of this shape, all numbers in ticks: cells of the length `from`, and then each by
     /// `step` nearer to the length `to`.
     pub fn new(from: u32, to: u32, step: u32) -> Result<Shaper, ShapeFault>
-        ensures shape { let shape = shape_with from to step in IfOk result (λ shaper. (shaper ≡ shape) × IsShape shape) }
+        ensures shape { let shape = shape_with from to step in
+            IfOk result (λ shaper. (shaper ≡ shape) × IsShape shape) }
         ensures only { let shape = shape_with from to step in IsShape shape → result ≡ Ok shape }
         ensures refuses { let shape = shape_with from to step in IfErr result (λ fault. IsFirstFault fault shape) }
     {

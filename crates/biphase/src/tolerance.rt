@@ -14,7 +14,8 @@ use crate::profile::{
 /// `reference` is the number that the profile compares with.
 #[inline(always)]
 pub fn is_zero(profile: Profile, reference: u32, x: u32) -> bool
-    ensures { (latest : Latest) → reference_of profile latest ≡ reference → IsTrue result ↔ IsNextZero profile latest x }
+    ensures { (latest : Latest) → reference_of profile latest ≡ reference
+        → IsTrue result ↔ IsNextZero profile latest x }
 {
     match profile {
         Profile::Rough => is_cell_of_sum(u64::from(reference), u64::from(x)),
@@ -27,7 +28,8 @@ pub fn is_zero(profile: Profile, reference: u32, x: u32) -> bool
 /// `reference` is the number that the profile compares with.
 #[inline(always)]
 pub fn may_begin_one(profile: Profile, reference: u32, x: u32) -> bool
-    ensures { (latest : Latest) → reference_of profile latest ≡ reference → IsTrue result ↔ IsFirstHalf profile latest x }
+    ensures { (latest : Latest) → reference_of profile latest ≡ reference
+        → IsTrue result ↔ IsFirstHalf profile latest x }
 {
     match profile {
         Profile::Rough => is_half_of_sum(u64::from(reference), u64::from(x)),
@@ -40,7 +42,8 @@ pub fn may_begin_one(profile: Profile, reference: u32, x: u32) -> bool
 /// `reference` is the number that the profile compares with.
 #[inline(always)]
 pub fn is_one(profile: Profile, reference: u32, x: u32, y: u32) -> bool
-    ensures { (latest : Latest) → reference_of profile latest ≡ reference → IsTrue result ↔ IsNextOne profile latest x y }
+    ensures { (latest : Latest) → reference_of profile latest ≡ reference
+        → IsTrue result ↔ IsNextOne profile latest x y }
 {
     match profile {
         Profile::Rough => is_one_of_sum(u64::from(reference), u64::from(x), u64::from(y)),

@@ -12,9 +12,14 @@ use Rattle.cell_tracker.specs.State.{HuntingState, AtCellState, MidCellState, Is
 -- a search keeps the interval, and a stretch its first zero, which is the interval or the one before
 abbrev pub KeepsOfHunting : HuntingState → ℕ → FromHunting → Latest → Type 0
 KeepsOfHunting h x (Hunt next) four = next ≡ search_from h.profile x
-KeepsOfHunting h x (StartAt next) four = IsAtCell next four (record { profile = h.profile; latest = kept_at_lock h.profile x })
+KeepsOfHunting h x (StartAt next) four =
+    IsAtCell next four (record { profile = h.profile; latest = kept_at_lock h.profile x })
 KeepsOfHunting h x (StartMid next zero) four =
-    (h.before ≡ Some zero) × IsMidCell next four (record { profile = h.profile; latest = kept_at_lock h.profile zero; half = x })
+    (h.before ≡ Some zero) × IsMidCell next four (record {
+      profile = h.profile;
+      latest = kept_at_lock h.profile zero;
+      half = x;
+    })
 KeepsOfHunting h x (StartBroken next zero) four = (h.before ≡ Some zero) × (next ≡ search_from h.profile x)
 
 -- a zero is the interval, a waiting half too, and a search begins at it

@@ -14,7 +14,8 @@ pub record IsPiece (profile : Profile) (intervals : List ℕ) (cells : List Cell
 abbrev pub IsKept : Profile → List ℕ → Type 0
 IsKept profile intervals = (cells : List Cell) × (cut : ℕ) × IsPiece profile intervals cells cut
 
--- those of the cells, the first of which begins at the place `at`, that lie wholly in the places from `low` up to `high`
+-- those of the cells, the first of which begins at the place `at`, that lie wholly in the places from `low` up to
+-- `high`
 abbrev pub cells_between : ℕ → ℕ → ℕ → List Cell → List Cell
 cells_between low high at [] = []
 cells_between low high at (cell ∷ cells) =
@@ -22,10 +23,12 @@ cells_between low high at (cell ∷ cells) =
     let more = cells_between low high end cells in
     cond (nat_le low at && nat_le end high) (cell ∷ more) more
 
--- the cells of a chain that lie wholly in a piece of it, which begins at the place `cut`, and begin at the piece's place `from` or later
+-- the cells of a chain that lie wholly in a piece of it, which begins at the place `cut`, and begin at the piece's
+-- place `from` or later
 abbrev pub cells_from : List Cell → ℕ → List ℕ → ℕ → List Cell
 cells_from cells cut intervals from = cells_between (cut + from) (cut + length intervals) 0 cells
 
 -- the stretch at the lock of a piece: all cells that lie wholly in it from there on, and no break
 abbrev pub stretch_of_piece : List Cell → ℕ → List ℕ → ℕ → Stretch
-stretch_of_piece cells cut intervals lock = record { lock = lock; cells = cells_from cells cut intervals lock; broken_at = None }
+stretch_of_piece cells cut intervals lock =
+    record { lock = lock; cells = cells_from cells cut intervals lock; broken_at = None }

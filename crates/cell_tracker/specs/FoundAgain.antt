@@ -16,8 +16,8 @@ pub record IsSecondLock (profile : Profile) (intervals : List ℕ) (second : ℕ
 abbrev pub BreaksBy : ℕ → Stretch → Type 0
 BreaksBy from stretch = IsSomeAnd stretch.broken_at (λ place. place ≤ from)
 
--- from the place `from` on the stretches are these cells and nothing else: the last stretch has them from there on and does not break, and
--- each stretch before it breaks by then
+-- from the place `from` on the stretches are these cells and nothing else: the last stretch has them from there on and
+-- does not break, and each stretch before it breaks by then
 pub record AreFrom (from : ℕ) (cells : List Cell) (stretches : List Stretch) : Type 0 where
   pub earlier : List Stretch
   pub last : Stretch

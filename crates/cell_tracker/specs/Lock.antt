@@ -1,11 +1,13 @@
--- Where a list of intervals is locked to: the greater interval of an unequal pair is a zero. The rule is this project's own.
+-- Where a list of intervals is locked to: the greater interval of an unequal pair is a zero. The rule is this
+-- project's own.
 use Rattle.std.specs.Prelude.{◌≡◌, ℕ, ◌+◌, ◌<◌, ◌≤◌, List, length, slice_index}
 use Rattle.biphase.specs.declared.profile.Profile.{Profile}
 use Rattle.biphase.specs.Pair.{AreUnequal}
 
 -- the intervals at the places k and k + 1 are an unequal pair
 abbrev pub IsUnequalAt : Profile → List ℕ → ℕ → Type 0
-IsUnequalAt profile intervals k = (k + 1 < length intervals) × AreUnequal profile (slice_index intervals k) (slice_index intervals (k + 1))
+IsUnequalAt profile intervals k =
+    (k + 1 < length intervals) × AreUnequal profile (slice_index intervals k) (slice_index intervals (k + 1))
 
 -- no pair from the place `start` on is unequal
 abbrev pub HasNoLock : Profile → List ℕ → ℕ → Type 0

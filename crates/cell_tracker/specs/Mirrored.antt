@@ -4,8 +4,8 @@ use Rattle.biphase.specs.declared.cell.Cell.{Cell}
 use Rattle.biphase.specs.Chain.{flat}
 use Rattle.biphase.specs.Mirror.{mirrored}
 
--- two lists of cells begin with the same cells, in the one order of time and in the other. Of a list of `count` intervals these are all but
--- the `before` first ones and the `after` last ones
+-- two lists of cells begin with the same cells, in the one order of time and in the other. Of a list of `count`
+-- intervals these are all but the `before` first ones and the `after` last ones
 pub record BeginMirrored (cells others : List Cell) (before after count : ℕ) : Type 0 where
   pub middle : List Cell
   pub more : List Cell

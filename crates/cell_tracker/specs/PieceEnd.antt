@@ -14,7 +14,8 @@ pub record StandsAtBoundary (state : AtCellState) (cells : List Cell) (place : �
   pub ends : length (flat before) + length (intervals_of cell) ≡ place
   pub last : state.latest.last ≡ length_of cell
 
--- the place lies between the halves of a one of the chain, and the state keeps its first half and the length of the cell before it
+-- the place lies between the halves of a one of the chain, and the state keeps its first half and the length of the
+-- cell before it
 pub record StandsInsideOne (state : MidCellState) (cells : List Cell) (place : ℕ) : Type 0 where
   pub before : List Cell
   pub cell : Cell

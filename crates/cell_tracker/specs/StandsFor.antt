@@ -36,8 +36,8 @@ pub record MidCellStandsFor (state : MidCellState) (intervals : List ℕ) (earli
   pub kept : kept_of state.profile stretch.cells ≡ state.latest
   pub half : last_of intervals ≡ Some state.half
 
--- what Hunting answers to an interval, with the four lengths after it, fits the list with the interval at its end: the search goes on, or a
--- stretch begins
+-- what Hunting answers to an interval, with the four lengths after it, fits the list with the interval at its end: the
+-- search goes on, or a stretch begins
 abbrev pub StandsAfterHunting : FromHunting → Latest → ℕ → List ℕ → List Stretch → Type 0
 StandsAfterHunting (Hunt next) four x intervals stretches = HuntingStandsFor next (intervals ++ x ∷ []) stretches
 StandsAfterHunting (StartAt next) four x intervals stretches =

@@ -40,7 +40,8 @@ abbrev pub at_cell_with : AtCellHeld → Latest → AtCellState
 at_cell_with held four = record { profile = held.profile; latest = kept_by held.profile held.reference four }
 
 abbrev pub mid_cell_with : MidCellHeld → Latest → MidCellState
-mid_cell_with held four = record { profile = held.profile; latest = kept_by held.profile held.reference four; half = held.half }
+mid_cell_with held four =
+    record { profile = held.profile; latest = kept_by held.profile held.reference four; half = held.half }
 
 -- what is held of a state
 abbrev pub held_at_cell : Profile → Latest → AtCellHeld

@@ -1,5 +1,7 @@
--- The stretches of a list of intervals: the longest chains from its locks, one after another. The rules are this project's own.
-use Rattle.std.specs.Prelude.{◌≡◌, ℕ, ◌+◌, ◌≤◌, List, [], ◌∷◌, ◌++◌, length, drop, slice_index, Option, Some, None, IsSome, MatchOption}
+-- The stretches of a list of intervals: the longest chains from its locks, one after another. The rules are this
+-- project's own.
+use Rattle.std.specs.Prelude.{◌≡◌, ℕ, ◌+◌, ◌≤◌, List, [], ◌∷◌, ◌++◌, length, drop, slice_index, Option, Some, None}
+use Rattle.std.specs.Prelude.{IsSome, MatchOption}
 use Rattle.biphase.specs.declared.profile.Profile.{Profile}
 use Rattle.biphase.specs.declared.cell.Cell.{Cell}
 use Rattle.biphase.specs.declared.cell.Cell.TheVariants.{Zero}
@@ -32,16 +34,20 @@ pub record IsChainFrom (profile : Profile) (intervals : List ℕ) (lock : ℕ) (
 -- the list goes on so far
 abbrev pub IsBreak : Profile → Latest → ℕ → List ℕ → Option ℕ → Type 0
 IsBreak profile kept after [] place = place ≡ None
-IsBreak profile kept after (x ∷ []) place = (IsFirstHalf profile kept x → place ≡ None) × (¬ IsFirstHalf profile kept x → place ≡ Some after)
-IsBreak profile kept after (x ∷ y ∷ rest) place = (IsFirstHalf profile kept x → place ≡ Some (after + 1)) × (¬ IsFirstHalf profile kept x → place ≡ Some after)
+IsBreak profile kept after (x ∷ []) place =
+    (IsFirstHalf profile kept x → place ≡ None) × (¬ IsFirstHalf profile kept x → place ≡ Some after)
+IsBreak profile kept after (x ∷ y ∷ rest) place =
+    (IsFirstHalf profile kept x → place ≡ Some (after + 1)) × (¬ IsFirstHalf profile kept x → place ≡ Some after)
 
 -- the longest chain from a lock, since no other has more cells, with its break
 pub record IsStretch (profile : Profile) (intervals : List ℕ) (stretch : Stretch) : Type 0 where
   pub chain : IsChainFrom profile intervals stretch.lock stretch.cells
-  pub longest : (others : List Cell) → IsChainFrom profile intervals stretch.lock others → length others ≤ length stretch.cells
+  pub longest : (others : List Cell) → IsChainFrom profile intervals stretch.lock others
+      → length others ≤ length stretch.cells
   pub broken : IsBreak profile (kept_of profile stretch.cells) (end_of stretch) (drop (end_of stretch) intervals) stretch.broken_at
 
--- the stretches from the place `start` on: the first is at the lock from there, and after its break those from the break on follow
+-- the stretches from the place `start` on: the first is at the lock from there, and after its break those from the
+-- break on follow
 abbrev pub AreStretchesFrom : Profile → List ℕ → ℕ → List Stretch → Type 0
 AreStretchesFrom profile intervals start [] = HasNoLock profile intervals start
 AreStretchesFrom profile intervals start (stretch ∷ more) =
@@ -58,7 +64,8 @@ begun lock first = record { lock = lock; cells = Zero first ∷ []; broken_at = 
 
 -- the stretch with one cell more
 abbrev pub with_cell : Cell → Stretch → Stretch
-with_cell cell stretch = record { lock = stretch.lock; cells = stretch.cells ++ cell ∷ []; broken_at = stretch.broken_at }
+with_cell cell stretch =
+    record { lock = stretch.lock; cells = stretch.cells ++ cell ∷ []; broken_at = stretch.broken_at }
 
 -- the stretch with its break
 abbrev pub with_break : ℕ → Stretch → Stretch

@@ -82,9 +82,11 @@ impl MidCell {
         requires fits { Fits self.profile self.reference four.old }
 
         // The answer by the tests of `biphase`.
-        ensures one { let latest = kept_by self.profile self.reference four.old in IsNextOne self.profile latest self.half y
+        ensures one { let latest = kept_by self.profile self.reference four.old in
+            IsNextOne self.profile latest self.half y
             → result ≡ One (held_at_cell self.profile (kept_next self.profile latest (self.half + y))) self.half y }
-        ensures broken { let latest = kept_by self.profile self.reference four.old in ¬ IsNextOne self.profile latest self.half y
+        ensures broken { let latest = kept_by self.profile self.reference four.old in
+            ¬ IsNextOne self.profile latest self.half y
             → result ≡ Broken (search_from self.profile y) }
 
         // What the answer and the four lengths keep of the state and the interval.

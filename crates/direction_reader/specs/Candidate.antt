@@ -23,8 +23,8 @@ IsEventOf system direction bits end length (Refused d fault tick) =
     (d ≡ direction) × (first_fault system bits ≡ Some (Field fault)) × (tick ≡ end)
 IsEventOf system direction bits end length (Lost interval tick) = ⊥
 
--- the events of a window of 80 bits: it is a forward candidate where it ends in the sync word, and a backward one where its bits in the
--- other order of time do; the forward candidate comes first
+-- the events of a window of 80 bits: it is a forward candidate where it ends in the sync word, and a backward one
+-- where its bits in the other order of time do; the forward candidate comes first
 pub record AreEventsOf (system : System) (bits end length : ℕ) (events : Events) : Type 0 where
   pub forward : EndsInSync bits → IsSomeAnd events.first (IsEventOf system Forward bits end length)
   pub backward : EndsInSync (reversed_bits bits) → ¬ EndsInSync bits

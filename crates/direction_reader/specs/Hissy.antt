@@ -1,4 +1,5 @@
--- A hissy recording for examples: real bits, in cells of which each is a quarter longer than the one before it, or a fifth shorter.
+-- A hissy recording for examples: real bits, in cells of which each is a quarter longer than the one before it, or a
+-- fifth shorter.
 use Rattle.std.specs.Prelude.{ℕ, zero, suc, ◌/◌, ◌%◌, ◌==◌, List, [], ◌∷◌}
 use Rattle.biphase.specs.declared.cell.Cell.{Cell}
 use Rattle.biphase.specs.Shape.{cell_with}

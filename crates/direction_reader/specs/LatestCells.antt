@@ -31,8 +31,9 @@ CellBrings bits Nothing = ¬ EndsInCandidate bits
 CellBrings bits Candidate = EndsInCandidate bits
 CellBrings bits Break = ⊥
 
--- the events of the latest window, which ends at a tick: none before it is full, and then those of its bits, with the length from its
--- oldest boundary on
+-- the events of the latest window, which ends at a tick: none before it is full, and then those of its bits, with the
+-- length from its oldest boundary on
 abbrev pub AreWindowEvents : System → LatestBits → List ℕ → ℕ → Events → Type 0
-AreWindowEvents system (latest.Full bits) boundaries end events = AreEventsOf system bits end (end - slice_index boundaries 0) events
+AreWindowEvents system (latest.Full bits) boundaries end events =
+    AreEventsOf system bits end (end - slice_index boundaries 0) events
 AreWindowEvents system (latest.Filling _) boundaries end events = events ≡ no_events

@@ -1,6 +1,7 @@
--- The events of a list of intervals: the candidates of all windows of its stretches, and its breaks. Nothing here is kept from one interval
--- to the next: all of it is said of the finished list.
-use Rattle.std.specs.Prelude.{◌≡◌, ℕ, ◌+◌, ◌-◌, ◌*◌, List, [], ◌∷◌, ◌++◌, length, take, drop, map, sum, Bool, Option, Some, None}
+-- The events of a list of intervals: the candidates of all windows of its stretches, and its breaks. Nothing here is
+-- kept from one interval to the next: all of it is said of the finished list.
+use Rattle.std.specs.Prelude.{◌≡◌, ℕ, ◌+◌, ◌-◌, ◌*◌, List, [], ◌∷◌, ◌++◌, length, take, drop, map, sum, Bool, Option}
+use Rattle.std.specs.Prelude.{Some, None}
 use Rattle.std.specs.List.{range_with_len}
 use Rattle.biphase.specs.declared.cell.Cell.{Cell}
 use Rattle.biphase.specs.declared.profile.Profile.{Profile}
@@ -45,7 +46,8 @@ windows tick cells = map (window_at tick cells) (range_with_len 0 (length cells 
 abbrev pub AreEventsOfWindows : System → List CellWindow → List Event → Type 0
 AreEventsOfWindows system [] events = events ≡ []
 AreEventsOfWindows system (window ∷ more) events = (own : Events) × (rest : List Event)
-    × AreEventsOf system window.bits window.end window.length own × AreEventsOfWindows system more rest × (events ≡ event_list own ++ rest)
+    × AreEventsOf system window.bits window.end window.length own × AreEventsOfWindows system more rest
+    × (events ≡ event_list own ++ rest)
 
 -- the tick at which a stretch begins
 abbrev pub begin_of : List ℕ → Stretch → ℕ
@@ -66,7 +68,8 @@ AreEventsOfStretch system intervals stretch events = (own : List Event)
 abbrev pub AreEventsOfStretches : System → List ℕ → List Stretch → List Event → Type 0
 AreEventsOfStretches system intervals [] events = events ≡ []
 AreEventsOfStretches system intervals (stretch ∷ more) events = (own rest : List Event)
-    × AreEventsOfStretch system intervals stretch own × AreEventsOfStretches system intervals more rest × (events ≡ own ++ rest)
+    × AreEventsOfStretch system intervals stretch own × AreEventsOfStretches system intervals more rest
+    × (events ≡ own ++ rest)
 
 -- the events of a list of intervals
 abbrev pub AreEvents : System → Profile → List ℕ → List Event → Type 0

@@ -17,7 +17,8 @@ use Rattle.direction_reader.specs.declared.event.Event.TheVariants.{Word, Refuse
 use Rattle.direction_reader.specs.Events.{tick_of}
 use Rattle.direction_reader.specs.ListEvents.{CellWindow, duration, windows, AreEventsOfWindows}
 
--- a window in the other order of time, in intervals of this sum: its bits in the other order, and the tick at its other end
+-- a window in the other order of time, in intervals of this sum: its bits in the other order, and the tick at its
+-- other end
 abbrev pub mirror_window : ℕ → CellWindow → CellWindow
 mirror_window total window = record {
   bits = reversed_bits window.bits;
@@ -30,8 +31,8 @@ abbrev pub turned : Direction → Direction
 turned Forward = Backward
 turned Backward = Forward
 
--- the one event is the other, met from the other end: the same word or fault in the opposite direction, at the tick of its other end. That tick
--- and the event's own make up the sum of the intervals and the window's length
+-- the one event is the other, met from the other end: the same word or fault in the opposite direction, at the tick of
+-- its other end. That tick and the event's own make up the sum of the intervals and the window's length
 abbrev pub IsMirrorOf : ℕ → Event → Event → Type 0
 IsMirrorOf total (Word direction word tick length) (Word other same there n) =
     (other ≡ turned direction) × (same ≡ word) × (there + tick ≡ total + length) × (n ≡ length)
@@ -39,9 +40,10 @@ IsMirrorOf total (Refused direction fault tick) (Refused other same there) =
     (other ≡ turned direction) × (same ≡ fault) × ((length : ℕ) × (there + tick ≡ total + length))
 IsMirrorOf total event other = ⊥
 
--- between the `first` intervals before and the `last` intervals behind them, the windows of the cells are those of the other cells in the other
--- order of time, all of them. So the events of both begin with those of these windows, and from the last one to the first one they are the same
--- words, good or refused, each met from its other end. Further events come at the end of these cells or later
+-- between the `first` intervals before and the `last` intervals behind them, the windows of the cells are those of the
+-- other cells in the other order of time, all of them. So the events of both begin with those of these windows, and
+-- from the last one to the first one they are the same words, good or refused, each met from its other end. Further
+-- events come at the end of these cells or later
 pub record TellMirrored (system : System) (intervals : List ℕ) (first last : ℕ) (cells others : List Cell) (events mirrored_events : List Event) : Type 0 where
   pub between : List Cell
   pub behind : List Cell
@@ -59,11 +61,12 @@ pub record TellMirrored (system : System) (intervals : List ℕ) (first last : �
   pub mirrored_are : mirrored_events ≡ theirs ++ others_more
   pub theirs_are : AreEventsOfWindows system
       (reverse (map (mirror_window (sum intervals)) (windows (sum (take first intervals)) between))) theirs
-  pub no_other_between : All (λ event. sum (take last (reverse intervals)) + duration (mirrored between) ≤ tick_of event) others_more
+  pub no_other_between :
+      All (λ event. sum (take last (reverse intervals)) + duration (mirrored between) ≤ tick_of event) others_more
   pub same : AllZip (IsMirrorOf (sum intervals)) mine (reverse theirs)
 
--- where a cell is compared with the one before it alone, the events of a recording and of its mirror, both within the tolerance, are so between
--- the greater intervals of the first and of the last unequal pair
+-- where a cell is compared with the one before it alone, the events of a recording and of its mirror, both within the
+-- tolerance, are so between the greater intervals of the first and of the last unequal pair
 abbrev pub MirrorsTheTape : System → Profile → List ℕ → List Event → List Event → Type 0
 MirrorsTheTape system profile intervals events mirrored_events = LooksAtLast profile → (tape other : List Cell)
     (cut place first last : ℕ)

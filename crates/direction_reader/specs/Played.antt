@@ -36,7 +36,8 @@ played_bits p = low_bits 80 (in_time p.direction (spelling_of p.word))
 abbrev pub bits_of_words : List Played → List Bool
 bits_of_words words = flat_map played_bits words
 
--- the events of words that are played with these cells from a tick on: each has the tick at its end, and the length of its 80 cells
+-- the events of words that are played with these cells from a tick on: each has the tick at its end, and the length of
+-- its 80 cells
 unfoldable pub events_of_words : ℕ → List Cell → List Played → List Event
 events_of_words tick cells [] = []
 events_of_words tick cells (p ∷ more) =

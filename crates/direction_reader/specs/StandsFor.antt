@@ -1,5 +1,7 @@
--- Which lists of intervals a reader stands for, each list with its events. What it keeps of the cells is tied to the list here.
-use Rattle.std.specs.Prelude.{◌≡◌, ℕ, ◌+◌, ◌-◌, ◌*◌, ◌^◌, ◌≤◌, ◌<◌, List, [], ◌∷◌, ◌++◌, length, sum, Option, Some, None, IfSome, IsSome}
+-- Which lists of intervals a reader stands for, each list with its events. What it keeps of the cells is tied to the
+-- list here.
+use Rattle.std.specs.Prelude.{◌≡◌, ℕ, ◌+◌, ◌-◌, ◌*◌, ◌^◌, ◌≤◌, ◌<◌, List, [], ◌∷◌, ◌++◌, length, sum, Option, Some}
+use Rattle.std.specs.Prelude.{None, IfSome, IsSome}
 use Rattle.biphase.specs.declared.cell.Cell.{Cell}
 use Rattle.biphase.specs.Chain.{length_of, bit_of, bits}
 use Rattle.cell_tracker.specs.Stretch.{Stretch, begun, with_cell, with_break}
@@ -17,7 +19,8 @@ use Rattle.direction_reader.specs.Tracking.{AtCell, MidCell, Hunting}
 use Rattle.direction_reader.specs.declared.state.Step.{Step}
 use Rattle.direction_reader.specs.declared.state.Step.TheVariants.{Nothing, FirstZero, ZeroBefore, Break}
 use Rattle.direction_reader.specs.LatestCells.{Cells, AreWindowEvents}
-use Rattle.direction_reader.specs.ListEvents.{duration, number_of, begin_of, windows, AreEventsOfWindows, AreEventsOfStretches}
+use Rattle.direction_reader.specs.ListEvents.{duration, number_of, begin_of, windows, AreEventsOfWindows}
+use Rattle.direction_reader.specs.ListEvents.{AreEventsOfStretches}
 use Rattle.direction_reader.specs.Reader.{ReaderState}
 
 -- the tracker stands for the intervals: of their stretches some are broken, and one may be open
@@ -76,9 +79,11 @@ StandsAfter old next x intervals earlier open_yet Nothing =
     TrackerStandsFor next (intervals ++ x ∷ []) earlier open_yet × (IsSome open_yet → waiting next ≡ waiting old + x)
 StandsAfter old next x intervals earlier open_yet FirstZero = (open_yet ≡ None) × (waiting next ≡ 0)
     × TrackerStandsFor next (intervals ++ x ∷ []) earlier (Some (begun (length intervals) x))
-StandsAfter old next x intervals earlier open_yet (ZeroBefore first) = (open_yet ≡ None) × IsLastZero intervals first × (waiting next ≡ x)
+StandsAfter old next x intervals earlier open_yet (ZeroBefore first) =
+    (open_yet ≡ None) × IsLastZero intervals first × (waiting next ≡ x)
     × TrackerStandsFor next (intervals ++ x ∷ []) earlier (Some (begun (length intervals - 1) first))
-StandsAfter old next x intervals earlier open_yet (Step.Cell bit) = (stretch : Stretch) × (cell : Cell) × (open_yet ≡ Some stretch)
+StandsAfter old next x intervals earlier open_yet (Step.Cell bit) =
+    (stretch : Stretch) × (cell : Cell) × (open_yet ≡ Some stretch)
     × (bit_of cell ≡ bit) × (length_of cell ≡ waiting old + x) × (waiting next ≡ 0)
     × TrackerStandsFor next (intervals ++ x ∷ []) earlier (Some (with_cell cell stretch))
 StandsAfter old next x intervals earlier open_yet Break = (stretch : Stretch) × MayBreak intervals open_yet stretch
@@ -123,7 +128,8 @@ pub record StandsFor (reader : ReaderState) (intervals : List ℕ) (events : Lis
 -- what the latest interval brought, where the reader told so of it
 abbrev pub Tells : ReaderState → Brought → Events → Type 0
 Tells reader Brought.Nothing events = events ≡ no_events
-Tells reader Candidate events = AreWindowEvents reader.system reader.cells.bits reader.cells.boundaries reader.tick events
+Tells reader Candidate events =
+    AreWindowEvents reader.system reader.cells.bits reader.cells.boundaries reader.tick events
 Tells reader Brought.Break events = events ≡ one_event (Lost (reader.intervals - 1) reader.tick)
 
 -- a candidate is told only where a cell has just ended

@@ -105,14 +105,17 @@ impl DirectionReader {
         // intervals in reverse order have these events.
         ensures truth { (intervals : List ℕ) (events : List Event)
             → StandsFor self.old intervals events
-            → TellsTheTape self.new.system (profile_of self.new.tracker) (intervals ++ x ∷ []) (events ++ event_list result) }
+            → TellsTheTape self.new.system (profile_of self.new.tracker) (intervals ++ x ∷ [])
+            (events ++ event_list result) }
         ensures damage { (intervals : List ℕ) (events : List Event)
             → StandsFor self.old intervals events
-            → FindsTheTape self.new.system (profile_of self.new.tracker) (intervals ++ x ∷ []) (events ++ event_list result) }
+            → FindsTheTape self.new.system (profile_of self.new.tracker) (intervals ++ x ∷ [])
+            (events ++ event_list result) }
         ensures mirror { (intervals : List ℕ) (events mirrored : List Event)
             → StandsFor self.old intervals events
             → AreEvents self.new.system (profile_of self.new.tracker) (reverse (intervals ++ x ∷ [])) mirrored
-            → MirrorsTheTape self.new.system (profile_of self.new.tracker) (intervals ++ x ∷ []) (events ++ event_list result) mirrored }
+            → MirrorsTheTape self.new.system (profile_of self.new.tracker) (intervals ++ x ∷ [])
+            (events ++ event_list result) mirrored }
     {
         a_reader_tells_the_tape();
         match self.step(x) {

@@ -17,10 +17,7 @@ pub enum State {
     /// With the number that the profile compares with.
     AtCell(u32),
     /// With this number, and the waiting half.
-    MidCell {
-        reference: u32,
-        half: u32,
-    },
+    MidCell { reference: u32, half: u32 },
     Hunting(Hunting),
 }
 
@@ -48,7 +45,8 @@ impl State {
         requires fits { StateFits profile self.old four.old }
         ensures fits { StateFits profile self.new four.new }
         ensures steps { Steps (tracking_with profile self.old four.old) x (tracking_with profile self.new four.new) result }
-        ensures profile { profile_of (tracking_with profile self.new four.new) ≡ profile_of (tracking_with profile self.old four.old) }
+        ensures profile { profile_of (tracking_with profile self.new four.new)
+            ≡ profile_of (tracking_with profile self.old four.old) }
         ensures stands { (intervals : List ℕ) (earlier : List Stretch) (open_yet : Option Stretch)
             → TrackerStandsFor (tracking_with profile self.old four.old) intervals earlier open_yet
             → StandsAfter (tracking_with profile self.old four.old) (tracking_with profile self.new four.new) x intervals earlier open_yet result }
@@ -75,7 +73,10 @@ impl State {
                     Step::Break
                 }
             },
-            State::MidCell { reference, half } => match MidCell::new(profile, *reference, *half).feed(four, x) {
+            State::MidCell { reference, half } => match MidCell::new(
+                profile, *reference, *half,
+            ).feed(four, x)
+            {
                 FromMidCell::One(at_cell, _, _) => {
                     *self = State::AtCell(at_cell.reference());
                     Step::Cell(true)

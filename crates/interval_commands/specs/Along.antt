@@ -1,5 +1,5 @@
--- A command that reads an interval file: what it writes is a matter of the header and the intervals. The grammar and the limit are those
--- of the file, for all of them.
+-- A command that reads an interval file: what it writes is a matter of the header and the intervals. The grammar and
+-- the limit are those of the file, for all of them.
 use Rattle.std.specs.Prelude.{◌≡◌, ℕ, true, List, [], Option, Some, None}
 use Rattle.std.specs.Option.{option_map}
 use Rattle.interval_file.specs.declared.header.IntervalHeader.{IntervalHeader}

@@ -1,5 +1,6 @@
 -- What a command along an interval file keeps. No promise speaks of it.
-use Rattle.std.specs.Prelude.{◌≡◌, ◌⊎◌, ℕ, ◌<◌, ◌≤◌, List, [], ◌∷◌, ◌++◌, length, Option, Some, None, nat_lt, if◌then◌else◌, ⊤}
+use Rattle.std.specs.Prelude.{◌≡◌, ◌⊎◌, ℕ, ◌<◌, ◌≤◌, List, [], ◌∷◌, ◌++◌, length, Option, Some, None, nat_lt}
+use Rattle.std.specs.Prelude.{if◌then◌else◌, ⊤}
 use Rattle.std.proofs.Common.{subst, sym}
 use Rattle.std.specs.Io.KnownBytes.{Appends}
 use Rattle.tc_io.specs.Sink.{AppendsFront, IsFront}
@@ -28,7 +29,8 @@ FitsBehind fits None count = count ≡ 0
 FitsBehind fits (Some behind) count = (count ≤ MAX_INTERVALS) × fits behind count
 
 -- no fault was met, and the counts fit each other
-pub record IsGoing {B : Type 0} (fits : B → ℕ → Type 0) (decoder : Progress) (behind : Option B) (count : ℕ) : Type 0 where
+pub record IsGoing {B : Type 0} (fits : B → ℕ → Type 0) (decoder : Progress) (behind : Option B) (count : ℕ)
+    : Type 0 where
   pub good : decoder.fault ≡ None
   pub header : HasHeader behind decoder.taken
   pub counts : FitsBytes decoder count
@@ -36,9 +38,11 @@ pub record IsGoing {B : Type 0} (fits : B → ℕ → Type 0) (decoder : Progres
   pub keeps : FitsBehind fits behind count
 
 -- what was written stands for the header and the intervals
-abbrev pub Printed : {B C : Type 0} → (B → C → IntervalHeader → List ℕ → List ℕ → Type 0) → Option B → C → Recording → List ℕ → Type 0
+abbrev pub Printed : {B C : Type 0} → (B → C → IntervalHeader → List ℕ → List ℕ → Type 0) → Option B → C → Recording
+    → List ℕ → Type 0
 Printed stands None choice r written = (r.header ≡ None) × (r.intervals ≡ []) × (written ≡ [])
-Printed stands (Some behind) choice r written = (header : IntervalHeader) × (r.header ≡ Some header) × stands behind choice header r.intervals written
+Printed stands (Some behind) choice r written =
+    (header : IntervalHeader) × (r.header ≡ Some header) × stands behind choice header r.intervals written
 
 -- it was given these bytes, and wrote this for them
 pub record Stands {B C : Type 0} (stands : B → C → IntervalHeader → List ℕ → List ℕ → Type 0)
@@ -49,7 +53,8 @@ pub record Stands {B C : Type 0} (stands : B → C → IntervalHeader → List �
   pub printed : Printed stands behind choice (recording_of bytes) written
 
 -- the same, and the bytes do not pass a limit of the command's own
-pub record StandsWithin {B C : Type 0} (printing : C → Printing) (relation : B → C → IntervalHeader → List ℕ → List ℕ → Type 0)
+pub record StandsWithin {B C : Type 0} (printing : C → Printing)
+    (relation : B → C → IntervalHeader → List ℕ → List ℕ → Type 0)
     (decoder : Progress) (behind : Option B) (count : ℕ) (choice : C) (bytes written : List ℕ) : Type 0 where
   pub stands : Stands relation decoder behind count choice bytes written
   pub unspent : ¬ IsSpentOf (printing choice) (recording_of bytes)
@@ -59,7 +64,8 @@ abbrev pub longer : Recording → ℕ → Recording
 longer r x = record { header = r.header; intervals = r.intervals ++ x ∷ []; verdict = r.verdict }
 
 -- why an interval stops the command: it is past the limit, or its output was not taken
-abbrev pub IntervalStops : {B C : Type 0} → Printing → (B → C → IntervalHeader → List ℕ → List ℕ → Type 0) → Option B → ℕ → C
+abbrev pub IntervalStops : {B C : Type 0} → Printing → (B → C → IntervalHeader → List ℕ → List ℕ → Type 0) → Option B
+    → ℕ → C
     → Option (List ℕ) → Option (List ℕ) → ℕ → Stop → Type 0
 IntervalStops p stands behind count choice old new x Limit = (count ≡ MAX_INTERVALS) × Appends old new []
 IntervalStops p stands behind count choice old new x WriteFault = (count < MAX_INTERVALS)
@@ -83,9 +89,11 @@ IsSpentHalt p stands behind choice pulled written = (front : List ℕ) × IsFron
 abbrev pub IsHalt : {B C : Type 0} → Printing → (B → C → IntervalHeader → List ℕ → List ℕ → Type 0) → Option B → C
     → Stop → List ℕ → List ℕ → Type 0
 IsHalt p stands behind choice (Refused fault) pulled written =
-    (verdict_as Intervals (recording_of pulled).verdict ≡ refused fault) × Printed stands behind choice (recording_of pulled) written
+    (verdict_as Intervals (recording_of pulled).verdict ≡ refused fault)
+    × Printed stands behind choice (recording_of pulled) written
 IsHalt p stands behind choice Limit pulled written =
-    ((verdict_as Intervals (recording_of pulled).verdict ≡ past_limit) × Printed stands behind choice (recording_of pulled) written)
+    ((verdict_as Intervals (recording_of pulled).verdict ≡ past_limit)
+    × Printed stands behind choice (recording_of pulled) written)
     ⊎ IsSpentHalt p stands behind choice pulled written
 IsHalt p stands behind choice WriteFault pulled written = IsStop (along_intervals p) WriteFault pulled written
 IsHalt p stands behind choice ReadFault pulled written = ⊥
@@ -105,10 +113,13 @@ abbrev pub stop_at : ℕ → IntervalFileFault → Stop
 stop_at count fault = if nat_lt count MAX_INTERVALS then Refused (Intervals fault) else Limit
 
 -- what was written is a part of the output, where nothing is gathered
-pub printed_well : {B C : Type 0} (printing : C → Printing) (stands : B → C → IntervalHeader → List ℕ → List ℕ → Type 0) (settled : B → Type 0)
-    → ((behind : B) (choice : C) (header : IntervalHeader) (intervals written : List ℕ) → settled behind → stands behind choice header intervals written
+pub printed_well : {B C : Type 0} (printing : C → Printing)
+    (stands : B → C → IntervalHeader → List ℕ → List ℕ → Type 0) (settled : B → Type 0)
+    → ((behind : B) (choice : C) (header : IntervalHeader) (intervals written : List ℕ) → settled behind
+    → stands behind choice header intervals written
     → Printing.part (printing choice) header intervals written)
-    → (behind : Option B) (choice : C) (r : Recording) (written : List ℕ) → IsSettled settled behind → Printed stands behind choice r written
+    → (behind : Option B) (choice : C) (r : Recording) (written : List ℕ) → IsSettled settled behind
+    → Printed stands behind choice r written
     → IsPartOf (printing choice) r written
 printed_well printing stands settled well None choice r written all printed =
     subst (λ (h : Option IntervalHeader). IsPartBehind (printing choice) h r.intervals written) (sym printed.0) printed.2

@@ -12,7 +12,8 @@ pub record Stands (c : Conversion) (version : FileVersion) (header : IntervalHea
   pub keeps : c.version ≡ version
   pub are : written ++ c.gathered.room.items ≡ file_of (in_version version header) intervals
 
-pub stands_well : (c : Conversion) (version : FileVersion) (header : IntervalHeader) (intervals written : List ℕ) → c.gathered.room.items ≡ []
+pub stands_well : (c : Conversion) (version : FileVersion) (header : IntervalHeader) (intervals written : List ℕ)
+    → c.gathered.room.items ≡ []
     → Stands c version header intervals written → IsConverted version header intervals written
 stands_well c version header intervals written settled stands =
     sym (append-nil written) ∙ ap (λ (l : List ℕ). written ++ l) (sym settled) ∙ stands.are

@@ -21,14 +21,16 @@ pub record HasRuns (s : MadeSound) : Type 0 where
   pub above : length s.above.items ≡ 1024
   pub below : length s.below.items ≡ 1024
 
--- the runs are of this level; what was written, and then what is gathered, are the sound of the intervals without its last sample
+-- the runs are of this level; what was written, and then what is gathered, are the sound of the intervals without its
+-- last sample
 pub record Stands (s : MadeSound) (level : ℕ) (intervals written : List ℕ) : Type 0 where
   pub above : s.above.items ≡ bytes_of (replicate 512 (upward High (pos level)))
   pub below : s.below.items ≡ bytes_of (replicate 512 (upward Low (pos level)))
   pub side : s.side ≡ side_behind High intervals
   pub are : written ++ s.gathered.room.items ≡ bytes_of (but_the_last (sound level intervals))
 
-pub stands_well : (s : MadeSound) (level : ℕ) (header : IntervalHeader) (intervals written : List ℕ) → s.gathered.room.items ≡ []
+pub stands_well : (s : MadeSound) (level : ℕ) (header : IntervalHeader) (intervals written : List ℕ)
+    → s.gathered.room.items ≡ []
     → Stands s level intervals written → Printing.part (made_sound level) header intervals written
 stands_well s level header intervals written settled stands =
     sym (append-nil written) ∙ ap (λ (l : List ℕ). written ++ l) (sym settled) ∙ stands.are

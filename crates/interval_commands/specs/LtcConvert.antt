@@ -17,7 +17,8 @@ IsConverted version header intervals written = written ≡ file_of (in_version v
 abbrev pub conversion : FileVersion → Printing
 conversion version = record { spent = λ header intervals. ⊥; part = IsConverted version; whole = IsConverted version }
 
--- what was pulled is a file, and what was written is the file of this version with the same system, tick rate and intervals
+-- what was pulled is a file, and what was written is the file of this version with the same system, tick rate and
+-- intervals
 pub record ConvertsTheFile (version : FileVersion) (bytes written : List ℕ) : Type 0 where
   pub header : IntervalHeader
   pub intervals : List ℕ

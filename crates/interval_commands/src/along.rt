@@ -1,6 +1,7 @@
 //! The way along an interval file, the same for each command that reads one. Next:
 //! `interval_file/src/piece.rt`, and then `ltc_read`, `ltc_convert` or `ltc_pcm`.
-ghost use Rattle.std.specs.Prelude.{◌≡◌, ℕ, true, false, ◌+◌, ◌-◌, ◌%◌, ◌<◌, ◌≤◌, List, [], ◌∷◌, ◌++◌, length, take, drop, OnOk, IfOk, IfErr, IsSome, Err};
+ghost use Rattle.std.specs.Prelude.{◌≡◌, ℕ, true, false, ◌+◌, ◌-◌, ◌%◌, ◌<◌, ◌≤◌, List, [], ◌∷◌, ◌++◌, length, take};
+ghost use Rattle.std.specs.Prelude.{drop, OnOk, IfOk, IfErr, IsSome, Err};
 ghost use Rattle.std.specs.declared.option.Option.{Option};
 ghost use Rattle.std.specs.Io.KnownBytes.{Appends};
 ghost use Rattle.biphase.specs.declared.cell.TheConstants.{MAX_INTERVAL, MAX_INTERVALS};
@@ -73,7 +74,8 @@ pub trait Behind: Drop {
         ensures begins { IfOk result (λ behind. (written : List ℕ)
             × Appends (K.written out.old) (K.written out.new) written × stands behind choice header [] written) }
         ensures front { IfErr result (λ stop. (stop ≡ Stop.WriteFault) × ((part : List ℕ)
-            × Printing.part (printing choice) header [] part × AppendsFront (K.written out.old) (K.written out.new) part)) }
+            × Printing.part (printing choice) header [] part
+            × AppendsFront (K.written out.old) (K.written out.new) part)) }
         ensures cause { HasOutCause (K.faults out.old) (K.faults out.new) result };
 
     /// Takes an interval, of `x` ticks, and writes what it brings.
@@ -205,14 +207,17 @@ impl<B: Behind> Along<B> {
         ensures decoder { self.new.decoder ≡ self.old.decoder }
         ensures choice { self.new.choice ≡ self.old.choice }
         ensures count { self.new.intervals ≡ self.old.intervals }
-        ensures fits { OnOk result ((count : ℕ) → FitsBehind B.fits self.old.behind count → FitsBehind B.fits self.new.behind count) }
+        ensures fits { OnOk result ((count : ℕ) → FitsBehind B.fits self.old.behind count
+            → FitsBehind B.fits self.new.behind count) }
         ensures header { OnOk result ((taken : ℕ) → HasHeader self.old.behind taken → HasHeader self.new.behind taken) }
         ensures settled { OnOk result (IsSettled B.is_settled self.new.behind) }
-        ensures works { OnOk result ((choice : B.Choice) (r : Recording) (written : List ℕ) → Printed B.stands self.old.behind choice r written
+        ensures works { OnOk result ((choice : B.Choice) (r : Recording) (written : List ℕ)
+            → Printed B.stands self.old.behind choice r written
             → (more : List ℕ) × Appends (K.written out.old) (K.written out.new) more
             × Printed B.stands self.new.behind choice r (written ++ more)) }
         ensures front { IfErr result (λ stop. (stop ≡ Stop.WriteFault)
-            × ((choice : B.Choice) (r : Recording) (written : List ℕ) → Printed B.stands self.old.behind choice r written
+            × ((choice : B.Choice) (r : Recording) (written : List ℕ)
+            → Printed B.stands self.old.behind choice r written
             → (part : List ℕ) × IsPartOf (B.printing choice) r (written ++ part)
             × AppendsFront (K.written out.old) (K.written out.new) part)) }
         ensures cause { HasOutCause (K.faults out.old) (K.faults out.new) result }
@@ -291,7 +296,8 @@ impl<B: Behind> Along<B> {
     fn whole_intervals<K: Sink>(&mut self, bytes: &[u8], out: &mut K) -> Result<usize, Stop>
         requires going { IsGoing B.fits self.old.decoder self.old.behind self.old.intervals }
         ensures going { OnOk result (IsGoing B.fits self.new.decoder self.new.behind self.new.intervals) }
-        ensures taken { IfOk result (λ count. (count ≤ length bytes.now) × (self.new.decoder.taken ≡ self.old.decoder.taken + count)) }
+        ensures taken { IfOk result (λ count. (count ≤ length bytes.now)
+            × (self.new.decoder.taken ≡ self.old.decoder.taken + count)) }
         ensures choice { self.new.choice ≡ self.old.choice }
         ensures works { IfOk result (λ count. Works
             (Stands B.stands self.old.decoder self.old.behind self.old.intervals self.old.choice)
@@ -329,7 +335,8 @@ impl<B: Behind> Along<B> {
         requires room { self.old.intervals + length bytes.now ≤ MAX_INTERVALS }
         requires going { IsGoing B.fits self.old.decoder self.old.behind self.old.intervals }
         ensures going { OnOk result (IsGoing B.fits self.new.decoder self.new.behind self.new.intervals) }
-        ensures taken { IfOk result (λ count. (count ≤ length bytes.now) × (self.new.decoder.taken ≡ self.old.decoder.taken + count)) }
+        ensures taken { IfOk result (λ count. (count ≤ length bytes.now)
+            × (self.new.decoder.taken ≡ self.old.decoder.taken + count)) }
         ensures choice { self.new.choice ≡ self.old.choice }
         ensures works { IfOk result (λ count. Works
             (Stands B.stands self.old.decoder self.old.behind self.old.intervals self.old.choice)
@@ -376,7 +383,8 @@ impl<B: Behind> Along<B> {
         requires header { IsSome self.old.behind }
         ensures decoder { self.new.decoder ≡ self.old.decoder }
         ensures choice { self.new.choice ≡ self.old.choice }
-        ensures count { OnOk result ((self.old.intervals < MAX_INTERVALS) × (self.new.intervals ≡ self.old.intervals + 1)) }
+        ensures count { OnOk result ((self.old.intervals < MAX_INTERVALS)
+            × (self.new.intervals ≡ self.old.intervals + 1)) }
         ensures fits { OnOk result (FitsBehind B.fits self.new.behind self.new.intervals) }
         ensures header { OnOk result (IsSome self.new.behind) }
         ensures works { OnOk result ((r : Recording) (written : List ℕ)

@@ -101,7 +101,8 @@ fn put_run<K: Sink>(
         → (more : List ℕ) × Appends (K.written out.old) (K.written out.new) more
         × (gathered.old.room.items ++ bytes_of (replicate samples sample) ≡ more ++ gathered.new.room.items)) }
     ensures front { OnErr result ((sample : ℤ) → run.now.items ≡ bytes_of (replicate 512 sample)
-        → AppendsFront (K.written out.old) (K.written out.new) (gathered.old.room.items ++ bytes_of (replicate samples sample))) }
+        → AppendsFront (K.written out.old) (K.written out.new) (gathered.old.room.items
+        ++ bytes_of (replicate samples sample))) }
     ensures why { IfErr result (λ stop. stop ≡ Stop.WriteFault) }
     ensures cause { HasOutCause (K.faults out.old) (K.faults out.new) result }
 {

@@ -1,6 +1,7 @@
--- The crossings of the threshold and their moments in ticks, of which each sample has as many as the fineness says. With one
--- tick a sample, a moment is the place of a sample. The finer form is this project's own.
-use Rattle.std.specs.Prelude.{ℕ, ◌+◌, ◌-◌, ◌*◌, Bool, cond, ℤ, pos, ◌-ℤ◌, int_le, unsigned_abs, List, length, map, Option, Some, None}
+-- The crossings of the threshold and their moments in ticks, of which each sample has as many as the fineness says.
+-- With one tick a sample, a moment is the place of a sample. The finer form is this project's own.
+use Rattle.std.specs.Prelude.{ℕ, ◌+◌, ◌-◌, ◌*◌, Bool, cond, ℤ, pos, ◌-ℤ◌, int_le, unsigned_abs, List, length, map}
+use Rattle.std.specs.Prelude.{Option, Some, None}
 use Rattle.std.specs.List.{filter, range_with_len}
 use Rattle.std.specs.Int.{div_ceil}
 use Rattle.pcm_front.specs.declared.side.Side.{Side}
@@ -20,7 +21,8 @@ crossings threshold samples = filter (is_crossing threshold samples) (range_with
 abbrev pub apart : ℤ → ℤ → ℕ
 apart a b = unsigned_abs (a -ℤ b)
 
--- the tick, of those in the step from sample a up to sample b, in which a straight line between the two is first at the threshold or above
+-- the tick, of those in the step from sample a up to sample b, in which a straight line between the two is first at
+-- the threshold or above
 abbrev pub tick_in_step : ℕ → ℕ → ℤ → ℤ → ℕ
 tick_in_step fineness threshold a b =
     cond (int_le (pos threshold) a) 1 (div_ceil (fineness * apart (pos threshold) a) (apart b a))

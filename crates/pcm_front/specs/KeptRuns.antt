@@ -32,9 +32,11 @@ pub record IsAt (state : FinderState) (side : Option Side) (threshold : Threshol
 
 -- and after so many samples more, where the sound stayed on its side
 abbrev pub still_at : FinderState → ℕ → ℤ → Level → FinderState
-still_at state count before level = record state { tick = state.tick + state.fineness * count; before = before; level = level }
+still_at state count before level =
+    record state { tick = state.tick + state.fineness * count; before = before; level = level }
 
 -- the sound stayed on its side from one place to the other
 abbrev pub PassesTo : Option Side → Threshold → List ℤ → Passed → Passed → WindowState → WindowState → Type 0
-PassesTo side threshold samples from now window after = (state : FinderState) → IsAt state side threshold from.before from.level
+PassesTo side threshold samples from now window after =
+    (state : FinderState) → IsAt state side threshold from.before from.level
     → RunsTo state (still_at state (now.end - from.end) now.before now.level) window after (slice_range samples from.end now.end) None

@@ -1,4 +1,5 @@
--- The threshold at each sample: the same at all of them, or one that follows the level of the sound. The rule is this project's own.
+-- The threshold at each sample: the same at all of them, or one that follows the level of the sound. The rule is this
+-- project's own.
 use Rattle.std.specs.Prelude.{ℕ, ◌+◌, ◌-◌, ◌/◌, ◌^◌, ◌≤◌, max, cond, nat_lt, ℤ, unsigned_abs, List, take}
 use Rattle.std.specs.List.{fold}
 use Rattle.std.specs.Int.{div_ceil}
@@ -10,7 +11,8 @@ use Rattle.pcm_front.specs.declared.threshold.Threshold.TheVariants.{Fixed, Foll
 abbrev pub silent : Level
 silent = record { peak = 0; sum = 0 }
 
--- the peak after a sample of a size: it grows by a quarter of what it lacks, rounded up, or falls by a 1024th of itself, rounded up
+-- the peak after a sample of a size: it grows by a quarter of what it lacks, rounded up, or falls by a 1024th of
+-- itself, rounded up
 abbrev pub peak_after : ℕ → ℕ → ℕ
 peak_after peak size = cond (nat_lt peak size) (peak + div_ceil (size - peak) 4) (peak - div_ceil peak 1_024)
 
@@ -20,7 +22,8 @@ sum_after sum size = sum - sum / 1_024 + size
 
 -- the level after a sample
 abbrev pub level_after : Level → ℤ → Level
-level_after level sample = let size = unsigned_abs sample in record { peak = peak_after level.peak size; sum = sum_after level.sum size }
+level_after level sample =
+    let size = unsigned_abs sample in record { peak = peak_after level.peak size; sum = sum_after level.sum size }
 
 -- the level of some samples, the first one first
 abbrev pub level_of : List ℤ → Level

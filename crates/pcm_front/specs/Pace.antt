@@ -54,7 +54,8 @@ begun pace passed = replicate (begun_in pace passed) (longest pace)
 -- the intervals that stand after some samples: the pieces of their distances, and those of the distance that has not
 -- ended
 abbrev pub intervals_at : Pace → Settings → List ℤ → List ℕ
-intervals_at pace s samples = flat_map (pieces_in (longest pace)) (distances_by s samples) ++ begun pace (passed_by s samples)
+intervals_at pace s samples =
+    flat_map (pieces_in (longest pace)) (distances_by s samples) ++ begun pace (passed_by s samples)
 
 -- the intervals of some pieces: the whole ones that a distance still lacked and the rest of it, and those of the next
 -- one

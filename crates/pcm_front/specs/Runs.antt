@@ -12,10 +12,12 @@ LiesOn threshold side sample = side_of threshold sample ≡ Some side
 abbrev pub IsOfSize : ℕ → Side → ℤ → Type 0
 IsOfSize size side sample = sample ≡ upward side (pos size)
 
--- runs of at least one sample that fit the side of their run: the first run has a side, the next the other one, and so on
+-- runs of at least one sample that fit the side of their run: the first run has a side, the next the other one, and so
+-- on
 abbrev pub Alternate : (Side → ℤ → Type 0) → Side → List (List ℤ) → Type 0
 Alternate fits side [] = Unit {0}
-Alternate fits side (run ∷ runs) = (1 ≤ length run) × AllByRecursion (fits side) run × Alternate fits (other_side side) runs
+Alternate fits side (run ∷ runs) =
+    (1 ≤ length run) × AllByRecursion (fits side) run × Alternate fits (other_side side) runs
 
 -- the samples of some runs, one run after another
 abbrev pub joined : List (List ℤ) → List ℤ

@@ -1,4 +1,5 @@
--- Raw samples of sound: each a number of 16 bits with a sign, in two bytes, the less significant one first; one channel.
+-- Raw samples of sound: each a number of 16 bits with a sign, in two bytes, the less significant one first; one
+-- channel.
 use Rattle.std.specs.Prelude.{ℕ, ℤ, List, [], ◌∷◌}
 use Rattle.std.specs.List.{flat_map}
 use Rattle.std.specs.Int.{w16, cast_signed, cast_unsigned}

@@ -13,8 +13,10 @@ pub record Settings : Type 0 where
 
 -- the first distance begins at the first crossing
 abbrev pub from_crossing : ℕ → Threshold → ℕ → Settings
-from_crossing fineness threshold smooth = record { fineness = fineness; threshold = threshold; smooth = smooth; start = Crossing }
+from_crossing fineness threshold smooth =
+    record { fineness = fineness; threshold = threshold; smooth = smooth; start = Crossing }
 
 -- it begins at tick 0, the place of the first sample
 abbrev pub from_start : ℕ → Threshold → ℕ → Settings
-from_start fineness threshold smooth = record { fineness = fineness; threshold = threshold; smooth = smooth; start = Tick }
+from_start fineness threshold smooth =
+    record { fineness = fineness; threshold = threshold; smooth = smooth; start = Tick }

@@ -1,5 +1,6 @@
 -- The sides of the threshold: on which one a sample lies, and on which the sound is after it.
-use Rattle.std.specs.Prelude.{ℕ, zero, suc, Bool, true, false, not, cond, is_some, ℤ, pos, neg_ℤ, int_le, List, get_or, Option, Some, None}
+use Rattle.std.specs.Prelude.{ℕ, zero, suc, Bool, true, false, not, cond, is_some, ℤ, pos, neg_ℤ, int_le, List, get_or}
+use Rattle.std.specs.Prelude.{Option, Some, None}
 use Rattle.std.specs.Option.{option_or}
 use Rattle.pcm_front.specs.declared.side.Side.{Side}
 use Rattle.pcm_front.specs.declared.side.Side.TheVariants.{High, Low}

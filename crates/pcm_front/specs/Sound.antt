@@ -8,7 +8,8 @@ use Rattle.pcm_front.specs.Runs.{joined}
 -- a run of samples for each interval, the first on a side, and one sample more on the next side
 abbrev pub sound_runs : ℕ → Side → List ℕ → List (List ℤ)
 sound_runs size side [] = (upward side (pos size) ∷ []) ∷ []
-sound_runs size side (interval ∷ more) = replicate interval (upward side (pos size)) ∷ sound_runs size (other_side side) more
+sound_runs size side (interval ∷ more) =
+    replicate interval (upward side (pos size)) ∷ sound_runs size (other_side side) more
 
 -- the samples of a sound: one below zero, and then the runs, the first above
 abbrev pub sound : ℕ → List ℕ → List ℤ

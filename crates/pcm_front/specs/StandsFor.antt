@@ -31,7 +31,8 @@ pub record Finds (finder : FinderState) (samples : List ℤ) : Type 0 where
 
 -- the distances of the sums of samples, as both together find them
 abbrev pub distances_in : FinderState → WindowState → List ℤ → List ℕ
-distances_in finder window samples = distances_since finder.start finder.fineness finder.threshold (sums window.smooth samples)
+distances_in finder window samples =
+    distances_since finder.start finder.fineness finder.threshold (sums window.smooth samples)
 
 -- both together answer as after these samples: crossings are found in their sums
 pub record Stand (finder : FinderState) (window : WindowState) (samples : List ℤ) : Type 0 where

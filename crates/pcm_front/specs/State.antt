@@ -1,5 +1,6 @@
 -- What is kept of the samples so far, in finding crossings and in summing them.
-use Rattle.std.specs.Prelude.{◌≡◌, ℕ, ◌+◌, ◌-◌, ◌≤◌, cond, ℤ, pos, List, [], ◌∷◌, ◌++◌, length, take, drop, replicate, Option, Some, None, IfSome}
+use Rattle.std.specs.Prelude.{◌≡◌, ℕ, ◌+◌, ◌-◌, ◌≤◌, cond, ℤ, pos, List, [], ◌∷◌, ◌++◌, length, take, drop, replicate}
+use Rattle.std.specs.Prelude.{Option, Some, None, IfSome}
 use Rattle.std.specs.List.{AllByRecursion}
 use Rattle.std.specs.Option.{option_or}
 use Rattle.pcm_front.specs.declared.level.Level.{Level}
@@ -13,8 +14,9 @@ use Rattle.pcm_front.specs.Side.{side_of, differs}
 use Rattle.pcm_front.specs.Sums.{total}
 use Rattle.pcm_front.specs.Crossing.{tick_to}
 
--- its fineness and threshold, and where the first distance begins; the ticks of the samples so far, the last of them, their level where the
--- threshold follows it, and the side after them; and the moment of the last crossing, a sample late
+-- its fineness and threshold, and where the first distance begins; the ticks of the samples so far, the last of them,
+-- their level where the threshold follows it, and the side after them; and the moment of the last crossing, a sample
+-- late
 pub record FinderState : Type 0 where
   pub fineness : ℕ
   pub threshold : Threshold

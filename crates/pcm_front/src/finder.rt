@@ -6,7 +6,8 @@ ghost use Rattle.pcm_front.specs.Level.{IsSum};
 ghost use Rattle.pcm_front.specs.Pace.{Passes};
 ghost use Rattle.pcm_front.specs.Side.{side_of};
 ghost use Rattle.pcm_front.specs.StandsFor.{passed_in};
-ghost use Rattle.pcm_front.specs.State.{between, crossing_after, distance_at, fresh, late_start, state_after, IsAlone, IsThreshold, WindowState};
+ghost use Rattle.pcm_front.specs.State.{between, crossing_after, distance_at, fresh, late_start, state_after, IsAlone};
+ghost use Rattle.pcm_front.specs.State.{IsThreshold, WindowState};
 
 use crate::crossing::tick_to;
 use crate::level::Level;
@@ -105,7 +106,8 @@ impl Finder {
         requires sum { IsSum sum }
         requires room { self.now.tick + self.now.fineness ≤ 2 ^ 62 }
         ensures value { result ≡ crossing_after self.now threshold sum }
-        ensures later { IfSome result (λ moment. (self.now.tick + 1 ≤ moment) × (moment ≤ self.now.tick + self.now.fineness)) }
+        ensures later { IfSome result (λ moment. (self.now.tick + 1 ≤ moment)
+            × (moment ≤ self.now.tick + self.now.fineness)) }
     {
         if !differs(self.side, now) {
             return None;

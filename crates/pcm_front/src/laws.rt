@@ -1,5 +1,6 @@
 //! What follows from the definitions of crossings and distances alone.
-ghost use Rattle.std.specs.Prelude.{◌≡◌, ℕ, ◌+◌, ◌-◌, ◌*◌, ◌<◌, ◌≤◌, ◌^◌, FitsSigned, false, true, ℤ, pos, ◌≤ℤ◌, int_le, unsigned_abs, List, [], ◌∷◌};
+ghost use Rattle.std.specs.Prelude.{◌≡◌, ℕ, ◌+◌, ◌-◌, ◌*◌, ◌<◌, ◌≤◌, ◌^◌, FitsSigned, false, true, ℤ, pos, ◌≤ℤ◌};
+ghost use Rattle.std.specs.Prelude.{int_le, unsigned_abs, List, [], ◌∷◌};
 ghost use Rattle.std.specs.Prelude.{◌++◌, length, map, take, drop};
 ghost use Rattle.std.specs.Int.{w16};
 ghost use Rattle.std.specs.List.{All, AllByRecursion, sum};
@@ -10,7 +11,8 @@ ghost use Rattle.pcm_front.specs.declared.threshold.Threshold.{Threshold};
 ghost use Rattle.pcm_front.specs.declared.threshold.Threshold.TheVariants.{Fixed, Follow, Deep};
 ghost use Rattle.pcm_front.specs.Level.{level_of};
 ghost use Rattle.pcm_front.specs.Crossing.{apart, crossings, is_crossing, moments, tick_at, tick_in_step};
-ghost use Rattle.pcm_front.specs.Distance.{distances, distances_by, distances_from_start, gaps, intervals, intervals_by, pieces_in, pieces_of, IsInterval};
+ghost use Rattle.pcm_front.specs.Distance.{distances, distances_by, distances_from_start, gaps, intervals};
+ghost use Rattle.pcm_front.specs.Distance.{intervals_by, pieces_in, pieces_of, IsInterval};
 ghost use Rattle.pcm_front.specs.Pace.{intervals_at, passed_by, IsPace};
 ghost use Rattle.pcm_front.specs.Runs.{Alternate, IsOfSize, LiesOn, joined};
 ghost use Rattle.pcm_front.specs.Samples.{bytes_of, samples_of};
@@ -118,7 +120,8 @@ pub fn runs_of_one_size_are_sliced_into_their_lengths()
 pub fn a_sound_is_sliced_into_its_intervals()
     ensures distances { (fineness threshold size : ℕ) (intervals : List ℕ)
         → 1 ≤ threshold → threshold ≤ size → AllByRecursion IsInterval intervals
-        → distances fineness (Fixed threshold) (sound size intervals) ≡ map (λ interval. fineness * interval) intervals }
+        → distances fineness (Fixed threshold) (sound size intervals)
+        ≡ map (λ interval. fineness * interval) intervals }
     ensures intervals { (threshold size : ℕ) (lengths : List ℕ)
         → 1 ≤ threshold → threshold ≤ size → AllByRecursion IsInterval lengths
         → intervals 1 (Fixed threshold) (sound size lengths) ≡ lengths }
@@ -129,7 +132,8 @@ pub fn a_sound_is_sliced_into_its_intervals()
 pub fn a_sound_is_sliced_at_a_threshold_that_follows()
     ensures follow { (fineness threshold size : ℕ) (intervals : List ℕ)
         → 1 ≤ threshold → threshold ≤ size → size ≤ 2 * threshold → AllByRecursion IsInterval intervals
-        → distances fineness (Follow threshold) (sound size intervals) ≡ map (λ interval. fineness * interval) intervals }
+        → distances fineness (Follow threshold) (sound size intervals)
+        ≡ map (λ interval. fineness * interval) intervals }
     ensures deep { (fineness threshold size : ℕ) (intervals : List ℕ)
         → 1 ≤ threshold → threshold ≤ size → size ≤ 2 * threshold → AllByRecursion IsInterval intervals
         → distances fineness (Deep threshold) (sound size intervals) ≡ map (λ interval. fineness * interval) intervals }
@@ -163,7 +167,8 @@ pub fn intervals_add_up_to_their_distance()
 /// Each distance is its pieces, joined again, and each piece is from 1 to the length.
 pub fn pieces_add_up_to_their_distance()
     ensures joined { (length : ℕ) (settings : Settings) (samples : List ℤ) → 1 ≤ length → 1 ≤ settings.fineness
-        → map (λ distance. sum (pieces_in length distance)) (distances_by settings samples) ≡ distances_by settings samples }
+        → map (λ distance. sum (pieces_in length distance)) (distances_by settings samples)
+        ≡ distances_by settings samples }
     ensures range { (length distance : ℕ) → 1 ≤ length → 1 ≤ distance
         → AllByRecursion (λ piece. (1 ≤ piece) × (piece ≤ length)) (pieces_in length distance) }
 {}

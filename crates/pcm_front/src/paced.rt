@@ -26,7 +26,8 @@ impl Slicer {
         ensures settings { settings_of self.new ≡ settings_of self.old }
 
         // What it means for the samples so far.
-        ensures stands { (front : List ℤ) → StandsFor self.old front → StandsFor self.new (front ++ take result.0 samples.now) }
+        ensures stands { (front : List ℤ) → StandsFor self.old front
+            → StandsFor self.new (front ++ take result.0 samples.now) }
         ensures intervals { (front : List ℤ) → StandsFor self.old front
             → intervals_at pace (settings_of self.old) (front ++ take result.0 samples.now)
             ≡ intervals_at pace (settings_of self.old) front ++ intervals_in result.1 }

@@ -1,5 +1,6 @@
 //! Samples that lead to no other side, many at once. Next: `threshold`.
-ghost use Rattle.std.specs.Prelude.{◌≡◌, ℕ, Some, ◌+◌, ◌<◌, ◌≤◌, ◌^◌, pos, ◌+ℤ◌, ◌≤ℤ◌, FitsSigned, not, length, map, slice_range};
+ghost use Rattle.std.specs.Prelude.{◌≡◌, ℕ, Some, ◌+◌, ◌<◌, ◌≤◌, ◌^◌, pos, ◌+ℤ◌, ◌≤ℤ◌, FitsSigned, not, length, map};
+ghost use Rattle.std.specs.Prelude.{slice_range};
 ghost use Rattle.std.specs.Simd.Lanes.{mask_l};
 ghost use Rattle.std.specs.Int.{w16};
 ghost use Rattle.std.specs.List.{prefix_len, AllByRecursion};
@@ -52,7 +53,8 @@ impl Band {
     /// The same of a side, at thresholds above so much.
     fn on(side: Side, inside: i16) -> Band
         requires { pos 0 ≤ℤ inside }
-        ensures { (threshold : ℕ) → 1 ≤ threshold → (inside +ℤ pos 1) ≤ℤ pos threshold → IsQuiet (Some side) threshold result }
+        ensures { (threshold : ℕ) → 1 ≤ threshold → (inside +ℤ pos 1) ≤ℤ pos threshold
+            → IsQuiet (Some side) threshold result }
     {
         match side {
             Side::High => Band {

@@ -210,7 +210,8 @@ impl Slicer {
     /// Takes samples from a place on that bring no distance, and gives the place behind them.
     fn pass<S: Samples>(&mut self, samples: &S, at: usize) -> usize
         requires place { at ≤ length (S.list samples.now) }
-        requires room { tick_of self.old + (settings_of self.old).fineness * (length (S.list samples.now) - at) ≤ 2 ^ 62 }
+        requires room { tick_of self.old
+            + (settings_of self.old).fineness * (length (S.list samples.now) - at) ≤ 2 ^ 62 }
         ensures order { at ≤ result }
         ensures within { result ≤ length (S.list samples.now) }
         ensures passes { passed_of self.old ≤ passed_of self.new }

@@ -1,5 +1,6 @@
 //! The sums of the latest samples. Next: `quiet`.
-ghost use Rattle.std.specs.Prelude.{◌≡◌, ◌≤◌, ◌+◌, ◌*◌, ◌==◌, true, false, cond, unsigned_abs, ◌+ℤ◌, ◌-ℤ◌, ◌++◌, [], ◌∷◌, length};
+ghost use Rattle.std.specs.Prelude.{◌≡◌, ◌≤◌, ◌+◌, ◌*◌, ◌==◌, true, false, cond, unsigned_abs, ◌+ℤ◌, ◌-ℤ◌, ◌++◌, []};
+ghost use Rattle.std.specs.Prelude.{◌∷◌, length};
 ghost use Rattle.pcm_front.specs.KeptRuns.{PassesTo};
 ghost use Rattle.pcm_front.specs.Level.{IsInRange, IsSum};
 ghost use Rattle.pcm_front.specs.State.{fresh_window, window_after, window_of, IsAlone, IsRing, IsThreshold};

@@ -46,4 +46,5 @@ pub record Stands (r : FieldReport) (bytes written : List ℕ) : Type 0 where
 -- what was written is the part of the bytes
 pub stands_well : (r : FieldReport) (bytes written : List ℕ) → Stands r bytes written
     → Shows along_fields good bytes × Meaning.part along_fields bytes written
-stands_well r bytes written s = (record { is = good_too Lines _ s.told.0; unspent = λ spent. spent }, (s.answers, s.told.1, s.are))
+stands_well r bytes written s =
+    (record { is = good_too Lines _ s.told.0; unspent = λ spent. spent }, (s.answers, s.told.1, s.are))

@@ -38,6 +38,9 @@ pub record Stands (r : MtcReport) (bytes written : List ℕ) : Type 0 where
 pub stands_well : (r : MtcReport) (bytes written : List ℕ) → Stands r bytes written
     → Shows along_midi good bytes × Meaning.part along_midi bytes written
 stands_well r bytes written stands = (
-  record { is = ap (λ (b : Bool). cond b past_limit good) (le-ltb MAX_BYTES (length bytes) stands.within); unspent = λ spent. spent },
+  record {
+    is = ap (λ (b : Bool). cond b past_limit good) (le-ltb MAX_BYTES (length bytes) stands.within);
+    unspent = λ spent. spent;
+  },
   stands.are ∙ ap (λ (l : List ℕ). event_lines (events_in l)) (sym (take_all MAX_BYTES bytes stands.within)),
 )

@@ -37,19 +37,22 @@ pub record Stands (s : SlicedSound) (bytes written : List ℕ) : Type 0 where
 -- ---- whole samples, and a byte behind them
 
 -- the samples of whole samples and of what follows
-pub samples_of-append : (count : ℕ) (whole more : List ℕ) → length whole ≡ 2 * count → samples_of (whole ++ more) ≡ samples_of whole ++ samples_of more
+pub samples_of-append : (count : ℕ) (whole more : List ℕ) → length whole ≡ 2 * count
+    → samples_of (whole ++ more) ≡ samples_of whole ++ samples_of more
 unfolding samples_of
 samples_of-append count [] more is = refl
 samples_of-append count (low ∷ []) more is = absurd (omega (arith, is))
 samples_of-append zero (low ∷ high ∷ rest) more is = absurd (omega (arith, is))
-samples_of-append (suc count) (low ∷ high ∷ rest) more is = ap (λ l. sample_in (low ∷ high ∷ []) ∷ l) (samples_of-append count rest more (omega (arith, is)))
+samples_of-append (suc count) (low ∷ high ∷ rest) more is =
+    ap (λ l. sample_in (low ∷ high ∷ []) ∷ l) (samples_of-append count rest more (omega (arith, is)))
 
 pub length-samples : (count : ℕ) (whole : List ℕ) → length whole ≡ 2 * count → length (samples_of whole) ≡ count
 unfolding samples_of
 length-samples count [] is = omega (arith, is)
 length-samples count (low ∷ []) is = absurd (omega (arith, is))
 length-samples zero (low ∷ high ∷ rest) is = absurd (omega (arith, is))
-length-samples (suc count) (low ∷ high ∷ rest) is = let more = length-samples count rest (omega (arith, is)) in omega (arith, more)
+length-samples (suc count) (low ∷ high ∷ rest) is =
+    let more = length-samples count rest (omega (arith, is)) in omega (arith, more)
 
 -- half a sample is none
 pub no_sample : (half : Option ℕ) → samples_of (option_to_list half) ≡ []
@@ -57,19 +60,26 @@ unfolding samples_of
 no_sample None = refl
 no_sample (Some low) = refl
 
-pub half_is_none : (count : ℕ) (whole : List ℕ) (half : Option ℕ) → length whole ≡ 2 * count → samples_of (whole ++ option_to_list half) ≡ samples_of whole
+pub half_is_none : (count : ℕ) (whole : List ℕ) (half : Option ℕ) → length whole ≡ 2 * count
+    → samples_of (whole ++ option_to_list half) ≡ samples_of whole
 half_is_none count whole half is =
-    samples_of-append count whole (option_to_list half) is ∙ ap (λ l. samples_of whole ++ l) (no_sample half) ∙ append-nil (samples_of whole)
+    samples_of-append count whole (option_to_list half) is ∙ ap (λ l. samples_of whole ++ l) (no_sample half)
+    ∙ append-nil (samples_of whole)
 
 -- what was written is the part of the bytes, where nothing is gathered
 pub stands_well : (s : SlicedSound) (bytes written : List ℕ) → s.gathered.room.items ≡ [] → Stands s bytes written
     → Shows (along_samples s.slicing) good bytes × Meaning.part (along_samples s.slicing) bytes written
 stands_well s bytes written settled stands =
     let slices = stands.slices in
-    let same : samples_of bytes ≡ samples_of stands.whole = ap samples_of stands.are ∙ half_is_none s.samples stands.whole s.half slices.count in
-    let long : length (samples_of bytes) ≡ s.samples = ap length same ∙ length-samples s.samples stands.whole slices.count in
+    let same : samples_of bytes ≡ samples_of stands.whole =
+    ap samples_of stands.are ∙ half_is_none s.samples stands.whole s.half slices.count in
+    let long : length (samples_of bytes) ≡ s.samples =
+    ap length same ∙ length-samples s.samples stands.whole slices.count in
     let within : length (samples_of bytes) ≤ MAX_SAMPLES = omega (arith, long, slices.within) in (
-      record { is = ap (λ (b : Bool). cond b past_limit good) (le-ltb MAX_SAMPLES (length (samples_of bytes)) within); unspent = λ spent. spent },
+      record {
+        is = ap (λ (b : Bool). cond b past_limit good) (le-ltb MAX_SAMPLES (length (samples_of bytes)) within);
+        unspent = λ spent. spent;
+      },
       sym (append-nil written) ∙ ap (λ (l : List ℕ). written ++ l) (sym settled) ∙ slices.are
           ∙ ap (sliced s.slicing) (sym same ∙ sym (take_all MAX_SAMPLES (samples_of bytes) within)),
     )

@@ -30,7 +30,8 @@ is_refused (RefusedQuarter direction fault place) = true
 
 -- the last line counts the bytes and the events of each kind
 abbrev pub last_mtc_line : List ℕ → List MtcEvent → List ℕ
-last_mtc_line bytes events = end_line (length bytes) (count_by is_full events) (count_by is_quarter events) (count_by is_refused events)
+last_mtc_line bytes events =
+    end_line (length bytes) (count_by is_full events) (count_by is_quarter events) (count_by is_refused events)
 
 -- at most so many bytes are read
 abbrev pub verdict_within : ℕ → List ℕ → Verdict InputFault

@@ -44,6 +44,8 @@ along_fields = record {
   verdict = λ bytes. verdict_as Lines (reading_of bytes).verdict;
   end_fault = λ bytes. option_map Lines (end_fault_of bytes);
   spent = λ bytes. ⊥;
-  part = λ bytes written. (answers : List FieldAnswer) × AreAnswersOf (reading_of bytes) answers × (written ≡ answer_lines 0 answers);
-  output = λ bytes written. (answers : List FieldAnswer) × AreAnswersOf (reading_of bytes) answers × (written ≡ field_report answers);
+  part = λ bytes written. (answers : List FieldAnswer) × AreAnswersOf (reading_of bytes) answers
+      × (written ≡ answer_lines 0 answers);
+  output = λ bytes written. (answers : List FieldAnswer) × AreAnswersOf (reading_of bytes) answers
+      × (written ≡ field_report answers);
 }

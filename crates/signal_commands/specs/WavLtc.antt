@@ -1,5 +1,5 @@
--- `wav-ltc`: a track of a sound file, as an interval file of the distances of its crossings. The first one runs from the place of the first sample,
--- so that a sixteenth of each tick is a place in the file.
+-- `wav-ltc`: a track of a sound file, as an interval file of the distances of its crossings. The first one runs from
+-- the place of the first sample, so that a sixteenth of each tick is a place in the file.
 use Rattle.std.specs.Prelude.{◌≡◌, ℕ, ◌*◌, true, ℤ, List, [], Option, Some, None}
 use Rattle.std.specs.Option.{option_map}
 use Rattle.pcm_front.specs.declared.pace.Pace.{Pace}
@@ -31,7 +31,8 @@ track_pace w format = pace_of w.live w.system (16 * format.rate)
 -- the file of the intervals of samples; there is none where the data have not begun
 abbrev pub track_file : SlicesWave → Option WaveFormat → List ℤ → List ℕ
 track_file w None samples = []
-track_file w (Some format) samples = file_of (track_header w format) (intervals_at (track_pace w format) (track_settings w) samples)
+track_file w (Some format) samples =
+    file_of (track_header w format) (intervals_at (track_pace w format) (track_settings w) samples)
 
 -- the file of the track of a sound file
 abbrev pub track_of : SlicesWave → List ℕ → List ℕ

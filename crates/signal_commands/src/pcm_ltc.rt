@@ -84,7 +84,8 @@ impl SlicedSound {
             → (more : List ℕ) × Appends (K.written out.old) (K.written out.new) more
             × Slices self.new (whole ++ take count bytes.now) (written ++ more)) }
         ensures stops { IfErr result (λ stop. (whole written rest : List ℕ) → Slices self.old whole written
-            → Stops (along_samples self.old.slicing) stop (K.written out.old) (K.written out.new) (whole ++ (bytes.now ++ rest)) written) }
+            → Stops (along_samples self.old.slicing) stop (K.written out.old) (K.written out.new) (whole
+            ++ (bytes.now ++ rest)) written) }
         ensures cause { HasOutCause (K.faults out.old) (K.faults out.new) result }
         ensures no_pull { result ≡ Err Stop.ReadFault → ⊥ }
     {
@@ -110,7 +111,8 @@ impl SlicedSound {
             → (more : List ℕ) × Appends (K.written out.old) (K.written out.new) more
             × Slices self.new (whole ++ take count bytes.now) (written ++ more)) }
         ensures stops { IfErr result (λ stop. (whole written rest : List ℕ) → Slices self.old whole written
-            → Stops (along_samples self.old.slicing) stop (K.written out.old) (K.written out.new) (whole ++ (bytes.now ++ rest)) written) }
+            → Stops (along_samples self.old.slicing) stop (K.written out.old) (K.written out.new) (whole
+            ++ (bytes.now ++ rest)) written) }
         ensures cause { HasOutCause (K.faults out.old) (K.faults out.new) result }
         ensures no_pull { result ≡ Err Stop.ReadFault → ⊥ }
     {
@@ -139,7 +141,8 @@ impl SlicedSound {
             → (more : List ℕ) × Appends (K.written out.old) (K.written out.new) more
             × Slices self.new (whole ++ take count bytes.now) (written ++ more)) }
         ensures stops { IfErr result (λ stop. (whole written rest : List ℕ) → Slices self.old whole written
-            → Stops (along_samples self.old.slicing) stop (K.written out.old) (K.written out.new) (whole ++ (bytes.now ++ rest)) written) }
+            → Stops (along_samples self.old.slicing) stop (K.written out.old) (K.written out.new) (whole
+            ++ (bytes.now ++ rest)) written) }
         ensures cause { HasOutCause (K.faults out.old) (K.faults out.new) result }
         ensures no_pull { result ≡ Err Stop.ReadFault → ⊥ }
     {

@@ -1,6 +1,7 @@
 //! The engine of `wav-ltc`: an interval file of the crossings of a track of a sound file. Next:
 //! `wave_file/src/decoder.rt`, then `pcm_front/src/slicer.rt`, and then `tc_command/src/gathered.rt`.
-ghost use Rattle.std.specs.Prelude.{◌≡◌, ◌+◌, ◌*◌, ◌≤◌, ◌<◌, ◌^◌, ◌++◌, ℕ, ℤ, List, [], length, take, None, OnOk, OnErr, IfOk, IfErr, IfSome, Err};
+ghost use Rattle.std.specs.Prelude.{◌≡◌, ◌+◌, ◌*◌, ◌≤◌, ◌<◌, ◌^◌, ◌++◌, ℕ, ℤ, List, [], length, take, None, OnOk};
+ghost use Rattle.std.specs.Prelude.{OnErr, IfOk, IfErr, IfSome, Err};
 ghost use Rattle.pcm_front.specs.Pace.{IsPace};
 ghost use Rattle.pcm_front.specs.StandsFor as pcm;
 ghost use Rattle.pcm_front.specs.StandsFor.{settings_of, tick_of};
@@ -86,7 +87,8 @@ impl SlicedTrack {
         ensures works { IfOk result (λ count.
             Works (Stands self.old) (Stands self.new) (K.written out.old) (K.written out.new) (take count bytes.now)) }
         ensures stops { IfErr result (λ stop. (front written : List ℕ) → Stands self.old front written
-            → Stops (along_sound_file self.old.slicing) stop (K.written out.old) (K.written out.new) (front ++ bytes.now) written) }
+            → Stops (along_sound_file self.old.slicing) stop (K.written out.old) (K.written out.new) (front
+            ++ bytes.now) written) }
         ensures cause { HasOutCause (K.faults out.old) (K.faults out.new) result }
         ensures no_pull { result ≡ Err Stop.ReadFault → ⊥ }
     {
@@ -109,7 +111,8 @@ impl SlicedTrack {
         ensures works { IfOk result (λ count.
             Works (Stands self.old) (Stands self.new) (K.written out.old) (K.written out.new) (take count bytes.now)) }
         ensures stops { IfErr result (λ stop. (front written : List ℕ) → Stands self.old front written
-            → Stops (along_sound_file self.old.slicing) stop (K.written out.old) (K.written out.new) (front ++ bytes.now) written) }
+            → Stops (along_sound_file self.old.slicing) stop (K.written out.old) (K.written out.new) (front
+            ++ bytes.now) written) }
         ensures cause { HasOutCause (K.faults out.old) (K.faults out.new) result }
         ensures no_pull { result ≡ Err Stop.ReadFault → ⊥ }
     {
@@ -175,7 +178,8 @@ fn slice<K: Sink>(
     requires pace { IsPace pace }
     requires room { tick_of slicer.old + (settings_of slicer.old).fineness * length samples.now ≤ 2 ^ 62 }
     ensures settings { settings_of slicer.new ≡ settings_of slicer.old }
-    ensures stands { OnOk result ((front : List ℤ) → pcm.StandsFor slicer.old front → pcm.StandsFor slicer.new (front ++ samples.now)) }
+    ensures stands { OnOk result ((front : List ℤ) → pcm.StandsFor slicer.old front
+        → pcm.StandsFor slicer.new (front ++ samples.now)) }
     ensures all { OnOk result ((front : List ℤ) → pcm.StandsFor slicer.old front
         → (due : List ℕ) × AreDue pace (settings_of slicer.old) front samples.now due
         × IsPut (K.written out.old) (K.written out.new) gathered.old.room.items due gathered.new.room.items) }

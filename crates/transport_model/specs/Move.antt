@@ -19,7 +19,8 @@ IsInRange subframes = unsigned_abs subframes ≤ 1_000_000
 
 -- the transport after an order and a slip: it stands their sum further, modulo the day
 abbrev pub after_move : TransportState → ℤ → ℤ → TransportState
-after_move before order slip = record { count = before.count; position = moved (day_of before.count) before.position (order +ℤ slip) }
+after_move before order slip =
+    record { count = before.count; position = moved (day_of before.count) before.position (order +ℤ slip) }
 
 -- the transport honours its bound in a move with this slip: it is at most 8 subframes, either way
 abbrev pub HonoursBound : ℤ → Type 0

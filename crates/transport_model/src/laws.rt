@@ -13,7 +13,8 @@ pub fn the_bound_is_eight_subframes()
 /// to where the transport stands.
 pub fn a_slip_leads_away_from_the_place_that_was_meant()
     ensures after { (count : Count) (position : ℕ) (order slip : ℤ)
-        → moved (day_of count) (moved (day_of count) position order) slip ≡ moved (day_of count) position (order +ℤ slip) }
+        → moved (day_of count) (moved (day_of count) position order) slip
+        ≡ moved (day_of count) position (order +ℤ slip) }
     ensures way { (count : Count) (position : ℕ) (order slip : ℤ) → HonoursBound slip
         → IsShortest (day_of count) (moved (day_of count) position order) (moved (day_of count) position (order +ℤ slip)) slip }
 {}

@@ -1,5 +1,6 @@
 -- The chunks of a sound file: what their letters and sizes say (EBU Tech 3285; ITU-R BS.2088 for sizes of 64 bits).
-use Rattle.std.specs.Prelude.{⊤, ◌≤◌, ℕ, zero, suc, Bool, true, false, not, ◌&&◌, ◌||◌, ◌==◌, nat_le, nat_lt, if◌then◌else◌, Option, Some, None, Result, Ok, Err, IfSome}
+use Rattle.std.specs.Prelude.{⊤, ◌≤◌, ℕ, zero, suc, Bool, true, false, not, ◌&&◌, ◌||◌, ◌==◌, nat_le, nat_lt}
+use Rattle.std.specs.Prelude.{if◌then◌else◌, Option, Some, None, Result, Ok, Err, IfSome}
 use Rattle.wave_file.specs.declared.fault.WaveFault.{WaveFault}
 use Rattle.wave_file.specs.declared.fault.WaveFault.TheVariants as fault
 use Rattle.wave_file.specs.declared.format.WaveFormat.{WaveFormat}
@@ -23,7 +24,8 @@ form_of letters =
 abbrev pub no_notes : Bool → Notes
 no_notes is_long = record { is_long = is_long; format = None; data_size = None }
 
--- the sizes that programs write in RIFF where they do not know the length: ffmpeg the greatest one, sox and ALSA one a little below 2 to the 31st
+-- the sizes that programs write in RIFF where they do not know the length: ffmpeg the greatest one, sox and ALSA one a
+-- little below 2 to the 31st
 abbrev pub is_open_size : ℕ → Bool
 is_open_size size = (size == NO_SIZE) || (nat_le 2_147_479_296 size && nat_le size 2_147_483_647)
 
@@ -54,7 +56,8 @@ abbrev pub chunk_of : Notes → ℕ → ℕ → ℕ → Result Chunk WaveFault
 chunk_of notes place letters size =
     if letters == DATA then data_in notes place size
     else if letters == FORMAT then (if nat_lt size 16 then Err (fault.Format place) else Ok (chunk.Format size))
-    else if (letters == SIZES) && notes.is_long then (if nat_lt size 16 then Err (fault.Ds64 place) else Ok (chunk.Sizes size))
+    else if (letters == SIZES) && notes.is_long
+    then (if nat_lt size 16 then Err (fault.Ds64 place) else Ok (chunk.Sizes size))
     else Ok (chunk.Other size)
 
 -- ---- what is known of a chunk

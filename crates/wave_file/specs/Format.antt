@@ -1,6 +1,7 @@
--- The format of a sound file, as the chunk `fmt ` gives it, and the samples of a track in its blocks (EBU Tech 3285, ITU-R BS.2088). Numbers stand with
--- the less significant byte first. Which formats are taken is this project's own.
-use Rattle.std.specs.Prelude.{◌≡◌, ◌≤◌, ℕ, zero, suc, ◌+◌, ◌-◌, ◌*◌, ◌/◌, ℤ, pos, ◌-ℤ◌, Bool, not, ◌&&◌, ◌||◌, ◌==◌, nat_le, nat_lt, if◌then◌else◌}
+-- The format of a sound file, as the chunk `fmt ` gives it, and the samples of a track in its blocks (EBU Tech 3285,
+-- ITU-R BS.2088). Numbers stand with the less significant byte first. Which formats are taken is this project's own.
+use Rattle.std.specs.Prelude.{◌≡◌, ◌≤◌, ℕ, zero, suc, ◌+◌, ◌-◌, ◌*◌, ◌/◌, ℤ, pos, ◌-ℤ◌, Bool, not, ◌&&◌, ◌||◌, ◌==◌}
+use Rattle.std.specs.Prelude.{nat_le, nat_lt, if◌then◌else◌}
 use Rattle.std.specs.Prelude.{List, [], ◌∷◌, length, take, drop, slice_index, Option, Some, None, Result, Ok, Err}
 use Rattle.std.specs.Int.{w16, cast_signed}
 use Rattle.byteorder.specs.Endian.{little_number}
@@ -74,7 +75,8 @@ pub record IsTakenFor (track : ℕ) (format : WaveFormat) : Type 0 where
 abbrev pub sample_width : WaveFormat → ℕ
 sample_width format = format.bits / 8
 
--- the sample of a track in a block, as its upper 16 bits: the two bytes above, or of 8 bits, which have no sign, 256 times what they stand above 128
+-- the sample of a track in a block, as its upper 16 bits: the two bytes above, or of 8 bits, which have no sign, 256
+-- times what they stand above 128
 abbrev pub sample_in : WaveFormat → ℕ → List ℕ → ℤ
 sample_in format track block =
     if sample_width format == 1 then pos (256 * slice_index block (track - 1)) -ℤ pos 32_768

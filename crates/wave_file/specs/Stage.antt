@@ -1,5 +1,6 @@
 -- How far a decoder has come, and what the bytes that follow say. No promise but the decoder's clauses speaks of it.
-use Rattle.std.specs.Prelude.{◌≡◌, ⊤, ◌≤◌, ℕ, ◌+◌, ◌-◌, ◌==◌, List, [], ◌++◌, length, Option, Some, None, nat_lt, nat_le}
+use Rattle.std.specs.Prelude.{◌≡◌, ⊤, ◌≤◌, ℕ, ◌+◌, ◌-◌, ◌==◌, List, [], ◌++◌, length, Option, Some, None, nat_lt}
+use Rattle.std.specs.Prelude.{nat_le}
 use Rattle.std.specs.Prelude.{if◌then◌else◌}
 use Rattle.wave_file.specs.declared.format.WaveFormat.{WaveFormat}
 use Rattle.wave_file.specs.declared.chunk.Extent.{Extent}
@@ -9,20 +10,24 @@ use Rattle.wave_file.specs.declared.stage.Stage.{Stage}
 use Rattle.wave_file.specs.declared.stage.Stage.TheVariants.{Riff, Wave, Chunk, Format, Sizes, Data, Tail}
 use Rattle.wave_file.specs.declared.stage.TheConstants.{MAX_SAMPLES}
 use Rattle.wave_file.specs.Format.{IsTakenFor}
-use Rattle.wave_file.specs.Wave.{Reading, chunks_at, data_at, file_at, format_at, judged_width, padded, sizes_at, wave_at}
+use Rattle.wave_file.specs.Wave.{Reading, chunks_at, data_at, file_at, format_at, judged_width, padded, sizes_at}
+use Rattle.wave_file.specs.Wave.{wave_at}
 use Rattle.tc_io.specs.Verdict.{good}
 
 -- no block of the data is left: so many bytes of them, and what follows
 abbrev pub tail_at : WaveFormat → ℕ → List ℕ → Reading
-tail_at format left bytes = record { format = Some format; samples = []; verdict = good; may_end = nat_le left (length bytes) }
+tail_at format left bytes =
+    record { format = Some format; samples = []; verdict = good; may_end = nat_le left (length bytes) }
 
 -- what the bytes from a place on say, behind those of the stages before
 abbrev pub at : ℕ → Notes → ℕ → Stage → List ℕ → Reading
 at track notes place Riff bytes = file_at track bytes
 at track notes place (Wave is_long) bytes = wave_at track is_long bytes
 at track notes place (Chunk skip) bytes = chunks_at track skip notes place bytes
-at track notes place (Format size) bytes = format_at track notes place size (λ notes. chunks_at track (padded size) notes place bytes) bytes
-at track notes place (Sizes size) bytes = sizes_at notes (λ notes. chunks_at track (padded size) notes place bytes) bytes
+at track notes place (Format size) bytes =
+    format_at track notes place size (λ notes. chunks_at track (padded size) notes place bytes) bytes
+at track notes place (Sizes size) bytes =
+    sizes_at notes (λ notes. chunks_at track (padded size) notes place bytes) bytes
 at track notes place (Data format extent room) bytes = data_at track format extent room bytes
 at track notes place (Tail format left) bytes = tail_at format left bytes
 
@@ -67,7 +72,8 @@ extent_behind extent.Open count = extent.Open
 
 -- the stage before data
 abbrev pub data_stage : WaveFormat → Extent → ℕ → Stage
-data_stage format (extent.Announced left) room = if nat_lt left format.block then Tail format left else Data format (extent.Announced left) room
+data_stage format (extent.Announced left) room =
+    if nat_lt left format.block then Tail format left else Data format (extent.Announced left) room
 data_stage format extent.Open room = Data format extent.Open room
 
 -- what is kept of a stage, and the place where its piece may begin

@@ -16,7 +16,8 @@ use Rattle.std.specs.Prelude.{true, false, ◌==◌}
 use Rattle.wave_file.specs.declared.chunk.Extent.TheVariants as extent
 use Rattle.wave_file.specs.declared.fault.WaveFault.{WaveFault}
 
--- the track, what the chunks so far say, the place behind the whole pieces, what the next bytes are, and the bytes of a piece that is not whole
+-- the track, what the chunks so far say, the place behind the whole pieces, what the next bytes are, and the bytes of
+-- a piece that is not whole
 pub record Decoding : Type 0 where
   pub track : ℕ
   pub notes : Notes
@@ -25,7 +26,8 @@ pub record Decoding : Type 0 where
   pub part : List ℕ
 
 abbrev pub decoding_of : ℕ → Notes → ℕ → Stage → List ℕ → Decoding
-decoding_of track notes place stage part = record { track = track; notes = notes; place = place; stage = stage; part = part }
+decoding_of track notes place stage part =
+    record { track = track; notes = notes; place = place; stage = stage; part = part }
 
 -- of no bytes
 abbrev pub no_decoding : ℕ → Decoding
@@ -53,7 +55,8 @@ pub record StandsFor (d : Decoding) (bytes : List ℕ) (samples : List ℤ) : Ty
   pub before : List ℕ
   pub split : bytes ≡ before ++ d.part
   pub place : d.place ≡ length before
-  pub follows : (more : List ℕ) → file_at d.track (before ++ more) ≡ with_samples samples (at d.track d.notes d.place d.stage more)
+  pub follows : (more : List ℕ) → file_at d.track (before ++ more)
+      ≡ with_samples samples (at d.track d.notes d.place d.stage more)
 
 -- ---- what a call answers
 
@@ -63,11 +66,13 @@ pub record Adds (old new : Decoding) (bytes : List ℕ) (count : ℕ) (more : Li
   pub within : count ≤ length bytes
   pub taken : bytes_taken new ≡ bytes_taken old + count
   pub track : new.track ≡ old.track
-  pub stands : (front : List ℕ) (samples : List ℤ) → StandsFor old front samples → StandsFor new (front ++ take count bytes) (samples ++ more)
+  pub stands : (front : List ℕ) (samples : List ℤ) → StandsFor old front samples
+      → StandsFor new (front ++ take count bytes) (samples ++ more)
 
 -- what was taken, and whether the data began: only `Begin` tells a format, and it tells it once
 abbrev pub AddsTaken : Decoding → Decoding → List ℕ → Taken → Type 0
-AddsTaken old new bytes (Nothing count) = Adds old new bytes count [] × (format_in_decoding new ≡ format_in_decoding old)
+AddsTaken old new bytes (Nothing count) =
+    Adds old new bytes count [] × (format_in_decoding new ≡ format_in_decoding old)
 AddsTaken old new bytes (Begin count format) =
     Adds old new bytes count [] × (format_in_decoding old ≡ None) × (format_in_decoding new ≡ Some format)
 AddsTaken old new bytes (Sample count sample) =
@@ -86,15 +91,18 @@ abbrev pub StopsAt : Decoding → List ℕ → List ℤ → Taken → Type 0
 StopsAt d bytes samples (Nothing count) = ⊤
 StopsAt d bytes samples (Begin count format) = ⊤
 StopsAt d bytes samples (Sample count sample) = ⊤
-StopsAt d bytes samples (Fault f) = (more : List ℕ) → IsTold (reading_of d.track (bytes ++ more)) (format_in_decoding d) samples (refused f)
-StopsAt d bytes samples Limit = (more : List ℕ) → IsTold (reading_of d.track (bytes ++ more)) (format_in_decoding d) samples past_limit
+StopsAt d bytes samples (Fault f) =
+    (more : List ℕ) → IsTold (reading_of d.track (bytes ++ more)) (format_in_decoding d) samples (refused f)
+StopsAt d bytes samples Limit =
+    (more : List ℕ) → IsTold (reading_of d.track (bytes ++ more)) (format_in_decoding d) samples past_limit
 
 -- the blocks in so many of the bytes were taken, none or more, and these samples given
 pub record AddsBlocks (old new : Decoding) (bytes : List ℕ) (count : ℕ) (more : List ℤ) : Type 0 where
   pub taken : bytes_taken new ≡ bytes_taken old + count
   pub track : new.track ≡ old.track
   pub format : format_in_decoding new ≡ format_in_decoding old
-  pub stands : (front : List ℕ) (samples : List ℤ) → StandsFor old front samples → StandsFor new (front ++ take count bytes) (samples ++ more)
+  pub stands : (front : List ℕ) (samples : List ℤ) → StandsFor old front samples
+      → StandsFor new (front ++ take count bytes) (samples ++ more)
 
 -- the input may end before bytes of a stage
 abbrev pub may_end_before : Stage → Bool

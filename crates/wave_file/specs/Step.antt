@@ -24,17 +24,20 @@ pub record Leads (track : ℕ) (notes : Notes) (place : ℕ) (stage : Stage) (pi
   pub noted : IsNoted track notes → IsNoted track new
   pub is : IsStage track (place + length piece) next
   pub wait : 1 ≤ width_of next
-  pub says : (more : List ℕ) → at track notes place stage (piece ++ more) ≡ with_samples samples (at track new (place + length piece) next more)
+  pub says : (more : List ℕ) → at track notes place stage (piece ++ more)
+      ≡ with_samples samples (at track new (place + length piece) next more)
 
 -- what a piece brings
 abbrev pub IsStep : ℕ → Notes → ℕ → Stage → List ℕ → Step → Type 0
 IsStep track notes place stage piece (Next new next) =
     Leads track notes place stage piece [] new next × (format_at_stage stage ≡ None) × (format_at_stage next ≡ None)
 IsStep track notes place stage piece (Begin format next) =
-    Leads track notes place stage piece [] notes next × (format_at_stage stage ≡ None) × (format_at_stage next ≡ Some format)
+    Leads track notes place stage piece [] notes next × (format_at_stage stage ≡ None)
+    × (format_at_stage next ≡ Some format)
 IsStep track notes place stage piece (Sample sample next) =
     Leads track notes place stage piece (sample ∷ []) notes next × (format_at_stage next ≡ format_at_stage stage)
-IsStep track notes place stage piece (Fault f) = (format_at_stage stage ≡ None) × ((more : List ℕ) → at track notes place stage (piece ++ more) ≡ bad f)
+IsStep track notes place stage piece (Fault f) =
+    (format_at_stage stage ≡ None) × ((more : List ℕ) → at track notes place stage (piece ++ more) ≡ bad f)
 IsStep track notes place stage piece Limit = (more : List ℕ) → IsPast stage (at track notes place stage (piece ++ more))
 
 -- what is kept behind a step: where the reading ends, what was kept before it

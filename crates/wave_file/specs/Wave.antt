@@ -1,5 +1,6 @@
--- The sound file as a whole text, piece after piece: the form, the letters WAVE, and chunks up to the first one of `data`, whose blocks are the samples.
--- A piece is judged where it is whole: the first one that is not taken is the fault.
+-- The sound file as a whole text, piece after piece: the form, the letters WAVE, and chunks up to the first one of
+-- `data`, whose blocks are the samples. A piece is judged where it is whole: the first one that is not taken is the
+-- fault.
 use Rattle.std.specs.Prelude.{ℕ, zero, suc, ◌+◌, ◌/◌, ◌%◌, min, ℤ, Bool, false, ◌==◌, nat_le, if◌then◌else◌}
 use Rattle.std.specs.Prelude.{List, [], ◌∷◌, length, take, drop, Option, Some, None, Result, Ok, Err}
 use Rattle.byteorder.specs.Endian.{big_number, little_number}
@@ -17,8 +18,8 @@ use Rattle.tc_io.specs.Verdict.{Verdict, good, refused, past_limit}
 use Rattle.wave_file.specs.Format.{format_in, samples_at}
 use Rattle.wave_file.specs.Chunk.{chunk_of, form_of, no_notes}
 
--- what bytes say of a sound file: its format, where the data begin; the samples of a track, of whole blocks before the limit; and whether the
--- input may end there
+-- what bytes say of a sound file: its format, where the data begin; the samples of a track, of whole blocks before the
+-- limit; and whether the input may end there
 pub record Reading : Type 0 where
   pub format : Option WaveFormat
   pub samples : List ℤ
@@ -34,7 +35,8 @@ bad f = record { format = None; samples = []; verdict = refused f; may_end = fal
 
 -- a piece of so many bytes, and what it brings: fewer bytes bring nothing yet
 abbrev pub piece : ℕ → (List ℕ → List ℕ → Reading) → List ℕ → Reading
-piece width brings bytes = if nat_le width (length bytes) then brings (take width bytes) (drop width bytes) else unfinished
+piece width brings bytes =
+    if nat_le width (length bytes) then brings (take width bytes) (drop width bytes) else unfinished
 
 -- what follows, where there is no fault
 abbrev pub taken : {A : Type 0} → Result A WaveFault → (A → Reading) → Reading
@@ -79,7 +81,8 @@ format_at track notes place size next bytes =
 
 -- `ds64`: the size of the data stands at its byte 8
 abbrev pub sizes_at : Notes → (Notes → Reading) → List ℕ → Reading
-sizes_at notes next bytes = piece 16 (λ body rest. next (record notes { data_size = Some (little_number 8 (drop 8 body)) })) bytes
+sizes_at notes next bytes =
+    piece 16 (λ body rest. next (record notes { data_size = Some (little_number 8 (drop 8 body)) })) bytes
 
 -- a chunk whose bytes stand at a place, and what comes behind its bytes
 abbrev pub chunk_at : ℕ → Notes → ℕ → Chunk → (ℕ → Notes → Reading) → List ℕ → Reading
@@ -97,7 +100,8 @@ unfoldable pub chunks_at : ℕ → ℕ → Notes → ℕ → List ℕ → Readin
 chunks_at track (suc skip) notes place (byte ∷ more) = chunks_at track skip notes (place + 1) more
 chunks_at track zero notes place (a ∷ b ∷ c ∷ d ∷ e ∷ f ∷ g ∷ h ∷ more) =
     taken (chunk_of notes place (big_number 4 (a ∷ b ∷ c ∷ d ∷ [])) (little_number 4 (e ∷ f ∷ g ∷ h ∷ [])))
-    (λ chunk. chunk_at track notes (place + 8) chunk (λ size notes. chunks_at track (padded size) notes (place + 8) more) more)
+    (λ chunk. chunk_at track notes (place
+    + 8) chunk (λ size notes. chunks_at track (padded size) notes (place + 8) more) more)
 chunks_at track skip notes place bytes = unfinished
 
 -- ---- the file
@@ -105,7 +109,8 @@ chunks_at track skip notes place bytes = unfinished
 -- a size that is not looked at, the letters WAVE, and the chunks
 abbrev pub wave_at : ℕ → Bool → List ℕ → Reading
 wave_at track is_long bytes =
-    piece 8 (λ wave rest. if big_number 4 (drop 4 wave) == WAVE then chunks_at track 0 (no_notes is_long) 12 rest else bad (fault.Wave 8)) bytes
+    piece 8 (λ wave rest. if big_number 4 (drop 4 wave) == WAVE then chunks_at track 0 (no_notes is_long) 12 rest
+    else bad (fault.Wave 8)) bytes
 
 abbrev pub behind_form : ℕ → Option Bool → List ℕ → Reading
 behind_form track None bytes = bad (fault.Riff 0)
