@@ -20,7 +20,8 @@ searching profile = Hunting (record { profile = profile; before = None })
 
 -- by what a state holds, and the profile and the latest four lengths beside it
 abbrev pub tracking_with : Profile → State → Latest → Tracking
-tracking_with profile (held.AtCell reference) four = AtCell (at_cell_with (record { profile = profile; reference = reference }) four)
+tracking_with profile (held.AtCell reference) four =
+    AtCell (at_cell_with (record { profile = profile; reference = reference }) four)
 tracking_with profile (held.MidCell reference half) four =
     MidCell (mid_cell_with (record { profile = profile; reference = reference; half = half }) four)
 tracking_with profile (held.Hunting h) four = Hunting h
