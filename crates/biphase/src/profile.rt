@@ -2,9 +2,9 @@
 ghost use Rattle.std.specs.Prelude.{◌≡◌, ◌*◌, ◌<◌, ◌^◌, ◌↔◌, IsTrue};
 ghost use Rattle.biphase.specs.Profile.{equal_of, unequal_of, IsAtLeast, IsAtMost, IsWithin};
 
-/// How much the cells of a recording may differ.
 // Each interval asks which one it is. The compiler asks for the first variant first, where another
 // one's arm stands first in a `match`.
+/// How much the cells of a recording may differ.
 #[derive(Clone, Copy, Debug, PartialEq, Eq)]
 pub enum Profile {
     /// A cell lasts within one eighth of the cell before, and halves differ by at most one sixteenth

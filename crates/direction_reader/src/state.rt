@@ -10,8 +10,9 @@ ghost use Rattle.direction_reader.specs.Tracking.{tracking_with, StateFits};
 use biphase::{LatestFour, MAX_INTERVAL, Profile};
 use cell_tracker::{AtCell, FromAtCell, FromHunting, FromMidCell, Hunting, MidCell};
 
-/// A state of the tracker. Most intervals find it at the end of a cell, and the compiler asks for the
-/// first variant first, where another one's arm stands first in a `match`.
+/// A state of the tracker, in numbers, so that no profile is written with each cell. Most intervals find
+/// it at the end of a cell, and the compiler asks for the first variant first, where another one's arm
+/// stands first in a `match`.
 #[derive(Clone, Copy, Debug, PartialEq, Eq)]
 pub enum State {
     /// With the number that the profile compares with.
@@ -44,12 +45,14 @@ impl State {
         requires most { x ≤ MAX_INTERVAL }
         requires fits { StateFits profile self.old four.old }
         ensures fits { StateFits profile self.new four.new }
-        ensures steps { Steps (tracking_with profile self.old four.old) x (tracking_with profile self.new four.new) result }
+        ensures steps { Steps (tracking_with profile self.old four.old) x
+            (tracking_with profile self.new four.new) result }
         ensures profile { profile_of (tracking_with profile self.new four.new)
             ≡ profile_of (tracking_with profile self.old four.old) }
         ensures stands { (intervals : List ℕ) (earlier : List Stretch) (open_yet : Option Stretch)
             → TrackerStandsFor (tracking_with profile self.old four.old) intervals earlier open_yet
-            → StandsAfter (tracking_with profile self.old four.old) (tracking_with profile self.new four.new) x intervals earlier open_yet result }
+            → StandsAfter (tracking_with profile self.old four.old) (tracking_with profile self.new four.new) x
+            intervals earlier open_yet result }
     {
         match self {
             State::Hunting(hunting) => match hunting.feed(four, x) {
@@ -73,36 +76,39 @@ impl State {
                     Step::Break
                 }
             },
-            State::MidCell { reference, half } => match MidCell::new(
-                profile, *reference, *half,
-            ).feed(four, x)
-            {
-                FromMidCell::One(at_cell, _, _) => {
-                    *self = State::AtCell(at_cell.reference());
-                    Step::Cell(true)
+            State::MidCell { reference, half } => {
+                let mid_cell = MidCell::new(profile, *reference, *half);
+                match mid_cell.feed(four, x) {
+                    FromMidCell::One(at_cell, _, _) => {
+                        *self = State::AtCell(at_cell.reference());
+                        Step::Cell(true)
+                    }
+                    FromMidCell::Broken(hunting) => {
+                        *self = State::Hunting(hunting);
+                        Step::Break
+                    }
                 }
-                FromMidCell::Broken(hunting) => {
-                    *self = State::Hunting(hunting);
-                    Step::Break
+            }
+            State::AtCell(reference) => {
+                let at_cell = AtCell::new(profile, *reference);
+                match at_cell.feed(four, x) {
+                    FromAtCell::Zero(next) => {
+                        *reference = next.reference();
+                        Step::Cell(false)
+                    }
+                    FromAtCell::Half(mid_cell) => {
+                        *self = State::MidCell {
+                            reference: mid_cell.reference(),
+                            half: mid_cell.half(),
+                        };
+                        Step::Nothing
+                    }
+                    FromAtCell::Broken(hunting) => {
+                        *self = State::Hunting(hunting);
+                        Step::Break
+                    }
                 }
-            },
-            State::AtCell(reference) => match AtCell::new(profile, *reference).feed(four, x) {
-                FromAtCell::Zero(next) => {
-                    *reference = next.reference();
-                    Step::Cell(false)
-                }
-                FromAtCell::Half(mid_cell) => {
-                    *self = State::MidCell {
-                        reference: mid_cell.reference(),
-                        half: mid_cell.half(),
-                    };
-                    Step::Nothing
-                }
-                FromAtCell::Broken(hunting) => {
-                    *self = State::Hunting(hunting);
-                    Step::Break
-                }
-            },
+            }
         }
     }
 }
