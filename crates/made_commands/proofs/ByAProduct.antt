@@ -1,10 +1,10 @@
 -- A quotient by a product and a shift: the factor is so little above the true one that no quotient moves.
-use Rattle.std.proofs.Common.{◌≡◌, ℕ, ◌+◌, ◌-◌, ◌*◌, ◌/◌, ◌%◌, ◌^◌, ◌<◌, ◌≤◌, List, length, set, sym, ap, ◌∙◌, arith, inl, inr}
+use Rattle.std.proofs.Common.{◌≡◌, ℕ, ◌+◌, ◌-◌, ◌*◌, ◌/◌, ◌%◌, ◌^◌, ◌<◌, ◌≤◌, List, length, set, slice_index, sym, ap, ◌∙◌, arith, inl, inr}
 use Rattle.std.proofs.Math.Nat.{div-eq_of_lt-le, div-mul-le_self, le_of_mul-le-mul_left, lt-mul-div-succ, mod-eq-sub-div-mul}
 use Rattle.std.proofs.lemmas.Nat.{mul-le}
 use Rattle.std.proofs.lemmas.Bool.{cases_eq}
 use Rattle.std.proofs.lemmas.List.{get_or-set_other, get_or-set_same}
-use Rattle.made_commands.specs.KeptDivisors.{factor_of, AreBelow}
+use Rattle.made_commands.specs.KeptDivisors.{factor_of, AreBelow, AreFactors}
 
 not_less : (p x d q m : ℕ) → q * d ≤ x → p ≤ m * d → q * p ≤ x * m
 not_less p x d q m low factor =
@@ -46,23 +46,28 @@ by_product p x d some room =
 pub record IsDivided (value divisor quotient : ℕ) : Type 0 where
   pub within : quotient * divisor ≤ value
   pub rest : value - quotient * divisor ≡ value % divisor
+  pub below : value - quotient * divisor < divisor
 
-pub is_divided : (value half factor : ℕ) → value < 2 ^ 44 → half ≤ 512 → factor ≡ factor_of (2 * half + 1)
+is_divided : (value half factor : ℕ) → value < 2 ^ 44 → half ≤ 512 → factor ≡ factor_of (2 * half + 1)
     → IsDivided value (2 * half + 1) (value * factor / 2 ^ 64)
 is_divided value half factor small most is =
     let d = 2 * half + 1 in
     let room : (value + 1) * d ≤ 2 ^ 44 * 2 ^ 11 = mul-le (value + 1) d (2 ^ 44) (2 ^ 11) (omega (arith, small)) (omega (arith, most)) in
     let same : value * factor / 2 ^ 64 ≡ value / d =
     ap (λ (m : ℕ). value * m / 2 ^ 64) is ∙ by_product (2 ^ 64) value d (omega arith) (omega (arith, room)) in
-    record { within = rw same (div-mul-le_self value d); rest = rw same (sym (mod-eq-sub-div-mul value d)) }
+    let high = behind value d (omega arith) in
+    let one : (value / d + 1) * d ≡ value / d * d + d = grind arith in
+    record {
+      within = rw same (div-mul-le_self value d);
+      rest = rw same (sym (mod-eq-sub-div-mul value d));
+      below = rw same (omega (arith, high, one));
+    }
 
--- a factor has 64 bits
-pub factor_fits : (half : ℕ) → 1 ≤ half → factor_of (2 * half + 1) < 2 ^ 64
-factor_fits half some =
-    let d = 2 * half + 1 in
-    let low : 2 ^ 64 / d * d ≤ 2 ^ 64 = div-mul-le_self (2 ^ 64) d in
-    let third : 2 ^ 64 / d * 3 ≤ 2 ^ 64 / d * d = mul-le (2 ^ 64 / d) 3 (2 ^ 64 / d) d (omega arith) (omega (arith, some)) in
-    omega (arith, low, third)
+-- by the factor that stands in the table
+pub by_table : (factors : List ℕ) (value half : ℕ) → AreFactors factors → value < 2 ^ 44 → 1 ≤ half → half ≤ 512
+    → IsDivided value (2 * half + 1) (value * slice_index factors half / 2 ^ 64)
+by_table factors value half are small least most =
+    is_divided value half (slice_index factors half) small most (are half least (omega (arith, most)))
 
 -- a factor more in the table
 pub more_factors : (bound : ℕ) (factors : List ℕ) (factor : ℕ) → bound < length factors → factor ≡ factor_of (2 * bound + 1) → AreBelow bound factors

@@ -34,8 +34,8 @@ impl Divisors {
         requires most { half ≤ 512 }
         ensures value { result ≡ value % (2 * half + 1) }
     {
-        let divisor = u64::from(2 * half + 1);
-        let product = u128::from(value) * u128::from(self.factors[half as usize]);
+        let divisor = 2 * half as u64 + 1;
+        let product = value as u128 * self.factors[half as usize] as u128;
         let quotient = (product >> 64) as u64;
         (value - quotient * divisor) as u32
     }
