@@ -17,7 +17,7 @@ use Rattle.mtc_reader.specs.Laws.{quarters}
 use Rattle.mtc_reader.specs.Messages.{Current, current_in, messages_in, without_real_time}
 use Rattle.mtc_reader.specs.StandsFor.{Keeps, KeepsRow, StandsFor, events_of, padded}
 use Rattle.mtc_reader.proofs.AlongTheBytes.{along, events_along}
-use Rattle.mtc_reader.proofs.LatestEight.{another_piece, eight, latest_eight-next, padded_event}
+use Rattle.mtc_reader.proofs.LatestEight.{another_piece, eight, eight_of, latest_eight-next, padded_event}
 use Rattle.mtc_reader.proofs.ReadBack.{after, below, came, quarter_step, rising_window, sounds, IsQuarter, IsRow}
 use Rattle.mtc_reader.proofs.Runs.{on}
 
@@ -198,15 +198,17 @@ row_of xs long are =
     }
 
 -- and their bytes
-pub rising_taken : (reader next : MtcReader) (front bytes window : List ℕ) (event : MtcEvent) → length window ≡ 8
+pub rising_taken : (reader next : MtcReader) (front bytes window : List ℕ) (event : MtcEvent)
     → bytes_eq (map piece_of window) pieces ≡ true → bytes ≡ quarters window → next.bytes ≡ reader.bytes + 16
     → ((before : List ℕ) (n : ℕ) → n < 0x80 → Keeps next.message (n ∷ 0xf1 ∷ before)) → to_be_bytes w64 next.row.latest ≡ window
     → ((before : List Message) (place : ℕ) → KeepsRow reader.row before → window_event (latest_eight (row_in before ++ slice_index window 0 ∷ [])) place ≡ None)
     → event ≡ quarter_event Forward (quarter_address window) (reader.bytes + 15) → StandsFor reader front
     → StandsFor next (front ++ bytes) × (events_in (front ++ bytes) ≡ events_in front ++ event ∷ [])
-rising_taken reader next front bytes window event long in_order are count message row first is stands =
+rising_taken reader next front bytes window event in_order are count message row first is stands =
+    let rise = (bytes_eq-Decides (map piece_of window) pieces).0 in_order in
+    let long = eight_of window rise in
     let all = eight window long in
-    let r = row_of window long ((bytes_eq-Decides (map piece_of window) pieces).0 in_order) in
+    let r = row_of window long rise in
     let last : slice_index window 7 < 0x80 = let p = r.eighth.is_piece in omega (arith, p) in
     let taken = window_taken reader next front _ _ _ _ _ _ _ _ r count (λ before. message before (slice_index window 7) last) (row ∙ all) first stands in
     let spelled = are ∙ ap quarters all in (
