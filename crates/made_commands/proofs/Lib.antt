@@ -1,3 +1,4 @@
+mod ByAProduct
 mod CountedLabels
 mod Digits
 mod LoadInPieces

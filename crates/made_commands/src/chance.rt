@@ -3,8 +3,10 @@ ghost use Rattle.std.specs.Prelude.{◌≡◌, ◌≤◌, ◌<◌};
 ghost use Rattle.biphase.specs.Chain.{intervals_of};
 ghost use Rattle.generator.specs.Draw.{drawn};
 ghost use Rattle.interval_file.specs.Grammar.{AreIntervals};
+ghost use Rattle.made_commands.specs.KeptDivisors.{AreFactors};
 ghost use Rattle.made_commands.specs.Load.{IsChance, begins_with, cell_of, first_half, one_cell, one_draw};
 
+use crate::divisors::Divisors;
 use biphase::Cell;
 use generator::Generator;
 
@@ -44,8 +46,9 @@ impl Chance {
     }
 
     /// The next cell, with this bit.
-    pub(crate) fn next_cell(&mut self, bit: bool) -> Cell
-        requires { IsChance self.old }
+    pub(crate) fn next_cell(&mut self, divisors: &Divisors, bit: bool) -> Cell
+        requires chance { IsChance self.old }
+        requires factors { AreFactors divisors.now.factors }
         ensures cell { result ≡ cell_of bit (one_cell self.old) }
         ensures next { self.new ≡ one_cell self.old }
         ensures stays { IsChance self.new }
@@ -53,19 +56,19 @@ impl Chance {
     {
         let value = self.draw();
         let eighth = self.length / 8;
-        let change = (value >> 40) % u64::from(2 * eighth + 1);
-        let moved = self.length + change as u32 - eighth;
+        let moved = self.length + divisors.remainder(value >> 40, eighth) - eighth;
         self.length = LEAST_LENGTH.max(GREATEST_LENGTH.min(moved));
         if !bit {
             return Cell::Zero(self.length);
         }
-        let first = first_half(value, self.length);
+        let first = first_half(divisors, value, self.length);
         Cell::One(first, self.length - first)
     }
 }
 
 /// The first half of a one of this length.
-fn first_half(value: u64, length: u32) -> u32
+fn first_half(divisors: &Divisors, value: u64, length: u32) -> u32
+    requires factors { AreFactors divisors.now.factors }
     requires least { LEAST_LENGTH ≤ length }
     requires most { length ≤ GREATEST_LENGTH }
     ensures exact { result ≡ first_half value length }
@@ -73,6 +76,5 @@ fn first_half(value: u64, length: u32) -> u32
     ensures below { result < length }
 {
     let most = (length - 16) / 32;
-    let change = (value >> 20) % u64::from(2 * most + 1);
-    length / 2 + change as u32 - most
+    length / 2 + divisors.remainder(value >> 20, most) - most
 }

@@ -8,12 +8,13 @@
 //! - What `ltc-make` and `vitc-make` make is read back, frame by frame and field by field, and of what
 //!   `ltc-load` makes each word is read (`laws`).
 //!
-//! Read `ltc_make`, `vitc_make`, `ltc_load` over `chance`, `labels` and `about`. `frame_commands` stands on this
-//! crate, since a recording of frames is spelled as one that is made.
+//! Read `ltc_make`, `vitc_make`, `ltc_load` over `chance` and `divisors`, `labels` and `about`. `frame_commands`
+//! stands on this crate, since a recording of frames is spelled as one that is made.
 #![tactic(auto)]
 
 mod about;
 mod chance;
+mod divisors;
 mod labels;
 pub mod laws;
 mod ltc_load;

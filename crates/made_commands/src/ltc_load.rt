@@ -12,10 +12,12 @@ ghost use Rattle.tc_address.specs.Label.{IsLabel};
 ghost use Rattle.tc_address.specs.declared.count.Count.TheVariants.{C25};
 ghost use Rattle.tc_bits.specs.Fields.{IsFields};
 ghost use Rattle.interval_file.specs.Grammar.{AreIntervals};
+ghost use Rattle.made_commands.specs.KeptDivisors.{AreFactors};
 ghost use Rattle.made_commands.specs.KeptLoad.{FitsTally, HasRead, first_or, line_with, no_counts, total, with_event};
 ghost use Rattle.made_commands.specs.Load.{IsAllRead, IsChance, behind, cells_by, first_label, label_text, load_text, load_word};
 
 use crate::chance::Chance;
+use crate::divisors::Divisors;
 use crate::ltc_make::spelling;
 use biphase::{Cell, MAX_INTERVAL, MAX_INTERVALS, Profile};
 use direction_reader::laws::{
@@ -185,7 +187,8 @@ impl Tally {
     }
 
     /// Reads the cells of 80 bits, bit 0 first.
-    fn bits(&mut self, chance: &mut Chance, bits: u128)
+    fn bits(&mut self, divisors: &Divisors, chance: &mut Chance, bits: u128)
+        requires factors { AreFactors divisors.now.factors }
         requires chance { IsChance chance.old }
         requires room { self.old.reader.intervals + 160 ≤ MAX_INTERVALS }
         requires fits { FitsTally self.old }
@@ -198,7 +201,7 @@ impl Tally {
     {
         let mut rest = bits;
         'cells: for _done in 0..80u32 {
-            self.cell(chance.next_cell(rest % 2 == 1));
+            self.cell(chance.next_cell(divisors, rest % 2 == 1));
             rest /= 2;
         }
     }
@@ -221,14 +224,15 @@ pub(crate) fn load_text(run: &LoadRun) -> Text
     a_list_has_one_list_of_events();
     a_reader_gives_the_events_of_its_list();
     is_all_read(run);
+    let divisors = Divisors::new();
     let mut chance = Chance::new(run.seed());
     let mut tally = Tally::new();
-    tally.cell(chance.next_cell(false));
-    tally.cell(chance.next_cell(true));
+    tally.cell(chance.next_cell(&divisors, false));
+    tally.cell(chance.next_cell(&divisors, true));
     let mut label = first_label(run.seed());
     'words: for _done in 0..run.words() {
         let word = load_word(&label, chance.draw());
-        tally.bits(&mut chance, spelling(&word));
+        tally.bits(&divisors, &mut chance, spelling(&word));
         label = advance(&label, 1);
     }
     tally.counts.line(run)

@@ -54,7 +54,7 @@ shifted xs row quarter long is =
 
 -- ---- which windows carry nothing
 
-eight_of : (xs : List ℕ) → map piece_of xs ≡ pieces → length xs ≡ 8
+pub eight_of : (xs : List ℕ) → map piece_of xs ≡ pieces → length xs ≡ 8
 eight_of xs is = sym (length-map xs piece_of) ∙ ap length is
 
 eight_turned : (xs : List ℕ) → map piece_of (reverse xs) ≡ pieces → length xs ≡ 8

@@ -10,3 +10,4 @@ pub mod PackedRow
 pub mod OneQuarterMore
 pub mod PieceByPiece
 pub mod PushedInTurn
+pub mod WholeWindow

@@ -1,11 +1,14 @@
 //! From bytes to events, one byte at a time. Next: `current`, with a byte that is no real-time byte.
-ghost use Rattle.std.specs.Prelude.{◌≡◌, ◌<◌, ◌≤◌, ◌+◌, ◌^◌, ◌++◌, ℕ, List, [], ◌∷◌, None, true, false, length, take};
-ghost use Rattle.mtc_reader.specs.Events.{events_in};
+ghost use Rattle.std.specs.Prelude.{◌≡◌, ◌<◌, ◌≤◌, ◌+◌, ◌^◌, ◌++◌, ℕ, List, [], ◌∷◌, None, true, false, length, map, take, bytes_eq, IfSome};
+ghost use Rattle.mtc_reader.specs.Events.{events_in, piece_of, pieces};
+ghost use Rattle.mtc_reader.specs.Laws.{quarters};
 ghost use Rattle.mtc_reader.specs.StandsFor.{StandsFor, events_of};
 
+use crate::address::quarter;
 use crate::current::CurrentMessage;
 use crate::event::MtcEvent;
-use crate::row::Row;
+use crate::row::{Row, is_in_order};
+use tc_address::Direction;
 
 /// Bytes from this one on are system real-time bytes.
 const REAL_TIME: u8 = 0xf8;
@@ -77,6 +80,9 @@ impl MtcReader {
         ensures gives { (front : List ℕ) → StandsFor self.old front
             → events_in (front ++ take result.0 bytes.now) ≡ events_in front ++ events_of result.1 }
     {
+        if let Some(event) = self.window(bytes) {
+            return (16, Some(event));
+        }
         let mut at = 0;
         'bytes: while at < bytes.len() {
             at += self.passed(&bytes[at..]);
@@ -90,6 +96,30 @@ impl MtcReader {
             }
         }
         (at, None)
+    }
+
+    /// Takes the eight quarter frames in front where their pieces rise, and answers the event that is complete
+    /// with them. Where the first of them may end eight others, it takes nothing.
+    #[inline(always)]
+    fn window(&mut self, bytes: &[u8]) -> Option<MtcEvent>
+        requires { self.old.bytes + length bytes.now ≤ 2 ^ 62 }
+        ensures some { IfSome result (λ event. 16 ≤ length bytes.now) }
+        ensures count { IfSome result (λ event. self.new.bytes ≡ self.old.bytes + 16) }
+        ensures takes { IfSome result (λ event. (front : List ℕ) → StandsFor self.old front
+            → StandsFor self.new (front ++ take 16 bytes.now)
+            × (events_in (front ++ take 16 bytes.now) ≡ events_in front ++ event ∷ [])) }
+        ensures stays { result ≡ None → self.new ≡ self.old }
+    {
+        let Some(window) = rising(bytes) else {
+            return None;
+        };
+        if !self.row.pass_window(&window) {
+            return None;
+        }
+        let place = self.bytes + 15;
+        self.bytes += 16;
+        self.message.pass();
+        Some(quarter(Direction::Forward, &window, place))
     }
 
     /// Takes the first byte, or both bytes of a quarter frame, and answers how many these are, and the event
@@ -173,5 +203,42 @@ impl MtcReader {
             self.message.pass();
         }
         passed
+    }
+}
+
+/// The eight quarter frames in front, where their pieces rise from 0 to 7.
+#[inline(always)]
+fn rising(bytes: &[u8]) -> Option<[u8; 8]>
+    ensures long { IfSome result (λ window. 16 ≤ length bytes.now) }
+    ensures front { IfSome result (λ window. take 16 bytes.now ≡ quarters window) }
+    ensures pieces { IfSome result (λ window. bytes_eq (map piece_of window) pieces ≡ true) }
+{
+    let [
+        QUARTER_FRAME,
+        a,
+        QUARTER_FRAME,
+        b,
+        QUARTER_FRAME,
+        c,
+        QUARTER_FRAME,
+        d,
+        QUARTER_FRAME,
+        e,
+        QUARTER_FRAME,
+        f,
+        QUARTER_FRAME,
+        g,
+        QUARTER_FRAME,
+        h,
+        ..,
+    ] = bytes
+    else {
+        return None;
+    };
+    let window = [*a, *b, *c, *d, *e, *f, *g, *h];
+    if is_in_order(&window) {
+        Some(window)
+    } else {
+        None
     }
 }

@@ -1,5 +1,5 @@
 //! The row of quarter frames that goes on. Next: `address`, with eight of them.
-ghost use Rattle.std.specs.Prelude.{◌≡◌, ◌≤◌, ◌++◌, ℕ, List, [], ◌∷◌, None, true, false, bytes_eq, length, map, reverse};
+ghost use Rattle.std.specs.Prelude.{◌≡◌, ◌≤◌, ◌++◌, ℕ, List, [], ◌∷◌, None, true, false, bytes_eq, length, map, reverse, slice_index};
 ghost use Rattle.std.specs.Int.{to_be_bytes, w64};
 ghost use Rattle.mtc_reader.specs.declared.message.Message.{Message};
 ghost use Rattle.mtc_reader.specs.declared.message.Message.TheVariants.{QuarterFrame};
@@ -70,6 +70,22 @@ impl Row {
         true
     }
 
+    /// Takes eight quarter frames where no eight can end with the first of them, and answers whether it took
+    /// them.
+    #[inline(always)]
+    pub fn pass_window(&mut self, window: &[u8; 8]) -> bool
+        ensures latest { result ≡ true → to_be_bytes w64 self.new.latest ≡ window.now }
+        ensures none { result ≡ true → (before : List Message) (place : ℕ) → KeepsRow self.old before
+            → event_of (QuarterFrame (slice_index window.now 0)) before place ≡ None }
+        ensures stays { result ≡ false → self.new ≡ self.old }
+    {
+        if !self.pass(window[0]) {
+            return false;
+        }
+        self.latest = u64::from_be_bytes(*window);
+        true
+    }
+
     /// What the latest eight quarter frames carry.
     #[inline(always)]
     #[tactic(auto, using(crate::proofs::PackedRow::no_ends))]
@@ -125,7 +141,8 @@ fn carried_by(latest: u64, place: u64) -> Option<MtcEvent>
 }
 
 /// Whether the quarter frames have the pieces 0 to 7 in this order.
-fn is_in_order(window: &[u8; 8]) -> bool
+#[inline(always)]
+pub fn is_in_order(window: &[u8; 8]) -> bool
     ensures { result ≡ bytes_eq (map piece_of window.now) pieces }
 {
     let [a, b, c, d, e, f, g, h] = *window;

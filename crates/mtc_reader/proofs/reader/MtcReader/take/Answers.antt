@@ -1,9 +1,17 @@
-use Rattle.std.proofs.Common.{◌+◌, sym, ◌∙◌, arith}
-use Rattle.mtc_reader.proofs.PieceByPiece.{behind_passed, nothing_yet, no_event, passes_none, within_rest}
+use Rattle.std.proofs.Common.{◌+◌, [], sym, ap, subst, ◌∙◌, arith}
+use Rattle.mtc_reader.specs.declared.reader.MtcReader.{MtcReader}
+use Rattle.mtc_reader.proofs.PieceByPiece.{behind_passed, nothing_yet, no_event, passes_none, within_rest, Passes}
 use Rattle.mtc_reader.proofs.reader.MtcReader.take.Goals as goal
 
+-- no window was taken
 pub bytes-init : goal.bytes-init
-bytes-init c = record { within = omega arith; count = omega arith; passes = nothing_yet c.args.self.now }
+bytes-init c =
+    let same = c.window.ensures.stays c.in_default.is in
+    record {
+      within = omega arith;
+      count = omega (arith, ap (λ (r : MtcReader). r.bytes) same);
+      passes = subst (λ (r : MtcReader). Passes c.args.self.now r []) (sym same) (nothing_yet c.args.self.now);
+    }
 
 -- an event with the bytes behind those that gave none
 pub returns-then-is_some-clause-stands : goal.returns-then-is_some-clause-stands
