@@ -8,7 +8,8 @@ use Rattle.vitc_reader.specs.Runs.{IsLineLength}
 use Rattle.line_file.specs.Grammar.{field_bytes}
 use Rattle.made_commands.specs.MadeLines.{field_lines, words_from}
 
--- the header where it is still to be written, the label of the next frame, how many frames there are to be, and the length of their lines
+-- the header where it is still to be written, the label of the next frame, how many frames there are to be, and the
+-- length of their lines
 pub record Lining : Type 0 where
   pub header : Option (List ℕ)
   pub label : Address

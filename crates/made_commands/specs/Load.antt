@@ -1,6 +1,7 @@
--- The load run: a recording of words in cells whose length changes by chance, what is read of it, and the line that says so. The generator is this
--- project's own: the value of a draw is its new state.
-use Rattle.std.specs.Prelude.{◌≡◌, ℕ, zero, suc, ◌+◌, ◌-◌, ◌*◌, ◌/◌, ◌%◌, ◌^◌, ◌≤◌, min, max, pos, Bool, true, false, List, [], ◌∷◌, ◌++◌, length}
+-- The load run: a recording of words in cells whose length changes by chance, what is read of it, and the line that
+-- says so. The generator is this project's own: the value of a draw is its new state.
+use Rattle.std.specs.Prelude.{◌≡◌, ℕ, zero, suc, ◌+◌, ◌-◌, ◌*◌, ◌/◌, ◌%◌, ◌^◌, ◌≤◌, min, max, pos, Bool, true, false}
+use Rattle.std.specs.Prelude.{List, [], ◌∷◌, ◌++◌, length}
 use Rattle.std.specs.Prelude.{take, drop, codes, decimal, count_by, Option, Some, None, slice_get}
 use Rattle.std.specs.List.{last_or}
 use Rattle.std.specs.Option.{unwrap_or}
@@ -68,7 +69,8 @@ behind g (bit ∷ more) = behind (one_cell g) more
 
 -- the word of a label, with the upper half of a draw as its user bits
 abbrev pub load_word : Address → ℕ → LtcWord
-load_word label value = record { fields = contents label (flags false false false false false) (value / 2 ^ 32); balanced = true }
+load_word label value =
+    record { fields = contents label (flags false false false false false) (value / 2 ^ 32); balanced = true }
 
 -- the word of the next draw
 abbrev pub next_word : Chance → Address → Played
@@ -92,7 +94,8 @@ words_by g label (suc n) =
 unfoldable pub word_cells_by : Chance → Address → ℕ → List Cell
 word_cells_by g label zero = []
 word_cells_by g label (suc n) =
-    cells_by (one_draw g) (next_bits g label) ++ word_cells_by (behind (one_draw g) (next_bits g label)) (step label (pos 1)) n
+    cells_by (one_draw g) (next_bits g label)
+    ++ word_cells_by (behind (one_draw g) (next_bits g label)) (step label (pos 1)) n
 
 -- the bits by which a reader locks
 abbrev pub lock : List Bool
@@ -138,16 +141,18 @@ label_text (Some label) = text_of label
 -- the line of a run: how many words, refused words and breaks were read, and the labels of the first and the last word
 abbrev pub load_line : Loading → List Event → List ℕ
 load_line l events =
-    codes "load seed " ++ decimal l.seed ++ codes " words " ++ decimal l.words ++ codes " read " ++ decimal (count_by is_word events)
+    codes "load seed " ++ decimal l.seed ++ codes " words " ++ decimal l.words ++ codes " read "
+    ++ decimal (count_by is_word events)
     ++ codes " refused " ++ decimal (count_by is_refused events) ++ codes " lost " ++ decimal (count_by is_lost events)
-    ++ codes " first " ++ label_text (first_in (labels_in events)) ++ codes " last " ++ label_text (last_or None (labels_in events)) ++ codes "\n"
+    ++ codes " first " ++ label_text (first_in (labels_in events)) ++ codes " last "
+    ++ label_text (last_or None (labels_in events)) ++ codes "\n"
 
 -- what a run writes
 abbrev pub load_text : Loading → List ℕ
 load_text l = load_line l (load_events l)
 
--- what was written is the line of the events of the recording, and these are its words: as many are read as were asked, none is refused, and no
--- code is lost
+-- what was written is the line of the events of the recording, and these are its words: as many are read as were
+-- asked, none is refused, and no code is lost
 pub record IsAllRead (l : Loading) (written : List ℕ) : Type 0 where
   pub line : written ≡ load_line l (load_events l)
   pub events : AreEvents F25 Normal (flat (load_cells l)) (load_events l)

@@ -52,8 +52,8 @@ made s = header_bytes (made_header s) ++ interval_bytes (flat (made_cells s))
 abbrev pub made_events : Striping → List Event
 made_events s = events_of_words (duration (take 2 (made_cells s))) (drop 2 (made_cells s)) (made_frames s)
 
--- what was written is the file of its header and its intervals, and these are their events: each frame is read, none is refused, and no code
--- is lost
+-- what was written is the file of its header and its intervals, and these are their events: each frame is read, none
+-- is refused, and no code is lost
 pub record IsReadBack (s : Striping) (written : List ℕ) : Type 0 where
   pub file : IsFile written (made_header s) (flat (made_cells s))
   pub events : AreEvents (system_with s.label.count) Normal (flat (made_cells s)) (made_events s)

@@ -16,8 +16,8 @@ use Rattle.line_file.specs.LineFile.{Reading, reading_of}
 use Rattle.ltc_jam.specs.Word.{word_of}
 use Rattle.tc_job.specs.LineStripe.{LineStriping}
 
--- the word of a label in one of its fields, with the fields that a word of linear code has there: no flag is set but that of drop-frame, and the user
--- bits are 0
+-- the word of a label in one of its fields, with the fields that a word of linear code has there: no flag is set but
+-- that of drop-frame, and the user bits are 0
 abbrev pub field_word : Address → Bool → VitcWord
 field_word label mark = record { fields = (word_of label).fields; field_mark = mark }
 

@@ -39,7 +39,11 @@ pub fn what_the_program_tells_is_this()
 pub fn what_is_made_is_read_whole()
     ensures few { (s : Striping) → IsStripe s → length (flat (made_cells s)) ≤ 160000003 }
     ensures read { (s : Striping) → IsStripe s
-        → (recording_of (made s) ≡ record { header = Some (made_header s); intervals = flat (made_cells s); verdict = good })
+        → (recording_of (made s) ≡ record {
+          header = Some (made_header s);
+          intervals = flat (made_cells s);
+          verdict = good;
+        })
         × (end_fault_of (made s) ≡ None) }
     ensures back { (s : Striping) → IsStripe s → IsReadBack s (made s) }
 {

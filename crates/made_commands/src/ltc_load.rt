@@ -14,7 +14,8 @@ ghost use Rattle.tc_bits.specs.Fields.{IsFields};
 ghost use Rattle.interval_file.specs.Grammar.{AreIntervals};
 ghost use Rattle.made_commands.specs.KeptDivisors.{AreFactors};
 ghost use Rattle.made_commands.specs.KeptLoad.{FitsTally, HasRead, first_or, line_with, no_counts, total, with_event};
-ghost use Rattle.made_commands.specs.Load.{IsAllRead, IsChance, behind, cells_by, first_label, label_text, load_text, load_word};
+ghost use Rattle.made_commands.specs.Load.{IsAllRead, IsChance, behind, cells_by, first_label, label_text, load_text};
+ghost use Rattle.made_commands.specs.Load.{load_word};
 
 use crate::chance::Chance;
 use crate::divisors::Divisors;
@@ -60,7 +61,11 @@ impl Counts {
     /// A word of this label more.
     fn add_word(&mut self, label: Label)
         requires { self.old.words < 2 ^ 40 }
-        ensures { self.new ≡ record self.old { words = self.old.words + 1; first = first_or self.old.first label; last = Some label } }
+        ensures { self.new ≡ record self.old {
+          words = self.old.words + 1;
+          first = first_or self.old.first label;
+          last = Some label;
+        } }
     {
         self.words += 1;
         if self.first.is_none() {
@@ -175,7 +180,8 @@ impl Tally {
         requires fits { FitsTally self.old }
         ensures fits { FitsTally self.new }
         ensures count { self.new.reader.intervals ≤ self.old.reader.intervals + 2 }
-        ensures reads { (intervals : List ℕ) → HasRead self.old intervals → HasRead self.new (intervals ++ intervals_of cell) }
+        ensures reads { (intervals : List ℕ) → HasRead self.old intervals
+            → HasRead self.new (intervals ++ intervals_of cell) }
     {
         match cell {
             Cell::Zero(x) => self.interval(x),

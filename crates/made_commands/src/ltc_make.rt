@@ -1,5 +1,6 @@
 //! `ltc-make`: a recording made of labels. Next: `tc_command/src/making.rt`.
-ghost use Rattle.std.specs.Prelude.{◌≡◌, ◌+◌, ◌^◌, ◌<◌, ◌≤◌, Bool, false, true, List, [], ◌∷◌, ◌++◌, length, None, OnOk, IfErr};
+ghost use Rattle.std.specs.Prelude.{◌≡◌, ◌+◌, ◌^◌, ◌<◌, ◌≤◌, Bool, false, true, List, [], ◌∷◌, ◌++◌, length, None};
+ghost use Rattle.std.specs.Prelude.{OnOk, IfErr};
 ghost use Rattle.arrayvec.specs.ArrayVec.{array_vec_len};
 ghost use Rattle.biphase.specs.Chain.{intervals_of};
 ghost use Rattle.byteorder.specs.Endian.{big_bytes};
@@ -57,7 +58,8 @@ struct Striping {
 impl Striping {
     /// The whole recording of a stripe.
     fn new(stripe: &Stripe) -> Striping
-        ensures rest { rest_of result.header result.shaper result.direction result.label result.frames ≡ made stripe.now }
+        ensures rest { rest_of result.header result.shaper result.direction result.label result.frames
+            ≡ made stripe.now }
     {
         let label = stripe.label();
         let header = IntervalHeader {

@@ -1,6 +1,8 @@
--- The labels that the messages of MIDI Time Code carry. Eight quarter frames in a row carry an address: no other quarter frame and no full
--- message stands between them, and their pieces rise from 0 to 7 or fall from 7 to 0. They may share quarter frames with other eight.
-use Rattle.std.specs.Prelude.{ℕ, ◌+◌, ◌-◌, ◌*◌, ◌/◌, ◌%◌, ◌==◌, if◌then◌else◌, nat_le, cond, Option, Some, None, Result, Ok, Err}
+-- The labels that the messages of MIDI Time Code carry. Eight quarter frames in a row carry an address: no other
+-- quarter frame and no full message stands between them, and their pieces rise from 0 to 7 or fall from 7 to 0. They
+-- may share quarter frames with other eight.
+use Rattle.std.specs.Prelude.{ℕ, ◌+◌, ◌-◌, ◌*◌, ◌/◌, ◌%◌, ◌==◌, if◌then◌else◌, nat_le, cond, Option, Some, None, Result}
+use Rattle.std.specs.Prelude.{Ok, Err}
 use Rattle.std.specs.Prelude.{List, [], ◌∷◌, ◌++◌, length, map, drop, slice_index, reverse}
 use Rattle.std.specs.List.{cons_option}
 use Rattle.std.specs.Str.{bytes_eq}
@@ -41,7 +43,8 @@ full_event a place = cond (is_label a) (Full a place) (RefusedFull (fault_of a) 
 
 -- what the address of eight quarter frames gives
 abbrev pub quarter_event : Direction → Address → ℕ → MtcEvent
-quarter_event direction a place = cond (is_label a) (Quarter direction a place) (RefusedQuarter direction (fault_of a) place)
+quarter_event direction a place =
+    cond (is_label a) (Quarter direction a place) (RefusedQuarter direction (fault_of a) place)
 
 -- the address of a full message: the count stands above the five bits of the hours
 abbrev pub full_address : ℕ → ℕ → ℕ → ℕ → Address
@@ -58,14 +61,17 @@ bits_of quarter = quarter % 16
 abbrev pub bits_at : List ℕ → ℕ → ℕ
 bits_at window piece = bits_of (slice_index window piece)
 
--- the address of eight quarter frames in the order of their pieces. The lower piece of a number has its low four bits, the higher one those
--- above them, and above the bit of the hours two bits say the count. Bits that no number has are not looked at
+-- the address of eight quarter frames in the order of their pieces. The lower piece of a number has its low four bits,
+-- the higher one those above them, and above the bit of the hours two bits say the count. Bits that no number has are
+-- not looked at
 abbrev pub quarter_address : List ℕ → Address
 quarter_address window =
-    address (count_with (bits_at window 7 / 2 % 4)) (bits_at window 6 + 16 * (bits_at window 7 % 2)) (bits_at window 4 + 16 * (bits_at window 5 % 4))
+    address (count_with (bits_at window 7 / 2 % 4)) (bits_at window 6 + 16 * (bits_at window 7 % 2))
+    (bits_at window 4 + 16 * (bits_at window 5 % 4))
     (bits_at window 2 + 16 * (bits_at window 3 % 4)) (bits_at window 0 + 16 * (bits_at window 1 % 2))
 
--- the row of quarter frames that goes on, in the order in which they came: those since the last full message, of messages the latest first
+-- the row of quarter frames that goes on, in the order in which they came: those since the last full message, of
+-- messages the latest first
 abbrev pub row_in : List Message → List ℕ
 row_in [] = []
 row_in (QuarterFrame quarter ∷ before) = row_in before ++ quarter ∷ []
@@ -83,12 +89,14 @@ pieces = 0 ∷ 1 ∷ 2 ∷ 3 ∷ 4 ∷ 5 ∷ 6 ∷ 7 ∷ []
 abbrev pub window_event : List ℕ → ℕ → Option MtcEvent
 window_event window place =
     if bytes_eq (map piece_of window) pieces then Some (quarter_event Forward (quarter_address window) place)
-    else if bytes_eq (map piece_of (reverse window)) pieces then Some (quarter_event Backward (quarter_address (reverse window)) place)
+    else if bytes_eq (map piece_of (reverse window)) pieces
+    then Some (quarter_event Backward (quarter_address (reverse window)) place)
     else None
 
 -- what a message that is complete at a byte place gives, after the messages before it
 abbrev pub event_of : Message → List Message → ℕ → Option MtcEvent
-event_of (FullMessage hours minutes seconds frames) before place = Some (full_event (full_address hours minutes seconds frames) place)
+event_of (FullMessage hours minutes seconds frames) before place =
+    Some (full_event (full_address hours minutes seconds frames) place)
 event_of (QuarterFrame quarter) before place = window_event (latest_eight (row_in before ++ quarter ∷ [])) place
 
 -- the same where there is a message
@@ -100,7 +108,8 @@ event_with (Some message) before place = event_of message before place
 abbrev pub event_at : ℕ → List ℕ → Option MtcEvent
 event_at byte before =
     let sounding = without_real_time before in
-    if is_sounding byte then event_with (completed_by byte (current_in sounding)) (messages_in sounding) (length before) else None
+    if is_sounding byte then event_with (completed_by byte (current_in sounding)) (messages_in sounding) (length before)
+    else None
 
 -- the events of bytes, the latest first in both
 abbrev pub latest_events : List ℕ → List MtcEvent

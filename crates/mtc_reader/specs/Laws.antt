@@ -29,7 +29,8 @@ code_of C30 = 3
 
 -- the full message of an address, to a device
 abbrev pub full_message : ℕ → Address → List ℕ
-full_message device a = 0xf0 ∷ 0x7f ∷ device ∷ 0x01 ∷ 0x01 ∷ (32 * code_of a.count + a.hours) ∷ a.minutes ∷ a.seconds ∷ a.frames ∷ 0xf7 ∷ []
+full_message device a =
+    0xf0 ∷ 0x7f ∷ device ∷ 0x01 ∷ 0x01 ∷ (32 * code_of a.count + a.hours) ∷ a.minutes ∷ a.seconds ∷ a.frames ∷ 0xf7 ∷ []
 
 -- quarter frames with these data bytes
 abbrev pub quarters : List ℕ → List ℕ
@@ -40,7 +41,8 @@ quarters (number ∷ more) = 0xf1 ∷ number ∷ quarters more
 abbrev pub numbers_of : Address → List ℕ
 numbers_of a =
     (a.frames % 16) ∷ (0x10 + a.frames / 16) ∷ (0x20 + a.seconds % 16) ∷ (0x30 + a.seconds / 16)
-    ∷ (0x40 + a.minutes % 16) ∷ (0x50 + a.minutes / 16) ∷ (0x60 + a.hours % 16) ∷ (0x70 + (a.hours / 16 + 2 * code_of a.count)) ∷ []
+    ∷ (0x40 + a.minutes % 16) ∷ (0x50 + a.minutes / 16) ∷ (0x60 + a.hours % 16)
+    ∷ (0x70 + (a.hours / 16 + 2 * code_of a.count)) ∷ []
 
 -- the quarter frames of an address with rising pieces, and those with falling ones
 abbrev pub rising : Address → List ℕ

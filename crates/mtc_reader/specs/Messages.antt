@@ -1,5 +1,6 @@
--- The messages of MIDI Time Code in a list of bytes (MIDI 1.0, "system real time messages" and "system exclusive messages"; MIDI Time Code,
--- "quarter frame messages" and "full message"). The lists of bytes in this file have no system real-time bytes, and their latest byte first.
+-- The messages of MIDI Time Code in a list of bytes (MIDI 1.0, "system real time messages" and "system exclusive
+-- messages"; MIDI Time Code, "quarter frame messages" and "full message"). The lists of bytes in this file have no
+-- system real-time bytes, and their latest byte first.
 use Rattle.std.specs.Prelude.{ℕ, Bool, ◌&&◌, ◌==◌, nat_lt, cond, if◌then◌else◌, List, [], ◌∷◌, ◌++◌, Option, Some, None}
 use Rattle.std.specs.List.{filter, cons_option}
 use Rattle.mtc_reader.specs.declared.message.MessageKind.{MessageKind}
@@ -28,12 +29,17 @@ pub record Current : Type 0 where
   pub kind : MessageKind
   pub numbers : List ℕ
 
--- the message to which a byte belongs, after the one before it: a data byte goes on it, and a status byte begins another
+-- the message to which a byte belongs, after the one before it: a data byte goes on it, and a status byte begins
+-- another
 abbrev pub with_byte : ℕ → Current → Current
 with_byte byte current =
-    cond (is_data byte) (record { kind = current.kind; numbers = current.numbers ++ byte ∷ [] }) (record { kind = kind_with byte; numbers = [] })
+    cond (is_data byte) (record {
+      kind = current.kind;
+      numbers = current.numbers ++ byte ∷ [];
+    }) (record { kind = kind_with byte; numbers = [] })
 
--- the message to which the latest byte belongs. What stands before the first status byte is no message of MIDI Time Code
+-- the message to which the latest byte belongs. What stands before the first status byte is no message of MIDI Time
+-- Code
 abbrev pub current_in : List ℕ → Current
 current_in [] = record { kind = Other; numbers = [] }
 current_in (byte ∷ before) = with_byte byte (current_in before)

@@ -1,5 +1,7 @@
--- Which lists of bytes a reader stands for. What it keeps of the message on its way and of the row of quarter frames is tied to the list here.
-use Rattle.std.specs.Prelude.{◌≡◌, ◌⊎◌, ◌<◌, ℕ, Bool, ◌==◌, ◌&&◌, ◌||◌, List, [], ◌∷◌, take, length, reverse, slice_index, Option, Some, None}
+-- Which lists of bytes a reader stands for. What it keeps of the message on its way and of the row of quarter frames
+-- is tied to the list here.
+use Rattle.std.specs.Prelude.{◌≡◌, ◌⊎◌, ◌<◌, ℕ, Bool, ◌==◌, ◌&&◌, ◌||◌, List, [], ◌∷◌, take, length, reverse}
+use Rattle.std.specs.Prelude.{slice_index, Option, Some, None}
 use Rattle.std.specs.Int.{to_be_bytes, w64}
 use Rattle.mtc_reader.specs.declared.current.CurrentMessage.{CurrentMessage}
 use Rattle.mtc_reader.specs.declared.event.MtcEvent.{MtcEvent}

@@ -21,9 +21,11 @@ at_byte place = codes " byte " ++ decimal place ++ codes "\n"
 -- the line of an event
 abbrev pub event_line : MtcEvent → List ℕ
 event_line (Full label place) = codes "full " ++ text_of label ++ at_byte place
-event_line (Quarter direction label place) = codes "quarter " ++ direction_name direction ++ codes " " ++ text_of label ++ at_byte place
+event_line (Quarter direction label place) =
+    codes "quarter " ++ direction_name direction ++ codes " " ++ text_of label ++ at_byte place
 event_line (RefusedFull fault place) = codes "refused full " ++ fault_name fault ++ at_byte place
-event_line (RefusedQuarter direction fault place) = codes "refused " ++ direction_name direction ++ codes " " ++ fault_name fault ++ at_byte place
+event_line (RefusedQuarter direction fault place) =
+    codes "refused " ++ direction_name direction ++ codes " " ++ fault_name fault ++ at_byte place
 
 -- the last line: how many bytes, labels of full messages, labels of quarter frames and refused addresses there are
 abbrev pub end_line : ℕ → ℕ → ℕ → ℕ → List ℕ

@@ -1,7 +1,8 @@
 //! The addresses of messages, and the label of an address or its first fault. Next: `event`.
 ghost use Rattle.std.specs.Prelude.{◌≡◌, ◌<◌};
 ghost use Rattle.tc_address.specs.Label.{address};
-ghost use Rattle.mtc_reader.specs.Events.{count_with, full_address, quarter_address, bits_at, full_event, quarter_event, label_or_fault};
+ghost use Rattle.mtc_reader.specs.Events.{count_with, full_address, quarter_address, bits_at, full_event};
+ghost use Rattle.mtc_reader.specs.Events.{quarter_event, label_or_fault};
 
 use crate::event::MtcEvent;
 use tc_address::{Count, Direction, Label, LabelFault};

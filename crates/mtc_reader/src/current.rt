@@ -57,7 +57,8 @@ impl CurrentMessage {
     fn number(&mut self, number: u8) -> Option<Message>
         requires { number < 0x80 }
         ensures keeps { (before : List ℕ) → Keeps self.old before → Keeps self.new (number ∷ before) }
-        ensures completes { (before : List ℕ) → Keeps self.old before → result ≡ completed_by number (current_in before) }
+        ensures completes { (before : List ℕ) → Keeps self.old before
+            → result ≡ completed_by number (current_in before) }
     {
         match self.kind {
             MessageKind::Quarter => {
@@ -77,7 +78,8 @@ impl CurrentMessage {
     fn status(&mut self, status: u8) -> Option<Message>
         requires { 0x80 ≤ status }
         ensures keeps { (before : List ℕ) → Keeps self.old before → Keeps self.new (status ∷ before) }
-        ensures completes { (before : List ℕ) → Keeps self.old before → result ≡ completed_by status (current_in before) }
+        ensures completes { (before : List ℕ) → Keeps self.old before
+            → result ≡ completed_by status (current_in before) }
     {
         let completed = match self.kind {
             MessageKind::Exclusive if status == END => self.full_message(),

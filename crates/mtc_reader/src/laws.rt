@@ -32,7 +32,8 @@ pub fn real_time_bytes_change_places_only()
 
 /// The events of bytes stay what they are, whatever bytes come after them.
 pub fn earlier_events_stay()
-    ensures { (before more : List ℕ) → (later : List MtcEvent) × (events_in (before ++ more) ≡ events_in before ++ later) }
+    ensures { (before more : List ℕ)
+        → (later : List MtcEvent) × (events_in (before ++ more) ≡ events_in before ++ later) }
 {}
 
 /// A full message of a label, to any device, is read as that label, and so are its eight quarter frames
@@ -47,19 +48,22 @@ pub fn a_label_is_read_back()
 /// After whatever bytes, a full message and then pairs of frames, eight quarter frames each, are read as
 /// the label of the full message and one label a pair; half a pair behind them gives nothing.
 pub fn a_run_is_read_back()
-    ensures forward { (before : List ℕ) (device : ℕ) (first : Address) (labels : List Address) → device < 0x80 → IsLabel first → AreLabels labels
+    ensures forward { (before : List ℕ) (device : ℕ) (first : Address) (labels : List Address) → device < 0x80
+        → IsLabel first → AreLabels labels
         → map at_no_place (events_in (before ++ (full_message device first ++ all_rising labels)))
         ≡ map at_no_place (events_in before) ++ Full first 0 ∷ quarter_events Forward labels }
     ensures forward_half { (before : List ℕ) (device : ℕ) (first : Address) (labels : List Address) (half : Address)
         → device < 0x80 → IsLabel first → AreLabels labels → IsLabel half
         → map at_no_place (events_in (before ++ (full_message device first ++ (all_rising labels ++ rising_half half))))
         ≡ map at_no_place (events_in before) ++ Full first 0 ∷ quarter_events Forward labels }
-    ensures backward { (before : List ℕ) (device : ℕ) (first : Address) (labels : List Address) → device < 0x80 → IsLabel first → AreLabels labels
+    ensures backward { (before : List ℕ) (device : ℕ) (first : Address) (labels : List Address) → device < 0x80
+        → IsLabel first → AreLabels labels
         → map at_no_place (events_in (before ++ (full_message device first ++ all_falling labels)))
         ≡ map at_no_place (events_in before) ++ Full first 0 ∷ quarter_events Backward labels }
     ensures backward_half { (before : List ℕ) (device : ℕ) (first : Address) (labels : List Address) (half : Address)
         → device < 0x80 → IsLabel first → AreLabels labels → IsLabel half
-        → map at_no_place (events_in (before ++ (full_message device first ++ (all_falling labels ++ falling_half half))))
+        → map at_no_place (events_in (before
+        ++ (full_message device first ++ (all_falling labels ++ falling_half half))))
         ≡ map at_no_place (events_in before) ++ Full first 0 ∷ quarter_events Backward labels }
 {}
 

@@ -1,5 +1,6 @@
 //! From bytes to events, one byte at a time. Next: `current`, with a byte that is no real-time byte.
-ghost use Rattle.std.specs.Prelude.{◌≡◌, ◌<◌, ◌≤◌, ◌+◌, ◌^◌, ◌++◌, ℕ, List, [], ◌∷◌, None, true, false, length, map, take, bytes_eq, IfSome};
+ghost use Rattle.std.specs.Prelude.{◌≡◌, ◌<◌, ◌≤◌, ◌+◌, ◌^◌, ◌++◌, ℕ, List, [], ◌∷◌, None, true, false, length, map};
+ghost use Rattle.std.specs.Prelude.{take, bytes_eq, IfSome};
 ghost use Rattle.mtc_reader.specs.Events.{events_in, piece_of, pieces};
 ghost use Rattle.mtc_reader.specs.Laws.{quarters};
 ghost use Rattle.mtc_reader.specs.StandsFor.{StandsFor, events_of};
@@ -76,7 +77,8 @@ impl MtcReader {
         ensures most { result.0 ≤ length bytes.now }
         ensures all { result.1 ≡ None → result.0 ≡ length bytes.now }
         ensures count { self.new.bytes ≡ self.old.bytes + result.0 }
-        ensures stands { (front : List ℕ) → StandsFor self.old front → StandsFor self.new (front ++ take result.0 bytes.now) }
+        ensures stands { (front : List ℕ) → StandsFor self.old front
+            → StandsFor self.new (front ++ take result.0 bytes.now) }
         ensures gives { (front : List ℕ) → StandsFor self.old front
             → events_in (front ++ take result.0 bytes.now) ≡ events_in front ++ events_of result.1 }
     {
@@ -131,7 +133,8 @@ impl MtcReader {
         ensures least { 1 ≤ result.0 }
         ensures most { result.0 ≤ length bytes.now }
         ensures count { self.new.bytes ≡ self.old.bytes + result.0 }
-        ensures stands { (front : List ℕ) → StandsFor self.old front → StandsFor self.new (front ++ take result.0 bytes.now) }
+        ensures stands { (front : List ℕ) → StandsFor self.old front
+            → StandsFor self.new (front ++ take result.0 bytes.now) }
         ensures gives { (front : List ℕ) → StandsFor self.old front
             → events_in (front ++ take result.0 bytes.now) ≡ events_in front ++ events_of result.1 }
     {
@@ -146,7 +149,8 @@ impl MtcReader {
     fn both(&mut self, number: u8) -> Option<MtcEvent>
         requires { self.old.bytes + 2 ≤ 2 ^ 62 }
         ensures count { self.new.bytes ≡ self.old.bytes + 2 }
-        ensures stands { (front : List ℕ) → StandsFor self.old front → StandsFor self.new (front ++ 0xf1 ∷ number ∷ []) }
+        ensures stands { (front : List ℕ) → StandsFor self.old front
+            → StandsFor self.new (front ++ 0xf1 ∷ number ∷ []) }
         ensures gives { (front : List ℕ) → StandsFor self.old front
             → events_in (front ++ 0xf1 ∷ number ∷ []) ≡ events_in front ++ events_of result }
     {
@@ -160,8 +164,10 @@ impl MtcReader {
         requires { self.old.bytes + length bytes.now ≤ 2 ^ 62 }
         ensures most { result ≤ length bytes.now }
         ensures count { self.new.bytes ≡ self.old.bytes + result }
-        ensures stands { (front : List ℕ) → StandsFor self.old front → StandsFor self.new (front ++ take result bytes.now) }
-        ensures none { (front : List ℕ) → StandsFor self.old front → events_in (front ++ take result bytes.now) ≡ events_in front }
+        ensures stands { (front : List ℕ) → StandsFor self.old front
+            → StandsFor self.new (front ++ take result bytes.now) }
+        ensures none { (front : List ℕ) → StandsFor self.old front
+            → events_in (front ++ take result bytes.now) ≡ events_in front }
     {
         let mut at = 0;
         'bytes: while 2 <= bytes.len() - at {
@@ -180,8 +186,10 @@ impl MtcReader {
         requires { self.old.bytes + 2 ≤ 2 ^ 62 }
         ensures count { result ≡ true → self.new.bytes ≡ self.old.bytes + 2 }
         ensures stays { result ≡ false → self.new ≡ self.old }
-        ensures stands { result ≡ true → (front : List ℕ) → StandsFor self.old front → StandsFor self.new (front ++ status ∷ number ∷ []) }
-        ensures none { result ≡ true → (front : List ℕ) → StandsFor self.old front → events_in (front ++ status ∷ number ∷ []) ≡ events_in front }
+        ensures stands { result ≡ true → (front : List ℕ) → StandsFor self.old front
+            → StandsFor self.new (front ++ status ∷ number ∷ []) }
+        ensures none { result ≡ true → (front : List ℕ) → StandsFor self.old front
+            → events_in (front ++ status ∷ number ∷ []) ≡ events_in front }
     {
         status == QUARTER_FRAME && number < STATUS && self.quarter_frame(number)
     }
@@ -194,8 +202,10 @@ impl MtcReader {
         requires within { self.old.bytes + 2 ≤ 2 ^ 62 }
         ensures count { result ≡ true → self.new.bytes ≡ self.old.bytes + 2 }
         ensures stays { result ≡ false → self.new ≡ self.old }
-        ensures stands { result ≡ true → (front : List ℕ) → StandsFor self.old front → StandsFor self.new (front ++ 0xf1 ∷ number ∷ []) }
-        ensures none { result ≡ true → (front : List ℕ) → StandsFor self.old front → events_in (front ++ 0xf1 ∷ number ∷ []) ≡ events_in front }
+        ensures stands { result ≡ true → (front : List ℕ) → StandsFor self.old front
+            → StandsFor self.new (front ++ 0xf1 ∷ number ∷ []) }
+        ensures none { result ≡ true → (front : List ℕ) → StandsFor self.old front
+            → events_in (front ++ 0xf1 ∷ number ∷ []) ≡ events_in front }
     {
         let passed = self.row.pass(number);
         if passed {
@@ -230,7 +240,7 @@ fn rising(bytes: &[u8]) -> Option<[u8; 8]>
         g,
         QUARTER_FRAME,
         h,
-        ..,
+        ..
     ] = bytes
     else {
         return None;

@@ -1,5 +1,6 @@
 //! The row of quarter frames that goes on. Next: `address`, with eight of them.
-ghost use Rattle.std.specs.Prelude.{◌≡◌, ◌≤◌, ◌++◌, ℕ, List, [], ◌∷◌, None, true, false, bytes_eq, length, map, reverse, slice_index};
+ghost use Rattle.std.specs.Prelude.{◌≡◌, ◌≤◌, ◌++◌, ℕ, List, [], ◌∷◌, None, true, false, bytes_eq, length, map};
+ghost use Rattle.std.specs.Prelude.{reverse, slice_index};
 ghost use Rattle.std.specs.Int.{to_be_bytes, w64};
 ghost use Rattle.mtc_reader.specs.declared.message.Message.{Message};
 ghost use Rattle.mtc_reader.specs.declared.message.Message.TheVariants.{QuarterFrame};
@@ -57,7 +58,8 @@ impl Row {
     /// Takes a quarter frame where no eight can end with it, and answers whether it took it.
     #[inline(always)]
     pub fn pass(&mut self, quarter: u8) -> bool
-        ensures keeps { result ≡ true → (before : List Message) → KeepsRow self.old before → KeepsRow self.new (QuarterFrame quarter ∷ before) }
+        ensures keeps { result ≡ true → (before : List Message) → KeepsRow self.old before
+            → KeepsRow self.new (QuarterFrame quarter ∷ before) }
         ensures none { result ≡ true → (before : List Message) (place : ℕ) → KeepsRow self.old before
             → event_of (QuarterFrame quarter) before place ≡ None }
         ensures stays { result ≡ false → self.new ≡ self.old }

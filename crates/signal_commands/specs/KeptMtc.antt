@@ -44,6 +44,10 @@ all_written r bytes written settled stands =
 pub stands_well : (r : MtcReport) (bytes written : List ℕ) → r.gathered.room.items ≡ [] → Stands r bytes written
     → Shows along_midi good bytes × Meaning.part along_midi bytes written
 stands_well r bytes written settled stands = (
-  record { is = ap (λ (b : Bool). cond b past_limit good) (le-ltb MAX_BYTES (length bytes) stands.within); unspent = λ spent. spent },
-  all_written r bytes written settled stands ∙ ap (λ (l : List ℕ). event_lines (events_in l)) (sym (take_all MAX_BYTES bytes stands.within)),
+  record {
+    is = ap (λ (b : Bool). cond b past_limit good) (le-ltb MAX_BYTES (length bytes) stands.within);
+    unspent = λ spent. spent;
+  },
+  all_written r bytes written settled stands
+      ∙ ap (λ (l : List ℕ). event_lines (events_in l)) (sym (take_all MAX_BYTES bytes stands.within)),
 )
