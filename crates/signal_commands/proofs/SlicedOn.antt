@@ -308,6 +308,6 @@ pub ok_to : {T : Type 0} {P Q : T → Type 0} (result : Result T Stop) → IfOk 
 ok_to (Ok value) says to = to value says
 ok_to (Err stop) says to = tt
 
-pub ok_both : {T : Type 0} {P Q : T → Type 0} (result : Result T Stop) → IfOk result P → IfOk result Q → IfOk result (λ value. P value × Q value)
-ok_both (Ok value) p q = (p, q)
-ok_both (Err stop) p q = tt
+pub ok_both : {T : Type 0} (P Q : T → Type 0) (result : Result T Stop) → IfOk result P → IfOk result Q → IfOk result (λ value. P value × Q value)
+ok_both P Q (Ok value) p q = (p, q)
+ok_both P Q (Err stop) p q = tt

@@ -41,7 +41,7 @@ pub returns-clause-works : goal.returns-clause-works
 returns-clause-works g c =
     let most = 2 * (MAX_SAMPLES - c.args.self.now.samples) in
     let inner = c.within-samples.result.now in
-    ok_to c.slice_all.result (ok_both c.slice_all.result c.slice_all.ensures.count c.slice_all.ensures.works) (λ count h whole written slices.
+    ok_to c.slice_all.result (ok_both _ _ c.slice_all.result c.slice_all.ensures.count c.slice_all.ensures.works) (λ count h whole written slices.
     let works = h.1 whole written slices in
     let front = same_front most count c.args.bytes.now inner c.within-samples.ensures.front h.0.1 in
     (works.0, works.1, subst (λ (b : List ℕ). Slices c.slice_all.new.self (whole ++ b) (written ++ works.0)) front works.2))
