@@ -230,7 +230,7 @@ fn rising(bytes: &[u8]) -> Option<[u8; 8]>
         g,
         QUARTER_FRAME,
         h,
-        ..,
+        ..
     ] = bytes
     else {
         return None;
