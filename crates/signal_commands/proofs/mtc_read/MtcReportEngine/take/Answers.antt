@@ -1,6 +1,7 @@
-use Rattle.std.proofs.Common.{◌≡◌, ◌++◌, ◌∷◌, ◌∙◌, [], take, length, sym, ap, append-nil}
+use Rattle.std.proofs.Common.{◌≡◌, ◌++◌, ◌∷◌, ◌∙◌, [], ℕ, List, take, length, sym, ap, subst, append-nil}
 use Rattle.std.proofs.KnownBytes.{Appends-nil}
 use Rattle.mtc_reader.specs.Texts.{event_line}
+use Rattle.tc_io.specs.Sink.{AppendsFront}
 use Rattle.signal_commands.specs.declared.mtc_read.MtcReport.{MtcReport}
 use Rattle.signal_commands.specs.declared.mtc_read.TheConstants.{MAX_BYTES}
 use Rattle.tc_command.specs.KeptWorks.{through}
@@ -24,8 +25,9 @@ pub returns-in_err-print-clause-stops : goal.returns-in_err-print-clause-stops
 returns-in_err-print-clause-stops g c =
     let e = c.read-count.ensures in
     through c.from_residual-in_err-print.result c.from_residual-in_err-print.ensures.1 (λ stop same front written stands.
-    rw (same, c.in_err-print.ensures.why, ap (λ (m : MtcReport). m.gathered) e.kept)
-    (gathered_part c.args.self.now front written c.args.bytes.now _ _ stands c.in_err-print.ensures.front))
+    rw (same, c.in_err-print.ensures.why) (gathered_part c.args.self.now front written c.args.bytes.now _ _ stands
+    (subst (λ (l : List ℕ). AppendsFront (g.K.Sink.written c.args.out.now) (g.K.Sink.written c.print.new.out) l)
+    (ap (λ (m : MtcReport). m.gathered.room.items) e.kept) c.in_err-print.ensures.front)))
 
 -- the line of an event was pushed or is gathered
 pub returns-in_ok-print-clause-works : goal.returns-in_ok-print-clause-works
