@@ -1,10 +1,8 @@
--- The lines of MIDI bytes grow by the line of the event that bytes give, pushed or gathered, and the last line counts all of them.
-use Rattle.std.proofs.Common.{◌≡◌, inl, ℕ, ◌+◌, ◌<◌, ◌≤◌, List, [], ◌∷◌, ◌++◌, length, count_by, Bool, cond, sym, ◌∙◌, ap, refl, subst, arith}
-use Rattle.std.proofs.Common.{append_assoc, append-nil}
+-- The lines of MIDI bytes grow by the line of the event that a byte gives, and the last line counts all of them.
+use Rattle.std.proofs.Common.{◌≡◌, ℕ, ◌+◌, ◌≤◌, List, [], ◌∷◌, ◌++◌, length, take, drop, count_by, Bool, cond, sym, ◌∙◌, ap, arith, append_assoc, append-nil}
 use Rattle.std.specs.declared.option.Option.{Option}
-use Rattle.std.specs.Io.KnownBytes.{Appends}
 use Rattle.std.proofs.lemmas.Grind.{flat_map-append}
-use Rattle.std.proofs.lemmas.List.{length-append}
+use Rattle.std.proofs.lemmas.List.{take-append-drop}
 use Rattle.std.proofs.lemmas.List.Sums.{sum_by-append, sum_by-cons}
 use Rattle.mtc_reader.specs.declared.event.MtcEvent.{MtcEvent}
 use Rattle.mtc_reader.specs.declared.event.MtcEvent.TheVariants.{Full, Quarter, RefusedFull, RefusedQuarter}
@@ -18,7 +16,7 @@ use Rattle.tc_command.specs.declared.stop.Stop.TheVariants as stops
 use Rattle.signal_commands.specs.KeptMtc.{counted, Stands}
 use Rattle.signal_commands.specs.MtcRead.{along_midi, event_lines, is_full, is_quarter, is_refused, last_mtc_line}
 use Rattle.tc_command.specs.Stops.{Stops}
-use Rattle.signal_commands.proofs.MidiLimit.{is_past, lines_at_limit, lines_of_all}
+use Rattle.signal_commands.proofs.MidiLimit.{lines_of_all}
 
 -- ---- counts
 
@@ -32,27 +30,31 @@ one_of : (kind : MtcEvent → Bool) (event : MtcEvent) → count_by kind (event 
 one_of kind event = omega (arith, sum_by-cons (λ (e : MtcEvent). cond (kind e) 1 0) event [])
 
 pub one_counted : (before mid after : MtcReport) (event : MtcEvent) → mid.full ≡ before.full → mid.quarter ≡ before.quarter → mid.refused ≡ before.refused
-    → after ≡ record (counted event mid) { gathered = after.gathered } → Counts before after (event ∷ [])
-one_counted before mid after (Full l p) f q r e = record {
-  full = omega (arith, f, ap (λ (m : MtcReport). m.full) e, one_of is_full (Full l p));
-  quarter = omega (arith, q, ap (λ (m : MtcReport). m.quarter) e, one_of is_quarter (Full l p));
-  refused = omega (arith, r, ap (λ (m : MtcReport). m.refused) e, one_of is_refused (Full l p));
-}
-one_counted before mid after (Quarter d l p) f q r e = record {
-  full = omega (arith, f, ap (λ (m : MtcReport). m.full) e, one_of is_full (Quarter d l p));
-  quarter = omega (arith, q, ap (λ (m : MtcReport). m.quarter) e, one_of is_quarter (Quarter d l p));
-  refused = omega (arith, r, ap (λ (m : MtcReport). m.refused) e, one_of is_refused (Quarter d l p));
-}
-one_counted before mid after (RefusedFull l p) f q r e = record {
-  full = omega (arith, f, ap (λ (m : MtcReport). m.full) e, one_of is_full (RefusedFull l p));
-  quarter = omega (arith, q, ap (λ (m : MtcReport). m.quarter) e, one_of is_quarter (RefusedFull l p));
-  refused = omega (arith, r, ap (λ (m : MtcReport). m.refused) e, one_of is_refused (RefusedFull l p));
-}
-one_counted before mid after (RefusedQuarter d l p) f q r e = record {
-  full = omega (arith, f, ap (λ (m : MtcReport). m.full) e, one_of is_full (RefusedQuarter d l p));
-  quarter = omega (arith, q, ap (λ (m : MtcReport). m.quarter) e, one_of is_quarter (RefusedQuarter d l p));
-  refused = omega (arith, r, ap (λ (m : MtcReport). m.refused) e, one_of is_refused (RefusedQuarter d l p));
-}
+    → after ≡ counted event mid → Counts before after (event ∷ [])
+one_counted before mid after (Full l p) f q r e =
+    rw e (record {
+      full = omega (arith, f, one_of is_full (Full l p));
+      quarter = omega (arith, q, one_of is_quarter (Full l p));
+      refused = omega (arith, r, one_of is_refused (Full l p));
+    })
+one_counted before mid after (Quarter d l p) f q r e =
+    rw e (record {
+      full = omega (arith, f, one_of is_full (Quarter d l p));
+      quarter = omega (arith, q, one_of is_quarter (Quarter d l p));
+      refused = omega (arith, r, one_of is_refused (Quarter d l p));
+    })
+one_counted before mid after (RefusedFull l p) f q r e =
+    rw e (record {
+      full = omega (arith, f, one_of is_full (RefusedFull l p));
+      quarter = omega (arith, q, one_of is_quarter (RefusedFull l p));
+      refused = omega (arith, r, one_of is_refused (RefusedFull l p));
+    })
+one_counted before mid after (RefusedQuarter d l p) f q r e =
+    rw e (record {
+      full = omega (arith, f, one_of is_full (RefusedQuarter d l p));
+      quarter = omega (arith, q, one_of is_quarter (RefusedQuarter d l p));
+      refused = omega (arith, r, one_of is_refused (RefusedQuarter d l p));
+    })
 
 pub none_counted : (before after : MtcReport) → after.full ≡ before.full → after.quarter ≡ before.quarter → after.refused ≡ before.refused
     → Counts before after []
@@ -69,61 +71,44 @@ both kind a b first more all is before after =
 -- ---- lines
 
 -- the lines of the bytes with more
-lines_now : (r : MtcReport) (front written bytes : List ℕ) (events : List MtcEvent) → Stands r front written
-    → events_in (front ++ bytes) ≡ events_in front ++ events
-    → written ++ (r.gathered.room.items ++ event_lines events) ≡ event_lines (events_in (front ++ bytes))
-lines_now r front written bytes events s grows =
-    sym (append_assoc written r.gathered.room.items (event_lines events)) ∙ ap (λ (l : List ℕ). l ++ event_lines events) s.are
-    ∙ sym (ap event_lines grows ∙ flat_map-append event_line (events_in front) events)
+lines_now : (front written bytes : List ℕ) (events : List MtcEvent) → written ≡ event_lines (events_in front)
+    → events_in (front ++ bytes) ≡ events_in front ++ events → written ++ event_lines events ≡ event_lines (events_in (front ++ bytes))
+lines_now front written bytes events is grows =
+    ap (λ (l : List ℕ). l ++ event_lines events) is ∙ sym (ap event_lines grows ∙ flat_map-append event_line (events_in front) events)
 
--- more bytes, and their lines were pushed or are gathered
-pub grown : (r next : MtcReport) (front written bytes more : List ℕ) (events : List MtcEvent) → Stands r front written
-    → next.reader.bytes ≤ MAX_BYTES → reads.StandsFor next.reader (front ++ bytes) → events_in (front ++ bytes) ≡ events_in front ++ events
-    → Counts r next events → r.gathered.room.items ++ event_lines events ≡ more ++ next.gathered.room.items
-    → Stands next (front ++ bytes) (written ++ more)
-grown r next front written bytes more events s within reader grows counts put = record {
+-- more bytes
+pub grown : (r next : MtcReport) (front written bytes : List ℕ) (events : List MtcEvent) → Stands r front written → next.reader.bytes ≤ MAX_BYTES
+    → reads.StandsFor next.reader (front ++ bytes) → events_in (front ++ bytes) ≡ events_in front ++ events → Counts r next events
+    → Stands next (front ++ bytes) (written ++ event_lines events)
+grown r next front written bytes events s within reader grows counts = record {
   within = omega (arith, within, reader.count);
   reader = reader;
-  are = append_assoc written more next.gathered.room.items ∙ ap (λ (l : List ℕ). written ++ l) (sym put)
-      ∙ lines_now r front written bytes events s grows;
+  are = lines_now front written bytes events s.are grows;
   full = both is_full r.full next.full (events_in front) events (events_in (front ++ bytes)) grows s.full counts.full;
   quarter = both is_quarter r.quarter next.quarter (events_in front) events (events_in (front ++ bytes)) grows s.quarter counts.quarter;
   refused = both is_refused r.refused next.refused (events_in front) events (events_in (front ++ bytes)) grows s.refused counts.refused;
 }
 
--- what is gathered was not taken
-pub gathered_part : (r : MtcReport) (front written bytes : List ℕ) (old new : Option (List ℕ)) → Stands r front written
-    → AppendsFront old new r.gathered.room.items → Stops along_midi stops.WriteFault old new (front ++ bytes) written
-gathered_part r front written bytes old new s f = (
-  f.0,
-  f.2,
-  (
-    front,
-    event_lines (events_in front),
-    (bytes, refl),
-    sym (lines_of_all MAX_BYTES front s.within),
-    (f.1.0, sym s.are ∙ ap (λ (l : List ℕ). written ++ l) f.1.1 ∙ sym (append_assoc written f.0 f.1.0)),
-  ),
-)
-
--- nor were these bytes followed by others
-pub gathered_stop : (r : MtcReport) (bytes written : List ℕ) (old new : Option (List ℕ)) → Stands r bytes written
-    → AppendsFront old new r.gathered.room.items → Stops along_midi stops.WriteFault old new bytes written
-gathered_stop r bytes written old new s f =
-    subst (λ (b : List ℕ). Stops along_midi stops.WriteFault old new b written) (append-nil bytes)
-    (gathered_part r bytes written [] old new s f)
-
--- what is gathered was pushed, and this is the part of bytes past the limit
-pub at_limit : (r : MtcReport) (front written bytes : List ℕ) (old new : Option (List ℕ)) → Stands r front written → length front ≡ MAX_BYTES
-    → 0 < length bytes → Appends old new r.gathered.room.items → Stops along_midi stops.Limit old new (front ++ bytes) written
-at_limit r front written bytes old new s full some pushed = (
-  r.gathered.room.items,
-  pushed,
-  inl (
-    record { is = is_past MAX_BYTES (front ++ bytes) (omega (arith, full, some, length-append front bytes)); unspent = λ spent. spent },
-    s.are ∙ sym (lines_at_limit MAX_BYTES front bytes full),
-  ),
-)
+-- a front of the line of an event was written
+pub grown_part : (r : MtcReport) (front written bytes : List ℕ) (count : ℕ) (event : MtcEvent) (old new : Option (List ℕ)) → Stands r front written
+    → length (front ++ take count bytes) ≤ MAX_BYTES → events_in (front ++ take count bytes) ≡ events_in front ++ event ∷ []
+    → AppendsFront old new (event_line event) → Stops along_midi stops.WriteFault old new (front ++ bytes) written
+grown_part r front written bytes count event old new s within grows f =
+    let taken = take count bytes in (
+      f.0,
+      f.2,
+      (
+        front ++ taken,
+        event_lines (events_in (front ++ taken)),
+        (drop count bytes, ap (λ (l : List ℕ). front ++ l) (sym (take-append-drop count bytes)) ∙ sym (append_assoc front taken (drop count bytes))),
+        sym (lines_of_all MAX_BYTES (front ++ taken) within),
+        (
+          f.1.0,
+          sym (lines_now front written taken (event ∷ []) s.are grows)
+              ∙ ap (λ (l : List ℕ). written ++ l) (append-nil (event_line event) ∙ f.1.1) ∙ sym (append_assoc written f.0 f.1.0),
+        ),
+      ),
+    )
 
 -- ---- the last line
 

@@ -1,5 +1,5 @@
-//! The engine of `mtc-read`: a line of each event of MIDI bytes. Next: `mtc_reader/src/reader.rt`, then
-//! `mtc_reader/src/texts.rt` and `tc_command/src/gathered.rt`.
+//! The engine of `mtc-read`: a line of each event of MIDI bytes. Next: `mtc_reader/src/reader.rt`, and
+//! then `mtc_reader/src/texts.rt`.
 ghost use Rattle.std.specs.Prelude.{◌≡◌, ◌≤◌, ◌<◌, ◌+◌, ◌++◌, ℕ, List, [], length, take, OnOk, OnErr, IfErr};
 ghost use Rattle.std.specs.Io.KnownBytes.{Appends};
 ghost use Rattle.mtc_reader.specs.declared.event.MtcEvent.{MtcEvent};
@@ -16,7 +16,7 @@ ghost use Rattle.signal_commands.specs.MtcRead.{along_midi};
 
 use line_text::Text;
 use mtc_reader::{MtcEvent, MtcReader, mtc_end_text, push_mtc_text};
-use tc_command::{Engine, Gathered, Stop, push_line, work};
+use tc_command::{Engine, Stop, push_line, work};
 use tc_io::{Sink, Source};
 
 /// So many bytes are read, at most.
@@ -35,15 +35,13 @@ pub fn read_midi<S: Source, K: Sink>(source: &mut S, out: &mut K) -> Result<(), 
     work(&mut MtcReport::new(), source, out)
 }
 
-/// A reader of MIDI bytes, how many of its events of each kind were counted, and the lines that are still to
-/// be pushed.
+/// A reader of MIDI bytes, and how many of its events of each kind were printed.
 #[derive(Drop)]
 struct MtcReport {
     reader: MtcReader,
     full: u64,
     quarter: u64,
     refused: u64,
-    gathered: Gathered,
 }
 
 impl MtcReport {
@@ -57,7 +55,6 @@ impl MtcReport {
             full: 0,
             quarter: 0,
             refused: 0,
-            gathered: Gathered::holding(&[]),
         }
     }
 
@@ -80,14 +77,13 @@ impl MtcReport {
         self.reader.take(&bytes[..bytes.len().min(room)])
     }
 
-    /// Counts an event, and gathers its line.
+    /// Counts an event, and pushes its line.
     fn print<K: Sink>(&mut self, event: &MtcEvent, out: &mut K) -> Result<(), Stop>
         requires { self.old.full + self.old.quarter + self.old.refused < MAX_BYTES }
-        ensures counted { self.new ≡ record (counted event.now self.old) { gathered = self.new.gathered } }
+        ensures counted { self.new ≡ counted event.now self.old }
         ensures reader { self.new.reader ≡ self.old.reader }
-        ensures all { OnOk result ((more : List ℕ) × Appends (K.written out.old) (K.written out.new) more
-            × (self.old.gathered.room.items ++ event_line event.now ≡ more ++ self.new.gathered.room.items)) }
-        ensures front { OnErr result (AppendsFront (K.written out.old) (K.written out.new) self.old.gathered.room.items) }
+        ensures all { OnOk result (Appends (K.written out.old) (K.written out.new) (event_line event.now)) }
+        ensures front { OnErr result (AppendsFront (K.written out.old) (K.written out.new) (event_line event.now)) }
         ensures why { IfErr result (λ stop. stop ≡ Stop.WriteFault) }
         ensures cause { HasOutCause (K.faults out.old) (K.faults out.new) result }
     {
@@ -99,12 +95,12 @@ impl MtcReport {
         }
         let mut line = Text::new();
         push_mtc_text(&mut line, event);
-        self.gathered.put(&line, out)
+        push_line(out, &line)
     }
 }
 
 impl Engine for MtcReport {
-    ghost use Rattle.std.specs.Prelude.{◌-◌, ◌≡◌, []};
+    ghost use Rattle.std.specs.Prelude.{◌-◌, ⊤};
     ghost use Rattle.signal_commands.specs.KeptMtc.{FitsReport, Stands, stands_well};
     ghost use Rattle.signal_commands.specs.MtcRead.{along_midi};
     ghost use Rattle.signal_commands.specs.declared.mtc_read.TheConstants.{MAX_BYTES};
@@ -121,13 +117,12 @@ impl Engine for MtcReport {
 
     ghost budget = { λ s. MAX_BYTES - s.reader.bytes };
 
-    ghost is_settled = { λ s. s.gathered.room.items ≡ [] };
+    ghost is_settled = { λ _. ⊤ };
 
-    ghost stands_well = { λ s bytes written settled stands. stands_well s bytes written settled stands };
+    ghost stands_well = { λ s bytes written settled stands. stands_well s bytes written stands };
 
     fn take<K: Sink>(&mut self, bytes: &[u8], out: &mut K) -> Result<usize, Stop> {
         if self.reader.bytes() == MAX_BYTES {
-            self.gathered.push(out)?;
             return Err(Stop::Limit);
         }
         let (count, event) = self.read(bytes);
@@ -137,8 +132,8 @@ impl Engine for MtcReport {
         Ok(count)
     }
 
-    fn flush<K: Sink>(&mut self, out: &mut K) -> Result<(), Stop> {
-        self.gathered.push(out)
+    fn flush<K: Sink>(&mut self, _out: &mut K) -> Result<(), Stop> {
+        Ok(())
     }
 
     fn finish<K: Sink>(&self, out: &mut K) -> Result<(), Stop> {

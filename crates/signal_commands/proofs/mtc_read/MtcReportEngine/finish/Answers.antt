@@ -1,6 +1,6 @@
 use Rattle.std.proofs.Common.{◌++◌, ◌∙◌, List, ℕ, refl, ap, sym, append_assoc}
 use Rattle.mtc_reader.specs.Events.{events_in}
-use Rattle.signal_commands.specs.KeptMtc.{all_written, stands_well}
+use Rattle.signal_commands.specs.KeptMtc.{stands_well}
 use Rattle.signal_commands.specs.MtcRead.{last_mtc_line, mtc_report}
 use Rattle.tc_command.specs.KeptWorks.{err_both, if_err}
 use Rattle.signal_commands.proofs.MidiGrows.{last_line_is}
@@ -18,13 +18,13 @@ returns-clause-stops g c =
       f.0,
       f.2,
       (
-        record { verdict = (stands_well r bytes written c.requires.settled stands).0.is; unspent = λ spent. spent; end = refl },
+        record { verdict = (stands_well r bytes written stands).0.is; unspent = λ spent. spent; end = refl },
         (
           mtc_report bytes,
           refl,
           (
             f.1.0,
-            ap (λ (l : List ℕ). l ++ last_mtc_line bytes (events_in bytes)) (sym (all_written r bytes written c.requires.settled stands))
+            ap (λ (l : List ℕ). l ++ last_mtc_line bytes (events_in bytes)) (sym stands.are)
                 ∙ ap (λ (l : List ℕ). written ++ l) (sym last ∙ f.1.1) ∙ sym (append_assoc written f.0 f.1.0),
           ),
         ),

@@ -1,9 +1,7 @@
-use Rattle.tc_command.specs.KeptWorks.{err_both, if_err}
-use Rattle.signal_commands.proofs.MidiGrows.{gathered_stop}
+use Rattle.std.proofs.Common.{[], append-nil}
+use Rattle.std.proofs.KnownBytes.{Appends-nil}
 use Rattle.signal_commands.proofs.mtc_read.MtcReportEngine.flush.Goals as goal
 
--- what is gathered was not taken
-pub returns-clause-stops : goal.returns-clause-stops
-returns-clause-stops g c =
-    if_err c.push.result (err_both _ _ c.push.result c.push.ensures.why c.push.ensures.front) (λ stop h bytes written stands.
-    rw h.0 (gathered_stop c.args.self.now bytes written _ _ stands h.1))
+-- nothing is gathered
+pub returns-clause-works : goal.returns-clause-works
+returns-clause-works g c = λ bytes written stands. ([], Appends-nil _, rw (append-nil written) stands)
