@@ -7,3 +7,4 @@ pub mod OneSpelling
 pub mod RowOfAWord
 pub mod SpellsOrFaulty
 pub mod SyncOnlyAtTheEnd
+pub mod WhatStandsThere

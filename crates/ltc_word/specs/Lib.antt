@@ -1,6 +1,7 @@
 pub mod Balance
 pub mod Fault
 pub mod Places
+pub mod Reading
 pub mod Reversal
 pub mod Spelled
 pub mod Spelling

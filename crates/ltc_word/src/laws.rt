@@ -11,6 +11,7 @@ ghost use Rattle.ltc_word.specs.declared.word.WordFault.TheVariants.{Field};
 ghost use Rattle.tc_address.specs.Count.{system_with};
 ghost use Rattle.tc_bits.specs.Fields.{IsFields};
 ghost use Rattle.ltc_word.specs.Places.{are_shared_out, places_of};
+ghost use Rattle.ltc_word.specs.Reading.{fault_in, word_in};
 ghost use Rattle.ltc_word.specs.Spelled.{spelling_of};
 ghost use Rattle.ltc_word.specs.Spelling.{Spells, word_with, flags};
 ghost use Rattle.ltc_word.specs.Fault.{first_fault};
@@ -54,6 +55,22 @@ pub fn bits_in_sync_spell_a_word_or_have_a_fault()
     ensures { (system : System) (bits : ℕ) → bits < 2 ^ 80 → EndsInSync bits
         → ((word : LtcWord) × Spells system word bits)
         ⊎ ((fault : FieldFault) × (first_fault system bits ≡ Some (Field fault))) }
+{
+    digits_are_exact();
+    fields_are_exact();
+}
+
+/// The word that stands in bits is the one that they spell, and their first fault is that of the fields
+/// that stand there.
+pub fn what_stands_in_bits_is_what_they_spell()
+    ensures word { (system : System) (word : LtcWord) (bits : ℕ) → Spells system word bits
+        → (fault_in system bits ≡ None) × (word ≡ word_in system bits) }
+    ensures spells { (system : System) (bits : ℕ) → bits < 2 ^ 80 → EndsInSync bits
+        → fault_in system bits ≡ None → Spells system (word_in system bits) bits }
+    ensures fault { (system : System) (bits : ℕ) (fault : FieldFault) → first_fault system bits ≡ Some (Field fault)
+        → fault_in system bits ≡ Some fault }
+    ensures first { (system : System) (bits : ℕ) (fault : FieldFault) → EndsInSync bits
+        → fault_in system bits ≡ Some fault → first_fault system bits ≡ Some (Field fault) }
 {
     digits_are_exact();
     fields_are_exact();

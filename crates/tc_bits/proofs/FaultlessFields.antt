@@ -10,7 +10,7 @@ use Rattle.tc_address.specs.Count.{rate_of, system_with}
 use Rattle.tc_bits.specs.declared.fault.FieldFault.{FieldFault}
 use Rattle.tc_bits.specs.declared.raw.RawFields.{RawFields}
 use Rattle.tc_bits.specs.Fault.{conditions, first_field_fault}
-use Rattle.tc_bits.specs.Fields.{Contents, contents, agrees, count_in, address_of, Says}
+use Rattle.tc_bits.specs.Fields.{agrees, count_in, fields_of, Says}
 
 -- the fault of the first condition that holds
 abbrev first_of : List (Bool × FieldFault) → Option FieldFault
@@ -45,10 +45,6 @@ of_system F25 flag = refl
 of_system F30 true = refl
 of_system F30 false = refl
 
--- what the digits say
-abbrev said_by : System → RawFields → Contents
-said_by system raw = contents (address_of system raw) raw.flags raw.user
-
 -- tens and units give back the digits
 units : (t u : ℕ) → u ≤ 9 → (10 * t + u) % 10 ≡ u
 units t u digit = omega arith
@@ -57,7 +53,8 @@ tens : (t u : ℕ) → u ≤ 9 → (10 * t + u) / 10 ≡ t
 tens t u digit = omega arith
 
 -- digits with no fault say an address
-pub faultless_says : (system : System) (raw : RawFields) → first_field_fault system raw ≡ None → Says system raw (said_by system raw)
+pub faultless_says : (system : System) (raw : RawFields) → first_field_fault system raw ≡ None
+    → Says system raw (fields_of system raw)
 faultless_says system raw none =
     let one : AllFail (conditions system raw) = all_fail (conditions system raw) none in
     let two = one.1 in

@@ -72,6 +72,10 @@ address_of system raw = address (count_in system raw.flags.bit10)
     (10 * raw.second_tens + raw.second_units)
     (10 * raw.frame_tens + raw.frame_units)
 
+-- the fields that the digits say, whether or not they are at fault
+abbrev pub fields_of : System → RawFields → Contents
+fields_of system raw = contents (address_of system raw) raw.flags raw.user
+
 -- the system's fields that have these digits
 pub record Says (system : System) (raw : RawFields) (c : Contents) : Type 0 where
   pub valid : IsFields c

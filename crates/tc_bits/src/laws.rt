@@ -6,7 +6,7 @@ ghost use Rattle.tc_bits.specs.declared.raw.RawFields.{RawFields};
 ghost use Rattle.tc_bits.specs.Row.{SumHolds, OnlySumHolds};
 ghost use Rattle.tc_bits.specs.Spelling.{AreExact};
 ghost use Rattle.tc_bits.specs.UserBits.{group};
-ghost use Rattle.tc_bits.specs.Fields.{Contents, Says};
+ghost use Rattle.tc_bits.specs.Fields.{Contents, Says, fields_of};
 ghost use Rattle.tc_bits.specs.Fault.{first_field_fault};
 ghost use Rattle.tc_bits.specs.declared.names.TheConstants as names;
 
@@ -36,6 +36,8 @@ pub fn digits_are_exact()
         → first_field_fault system raw ≡ None }
     ensures some { (system : System) (raw : RawFields) → first_field_fault system raw ≡ None
         → (c : Contents) × Says system raw c }
+    ensures these { (system : System) (raw : RawFields) → first_field_fault system raw ≡ None
+        → Says system raw (fields_of system raw) }
 {}
 
 /// The faults of the fields have these names in lines.
