@@ -1,7 +1,7 @@
 -- 80 bits that end in the sync word spell a word or are at fault, so a window has events, and so has each stretch, and each list.
 use Rattle.std.proofs.Common.{◌≡◌, ◌<◌, ◌≤◌, ◌⊎◌, ℕ, ◌-◌, ◌^◌, List, [], ◌∷◌, ◌++◌, length, take, drop, map, Bool, Some, None, inl, inr}
 use Rattle.std.proofs.Common.{arith, refl, zero, suc}
-use Rattle.std.specs.List.{range_with_len}
+use Rattle.std.specs.List.{flat_map, range_with_len}
 use Rattle.std.proofs.lemmas.List.{length-map, length-take}
 use Rattle.biphase.specs.declared.cell.Cell.{Cell}
 use Rattle.biphase.specs.declared.profile.Profile.{Profile}
@@ -21,8 +21,9 @@ use Rattle.direction_reader.specs.declared.event.Event.TheVariants.{Word, Refuse
 use Rattle.direction_reader.specs.declared.event.Events.{Events}
 use Rattle.direction_reader.specs.Candidate.{IsEventOf, AreEventsOf}
 use Rattle.direction_reader.specs.Events.{event_list}
-use Rattle.direction_reader.specs.ListEvents.{number_of, window_at, begin_of, break_events, AreEventsOfWindows}
-use Rattle.direction_reader.specs.ListEvents.{AreEventsOfStretch, AreEventsOfStretches, AreEvents}
+use Rattle.direction_reader.specs.Gathered.{AreEventsOfWindows, AreEventsOfStretch, AreEventsOfStretches}
+use Rattle.direction_reader.specs.ListEvents.{number_of, window_at, begin_of, break_events}
+use Rattle.direction_reader.specs.ListEvents.{AreEvents, events_of_stretch}
 use Rattle.direction_reader.proofs.BitsShift.{bit_value-least}
 use Rattle.direction_reader.proofs.OneList.{in_sync_or_not}
 
@@ -134,7 +135,7 @@ stretch_events read system l s =
     (own.0 ++ break_events l s.broken_at, (own.0, own.1, refl))
 
 -- and so have stretches
-stretches_events : AreRead → (system : System) (l : List ℕ) (ss : List Stretch)
+pub stretches_events : AreRead → (system : System) (l : List ℕ) (ss : List Stretch)
     → (events : List Event) × AreEventsOfStretches system l ss events
 stretches_events read system l [] = ([], refl)
 stretches_events read system l (s ∷ ss) =
@@ -143,9 +144,8 @@ stretches_events read system l (s ∷ ss) =
     (own.0 ++ rest.0, (own.0, rest.0, own.1, rest.1, refl))
 
 -- each list has events
-pub list_events : AreRead → HaveStretches → (system : System) (profile : Profile) (l : List ℕ)
+pub list_events : HaveStretches → (system : System) (profile : Profile) (l : List ℕ)
     → (events : List Event) × AreEvents system profile l events
-list_events read have system profile l =
+list_events have system profile l =
     let stretches = have profile l in
-    let events = stretches_events read system l stretches.0 in
-    (events.0, (stretches.0, stretches.1, events.1))
+    (flat_map (events_of_stretch system l) stretches.0, (stretches.0, stretches.1, refl))

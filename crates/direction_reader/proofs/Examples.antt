@@ -25,7 +25,8 @@ use Rattle.direction_reader.specs.declared.event.Event.TheVariants.{Word, Refuse
 use Rattle.direction_reader.specs.declared.event.Events.{Events}
 use Rattle.direction_reader.specs.Candidate.{AreEventsOf}
 use Rattle.direction_reader.specs.Events.{no_events, one_event, event_list}
-use Rattle.direction_reader.specs.ListEvents.{CellWindow, window_at, windows, begin_of, break_events, AreEventsOfWindows, AreEvents}
+use Rattle.direction_reader.specs.Gathered.{AreEventsOfWindows, AreGathered}
+use Rattle.direction_reader.specs.ListEvents.{CellWindow, window_at, windows, begin_of, break_events}
 
 -- whether bits end in the sync word
 abbrev in_sync : ℕ → Bool
@@ -105,7 +106,7 @@ last_window system window own are = (own, [], are, refl, sym (append-nil (event_
 -- the only stretch of a list
 only_stretch : (system : System) (intervals : List ℕ) (stretch : Stretch) (own : List Event) → AreStretches Normal intervals (stretch ∷ [])
     → AreEventsOfWindows system (windows (begin_of intervals stretch) stretch.cells) own
-    → AreEvents system Normal intervals (own ++ break_events intervals stretch.broken_at)
+    → AreGathered system Normal intervals (own ++ break_events intervals stretch.broken_at)
 only_stretch system intervals stretch own are windows = (
   stretch ∷ [],
   are,
@@ -131,12 +132,12 @@ forward_windows spelled =
     (word_forward F25 0xbffc0800000000000000 1968 1920 midnight refl refl spelled)))
 
 pub forward : Spelled → AreStretches Normal (recording 82 0x2fff02000000000000002) (stretch_of 82 0x2fff02000000000000002 None ∷ [])
-    → AreEvents F25 Normal (recording 82 0x2fff02000000000000002) (Word Forward midnight 1968 1920 ∷ [])
+    → AreGathered F25 Normal (recording 82 0x2fff02000000000000002) (Word Forward midnight 1968 1920 ∷ [])
 forward spelled are = only_stretch F25 (recording 82 0x2fff02000000000000002) (stretch_of 82 0x2fff02000000000000002 None) _ are (forward_windows spelled)
 
 -- with an interval behind it at which its stretch breaks
 pub broken : Spelled → AreStretches Normal (recording 82 0x2fff02000000000000002 ++ 5 ∷ []) (stretch_of 82 0x2fff02000000000000002 (Some 97) ∷ [])
-    → AreEvents F25 Normal (recording 82 0x2fff02000000000000002 ++ 5 ∷ []) (Word Forward midnight 1968 1920 ∷ Lost 97 1973 ∷ [])
+    → AreGathered F25 Normal (recording 82 0x2fff02000000000000002 ++ 5 ∷ []) (Word Forward midnight 1968 1920 ∷ Lost 97 1973 ∷ [])
 unfolding cells_of
 broken spelled are =
     only_stretch F25 (recording 82 0x2fff02000000000000002 ++ 5 ∷ []) (stretch_of 82 0x2fff02000000000000002 (Some 97))
@@ -144,7 +145,7 @@ broken spelled are =
 
 -- with a half behind it that waits
 pub half : Spelled → AreStretches Normal (recording 82 0x2fff02000000000000002 ++ 12 ∷ []) (stretch_of 82 0x2fff02000000000000002 None ∷ [])
-    → AreEvents F25 Normal (recording 82 0x2fff02000000000000002 ++ 12 ∷ []) (Word Forward midnight 1968 1920 ∷ [])
+    → AreGathered F25 Normal (recording 82 0x2fff02000000000000002 ++ 12 ∷ []) (Word Forward midnight 1968 1920 ∷ [])
 half spelled are =
     only_stretch F25 (recording 82 0x2fff02000000000000002 ++ 12 ∷ []) (stretch_of 82 0x2fff02000000000000002 None) _ are (forward_windows spelled)
 
@@ -153,7 +154,7 @@ abbrev backward_cells : List Cell
 backward_cells = cells_of 81 0x207ffa
 
 pub backward : Spelled → AreStretches Normal (recording 81 0x207ffa) (stretch_of 81 0x207ffa None ∷ [])
-    → AreEvents F25 Normal (recording 81 0x207ffa) (Word Backward midnight 1944 1920 ∷ [])
+    → AreGathered F25 Normal (recording 81 0x207ffa) (Word Backward midnight 1944 1920 ∷ [])
 unfolding cells_of reverse_bits_onto
 backward spelled are =
     only_stretch F25 (recording 81 0x207ffa) (stretch_of 81 0x207ffa None) (Word Backward midnight 1944 1920 ∷ []) are
@@ -166,7 +167,7 @@ abbrev both_cells : List Cell
 both_cells = cells_of 81 0x17ff80000000000007ffa
 
 pub both : AreStretches Normal (recording 81 0x17ff80000000000007ffa) (stretch_of 81 0x17ff80000000000007ffa None ∷ [])
-    → AreEvents F25 Normal (recording 81 0x17ff80000000000007ffa) (Refused Forward FrameUnits 1944 ∷ Refused Backward FrameUnits 1944 ∷ [])
+    → AreGathered F25 Normal (recording 81 0x17ff80000000000007ffa) (Refused Forward FrameUnits 1944 ∷ Refused Backward FrameUnits 1944 ∷ [])
 unfolding cells_of reverse_bits_onto wrong_sync_bit
 both are =
     only_stretch F25 (recording 81 0x17ff80000000000007ffa) (stretch_of 81 0x17ff80000000000007ffa None) (event_list (refused_twice 1944)) are
@@ -176,7 +177,7 @@ both are =
 
 -- a stretch that breaks, and one that begins there
 pub two : AreStretches Normal (24 ∷ 12 ∷ 24 ∷ 12 ∷ 12 ∷ []) (with_break 2 (begun 0 24) ∷ with_cell (One 12 12) (begun 2 24) ∷ [])
-    → AreEvents F25 Normal (24 ∷ 12 ∷ 24 ∷ 12 ∷ 12 ∷ []) (Lost 2 60 ∷ [])
+    → AreGathered F25 Normal (24 ∷ 12 ∷ 24 ∷ 12 ∷ 12 ∷ []) (Lost 2 60 ∷ [])
 two are = (
   with_break 2 (begun 0 24) ∷ with_cell (One 12 12) (begun 2 24) ∷ [],
   are,

@@ -2,7 +2,7 @@
 -- begin there are the tape's. All other words begin before, and the stretches before it are broken by then. What the
 -- recording has behind the piece comes later.
 use Rattle.std.proofs.Common.{◌≡◌, ◌<◌, ◌≤◌, ℕ, ◌+◌, ◌-◌, zero, suc, List, [], ◌∷◌, ◌++◌, length, take, drop, sum, Option, Some, None, MatchOption}
-use Rattle.std.proofs.Common.{ap, arith, append_assoc, append-nil, length-append, inl, inr, refl, subst, sym, ◌∙◌, All, IsSomeAnd}
+use Rattle.std.proofs.Common.{get_or, ap, arith, append_assoc, append-nil, length-append, inl, inr, refl, subst, sym, ◌∙◌, All, IsSomeAnd}
 use Rattle.std.proofs.lemmas.Bool.{cases_lt}
 use Rattle.std.proofs.lemmas.Option.{MatchOption-at_some}
 use Rattle.std.proofs.lemmas.Grind.{flat_map-append}
@@ -26,10 +26,11 @@ use Rattle.direction_reader.specs.declared.event.Event.TheVariants.{Word, Refuse
 use Rattle.direction_reader.specs.declared.event.Events.{Events}
 use Rattle.direction_reader.specs.Candidate.{IsEventOf, AreEventsOf}
 use Rattle.direction_reader.specs.Events.{listed, event_list, tick_of}
-use Rattle.direction_reader.specs.ListEvents.{CellWindow, duration, windows, begin_of, break_events, AreEventsOfWindows, AreEventsOfStretch}
-use Rattle.direction_reader.specs.ListEvents.{AreEventsOfStretches, AreEvents}
-use Rattle.direction_reader.specs.Tape.{EndsBy, TellFrom, FindsTheTape}
-use Rattle.direction_reader.specs.Tape as tape
+use Rattle.direction_reader.specs.Gathered.{AreEventsOfWindows, AreEventsOfStretch, AreEventsOfStretches}
+use Rattle.direction_reader.specs.ListEvents.{CellWindow, duration, windows, begin_of, break_events}
+use Rattle.direction_reader.specs.ListEvents.{AreEvents, events_of_cells}
+use Rattle.direction_reader.specs.Tape.{ComesBy, TellFrom, FindsTheTape}
+use Rattle.direction_reader.proofs.AsLists.{AreListed}
 use Rattle.direction_reader.proofs.OneList.{in_sync_or_not}
 use Rattle.direction_reader.proofs.WindowsGrow.{few}
 use Rattle.direction_reader.proofs.WindowsFromCells.{duration_of, windows_cons, front_longer, front_most, front_within}
@@ -42,22 +43,41 @@ IsFoundAgain = (profile : Profile) → LooksAtLast profile → (before kept : Li
 
 -- ---- the events of a window come at its end
 
+-- a word, good or refused, ends at the tick `end` at the latest
+abbrev EndsBy : ℕ → Event → Type 0
+EndsBy end (Word direction word tick length) = tick ≤ end
+EndsBy end (Refused direction fault tick) = tick ≤ end
+EndsBy end (Lost interval tick) = Unit {0}
+
+-- a break stands at the place `from` at the latest
+abbrev LostBy : ℕ → Event → Type 0
+LostBy from (Lost interval tick) = interval ≤ from
+LostBy from event = Unit {0}
+
+comes_by : (end from : ℕ) (e : Event) → EndsBy end e → LostBy from e → ComesBy end from e
+comes_by end from (Word d w t n) ends lost = ends
+comes_by end from (Refused d f t) ends lost = ends
+comes_by end from (Lost p t) ends lost = lost
+
+all_by : (end from : ℕ) (es : List Event) → All (EndsBy end) es → All (LostBy from) es → All (ComesBy end from) es
+all_by end from es ends lost k d within = comes_by end from (get_or es k d) (ends k d within) (lost k d within)
+
 -- words alone, each of which ends at a tick at the latest; breaks are none of them
 abbrev AreWordsBy : ℕ → List Event → Type 0
-AreWordsBy end events = All (λ (e : Event). EndsBy end e × ((from : ℕ) → tape.BreaksBy from e)) events
+AreWordsBy end events = All (λ (e : Event). EndsBy end e × ((from : ℕ) → LostBy from e)) events
 
 none_by : (end : ℕ) → AreWordsBy end []
-none_by end = All-nil (λ (e : Event). EndsBy end e × ((from : ℕ) → tape.BreaksBy from e))
+none_by end = All-nil (λ (e : Event). EndsBy end e × ((from : ℕ) → LostBy from e))
 
 both_by : (end : ℕ) (one two : List Event) → AreWordsBy end one → AreWordsBy end two → AreWordsBy end (one ++ two)
-both_by end one two = All-append (λ (e : Event). EndsBy end e × ((from : ℕ) → tape.BreaksBy from e)) one two
+both_by end one two = All-append (λ (e : Event). EndsBy end e × ((from : ℕ) → LostBy from e)) one two
 
-one_by : (end : ℕ) (e : Event) → EndsBy end e → ((from : ℕ) → tape.BreaksBy from e) → AreWordsBy end (e ∷ [])
+one_by : (end : ℕ) (e : Event) → EndsBy end e → ((from : ℕ) → LostBy from e) → AreWordsBy end (e ∷ [])
 one_by end e ends breaks =
-    All-cons (λ (e : Event). EndsBy end e × ((from : ℕ) → tape.BreaksBy from e)) e [] (ends, breaks) (none_by end)
+    All-cons (λ (e : Event). EndsBy end e × ((from : ℕ) → LostBy from e)) e [] (ends, breaks) (none_by end)
 
 same_by : (end : ℕ) (one two : List Event) → one ≡ two → AreWordsBy end two → AreWordsBy end one
-same_by end one two same = All-same (λ (e : Event). EndsBy end e × ((from : ℕ) → tape.BreaksBy from e)) one two same
+same_by end one two same = All-same (λ (e : Event). EndsBy end e × ((from : ℕ) → LostBy from e)) one two same
 
 heard : (system : System) (direction : Direction) (bits at length end : ℕ) (o : Option Event) → at ≤ end
     → IsSomeAnd o (IsEventOf system direction bits at length) → AreWordsBy end (listed o)
@@ -123,9 +143,9 @@ record Split (system : System) (tick : ℕ) (older cells : List Cell) (events : 
   are : events ≡ past ++ later
   words : AreEventsOfWindows system (windows (tick + duration older) cells) later
   before : AreWordsBy (tick + duration older + duration (take 79 cells)) past
-  no_break : (from : ℕ) → All (tape.BreaksBy from) past
+  no_break : (from : ℕ) → All (LostBy from) past
 
-words_alone : (end : ℕ) (es : List Event) → AreWordsBy end es → (from : ℕ) → All (tape.BreaksBy from) es
+words_alone : (end : ℕ) (es : List Event) → AreWordsBy end es → (from : ℕ) → All (LostBy from) es
 words_alone end es are from = λ k d within. (are k d within).1 from
 
 split : (system : System) (tick : ℕ) (older cells : List Cell) (es : List Event)
@@ -138,7 +158,7 @@ split system tick [] cells es are =
       are = refl;
       words = subst (λ t. AreEventsOfWindows system (windows t cells) es) same are;
       before = none_by _;
-      no_break = λ from. All-nil (tape.BreaksBy from);
+      no_break = λ from. All-nil (LostBy from);
     }
 split system tick (cell ∷ older) cells es are =
     let long = length-append older cells in
@@ -152,7 +172,7 @@ split system tick (cell ∷ older) cells es are =
             words = subst (λ (ws : List CellWindow). AreEventsOfWindows system ws [])
                 (sym (few (tick + duration (cell ∷ older)) cells (omega arith))) refl;
             before = none_by _;
-            no_break = λ from. All-nil (tape.BreaksBy from);
+            no_break = λ from. All-nil (LostBy from);
           })
       | inr many ↦ (
           let begin = tick + duration (cell ∷ []) in
@@ -173,7 +193,7 @@ split system tick (cell ∷ older) cells es are =
                 let ends : window_end ≤ end = omega (arith, front_most 80 (cell ∷ older) cells, fewer) in
                 both_by end own more.past (window_by system _ _ _ end first.0 ends first.2)
                 (subst (λ t. AreWordsBy (t + duration (take 79 cells)) more.past) place more.before);
-            no_break = λ from. All-append (tape.BreaksBy from) own more.past (alone from) (more.no_break from);
+            no_break = λ from. All-append (LostBy from) own more.past (alone from) (more.no_break from);
           })
     ]
 
@@ -237,7 +257,7 @@ record Parted (system : System) (profile : Profile) (l : List ℕ) (from : ℕ) 
   is : IsStretch profile l last
   last_are : AreEventsOfStretch system l last later
   before : (end : ℕ) → sum (take from l) ≤ end → All (EndsBy end) past
-  no_break : All (tape.BreaksBy from) past
+  no_break : All (LostBy from) past
 
 words_by_all : (end : ℕ) (es : List Event) → AreWordsBy end es → All (EndsBy end) es
 words_by_all end es are = λ k d within. (are k d within).0
@@ -245,7 +265,7 @@ words_by_all end es are = λ k d within. (are k d within).0
 -- what has a stretch behind it is broken, and its events come before
 of_broken : (system : System) (profile : Profile) (l : List ℕ) (from p : ℕ) (s : Stretch) (es : List Event) → IsStretch profile l s
     → s.broken_at ≡ Some p → p ≤ from → AreEventsOfStretch system l s es
-    → ((end : ℕ) → sum (take from l) ≤ end → All (EndsBy end) es) × All (tape.BreaksBy from) es
+    → ((end : ℕ) → sum (take from l) ≤ end → All (EndsBy end) es) × All (LostBy from) es
 of_broken system profile l from p s es is some by (own, are, join) =
     let lost = Lost p (sum (take (p + 1) l)) in
     let all : es ≡ own ++ (lost ∷ []) = join ∙ ap (λ o. own ++ break_events l o) some in
@@ -257,10 +277,10 @@ of_broken system profile l from p s es is some by (own, are, join) =
       λ end less. All-same (EndsBy end) es (own ++ (lost ∷ [])) all
           (All-append (EndsBy end) own (lost ∷ []) (words_by_all end own (words end less))
           (All-cons (EndsBy end) lost [] tt (All-nil (EndsBy end)))),
-      All-same (tape.BreaksBy from) es (own ++ (lost ∷ [])) all
-          (All-append (tape.BreaksBy from) own (lost ∷ [])
+      All-same (LostBy from) es (own ++ (lost ∷ [])) all
+          (All-append (LostBy from) own (lost ∷ [])
           (words_alone (sum (take from l)) own (words (sum (take from l)) (omega arith)) from)
-          (All-cons (tape.BreaksBy from) lost [] by (All-nil (tape.BreaksBy from)))),
+          (All-cons (LostBy from) lost [] by (All-nil (LostBy from)))),
     )
 
 behind : (profile : Profile) (l : List ℕ) (o : Option ℕ) (p : ℕ) (ss : List Stretch) → o ≡ Some p
@@ -277,7 +297,7 @@ parted system profile l start from [] last es stretches broken (own, rest, is, n
   is = stretches.1;
   last_are = is;
   before = λ end less. All-nil (EndsBy end);
-  no_break = All-nil (tape.BreaksBy from);
+  no_break = All-nil (LostBy from);
 }
 parted system profile l start from (s ∷ earlier) last es stretches broken (own, rest, is, others, join) =
     let place = some_place s.broken_at from (All-head (BreaksBy from) s earlier broken) in
@@ -291,7 +311,7 @@ parted system profile l start from (s ∷ earlier) last es stretches broken (own
       is = more.is;
       last_are = more.last_are;
       before = λ end less. All-append (EndsBy end) own more.past (mine.0 end less) (more.before end less);
-      no_break = All-append (tape.BreaksBy from) own more.past mine.1 more.no_break;
+      no_break = All-append (LostBy from) own more.past mine.1 more.no_break;
     }
 
 -- ---- the tape
@@ -303,7 +323,7 @@ record TellTo (system : System) (l : List ℕ) (from : ℕ) (cells : List Cell) 
   are : events ≡ past ++ later
   words : AreEventsOfWindows system (windows (sum (take from l)) cells) later
   no_other_word : All (EndsBy (sum (take from l) + duration (take 79 cells))) past
-  no_other_break : All (tape.BreaksBy from) past
+  no_other_break : All (LostBy from) past
 
 tell_to : (system : System) (profile : Profile) (l : List ℕ) (from : ℕ) (cells : List Cell) (ss : List Stretch) (es : List Event)
     → AreStretches profile l ss → AreFrom from cells ss → AreEventsOfStretches system l ss es → TellTo system l from cells es
@@ -338,7 +358,7 @@ tell_to system profile l from cells ss es stretches found are =
           All-append (EndsBy end) parts.past both.past (parts.before end (omega arith))
           (words_by_all end both.past
           (subst (λ t. AreWordsBy (t + duration (take 79 cells)) both.past) place both.before));
-      no_other_break = All-append (tape.BreaksBy from) parts.past both.past parts.no_break (both.no_break from);
+      no_other_break = All-append (LostBy from) parts.past both.past parts.no_break (both.no_break from);
     }
 
 -- what the events of a front have behind them
@@ -358,24 +378,26 @@ pub record Fronts : Type 0 where
   pub first : IsFrontFirst
   pub later : IsLater
 
-pub finds_the_tape : IsFoundAgain → Fronts → (system : System) (profile : Profile) (l : List ℕ) (es : List Event)
-    → AreEvents system profile l es → FindsTheTape system profile l es
-finds_the_tape law fronts system profile l es are = λ looks before kept behind cells cut second same piece is2.
+pub finds_the_tape : AreListed → IsFoundAgain → Fronts → (system : System) (profile : Profile) (l : List ℕ)
+    (es : List Event) → AreEvents system profile l es → FindsTheTape system profile l es
+finds_the_tape lists law fronts system profile l es are = λ looks before kept behind cells cut second same piece is2.
     let front = before ++ kept in
     let whole = subst (λ (xs : List ℕ). AreEvents system profile xs es) same are in
     let mine = fronts.exist system profile front in
     let rest = fronts.first system profile front behind mine.0 es mine.1 whole in
     let late = fronts.later system profile front behind mine.0 rest.0 mine.1
     (subst (λ (e : List Event). AreEvents system profile (front ++ behind) e) rest.1 whole) in
-    let found = tell_to system profile front (length before + second) (cells_from cells cut kept second) mine.1.0 mine.0 mine.1.1
-    (law profile looks before kept cells cut second mine.1.0 piece is2 mine.1.1) mine.1.2 in
+    let own = lists.gathered system profile front mine.0 mine.1 in
+    let from = length before + second in
+    let there = cells_from cells cut kept second in
+    let found = tell_to system profile front from there own.0 mine.0 own.1
+    (law profile looks before kept cells cut second own.0 piece is2 own.1) own.2 in
+    let words = lists.cells system (sum (take from front)) there found.later found.words in
     record {
       past = found.past;
-      later = found.later;
       behind = rest.0;
-      are = rest.1 ∙ ap (λ (e : List Event). e ++ rest.0) found.are;
-      words = found.words;
-      no_other_word = found.no_other_word;
-      no_other_break = found.no_other_break;
+      are = rest.1 ∙ ap (λ (e : List Event). e ++ rest.0) (found.are ∙ ap (λ (e : List Event). found.past ++ e) words);
+      no_others = all_by (sum (take from front) + duration (take 79 there)) from found.past found.no_other_word
+          found.no_other_break;
       none_before_the_end = late;
     }

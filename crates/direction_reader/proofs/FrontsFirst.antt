@@ -16,8 +16,8 @@ use Rattle.cell_tracker.specs.Stretch.{Stretch, IsBreak, IsStretch, AreStretches
 use Rattle.tc_address.specs.declared.system.System.{System}
 use Rattle.direction_reader.specs.declared.event.Event.{Event}
 use Rattle.direction_reader.specs.Events.{event_list}
-use Rattle.direction_reader.specs.ListEvents.{CellWindow, window_at, windows, begin_of, break_events, AreEventsOfWindows, AreEventsOfStretch}
-use Rattle.direction_reader.specs.ListEvents.{AreEventsOfStretches, AreEvents}
+use Rattle.direction_reader.specs.Gathered.{AreEventsOfWindows, AreEventsOfStretch, AreEventsOfStretches, AreGathered}
+use Rattle.direction_reader.specs.ListEvents.{CellWindow, window_at, windows, begin_of, break_events}
 use Rattle.direction_reader.specs.StandsFor.{IsInside}
 use Rattle.direction_reader.proofs.EventsJoin.{begin_stays, stretch_stays}
 use Rattle.direction_reader.proofs.OneList.{IsExact, one_list}
@@ -156,6 +156,6 @@ stretches_first exact profile system l more start (s ∷ ss) (t ∷ ts) es fs fr
 
 -- the events of the front of a list come first
 pub front_first : IsExact → StretchesGoOn → (system : System) (profile : Profile) (l more : List ℕ) (es fs : List Event)
-    → AreEvents system profile l es → AreEvents system profile (l ++ more) fs → (rest : List Event) × (fs ≡ es ++ rest)
+    → AreGathered system profile l es → AreGathered system profile (l ++ more) fs → (rest : List Event) × (fs ≡ es ++ rest)
 front_first exact go_on system profile l more es fs (ss, stretches, are) (ts, later, too) =
     stretches_first exact profile system l more 0 ss ts es fs stretches (go_on profile l more ss ts stretches later) are too

@@ -30,8 +30,8 @@ use Rattle.direction_reader.specs.declared.event.Event.TheVariants.{Word, Refuse
 use Rattle.direction_reader.specs.declared.event.Events.{Events}
 use Rattle.direction_reader.specs.Candidate.{IsEventOf, AreEventsOf}
 use Rattle.direction_reader.specs.Events.{listed, event_list, tick_of}
-use Rattle.direction_reader.specs.ListEvents.{CellWindow, window_at, windows, begin_of, break_events, AreEventsOfWindows, AreEventsOfStretch}
-use Rattle.direction_reader.specs.ListEvents.{AreEventsOfStretches, AreEvents}
+use Rattle.direction_reader.specs.Gathered.{AreEventsOfWindows, AreEventsOfStretch, AreEventsOfStretches, AreGathered}
+use Rattle.direction_reader.specs.ListEvents.{CellWindow, window_at, windows, begin_of, break_events}
 use Rattle.direction_reader.proofs.EventsJoin.{begin_stays}
 use Rattle.direction_reader.proofs.FindsTheTape.{sum_at, sum_later, break_behind}
 use Rattle.direction_reader.proofs.FrontsFirst.{StretchesGoOn, windows_first, lock_inside, stretch_inside, broken_same}
@@ -410,7 +410,7 @@ later exact profile system l more start (s ∷ ss) (t ∷ ts) es rest stretches 
 
 -- the events that follow those of the front of a list come when the front has ended, or later
 pub later_events : IsExact → StretchesGoOn → (system : System) (profile : Profile) (l more : List ℕ) (es rest : List Event)
-    → AreEvents system profile l es → AreEvents system profile (l ++ more) (es ++ rest) → All (λ event. sum l ≤ tick_of event) rest
+    → AreGathered system profile l es → AreGathered system profile (l ++ more) (es ++ rest) → All (λ event. sum l ≤ tick_of event) rest
 later_events exact go_on system profile l more es rest (ss, stretches, are) (ts, from, too) =
     subst (λ tick. All (IsFrom tick) rest) (ap sum (take-append_seam l more))
     (later exact profile system l more 0 ss ts es rest stretches from (go_on profile l more ss ts stretches from) are too)

@@ -1,3 +1,4 @@
+pub mod AsLists
 pub mod BitsShift
 pub mod CellsEnd
 pub mod CellsGrow

@@ -28,15 +28,17 @@ use Rattle.direction_reader.specs.declared.event.Event.TheVariants.{Word, Refuse
 use Rattle.direction_reader.specs.declared.event.Events.{Events}
 use Rattle.direction_reader.specs.Candidate.{IsEventOf, AreEventsOf}
 use Rattle.direction_reader.specs.Events.{listed, event_list}
-use Rattle.direction_reader.specs.ListEvents.{CellWindow, duration, window_at, windows, AreEventsOfWindows, AreEvents}
-use Rattle.direction_reader.specs.Mirror.{mirror_window, turned, IsMirrorOf, MirrorsTheTape}
+use Rattle.direction_reader.specs.Gathered.{AreEventsOfWindows}
+use Rattle.direction_reader.specs.ListEvents.{CellWindow, duration, window_at, windows, AreEvents, events_of_cells}
+use Rattle.direction_reader.specs.Mirror.{turned, IsMirrorOf, MirrorsTheTape}
+use Rattle.direction_reader.proofs.AsLists.{AreListed}
 use Rattle.direction_reader.proofs.EventsExist.{window_below}
 use Rattle.direction_reader.proofs.OneList.{IsExact, in_sync_or_not}
 use Rattle.direction_reader.proofs.OneListOfEvents.{HasOneList}
-use Rattle.direction_reader.proofs.TellsTheTape.{IsOneStretch, tells_the_tape}
+use Rattle.direction_reader.proofs.TellsTheTape.{IsOneStretch, words_told}
 use Rattle.direction_reader.proofs.FrontsFirst.{windows_split}
 use Rattle.direction_reader.proofs.LaterEvents.{IsFrom, EndsFrom, windows_from, both_windows}
-use Rattle.direction_reader.proofs.MirroredWindows.{mirrored_windows, sum_reverse}
+use Rattle.direction_reader.proofs.MirroredWindows.{mirror_window, mirrored_windows, sum_reverse}
 use Rattle.direction_reader.proofs.WindowsFromCells.{duration_of, windows_cons, front_longer, front_within}
 use Rattle.direction_reader.proofs.WindowsGrow.{few}
 
@@ -288,15 +290,17 @@ sums l middle tail first last there many within =
       sum_by-append (λ n. n) front middle,
     )
 
-pub mirrors_the_tape : IsExact → TurnsBack → AreTheSame → IsOneStretch → HasOneList → (system : System) (profile : Profile) (l : List ℕ)
+pub mirrors_the_tape : AreListed → IsExact → TurnsBack → AreTheSame → IsOneStretch → HasOneList → (system : System) (profile : Profile) (l : List ℕ)
     (es fs : List Event) → AreEvents system profile l es → AreEvents system profile (reverse l) fs → MirrorsTheTape system profile l es fs
-mirrors_the_tape exact back law stretch one system profile l es fs are too = λ looks tape other cut place first last piece turned_piece lock last_lock.
+mirrors_the_tape lists exact back law stretch one system profile l es fs are too = λ looks tape other cut place first last piece turned_piece lock last_lock.
     let m = law profile looks l tape other cut place first last piece turned_piece lock last_lock in
     let middle = m.middle in
     let tick = sum (take first l) in
     let other_tick = sum (take last (reverse l)) in
-    let told = (tells_the_tape one stretch system profile l es are).words tape cut first piece lock in
-    let told_too = (tells_the_tape one stretch system profile (reverse l) fs too).words other place last turned_piece last_lock in
+    let own = lists.gathered system profile l es are in
+    let own_too = lists.gathered system profile (reverse l) fs too in
+    let told = words_told one stretch system profile l es own.0 own.1 own.2 tape cut first piece lock in
+    let told_too = words_told one stretch system profile (reverse l) fs own_too.0 own_too.1 own_too.2 other place last turned_piece last_lock in
     let mine = events_of_front system tick (cells_from tape cut l first) middle m.more es m.cells_are told in
     let theirs = events_of_front system other_tick (cells_from other place (reverse l) last) (mirrored middle) m.others_more fs m.others_are
     told_too in
@@ -311,23 +315,17 @@ mirrors_the_tape exact back law stretch one system profile l es fs are too = λ 
     mirrored_windows (sum l) tick other_tick middle total in
     let theirs_are : AreEventsOfWindows system (reverse (map (mirror_window (sum l)) (windows tick middle))) theirs.mine =
     subst (λ (ws : List CellWindow). AreEventsOfWindows system ws theirs.mine) same theirs.mine_are in
+    let mine_is = lists.cells system tick middle mine.mine mine.mine_are in
+    let theirs_is = lists.cells system other_tick (mirrored middle) theirs.mine theirs.mine_are in
+    let all = all_mirror exact back system (sum l) (windows tick middle) mine.mine theirs.mine
+    (windows_fit (sum l) tick middle (omega (arith, total))) mine.mine_are theirs_are in
     record {
       between = middle;
-      behind = m.more;
-      others_behind = m.others_more;
-      cells_are = m.cells_are;
-      others_are = m.others_are;
+      begin = (m.more, m.cells_are);
+      others_begin = (m.others_more, m.others_are);
       many = m.many;
-      mine = mine.mine;
-      more = mine.more;
-      events_are = mine.are;
-      mine_are = mine.mine_are;
-      none_between = mine.late;
-      theirs = theirs.mine;
-      others_more = theirs.more;
-      mirrored_are = theirs.are;
-      theirs_are = theirs_are;
-      no_other_between = theirs.late;
-      same = all_mirror exact back system (sum l) (windows tick middle) mine.mine theirs.mine
-          (windows_fit (sum l) tick middle (omega (arith, total))) mine.mine_are theirs_are;
+      told = (mine.more, mine.are ∙ ap (λ (e : List Event). e ++ mine.more) mine_is, mine.late);
+      told_mirrored = (theirs.more, theirs.are ∙ ap (λ (e : List Event). e ++ theirs.more) theirs_is, theirs.late);
+      same = subst (λ (e : List Event). AllZip (IsMirrorOf (sum l)) e (reverse (events_of_cells system other_tick (mirrored middle))))
+          mine_is (subst (λ (e : List Event). AllZip (IsMirrorOf (sum l)) mine.mine (reverse e)) theirs_is all);
     }

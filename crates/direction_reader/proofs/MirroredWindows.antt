@@ -12,10 +12,18 @@ use Rattle.biphase.specs.Chain.{bit_of, bits, flat}
 use Rattle.biphase.specs.Mirror.{mirror_of, mirrored, mirrored_cons, flat_mirrored}
 use Rattle.ltc_word.specs.Reversal.{reversed_bits}
 use Rattle.direction_reader.specs.ListEvents.{CellWindow, duration, number_of, window_at, windows}
-use Rattle.direction_reader.specs.Mirror.{mirror_window}
 use Rattle.direction_reader.specs.Window.{bit_value}
 use Rattle.direction_reader.proofs.WindowsFromCells.{duration_of, windows_cons, front_within}
 use Rattle.direction_reader.proofs.WindowsGrow.{few, last_window, one_more}
+
+-- a window in the other order of time, in intervals of this sum: its bits in the other order, and the tick at its
+-- other end
+abbrev pub mirror_window : ℕ → CellWindow → CellWindow
+mirror_window total window = record {
+  bits = reversed_bits window.bits;
+  end = total - window.end + window.length;
+  length = window.length;
+}
 
 -- ---- sums and numbers in the other order
 

@@ -1,13 +1,15 @@
 -- A list has one list of stretches, a stretch has one list of windows and one break, and a window has one list of events. So a list has one
 -- list of events.
 use Rattle.std.proofs.Common.{◌≡◌, ℕ, List, [], ◌∷◌, ◌++◌, ap, ap₂, sym, ◌∙◌, subst}
+use Rattle.std.specs.List.{flat_map}
 use Rattle.biphase.specs.declared.profile.Profile.{Profile}
 use Rattle.cell_tracker.specs.Stretch.{Stretch, AreStretches}
 use Rattle.tc_address.specs.declared.system.System.{System}
 use Rattle.direction_reader.specs.declared.event.Event.{Event}
 use Rattle.direction_reader.specs.Events.{event_list}
-use Rattle.direction_reader.specs.ListEvents.{CellWindow, windows, begin_of, break_events, AreEventsOfWindows, AreEventsOfStretch}
-use Rattle.direction_reader.specs.ListEvents.{AreEventsOfStretches, AreEvents}
+use Rattle.direction_reader.specs.Gathered.{AreEventsOfWindows, AreEventsOfStretch}
+use Rattle.direction_reader.specs.ListEvents.{CellWindow, windows, begin_of, break_events}
+use Rattle.direction_reader.specs.ListEvents.{AreEvents, events_of_stretch}
 use Rattle.direction_reader.proofs.OneList.{IsExact, one_list}
 
 -- a list of intervals has one list of stretches
@@ -29,17 +31,7 @@ pub of_stretch : IsExact → (system : System) (l : List ℕ) (s : Stretch) (es 
 of_stretch exact system l s es fs (own, are, join) (own', are', join') =
     join ∙ ap (λ own. own ++ break_events l s.broken_at) (of_windows exact system (windows (begin_of l s) s.cells) own own' are are') ∙ sym join'
 
-of_stretches : IsExact → (system : System) (l : List ℕ) (ss : List Stretch) (es fs : List Event) → AreEventsOfStretches system l ss es
-    → AreEventsOfStretches system l ss fs → es ≡ fs
-of_stretches exact system l [] es fs are too = are ∙ sym too
-of_stretches exact system l (s ∷ more) es fs (own, rest, is, others, join) (own', rest', is', others', join') =
-    let same : own ≡ own' = of_stretch exact system l s own own' is is' in
-    let same_rest : rest ≡ rest' = of_stretches exact system l more rest rest' others others' in
-    let joined : List Event → List Event → List Event = λ a b. a ++ b in
-    join ∙ ap₂ joined same same_rest ∙ sym join'
-
-pub one_list_of_events : IsExact → HasOneList → (system : System) (profile : Profile) (l : List ℕ) (es fs : List Event)
+pub one_list_of_events : HasOneList → (system : System) (profile : Profile) (l : List ℕ) (es fs : List Event)
     → AreEvents system profile l es → AreEvents system profile l fs → es ≡ fs
-one_list_of_events exact one system profile l es fs (ss, stretches, are) (tt', others, too) =
-    let same : ss ≡ tt' = one profile l ss tt' stretches others in
-    of_stretches exact system l ss es fs are (subst (λ (s : List Stretch). AreEventsOfStretches system l s fs) (sym same) too)
+one_list_of_events one system profile l es fs (ss, stretches, are) (tt', others, too) =
+    are ∙ ap (λ (s : List Stretch). flat_map (events_of_stretch system l) s) (one profile l ss tt' stretches others) ∙ sym too

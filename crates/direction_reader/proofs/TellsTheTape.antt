@@ -1,10 +1,10 @@
 -- A recording within the tolerance has one stretch, the tape's own, so its events are those of the tape's windows.
 use Rattle.std.proofs.Common.{◌≡◌, ℕ, List, [], ◌∷◌, ◌++◌, refl, ap, sym, ◌∙◌, subst, arith, append-nil, None, Some, Option, IsSomeAnd, inl, inr}
-use Rattle.std.proofs.Common.{count_by, cond, ◌+◌}
+use Rattle.std.proofs.Common.{count_by, cond, ◌+◌, sum, take}
 use Rattle.std.proofs.lemmas.List.Sums.{sum_by-append}
 use Rattle.biphase.specs.declared.cell.Cell.{Cell}
 use Rattle.biphase.specs.declared.profile.Profile.{Profile}
-use Rattle.cell_tracker.specs.ChainPiece.{IsPiece, IsKept, stretch_of_piece}
+use Rattle.cell_tracker.specs.ChainPiece.{IsPiece, IsKept, cells_from, stretch_of_piece}
 use Rattle.cell_tracker.specs.Lock.{IsLock, HasNoLock}
 use Rattle.cell_tracker.specs.Stretch.{Stretch, AreStretches}
 use Rattle.tc_address.specs.declared.system.System.{System}
@@ -15,8 +15,10 @@ use Rattle.direction_reader.specs.declared.event.Event.TheVariants.{Word, Refuse
 use Rattle.direction_reader.specs.declared.event.Events.{Events}
 use Rattle.direction_reader.specs.Candidate.{IsEventOf, AreEventsOf}
 use Rattle.direction_reader.specs.Events.{is_lost, listed, event_list}
-use Rattle.direction_reader.specs.ListEvents.{CellWindow, AreEventsOfWindows, AreEventsOfStretches, AreEvents}
-use Rattle.direction_reader.specs.Tape.{windows_of_tape, TellsTheTape}
+use Rattle.direction_reader.specs.Gathered.{AreEventsOfWindows, AreEventsOfStretches}
+use Rattle.direction_reader.specs.ListEvents.{CellWindow, windows, AreEvents}
+use Rattle.direction_reader.specs.Tape.{TellsTheTape}
+use Rattle.direction_reader.proofs.AsLists.{AreListed}
 use Rattle.direction_reader.proofs.OneList.{in_sync_or_not}
 use Rattle.direction_reader.proofs.OneListOfEvents.{HasOneList}
 
@@ -85,9 +87,9 @@ nothing_told system profile l es [] stretches are none = are
 nothing_told system profile l es (s ∷ ss) stretches are none =
     let lock = stretches.0 in absurd (none lock.pair lock.within lock.unequal)
 
-words_told : HasOneList → IsOneStretch → (system : System) (profile : Profile) (l : List ℕ) (es : List Event) (ss : List Stretch)
+pub words_told : HasOneList → IsOneStretch → (system : System) (profile : Profile) (l : List ℕ) (es : List Event) (ss : List Stretch)
     → AreStretches profile l ss → AreEventsOfStretches system l ss es → (tape : List Cell) (cut lock : ℕ) → IsPiece profile l tape cut
-    → IsLock profile l 0 lock → AreEventsOfWindows system (windows_of_tape tape cut l lock) es
+    → IsLock profile l 0 lock → AreEventsOfWindows system (windows (sum (take lock l)) (cells_from tape cut l lock)) es
 words_told one law system profile l es ss stretches are tape cut lock is at =
     let own = stretch_of_piece tape cut l lock in
     let same : ss ≡ own ∷ [] = one profile l ss (own ∷ []) stretches (law profile l tape cut lock is at) in
@@ -97,7 +99,7 @@ words_told one law system profile l es ss stretches are tape cut lock is at =
     let all : windows_are.0 ≡ es =
     sym (append-nil windows_are.0) ∙ sym windows_are.2 ∙ sym (append-nil of_own.0)
     ∙ ap (λ (e : List Event). of_own.0 ++ e) (sym of_own.3) ∙ sym of_own.4 in
-    subst (λ (e : List Event). AreEventsOfWindows system (windows_of_tape tape cut l lock) e) all windows_are.1
+    subst (λ (e : List Event). AreEventsOfWindows system (windows (sum (take lock l)) (cells_from tape cut l lock)) e) all windows_are.1
 
 no_break_told : HasOneList → IsOneStretch → (system : System) (profile : Profile) (l : List ℕ) (es : List Event) (ss : List Stretch)
     → AreStretches profile l ss → AreEventsOfStretches system l ss es → IsKept profile l → breaks es ≡ 0
@@ -106,10 +108,13 @@ no_break_told one law system profile l es (s ∷ ss) stretches are kept =
     no_break_of_windows system _ es
     (words_told one law system profile l es (s ∷ ss) stretches are kept.0 kept.1 s.lock kept.2 stretches.0)
 
-pub tells_the_tape : HasOneList → IsOneStretch → (system : System) (profile : Profile) (l : List ℕ) (es : List Event)
-    → AreEvents system profile l es → TellsTheTape system profile l es
-tells_the_tape one law system profile l es (ss, stretches, are) = record {
-  nothing = nothing_told system profile l es ss stretches are;
-  words = words_told one law system profile l es ss stretches are;
-  no_break = no_break_told one law system profile l es ss stretches are;
-}
+pub tells_the_tape : AreListed → HasOneList → IsOneStretch → (system : System) (profile : Profile) (l : List ℕ)
+    (es : List Event) → AreEvents system profile l es → TellsTheTape system profile l es
+tells_the_tape lists one law system profile l es are =
+    let own = lists.gathered system profile l es are in
+    record {
+      nothing = nothing_told system profile l es own.0 own.1 own.2;
+      words = λ tape cut lock is at. lists.cells system (sum (take lock l)) (cells_from tape cut l lock) es
+          (words_told one law system profile l es own.0 own.1 own.2 tape cut lock is at);
+      no_break = no_break_told one law system profile l es own.0 own.1 own.2;
+    }

@@ -4,7 +4,8 @@ use Rattle.cell_tracker.specs.Stretch.{Stretch}
 use Rattle.direction_reader.specs.declared.event.Event.{Event}
 use Rattle.direction_reader.specs.Tracking.{Tracking}
 use Rattle.direction_reader.specs.Tracking.{AtCell, MidCell, Hunting}
-use Rattle.direction_reader.specs.ListEvents.{break_events, AreEventsOfStretch, AreEventsOfStretches, AreEvents}
+use Rattle.direction_reader.specs.Gathered.{AreEventsOfStretch, AreEventsOfStretches, AreGathered}
+use Rattle.direction_reader.specs.ListEvents.{break_events}
 use Rattle.direction_reader.specs.Reader.{ReaderState}
 use Rattle.direction_reader.specs.StandsFor.{TrackerStandsFor, LatestStandsFor, OpenStandsFor, StandsFor}
 use Rattle.direction_reader.specs.Tracker.{profile_of}
@@ -19,7 +20,7 @@ open_events r l s es open_yet is =
 
 the_events : (r : ReaderState) (t : Tracking) (l : List ℕ) (es past latest : List Event) (earlier : List Stretch) (o : Option Stretch)
     → TrackerStandsFor t l earlier o → AreEventsOfStretches r.system l earlier past → LatestStandsFor r l o latest → es ≡ past ++ latest
-    → AreEvents r.system (profile_of t) l es
+    → AreGathered r.system (profile_of t) l es
 the_events r (AtCell a) l es past latest earlier None is past_are latest_are all = absurd is
 the_events r (AtCell a) l es past latest earlier (Some s) is past_are latest_are all =
     let own = open_events r l s latest is.open_yet latest_are in
@@ -35,6 +36,6 @@ the_events r (Hunting h) l es past latest earlier None is past_are latest_are al
     (earlier, is.stretches_are, subst (λ e. AreEventsOfStretches r.system l earlier e) same past_are)
 the_events r (Hunting h) l es past latest earlier (Some s) is past_are latest_are all = absurd is
 
-pub reader_events : (r : ReaderState) (l : List ℕ) (es : List Event) → StandsFor r l es → AreEvents r.system (profile_of r.tracker) l es
+pub reader_events : (r : ReaderState) (l : List ℕ) (es : List Event) → StandsFor r l es → AreGathered r.system (profile_of r.tracker) l es
 reader_events r l es is =
     the_events r r.tracker l es is.past is.latest is.earlier is.open_yet is.tracker is.past_are is.latest_are is.all

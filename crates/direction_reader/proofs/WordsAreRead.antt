@@ -18,7 +18,8 @@ use Rattle.direction_reader.specs.declared.event.Event.{Event}
 use Rattle.direction_reader.specs.declared.event.Event.TheVariants.{Word}
 use Rattle.direction_reader.specs.Candidate.{AreEventsOf}
 use Rattle.direction_reader.specs.Events.{no_events, one_event}
-use Rattle.direction_reader.specs.ListEvents.{duration, number_of, window_at, windows, AreEvents, AreEventsOfWindows}
+use Rattle.direction_reader.specs.Gathered.{AreEventsOfWindows, AreGathered}
+use Rattle.direction_reader.specs.ListEvents.{duration, number_of, window_at, windows}
 use Rattle.direction_reader.specs.Played.{Played, AreSpelled, bits_of_words, events_of_words, in_time, low_bits, played_bits}
 use Rattle.direction_reader.proofs.ChainIsAStretch.{AreAsSaid, whole, whole_is}
 use Rattle.direction_reader.proofs.SyncInTime.{WordLaws, Starts, led, lead_backward, lead_forward, length-low_bits, no_other_way}
@@ -233,7 +234,7 @@ windows_are_read laws system cells (w ∷ more) are spelled =
 
 pub words_are_read : WordLaws → AreAsSaid → (system : System) (profile : Profile) (cells : List Cell) (words : List Played) → IsChain profile cells
     → bits cells ≡ false ∷ true ∷ bits_of_words words → AreSpelled system words
-    → AreEvents system profile (flat cells) (events_of_words (duration (take 2 cells)) (drop 2 cells) words)
+    → AreGathered system profile (flat cells) (events_of_words (duration (take 2 cells)) (drop 2 cells) words)
 words_are_read laws said system profile cells words chain are spelled =
     let events = events_of_words (duration (take 2 cells)) (drop 2 cells) words in
     let stretches = whole_is said profile cells (bits_of_words words) chain are in

@@ -1,15 +1,28 @@
 -- The candidates of a window, and the event of each.
-use Rattle.std.specs.Prelude.{◌≡◌, ℕ, ◌⊎◌, Some, None, IsSomeAnd, IfSome}
+use Rattle.std.specs.Prelude.{◌≡◌, ℕ, ◌⊎◌, List, [], ◌∷◌, Some, None, IsSomeAnd, IfSome, if◌then◌else◌}
 use Rattle.tc_address.specs.declared.system.System.{System}
 use Rattle.tc_address.specs.declared.direction.Direction.{Direction}
 use Rattle.tc_address.specs.declared.direction.Direction.TheVariants.{Forward, Backward}
 use Rattle.ltc_word.specs.declared.word.WordFault.TheVariants.{Field}
 use Rattle.ltc_word.specs.Fault.{first_fault}
-use Rattle.ltc_word.specs.Reversal.{EndsInSync, reversed_bits}
+use Rattle.ltc_word.specs.Reading.{fault_in, word_in}
+use Rattle.ltc_word.specs.Reversal.{EndsInSync, ends_in_sync, reversed_bits}
 use Rattle.ltc_word.specs.Spelling.{Spells}
 use Rattle.direction_reader.specs.declared.event.Event.{Event}
 use Rattle.direction_reader.specs.declared.event.Event.TheVariants.{Word, Refused, Lost}
 use Rattle.direction_reader.specs.declared.event.Events.{Events}
+
+-- the event of a candidate: the word that stands in its bits, or the first fault of its fields
+abbrev pub event_of : System → Direction → ℕ → ℕ → ℕ → Event
+event_of system direction bits end length = elim (fault_in system bits) [
+  | None ↦ Word direction (word_in system bits) end length
+  | Some fault ↦ Refused direction fault end
+]
+
+-- bits that end in the sync word are a candidate, and other bits are none
+abbrev pub candidate_in : System → Direction → ℕ → ℕ → ℕ → List Event
+candidate_in system direction bits end length =
+    if ends_in_sync bits then event_of system direction bits end length ∷ [] else []
 
 -- a window of 80 bits is a candidate, read forward, backward or both ways
 abbrev pub IsCandidate : ℕ → Type 0

@@ -4,6 +4,7 @@ pub mod Boundaries
 pub mod Brings
 pub mod Candidate
 pub mod Events
+pub mod Gathered
 pub mod Hissy
 pub mod HoldsBits
 pub mod Invariants

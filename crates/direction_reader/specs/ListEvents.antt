@@ -2,17 +2,17 @@
 -- kept from one interval to the next: all of it is said of the finished list.
 use Rattle.std.specs.Prelude.{◌≡◌, ℕ, ◌+◌, ◌-◌, ◌*◌, List, [], ◌∷◌, ◌++◌, length, take, drop, map, sum, Bool, Option}
 use Rattle.std.specs.Prelude.{Some, None}
-use Rattle.std.specs.List.{range_with_len}
+use Rattle.std.specs.List.{flat_map, range_with_len}
 use Rattle.biphase.specs.declared.cell.Cell.{Cell}
 use Rattle.biphase.specs.declared.profile.Profile.{Profile}
 use Rattle.biphase.specs.Chain.{flat, bits}
 use Rattle.cell_tracker.specs.Stretch.{Stretch, AreStretches}
+use Rattle.ltc_word.specs.Reversal.{reversed_bits}
+use Rattle.tc_address.specs.declared.direction.Direction.TheVariants.{Forward, Backward}
 use Rattle.tc_address.specs.declared.system.System.{System}
 use Rattle.direction_reader.specs.declared.event.Event.{Event}
 use Rattle.direction_reader.specs.declared.event.Event.TheVariants.{Lost}
-use Rattle.direction_reader.specs.declared.event.Events.{Events}
-use Rattle.direction_reader.specs.Candidate.{AreEventsOf}
-use Rattle.direction_reader.specs.Events.{event_list}
+use Rattle.direction_reader.specs.Candidate.{candidate_in}
 use Rattle.direction_reader.specs.Window.{bit_value}
 
 -- bits as one number, the oldest in bit 0
@@ -42,12 +42,16 @@ window_at tick cells k = record {
 abbrev pub windows : ℕ → List Cell → List CellWindow
 windows tick cells = map (window_at tick cells) (range_with_len 0 (length cells - 79))
 
--- the events of windows, one window after another
-abbrev pub AreEventsOfWindows : System → List CellWindow → List Event → Type 0
-AreEventsOfWindows system [] events = events ≡ []
-AreEventsOfWindows system (window ∷ more) events = (own : Events) × (rest : List Event)
-    × AreEventsOf system window.bits window.end window.length own × AreEventsOfWindows system more rest
-    × (events ≡ event_list own ++ rest)
+-- the events of a window: it is a forward candidate where it ends in the sync word, and a backward one where its bits
+-- in the other order of time do; the forward candidate comes first
+unfoldable pub events_of_window : System → CellWindow → List Event
+events_of_window system window =
+    candidate_in system Forward window.bits window.end window.length
+    ++ candidate_in system Backward (reversed_bits window.bits) window.end window.length
+
+-- the events of cells that begin at a tick: those of their windows, one window after another
+abbrev pub events_of_cells : System → ℕ → List Cell → List Event
+events_of_cells system tick cells = flat_map (events_of_window system) (windows tick cells)
 
 -- the tick at which a stretch begins
 abbrev pub begin_of : List ℕ → Stretch → ℕ
@@ -59,19 +63,11 @@ break_events intervals None = []
 break_events intervals (Some place) = Lost place (sum (take (place + 1) intervals)) ∷ []
 
 -- the events of a stretch: those of its windows, and then its break
-abbrev pub AreEventsOfStretch : System → List ℕ → Stretch → List Event → Type 0
-AreEventsOfStretch system intervals stretch events = (own : List Event)
-    × AreEventsOfWindows system (windows (begin_of intervals stretch) stretch.cells) own
-    × (events ≡ own ++ break_events intervals stretch.broken_at)
+abbrev pub events_of_stretch : System → List ℕ → Stretch → List Event
+events_of_stretch system intervals stretch =
+    events_of_cells system (begin_of intervals stretch) stretch.cells ++ break_events intervals stretch.broken_at
 
--- the events of stretches, one stretch after another
-abbrev pub AreEventsOfStretches : System → List ℕ → List Stretch → List Event → Type 0
-AreEventsOfStretches system intervals [] events = events ≡ []
-AreEventsOfStretches system intervals (stretch ∷ more) events = (own rest : List Event)
-    × AreEventsOfStretch system intervals stretch own × AreEventsOfStretches system intervals more rest
-    × (events ≡ own ++ rest)
-
--- the events of a list of intervals
+-- the events of a list of intervals: those of its stretches, one stretch after another
 abbrev pub AreEvents : System → Profile → List ℕ → List Event → Type 0
 AreEvents system profile intervals events = (stretches : List Stretch)
-    × AreStretches profile intervals stretches × AreEventsOfStretches system intervals stretches events
+    × AreStretches profile intervals stretches × (events ≡ flat_map (events_of_stretch system intervals) stretches)

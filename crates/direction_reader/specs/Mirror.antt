@@ -4,27 +4,17 @@ use Rattle.std.specs.List.{AllZip}
 use Rattle.biphase.specs.declared.cell.Cell.{Cell}
 use Rattle.biphase.specs.declared.profile.Profile.{Profile}
 use Rattle.biphase.specs.Tolerance.{LooksAtLast}
-use Rattle.biphase.specs.Chain.{flat}
+use Rattle.biphase.specs.Chain.{flat, Begins}
 use Rattle.biphase.specs.Mirror.{mirrored}
 use Rattle.cell_tracker.specs.ChainPiece.{IsPiece, cells_from}
 use Rattle.cell_tracker.specs.Lock.{IsLock}
-use Rattle.ltc_word.specs.Reversal.{reversed_bits}
 use Rattle.tc_address.specs.declared.direction.Direction.{Direction}
 use Rattle.tc_address.specs.declared.direction.Direction.TheVariants.{Forward, Backward}
 use Rattle.tc_address.specs.declared.system.System.{System}
 use Rattle.direction_reader.specs.declared.event.Event.{Event}
 use Rattle.direction_reader.specs.declared.event.Event.TheVariants.{Word, Refused}
 use Rattle.direction_reader.specs.Events.{tick_of}
-use Rattle.direction_reader.specs.ListEvents.{CellWindow, duration, windows, AreEventsOfWindows}
-
--- a window in the other order of time, in intervals of this sum: its bits in the other order, and the tick at its
--- other end
-abbrev pub mirror_window : ℕ → CellWindow → CellWindow
-mirror_window total window = record {
-  bits = reversed_bits window.bits;
-  end = total - window.end + window.length;
-  length = window.length;
-}
+use Rattle.direction_reader.specs.ListEvents.{duration, events_of_cells}
 
 -- the opposite direction
 abbrev pub turned : Direction → Direction
@@ -40,30 +30,23 @@ IsMirrorOf total (Refused direction fault tick) (Refused other same there) =
     (other ≡ turned direction) × (same ≡ fault) × ((length : ℕ) × (there + tick ≡ total + length))
 IsMirrorOf total event other = ⊥
 
--- between the `first` intervals before and the `last` intervals behind them, the windows of the cells are those of the
--- other cells in the other order of time, all of them. So the events of both begin with those of these windows, and
--- from the last one to the first one they are the same words, good or refused, each met from its other end. Further
--- events come at the end of these cells or later
+-- the events begin with those of cells that begin at a tick, and further ones come at the end of these or later
+abbrev pub TellFirst : System → ℕ → List Cell → List Event → Type 0
+TellFirst system tick cells events = (more : List Event) × (events ≡ events_of_cells system tick cells ++ more)
+    × All (λ event. tick + duration cells ≤ tick_of event) more
+
+-- between the `first` intervals before and the `last` intervals behind them, the cells are the other cells in the other
+-- order of time, all of them. So the events of both begin with those of these cells, and from the last one to the first
+-- one they are the same words, good or refused, each met from its other end
 pub record TellMirrored (system : System) (intervals : List ℕ) (first last : ℕ) (cells others : List Cell) (events mirrored_events : List Event) : Type 0 where
   pub between : List Cell
-  pub behind : List Cell
-  pub others_behind : List Cell
-  pub cells_are : cells ≡ between ++ behind
-  pub others_are : others ≡ mirrored between ++ others_behind
+  pub begin : Begins between cells
+  pub others_begin : Begins (mirrored between) others
   pub many : first + length (flat between) + last ≡ length intervals
-  pub mine : List Event
-  pub more : List Event
-  pub events_are : events ≡ mine ++ more
-  pub mine_are : AreEventsOfWindows system (windows (sum (take first intervals)) between) mine
-  pub none_between : All (λ event. sum (take first intervals) + duration between ≤ tick_of event) more
-  pub theirs : List Event
-  pub others_more : List Event
-  pub mirrored_are : mirrored_events ≡ theirs ++ others_more
-  pub theirs_are : AreEventsOfWindows system
-      (reverse (map (mirror_window (sum intervals)) (windows (sum (take first intervals)) between))) theirs
-  pub no_other_between :
-      All (λ event. sum (take last (reverse intervals)) + duration (mirrored between) ≤ tick_of event) others_more
-  pub same : AllZip (IsMirrorOf (sum intervals)) mine (reverse theirs)
+  pub told : TellFirst system (sum (take first intervals)) between events
+  pub told_mirrored : TellFirst system (sum (take last (reverse intervals))) (mirrored between) mirrored_events
+  pub same : AllZip (IsMirrorOf (sum intervals)) (events_of_cells system (sum (take first intervals)) between)
+      (reverse (events_of_cells system (sum (take last (reverse intervals))) (mirrored between)))
 
 -- where a cell is compared with the one before it alone, the events of a recording and of its mirror, both within the
 -- tolerance, are so between the greater intervals of the first and of the last unequal pair

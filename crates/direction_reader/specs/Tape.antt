@@ -8,34 +8,24 @@ use Rattle.cell_tracker.specs.ChainPiece.{IsPiece, IsKept, cells_from}
 use Rattle.cell_tracker.specs.Lock.{IsLock, HasNoLock}
 use Rattle.tc_address.specs.declared.system.System.{System}
 use Rattle.direction_reader.specs.declared.event.Event.{Event}
-use Rattle.direction_reader.specs.declared.event.Event.TheVariants.{Word, Refused, Lost}
+use Rattle.direction_reader.specs.declared.event.Event.TheVariants.{Lost}
 use Rattle.direction_reader.specs.Events.{is_lost, tick_of}
-use Rattle.direction_reader.specs.ListEvents.{CellWindow, duration, windows, AreEventsOfWindows}
-
--- the tape's windows from a place on: each 80 neighbouring cells of the tape that lie wholly in the recording and
--- begin there or later. The recording is a piece of the tape's cells, cut out at the place `cut`
-abbrev pub windows_of_tape : List Cell → ℕ → List ℕ → ℕ → List CellWindow
-windows_of_tape tape cut intervals from = windows (sum (take from intervals)) (cells_from tape cut intervals from)
+use Rattle.direction_reader.specs.ListEvents.{duration, events_of_cells}
 
 -- the events tell the tape. Where no two neighbours are unequal there are none. Else, whatever cells within the
--- tolerance the recording is a piece of, the events are those of all whole words of these cells, good or refused, from
--- the first unequal pair on. And no event of a recording within the tolerance is a break
+-- tolerance the recording is a piece of, cut out at the place `cut`, the events are those of all whole words of these
+-- cells, good or refused: of each 80 neighbours that lie wholly in the recording from the first unequal pair on. And no
+-- event of a recording within the tolerance is a break
 pub record TellsTheTape (system : System) (profile : Profile) (intervals : List ℕ) (events : List Event) : Type 0 where
   pub nothing : HasNoLock profile intervals 0 → events ≡ []
   pub words : (tape : List Cell) (cut lock : ℕ) → IsPiece profile intervals tape cut → IsLock profile intervals 0 lock
-      → AreEventsOfWindows system (windows_of_tape tape cut intervals lock) events
+      → events ≡ events_of_cells system (sum (take lock intervals)) (cells_from tape cut intervals lock)
   pub no_break : IsKept profile intervals → count_by is_lost events ≡ 0
 
--- a word, good or refused, ends at the tick `end` at the latest
-abbrev pub EndsBy : ℕ → Event → Type 0
-EndsBy end (Word direction word tick length) = tick ≤ end
-EndsBy end (Refused direction fault tick) = tick ≤ end
-EndsBy end (Lost interval tick) = Unit {0}
-
--- a break stands at the place `from` at the latest
-abbrev pub BreaksBy : ℕ → Event → Type 0
-BreaksBy from (Lost interval tick) = interval ≤ from
-BreaksBy from event = Unit {0}
+-- a word, good or refused, ends at the tick `end` at the latest, and a break stands at the place `from` at the latest
+abbrev pub ComesBy : ℕ → ℕ → Event → Type 0
+ComesBy end from (Lost interval tick) = interval ≤ from
+ComesBy end from event = tick_of event ≤ end
 
 -- in the intervals `front` and what comes behind them, the events are from the place `from` to the end of `front` those
 -- of the windows of these cells and nothing else. Before them come words that begin before this place, so that at most
@@ -43,12 +33,9 @@ BreaksBy from event = Unit {0}
 -- `front` or later
 pub record TellFrom (system : System) (front : List ℕ) (from : ℕ) (cells : List Cell) (events : List Event) : Type 0 where
   pub past : List Event
-  pub later : List Event
   pub behind : List Event
-  pub are : events ≡ past ++ later ++ behind
-  pub words : AreEventsOfWindows system (windows (sum (take from front)) cells) later
-  pub no_other_word : All (EndsBy (sum (take from front) + duration (take 79 cells))) past
-  pub no_other_break : All (BreaksBy from) past
+  pub are : events ≡ past ++ events_of_cells system (sum (take from front)) cells ++ behind
+  pub no_others : All (ComesBy (sum (take from front) + duration (take 79 cells)) from) past
   pub none_before_the_end : All (λ event. sum front ≤ tick_of event) behind
 
 -- where a cell is compared with the one before it alone, the events find the tape again, whatever stands before it and

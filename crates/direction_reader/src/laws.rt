@@ -16,7 +16,8 @@ ghost use Rattle.direction_reader.specs.Candidate.{AreEventsOf};
 ghost use Rattle.direction_reader.specs.Events.{tick_of};
 ghost use Rattle.direction_reader.specs.Hissy.{hissy_cells};
 ghost use Rattle.direction_reader.specs.Mirror.{MirrorsTheTape};
-ghost use Rattle.direction_reader.specs.ListEvents.{duration, AreEvents};
+ghost use Rattle.direction_reader.specs.Gathered.{AreEventsOfWindows, AreGathered};
+ghost use Rattle.direction_reader.specs.ListEvents.{duration, windows, events_of_cells, AreEvents};
 ghost use Rattle.direction_reader.specs.Played.{Played, AreSpelled, bits_of_words, events_of_words};
 ghost use Rattle.direction_reader.specs.Reader.{ReaderState};
 ghost use Rattle.direction_reader.specs.StandsFor.{StandsFor};
@@ -38,7 +39,7 @@ use cell_tracker::laws::{
 use ltc_word::laws::{
     bits_in_sync_spell_a_word_or_have_a_fault, each_word_has_its_spelling,
     reversed_twice_is_the_same, spelling_is_exact, twelve_ones_are_the_sync_word,
-    words_of_round_labels,
+    what_stands_in_bits_is_what_they_spell, words_of_round_labels,
 };
 
 /// A reader takes a thousand million intervals, a window has 80 bits and 81 boundaries, and its
@@ -68,13 +69,26 @@ pub fn each_window_has_events()
     reversed_twice_is_the_same();
 }
 
+/// The events that are gathered, each word one that its bits spell, are those of the list, in which each
+/// word is the one that stands in its bits.
+pub fn events_are_those_that_are_spelled()
+    ensures cells { (system : System) (tick : ℕ) (cells : List Cell) (events : List Event)
+        → AreEventsOfWindows system (windows tick cells) events → events ≡ events_of_cells system tick cells }
+    ensures gathered { (system : System) (profile : Profile) (intervals : List ℕ) (events : List Event)
+        → AreEvents system profile intervals events → AreGathered system profile intervals events }
+    ensures listed { (system : System) (profile : Profile) (intervals : List ℕ) (events : List Event)
+        → AreGathered system profile intervals events → AreEvents system profile intervals events }
+{
+    what_stands_in_bits_is_what_they_spell();
+    bits_in_sync_spell_a_word_or_have_a_fault();
+    reversed_twice_is_the_same();
+}
+
 /// Each list of intervals has events.
 pub fn each_list_has_events()
     ensures { (system : System) (profile : Profile) (intervals : List ℕ)
         → (events : List Event) × AreEvents system profile intervals events }
 {
-    bits_in_sync_spell_a_word_or_have_a_fault();
-    reversed_twice_is_the_same();
     a_list_has_one_list_of_stretches();
 }
 
@@ -84,7 +98,6 @@ pub fn a_list_has_one_list_of_events()
         (events others : List Event) → AreEvents system profile intervals events
         → AreEvents system profile intervals others → events ≡ others }
 {
-    spelling_is_exact();
     a_list_has_one_list_of_stretches();
 }
 
@@ -100,6 +113,7 @@ pub fn events_of_a_front_come_first()
         → AreEvents system profile (front ++ more) (events ++ rest)
         → All (λ event. sum front ≤ tick_of event) rest }
 {
+    events_are_those_that_are_spelled();
     spelling_is_exact();
     stretches_go_on();
 }
@@ -109,7 +123,9 @@ pub fn a_reader_gives_the_events_of_its_list()
     ensures { (reader : ReaderState) (intervals : List ℕ) (events : List Event)
         → StandsFor reader intervals events
         → AreEvents reader.system (profile_of reader.tracker) intervals events }
-{}
+{
+    events_are_those_that_are_spelled();
+}
 
 /// Truth of the reading: the events of a recording within the tolerance are those of the tape's own
 /// windows from the first unequal pair on, and none of them is a break.
@@ -118,6 +134,7 @@ pub fn events_tell_the_tape()
         → AreEvents system profile intervals events
         → TellsTheTape system profile intervals events }
 {
+    events_are_those_that_are_spelled();
     a_list_has_one_list_of_stretches();
     a_recording_within_the_tolerance_is_one_stretch();
 }
@@ -132,6 +149,7 @@ pub fn events_find_the_tape_again()
 {
     a_recording_is_found_again_behind_anything();
     each_list_has_events();
+    events_are_those_that_are_spelled();
     events_of_a_front_come_first();
 }
 
@@ -144,6 +162,7 @@ pub fn events_mirror_the_tape()
         → AreEvents system profile (reverse intervals) mirrored
         → MirrorsTheTape system profile intervals events mirrored }
 {
+    events_are_those_that_are_spelled();
     spelling_is_exact();
     reversed_twice_is_the_same();
     a_list_has_one_list_of_stretches();
@@ -186,6 +205,7 @@ pub fn small_recordings_have_these_events()
         (Refused Forward FrameUnits 1944 ∷ Refused Backward FrameUnits 1944 ∷ []) }
     ensures two { AreEvents F25 Normal (24 ∷ 12 ∷ 24 ∷ 12 ∷ 12 ∷ []) (Lost 2 60 ∷ []) }
 {
+    events_are_those_that_are_spelled();
     small_recordings_have_these_stretches();
     words_of_round_labels();
 }
@@ -198,6 +218,7 @@ pub fn played_words_are_read()
         → IsChain profile cells → bits cells ≡ false ∷ true ∷ bits_of_words words → AreSpelled system words
         → AreEvents system profile (flat cells) (events_of_words (duration (take 2 cells)) (drop 2 cells) words) }
 {
+    events_are_those_that_are_spelled();
     kinds_are_as_the_cells_say();
     reversed_twice_is_the_same();
     twelve_ones_are_the_sync_word();

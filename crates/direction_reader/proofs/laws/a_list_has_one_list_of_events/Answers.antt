@@ -2,6 +2,4 @@ use Rattle.direction_reader.proofs.OneListOfEvents.{one_list_of_events}
 use Rattle.direction_reader.proofs.laws.a_list_has_one_list_of_events.Goals as goal
 
 pub returns : goal.returns
-returns c = one_list_of_events
-    (record { one_word = c.spelling_is_exact.ensures.one_word; no_fault = c.spelling_is_exact.ensures.no_fault })
-    c.a_list_has_one_list_of_stretches.ensures.one
+returns c = one_list_of_events c.a_list_has_one_list_of_stretches.ensures.one

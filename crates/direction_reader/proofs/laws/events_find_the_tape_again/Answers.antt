@@ -2,7 +2,11 @@ use Rattle.direction_reader.proofs.FindsTheTape.{finds_the_tape}
 use Rattle.direction_reader.proofs.laws.events_find_the_tape_again.Goals as goal
 
 pub returns : goal.returns
-returns c = finds_the_tape c.a_recording_is_found_again_behind_anything.ensures (record {
+returns c = finds_the_tape (record {
+  cells = c.events_are_those_that_are_spelled.ensures.cells;
+  gathered = c.events_are_those_that_are_spelled.ensures.gathered;
+  listed = c.events_are_those_that_are_spelled.ensures.listed;
+}) c.a_recording_is_found_again_behind_anything.ensures (record {
   exist = c.each_list_has_events.ensures;
   first = c.events_of_a_front_come_first.ensures.first;
   later = c.events_of_a_front_come_first.ensures.later;

@@ -1,3 +1,7 @@
+use Rattle.std.proofs.Common.{take, drop}
+use Rattle.biphase.specs.Chain.{flat}
+use Rattle.direction_reader.specs.ListEvents.{duration}
+use Rattle.direction_reader.specs.Played.{events_of_words}
 use Rattle.direction_reader.proofs.SyncInTime.{WordLaws}
 use Rattle.direction_reader.proofs.WordsAreRead.{words_are_read}
 use Rattle.direction_reader.proofs.laws.played_words_are_read.Goals as goal
@@ -10,4 +14,7 @@ returns c =
       width = c.reversed_twice_is_the_same.ensures.width;
       twice = c.reversed_twice_is_the_same.ensures.twice;
     } in
-    words_are_read laws c.kinds_are_as_the_cells_say.ensures
+    λ system profile cells words chain are spelled.
+    c.events_are_those_that_are_spelled.ensures.listed system profile (flat cells)
+    (events_of_words (duration (take 2 cells)) (drop 2 cells) words)
+    (words_are_read laws c.kinds_are_as_the_cells_say.ensures system profile cells words chain are spelled)
