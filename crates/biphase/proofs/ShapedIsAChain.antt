@@ -5,7 +5,8 @@ use Rattle.std.proofs.lemmas.List.Elements.{All-append, All-cons, All-nil}
 use Rattle.biphase.specs.declared.cell.TheConstants.{MAX_INTERVAL}
 use Rattle.biphase.specs.declared.profile.Profile.TheVariants.{Normal}
 use Rattle.biphase.specs.declared.cell.Cell.{Cell}
-use Rattle.biphase.specs.Chain.{length_of, intervals_of, flat, bit_of, bits, IsCell, IsNear, IsChainAfter, IsChain}
+use Rattle.biphase.specs.Tolerance.{length_of}
+use Rattle.biphase.specs.Chain.{intervals_of, flat, bit_of, bits, IsCell, IsNear, IsChainAfter, IsChain}
 use Rattle.biphase.specs.Shape.{Shape, IsShape, IsShaped, moved, length_at, cell_with, shaped_from, shaped}
 
 -- the shape of the cells behind the first

@@ -6,11 +6,7 @@ use Rattle.biphase.specs.declared.cell.Cell.{Cell}
 use Rattle.biphase.specs.declared.cell.Cell.TheVariants.{Zero, One}
 use Rattle.biphase.specs.Latest.{Latest}
 use Rattle.biphase.specs.Pair.{AreEqual, AreUnequal}
-use Rattle.biphase.specs.Tolerance.{ticks_of, rules_of, kept_at_lock, kept_next}
-
--- the length of a cell, in ticks
-abbrev pub length_of : Cell → ℕ
-length_of cell = ticks_of cell
+use Rattle.biphase.specs.Tolerance.{length_of, kept_at_lock, kept_next, AreHalves, IsNext}
 
 -- the intervals of a cell, in order
 abbrev pub intervals_of : Cell → List ℕ
@@ -46,20 +42,12 @@ kept_of profile (cell ∷ cells) = kept_after profile (kept_at_lock profile (len
 
 -- a zero of length next may stand directly after a first cell of length c
 abbrev pub IsNear : Profile → ℕ → ℕ → Type 0
-IsNear profile c next = (rules_of profile).IsNext (kept_at_lock profile c) (Zero next)
-
--- a and b may be the halves of one cell
-abbrev pub AreHalves : Profile → ℕ → ℕ → Type 0
-AreHalves profile a b = (rules_of profile).AreHalves a b
+IsNear profile c next = IsNext profile (kept_at_lock profile c) (Zero next)
 
 -- a cell by itself: each interval lasts a tick or more, and its halves may be those of one cell
 abbrev pub IsCell : Profile → Cell → Type 0
 IsCell profile (Zero x) = 1 ≤ x
 IsCell profile (One a b) = (1 ≤ a) × (1 ≤ b) × AreHalves profile a b
-
--- a cell may come next
-abbrev pub IsNext : Profile → Latest → Cell → Type 0
-IsNext profile latest cell = (rules_of profile).IsNext latest cell
 
 -- cells that may follow others: each may come next after what is kept of those before it
 abbrev pub Follow : Profile → Latest → List Cell → Type 0
@@ -111,10 +99,6 @@ IsChain Rough cells = FollowEachZero Rough cells × Kinds Rough cells
 -- after the latest cells, x can be a zero
 abbrev pub IsNextZero : Profile → Latest → ℕ → Type 0
 IsNextZero profile latest x = IsNext profile latest (Zero x)
-
--- after the latest cells, x can be the first half of a one
-abbrev pub IsFirstHalf : Profile → Latest → ℕ → Type 0
-IsFirstHalf profile latest x = (rules_of profile).IsFirstHalf latest x
 
 -- after the latest cells, x and y can be the halves of a one
 abbrev pub IsNextOne : Profile → Latest → ℕ → ℕ → Type 0

@@ -7,7 +7,8 @@ use Rattle.biphase.specs.declared.cell.Cell.{Cell}
 use Rattle.biphase.specs.declared.cell.Cell.TheVariants.{Zero, One}
 use Rattle.biphase.specs.Pair.{AreEqual, AreUnequal}
 use Rattle.biphase.specs.Tolerance.{LooksAtLast, kept_at_lock}
-use Rattle.biphase.specs.Chain.{length_of, IsCell, AreHalves, FollowOn, IsChain, IsChainAfter, IsNextZero, IsNextOne}
+use Rattle.biphase.specs.Tolerance.{length_of, AreHalves}
+use Rattle.biphase.specs.Chain.{IsCell, FollowOn, IsChain, IsChainAfter, IsNextZero, IsNextOne}
 use Rattle.biphase.specs.Chain.{Inner, Meets, Kinds}
 use Rattle.biphase.specs.Laws.{kept_anew}
 

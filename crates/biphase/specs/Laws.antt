@@ -14,8 +14,9 @@ use Rattle.biphase.specs.Tolerance.{LooksAtLast, kept_at_lock, kept_next, sum_of
 use Rattle.biphase.specs.declared.pair.PairKind.{PairKind}
 use Rattle.biphase.specs.declared.pair.PairKind.TheVariants.{Same, Step, Wild}
 use Rattle.biphase.specs.Pair.{AreUnequal, IsKind}
-use Rattle.biphase.specs.Chain.{length_of, Follow, FollowOn, FollowEachZero, IsChain, IsChainAfter, IsNextZero}
-use Rattle.biphase.specs.Chain.{IsFirstHalf, IsNextOne}
+use Rattle.biphase.specs.Tolerance.{length_of, IsFirstHalf}
+use Rattle.biphase.specs.Chain.{Follow, FollowOn, FollowEachZero, IsChain, IsChainAfter, IsNextZero}
+use Rattle.biphase.specs.Chain.{IsNextOne}
 
 -- no interval is both a next zero and a next first half
 pub zero_is_no_half : (profile : Profile) (latest : Latest) (x : ℕ) → 1 ≤ x → IsNextZero profile latest x

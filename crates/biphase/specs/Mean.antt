@@ -1,11 +1,11 @@
 -- Cells that stay near the mean of the latest four.
+use Rattle.biphase.specs.Tolerance.{length_of}
 use Rattle.std.specs.Prelude.{ℕ, ◌*◌, ◌≤◌, List, [], ◌∷◌}
 use Rattle.std.specs.Int.{abs_diff}
 use Rattle.biphase.specs.declared.cell.Cell.{Cell}
 use Rattle.biphase.specs.declared.cell.Cell.TheVariants.{Zero, One}
 use Rattle.biphase.specs.Latest.{Latest}
 use Rattle.biphase.specs.declared.profile.Profile.TheVariants.{Rough}
-use Rattle.biphase.specs.Chain.{length_of}
 use Rattle.biphase.specs.Tolerance.{sum_of, kept_at_lock, kept_next}
 
 -- a length differs from the mean of the latest four by a quarter of it at most. Four times the mean is their sum

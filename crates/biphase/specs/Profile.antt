@@ -26,6 +26,10 @@ IsAtLeast ratio a b = ratio.part * b ≤ ratio.whole * a
 abbrev pub IsAtMost : Ratio → ℕ → ℕ → Type 0
 IsAtMost ratio a b = ratio.whole * a ≤ ratio.part * b
 
+-- a is at least and at most such parts of b
+abbrev pub IsBetween : Ratio → Ratio → ℕ → ℕ → Type 0
+IsBetween least greatest a b = IsAtLeast least a b × IsAtMost greatest a b
+
 -- a and b differ by at most the length divided by this number
 abbrev pub IsWithin : ℕ → ℕ → ℕ → ℕ → Type 0
 IsWithin number a b length = number * abs_diff a b ≤ length

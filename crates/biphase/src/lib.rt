@@ -9,8 +9,8 @@
 //! - `kind` tells whether two neighbouring intervals are equal, one the half of the other, or neither
 //!   (`specs/Pair.antt`, `IsKind`).
 //! - `is_zero`, `may_begin_one` and `is_one` are the tests of the tolerance, exact for all lengths
-//!   (`specs/Chain.antt`, `IsNextZero`, `IsFirstHalf`, `IsNextOne`), and `Profile::at_lock` and
-//!   `Profile::after` are what it keeps (`specs/Tolerance.antt`, `Rules`, one row a profile).
+//!   (`specs/Tolerance.antt`, `IsNext`, `IsFirstHalf` and `AreHalves`, a row each profile), and
+//!   `Profile::at_lock` and `Profile::after` are what it keeps (there, `kept_at_lock`, `kept_next`).
 //! - In a list of cells within the tolerance, a chain, these tests never mistake one for the other,
 //!   and the greater interval of an unequal pair is a zero (`laws`).
 //! - `Shaper` makes the cells of a shape, whose lengths move step by step from one length to another

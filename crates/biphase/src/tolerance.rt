@@ -1,10 +1,11 @@
 //! The tests of the tolerance, each of what comes after some cells. Next: `cell`.
 ghost use Rattle.std.specs.Prelude.{◌≡◌, ◌↔◌, ◌+◌, ◌<◌, ◌^◌, IsTrue};
+ghost use Rattle.biphase.specs.declared.cell.Cell.TheVariants.{One};
 ghost use Rattle.biphase.specs.declared.profile.TheConstants.{ROUGH};
-ghost use Rattle.biphase.specs.Profile.{IsAtLeast, IsAtMost, IsWithin};
+ghost use Rattle.biphase.specs.Profile.{IsBetween, IsWithin};
 ghost use Rattle.biphase.specs.Latest.{Latest};
-ghost use Rattle.biphase.specs.Tolerance.{reference_of, IsCellOfSum, IsHalfOfSum, IsOneOfSum};
-ghost use Rattle.biphase.specs.Chain.{IsNextZero, IsFirstHalf, IsNextOne};
+ghost use Rattle.biphase.specs.Tolerance.{reference_of, FollowsSum, IsFirstHalf};
+ghost use Rattle.biphase.specs.Chain.{IsNextZero, IsNextOne};
 
 use crate::profile::{
     NORMAL, Profile, ROUGH, Ratio, Tolerance, WORN, is_at_least, is_at_most, is_within,
@@ -60,7 +61,7 @@ fn next_zero(tolerance: Tolerance, c: u32, x: u32) -> bool
 }
 
 fn first_half(tolerance: Tolerance, c: u32, x: u32) -> bool
-    ensures { IsTrue result ↔ (IsAtLeast tolerance.least_half x c × IsAtMost tolerance.greatest_half x c) }
+    ensures { IsTrue result ↔ IsBetween tolerance.least_half tolerance.greatest_half x c }
 {
     lies_between(
         tolerance.least_half,
@@ -83,7 +84,7 @@ fn next_one(tolerance: Tolerance, c: u32, x: u32, y: u32) -> bool
 fn lies_between(least: Ratio, greatest: Ratio, a: u64, b: u64) -> bool
     requires first { a < 2 ^ 40 }
     requires second { b < 2 ^ 40 }
-    ensures { IsTrue result ↔ (IsAtLeast least a b × IsAtMost greatest a b) }
+    ensures { IsTrue result ↔ IsBetween least greatest a b }
 {
     is_at_least(least, a, b) && is_at_most(greatest, a, b)
 }
@@ -92,7 +93,7 @@ fn lies_between(least: Ratio, greatest: Ratio, a: u64, b: u64) -> bool
 fn is_cell_of_sum(sum: u64, length: u64) -> bool
     requires first { sum < 2 ^ 40 }
     requires second { length < 2 ^ 40 }
-    ensures { IsTrue result ↔ IsCellOfSum ROUGH sum length }
+    ensures { IsTrue result ↔ IsBetween ROUGH.least_cell ROUGH.greatest_cell length sum }
 {
     lies_between(ROUGH.least_cell, ROUGH.greatest_cell, length, sum)
 }
@@ -101,7 +102,7 @@ fn is_cell_of_sum(sum: u64, length: u64) -> bool
 fn is_half_of_sum(sum: u64, x: u64) -> bool
     requires first { sum < 2 ^ 40 }
     requires second { x < 2 ^ 40 }
-    ensures { IsTrue result ↔ IsHalfOfSum ROUGH sum x }
+    ensures { IsTrue result ↔ IsBetween ROUGH.least_half ROUGH.greatest_half x sum }
 {
     lies_between(ROUGH.least_half, ROUGH.greatest_half, x, sum)
 }
@@ -111,7 +112,7 @@ fn is_one_of_sum(sum: u64, x: u64, y: u64) -> bool
     requires first { sum < 2 ^ 40 }
     requires second { x < 2 ^ 32 }
     requires third { y < 2 ^ 32 }
-    ensures { IsTrue result ↔ IsOneOfSum ROUGH sum x y }
+    ensures { IsTrue result ↔ FollowsSum ROUGH sum (One x y) }
 {
     is_half_of_sum(sum, x) && is_half_of_sum(sum, y) && is_cell_of_sum(sum, x + y)
 }

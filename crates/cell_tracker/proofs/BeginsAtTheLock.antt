@@ -1,4 +1,5 @@
 -- A search goes on where no pair is unequal, and else a stretch begins at the lock.
+use Rattle.biphase.specs.Tolerance.{IsFirstHalf}
 use Rattle.std.proofs.Common.{◌≡◌, ◌≢◌, ℕ, ◌+◌, ◌-◌, ◌<◌, ◌≤◌, List, [], ◌∷◌, ◌++◌, length, drop, get_or, Some, None, refl, ap, subst, sym}
 use Rattle.std.proofs.Common.{◌∙◌, arith, MatchOption}
 use Rattle.std.proofs.lemmas.List.{append-nil, drop-append-le, drop_more, drop_all, drop_at, length_push, get_or_push, get_or_append_left}
@@ -7,7 +8,6 @@ use Rattle.std.proofs.lemmas.Option.{slice_get-get_or, slice_get_within, get_or_
 use Rattle.biphase.specs.declared.profile.Profile.{Profile}
 use Rattle.biphase.specs.Pair.{AreUnequal}
 use Rattle.biphase.specs.Tolerance.{kept_at_lock}
-use Rattle.biphase.specs.Chain.{IsFirstHalf}
 use Rattle.biphase.specs.Laws.{step_is_no_zero, unequal_differ}
 use Rattle.cell_tracker.specs.Lock.{IsUnequalAt, HasNoLock}
 use Rattle.cell_tracker.specs.State.{HuntingState, search_from}

@@ -5,7 +5,8 @@ use Rattle.biphase.specs.declared.profile.Profile.{Profile}
 use Rattle.biphase.specs.declared.cell.Cell.{Cell}
 use Rattle.biphase.specs.declared.cell.Cell.TheVariants.{Zero, One}
 use Rattle.biphase.specs.Tolerance.{kept_at_lock, kept_next}
-use Rattle.biphase.specs.Chain.{length_of, kept_after, kept_of, IsCell, IsChainAfter, Follow}
+use Rattle.biphase.specs.Tolerance.{length_of}
+use Rattle.biphase.specs.Chain.{kept_after, kept_of, IsCell, IsChainAfter, Follow}
 use Rattle.biphase.specs.Laws.{last_at_lock, last_next}
 
 -- what is kept of two lists of cells, one after the other

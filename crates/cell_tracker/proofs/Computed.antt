@@ -14,9 +14,10 @@ use Rattle.biphase.specs.declared.profile.SumTolerance.{SumTolerance}
 use Rattle.biphase.specs.declared.profile.TheConstants.{NORMAL, WORN, ROUGH}
 use Rattle.biphase.specs.Latest.{Latest}
 use Rattle.biphase.specs.Profile.{equal_of, unequal_of, IsAtLeast, IsAtMost}
-use Rattle.biphase.specs.Tolerance.{sum_of, kept_at_lock, kept_next, IsOneOfSum}
+use Rattle.biphase.specs.Tolerance.{sum_of, kept_at_lock, kept_next, FollowsSum}
 use Rattle.biphase.specs.Pair.{AreUnequal}
-use Rattle.biphase.specs.Chain.{IsNextZero, IsFirstHalf, IsNextOne}
+use Rattle.biphase.specs.Tolerance.{IsFirstHalf}
+use Rattle.biphase.specs.Chain.{IsNextZero, IsNextOne}
 use Rattle.cell_tracker.specs.Stretch.{Stretch, IsBroken, AreStretches, begun, with_cell, with_break}
 use Rattle.cell_tracker.specs.StandsFor.{HuntingStandsFor, AtCellStandsFor, MidCellStandsFor}
 use Rattle.cell_tracker.proofs.BeginsAtTheLock.{hunt_first, hunt_equal, start_at, start_mid, start_broken}
@@ -97,7 +98,7 @@ half_tells Worn latest x = between_tells WORN.least_half WORN.greatest_half x la
 half_tells Rough latest x = between_tells ROUGH.least_half ROUGH.greatest_half x (sum_of latest)
 
 -- two halves and a sum
-sum_tells : (latest : Latest) (x y : ℕ) → Tells (is_one_of ROUGH (sum_of latest) x y) (IsOneOfSum ROUGH (sum_of latest) x y)
+sum_tells : (latest : Latest) (x y : ℕ) → Tells (is_one_of ROUGH (sum_of latest) x y) (FollowsSum ROUGH (sum_of latest) (One x y))
 sum_tells latest x y =
     let first = between_tells ROUGH.least_half ROUGH.greatest_half x (sum_of latest) in
     let second = between_tells ROUGH.least_half ROUGH.greatest_half y (sum_of latest) in

@@ -16,7 +16,8 @@ use Rattle.biphase.specs.declared.cell.Cell.TheVariants.{Zero, One}
 use Rattle.biphase.specs.Pair.{AreUnequal}
 use Rattle.biphase.specs.Latest.{Latest}
 use Rattle.biphase.specs.Tolerance.{LooksAtLast, kept_at_lock, kept_next}
-use Rattle.biphase.specs.Chain.{length_of, intervals_of, flat, kept_after, kept_of, AreHalves, IsCell, IsChain, Follow, FollowOn, IsChainAfter, IsFirstHalf}
+use Rattle.biphase.specs.Tolerance.{length_of, AreHalves, IsFirstHalf}
+use Rattle.biphase.specs.Chain.{intervals_of, flat, kept_after, kept_of, IsCell, IsChain, Follow, FollowOn, IsChainAfter}
 use Rattle.biphase.specs.Kinds.{zeros_equal, halves_equal}
 use Rattle.biphase.specs.Laws.{behind_zero, chain_on, kept_anew, last_at_lock, last_next, unequal_differ, half_or_not}
 use Rattle.biphase.specs.Zeros.{IsZeroAt, greater_is_zero}

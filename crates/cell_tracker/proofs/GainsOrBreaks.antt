@@ -8,7 +8,8 @@ use Rattle.biphase.specs.declared.cell.Cell.{Cell}
 use Rattle.biphase.specs.declared.cell.Cell.TheVariants.{Zero, One}
 use Rattle.biphase.specs.Latest.{Latest}
 use Rattle.biphase.specs.Tolerance.{kept_at_lock, kept_next}
-use Rattle.biphase.specs.Chain.{flat, intervals_of, length_of, kept_of, IsCell, IsNext, IsFirstHalf, IsNextZero, IsNextOne}
+use Rattle.biphase.specs.Tolerance.{length_of, IsNext, IsFirstHalf}
+use Rattle.biphase.specs.Chain.{flat, intervals_of, kept_of, IsCell, IsNextZero, IsNextOne}
 use Rattle.cell_tracker.proofs.Chains.{chain-append, chain_lasts, kept_of-push}
 use Rattle.biphase.specs.Laws.{half_lasts, zero_is_no_half, half_or_not, zero_lasts, one_lasts}
 use Rattle.cell_tracker.specs.Lock.{HasNoLock}

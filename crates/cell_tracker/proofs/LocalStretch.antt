@@ -8,7 +8,8 @@ use Rattle.biphase.specs.declared.cell.Cell.{Cell}
 use Rattle.biphase.specs.declared.cell.Cell.TheVariants.{Zero, One}
 use Rattle.biphase.specs.Latest.{Latest}
 use Rattle.biphase.specs.Tolerance.{kept_at_lock}
-use Rattle.biphase.specs.Chain.{intervals_of, flat, kept_after, kept_of, IsCell, IsNext, Follow, FollowOn, IsChainAfter, IsNextZero, IsNextOne}
+use Rattle.biphase.specs.Tolerance.{IsNext}
+use Rattle.biphase.specs.Chain.{intervals_of, flat, kept_after, kept_of, IsCell, Follow, FollowOn, IsChainAfter, IsNextZero, IsNextOne}
 use Rattle.cell_tracker.proofs.Chains.{chain_rest, chain-append, chain_lasts}
 use Rattle.biphase.specs.OneChain.{comparable_after}
 use Rattle.biphase.specs.Laws.{zero_lasts, one_lasts}

@@ -12,7 +12,8 @@ use Rattle.biphase.specs.declared.cell.Cell.{Cell}
 use Rattle.biphase.specs.declared.cell.Cell.TheVariants.{Zero, One}
 use Rattle.biphase.specs.Latest.{Latest}
 use Rattle.biphase.specs.Tolerance.{kept_at_lock, kept_next}
-use Rattle.biphase.specs.Chain.{length_of, intervals_of, flat, kept_after, kept_of}
+use Rattle.biphase.specs.Tolerance.{length_of}
+use Rattle.biphase.specs.Chain.{intervals_of, flat, kept_after, kept_of}
 use Rattle.biphase.specs.Laws.{last_at_lock, last_next}
 use Rattle.cell_tracker.specs.ChainPiece.{IsPiece, cells_between, cells_from, stretch_of_piece}
 use Rattle.cell_tracker.specs.Lock.{IsLock, HasNoLock}

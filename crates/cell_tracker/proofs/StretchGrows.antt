@@ -8,7 +8,8 @@ use Rattle.std.proofs.lemmas.List.{drop-append-le, length-drop, length_push}
 use Rattle.biphase.specs.declared.profile.Profile.{Profile}
 use Rattle.biphase.specs.Latest.{Latest}
 use Rattle.biphase.specs.declared.cell.Cell.TheVariants.{Zero}
-use Rattle.biphase.specs.Chain.{flat, kept_of, IsFirstHalf}
+use Rattle.biphase.specs.Tolerance.{IsFirstHalf}
+use Rattle.biphase.specs.Chain.{flat, kept_of}
 use Rattle.biphase.specs.Laws.{first_half, half_or_not}
 use Rattle.cell_tracker.specs.Lock.{HasNoLock, IsLock}
 use Rattle.cell_tracker.specs.Stretch.{Stretch, IsBroken, end_of, IsBreak, IsStretch, AreStretchesFrom, AreStretches}

@@ -2,7 +2,8 @@
 use Rattle.std.specs.Prelude.{◌≡◌, ℕ, ◌+◌, List, ◌∷◌, ◌++◌, length}
 use Rattle.biphase.specs.declared.cell.Cell.{Cell}
 use Rattle.biphase.specs.declared.cell.Cell.TheVariants.{One}
-use Rattle.biphase.specs.Chain.{intervals_of, length_of, flat}
+use Rattle.biphase.specs.Tolerance.{length_of}
+use Rattle.biphase.specs.Chain.{intervals_of, flat}
 use Rattle.cell_tracker.specs.State.{AtCellState, MidCellState}
 
 -- the place is a boundary of the chain, and the state keeps the length of the cell that ends there as the last

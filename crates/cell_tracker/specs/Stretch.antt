@@ -6,7 +6,8 @@ use Rattle.biphase.specs.declared.profile.Profile.{Profile}
 use Rattle.biphase.specs.declared.cell.Cell.{Cell}
 use Rattle.biphase.specs.declared.cell.Cell.TheVariants.{Zero}
 use Rattle.biphase.specs.Latest.{Latest}
-use Rattle.biphase.specs.Chain.{flat, kept_of, Begins, FollowOn, IsFirstHalf}
+use Rattle.biphase.specs.Tolerance.{IsFirstHalf}
+use Rattle.biphase.specs.Chain.{flat, kept_of, Begins, FollowOn}
 use Rattle.cell_tracker.specs.Lock.{IsLock, HasNoLock}
 
 -- the place of its first zero, its cells, and the place of the interval at which it breaks, if it does

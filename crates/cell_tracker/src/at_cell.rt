@@ -1,7 +1,8 @@
 //! The state at the end of a cell. Next: `biphase/src/tolerance.rt`, and after a first half `mid_cell`.
 ghost use Rattle.std.specs.Prelude.{◌≡◌, ℕ, ◌≤◌, List};
 ghost use Rattle.biphase.specs.declared.cell.TheConstants.{MAX_INTERVAL};
-ghost use Rattle.biphase.specs.Chain.{IsNextZero, IsFirstHalf};
+ghost use Rattle.biphase.specs.Tolerance.{IsFirstHalf};
+ghost use Rattle.biphase.specs.Chain.{IsNextZero};
 ghost use Rattle.biphase.specs.Tolerance.{kept_by, kept_next, Fits};
 ghost use Rattle.cell_tracker.specs.Answer.{KeepsOfAtCell};
 ghost use Rattle.cell_tracker.specs.State.{at_cell_with, held_at_cell, held_mid_cell, search_from};

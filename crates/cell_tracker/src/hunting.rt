@@ -1,8 +1,8 @@
 //! The state between stretches. Next: `biphase/src/pair.rt`, and at a lock `at_cell` or `mid_cell`.
+ghost use Rattle.biphase.specs.Tolerance.{IsFirstHalf};
 ghost use Rattle.std.specs.Prelude.{◌≡◌, ℕ, ◌≤◌, ◌<◌, List, [], IfSome};
 ghost use Rattle.biphase.specs.declared.cell.TheConstants.{MAX_INTERVAL};
 ghost use Rattle.biphase.specs.Pair.{AreUnequal};
-ghost use Rattle.biphase.specs.Chain.{IsFirstHalf};
 ghost use Rattle.biphase.specs.Tolerance.{kept_at_lock};
 ghost use Rattle.cell_tracker.specs.Answer.{KeepsOfHunting};
 ghost use Rattle.cell_tracker.specs.State.{held_at_cell, held_mid_cell, search_from};

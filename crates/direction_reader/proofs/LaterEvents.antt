@@ -17,7 +17,8 @@ use Rattle.biphase.specs.declared.cell.Cell.TheVariants.{Zero}
 use Rattle.biphase.specs.declared.profile.Profile.{Profile}
 use Rattle.biphase.specs.Latest.{Latest}
 use Rattle.biphase.specs.Tolerance.{kept_at_lock, kept_next}
-use Rattle.biphase.specs.Chain.{Begins, intervals_of, flat, length_of, kept_of, Follow}
+use Rattle.biphase.specs.Tolerance.{length_of}
+use Rattle.biphase.specs.Chain.{Begins, intervals_of, flat, kept_of, Follow}
 use Rattle.biphase.specs.Laws.{half_or_not, unequal_differ}
 use Rattle.cell_tracker.specs.Growing.{GrowsTo, GrowTo}
 use Rattle.cell_tracker.specs.Lock.{HasNoLock, IsLock}

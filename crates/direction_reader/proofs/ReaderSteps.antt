@@ -6,7 +6,8 @@ use Rattle.std.proofs.lemmas.Option.{slice_get_within, get_or_from_slice_get}
 use Rattle.std.proofs.lemmas.List.Sums.{sum_by-append}
 use Rattle.biphase.specs.declared.cell.Cell.{Cell}
 use Rattle.biphase.specs.declared.cell.Cell.TheVariants as cell
-use Rattle.biphase.specs.Chain.{length_of, bit_of}
+use Rattle.biphase.specs.Tolerance.{length_of}
+use Rattle.biphase.specs.Chain.{bit_of}
 use Rattle.cell_tracker.specs.Stretch.{Stretch, begun, with_cell, with_break}
 use Rattle.tc_address.specs.declared.system.System.{System}
 use Rattle.direction_reader.specs.declared.event.Event.{Event}

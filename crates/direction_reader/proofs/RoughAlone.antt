@@ -5,7 +5,8 @@ use Rattle.biphase.specs.declared.cell.Cell.{Cell}
 use Rattle.biphase.specs.declared.cell.Cell.TheVariants.{Zero, One}
 use Rattle.biphase.specs.Latest.{Latest}
 use Rattle.biphase.specs.declared.profile.Profile.TheVariants.{Normal, Worn, Rough}
-use Rattle.biphase.specs.Chain.{bits, length_of, IsCell, IsNext, Follow, FollowEachZero, IsChain, Inner, Meets, Kinds}
+use Rattle.biphase.specs.Tolerance.{length_of, IsNext}
+use Rattle.biphase.specs.Chain.{bits, IsCell, Follow, FollowEachZero, IsChain, Inner, Meets, Kinds}
 use Rattle.biphase.specs.Pair.{AreEqual, AreUnequal}
 use Rattle.biphase.specs.Tolerance.{sum_of, kept_at_lock, kept_next}
 use Rattle.ltc_word.specs.declared.word.LtcWord.{LtcWord}

@@ -3,7 +3,8 @@
 use Rattle.std.specs.Prelude.{◌≡◌, ℕ, ◌+◌, ◌-◌, ◌*◌, ◌^◌, ◌≤◌, ◌<◌, List, [], ◌∷◌, ◌++◌, length, sum, Option, Some}
 use Rattle.std.specs.Prelude.{None, IfSome, IsSome}
 use Rattle.biphase.specs.declared.cell.Cell.{Cell}
-use Rattle.biphase.specs.Chain.{length_of, bit_of, bits}
+use Rattle.biphase.specs.Tolerance.{length_of}
+use Rattle.biphase.specs.Chain.{bit_of, bits}
 use Rattle.cell_tracker.specs.Stretch.{Stretch, begun, with_cell, with_break}
 use Rattle.cell_tracker.specs.StandsFor.{last_of, HuntingStandsFor, AtCellStandsFor, MidCellStandsFor}
 use Rattle.direction_reader.specs.declared.brought.Brought.{Brought}

@@ -7,7 +7,8 @@ use Rattle.std.proofs.lemmas.List.{map-append}
 use Rattle.std.proofs.lemmas.List.Sums.{sum_by-cons}
 use Rattle.biphase.specs.declared.cell.Cell.{Cell}
 use Rattle.biphase.specs.declared.profile.Profile.TheVariants.{Normal}
-use Rattle.biphase.specs.Chain.{IsCell, IsChain, IsChainAfter, IsNear, bit_of, bits, length_of}
+use Rattle.biphase.specs.Tolerance.{length_of}
+use Rattle.biphase.specs.Chain.{IsCell, IsChain, IsChainAfter, IsNear, bit_of, bits}
 use Rattle.direction_reader.specs.declared.event.Event.{Event}
 use Rattle.direction_reader.specs.declared.event.Event.TheVariants.{Word}
 use Rattle.direction_reader.specs.Events.{is_lost, is_refused, is_word}

@@ -1,5 +1,6 @@
 use Rattle.std.proofs.Common.{◌≡◌, [], ◌∷◌, ◌++◌, length, refl, subst, sym}
-use Rattle.biphase.specs.Chain.{IsNextZero, IsFirstHalf}
+use Rattle.biphase.specs.Tolerance.{IsFirstHalf}
+use Rattle.biphase.specs.Chain.{IsNextZero}
 use Rattle.biphase.specs.Tolerance.{kept_by, kept_next, Fits}
 use Rattle.biphase.specs.declared.cell.Cell.TheVariants.{Zero}
 use Rattle.cell_tracker.specs.Stretch.{with_cell, with_break}

@@ -1,6 +1,6 @@
+use Rattle.biphase.specs.Tolerance.{IsFirstHalf}
 use Rattle.std.proofs.Common.{◌≡◌, ℕ, Bool, false, IsTrue, [], ◌∷◌, ◌++◌, ◌-◌, length, refl, subst, sym}
 use Rattle.biphase.specs.Pair.{AreUnequal}
-use Rattle.biphase.specs.Chain.{IsFirstHalf}
 use Rattle.biphase.specs.Tolerance.{kept_at_lock}
 use Rattle.biphase.specs.Laws.{other_kind}
 use Rattle.cell_tracker.specs.State.{AtCellState, MidCellState, at_cell_with, mid_cell_with}
