@@ -92,9 +92,8 @@ Kinds profile (cell ∷ next ∷ cells) = Inner profile cell × Meets profile ce
 -- before it. Where four are kept, the cells follow from each zero on, and the kinds of neighbouring intervals are as
 -- the cells say
 abbrev pub IsChain : Profile → List Cell → Type 0
-IsChain Normal cells = FollowOn Normal cells
-IsChain Worn cells = FollowOn Worn cells
 IsChain Rough cells = FollowEachZero Rough cells × Kinds Rough cells
+IsChain profile cells = FollowOn profile cells
 
 -- after the latest cells, x can be a zero
 abbrev pub IsNextZero : Profile → Latest → ℕ → Type 0

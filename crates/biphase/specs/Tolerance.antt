@@ -60,9 +60,8 @@ AreHalves Rough a b = Unit {0}
 
 -- a profile that compares with the last cell alone
 abbrev pub LooksAtLast : Profile → Type 0
-LooksAtLast Normal = Unit {0}
-LooksAtLast Worn = Unit {0}
 LooksAtLast Rough = ⊥
+LooksAtLast profile = Unit {0}
 
 -- the number that the tests of a profile compare with: the length of the last cell, or the sum of the latest four
 abbrev pub reference_of : Profile → Latest → ℕ

@@ -27,7 +27,8 @@ use Rattle.direction_reader.specs.declared.event.Events.{Events}
 use Rattle.direction_reader.specs.Candidate.{IsEventOf, AreEventsOf, event_of, candidate_in}
 use Rattle.direction_reader.specs.Events.{listed, event_list}
 use Rattle.direction_reader.specs.Gathered.{AreEventsOfWindows, AreEventsOfStretch, AreEventsOfStretches, AreGathered}
-use Rattle.direction_reader.specs.ListEvents.{CellWindow, begin_of, break_events, windows, events_of_window, events_of_stretch}
+use Rattle.direction_reader.specs.Gathered.{begin_of}
+use Rattle.direction_reader.specs.ListEvents.{CellWindow, break_events, windows, events_of_window, events_of_stretch}
 use Rattle.direction_reader.specs.ListEvents.{AreEvents, events_of_cells}
 use Rattle.direction_reader.proofs.EventsExist.{AreRead, stretches_events}
 

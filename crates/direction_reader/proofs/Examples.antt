@@ -26,7 +26,8 @@ use Rattle.direction_reader.specs.declared.event.Events.{Events}
 use Rattle.direction_reader.specs.Candidate.{AreEventsOf}
 use Rattle.direction_reader.specs.Events.{no_events, one_event, event_list}
 use Rattle.direction_reader.specs.Gathered.{AreEventsOfWindows, AreGathered}
-use Rattle.direction_reader.specs.ListEvents.{CellWindow, window_at, windows, begin_of, break_events}
+use Rattle.direction_reader.specs.Gathered.{begin_of}
+use Rattle.direction_reader.specs.ListEvents.{CellWindow, window_at, windows, break_events}
 
 -- whether bits end in the sync word
 abbrev in_sync : ℕ → Bool

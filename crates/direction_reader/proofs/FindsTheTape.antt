@@ -27,7 +27,8 @@ use Rattle.direction_reader.specs.declared.event.Events.{Events}
 use Rattle.direction_reader.specs.Candidate.{IsEventOf, AreEventsOf}
 use Rattle.direction_reader.specs.Events.{listed, event_list, tick_of}
 use Rattle.direction_reader.specs.Gathered.{AreEventsOfWindows, AreEventsOfStretch, AreEventsOfStretches}
-use Rattle.direction_reader.specs.ListEvents.{CellWindow, duration, windows, begin_of, break_events}
+use Rattle.direction_reader.specs.Gathered.{begin_of}
+use Rattle.direction_reader.specs.ListEvents.{CellWindow, duration, windows, break_events}
 use Rattle.direction_reader.specs.ListEvents.{AreEvents, events_of_cells}
 use Rattle.direction_reader.specs.Tape.{ComesBy, TellFrom, FindsTheTape}
 use Rattle.direction_reader.proofs.AsLists.{AreListed}

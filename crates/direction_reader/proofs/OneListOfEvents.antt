@@ -8,7 +8,8 @@ use Rattle.tc_address.specs.declared.system.System.{System}
 use Rattle.direction_reader.specs.declared.event.Event.{Event}
 use Rattle.direction_reader.specs.Events.{event_list}
 use Rattle.direction_reader.specs.Gathered.{AreEventsOfWindows, AreEventsOfStretch}
-use Rattle.direction_reader.specs.ListEvents.{CellWindow, windows, begin_of, break_events}
+use Rattle.direction_reader.specs.Gathered.{begin_of}
+use Rattle.direction_reader.specs.ListEvents.{CellWindow, windows, break_events}
 use Rattle.direction_reader.specs.ListEvents.{AreEvents, events_of_stretch}
 use Rattle.direction_reader.proofs.OneList.{IsExact, one_list}
 

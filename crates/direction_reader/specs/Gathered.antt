@@ -1,6 +1,6 @@
 -- The events of a list of intervals as the reader gathers them: each word is one that its bits spell. They are the
 -- events of the list (`AreEvents`), which the law `events_are_those_that_are_spelled` says.
-use Rattle.std.specs.Prelude.{◌≡◌, ℕ, List, [], ◌∷◌, ◌++◌}
+use Rattle.std.specs.Prelude.{◌≡◌, ℕ, List, [], ◌∷◌, ◌++◌, take, sum}
 use Rattle.biphase.specs.declared.profile.Profile.{Profile}
 use Rattle.cell_tracker.specs.Stretch.{Stretch, AreStretches}
 use Rattle.tc_address.specs.declared.system.System.{System}
@@ -8,7 +8,11 @@ use Rattle.direction_reader.specs.declared.event.Event.{Event}
 use Rattle.direction_reader.specs.declared.event.Events.{Events}
 use Rattle.direction_reader.specs.Candidate.{AreEventsOf}
 use Rattle.direction_reader.specs.Events.{event_list}
-use Rattle.direction_reader.specs.ListEvents.{CellWindow, windows, begin_of, break_events}
+use Rattle.direction_reader.specs.ListEvents.{CellWindow, windows, break_events}
+
+-- the tick at which a stretch begins
+abbrev pub begin_of : List ℕ → Stretch → ℕ
+begin_of intervals stretch = sum (take stretch.lock intervals)
 
 -- the events of windows, one window after another
 abbrev pub AreEventsOfWindows : System → List CellWindow → List Event → Type 0

@@ -1,6 +1,6 @@
 -- The events of a list of intervals: the candidates of all windows of its stretches, and its breaks. Nothing here is
 -- kept from one interval to the next: all of it is said of the finished list.
-use Rattle.std.specs.Prelude.{◌≡◌, ℕ, ◌+◌, ◌-◌, ◌*◌, List, [], ◌∷◌, ◌++◌, length, take, drop, map, sum, Bool, Option}
+use Rattle.std.specs.Prelude.{◌≡◌, ℕ, ◌+◌, ◌-◌, ◌*◌, List, [], ◌∷◌, ◌++◌, length, take, drop, map, sum, Bool, if◌then◌else◌, Option}
 use Rattle.std.specs.Prelude.{Some, None}
 use Rattle.std.specs.List.{flat_map, range_with_len}
 use Rattle.biphase.specs.declared.cell.Cell.{Cell}
@@ -13,12 +13,11 @@ use Rattle.tc_address.specs.declared.system.System.{System}
 use Rattle.direction_reader.specs.declared.event.Event.{Event}
 use Rattle.direction_reader.specs.declared.event.Event.TheVariants.{Lost}
 use Rattle.direction_reader.specs.Candidate.{candidate_in}
-use Rattle.direction_reader.specs.Window.{bit_value}
 
 -- bits as one number, the oldest in bit 0
 abbrev pub number_of : List Bool → ℕ
 number_of [] = 0
-number_of (bit ∷ more) = bit_value bit + 2 * number_of more
+number_of (bit ∷ more) = (if bit then 1 else 0) + 2 * number_of more
 
 -- the sum of the intervals of cells
 abbrev pub duration : List Cell → ℕ
@@ -53,10 +52,6 @@ events_of_window system window =
 abbrev pub events_of_cells : System → ℕ → List Cell → List Event
 events_of_cells system tick cells = flat_map (events_of_window system) (windows tick cells)
 
--- the tick at which a stretch begins
-abbrev pub begin_of : List ℕ → Stretch → ℕ
-begin_of intervals stretch = sum (take stretch.lock intervals)
-
 -- the end of a stretch, if it has one: the place of the interval at which it breaks, and the sum up to and with that
 abbrev pub break_events : List ℕ → Option ℕ → List Event
 break_events intervals None = []
@@ -65,7 +60,7 @@ break_events intervals (Some place) = Lost place (sum (take (place + 1) interval
 -- the events of a stretch: those of its windows, and then its break
 abbrev pub events_of_stretch : System → List ℕ → Stretch → List Event
 events_of_stretch system intervals stretch =
-    events_of_cells system (begin_of intervals stretch) stretch.cells ++ break_events intervals stretch.broken_at
+    events_of_cells system (sum (take stretch.lock intervals)) stretch.cells ++ break_events intervals stretch.broken_at
 
 -- the events of a list of intervals: those of its stretches, one stretch after another
 abbrev pub AreEvents : System → Profile → List ℕ → List Event → Type 0

@@ -17,15 +17,13 @@ polarity_bit F30 = places.BIT_27
 
 -- where binary group flag 0 stands in a system
 abbrev pub group_flag_zero_bit : System → ℕ
-group_flag_zero_bit F24 = places.BIT_43
 group_flag_zero_bit F25 = places.BIT_27
-group_flag_zero_bit F30 = places.BIT_43
+group_flag_zero_bit system = places.BIT_43
 
 -- where binary group flag 2 stands in a system
 abbrev pub group_flag_two_bit : System → ℕ
-group_flag_two_bit F24 = places.BIT_59
 group_flag_two_bit F25 = places.BIT_43
-group_flag_two_bit F30 = places.BIT_59
+group_flag_two_bit system = places.BIT_59
 
 -- the table of a system
 abbrev pub table_of : System → Table

@@ -2,7 +2,7 @@
 -- word at the end of either.
 use Rattle.std.specs.Prelude.{◌≡◌, ℕ, ◌+◌, ◌<◌, Bool, ◌==◌}
 use Rattle.std.specs.Int.{bit_at, reverse_bits_onto}
-use Rattle.tc_bits.specs.Register.{number_in}
+use Rattle.tc_bits.specs.Register.{field, number_in}
 use Rattle.ltc_word.specs.declared.places.TheConstants as places
 
 -- the lowest 80 bits, the last one first
@@ -11,7 +11,7 @@ reversed_bits bits = reverse_bits_onto 80 bits 0
 
 -- whether bits 64 to 79 are the sync word
 abbrev pub ends_in_sync : ℕ → Bool
-ends_in_sync bits = number_in places.SYNC bits == places.SYNC_PATTERN
+ends_in_sync bits = field bits places.SYNC.first places.SYNC.width == places.SYNC_PATTERN
 
 -- bits 64 to 79 are the sync word
 abbrev pub EndsInSync : ℕ → Type 0

@@ -74,7 +74,7 @@ address_of system raw = address (count_in system raw.flags.bit10)
 
 -- the fields that the digits say, whether or not they are at fault
 abbrev pub fields_of : System → RawFields → Contents
-fields_of system raw = contents (address_of system raw) raw.flags raw.user
+fields_of system raw = record { label = address_of system raw; flags = raw.flags; user = raw.user }
 
 -- the system's fields that have these digits
 pub record Says (system : System) (raw : RawFields) (c : Contents) : Type 0 where

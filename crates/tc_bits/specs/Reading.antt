@@ -1,19 +1,18 @@
 -- What stands in the places of a table: digits, flags and user bits, whether or not they are an address.
-use Rattle.std.specs.Prelude.{ℕ, ◌+◌, ◌*◌, ◌^◌}
+use Rattle.std.specs.Prelude.{ℕ, ◌+◌, ◌*◌, ◌^◌, ◌==◌}
 use Rattle.tc_bits.specs.declared.flags.Flags.{Flags}
 use Rattle.tc_bits.specs.declared.raw.RawFields.{RawFields}
 use Rattle.tc_bits.specs.declared.table.Table.{Table}
-use Rattle.tc_bits.specs.Register.{field, is_set}
-use Rattle.tc_bits.specs.Table.{place}
+use Rattle.tc_bits.specs.Register.{field}
 
 -- the flags that stand in the bits
 abbrev pub flags_in : Table → ℕ → Flags
 flags_in t bits = record {
-  bit10 = is_set (place t.drop_frame 1) bits;
-  colour = is_set (place t.colour_frame 1) bits;
-  bgf0 = is_set (place t.group_flag_zero 1) bits;
-  bgf1 = is_set (place t.group_flag_one 1) bits;
-  bgf2 = is_set (place t.group_flag_two 1) bits;
+  bit10 = field bits t.drop_frame 1 == 1;
+  colour = field bits t.colour_frame 1 == 1;
+  bgf0 = field bits t.group_flag_zero 1 == 1;
+  bgf1 = field bits t.group_flag_one 1 == 1;
+  bgf2 = field bits t.group_flag_two 1 == 1;
 }
 
 -- the user bits that stand in the bits, group 1 least significant
