@@ -1,7 +1,7 @@
 -- Cells of biphase mark (SMPTE 12M, linear time code), and the lists of them that keep a profile's tolerance.
 use Rattle.std.specs.Prelude.{◌≡◌, ℕ, ◌<◌, ◌≤◌, List, [], ◌∷◌, ◌++◌, flat_map, Bool, true, false, map}
 use Rattle.biphase.specs.declared.profile.Profile.{Profile}
-use Rattle.biphase.specs.declared.profile.Profile.TheVariants.{Normal, Worn, Rough}
+use Rattle.biphase.specs.declared.profile.Profile.TheVariants.{Rough}
 use Rattle.biphase.specs.declared.cell.Cell.{Cell}
 use Rattle.biphase.specs.declared.cell.Cell.TheVariants.{Zero, One}
 use Rattle.biphase.specs.Latest.{Latest}

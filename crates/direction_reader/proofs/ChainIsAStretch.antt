@@ -1,6 +1,6 @@
 -- A chain that begins with a zero and a one is one stretch: their intervals are an unequal pair, so the lock is at the first of them, and no
 -- longer chain stands there.
-use Rattle.std.proofs.Common.{◌≡◌, ℕ, suc, ◌+◌, ◌<◌, ◌≤◌, Bool, true, false, List, [], ◌∷◌, ◌++◌, length, drop, None, inl, inr, refl, sym}
+use Rattle.std.proofs.Common.{◌≡◌, ℕ, suc, ◌+◌, ◌≤◌, Bool, true, false, List, [], ◌∷◌, ◌++◌, length, drop, None, inl, inr, refl, sym}
 use Rattle.std.proofs.Common.{ap, ◌∙◌, append-nil, arith}
 use Rattle.std.proofs.lemmas.List.{drop_all, length-append}
 use Rattle.biphase.specs.declared.cell.Cell.{Cell}

@@ -29,8 +29,8 @@ use Rattle.direction_reader.specs.Events.{listed, event_list, tick_of}
 use Rattle.direction_reader.specs.Gathered.{AreEventsOfWindows, AreEventsOfStretch, AreEventsOfStretches}
 use Rattle.direction_reader.specs.Gathered.{begin_of}
 use Rattle.direction_reader.specs.ListEvents.{CellWindow, duration, windows, break_events}
-use Rattle.direction_reader.specs.ListEvents.{AreEvents, events_of_cells}
-use Rattle.direction_reader.specs.Tape.{ComesBy, TellFrom, FindsTheTape}
+use Rattle.direction_reader.specs.ListEvents.{AreEvents}
+use Rattle.direction_reader.specs.Tape.{ComesBy, FindsTheTape}
 use Rattle.direction_reader.proofs.AsLists.{AreListed}
 use Rattle.direction_reader.proofs.OneList.{in_sync_or_not}
 use Rattle.direction_reader.proofs.WindowsGrow.{few}

@@ -15,7 +15,6 @@ use Rattle.direction_reader.specs.declared.event.Event.TheVariants.{Lost}
 use Rattle.direction_reader.specs.declared.event.Events.{Events}
 use Rattle.direction_reader.specs.declared.latest_bits.LatestBits.{LatestBits}
 use Rattle.direction_reader.specs.declared.latest_bits.LatestBits.TheVariants as latest
-use Rattle.direction_reader.specs.Tracking.{Tracking}
 use Rattle.direction_reader.specs.declared.state.Step.TheVariants.{Nothing, FirstZero, ZeroBefore, Break}
 use Rattle.direction_reader.specs.declared.state.Step.{Step}
 use Rattle.direction_reader.specs.Events.{event_list, no_events, one_event}
@@ -26,9 +25,7 @@ use Rattle.direction_reader.specs.Gathered.{begin_of}
 use Rattle.direction_reader.specs.ListEvents.{duration, windows}
 use Rattle.direction_reader.specs.Reader.{ReaderState, Takes}
 use Rattle.direction_reader.specs.StandsFor.{waiting, CellsStandFor, OpenStandsFor, LatestStandsFor, TrackerStandsFor, StandsFor, StandsAfter}
-use Rattle.direction_reader.specs.StandsFor.{BitsStandFor, MayBreak, IsLastZero, IsAtCell, Tells}
-use Rattle.direction_reader.specs.Tracker.{Steps}
-use Rattle.direction_reader.specs.Tracking as tracker
+use Rattle.direction_reader.specs.StandsFor.{BitsStandFor, MayBreak, IsLastZero, Tells}
 use Rattle.direction_reader.specs.declared.brought.Brought.{Brought}
 use Rattle.direction_reader.specs.declared.brought.Brought.TheVariants.{Candidate}
 use Rattle.direction_reader.proofs.CellsGrow.{cell_more, none_yet, kept_events, duration_more}

@@ -1,5 +1,5 @@
 -- The windows of cells, from the first cell on: the window of the first 80, and those of the cells behind the first.
-use Rattle.std.proofs.Common.{◌≡◌, ◌<◌, ◌≤◌, ℕ, ◌+◌, ◌-◌, zero, suc, List, [], ◌∷◌, ◌++◌, length, take, drop, map, ap, ap₂, ◌∙◌, arith, refl}
+use Rattle.std.proofs.Common.{◌≡◌, ◌≤◌, ℕ, ◌+◌, ◌-◌, zero, suc, List, [], ◌∷◌, ◌++◌, length, take, drop, map, ap, ap₂, ◌∙◌, arith, refl}
 use Rattle.std.specs.List.{range_with_len}
 use Rattle.biphase.specs.declared.cell.Cell.{Cell}
 use Rattle.direction_reader.specs.ListEvents.{CellWindow, duration, window_at, windows}

@@ -1,5 +1,5 @@
 -- What the code keeps; no promise speaks of it.
-use Rattle.std.specs.Prelude.{◌≡◌, ℕ, ◌+◌, ◌-◌, ◌*◌, ◌<◌, ◌≤◌, List, [], ◌∷◌, length, drop, IfSome}
+use Rattle.std.specs.Prelude.{◌≡◌, ℕ, ◌+◌, ◌-◌, ◌*◌, ◌<◌, ◌≤◌, List, [], ◌∷◌, drop, IfSome}
 use Rattle.biphase.specs.declared.cell.TheConstants.{MAX_INTERVAL}
 use Rattle.direction_reader.specs.declared.latest_bits.LatestBits.{LatestBits}
 use Rattle.direction_reader.specs.declared.latest_bits.LatestBits.TheVariants as latest

@@ -1,5 +1,5 @@
 -- The fields of a register: some neighbouring bits, read as a number.
-use Rattle.std.specs.Prelude.{◌≡◌, ℕ, ◌+◌, ◌/◌, ◌%◌, ◌^◌, ◌≤◌, Bool, ◌==◌}
+use Rattle.std.specs.Prelude.{ℕ, ◌+◌, ◌/◌, ◌%◌, ◌^◌, ◌≤◌, Bool, ◌==◌}
 use Rattle.tc_bits.specs.declared.place.Place.{Place}
 
 -- the number whose bit k is bit `first + k` of the register

@@ -1,4 +1,4 @@
-use Rattle.std.proofs.Common.{◌≡◌, ℕ, [], ◌∷◌, subst, arith, refl}
+use Rattle.std.proofs.Common.{◌≡◌, [], ◌∷◌, subst, arith, refl}
 use Rattle.biphase.specs.declared.profile.Profile.TheVariants.{Normal}
 use Rattle.cell_tracker.specs.Lock.{IsLock, IsUnequalAt}
 use Rattle.cell_tracker.proofs.laws.a_small_recording_is_kept_in_both_orders.Goals as goal

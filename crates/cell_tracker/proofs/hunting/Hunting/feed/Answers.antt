@@ -1,5 +1,5 @@
 use Rattle.biphase.specs.Tolerance.{IsFirstHalf}
-use Rattle.std.proofs.Common.{◌≡◌, ℕ, Bool, false, IsTrue, [], ◌∷◌, ◌++◌, ◌-◌, length, refl, subst, sym}
+use Rattle.std.proofs.Common.{◌≡◌, Bool, false, IsTrue, [], ◌∷◌, ◌++◌, ◌-◌, length, refl, subst, sym}
 use Rattle.biphase.specs.Pair.{AreUnequal}
 use Rattle.biphase.specs.Tolerance.{kept_at_lock}
 use Rattle.biphase.specs.Laws.{other_kind}
