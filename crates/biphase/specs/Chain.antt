@@ -62,7 +62,7 @@ IsChainAfter profile c cells = Follow profile (kept_at_lock profile c) cells
 -- cells that follow one another from the first of them on
 abbrev pub FollowOn : Profile → List Cell → Type 0
 FollowOn profile [] = Unit {0}
-FollowOn profile (cell ∷ cells) = IsCell profile cell × IsChainAfter profile (length_of cell) cells
+FollowOn profile (cell ∷ cells) = IsCell profile cell × Follow profile (kept_at_lock profile (length_of cell)) cells
 
 -- from each zero on, as from a lock there, the cells behind it follow
 abbrev pub FollowEachZero : Profile → List Cell → Type 0

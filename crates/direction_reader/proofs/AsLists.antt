@@ -1,11 +1,13 @@
 -- A word that bits spell is the one that stands there, and their first fault is that of the fields that stand there. So
 -- the events that are gathered of a window, of windows and of stretches are those of the lists, and the other way round.
-use Rattle.std.proofs.Common.{◌≡◌, ℕ, List, [], ◌∷◌, ◌++◌, true, false, Some, None, refl, ap, ap₂, sym, ◌∙◌, subst}
+use Rattle.std.proofs.Common.{◌≡◌, ℕ, List, [], ◌∷◌, ◌++◌, true, false, Some, None, refl, ap, ap₂, sym, ◌∙◌, subst, ◌+◌, ◌-◌, length, take, drop, map, arith}
 use Rattle.std.proofs.Common.{IsSomeAnd, inl, inr, append-nil}
-use Rattle.std.specs.List.{flat_map}
+use Rattle.std.specs.List.{flat_map, range_with_len}
 use Rattle.std.specs.declared.option.Option.{Option}
 use Rattle.std.proofs.lemmas.Bool.Decides.{eqb_tells}
 use Rattle.biphase.specs.declared.cell.Cell.{Cell}
+use Rattle.biphase.specs.declared.cell.Cell.TheVariants.{Zero, One}
+use Rattle.biphase.specs.Chain.{bits}
 use Rattle.biphase.specs.declared.profile.Profile.{Profile}
 use Rattle.cell_tracker.specs.Stretch.{Stretch}
 use Rattle.tc_address.specs.declared.system.System.{System}
@@ -27,8 +29,9 @@ use Rattle.direction_reader.specs.Candidate.{IsEventOf, AreEventsOf, event_of, c
 use Rattle.direction_reader.specs.Events.{listed, event_list}
 use Rattle.direction_reader.specs.Gathered.{AreEventsOfWindows, AreEventsOfStretch, AreEventsOfStretches, AreGathered}
 use Rattle.direction_reader.specs.Gathered.{begin_of}
-use Rattle.direction_reader.specs.ListEvents.{CellWindow, break_events, windows, events_of_window, events_of_stretch}
-use Rattle.direction_reader.specs.ListEvents.{AreEvents, events_of_cells}
+use Rattle.direction_reader.specs.ListEvents.{bits_in, break_events, duration, events_at, events_of_cells, events_of_stretch}
+use Rattle.direction_reader.specs.ListEvents.{events_of_window, AreEvents}
+use Rattle.direction_reader.specs.Windows.{CellWindow, number_of, window_at, windows}
 use Rattle.direction_reader.proofs.EventsExist.{AreRead, stretches_events}
 
 -- what the law says of the events that are gathered: they are those of the list
@@ -90,7 +93,7 @@ last_listed own one two first none no_one = rw (none, no_one) (append-nil (liste
 
 -- the events of a window
 pub of_window : StandThere → (system : System) (w : CellWindow) (own : Events)
-    → AreEventsOf system w.bits w.end w.length own → event_list own ≡ events_of_window system w
+    → AreEventsOf system w.bits w.end w.length own → event_list own ≡ events_of_window system w.bits w.end w.length
 unfolding events_of_window
 of_window there system w own are =
     let back = reversed_bits w.bits in
@@ -118,19 +121,28 @@ of_window there system w own are =
       ]
     ]
 
--- of windows
-pub of_windows : StandThere → (system : System) (ws : List CellWindow) (es : List Event)
-    → AreEventsOfWindows system ws es → es ≡ flat_map (events_of_window system) ws
-of_windows there system [] es are = are
-of_windows there system (w ∷ ws) es (own, rest, is, others, join) =
-    join ∙ ap₂ (λ (a b : List Event). a ++ b) (of_window there system w own is) (of_windows there system ws rest others)
+-- the bits of cells as one number
+bits_are : (cells : List Cell) → number_of (bits cells) ≡ bits_in cells
+bits_are [] = refl
+bits_are (Zero x ∷ cells) = let more = bits_are cells in omega arith
+bits_are (One a b ∷ cells) = let more = bits_are cells in omega arith
+
+-- of windows of cells
+pub of_windows : StandThere → (system : System) (tick : ℕ) (cells : List Cell) (ks : List ℕ) (es : List Event)
+    → AreEventsOfWindows system (map (window_at tick cells) ks) es → es ≡ flat_map (events_at system tick cells) ks
+of_windows there system tick cells [] es are = are
+of_windows there system tick cells (k ∷ ks) es (own, rest, is, others, join) =
+    let window = take 80 (drop k cells) in
+    let here = of_window there system (window_at tick cells k) own is
+    ∙ ap (λ n. events_of_window system n (tick + duration (take (k + 80) cells)) (duration window)) (bits_are window) in
+    join ∙ ap₂ (λ (a b : List Event). a ++ b) here (of_windows there system tick cells ks rest others)
 
 -- of a stretch
 of_stretch : StandThere → (system : System) (l : List ℕ) (s : Stretch) (es : List Event)
     → AreEventsOfStretch system l s es → es ≡ events_of_stretch system l s
 of_stretch there system l s es (own, are, join) =
     join ∙ ap (λ (e : List Event). e ++ break_events l s.broken_at)
-    (of_windows there system (windows (begin_of l s) s.cells) own are)
+    (of_windows there system (begin_of l s) s.cells (range_with_len 0 (length s.cells - 79)) own are)
 
 -- and of stretches
 of_stretches : StandThere → (system : System) (l : List ℕ) (ss : List Stretch) (es : List Event)

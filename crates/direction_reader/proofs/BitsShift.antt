@@ -1,7 +1,7 @@
 -- A register shifted by one place holds the bits with one more at the end.
+use Rattle.direction_reader.specs.Windows.{number_of}
 use Rattle.std.proofs.Common.{◌≡◌, ◌<◌, ℕ, ◌+◌, ◌*◌, ◌/◌, ◌^◌, List, [], ◌∷◌, ◌++◌, length, mul_assoc, add-mul, Bool, true, false, arith, refl, ap, sym, ◌∙◌}
 use Rattle.std.proofs.lemmas.Nat.{pow-add}
-use Rattle.direction_reader.specs.ListEvents.{number_of}
 use Rattle.direction_reader.specs.Window.{bit_value, slid_by}
 
 -- a bit is 0 or 1

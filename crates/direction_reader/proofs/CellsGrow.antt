@@ -16,7 +16,8 @@ use Rattle.direction_reader.specs.Bits.{FillingBits}
 use Rattle.direction_reader.specs.Candidate.{AreEventsOf}
 use Rattle.direction_reader.specs.LatestBits.{after_bit}
 use Rattle.direction_reader.specs.LatestCells.{Cells, with_boundary, no_cells, AreWindowEvents}
-use Rattle.direction_reader.specs.ListEvents.{CellWindow, duration, number_of, window_at}
+use Rattle.direction_reader.specs.Windows.{CellWindow, number_of, window_at}
+use Rattle.direction_reader.specs.ListEvents.{duration}
 use Rattle.direction_reader.specs.StandsFor.{ticks, BitsStandFor, CellsStandFor}
 use Rattle.direction_reader.specs.Window.{slid_by}
 use Rattle.direction_reader.proofs.BitsShift.{slid-full, slid-filling}

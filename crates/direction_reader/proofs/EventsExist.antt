@@ -23,7 +23,8 @@ use Rattle.direction_reader.specs.Candidate.{IsEventOf, AreEventsOf}
 use Rattle.direction_reader.specs.Events.{event_list}
 use Rattle.direction_reader.specs.Gathered.{AreEventsOfWindows, AreEventsOfStretch, AreEventsOfStretches}
 use Rattle.direction_reader.specs.Gathered.{begin_of}
-use Rattle.direction_reader.specs.ListEvents.{number_of, window_at, break_events}
+use Rattle.direction_reader.specs.Windows.{number_of, window_at}
+use Rattle.direction_reader.specs.ListEvents.{break_events}
 use Rattle.direction_reader.specs.ListEvents.{AreEvents, events_of_stretch}
 use Rattle.direction_reader.proofs.BitsShift.{bit_value-least}
 use Rattle.direction_reader.proofs.OneList.{in_sync_or_not}

@@ -27,7 +27,8 @@ use Rattle.direction_reader.specs.Candidate.{AreEventsOf}
 use Rattle.direction_reader.specs.Events.{no_events, one_event, event_list}
 use Rattle.direction_reader.specs.Gathered.{AreEventsOfWindows, AreGathered}
 use Rattle.direction_reader.specs.Gathered.{begin_of}
-use Rattle.direction_reader.specs.ListEvents.{CellWindow, window_at, windows, break_events}
+use Rattle.direction_reader.specs.Windows.{CellWindow, window_at, windows}
+use Rattle.direction_reader.specs.ListEvents.{break_events}
 
 -- whether bits end in the sync word
 abbrev in_sync : ℕ → Bool

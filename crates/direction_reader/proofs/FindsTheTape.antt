@@ -28,7 +28,8 @@ use Rattle.direction_reader.specs.Candidate.{IsEventOf, AreEventsOf}
 use Rattle.direction_reader.specs.Events.{listed, event_list, tick_of}
 use Rattle.direction_reader.specs.Gathered.{AreEventsOfWindows, AreEventsOfStretch, AreEventsOfStretches}
 use Rattle.direction_reader.specs.Gathered.{begin_of}
-use Rattle.direction_reader.specs.ListEvents.{CellWindow, duration, windows, break_events}
+use Rattle.direction_reader.specs.Windows.{CellWindow, windows}
+use Rattle.direction_reader.specs.ListEvents.{duration, break_events}
 use Rattle.direction_reader.specs.ListEvents.{AreEvents}
 use Rattle.direction_reader.specs.Tape.{ComesBy, FindsTheTape}
 use Rattle.direction_reader.proofs.AsLists.{AreListed}

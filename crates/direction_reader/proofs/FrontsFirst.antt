@@ -18,7 +18,8 @@ use Rattle.direction_reader.specs.declared.event.Event.{Event}
 use Rattle.direction_reader.specs.Events.{event_list}
 use Rattle.direction_reader.specs.Gathered.{AreEventsOfWindows, AreEventsOfStretch, AreEventsOfStretches, AreGathered}
 use Rattle.direction_reader.specs.Gathered.{begin_of}
-use Rattle.direction_reader.specs.ListEvents.{CellWindow, window_at, windows, break_events}
+use Rattle.direction_reader.specs.Windows.{CellWindow, window_at, windows}
+use Rattle.direction_reader.specs.ListEvents.{break_events}
 use Rattle.direction_reader.specs.StandsFor.{IsInside}
 use Rattle.direction_reader.proofs.EventsJoin.{begin_stays, stretch_stays}
 use Rattle.direction_reader.proofs.OneList.{IsExact, one_list}

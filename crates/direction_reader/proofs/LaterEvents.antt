@@ -33,7 +33,8 @@ use Rattle.direction_reader.specs.Candidate.{IsEventOf, AreEventsOf}
 use Rattle.direction_reader.specs.Events.{listed, event_list, tick_of}
 use Rattle.direction_reader.specs.Gathered.{AreEventsOfWindows, AreEventsOfStretch, AreEventsOfStretches, AreGathered}
 use Rattle.direction_reader.specs.Gathered.{begin_of}
-use Rattle.direction_reader.specs.ListEvents.{CellWindow, window_at, windows, break_events}
+use Rattle.direction_reader.specs.Windows.{CellWindow, window_at, windows}
+use Rattle.direction_reader.specs.ListEvents.{break_events}
 use Rattle.direction_reader.proofs.EventsJoin.{begin_stays}
 use Rattle.direction_reader.proofs.FindsTheTape.{sum_at, sum_later, break_behind}
 use Rattle.direction_reader.proofs.FrontsFirst.{StretchesGoOn, windows_first, lock_inside, stretch_inside, broken_same}

@@ -29,7 +29,8 @@ use Rattle.direction_reader.specs.declared.event.Events.{Events}
 use Rattle.direction_reader.specs.Candidate.{IsEventOf, AreEventsOf}
 use Rattle.direction_reader.specs.Events.{listed, event_list}
 use Rattle.direction_reader.specs.Gathered.{AreEventsOfWindows}
-use Rattle.direction_reader.specs.ListEvents.{CellWindow, duration, window_at, windows, AreEvents, events_of_cells}
+use Rattle.direction_reader.specs.Windows.{CellWindow, window_at, windows}
+use Rattle.direction_reader.specs.ListEvents.{duration, AreEvents, events_of_cells}
 use Rattle.direction_reader.specs.Mirror.{turned, IsMirrorOf, MirrorsTheTape}
 use Rattle.direction_reader.proofs.AsLists.{AreListed}
 use Rattle.direction_reader.proofs.EventsExist.{window_below}

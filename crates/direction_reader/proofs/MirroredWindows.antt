@@ -11,7 +11,8 @@ use Rattle.biphase.specs.declared.cell.Cell.TheVariants.{Zero, One}
 use Rattle.biphase.specs.Chain.{bit_of, bits, flat}
 use Rattle.biphase.specs.Mirror.{mirror_of, mirrored, mirrored_cons, flat_mirrored}
 use Rattle.ltc_word.specs.Reversal.{reversed_bits}
-use Rattle.direction_reader.specs.ListEvents.{CellWindow, duration, number_of, window_at, windows}
+use Rattle.direction_reader.specs.Windows.{CellWindow, number_of, window_at, windows}
+use Rattle.direction_reader.specs.ListEvents.{duration}
 use Rattle.direction_reader.specs.Window.{bit_value}
 use Rattle.direction_reader.proofs.WindowsFromCells.{duration_of, windows_cons, front_within}
 use Rattle.direction_reader.proofs.WindowsGrow.{few, last_window, one_more}

@@ -9,7 +9,8 @@ use Rattle.direction_reader.specs.declared.event.Event.{Event}
 use Rattle.direction_reader.specs.Events.{event_list}
 use Rattle.direction_reader.specs.Gathered.{AreEventsOfWindows, AreEventsOfStretch}
 use Rattle.direction_reader.specs.Gathered.{begin_of}
-use Rattle.direction_reader.specs.ListEvents.{CellWindow, windows, break_events}
+use Rattle.direction_reader.specs.Windows.{CellWindow, windows}
+use Rattle.direction_reader.specs.ListEvents.{break_events}
 use Rattle.direction_reader.specs.ListEvents.{AreEvents, events_of_stretch}
 use Rattle.direction_reader.proofs.OneList.{IsExact, one_list}
 

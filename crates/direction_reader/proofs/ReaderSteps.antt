@@ -22,7 +22,8 @@ use Rattle.direction_reader.specs.LatestBits.{after_bit, EndsInCandidate}
 use Rattle.direction_reader.specs.LatestCells.{Cells, no_cells, with_boundary, AreWindowEvents, CellBrings}
 use Rattle.direction_reader.specs.Gathered.{AreEventsOfWindows, AreEventsOfStretch}
 use Rattle.direction_reader.specs.Gathered.{begin_of}
-use Rattle.direction_reader.specs.ListEvents.{duration, windows}
+use Rattle.direction_reader.specs.Windows.{windows}
+use Rattle.direction_reader.specs.ListEvents.{duration}
 use Rattle.direction_reader.specs.Reader.{ReaderState, Takes}
 use Rattle.direction_reader.specs.StandsFor.{waiting, CellsStandFor, OpenStandsFor, LatestStandsFor, TrackerStandsFor, StandsFor, StandsAfter}
 use Rattle.direction_reader.specs.StandsFor.{BitsStandFor, MayBreak, IsLastZero, Tells}

@@ -1,4 +1,5 @@
 -- In words that are played one after another, in any directions, twelve ones in a row stand only in their sync words.
+use Rattle.direction_reader.specs.Windows.{number_of}
 use Rattle.std.proofs.Common.{◌≡◌, ℕ, zero, suc, ◌+◌, ◌-◌, ◌*◌, ◌/◌, ◌%◌, ◌^◌, ◌<◌, ◌≤◌, Bool, true, false, List, [], ◌∷◌, ◌++◌, length, get_or, take}
 use Rattle.std.proofs.Common.{drop, refl, sym, ap, ◌∙◌, inl, inr, arith}
 use Rattle.std.specs.Prelude.{◌==◌}
@@ -13,7 +14,6 @@ use Rattle.ltc_word.specs.Spelling.{Spells}
 use Rattle.tc_address.specs.declared.direction.Direction.{Direction}
 use Rattle.tc_address.specs.declared.direction.Direction.TheVariants.{Forward, Backward}
 use Rattle.tc_address.specs.declared.system.System.{System}
-use Rattle.direction_reader.specs.ListEvents.{number_of}
 use Rattle.direction_reader.specs.Played.{in_time, low_bits}
 use Rattle.direction_reader.specs.Window.{bit_value}
 use Rattle.direction_reader.proofs.BitsShift.{bit_value-least}

@@ -16,7 +16,8 @@ use Rattle.direction_reader.specs.declared.event.Events.{Events}
 use Rattle.direction_reader.specs.Candidate.{IsEventOf, AreEventsOf}
 use Rattle.direction_reader.specs.Events.{is_lost, listed, event_list}
 use Rattle.direction_reader.specs.Gathered.{AreEventsOfWindows, AreEventsOfStretches}
-use Rattle.direction_reader.specs.ListEvents.{CellWindow, windows, AreEvents}
+use Rattle.direction_reader.specs.Windows.{CellWindow, windows}
+use Rattle.direction_reader.specs.ListEvents.{AreEvents}
 use Rattle.direction_reader.specs.Tape.{TellsTheTape}
 use Rattle.direction_reader.proofs.AsLists.{AreListed}
 use Rattle.direction_reader.proofs.OneList.{in_sync_or_not}

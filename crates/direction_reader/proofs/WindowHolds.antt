@@ -1,10 +1,10 @@
 -- A window with one bit more holds the latest of the bits with one more at the end.
+use Rattle.direction_reader.specs.Windows.{number_of}
 use Rattle.std.proofs.Common.{◌≡◌, ◌<◌, ◌≤◌, ℕ, ◌+◌, ◌-◌, ◌*◌, ◌^◌, List, [], ◌∷◌, ◌++◌, length, drop, Bool, ap, arith, sym, ◌∙◌}
 use Rattle.std.proofs.Common.{length-append}
 use Rattle.std.proofs.lemmas.List.{drop-append-le, drop-drop, length-drop}
 use Rattle.direction_reader.specs.Bits.{FillingBits}
 use Rattle.direction_reader.specs.HoldsBits.{HoldsAll, HoldsLatest}
-use Rattle.direction_reader.specs.ListEvents.{number_of}
 use Rattle.direction_reader.specs.Window.{slid_by}
 use Rattle.direction_reader.proofs.BitsShift.{slid-full, slid-filling}
 

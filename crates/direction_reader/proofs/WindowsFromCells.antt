@@ -2,7 +2,8 @@
 use Rattle.std.proofs.Common.{◌≡◌, ◌≤◌, ℕ, ◌+◌, ◌-◌, zero, suc, List, [], ◌∷◌, ◌++◌, length, take, drop, map, ap, ap₂, ◌∙◌, arith, refl}
 use Rattle.std.specs.List.{range_with_len}
 use Rattle.biphase.specs.declared.cell.Cell.{Cell}
-use Rattle.direction_reader.specs.ListEvents.{CellWindow, duration, window_at, windows}
+use Rattle.direction_reader.specs.Windows.{CellWindow, window_at, windows}
+use Rattle.direction_reader.specs.ListEvents.{duration}
 use Rattle.direction_reader.proofs.WindowsGrow.{duration-append}
 
 -- a cell and others

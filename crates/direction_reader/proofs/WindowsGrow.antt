@@ -9,7 +9,8 @@ use Rattle.std.proofs.lemmas.List.Sums.{sum_by-append}
 use Rattle.std.proofs.lemmas.List.FromFn.{map-range_with_len_more}
 use Rattle.biphase.specs.declared.cell.Cell.{Cell}
 use Rattle.biphase.specs.Chain.{intervals_of, flat, bits}
-use Rattle.direction_reader.specs.ListEvents.{CellWindow, duration, number_of, window_at, windows}
+use Rattle.direction_reader.specs.Windows.{CellWindow, number_of, window_at, windows}
+use Rattle.direction_reader.specs.ListEvents.{duration}
 
 -- the intervals of one list of cells and of another
 pub duration-append : (one two : List Cell) → duration (one ++ two) ≡ duration one + duration two

@@ -19,7 +19,8 @@ use Rattle.direction_reader.specs.declared.event.Event.TheVariants.{Word}
 use Rattle.direction_reader.specs.Candidate.{AreEventsOf}
 use Rattle.direction_reader.specs.Events.{no_events, one_event}
 use Rattle.direction_reader.specs.Gathered.{AreEventsOfWindows, AreGathered}
-use Rattle.direction_reader.specs.ListEvents.{duration, number_of, window_at, windows}
+use Rattle.direction_reader.specs.Windows.{number_of, window_at, windows}
+use Rattle.direction_reader.specs.ListEvents.{duration}
 use Rattle.direction_reader.specs.Played.{Played, AreSpelled, bits_of_words, events_of_words, in_time, low_bits, played_bits}
 use Rattle.direction_reader.proofs.ChainIsAStretch.{AreAsSaid, whole, whole_is}
 use Rattle.direction_reader.proofs.SyncInTime.{WordLaws, Starts, led, lead_backward, lead_forward, length-low_bits, no_other_way}

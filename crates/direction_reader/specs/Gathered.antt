@@ -8,7 +8,8 @@ use Rattle.direction_reader.specs.declared.event.Event.{Event}
 use Rattle.direction_reader.specs.declared.event.Events.{Events}
 use Rattle.direction_reader.specs.Candidate.{AreEventsOf}
 use Rattle.direction_reader.specs.Events.{event_list}
-use Rattle.direction_reader.specs.ListEvents.{CellWindow, windows, break_events}
+use Rattle.direction_reader.specs.Windows.{CellWindow, windows}
+use Rattle.direction_reader.specs.ListEvents.{break_events}
 
 -- the tick at which a stretch begins
 abbrev pub begin_of : List ℕ → Stretch → ℕ

@@ -1,9 +1,9 @@
 -- Which bits of a stretch a window holds, of all that it was given.
+use Rattle.direction_reader.specs.Windows.{number_of}
 use Rattle.std.specs.Prelude.{◌≡◌, ℕ, ◌-◌, ◌*◌, ◌^◌, ◌<◌, ◌≤◌, List, length, drop, Bool}
 use Rattle.direction_reader.specs.Bits.{FillingBits}
 use Rattle.direction_reader.specs.declared.window.FromFilling.{FromFilling}
 use Rattle.direction_reader.specs.declared.window.FromFilling.TheVariants.{Filling, Full}
-use Rattle.direction_reader.specs.ListEvents.{number_of}
 
 -- a window that is filling was given these bits, fewer than 80, and holds all of them, the latest in bit 79
 pub record HoldsAll (window : FillingBits) (bits : List Bool) : Type 0 where

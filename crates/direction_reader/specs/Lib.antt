@@ -19,3 +19,4 @@ pub mod Tape
 pub mod Tracker
 pub mod Tracking
 pub mod Window
+pub mod Windows

@@ -22,7 +22,8 @@ use Rattle.direction_reader.specs.declared.state.Step.TheVariants.{Nothing, Firs
 use Rattle.direction_reader.specs.LatestCells.{Cells, AreWindowEvents}
 use Rattle.direction_reader.specs.Gathered.{AreEventsOfWindows, AreEventsOfStretches}
 use Rattle.direction_reader.specs.Gathered.{begin_of}
-use Rattle.direction_reader.specs.ListEvents.{duration, number_of, windows}
+use Rattle.direction_reader.specs.Windows.{number_of, windows}
+use Rattle.direction_reader.specs.ListEvents.{duration}
 use Rattle.direction_reader.specs.Reader.{ReaderState}
 
 -- the tracker stands for the intervals: of their stretches some are broken, and one may be open

@@ -10,6 +10,8 @@
 //!   (`specs/Spelling.antt`, `Spells`). So each is the other's inverse.
 //! - Other bits are refused with their first fault: the least bit of the sync word that differs, else
 //!   the first fault of the fields (`specs/Fault.antt`, `first_fault`).
+//! - The word that stands in bits, place by place, is the one that they spell (`specs/Reading.antt`,
+//!   `word_in`; the law `what_stands_in_bits_is_what_they_spell`).
 //! - `ends_in_sync` and `begins_in_reversed_sync` find the end of a word of either direction, each by
 //!   one comparison, and `reversed` takes the bits in reverse order
 //!   (`specs/Reversal.antt`).
