@@ -23,8 +23,10 @@ use Rattle.direction_reader.specs.declared.event.Event.TheVariants.{Word, Refuse
 use Rattle.direction_reader.specs.declared.event.Events.{Events}
 use Rattle.direction_reader.specs.Candidate as candidate
 use Rattle.direction_reader.specs.Events.{event_list, listed}
-use Rattle.direction_reader.specs.ListEvents.{AreEvents, AreEventsOfStretch, AreEventsOfStretches, AreEventsOfWindows}
-use Rattle.direction_reader.specs.ListEvents.{CellWindow, begin_of, break_events, windows}
+use Rattle.direction_reader.specs.Gathered.{AreEventsOfWindows, AreEventsOfStretch, AreEventsOfStretches, AreGathered}
+use Rattle.direction_reader.specs.Gathered.{begin_of}
+use Rattle.direction_reader.specs.Windows.{CellWindow, windows}
+use Rattle.direction_reader.specs.ListEvents.{break_events}
 use Rattle.flywheel.specs.declared.frame.Frame.{Frame}
 use Rattle.flywheel.specs.declared.frame.Frame.TheVariants.{Gone}
 use Rattle.flywheel.specs.declared.heard.HeardWord.{HeardWord}
@@ -106,7 +108,7 @@ of_stretches system intervals (stretch ∷ more) events are =
     let rest = of_stretches system intervals more are.1 are.3 in
     subst (λ (es : List Event). AreEventsOf system es) (sym are.4) (events_join system are.0 are.1 own rest)
 
-pub of_events : (system : System) (profile : Profile) (intervals : List ℕ) (events : List Event) → AreEvents system profile intervals events
+pub of_events : (system : System) (profile : Profile) (intervals : List ℕ) (events : List Event) → AreGathered system profile intervals events
     → AreEventsOf system events
 of_events system profile intervals events are = of_stretches system intervals are.0 events are.2
 

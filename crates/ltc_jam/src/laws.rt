@@ -23,7 +23,7 @@ ghost use Rattle.ltc_jam.specs.Labels.{AreEventsOf, AreFramesOf, AreHeardOf};
 ghost use Rattle.ltc_jam.specs.Word.{time_bits, word_of};
 
 use biphase::laws::shaped_cells_are_a_chain;
-use direction_reader::laws::played_words_are_read;
+use direction_reader::laws::{events_are_those_that_are_spelled, played_words_are_read};
 use ltc_word::laws::{each_word_has_its_spelling, spelling_is_exact, words_of_round_labels};
 use tc_address::laws::number_and_label_are_inverse;
 
@@ -74,6 +74,7 @@ pub fn what_is_read_has_labels_of_its_system()
     ensures frames { (system : System) (limit : ℕ) (words : List HeardWord) (last : ℕ) → AreHeardOf system words
         → AreFramesOf system (frames limit words last) }
 {
+    events_are_those_that_are_spelled();
     steps_lead_to_labels();
 }
 

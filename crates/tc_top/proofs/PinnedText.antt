@@ -50,12 +50,15 @@ same_events : PinnedLaws → (profile : Profile) (list : List ℕ) (a b : Interv
 same_events laws profile list a b es fs same p q =
     laws.one_list b.system profile list es fs (subst (λ (h : IntervalHeader). AreEvents h.system profile list es) same p) q
 
-one_report : PinnedLaws → (profile : Profile) (bytes a b : List ℕ) → ReportsTheTape profile bytes a → ReportsTheTape profile bytes b → a ≡ b
+one_report : PinnedLaws → (profile : Profile) (bytes a b : List ℕ) → ReportsTheTape profile bytes a
+    → ReportsTheTape profile bytes b → a ≡ b
 one_report laws profile bytes a b p q =
     let list = (recording_of bytes).intervals in
+    let one = p.whole in
+    let two = q.whole in
     let header = one_header (recording_of bytes) p.header q.header p.begins q.begins in
-    let events = same_events laws profile list p.header q.header p.events q.events header p.are_events q.are_events in
-    p.are ∙ ap₂ (λ (h : IntervalHeader) (es : List Event). lines h es ++ last_line list es) header events ∙ sym q.are
+    let events = same_events laws profile list p.header q.header one.events two.events header one.are_events two.are_events in
+    one.are ∙ ap₂ (λ (h : IntervalHeader) (es : List Event). lines h es ++ last_line list es) header events ∙ sym two.are
 
 one_flight : PinnedLaws → (flight : Flight) (bytes a b : List ℕ) → ShowsTheFrames flight bytes a → ShowsTheFrames flight bytes b → a ≡ b
 one_flight laws flight bytes a b p q =

@@ -29,9 +29,7 @@ behind tell profile bytes written None begins is = absurd is
 behind tell profile bytes written (Some header) begins is = record {
   header = header;
   begins = begins;
-  events = is.events;
-  are_events = is.are_events;
-  are = is.are;
+  whole = is;
   truth = tell.truth header.system profile (recording_of bytes).intervals is.events is.are_events;
   mirror = λ mirrored others.
       tell.mirror header.system profile (recording_of bytes).intervals is.events mirrored is.are_events others;

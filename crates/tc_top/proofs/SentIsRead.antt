@@ -22,7 +22,7 @@ use Rattle.frame_commands.specs.LtcMtc.{time_code}
 use Rattle.signal_commands.specs.MtcRead.{event_lines, is_full, is_quarter, is_refused, last_mtc_line}
 use Rattle.frame_commands.specs.OfFrames.{frames_of, words_heard}
 use Rattle.tc_top.specs.SentAgain.{none_refused, SendsTheFrames}
-use Rattle.tc_top.proofs.LabelsHeard.{labels_heard}
+use Rattle.tc_top.proofs.LabelsHeard.{HaveLabels, labels_heard}
 use Rattle.flywheel.specs.Kinds.{is_gone}
 use Rattle.flywheel.specs.GoOn.{goes_on}
 
@@ -101,15 +101,15 @@ last_is bytes fs read =
     ap₂ (λ (f q : ℕ). end_line (length bytes) f q (count_by is_refused (events_in bytes))) full quarter
     ∙ ap (end_line (length bytes) (count_by is_full (read_of fs)) (count_by is_quarter (read_of fs))) refused
 
-behind : AreReadBack → (flight : Flight) (bytes written : List ℕ) (header : Option IntervalHeader) → (recording_of bytes).header ≡ header
+behind : AreReadBack → HaveLabels → (flight : Flight) (bytes written : List ℕ) (header : Option IntervalHeader) → (recording_of bytes).header ≡ header
     → IsWholeBehind (time_code flight) header (recording_of bytes).intervals written → SendsTheFrames flight bytes written
-behind law flight bytes written None begins is = absurd is
-behind law flight bytes written (Some header) begins is =
+behind law have flight bytes written None begins is = absurd is
+behind law have flight bytes written (Some header) begins is =
     let intervals = (recording_of bytes).intervals in
     let fs = frames_of flight.limit intervals is.events in
     let read : map at_no_place (events_in written) ≡ read_of fs =
     ap (λ (l : List ℕ). map at_no_place (events_in l)) (is.are ∙ append-nil (mtc_of fs))
-    ∙ law flight.limit (sum intervals) (words_heard is.events) (labels_heard header.system flight.profile intervals is.events is.are_events) in
+    ∙ law flight.limit (sum intervals) (words_heard is.events) (labels_heard have header.system flight.profile intervals is.events is.are_events) in
     record {
       header = header;
       begins = begins;
@@ -121,6 +121,6 @@ behind law flight bytes written (Some header) begins is =
       report = λ text output. output ∙ ap (λ (l : List ℕ). event_lines (events_in written) ++ l) (last_is written fs read);
     }
 
-pub sends_the_frames : AreReadBack → (flight : Flight) (bytes written : List ℕ) → IsWholeOf (time_code flight) (recording_of bytes) written
-    → SendsTheFrames flight bytes written
-sends_the_frames law flight bytes written output = behind law flight bytes written _ refl output
+pub sends_the_frames : AreReadBack → HaveLabels → (flight : Flight) (bytes written : List ℕ)
+    → IsWholeOf (time_code flight) (recording_of bytes) written → SendsTheFrames flight bytes written
+sends_the_frames law have flight bytes written output = behind law have flight bytes written _ refl output

@@ -1,5 +1,5 @@
 -- The truth of a report: what the lines of `ltc-read`, and under the other tolerance `ltc-worn`, say of the tape.
-use Rattle.std.specs.Prelude.{◌≡◌, ℕ, List, ◌++◌, reverse, Some}
+use Rattle.std.specs.Prelude.{◌≡◌, ℕ, List, reverse, Some}
 use Rattle.biphase.specs.declared.profile.Profile.{Profile}
 use Rattle.direction_reader.specs.declared.event.Event.{Event}
 use Rattle.direction_reader.specs.ListEvents.{AreEvents}
@@ -7,7 +7,7 @@ use Rattle.direction_reader.specs.Mirror.{MirrorsTheTape}
 use Rattle.direction_reader.specs.Tape.{TellsTheTape, FindsTheTape}
 use Rattle.interval_file.specs.declared.header.IntervalHeader.{IntervalHeader}
 use Rattle.interval_file.specs.Recording.{recording_of}
-use Rattle.interval_commands.specs.LtcRead.{lines, last_line}
+use Rattle.interval_commands.specs.LtcRead.{IsReadWhole}
 
 -- what was written are the lines of the events of the file, and the last line, and these events tell the tape: where
 -- the intervals of the file keep the tolerance, these are the whole words of the tape, good or refused, from the first
@@ -17,11 +17,9 @@ use Rattle.interval_commands.specs.LtcRead.{lines, last_line}
 pub record ReportsTheTape (profile : Profile) (bytes written : List ℕ) : Type 0 where
   pub header : IntervalHeader
   pub begins : (recording_of bytes).header ≡ Some header
-  pub events : List Event
-  pub are_events : AreEvents header.system profile (recording_of bytes).intervals events
-  pub are : written ≡ lines header events ++ last_line (recording_of bytes).intervals events
-  pub truth : TellsTheTape header.system profile (recording_of bytes).intervals events
-  pub damage : FindsTheTape header.system profile (recording_of bytes).intervals events
+  pub whole : IsReadWhole profile header (recording_of bytes).intervals written
+  pub truth : TellsTheTape header.system profile (recording_of bytes).intervals whole.events
+  pub damage : FindsTheTape header.system profile (recording_of bytes).intervals whole.events
   pub mirror : (mirrored : List Event)
       → AreEvents header.system profile (reverse (recording_of bytes).intervals) mirrored
-      → MirrorsTheTape header.system profile (recording_of bytes).intervals events mirrored
+      → MirrorsTheTape header.system profile (recording_of bytes).intervals whole.events mirrored

@@ -12,6 +12,7 @@ use direction_reader::laws::{
 use flywheel::laws::{a_frame_that_goes_on_is_the_next, invention_is_bounded_and_marked};
 use interval_commands::laws::converting_keeps_the_recording;
 use interval_file::laws::{a_file_is_read_as_it_was_written, bytes_are_read_as_the_text_says};
+use ltc_jam::laws::what_is_read_has_labels_of_its_system;
 use made_commands::is_all_read;
 use made_commands::laws::{lines_that_are_made_are_read_back, what_is_made_is_read_whole};
 use pcm_front::laws::{
@@ -82,6 +83,7 @@ fn shows_the_spans()
 fn sends_the_frames()
     ensures { (flight : Flight) → KeepsItsPromise (Job.LtcMtc flight) }
 {
+    what_is_read_has_labels_of_its_system();
     what_is_sent_is_read_back();
 }
 
