@@ -1,5 +1,5 @@
 -- How the frames of a recording are had, as words say it.
-use Rattle.std.specs.Prelude.{ℕ, List, [], ◌∷◌, Option, Some, Result, Ok, Err}
+use Rattle.std.specs.Prelude.{List, [], ◌∷◌, Option, Some, Result, Ok, Err}
 use Rattle.biphase.specs.declared.profile.Profile.{Profile}
 use Rattle.biphase.specs.declared.profile.Profile.TheVariants.{Normal}
 use Rattle.tc_job.specs.declared.fault.WordsFault.{WordsFault}

@@ -1,5 +1,5 @@
 -- The values of `wav-ltc`, word by word.
-use Rattle.std.specs.Prelude.{ℕ, Bool, codes, List, [], ◌∷◌, Option, Result, Ok}
+use Rattle.std.specs.Prelude.{ℕ, Bool, codes, [], ◌∷◌, Option, Result, Ok}
 use Rattle.pcm_front.specs.declared.threshold.Threshold.{Threshold}
 use Rattle.pcm_front.specs.declared.threshold.Threshold.TheVariants.{Follow, Deep}
 use Rattle.pcm_front.specs.declared.window.TheConstants.{MAX_SMOOTH}

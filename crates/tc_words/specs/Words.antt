@@ -1,5 +1,5 @@
 -- The task of a list of words, or their first fault.
-use Rattle.std.specs.Prelude.{ℕ, true, false, List, [], ◌∷◌, Option, Some, None, Result, Ok, Err, if◌then◌else◌}
+use Rattle.std.specs.Prelude.{true, false, List, [], ◌∷◌, Option, Some, None, Result, Ok, Err, if◌then◌else◌}
 use Rattle.std.specs.Prelude.{codes, position}
 use Rattle.std.specs.Str.{bytes_eq}
 use Rattle.biphase.specs.declared.profile.Profile.{Profile}
