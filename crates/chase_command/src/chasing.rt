@@ -11,9 +11,9 @@ ghost use Rattle.chase_script.specs.Lock.{KeepsItsLock};
 ghost use Rattle.chase_script.specs.Script.{script_in};
 ghost use Rattle.chase_command.specs.Chase.{ChaseSeesOneEnd, IsChaseAnswer};
 ghost use Rattle.tc_command.specs.Causes.{SourceCause, OutCause};
-ghost use Rattle.chase_command.specs.Chase.{IsChaseStop, IsTraced, chase_ended, chase_status_on};
+ghost use Rattle.chase_command.specs.Chase.{chase_status_on};
 ghost use Rattle.tc_command.specs.Exchange.{Exchange, IsPulled, IsWritten, IsNoted};
-ghost use Rattle.chase_command.specs.KeptScript.{IsGatherStop, IsPullStop, IsRowStop};
+ghost use Rattle.chase_command.specs.KeptScript.{IsChaseStop, IsGatherStop, IsPullStop, IsRowStop, IsTraced, chase_ended};
 
 use crate::trace::Trace;
 use chase_script::{Script, ScriptFault, script_rows};
