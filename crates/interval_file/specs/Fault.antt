@@ -17,4 +17,10 @@ name_of (Truncated _) = names.TRUNCATED_NAME.now
 
 -- the byte place at which the fault stands
 abbrev pub place_of : IntervalFileFault → ℕ
-place_of fault = elim fault [ Magic p ↦ p | Version p ↦ p | System p ↦ p | Reserved p ↦ p | TickRate p ↦ p | Interval p ↦ p | Truncated p ↦ p ]
+place_of (Magic place) = place
+place_of (Version place) = place
+place_of (System place) = place
+place_of (Reserved place) = place
+place_of (TickRate place) = place
+place_of (Interval place) = place
+place_of (Truncated place) = place
