@@ -10,8 +10,10 @@ use Rattle.chase_script.specs.Script.{script_in}
 use Rattle.chase_command.specs.declared.chasing.TheConstants.{MAX_SCRIPT}
 use Rattle.tc_command.specs.declared.stop.ChaseStop.{ChaseStop}
 use Rattle.tc_command.specs.declared.stop.ChaseStop.TheVariants.{Refused, ReadFault, WriteFault, Memory, Limit}
-use Rattle.chase_command.specs.Chase.{IsChaseAnswer, IsChaseOutput, IsChaseStop, IsScript, IsTraced, IsWhole, chase_output, chase_text}
-use Rattle.chase_command.specs.Chase.{text_of_length, text_of_script}
+use Rattle.std.specs.Prelude.{if◌then◌else◌, Ok, Err}
+use Rattle.chase_script.specs.Script.{Script}
+use Rattle.chase_command.specs.Chase.{IsChaseAnswer, IsScript, IsWhole, chase_output, chase_text}
+use Rattle.chase_command.specs.KeptScript.{IsChaseOutput, IsChaseStop, IsTraced}
 use Rattle.tc_command.specs.Exchange.{Exchange, WritesAFront}
 use Rattle.tc_command.specs.KeptFirst.{whole_input}
 use Rattle.tc_command.specs.KeptWorks.{all_at_end}
@@ -19,13 +21,16 @@ use Rattle.tc_command.specs.Notes.{chase_note}
 use Rattle.tc_command.specs.Status.{status_of_chase}
 use Rattle.chase_command.proofs.ChaseStatus.{ends_by}
 
+abbrev text_of_script : Address → Script → List ℕ
+text_of_script label script = elim script [ Ok rows ↦ chase_text label rows | Err fault ↦ [] ]
+
 -- at the end of an input that is no longer than a script may be
 output_is : (label : Address) (left : Option (List ℕ)) (all pulled : List ℕ) → Consumes (Some all) left pulled → IsWhole left pulled
     → chase_output label all ≡ text_of_script label (script_in label.count pulled)
 output_is label left all pulled consumed whole =
     let same : all ≡ pulled = all_at_end all pulled left consumed whole.end in
     let short : nat_le (length all) MAX_SCRIPT ≡ true = rw same (grind (arith, whole.short)) in
-    ap (λ (b : Bool). text_of_length label b (script_in label.count all)) short
+    ap (λ (b : Bool). if b then text_of_script label (script_in label.count all) else []) short
     ∙ ap (λ (bytes : List ℕ). text_of_script label (script_in label.count bytes)) same
 
 -- of a script it is the trace

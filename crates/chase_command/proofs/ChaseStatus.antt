@@ -16,9 +16,8 @@ use Rattle.tc_command.specs.declared.stop.ChaseStop.{ChaseStop}
 use Rattle.tc_command.specs.declared.stop.ChaseStop.TheVariants.{Refused, ReadFault, WriteFault, Memory, Limit}
 use Rattle.chase_command.specs.Chase.{ChaseEndsBy}
 use Rattle.tc_command.specs.Causes.{SourceCause, OutCause}
-use Rattle.chase_command.specs.Chase.{IsWhole, IsScript, IsChaseStop, chase_status_on, status_of_length, status_of_script}
 use Rattle.tc_command.specs.Status.{status_of_chase}
-use Rattle.chase_command.specs.KeptScript.{IsGatherStop, IsPullStop, IsRowStop}
+use Rattle.chase_command.specs.KeptScript.{IsChaseStop, IsGatherStop, IsPullStop, IsRowStop}
 use Rattle.tc_command.specs.Exchange.{Exchange}
 use Rattle.tc_command.specs.Notes.{chase_note}
 use Rattle.tc_command.specs.KeptWorks.{all_at_end, front_of_all}
@@ -27,19 +26,11 @@ use Rattle.tc_command.specs.KeptWorks.{all_at_end, front_of_all}
 
 pub ends_by : (label : Address) (stop : ChaseStop) (e : Exchange) → IsChaseStop label stop e.left e.pulled e.written
     → e.note ≡ chase_note stop → ChaseEndsBy label (status_of_chase stop) e
-ends_by label (Refused fault) e stopped same = (fault, record { why = stopped; note = same })
-ends_by label ReadFault e stopped same = record { why = stopped; note = same }
-ends_by label WriteFault e stopped same = record { why = stopped; note = same }
-ends_by label Memory e stopped same = record { why = stopped; note = same }
-ends_by label Limit e stopped same = record { why = stopped; note = same }
-
--- ---- its parts stop so
-
--- ---- the status of the whole input
-
-by_length : (label : Address) (all : List ℕ) (b : Bool) → nat_le (length all) MAX_SCRIPT ≡ b
-    → chase_status_on label all ≡ status_of_length b (script_in label.count all)
-by_length label all b e = ap (λ (c : Bool). status_of_length c (script_in label.count all)) e
+ends_by label (Refused fault) e stopped same = (fault, same, stopped.0, stopped.1, stopped.2)
+ends_by label ReadFault e stopped same = (same, stopped.0, stopped.1)
+ends_by label WriteFault e stopped same = (same, stopped)
+ends_by label Memory e stopped same = (same, stopped.0, stopped.1)
+ends_by label Limit e stopped same = (same, stopped.0, stopped.1)
 
 -- ---- one pull more
 

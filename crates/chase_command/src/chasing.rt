@@ -11,9 +11,9 @@ ghost use Rattle.chase_script.specs.Lock.{KeepsItsLock};
 ghost use Rattle.chase_script.specs.Script.{script_in};
 ghost use Rattle.chase_command.specs.Chase.{ChaseSeesOneEnd, IsChaseAnswer};
 ghost use Rattle.tc_command.specs.Causes.{SourceCause, OutCause};
-ghost use Rattle.chase_command.specs.Chase.{IsChaseStop, IsTraced, chase_ended, chase_status_on};
-ghost use Rattle.tc_command.specs.Exchange.{Exchange, IsPulled, IsWritten, IsNoted};
-ghost use Rattle.chase_command.specs.KeptScript.{IsGatherStop, IsPullStop, IsRowStop};
+ghost use Rattle.chase_command.specs.Chase.{chase_status_on};
+ghost use Rattle.tc_command.specs.Exchange.{Exchange, IsPulled, IsNoted};
+ghost use Rattle.chase_command.specs.KeptScript.{IsChaseStop, IsGatherStop, IsPullStop, IsRowStop, IsTraced, chase_ended};
 
 use crate::trace::Trace;
 use chase_script::{Script, ScriptFault, script_rows};
@@ -41,7 +41,7 @@ pub fn chase<S: Source, K: Sink, N: Sink>(
     // lock. Whatever the status, what was written is a front of the trace where the whole input is a script, and else
     // nothing.
     ensures answer { (e : Exchange) × IsPulled (S.left source.old) (S.left source.new) e
-        × IsWritten (K.written out.old) (K.written out.new) e
+        × Appends (K.written out.old) (K.written out.new) e.written
         × IsNoted (N.written notes.old) (N.written notes.new) (N.faults notes.old) (N.faults notes.new) e
         × IsChaseAnswer label.now result e }
     ensures no_note { result ≡ Status.Done → notes.new ≡ notes.old }

@@ -1,9 +1,10 @@
 -- A record of five fields is the row of these, and each other record is refused for the number of its fields.
-use Rattle.std.proofs.Common.{◌≡◌, ℕ, zero, suc, ◌≤◌, arith, List, [], ◌∷◌, length, Some, None, refl, ap}
+use Rattle.std.proofs.Common.{◌≡◌, ℕ, zero, suc, ◌≤◌, arith, List, [], ◌∷◌, length, Some, None, ap, ◌∙◌}
 use Rattle.std.specs.declared.option.Option.{Option}
 use Rattle.csv.specs.Records.{field_at}
 use Rattle.tc_address.specs.declared.count.Count.{Count}
-use Rattle.chase_script.specs.Script.{Field, row_in, row_of_fields}
+use Rattle.chase_script.specs.Script.{Field, row_in}
+use Rattle.chase_script.specs.KeptRow.{row_of_fields}
 
 -- what is at a place, or something else
 abbrev or_else : Field → Option Field → Field
@@ -27,7 +28,11 @@ five_fields count (v ∷ w ∷ []) a b c d e five got = cc
 five_fields count (v ∷ w ∷ x ∷ []) a b c d e five got = cc
 five_fields count (v ∷ w ∷ x ∷ y ∷ []) a b c d e five got = cc
 five_fields count (v ∷ w ∷ x ∷ y ∷ z ∷ []) a b c d e five got =
-    rw (ap (or_else v) got.first, ap (or_else w) got.second, ap (or_else x) got.third, ap (or_else y) got.fourth, ap (or_else z) got.fifth) refl
+    ap (λ (f : Field). row_of_fields count f w x y z) (ap (or_else v) got.first)
+    ∙ ap (λ (f : Field). row_of_fields count a f x y z) (ap (or_else w) got.second)
+    ∙ ap (λ (f : Field). row_of_fields count a b f y z) (ap (or_else x) got.third)
+    ∙ ap (λ (f : Field). row_of_fields count a b c f z) (ap (or_else y) got.fourth)
+    ∙ ap (λ (f : Field). row_of_fields count a b c d f) (ap (or_else z) got.fifth)
 five_fields count (v ∷ w ∷ x ∷ y ∷ z ∷ u ∷ more) a b c d e five got = cc
 
 -- a field is there at each place below their number

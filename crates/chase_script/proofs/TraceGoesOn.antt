@@ -12,7 +12,8 @@ use Rattle.chase_core.specs.declared.report.StepReport.{StepReport}
 use Rattle.chase_core.specs.Trace.{Loop, Row, Traced, after_row, traced, trace}
 use Rattle.chase_script.specs.declared.row.ScriptRow.{ScriptRow}
 use Rattle.chase_script.specs.Kept.{text_left}
-use Rattle.chase_script.specs.TraceText.{is_lost, loses, row_of, step_line, step_end_line, step_lines, trace_text}
+use Rattle.std.specs.Prelude.{is_some}
+use Rattle.chase_script.specs.TraceText.{loses, row_of, step_line, step_end_line, step_lines, trace_text}
 
 -- at first the whole trace is left
 pub all_is_left : ((loop : Loop) (rows : List Row) → length (trace loop rows) ≡ length rows) → (place : Loop) (rows : List ScriptRow)
@@ -58,19 +59,19 @@ next_row rows i row some is =
     drop-cons rows i row within ∙ ap (λ (r : ScriptRow). r ∷ drop (suc i) rows) (sym is) ∙ ap (λ (n : ℕ). row ∷ drop n rows) same
 
 -- a step loses the lock once at most
-pub at_most_one : (loss : Option Loss) → cond (is_lost loss) 1 0 ≤ 1
+pub at_most_one : (loss : Option Loss) → cond (is_some loss) 1 0 ≤ 1
 at_most_one None = omega arith
 at_most_one (Some loss) = omega arith
 
-lost_same : (losses lost : ℕ) (report told : StepReport) → lost ≡ cond (is_lost report.loss) 1 0 → report ≡ told
-    → losses + lost ≡ losses + cond (is_lost told.loss) 1 0
-lost_same losses lost report told loses same = ap (λ (n : ℕ). losses + n) (loses ∙ ap (λ (r : StepReport). cond (is_lost r.loss) 1 0) same)
+lost_same : (losses lost : ℕ) (report told : StepReport) → lost ≡ cond (is_some report.loss) 1 0 → report ≡ told
+    → losses + lost ≡ losses + cond (is_some told.loss) 1 0
+lost_same losses lost report told loses same = ap (λ (n : ℕ). losses + n) (loses ∙ ap (λ (r : StepReport). cond (is_some r.loss) 1 0) same)
 
 -- its line, and then what is left
 pub line_of : (place next : Loop) (row : ScriptRow) (rows left : List ScriptRow) (steps losses lost position : ℕ) (report : StepReport) (count : Count)
     (line : List ℕ) (ended : Bool) → ended ≡ false → rows ≡ row ∷ left → place.chase.count ≡ count
     → report ≡ (traced place (row_of row)).report → position ≡ (traced place (row_of row)).position
-    → next ≡ after_row place (row_of row) → lost ≡ cond (is_lost report.loss) 1 0
+    → next ≡ after_row place (row_of row) → lost ≡ cond (is_some report.loss) 1 0
     → line ≡ step_line count (steps + 1) (record { report = report; position = position })
     → text_left (record { place = place; rows = rows; steps = steps; losses = losses; is_ended = ended })
     ≡ line ++ text_left (record { place = next; rows = left; steps = steps + 1; losses = losses + lost; is_ended = ended })

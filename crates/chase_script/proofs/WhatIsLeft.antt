@@ -13,7 +13,8 @@ use Rattle.tc_address.specs.declared.count.Count.{Count}
 use Rattle.chase_script.specs.declared.column.Column as column
 use Rattle.chase_script.specs.declared.fault.RowFault.{RowFault}
 use Rattle.chase_script.specs.declared.row.ScriptRow.{ScriptRow}
-use Rattle.chase_script.specs.Script.{Field, Script, row_in, rows_from, with_row, script_in}
+use Rattle.chase_script.specs.Script.{Field, Script, row_in, rows_from, script_in}
+use Rattle.chase_script.specs.KeptRow.{with_row}
 
 -- ---- a record takes bytes
 
@@ -107,7 +108,7 @@ unfolding rows_from
 more_of count text rows s left read row is found reads =
     let next = next_of is.records s left read is.suffice found in
     let rest : Script = rows_from count (suc (1 + length rows)) (records_from default_config next.0 read.1 read.2) in
-    let one : rows_from count (1 + length rows) (read.0 ∷ records_from default_config next.0 read.1 read.2) ≡ with_row row rest = rw reads refl in
+    let one : rows_from count (1 + length rows) (read.0 ∷ records_from default_config next.0 read.1 read.2) ≡ with_row row rest = rw (reads, rows_from) refl in
     let all : script_in count text ≡ rows_before (rows ++ row ∷ []) rest =
     is.is ∙ ap (λ (records : List (List Field)). rows_before rows (rows_from count (1 + length rows) records)) next.2
     ∙ ap (rows_before rows) one ∙ row_before rows row rest in
@@ -132,7 +133,7 @@ a_row_refused count text rows s t left later fields bad is took reads =
     let next = next_of is.records s left took.0 is.suffice took.1 in
     let fault : RowFault = record { row = 1 + length rows; column = bad } in
     let refuses : row_in count took.0.0 ≡ Err bad = ap (row_in count) (sym took.2) ∙ reads in
-    let one : rows_from count (1 + length rows) (took.0.0 ∷ records_from default_config next.0 took.0.1 took.0.2) ≡ Err fault = rw refuses refl in
+    let one : rows_from count (1 + length rows) (took.0.0 ∷ records_from default_config next.0 took.0.1 took.0.2) ≡ Err fault = rw (refuses, rows_from) refl in
     is.is ∙ ap (λ (records : List (List Field)). rows_before rows (rows_from count (1 + length rows) records)) next.2 ∙ ap (rows_before rows) one
 
 -- there is none

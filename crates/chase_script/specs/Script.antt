@@ -6,6 +6,7 @@ use Rattle.std.specs.Prelude.{nat_le, codes}
 use Rattle.std.specs.Prelude.{ℤ, pos, neg_ℤ, unsigned_abs, IfSome}
 use Rattle.std.specs.Char.{is_ascii_digit}
 use Rattle.std.specs.List.{list_all}
+use Rattle.std.specs.Option.{ok_or, option_map}
 use Rattle.std.specs.Str.{bytes_eq}
 use Rattle.std.specs.Str.Parse.{digits_value}
 use Rattle.csv.specs.Reading.{default_config, records, strip_bom}
@@ -28,119 +29,84 @@ use Rattle.chase_script.specs.declared.row.ScriptRow.{ScriptRow}
 abbrev pub Field : Type 0
 Field = List ℕ
 
--- it holds nothing
-abbrev pub is_empty : Field → Bool
-is_empty field = length field == 0
-
--- a value, or the column that is refused
-abbrev pub Judged : Type 0 → Type 0
-Judged X = Result X column.Column
-
 -- what follows from a value, and the refused column where there is none
-abbrev pub and_then : {X Y : Type 0} → Judged X → (X → Judged Y) → Judged Y
+abbrev pub and_then : {X Y : Type 0} → Result X column.Column → (X → Result Y column.Column) → Result Y column.Column
 and_then (Ok value) next = next value
 and_then (Err column) next = Err column
 
 -- ---- the columns
 
 -- a command that has no target
-abbrev pub without_target : Option command.Command → Field → Judged (Option command.Command)
-without_target command target = if is_empty target then Ok command else Err columns.Target
-
--- a command to go to a label
-abbrev pub to_target : Option Address → Judged (Option command.Command)
-to_target (Some label) = Ok (Some (commands.Locate (number_of label)))
-to_target None = Err columns.Target
+abbrev pub without_target : Option command.Command → Field → Result (Option command.Command) column.Column
+without_target command target = if length target == 0 then Ok command else Err columns.Target
 
 -- columns 1 and 2: no command, `play`, `wait`, or `locate` and a label of the count
-abbrev pub command_in : Count → Field → Field → Judged (Option command.Command)
+abbrev pub command_in : Count → Field → Field → Result (Option command.Command) column.Column
 command_in count word target =
-    if is_empty word then without_target None target
+    if length word == 0 then without_target None target
     else if bytes_eq word (codes "play") then without_target (Some commands.Play) target
     else if bytes_eq word (codes "wait") then without_target (Some commands.Wait) target
-    else if bytes_eq word (codes "locate") then to_target (label_in count target)
-    else Err columns.Command
+    else if bytes_eq word (codes "locate") then elim (label_in count target) [
+      | Some label ↦ Ok (Some (commands.Locate (number_of label)))
+      | None ↦ Err columns.Target
+    ] else Err columns.Command
 
 -- column 4: `forward` or `backward`
-abbrev pub direction_in : Field → Judged Direction
+abbrev pub direction_in : Field → Result Direction column.Column
 direction_in word =
     if bytes_eq word (codes "forward") then Ok directions.Forward
     else if bytes_eq word (codes "backward") then Ok directions.Backward
     else Err columns.Direction
 
--- a master that reads a label
-abbrev pub master_at : Option Address → Field → Judged (Option master.Master)
-master_at (Some label) direction =
-    and_then (direction_in direction) (λ d. Ok (Some (record { number = number_of label; direction = d })))
-master_at None direction = Err columns.Master
-
--- no master, and no direction
-abbrev pub no_master : Field → Judged (Option master.Master)
-no_master direction = if is_empty direction then Ok None else Err columns.Direction
-
 -- columns 3 and 4: a label of the count and a direction, or neither
-abbrev pub master_in : Count → Field → Field → Judged (Option master.Master)
+abbrev pub master_in : Count → Field → Field → Result (Option master.Master) column.Column
 master_in count label direction =
-    if is_empty label then no_master direction else master_at (label_in count label) direction
+    if length label == 0 then (if length direction == 0 then Ok None else Err columns.Direction)
+    else elim (label_in count label) [
+      | Some l ↦ and_then (direction_in direction) (λ d. Ok (Some (record { number = number_of l; direction = d })))
+      | None ↦ Err columns.Master
+    ]
 
 -- one to seven digits that write a number up to a million
-abbrev pub is_length : Field → Bool
-is_length digits = nat_lt 0 (length digits) && nat_le (length digits) 7 && list_all is_ascii_digit digits
-
 abbrev pub length_in : Field → Option ℕ
 length_in digits =
-    if is_length digits && nat_le (digits_value 10 digits) 1_000_000 then Some (digits_value 10 digits) else None
-
--- a number of subframes, if there is one
-abbrev pub slip_by : (ℕ → ℤ) → Option ℕ → Judged ℤ
-slip_by sign (Some length) = Ok (sign length)
-slip_by sign None = Err columns.Slip
+    if nat_lt 0 (length digits) && nat_le (length digits) 7 && list_all is_ascii_digit digits
+    && nat_le (digits_value 10 digits) 1_000_000
+    then Some (digits_value 10 digits) else None
 
 -- column 5: empty for none, and else a number of subframes, behind a `-` where the transport falls back
-abbrev pub slip_in : Field → Judged ℤ
+abbrev pub slip_in : Field → Result ℤ column.Column
 slip_in [] = Ok (pos 0)
 slip_in (byte ∷ digits) =
-    if byte == 45 then slip_by (λ n. neg_ℤ (pos n)) (length_in digits) else slip_by pos (length_in (byte ∷ digits))
+    if byte == 45 then ok_or (option_map (λ n. neg_ℤ (pos n)) (length_in digits)) columns.Slip
+    else ok_or (option_map pos (length_in (byte ∷ digits))) columns.Slip
 
 -- ---- a record
 
--- five fields
-abbrev pub row_of_fields : Count → Field → Field → Field → Field → Field → Judged ScriptRow
-row_of_fields count word target label direction slip =
-    and_then (command_in count word target) (λ command.
-    and_then (master_in count label direction) (λ master.
+-- the row of a record, which has five fields, or its least refused column
+abbrev pub row_in : Count → List Field → Result ScriptRow column.Column
+row_in count (word ∷ target ∷ label ∷ direction ∷ slip ∷ []) =
+    and_then (command_in count word target) (λ command. and_then (master_in count label direction) (λ master.
     and_then (slip_in slip) (λ subframes. Ok (record { command = command; master = master; slip = subframes }))))
-
--- the row of a record, or its least refused column
-abbrev pub row_in : Count → List Field → Judged ScriptRow
-row_in count (word ∷ target ∷ label ∷ direction ∷ slip ∷ []) = row_of_fields count word target label direction slip
 row_in count _ = Err columns.Fields
 
 -- ---- all records
 
--- the rows of records, the first of which has this number, or the first refused record
+-- the rows of a script, or its first refused record
 abbrev pub Script : Type 0
 Script = Result (List ScriptRow) RowFault
 
-abbrev pub with_row : ScriptRow → Script → Script
-with_row row (Ok rows) = Ok (row ∷ rows)
-with_row row (Err fault) = Err fault
-
-abbrev pub and_rest : ℕ → Judged ScriptRow → Script → Script
-and_rest n (Ok row) rest = with_row row rest
-and_rest n (Err column) rest = Err (record { row = n; column = column })
-
+-- the rows of records, the first of which has this number
 unfoldable pub rows_from : Count → ℕ → List (List Field) → Script
 rows_from count n [] = Ok []
-rows_from count n (fields ∷ more) = and_rest n (row_in count fields) (rows_from count (suc n) more)
+rows_from count n (fields ∷ more) = elim (row_in count fields) [
+  | Ok row ↦ elim (rows_from count (suc n) more) [ Ok rows ↦ Ok (row ∷ rows) | Err fault ↦ Err fault ]
+  | Err column ↦ Err (record { row = n; column = column })
+]
 
--- the records of a text, of which a byte order mark at the very start is none of it
-abbrev pub records_of : List ℕ → List (List Field)
-records_of text = records default_config (strip_bom text)
-
--- the script of a text: its rows, or its first refused record
+-- the script of a text: its rows, or its first refused record. A byte order mark at the very start is none of it
 abbrev pub script_in : Count → List ℕ → Script
-script_in count text = rows_from count 1 (records_of text)
+script_in count text = rows_from count 1 (records default_config (strip_bom text))
 
 -- ---- what a row keeps to
 

@@ -1,5 +1,5 @@
 -- The text of a trace, byte for byte: a line a row, and a last line. The form is this project's own.
-use Rattle.std.specs.Prelude.{ℕ, ◌+◌, ◌/◌, ◌%◌, Bool, true, false, List, [], ◌∷◌, ◌++◌, length, map, codes, decimal}
+use Rattle.std.specs.Prelude.{ℕ, ◌+◌, ◌/◌, ◌%◌, Bool, is_some, List, [], ◌∷◌, ◌++◌, length, map, codes, decimal}
 use Rattle.std.specs.Prelude.{slice_get, Option, Some, None}
 use Rattle.std.specs.Fmt.{signed_decimal}
 use Rattle.std.specs.List.{count_by}
@@ -26,15 +26,10 @@ loss_name None = codes "none"
 loss_name (Some NoCode) = codes "no-code"
 loss_name (Some (Window error)) = codes "window"
 
--- the text of a label, if there is one
-abbrev pub label_text : Option Address → List ℕ
-label_text None = []
-label_text (Some label) = text_of label
-
 -- a position: the label that it lies in, and the subframes behind the label's beginning
 abbrev pub position_text : Count → ℕ → List ℕ
-position_text count position =
-    label_text (slice_get (labels count) (position / 80)) ++ codes "+" ++ two_digits (position % 80)
+position_text count position = elim (slice_get (labels count) (position / 80)) [ None ↦ [] | Some label ↦ text_of label ]
+    ++ codes "+" ++ two_digits (position % 80)
 
 -- the line of a step
 abbrev pub step_line : Count → ℕ → Traced → List ℕ
@@ -51,12 +46,8 @@ step_end_line steps losses = codes "end steps " ++ decimal steps ++ codes " loss
 -- ---- all of them
 
 -- the step lost the lock
-abbrev pub is_lost : Option Loss → Bool
-is_lost None = false
-is_lost (Some loss) = true
-
 abbrev pub loses : Traced → Bool
-loses line = is_lost line.report.loss
+loses line = is_some line.report.loss
 
 -- lines of steps, the first of which has this number
 unfoldable pub step_lines : Count → ℕ → List Traced → List ℕ

@@ -4,9 +4,12 @@ ghost use Rattle.csv.specs.Records.{field_at, fields_of};
 ghost use Rattle.tc_address.specs.Numbering.{day_length};
 ghost use Rattle.tc_address.specs.Spelling.{label_in};
 ghost use Rattle.chase_core.specs.Step.{IsCommandOf};
-ghost use Rattle.chase_script.specs.Script.{row_in, row_of_fields, command_in, without_target, to_target, direction_in};
-ghost use Rattle.chase_script.specs.Script.{master_in, no_master};
-ghost use Rattle.chase_script.specs.Script.{master_at, IsRowFor};
+ghost use Rattle.chase_script.specs.Script.{row_in, command_in, without_target, direction_in};
+ghost use Rattle.chase_script.specs.KeptRow.{row_of_fields, to_target};
+ghost use Rattle.chase_script.specs.Script.{master_in};
+ghost use Rattle.chase_script.specs.KeptRow.{no_master};
+ghost use Rattle.chase_script.specs.Script.{IsRowFor};
+ghost use Rattle.chase_script.specs.KeptRow.{master_at};
 
 use crate::column::Column;
 use crate::slip::slip_in;

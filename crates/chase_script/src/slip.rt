@@ -3,7 +3,8 @@ ghost use Rattle.std.specs.Prelude.{◌≡◌, ◌≤◌, length, IfOk, IfSome, 
 ghost use Rattle.std.specs.Char.{is_ascii_digit};
 ghost use Rattle.std.specs.List.{list_all};
 ghost use Rattle.std.specs.Str.Parse.{digits_value};
-ghost use Rattle.chase_script.specs.Script.{is_length, length_in, slip_in};
+ghost use Rattle.chase_script.specs.Script.{length_in, slip_in};
+ghost use Rattle.chase_script.specs.KeptRow.{is_length};
 
 use crate::column::Column;
 

@@ -5,7 +5,8 @@ ghost use Rattle.chase_script.specs.Kept.{first_line, text_left, lines_left};
 ghost use Rattle.chase_script.specs.Lock.{KeepsItsLock};
 ghost use Rattle.chase_core.specs.Trace.{after_row, traced};
 ghost use Rattle.chase_script.specs.Script.{IsRowFor};
-ghost use Rattle.chase_script.specs.TraceText.{is_lost, row_of, trace_from, trace_text};
+ghost use Rattle.chase_script.specs.TraceText.{row_of, trace_from, trace_text};
+ghost use Rattle.std.specs.Prelude.{is_some};
 ghost use Rattle.transport_model.specs.Move.{day_of};
 
 use crate::row::ScriptRow;
@@ -117,7 +118,7 @@ fn worked(place: &mut ClosedLoop, row: &ScriptRow) -> (StepReport, u32)
 
 /// How many times the lock was lost in a step.
 fn lost(loss: Option<Loss>) -> u64
-    ensures { result ≡ cond (is_lost loss) 1 0 }
+    ensures { result ≡ cond (is_some loss) 1 0 }
 {
     match loss {
         Some(_) => 1,

@@ -14,7 +14,8 @@ use Rattle.interval_file.specs.Progress.{Progress}
 use Rattle.tc_command.specs.declared.input_fault.InputFault.TheVariants.{Intervals}
 use Rattle.tc_command.specs.declared.stop.Stop.{Stop}
 use Rattle.tc_command.specs.declared.stop.Stop.TheVariants.{Refused, WriteFault}
-use Rattle.interval_commands.specs.Along.{Printing, IsPartBehind}
+use Rattle.interval_commands.specs.Along.{Printing}
+use Rattle.interval_commands.specs.KeptBehind.{IsPartBehind}
 use Rattle.interval_commands.specs.KeptAlong.{IntervalStops, Stands, stop_at, IsHalt}
 use Rattle.tc_command.specs.KeptWorks.{cut_more}
 use Rattle.interval_commands.proofs.AnItemMore.{Completes, Relation, a_fault, cut_some}

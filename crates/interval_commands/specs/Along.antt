@@ -1,6 +1,6 @@
 -- A command that reads an interval file: what it writes is a matter of the header and the intervals. The grammar and
 -- the limit are those of the file, for all of them.
-use Rattle.std.specs.Prelude.{◌≡◌, ℕ, true, List, [], Option, Some, None}
+use Rattle.std.specs.Prelude.{◌≡◌, ℕ, true, List, [], IsSomeAnd, MatchOption}
 use Rattle.std.specs.Option.{option_map}
 use Rattle.interval_file.specs.declared.header.IntervalHeader.{IntervalHeader}
 use Rattle.interval_file.specs.Recording.{Recording, recording_of, end_fault_of}
@@ -17,32 +17,17 @@ pub record Printing : Type 1 where
   -- what is written of a whole recording
   pub whole : IntervalHeader → List ℕ → List ℕ → Type 0
 
--- nothing is written before the header is whole
-abbrev pub IsPartBehind : Printing → Option IntervalHeader → List ℕ → List ℕ → Type 0
-IsPartBehind p None intervals written = written ≡ []
-IsPartBehind p (Some header) intervals written = p.part header intervals written
-
--- what is written of a recording before its end
+-- what is written of a recording before its end: nothing before the header is whole
 abbrev pub IsPartOf : Printing → Recording → List ℕ → Type 0
-IsPartOf p r written = IsPartBehind p r.header r.intervals written
+IsPartOf p r written = MatchOption r.header (written ≡ []) (λ header. p.part header r.intervals written)
 
--- a whole file has a header
-abbrev pub IsWholeBehind : Printing → Option IntervalHeader → List ℕ → List ℕ → Type 0
-IsWholeBehind p None intervals written = ⊥
-IsWholeBehind p (Some header) intervals written = p.whole header intervals written
-
--- what is written of a whole recording
+-- what is written of a whole recording, which has a header
 abbrev pub IsWholeOf : Printing → Recording → List ℕ → Type 0
-IsWholeOf p r written = IsWholeBehind p r.header r.intervals written
+IsWholeOf p r written = IsSomeAnd r.header (λ header. p.whole header r.intervals written)
 
--- the intervals pass a limit of the command's own; nothing does before the header is whole
-abbrev pub IsSpentBehind : Printing → Option IntervalHeader → List ℕ → Type 0
-IsSpentBehind p None intervals = ⊥
-IsSpentBehind p (Some header) intervals = p.spent header intervals
-
--- what is read of the recording passes a limit of the command's own
+-- what is read of the recording passes a limit of the command's own; nothing does before the header is whole
 abbrev pub IsSpentOf : Printing → Recording → Type 0
-IsSpentOf p r = IsSpentBehind p r.header r.intervals
+IsSpentOf p r = IsSomeAnd r.header (λ header. p.spent header r.intervals)
 
 -- what such a command takes and writes: its bytes are an interval file, within the limit of one
 abbrev pub along_intervals : Printing → Meaning

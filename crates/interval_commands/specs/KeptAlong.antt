@@ -15,7 +15,8 @@ use Rattle.tc_command.specs.declared.input_fault.InputFault.TheVariants.{Interva
 use Rattle.tc_io.specs.Verdict.{refused, past_limit, good, verdict_as}
 use Rattle.tc_command.specs.declared.stop.Stop.{Stop}
 use Rattle.tc_command.specs.declared.stop.Stop.TheVariants.{Refused, ReadFault, WriteFault, Limit}
-use Rattle.interval_commands.specs.Along.{Printing, IsPartBehind, IsPartOf, IsSpentOf, along_intervals}
+use Rattle.interval_commands.specs.Along.{Printing, IsPartOf, IsSpentOf, along_intervals}
+use Rattle.interval_commands.specs.KeptBehind.{IsPartBehind}
 use Rattle.tc_command.specs.Stops.{IsStop}
 
 -- the header is whole with its last byte

@@ -7,7 +7,8 @@ use Rattle.interval_file.specs.Recording.{Recording, end_fault_of, recording_of}
 use Rattle.tc_io.specs.Verdict.{refused, past_limit, verdict_as}
 use Rattle.tc_io.specs.Sink.{IsFront}
 use Rattle.tc_command.specs.Command.{IsCommand}
-use Rattle.interval_commands.specs.Along.{IsPartBehind, IsPartOf, IsSpentBehind, IsSpentOf, IsWholeBehind, IsWholeOf}
+use Rattle.interval_commands.specs.Along.{IsPartOf, IsSpentOf, IsWholeOf}
+use Rattle.interval_commands.specs.KeptBehind.{IsPartBehind, IsSpentBehind, IsWholeBehind}
 use Rattle.interval_commands.specs.Along.{Printing, along_intervals}
 use Rattle.tc_io.specs.KeptVerdict.{ends_whole, is_past, is_refused}
 use Rattle.tc_command.specs.declared.input_fault.InputFault.TheVariants.{Intervals}

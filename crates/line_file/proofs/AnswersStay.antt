@@ -7,7 +7,8 @@ use Rattle.line_file.specs.declared.decoder.TheConstants.{MAX_FIELDS}
 use Rattle.line_file.specs.declared.header.LineHeader.{LineHeader}
 use Rattle.line_file.specs.declared.header.TheConstants.{HEADER_LENGTH}
 use Rattle.line_file.specs.Answers.{AreAnswers, AreAnswersOf}
-use Rattle.line_file.specs.LineFile.{Front, whole, short, bad, header_at, field_at, field_width, Fields, field_then, fields_at, behind_header, reading_of}
+use Rattle.line_file.specs.LineFile.{Front, whole, short, bad, header_at, field_at, Fields, field_then, fields_at, behind_header, reading_of}
+use Rattle.line_file.specs.KeptPieces.{field_width}
 use Rattle.line_file.proofs.FieldByField.{fields_by, some_bytes, OneAnswer}
 use Rattle.line_file.proofs.HeaderBytes.{header_more, header_valid, whole_header}
 use Rattle.line_file.proofs.OwnBytes.{own_field, field_more}

@@ -12,8 +12,10 @@ use Rattle.line_file.specs.declared.decoder.TheConstants.{MAX_FIELDS}
 use Rattle.line_file.specs.declared.header.LineHeader.{LineHeader}
 use Rattle.line_file.specs.declared.header.TheConstants.{HEADER_LENGTH}
 use Rattle.line_file.specs.Answers.{AreAnswers}
-use Rattle.line_file.specs.LineFile.{Front, whole, short, bad, header_at, field_at, field_width, Fields, no_field, with_field, fields_at, Reading}
-use Rattle.line_file.specs.LineFile.{with_fields, behind_header, reading_of, no_header}
+use Rattle.line_file.specs.LineFile.{Front, whole, short, bad, header_at, field_at, Fields, fields_at, Reading}
+use Rattle.line_file.specs.KeptPieces.{field_width, no_field, with_field}
+use Rattle.line_file.specs.LineFile.{behind_header, reading_of}
+use Rattle.line_file.specs.KeptPieces.{with_fields, no_header}
 use Rattle.line_file.specs.StandsFor.{decoding_of, reading_behind, Waits, StandsFor, IsTold}
 use Rattle.line_file.proofs.FaultsStay.{field_stays}
 use Rattle.line_file.proofs.FieldByField.{fields_by, fields_behind}

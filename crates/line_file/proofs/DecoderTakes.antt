@@ -13,8 +13,10 @@ use Rattle.line_file.specs.declared.decoder.Piece.TheVariants as pieces
 use Rattle.line_file.specs.declared.decoder.TheConstants.{MAX_FIELDS, FIELD_ROOM}
 use Rattle.line_file.specs.declared.header.LineHeader.{LineHeader}
 use Rattle.line_file.specs.KeptFront.{IsPiece}
-use Rattle.line_file.specs.LineFile.{Front, whole, short, header_at, field_at, field_width, Fields, fields_at, Reading, reading_of, behind_header}
-use Rattle.line_file.specs.LineFile.{no_header, end_fault_of}
+use Rattle.line_file.specs.LineFile.{Front, whole, short, header_at, field_at, Fields, fields_at, Reading, reading_of, behind_header}
+use Rattle.line_file.specs.KeptPieces.{field_width}
+use Rattle.line_file.specs.LineFile.{end_fault_of}
+use Rattle.line_file.specs.KeptPieces.{no_header}
 use Rattle.line_file.specs.LineHeader.{IsHeader}
 use Rattle.line_file.specs.StandsFor.{decoding_of, Waits, StandsFor, Adds, IsTold}
 use Rattle.line_file.proofs.DecoderMore.{IsBad, part_less, piece_bytes, field_taken, header_taken, fault_told, limit_told}

@@ -6,7 +6,8 @@ use Rattle.byteorder.specs.Endian.{big_number}
 use Rattle.line_file.specs.declared.fault.LineFileFault.{LineFileFault}
 use Rattle.line_file.specs.declared.fault.LineFileFault.TheVariants as fault
 use Rattle.line_file.specs.declared.field.TheConstants.{MAX_LINES}
-use Rattle.line_file.specs.LineFile.{Front, whole, short, bad, with_first, runs_at, is_run_count, line_at, line_width, line_then, lines_at, field_at}
+use Rattle.line_file.specs.LineFile.{Front, whole, short, bad, runs_at, line_at, line_width, lines_at, field_at}
+use Rattle.line_file.specs.KeptPieces.{with_first, is_run_count, line_then}
 use Rattle.line_file.proofs.OwnBytes.{after_line, own_line, line_more}
 
 first_bad : {A : Type 0} (x : A) (front : Front (List A)) (f : LineFileFault) → with_first x front ≡ bad f → front ≡ bad f

@@ -11,7 +11,8 @@ use Rattle.line_file.specs.declared.decoder.TheConstants.{MAX_FIELDS}
 use Rattle.line_file.specs.declared.header.LineHeader.{LineHeader}
 use Rattle.line_file.specs.declared.header.TheConstants.{HEADER_LENGTH}
 use Rattle.line_file.specs.Answers.{AreAnswers, AreAnswersOf}
-use Rattle.line_file.specs.LineFile.{Front, whole, short, bad, header_at, field_at, field_width, Fields, with_field, field_then, fields_at}
+use Rattle.line_file.specs.LineFile.{Front, whole, short, bad, header_at, field_at, Fields, field_then, fields_at}
+use Rattle.line_file.specs.KeptPieces.{field_width, with_field}
 use Rattle.line_file.specs.LineFile.{behind_header, reading_of}
 use Rattle.line_file.proofs.FaultsStay.{field_stays}
 use Rattle.line_file.proofs.HeaderBytes.{header_valid, header_more, header_stays, whole_header}

@@ -15,8 +15,10 @@ use Rattle.line_file.specs.declared.header.LineHeader.{LineHeader}
 use Rattle.line_file.specs.declared.header.TheConstants.{HEADER_LENGTH}
 use Rattle.vitc_reader.specs.declared.line_length.TheConstants.{MIN_LINE_LENGTH, MAX_LINE_LENGTH}
 use Rattle.line_file.specs.Grammar.{line_bytes, field_bytes, file_of, AreRuns, AreLines, AreFields}
-use Rattle.line_file.specs.LineFile.{Front, whole, with_first, runs_at, is_run_count, line_at, line_width, lines_at, lines_width, field_at}
-use Rattle.line_file.specs.LineFile.{field_width, Fields, with_field, fields_at, with_fields, behind_header, header_at, header_with, reading_of}
+use Rattle.line_file.specs.LineFile.{Front, whole, runs_at, line_at, line_width, lines_at, lines_width, field_at}
+use Rattle.line_file.specs.KeptPieces.{with_first, is_run_count}
+use Rattle.line_file.specs.LineFile.{Fields, fields_at, behind_header, header_at, header_with, reading_of}
+use Rattle.line_file.specs.KeptPieces.{field_width, with_field, with_fields}
 use Rattle.line_file.specs.LineHeader.{IsHeader, header_bytes}
 use Rattle.tc_address.specs.declared.system.System.{System}
 use Rattle.tc_address.specs.declared.system.System.TheVariants.{F24, F25, F30}

@@ -15,7 +15,8 @@ use Rattle.vitc_line.specs.Places.{HasLines}
 use Rattle.line_file.specs.declared.header.LineHeader.{LineHeader}
 use Rattle.line_file.specs.declared.header.TheConstants.{HEAD_LENGTH}
 use Rattle.vitc_reader.specs.declared.line_length.TheConstants.{MIN_LINE_LENGTH, MAX_LINE_LENGTH}
-use Rattle.line_file.specs.LineFile.{Front, whole, short, bad, is_wrong, head_fault, head_at, is_line_length, header_with, length_at, behind_head, header_at}
+use Rattle.line_file.specs.LineFile.{Front, whole, short, bad, is_wrong, head_fault, head_at, header_with, length_at, header_at}
+use Rattle.line_file.specs.KeptPieces.{is_line_length, behind_head}
 use Rattle.line_file.specs.LineHeader.{IsHeader, system_at}
 use Rattle.line_file.proofs.OwnBytes.{own_more}
 

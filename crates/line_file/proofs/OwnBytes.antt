@@ -8,8 +8,10 @@ use Rattle.byteorder.specs.Endian.{big_number}
 use Rattle.line_file.specs.declared.fault.LineFileFault.TheVariants as fault
 use Rattle.vitc_reader.specs.Runs.{MayBeLine}
 use Rattle.line_file.specs.declared.field.TheConstants.{MAX_LINES, MAX_RUNS}
-use Rattle.line_file.specs.LineFile.{Front, whole, short, bad, with_first, runs_at, is_run_count, line_at, line_width, line_then, lines_at}
-use Rattle.line_file.specs.LineFile.{lines_width, field_at, field_width}
+use Rattle.line_file.specs.LineFile.{Front, whole, short, bad, runs_at, line_at, line_width, lines_at}
+use Rattle.line_file.specs.KeptPieces.{with_first, is_run_count, line_then}
+use Rattle.line_file.specs.LineFile.{lines_width, field_at}
+use Rattle.line_file.specs.KeptPieces.{field_width}
 
 -- the things that were read, or none
 abbrev pub items : {A : Type 0} → Front (List A) → List A

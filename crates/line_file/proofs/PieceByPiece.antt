@@ -14,8 +14,10 @@ use Rattle.vitc_reader.specs.Field as answers
 use Rattle.line_file.specs.declared.field.TheConstants.{MAX_LINES}
 use Rattle.line_file.specs.declared.header.LineHeader.{LineHeader}
 use Rattle.line_file.specs.declared.header.TheConstants.{HEAD_LENGTH}
-use Rattle.line_file.specs.LineFile.{Front, whole, short, bad, with_first, is_wrong, head_fault, head_at, runs_at, is_run_count, line_at, line_width}
-use Rattle.line_file.specs.LineFile.{line_then, lines_at, lines_width, field_at, field_width}
+use Rattle.line_file.specs.LineFile.{Front, whole, short, bad, is_wrong, head_fault, head_at, runs_at, line_at, line_width}
+use Rattle.line_file.specs.KeptPieces.{with_first, is_run_count}
+use Rattle.line_file.specs.LineFile.{lines_at, lines_width, field_at}
+use Rattle.line_file.specs.KeptPieces.{line_then, field_width}
 use Rattle.line_file.proofs.OwnBytes.{after_line, first_whole, own_line}
 
 -- some things, and then the others

@@ -23,11 +23,15 @@ use Rattle.line_file.specs.declared.field.TheConstants.{MAX_LINES, MAX_RUNS}
 use Rattle.line_file.specs.declared.header.LineHeader.{LineHeader}
 use Rattle.line_file.specs.declared.header.TheConstants.{HEADER_LENGTH, HEAD_LENGTH}
 use Rattle.line_file.specs.Grammar.{AreFields, AreLines, AreRuns, field_bytes, file_of, line_bytes}
-use Rattle.line_file.specs.LineFile.{Fields, Front, bad, behind_head, behind_header, end_fault_of, field_at, field_then}
-use Rattle.line_file.specs.LineFile.{field_width, fields_at, head_at, head_fault, header_at, header_with}
-use Rattle.line_file.specs.LineFile.{is_line_length}
-use Rattle.line_file.specs.LineFile.{is_run_count, is_wrong, line_at, line_then, line_width, lines_at}
-use Rattle.line_file.specs.LineFile.{lines_width, reading_of, runs_at, short, whole, with_first}
+use Rattle.line_file.specs.LineFile.{Fields, Front, bad, behind_header, end_fault_of, field_at, field_then}
+use Rattle.line_file.specs.KeptPieces.{behind_head}
+use Rattle.line_file.specs.LineFile.{fields_at, head_at, head_fault, header_at, header_with}
+use Rattle.line_file.specs.KeptPieces.{field_width}
+use Rattle.line_file.specs.KeptPieces.{is_line_length}
+use Rattle.line_file.specs.LineFile.{is_wrong, line_at, line_width, lines_at}
+use Rattle.line_file.specs.KeptPieces.{is_run_count, line_then}
+use Rattle.line_file.specs.LineFile.{lines_width, reading_of, runs_at, short, whole}
+use Rattle.line_file.specs.KeptPieces.{with_first}
 use Rattle.line_file.specs.LineHeader.{IsHeader, header_bytes, system_at}
 use Rattle.line_file.proofs.HeaderBytes.{header_valid, whole_header}
 use Rattle.line_file.proofs.OwnBytes.{first_whole, items}

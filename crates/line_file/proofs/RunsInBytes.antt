@@ -9,7 +9,8 @@ use Rattle.line_file.specs.declared.fault.LineFileFault.TheVariants as fault
 use Rattle.vitc_reader.specs.Runs.{MayBeLine, runs_of_bytes}
 use Rattle.line_file.specs.declared.field.TheConstants.{MAX_RUNS}
 use Rattle.line_file.specs.Grammar.{AreRuns}
-use Rattle.line_file.specs.LineFile.{is_run_count, line_at, whole, bad, runs_at}
+use Rattle.line_file.specs.LineFile.{line_at, whole, bad, runs_at}
+use Rattle.line_file.specs.KeptPieces.{is_run_count}
 use Rattle.line_file.proofs.OwnBytes.{own_runs}
 
 one_more : (n : ℕ) → 2 * suc n ≡ suc (suc (2 * n))

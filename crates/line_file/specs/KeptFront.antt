@@ -12,7 +12,8 @@ use Rattle.line_file.specs.declared.found.Found.TheVariants as things
 use Rattle.line_file.specs.declared.header.FoundHeader.{FoundHeader}
 use Rattle.line_file.specs.declared.header.FoundHeader.TheVariants as headers
 use Rattle.line_file.specs.declared.header.LineHeader.{LineHeader}
-use Rattle.line_file.specs.LineFile.{Front, whole, short, bad, field_at, field_width, header_at}
+use Rattle.line_file.specs.LineFile.{Front, whole, short, bad, field_at, header_at}
+use Rattle.line_file.specs.KeptPieces.{field_width}
 
 -- a thing that was found, with what it says
 abbrev pub front_of : {A : Type 0} → Found → A → Front A

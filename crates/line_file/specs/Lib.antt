@@ -2,6 +2,7 @@ pub mod Answers
 pub mod Fault
 pub mod Grammar
 pub mod KeptFront
+pub mod KeptPieces
 pub mod LineFile
 pub mod LineHeader
 pub mod StandsFor

@@ -22,11 +22,11 @@ pub data Front (A : Type 0) : Type 0 where
   short : Front A
   bad : LineFileFault → Front A
 
--- the first thing, where the others are whole too
-abbrev pub with_first : {A : Type 0} → A → Front (List A) → Front (List A)
-with_first first (whole others) = whole (first ∷ others)
-with_first first short = short
-with_first first (bad f) = bad f
+-- what follows from a whole thing
+abbrev pub and_then : {A B : Type 0} → Front A → (A → Front B) → Front B
+and_then (whole first) next = next first
+and_then short next = short
+and_then (bad f) next = bad f
 
 -- ---- the header
 
@@ -53,29 +53,22 @@ head_at (suc count) place [] = short
 head_at (suc count) place (byte ∷ more) =
     if is_wrong place byte then bad (head_fault place) else head_at count (place + 1) more
 
--- a length that a line may have
-abbrev pub is_line_length : ℕ → Bool
-is_line_length n = nat_le MIN_LINE_LENGTH n && nat_le n MAX_LINE_LENGTH
-
 -- the header of a system with a line length
 abbrev pub header_with : Option System → ℕ → Front LineHeader
 header_with None n = bad (fault.LineLength HEAD_LENGTH)
 header_with (Some system) n =
-    if is_line_length n then whole (record { system = system; length = n }) else bad (fault.LineLength HEAD_LENGTH)
+    if nat_le MIN_LINE_LENGTH n && nat_le n MAX_LINE_LENGTH then whole (record { system = system; length = n })
+    else bad (fault.LineLength HEAD_LENGTH)
 
 -- the line length, four bytes behind the head
 abbrev pub length_at : Option System → List ℕ → Front LineHeader
 length_at system (a ∷ b ∷ c ∷ d ∷ more) = header_with system (big_number 4 (a ∷ b ∷ c ∷ d ∷ more))
 length_at system _ = short
 
-abbrev pub behind_head : Front (Unit {0}) → List ℕ → Front LineHeader
-behind_head (whole _) bytes = length_at (system_at (slice_index bytes 5)) (drop HEAD_LENGTH bytes)
-behind_head short bytes = short
-behind_head (bad f) bytes = bad f
-
 -- the header, which stands at the front of a file
 abbrev pub header_at : List ℕ → Front LineHeader
-header_at bytes = behind_head (head_at HEAD_LENGTH 0 bytes) bytes
+header_at bytes =
+    and_then (head_at HEAD_LENGTH 0 bytes) (λ _. length_at (system_at (slice_index bytes 5)) (drop HEAD_LENGTH bytes))
 
 -- ---- a field
 
@@ -84,33 +77,25 @@ abbrev pub runs_at : ℕ → ℕ → List ℕ → Front (List ℕ)
 runs_at zero place bytes = whole []
 runs_at (suc count) place (high ∷ low ∷ more) =
     if big_number 2 (high ∷ low ∷ more) == 0 then bad (fault.Run place)
-    else with_first (big_number 2 (high ∷ low ∷ more)) (runs_at count (place + 2) more)
+    else and_then (runs_at count (place + 2) more) (λ runs. whole (big_number 2 (high ∷ low ∷ more) ∷ runs))
 runs_at (suc count) place _ = short
 
--- an odd number of runs, and not too many
-abbrev pub is_run_count : ℕ → Bool
-is_run_count count = (count % 2 == 1) && nat_le count MAX_RUNS
-
--- a line: its number of runs, and its runs
+-- a line: its number of runs, which is odd and not too great, and its runs
 abbrev pub line_at : ℕ → List ℕ → Front (List ℕ)
 line_at place [] = short
-line_at place (count ∷ more) = if is_run_count count then runs_at count (place + 1) more else bad (fault.RunCount place)
+line_at place (count ∷ more) =
+    if (count % 2 == 1) && nat_le count MAX_RUNS then runs_at count (place + 1) more else bad (fault.RunCount place)
 
 -- how many bytes a line has
 abbrev pub line_width : List ℕ → ℕ
 line_width runs = 1 + 2 * length runs
 
--- a line, and what follows it
-abbrev pub line_then : Front (List ℕ) → (List ℕ → Front (List (List ℕ))) → Front (List (List ℕ))
-line_then (whole runs) next = with_first runs (next runs)
-line_then short next = short
-line_then (bad f) next = bad f
-
 -- so many lines
 abbrev pub lines_at : ℕ → ℕ → List ℕ → Front (List (List ℕ))
 lines_at zero place bytes = whole []
 lines_at (suc count) place bytes =
-    line_then (line_at place bytes) (λ runs. lines_at count (place + line_width runs) (drop (line_width runs) bytes))
+    and_then (line_at place bytes) (λ runs.
+    and_then (lines_at count (place + line_width runs) (drop (line_width runs) bytes)) (λ lines. whole (runs ∷ lines)))
 
 -- a field: its number of lines, and its lines
 abbrev pub field_at : ℕ → List ℕ → Front (List (List ℕ))
@@ -118,13 +103,10 @@ field_at place [] = short
 field_at place (count ∷ more) =
     if nat_le count MAX_LINES then lines_at count (place + 1) more else bad (fault.LineCount place)
 
--- how many bytes lines and a field have
+-- how many bytes lines have; a field has one more
 abbrev pub lines_width : List (List ℕ) → ℕ
 lines_width [] = 0
 lines_width (runs ∷ lines) = line_width runs + lines_width lines
-
-abbrev pub field_width : List (List ℕ) → ℕ
-field_width lines = 1 + lines_width lines
 
 -- ---- the file
 
@@ -134,26 +116,19 @@ pub record Fields : Type 0 where
   pub verdict : Verdict LineFileFault
   pub is_whole : Bool
 
--- no whole field
-abbrev pub no_field : Verdict LineFileFault → Bool → Fields
-no_field verdict is_whole = record { fields = []; verdict = verdict; is_whole = is_whole }
-
 -- a field, and those that follow it
-abbrev pub with_field : List (List ℕ) → Fields → Fields
-with_field lines f = record f { fields = lines ∷ f.fields }
-
 abbrev pub field_then : Front (List (List ℕ)) → (List (List ℕ) → Fields) → Fields
-field_then (whole lines) next = with_field lines (next lines)
-field_then short next = no_field good false
-field_then (bad f) next = no_field (refused f) false
+field_then (whole lines) next = let f = next lines in record f { fields = lines ∷ f.fields }
+field_then short next = record { fields = []; verdict = good; is_whole = false }
+field_then (bad f) next = record { fields = []; verdict = refused f; is_whole = false }
 
 -- the fields from a place on, so many at most: of a byte behind them nothing is asked
 unfoldable pub fields_at : ℕ → ℕ → List ℕ → Fields
-fields_at left place [] = no_field good true
-fields_at zero place (byte ∷ more) = no_field past_limit false
+fields_at left place [] = record { fields = []; verdict = good; is_whole = true }
+fields_at zero place (byte ∷ more) = record { fields = []; verdict = past_limit; is_whole = false }
 fields_at (suc left) place (byte ∷ more) =
     field_then (field_at place (byte ∷ more))
-    (λ lines. fields_at left (place + field_width lines) (drop (field_width lines) (byte ∷ more)))
+    (λ lines. fields_at left (place + (1 + lines_width lines)) (drop (1 + lines_width lines) (byte ∷ more)))
 
 -- what bytes say of a line file, as far as they go
 pub record Reading : Type 0 where
@@ -162,19 +137,12 @@ pub record Reading : Type 0 where
   pub verdict : Verdict LineFileFault
   pub is_whole : Bool
 
-abbrev pub no_header : Verdict LineFileFault → Reading
-no_header verdict = record { header = None; fields = []; verdict = verdict; is_whole = false }
-
--- a header, some fields, and those that follow them
-abbrev pub with_fields : LineHeader → List (List (List ℕ)) → Fields → Reading
-with_fields header before f =
-    record { header = Some header; fields = before ++ f.fields; verdict = f.verdict; is_whole = f.is_whole }
-
+-- without a whole header there is no field
 abbrev pub behind_header : Front LineHeader → List ℕ → Reading
-behind_header (whole header) bytes =
-    with_fields header [] (fields_at MAX_FIELDS HEADER_LENGTH (drop HEADER_LENGTH bytes))
-behind_header short bytes = no_header good
-behind_header (bad f) bytes = no_header (refused f)
+behind_header (whole header) bytes = let f = fields_at MAX_FIELDS HEADER_LENGTH (drop HEADER_LENGTH bytes) in
+    record { header = Some header; fields = f.fields; verdict = f.verdict; is_whole = f.is_whole }
+behind_header short bytes = record { header = None; fields = []; verdict = good; is_whole = false }
+behind_header (bad f) bytes = record { header = None; fields = []; verdict = refused f; is_whole = false }
 
 abbrev pub reading_of : List ℕ → Reading
 reading_of bytes = behind_header (header_at bytes) bytes

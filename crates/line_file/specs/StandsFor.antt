@@ -9,7 +9,8 @@ use Rattle.tc_io.specs.Verdict.{Verdict, refused, past_limit}
 use Rattle.line_file.specs.declared.decoder.Taken.{Taken}
 use Rattle.line_file.specs.declared.decoder.Taken.TheVariants.{Nothing, Field, Fault, Limit}
 use Rattle.line_file.specs.Answers.{AreAnswers, AreAnswersOf}
-use Rattle.line_file.specs.LineFile.{Reading, reading_of, with_fields, fields_at, field_at, header_at, short}
+use Rattle.line_file.specs.LineFile.{Reading, reading_of, fields_at, field_at, header_at, short}
+use Rattle.line_file.specs.KeptPieces.{with_fields}
 use Rattle.line_file.specs.LineHeader.{IsHeader}
 use Rattle.line_file.specs.declared.fault.LineFileFault.{LineFileFault}
 

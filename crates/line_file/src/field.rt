@@ -3,7 +3,8 @@ ghost use Rattle.std.specs.Prelude.{◌≡◌, ◌<◌, ◌≤◌, ◌+◌, ◌-
 ghost use Rattle.std.specs.Prelude.{slice_index, true};
 ghost use Rattle.vitc_reader.specs.Field.{StandsFor};
 ghost use Rattle.line_file.specs.KeptFront.{front_of, line_of, runs_behind, IsFoundField};
-ghost use Rattle.line_file.specs.LineFile.{is_run_count, line_at, runs_at};
+ghost use Rattle.line_file.specs.LineFile.{line_at, runs_at};
+ghost use Rattle.line_file.specs.KeptPieces.{is_run_count};
 ghost use Rattle.line_file.specs.LineHeader.{IsHeader};
 ghost use Rattle.line_file.specs.declared.found.Found.TheVariants as things;
 

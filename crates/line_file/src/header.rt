@@ -1,7 +1,8 @@
 //! The header of a line file, and the numbers of its table. Next: `field`.
 ghost use Rattle.std.specs.Prelude.{◌≡◌};
 ghost use Rattle.line_file.specs.KeptFront.{front_of, header_front};
-ghost use Rattle.line_file.specs.LineFile.{head_at, head_fault, header_at, header_with, is_line_length, is_wrong};
+ghost use Rattle.line_file.specs.LineFile.{head_at, head_fault, header_at, header_with, is_wrong};
+ghost use Rattle.line_file.specs.KeptPieces.{is_line_length};
 ghost use Rattle.line_file.specs.LineFile.{whole};
 ghost use Rattle.line_file.specs.LineHeader.{IsHeader, header_bytes, system_at};
 

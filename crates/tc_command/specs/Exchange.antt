@@ -16,10 +16,6 @@ pub record IsPulled (before now : Option (List ℕ)) (e : Exchange) : Type 0 whe
   pub bytes : Consumes before now e.pulled
   pub left : now ≡ e.left
 
--- the written bytes of the exchange went to a sink
-abbrev pub IsWritten : Option (List ℕ) → Option (List ℕ) → Exchange → Type 0
-IsWritten before now e = Appends before now e.written
-
 -- a front of the note was written, and all of it where no count of faults rose
 pub record IsNoted (before now : Option (List ℕ)) (faults_before faults_now : ℕ) (e : Exchange) : Type 0 where
   pub front : AppendsFront before now e.note

@@ -17,15 +17,19 @@ use Rattle.tc_command.specs.KeptWorks.{all_at_end, front_of_all}
 use Rattle.tc_command.specs.Meaning.{Meaning, Shows, IsEnd, IsInput}
 use Rattle.tc_command.specs.Status.{status_of}
 use Rattle.tc_command.specs.Stops.{StopsAlong}
-use Rattle.tc_command.specs.WholeInput.{HasStatus, status_by, status_on, status_at_end}
+use Rattle.tc_command.specs.WholeInput.{HasStatus, status_by}
+
+-- the status of a job on an input that does not pass a limit of the command's own
+abbrev pub status_on : Meaning → List ℕ → Status
+status_on m input = status_by (m.verdict input) (m.end_fault input)
 
 by_verdict : (m : Meaning) (all : List ℕ) (v : Verdict InputFault) → m.verdict all ≡ v
     → status_on m all ≡ status_by v (m.end_fault all)
 by_verdict m all v e = ap (λ (w : Verdict InputFault). status_by w (m.end_fault all)) e
 
 by_end : (m : Meaning) (all : List ℕ) (o : Option InputFault) → m.verdict all ≡ good → m.end_fault all ≡ o
-    → status_on m all ≡ status_at_end o
-by_end m all o e f = by_verdict m all good e ∙ ap status_at_end f
+    → status_on m all ≡ status_by good o
+by_end m all o e f = by_verdict m all good e ∙ ap (λ (end : Option InputFault). status_by good end) f
 
 -- bytes that pass no limit of the command's own, and show this
 unspent_all : (m : Meaning) → IsCommand m → (all pulled more : List ℕ) (f : InputFault) → all ≡ pulled ++ more

@@ -11,26 +11,18 @@ use Rattle.tc_command.specs.declared.stop.ChaseStop.TheVariants as chase
 use Rattle.tc_command.specs.declared.stop.Stop.{Stop}
 use Rattle.tc_command.specs.declared.stop.Stop.TheVariants.{Refused, ReadFault, WriteFault, Limit}
 
--- the fault of the file and its byte place
-abbrev pub refused_note : InputFault → List ℕ
-refused_note fault =
-    codes "tc: refused: " ++ name_of fault ++ codes " at byte " ++ decimal (place_of fault) ++ codes "\n"
-
--- why a job stopped
+-- why a job stopped: the fault of the file and its byte place, or the cause alone
 abbrev pub stop_note : Stop → List ℕ
-stop_note (Refused fault) = refused_note fault
+stop_note (Refused fault) =
+    codes "tc: refused: " ++ name_of fault ++ codes " at byte " ++ decimal (place_of fault) ++ codes "\n"
 stop_note ReadFault = codes "tc: read fault\n"
 stop_note WriteFault = codes "tc: write fault\n"
 stop_note Limit = codes "tc: limit\n"
 
--- the first refused row of a script and its least refused column
-abbrev pub row_note : RowFault → List ℕ
-row_note fault = codes "tc: refused: row " ++ decimal fault.row ++ codes " column "
-    ++ decimal (number_of_column fault.column) ++ codes "\n"
-
--- why a chase stopped
+-- why a chase stopped: the first refused row of a script and its least refused column, or the cause alone
 abbrev pub chase_note : ChaseStop → List ℕ
-chase_note (chase.Refused fault) = row_note fault
+chase_note (chase.Refused fault) = codes "tc: refused: row " ++ decimal fault.row ++ codes " column "
+    ++ decimal (number_of_column fault.column) ++ codes "\n"
 chase_note chase.ReadFault = codes "tc: read fault\n"
 chase_note chase.WriteFault = codes "tc: write fault\n"
 chase_note chase.Memory = codes "tc: out of memory\n"

@@ -7,6 +7,24 @@ use Rattle.tc_command.specs.declared.stop.Stop.{Stop}
 use Rattle.tc_command.specs.declared.stop.Stop.TheVariants.{Refused, ReadFault, WriteFault, Limit}
 use Rattle.tc_command.specs.Meaning.{Meaning, Shows, IsInput, IsEnd}
 
+-- why a job stops along its input, of which this is left, and what was written then: at some of the bytes pulled, or at
+-- their end, where what they show is good before it. Where a push failed, it is a front of what was due for a front of
+-- them, or of the output; at a limit of the command's own, the part of a front that passes it. A pull that failed stops
+-- the job at neither a fault nor a limit
+abbrev pub StopsAlong : Meaning → Stop → Option (List ℕ) → List ℕ → List ℕ → Type 0
+StopsAlong m (Refused fault) left pulled written =
+    (Shows m (refused fault) pulled × m.part pulled written)
+    ⊎ (IsEnd m left × (Shows m good pulled × (m.end_fault pulled ≡ Some fault) × m.part pulled written))
+StopsAlong m ReadFault left pulled written = IsTrue m.reads × Shows m good pulled × m.part pulled written
+StopsAlong m WriteFault left pulled written =
+    ((front part : List ℕ) × IsFront front pulled × m.part front part × IsFront written part)
+    ⊎ (IsEnd m left × (IsInput m pulled × ((output : List ℕ) × m.output pulled output × IsFront written output)))
+StopsAlong m Limit left pulled written =
+    (Shows m past_limit pulled × m.part pulled written)
+    ⊎ ((front : List ℕ) × IsFront front pulled × m.spent front × m.part front written)
+
+-- ---- what the steps of a job say of it
+
 -- a front of the bytes passes a limit of the command's own, and the part of this front was written
 abbrev pub IsSpentStop : Meaning → List ℕ → List ℕ → Type 0
 IsSpentStop m pulled written = (front : List ℕ) × IsFront front pulled × m.spent front × m.part front written
@@ -37,13 +55,3 @@ IsEndStop m Limit pulled written = ⊥
 abbrev pub StopsAtEnd : Meaning → Stop → Option (List ℕ) → Option (List ℕ) → List ℕ → List ℕ → Type 0
 StopsAtEnd m stop old new pulled written =
     (more : List ℕ) × Appends old new more × IsEndStop m stop pulled (written ++ more)
-
--- why a job stops along its input, of which this is left: at some of the bytes pulled, or at their end. A pull that
--- failed stops it at neither a fault nor a limit
-abbrev pub StopsAlong : Meaning → Stop → Option (List ℕ) → List ℕ → List ℕ → Type 0
-StopsAlong m ReadFault left pulled written = IsTrue m.reads × Shows m good pulled × m.part pulled written
-StopsAlong m (Refused fault) left pulled written =
-    IsStop m (Refused fault) pulled written ⊎ (IsEnd m left × IsEndStop m (Refused fault) pulled written)
-StopsAlong m WriteFault left pulled written =
-    IsStop m WriteFault pulled written ⊎ (IsEnd m left × IsEndStop m WriteFault pulled written)
-StopsAlong m Limit left pulled written = IsStop m Limit pulled written

@@ -3,7 +3,7 @@ ghost use Rattle.std.specs.Prelude.{◌≡◌, ◌++◌, ◌+◌, ◌≤◌, ◌
 ghost use Rattle.std.specs.Io.KnownBytes.{Appends};
 ghost use Rattle.tc_io.specs.Source.{Rose};
 ghost use Rattle.tc_io.specs.Sink.{AppendsFront};
-ghost use Rattle.tc_command.specs.Notes.{usage_note, stop_note, refused_note, chase_note, row_note};
+ghost use Rattle.tc_command.specs.Notes.{usage_note, stop_note, chase_note};
 
 use crate::input_fault::InputFault;
 use crate::stop::{ChaseStop, Stop};
@@ -61,7 +61,7 @@ pub fn usage_note(fault: WordsFault) -> Text
 
 #[tactic(auto, using(crate::proofs::Digits::digits_of_any))]
 fn refused_note(fault: InputFault) -> Text
-    ensures { result.items ≡ refused_note fault }
+    ensures { result.items ≡ stop_note (Stop.Refused fault) }
 {
     let mut line = line_of(b"tc: refused: ");
     push_bytes(&mut line, fault.name().as_bytes());
@@ -73,7 +73,7 @@ fn refused_note(fault: InputFault) -> Text
 
 #[tactic(auto, using(crate::proofs::Digits::digits_of_any))]
 fn row_note(fault: RowFault) -> Text
-    ensures { result.items ≡ row_note fault }
+    ensures { result.items ≡ chase_note (ChaseStop.Refused fault) }
 {
     let mut line = line_of(b"tc: refused: row ");
     push_number(&mut line, fault.row);

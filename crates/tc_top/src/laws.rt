@@ -11,7 +11,7 @@ ghost use Rattle.tc_command.specs.declared.status.Status.{Status};
 ghost use Rattle.tc_command.specs.Command.{IsCommand};
 ghost use Rattle.tc_command.specs.Exchange.{Exchange};
 ghost use Rattle.tc_command.specs.Meaning.{Meaning, IsInput};
-ghost use Rattle.tc_command.specs.WholeInput.{HasStatus, status_on};
+ghost use Rattle.tc_command.specs.WholeInput.{HasStatus, status_by};
 ghost use Rattle.interval_commands.specs.LtcRead.{last_line, lines};
 ghost use Rattle.frame_commands.specs.LtcChase.{ChasesTheInput};
 ghost use Rattle.made_commands.specs.Made.{made, made_cells, made_events, made_header};
@@ -69,7 +69,7 @@ pub fn an_input_has_one_status()
         → HasStatus (meaning_of job) input b → a ≡ b }
     ensures file { (job : Job) (input : List ℕ) (status : Status) → ¬ HasOwnLimit job
         → HasStatus (meaning_of job) input status
-        → status ≡ status_on (meaning_of job) input }
+        → status ≡ status_by (Meaning.verdict (meaning_of job) input) (Meaning.end_fault (meaning_of job) input) }
 {}
 
 /// Of reports, frames, copies, traces, conversions, and what is made, the promise alone names the bytes: whoever

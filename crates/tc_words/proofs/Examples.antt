@@ -4,7 +4,7 @@ use Rattle.tc_job.specs.declared.job.Job.TheVariants.{LtcRead}
 use Rattle.tc_job.specs.declared.job.Task.TheVariants.{Stream}
 use Rattle.tc_job.specs.declared.fault.WordsFault.TheVariants.{Dash, Command, CountOfWords, Value}
 use Rattle.tc_words.specs.Words.{answer_to}
-use Rattle.tc_words.specs.Words.{answer_to, number}
+use Rattle.tc_words.specs.Words.{number}
 use Rattle.tc_words.specs.Values.{count_in, number_spelled}
 
 no_word : answer_to [] ≡ Err Command

@@ -1,5 +1,5 @@
 -- One to twenty digits are what std reads as a number, since no sign stands before them.
-use Rattle.std.proofs.Common.{◌≡◌, ◌≢◌, ◌<◌, ◌&&◌, ◌^◌, ℕ, Bool, true, false, refl, ap, arith, List}
+use Rattle.std.proofs.Common.{◌≡◌, ◌≢◌, ◌<◌, ◌&&◌, ◌^◌, ℕ, true, refl, ap, arith}
 use Rattle.std.proofs.Common.{[], ◌∷◌, Some, Result, Ok, Err, inl, inr, length, le-ltb, lt-ltb}
 use Rattle.std.specs.Prelude.{nat_le, nat_lt}
 use Rattle.std.specs.Char.{is_ascii_digit}

@@ -1,19 +1,16 @@
 -- How the frames of a recording are had, as words say it.
-use Rattle.std.specs.Prelude.{ℕ, List, [], ◌∷◌, Option, Some, Result, Ok, Err}
+use Rattle.std.specs.Prelude.{List, [], ◌∷◌, Option, Some, Result, Ok, Err}
 use Rattle.biphase.specs.declared.profile.Profile.{Profile}
 use Rattle.biphase.specs.declared.profile.Profile.TheVariants.{Normal}
 use Rattle.tc_job.specs.declared.fault.WordsFault.{WordsFault}
 use Rattle.tc_job.specs.declared.fault.WordsFault.TheVariants.{CountOfWords}
 use Rattle.tc_job.specs.declared.flight.Flight.{Flight}
-use Rattle.tc_words.specs.Values.{Word, limit_in, tolerance_in, value_or}
+use Rattle.tc_words.specs.Values.{Word, between, tolerance_in, value_or}
 
--- at most so many invented frames in a row, between words that are read under this tolerance
-abbrev pub flight_of : ℕ → Profile → Flight
-flight_of limit profile = record { limit = limit; profile = profile }
-
--- the flight of a limit, and of the tolerance that the second word says, where it says one
+-- at most so many invented frames in a row as the first word says, between words that are read under this tolerance
 unfoldable pub flight_with : Word → Option Profile → Result Flight WordsFault
-flight_with limit profile = value_or 1 (limit_in limit) (λ n. value_or 2 profile (λ p. Ok (flight_of n p)))
+flight_with limit profile =
+    value_or 1 (between 0 255 limit) (λ n. value_or 2 profile (λ p. Ok (record { limit = n; profile = p })))
 
 -- `LIMIT [worn|rough]`: without the last word it is the normal tolerance
 unfoldable pub flight_in : List Word → Result Flight WordsFault

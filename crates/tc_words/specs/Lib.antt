@@ -5,7 +5,5 @@ pub mod Flight
 pub mod Live
 pub mod LtcChase
 pub mod LtcMake
-pub mod LtcPcm
 pub mod PcmLtc
-pub mod VitcMake
 pub mod WavLtc

@@ -1,14 +1,16 @@
 -- The table of usages beside the commands: it has a row for each, and no other.
-use Rattle.std.specs.Prelude.{◌≡◌, Bool, true, false, List, [], Err}
+use Rattle.std.specs.Prelude.{◌≡◌, Bool, true, false, List, [], Err, Result}
 use Rattle.std.specs.List.{list_all, list_any}
 use Rattle.std.specs.Str.{bytes_eq}
+use Rattle.tc_job.specs.declared.fault.WordsFault.{WordsFault}
+use Rattle.tc_job.specs.declared.job.Task.{Task}
 use Rattle.tc_job.specs.declared.fault.WordsFault.TheVariants.{Command}
 use Rattle.tc_job.specs.declared.usages.TheConstants.{USAGES}
-use Rattle.tc_words.specs.Words.{TaskAnswer, task_of}
+use Rattle.tc_words.specs.Words.{task_of}
 use Rattle.tc_words.specs.Values.{Word}
 
 -- the answer is another than that the word names no command
-abbrev pub is_known : TaskAnswer → Bool
+abbrev pub is_known : Result Task WordsFault → Bool
 is_known (Err Command) = false
 is_known _ = true
 

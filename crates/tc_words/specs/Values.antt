@@ -1,6 +1,6 @@
 -- What a word says as a value.
-use Rattle.std.specs.Prelude.{ℕ, ◌^◌, Bool, ◌&&◌, List, length, Option, Some, None, if◌then◌else◌, nat_lt, nat_le}
-use Rattle.std.specs.Prelude.{Result, Err, codes, slice_get, option_and_then}
+use Rattle.std.specs.Prelude.{ℕ, ◌^◌, Bool, ◌&&◌, List, [], ◌∷◌, length, Option, Some, None, if◌then◌else◌, nat_lt}
+use Rattle.std.specs.Prelude.{nat_le, Result, Ok, Err, codes, slice_get, option_and_then}
 use Rattle.std.specs.Char.{is_ascii_digit}
 use Rattle.std.specs.List.{list_all}
 use Rattle.std.specs.Str.{bytes_eq}
@@ -14,7 +14,6 @@ use Rattle.tc_address.specs.declared.direction.Direction.TheVariants.{Forward, B
 use Rattle.tc_address.specs.declared.system.System.{System}
 use Rattle.tc_address.specs.declared.system.System.TheVariants.{F24, F25, F30}
 use Rattle.tc_address.specs.Label.{Address, labels}
-use Rattle.tc_address.specs.Spelling.{label_in}
 use Rattle.interval_file.specs.declared.header.FileVersion.{FileVersion}
 use Rattle.interval_file.specs.declared.header.FileVersion.TheVariants.{One, Two}
 use Rattle.tc_job.specs.declared.fault.WordsFault.{WordsFault}
@@ -24,32 +23,22 @@ use Rattle.tc_job.specs.declared.fault.WordsFault.TheVariants.{Value}
 abbrev pub Word : Type 0
 Word = List ℕ
 
+-- the value of a word by a table of words
+abbrev pub value_in : {X : Type 0} → List (Word × X) → Word → Option X
+value_in [] word = None
+value_in (row ∷ rows) word = if bytes_eq word row.0 then Some row.1 else value_in rows word
+
 -- `24`, `25`, `30` or `30d`
 unfoldable pub count_in : Word → Option Count
-count_in word =
-    if bytes_eq word (codes "24") then Some C24
-    else if bytes_eq word (codes "25") then Some C25
-    else if bytes_eq word (codes "30") then Some C30
-    else if bytes_eq word (codes "30d") then Some Drop30
-    else None
+count_in word = value_in ((codes "24", C24) ∷ (codes "25", C25) ∷ (codes "30", C30) ∷ (codes "30d", Drop30) ∷ []) word
 
 -- a count whose pictures have lines of time code: not `24`
-abbrev pub with_lines : Count → Option Count
-with_lines C24 = None
-with_lines C25 = Some C25
-with_lines C30 = Some C30
-with_lines Drop30 = Some Drop30
-
 unfoldable pub count_with_lines : Word → Option Count
-count_with_lines word = option_and_then with_lines (count_in word)
+count_with_lines word = value_in ((codes "25", C25) ∷ (codes "30", C30) ∷ (codes "30d", Drop30) ∷ []) word
 
 -- `24`, `25` or `30`
 unfoldable pub system_in : Word → Option System
-system_in word =
-    if bytes_eq word (codes "24") then Some F24
-    else if bytes_eq word (codes "25") then Some F25
-    else if bytes_eq word (codes "30") then Some F30
-    else None
+system_in word = value_in ((codes "24", F24) ∷ (codes "25", F25) ∷ (codes "30", F30) ∷ []) word
 
 -- one to twenty digits
 abbrev pub is_number : Word → Bool
@@ -60,45 +49,38 @@ unfoldable pub number_spelled : Word → Option ℕ
 number_spelled word =
     if is_number word && nat_lt (digits_value 10 word) (2 ^ 64) then Some (digits_value 10 word) else None
 
--- a number up to 255
-unfoldable pub limit_in : Word → Option ℕ
-limit_in word = option_and_then (λ n. if nat_le n 255 then Some n else None) (number_spelled word)
-
--- a tolerance other than the normal one: `worn` or `rough`
-unfoldable pub tolerance_in : Word → Option Profile
-tolerance_in word =
-    if bytes_eq word (codes "worn") then Some Worn
-    else if bytes_eq word (codes "rough") then Some Rough
-    else None
-
--- `forward` or `backward`
-unfoldable pub direction_in : Word → Option Direction
-direction_in word =
-    if bytes_eq word (codes "forward") then Some Forward
-    else if bytes_eq word (codes "backward") then Some Backward
-    else None
-
 -- a number of this range
 unfoldable pub between : ℕ → ℕ → Word → Option ℕ
 between least greatest word =
     option_and_then (λ n. if nat_le least n && nat_le n greatest then Some n else None) (number_spelled word)
 
+-- a tolerance other than the normal one: `worn` or `rough`
+unfoldable pub tolerance_in : Word → Option Profile
+tolerance_in word = value_in ((codes "worn", Worn) ∷ (codes "rough", Rough) ∷ []) word
+
+-- `forward` or `backward`
+unfoldable pub direction_in : Word → Option Direction
+direction_in word = value_in ((codes "forward", Forward) ∷ (codes "backward", Backward) ∷ []) word
+
 -- a version of the interval file: `1` or `2`
 unfoldable pub version_in : Word → Option FileVersion
-version_in word =
-    if bytes_eq word (codes "1") then Some One
-    else if bytes_eq word (codes "2") then Some Two
-    else None
-
--- the label of the count that is spelled so
-unfoldable pub spelled : Count → Word → Option Address
-spelled = label_in
+version_in word = value_in ((codes "1", One) ∷ (codes "2", Two) ∷ []) word
 
 -- the label that has this number in the day of the count
 unfoldable pub numbered : Count → Word → Option Address
 numbered count word = option_and_then (slice_get (labels count)) (number_spelled word)
 
+-- what a word says that need not be there: this, where it is not
+abbrev pub read_or : {X : Type 0} → X → (Word → Option X) → Option Word → Option X
+read_or default read None = Some default
+read_or default read (Some word) = read word
+
 -- what follows from a value, and the fault of its word where it has none
 abbrev pub value_or : {X Y : Type 0} → ℕ → Option X → (X → Result Y WordsFault) → Result Y WordsFault
 value_or place None next = Err (Value place)
 value_or place (Some value) next = next value
+
+-- what is made of a value, where there is no fault
+abbrev pub map_ok : {X Y : Type 0} → (X → Y) → Result X WordsFault → Result Y WordsFault
+map_ok make (Ok value) = Ok (make value)
+map_ok make (Err fault) = Err fault

@@ -1,72 +1,29 @@
 //! The values of `ltc-make`, word by word. Next: `tc_job/src/stripe.rt`, which holds them.
-ghost use Rattle.std.specs.Prelude.{◌≡◌, IfOk, IfSome};
-ghost use Rattle.biphase.specs.Shape.{shape_with, IsShape, IsShaped};
-ghost use Rattle.tc_words.specs.LtcMake.{at_one_length, made_job, moving, shaped_to, tape_in, AreTapeValues};
+ghost use Rattle.std.specs.Prelude.{◌≡◌, ◌≤◌, ◌/◌, min, IfSome};
+ghost use Rattle.std.specs.Option.{option_copied};
+ghost use Rattle.biphase.specs.Shape.{IsShape, IsShaped, shape_with};
+ghost use Rattle.biphase.specs.declared.shaper.TheConstants.{MIN_SHAPED, MAX_SHAPED};
+ghost use Rattle.tc_words.specs.LtcMake.{striped};
+ghost use Rattle.tc_words.specs.Values.{between, read_or};
 
 use crate::values::{between, count_in, direction_in, spelled};
 use biphase::{MAX_SHAPED, MIN_SHAPED, Shaper};
-use tc_address::{Direction, Label};
 use tc_job::{Job, MAX_FRAMES, MAX_TICK_RATE, Stripe, WordsFault};
 
-/// The values of the first six words.
-#[derive(Clone, Copy)]
-struct TapeValues {
-    direction: Direction,
-    label: Label,
-    frames: u32,
-    /// The length of the first cell, in ticks.
-    cell: u32,
-    tick_rate: u32,
-}
-
-/// The job of six words: cells of one length.
-#[tactic(auto, unfolding(crate::specs::LtcMake::at_one_length))]
-pub(crate) fn at_one_length(
+/// The job of six words, and of the two behind them where they are there.
+#[tactic(auto, unfolding(crate::specs::LtcMake::striped))]
+pub(crate) fn striped(
     count: &str,
     direction: &str,
     label: &str,
     frames: &str,
     cell: &str,
     tick_rate: &str,
+    to_cell: Option<&str>,
+    step: Option<&str>,
 ) -> Result<Job, WordsFault>
-    ensures { result ≡ at_one_length count.now direction.now label.now frames.now cell.now tick_rate.now }
-{
-    let tape = tape_in(count, direction, label, frames, cell, tick_rate)?;
-    Ok(tape.job(steady(tape.cell)))
-}
-
-/// The job of eight words: cells whose length moves to another one by a step.
-#[tactic(auto, unfolding(crate::specs::LtcMake::moving))]
-pub(crate) fn moving(
-    count: &str,
-    direction: &str,
-    label: &str,
-    frames: &str,
-    cell: &str,
-    tick_rate: &str,
-    to_cell: &str,
-    step: &str,
-) -> Result<Job, WordsFault>
-    ensures { result ≡ moving count.now direction.now label.now frames.now cell.now tick_rate.now to_cell.now step.now }
-{
-    let tape = tape_in(count, direction, label, frames, cell, tick_rate)?;
-    let to_cell = between(MIN_SHAPED, MAX_SHAPED, to_cell).ok_or(WordsFault::Value(7))?;
-    let shaper = shaper_to(tape.cell, to_cell, step).ok_or(WordsFault::Value(8))?;
-    Ok(tape.job(shaper))
-}
-
-/// The values of the first six words, or the first fault of them.
-#[tactic(auto, unfolding(crate::specs::LtcMake::tape_in))]
-fn tape_in(
-    count: &str,
-    direction: &str,
-    label: &str,
-    frames: &str,
-    cell: &str,
-    tick_rate: &str,
-) -> Result<TapeValues, WordsFault>
-    ensures value { result ≡ tape_in count.now direction.now label.now frames.now cell.now tick_rate.now }
-    ensures valid { IfOk result AreTapeValues }
+    ensures { result ≡ striped count.now direction.now label.now frames.now cell.now tick_rate.now
+        (option_copied to_cell.entry) (option_copied step.entry) }
 {
     let count = count_in(count).ok_or(WordsFault::Value(1))?;
     let direction = direction_in(direction).ok_or(WordsFault::Value(2))?;
@@ -74,57 +31,47 @@ fn tape_in(
     let frames = between(1, MAX_FRAMES, frames).ok_or(WordsFault::Value(4))?;
     let cell = between(MIN_SHAPED, MAX_SHAPED, cell).ok_or(WordsFault::Value(5))?;
     let tick_rate = between(1, MAX_TICK_RATE, tick_rate).ok_or(WordsFault::Value(6))?;
-    Ok(TapeValues {
-        direction,
-        label,
-        frames,
-        cell,
-        tick_rate,
+    let to_cell = length_or(cell, to_cell).ok_or(WordsFault::Value(7))?;
+    let step = step_or_none(cell, to_cell, step).ok_or(WordsFault::Value(8))?;
+    let shaper = shaper_with(cell, to_cell, step);
+    Ok(Job::LtcMake {
+        stripe: Stripe::new(direction, label, frames, shaper, tick_rate),
     })
 }
 
-impl TapeValues {
-    /// The job of making it with these cells.
-    fn job(self, shaper: Shaper) -> Job
-        requires tape { AreTapeValues self }
-        requires shape { IsShape shaper }
-        ensures { result ≡ made_job self shaper }
-    {
-        Job::LtcMake {
-            stripe: Stripe::new(
-                self.direction,
-                self.label,
-                self.frames,
-                shaper,
-                self.tick_rate,
-            ),
-        }
-    }
-}
-
-/// The cells of one length.
-fn steady(cell: u32) -> Shaper
+/// The length to which the cells move, and without a word that of the first.
+fn length_or(cell: u32, word: Option<&str>) -> Option<u32>
     requires { IsShaped cell }
-    ensures value { result ≡ shape_with cell cell 0 }
-    ensures valid { IsShape result }
+    ensures value { result ≡ read_or cell (between MIN_SHAPED MAX_SHAPED) (option_copied word.entry) }
+    ensures valid { IfSome result IsShaped }
 {
-    match Shaper::new(cell, cell, 0) {
-        Ok(shaper) => shaper,
-        Err(_) => unreachable!(),
+    match word {
+        None => Some(cell),
+        Some(word) => between(MIN_SHAPED, MAX_SHAPED, word),
     }
 }
 
-/// The cells from one length to another by a step, where the step is at most an eighth of the lesser.
-#[tactic(auto, unfolding(crate::specs::LtcMake::shaped_to))]
-fn shaper_to(from: u32, to: u32, step: &str) -> Option<Shaper>
+/// The step, which is at most an eighth of the lesser length, and without a word none.
+fn step_or_none(from: u32, to: u32, word: Option<&str>) -> Option<u32>
+    ensures value { result ≡ read_or 0 (between 0 (min from to / 8)) (option_copied word.entry) }
+    ensures range { IfSome result (λ n. n ≤ min from to / 8) }
+{
+    match word {
+        None => Some(0),
+        Some(word) => between(0, from.min(to) / 8, word),
+    }
+}
+
+/// The cells from one length to another by a step.
+fn shaper_with(from: u32, to: u32, step: u32) -> Shaper
     requires from { IsShaped from }
     requires to { IsShaped to }
-    ensures value { result ≡ shaped_to from to step.now }
-    ensures valid { IfSome result IsShape }
+    requires step { step ≤ min from to / 8 }
+    ensures value { result ≡ shape_with from to step }
+    ensures valid { IsShape result }
 {
-    let step = between(0, from.min(to) / 8, step)?;
     match Shaper::new(from, to, step) {
-        Ok(shaper) => Some(shaper),
+        Ok(shaper) => shaper,
         Err(_) => unreachable!(),
     }
 }

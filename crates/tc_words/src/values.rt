@@ -2,11 +2,12 @@
 ghost use Rattle.std.specs.Prelude.{◌≡◌, ◌≤◌, IfSome};
 ghost use Rattle.std.specs.Char.{is_ascii_digit};
 ghost use Rattle.std.specs.List.{list_all};
-ghost use Rattle.tc_words.specs.Values.{between, count_in, count_with_lines, direction_in, is_number, limit_in};
-ghost use Rattle.tc_words.specs.Values.{number_spelled, numbered, spelled};
+ghost use Rattle.tc_words.specs.Values.{between, count_in, count_with_lines, direction_in, is_number};
+ghost use Rattle.tc_words.specs.Values.{number_spelled, numbered};
 ghost use Rattle.tc_words.specs.Values.{system_in, tolerance_in, version_in};
 ghost use Rattle.tc_address.specs.Count.{system_with};
 ghost use Rattle.tc_address.specs.Label.{IsLabel};
+ghost use Rattle.tc_address.specs.Spelling.{label_in};
 ghost use Rattle.vitc_line.specs.Places.{HasLines};
 
 use biphase::Profile;
@@ -33,9 +34,11 @@ pub fn count_with_lines(word: &str) -> Option<Count>
     ensures value { result ≡ count_with_lines word.now }
     ensures valid { IfSome result (λ count. HasLines (system_with count)) }
 {
-    match count_in(word)? {
-        Count::C24 => None,
-        count => Some(count),
+    match word {
+        "25" => Some(Count::C25),
+        "30" => Some(Count::C30),
+        "30d" => Some(Count::Drop30),
+        _ => None,
     }
 }
 
@@ -77,16 +80,11 @@ fn are_digits(bytes: &[u8]) -> bool
 }
 
 /// A number of frames from 0 to 255.
-#[tactic(auto, unfolding(crate::specs::Values::limit_in))]
 pub fn limit_in(word: &str) -> Option<u8>
-    ensures { result ≡ limit_in word.now }
+    ensures { result ≡ between 0 255 word.now }
 {
-    let number = number_spelled(word)?;
-    if number <= 255 {
-        Some(number as u8)
-    } else {
-        None
-    }
+    let number = between(0, 255, word)?;
+    Some(number as u8)
 }
 
 /// A tolerance other than the normal one: `worn`, that of worn recordings, or `rough`, that of hissy and
@@ -141,9 +139,8 @@ pub fn version_in(word: &str) -> Option<FileVersion>
 }
 
 /// The label of the count that is spelled so.
-#[tactic(auto, unfolding(crate::specs::Values::spelled))]
 pub fn spelled(count: Count, word: &str) -> Option<Label>
-    ensures value { result ≡ spelled count word.now }
+    ensures value { result ≡ label_in count word.now }
     ensures valid { IfSome result IsLabel }
     ensures count { IfSome result (λ label. label.count ≡ count) }
 {

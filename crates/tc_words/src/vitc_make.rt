@@ -1,21 +1,25 @@
 //! The values of `vitc-make`, word by word. Next: `tc_job/src/line_stripe.rt`, which holds
 //! them.
-ghost use Rattle.std.specs.Prelude.{◌≡◌};
-ghost use Rattle.tc_words.specs.VitcMake.{in_lines};
+ghost use Rattle.std.specs.Prelude.{◌≡◌, Ok};
+ghost use Rattle.tc_address.specs.Spelling.{label_in};
+ghost use Rattle.tc_job.specs.LineStripe.{line_stripe_of};
+ghost use Rattle.tc_words.specs.Values.{between, count_with_lines, value_or};
 
 use crate::values::{between, count_with_lines, spelled};
 use tc_job::{Job, LineStripe, MAX_FRAMES, WordsFault};
 use vitc_reader::{MAX_LINE_LENGTH, MIN_LINE_LENGTH};
 
 /// The job of four words, or their first fault.
-#[tactic(auto, unfolding(crate::specs::VitcMake::in_lines))]
 pub(crate) fn in_lines(
     count: &str,
     label: &str,
     frames: &str,
     length: &str,
 ) -> Result<Job, WordsFault>
-    ensures { result ≡ in_lines count.now label.now frames.now length.now }
+    ensures { result ≡ value_or 1 (count_with_lines count.now) (λ c. value_or 2 (label_in c label.now) (λ l.
+        value_or 3 (between 1 MAX_FRAMES frames.now) (λ f.
+        value_or 4 (between MIN_LINE_LENGTH MAX_LINE_LENGTH length.now) (λ n.
+        Ok (Job.VitcMake (line_stripe_of l f n)))))) }
 {
     let count = count_with_lines(count).ok_or(WordsFault::Value(1))?;
     let label = spelled(count, label).ok_or(WordsFault::Value(2))?;

@@ -2,7 +2,10 @@
 //! `tc_job/src/job.rt`.
 ghost use Rattle.std.specs.Prelude.{◌≡◌, ◌⊎◌, map, position, string_bytes, alloc_error};
 ghost use Rattle.command_words.specs.CommandLine.{begins_with_dash};
-ghost use Rattle.tc_words.specs.Words.{answer_to, without_dashes, job_of, no_values, ltc_fly, ltc_spans, ltc_mtc};
+ghost use Rattle.tc_job.specs.declared.job.Job.TheVariants as jobs;
+ghost use Rattle.tc_words.specs.Flight.{flight_in};
+ghost use Rattle.tc_words.specs.Values.{map_ok};
+ghost use Rattle.tc_words.specs.Words.{answer_to, without_dashes, job_of, no_values};
 ghost use Rattle.tc_words.specs.Words.{ltc_jam, ltc_chase, number, label_of, ltc_make};
 ghost use Rattle.tc_words.specs.Words.{ltc_convert, pcm_ltc, wav_ltc, ltc_pcm, task_of, chase, ltc_load, vitc_make};
 ghost use Rattle.tc_words.specs.Words.{jammed};
@@ -10,20 +13,19 @@ ghost use Rattle.tc_words.specs.Words.{jammed};
 use crate::flight::flight_in;
 use crate::live::live_in;
 use crate::ltc_chase::chased;
-use crate::ltc_make::{at_one_length, moving};
-use crate::ltc_pcm::level_in;
-use crate::pcm_ltc::{
-    following_or_summing, in_samples, samples_or_ticks, summing, ticks_or_following,
-};
+use crate::ltc_make::striped;
+use crate::pcm_ltc::{five_words, four_words, six_words, sliced};
 use crate::values::{
     between, count_in, limit_in, number_spelled, numbered, spelled, tolerance_in, version_in,
 };
 use crate::vitc_make::in_lines;
-use crate::wav_ltc::{in_dull_wave, in_wave, smooth_or_dull, wave_or_smooth};
+use crate::wav_ltc::{five_wave_words, four_wave_words, sliced_track};
 use biphase::{MAX_SHAPED, MIN_SHAPED, Profile};
 use command_words::CommandLine;
 use std::alloc::Global;
-use tc_job::{Flight, Jam, Job, LoadRun, MAX_TICK_RATE, MAX_WORDS, Task, WordsFault};
+use tc_job::{
+    Flight, Jam, Job, LoadRun, MAX_LEVEL, MAX_TICK_RATE, MAX_WORDS, SoundLevel, Task, WordsFault,
+};
 
 /// The task of the words, or their first fault. Word 0 is the command.
 pub fn read_words(alloc: Global, words: &[String]) -> Result<Task, WordsFault>
@@ -127,27 +129,24 @@ fn no_values(values: &[&str], job: Job) -> Result<Job, WordsFault>
 }
 
 // `ltc-fly LIMIT [worn|rough]`
-#[tactic(auto, unfolding(crate::specs::Words::ltc_fly))]
 fn ltc_fly(values: &[&str]) -> Result<Job, WordsFault>
-    ensures { result ≡ ltc_fly (map (λ v. v.now) values.now) }
+    ensures { result ≡ map_ok (λ flight. jobs.LtcFly flight) (flight_in (map (λ v. v.now) values.now)) }
 {
     let flight = flight_in(values)?;
     Ok(Job::LtcFly { flight })
 }
 
-// `ltc-spans LIMIT [worn]`
-#[tactic(auto, unfolding(crate::specs::Words::ltc_spans))]
+// `ltc-spans LIMIT [worn|rough]`
 fn ltc_spans(values: &[&str]) -> Result<Job, WordsFault>
-    ensures { result ≡ ltc_spans (map (λ v. v.now) values.now) }
+    ensures { result ≡ map_ok (λ flight. jobs.LtcSpans flight) (flight_in (map (λ v. v.now) values.now)) }
 {
     let flight = flight_in(values)?;
     Ok(Job::LtcSpans { flight })
 }
 
 // `ltc-mtc LIMIT [worn|rough]`
-#[tactic(auto, unfolding(crate::specs::Words::ltc_mtc))]
 fn ltc_mtc(values: &[&str]) -> Result<Job, WordsFault>
-    ensures { result ≡ ltc_mtc (map (λ v. v.now) values.now) }
+    ensures { result ≡ map_ok (λ flight. jobs.LtcMtc flight) (flight_in (map (λ v. v.now) values.now)) }
 {
     let flight = flight_in(values)?;
     Ok(Job::LtcMtc { flight })
@@ -211,7 +210,7 @@ fn ltc_make(values: &[&str]) -> Result<Job, WordsFault>
 {
     match values {
         [count, direction, label, frames, cell, tick_rate] => {
-            at_one_length(count, direction, label, frames, cell, tick_rate)
+            striped(count, direction, label, frames, cell, tick_rate, None, None)
         }
         [
             count,
@@ -222,9 +221,13 @@ fn ltc_make(values: &[&str]) -> Result<Job, WordsFault>
             tick_rate,
             to_cell,
             step,
-        ] => moving(
-            count, direction, label, frames, cell, tick_rate, to_cell, step,
-        ),
+        ] => {
+            let to_cell = Some(*to_cell);
+            let step = Some(*step);
+            striped(
+                count, direction, label, frames, cell, tick_rate, to_cell, step,
+            )
+        }
         _ => Err(WordsFault::CountOfWords),
     }
 }
@@ -262,17 +265,22 @@ fn pcm_ltc(values: &[&str]) -> Result<Job, WordsFault>
     ensures { result ≡ pcm_ltc (map (λ v. v.now) values.now) }
 {
     match values {
-        [system, rate, threshold] => in_samples(system, rate, threshold, false),
-        [system, rate, threshold, last] => samples_or_ticks(system, rate, threshold, last),
+        [system, rate, threshold] => {
+            sliced(system, rate, threshold, None, None, None, Some(false))
+        }
+        [system, rate, threshold, last] => four_words(system, rate, threshold, last),
         [system, rate, threshold, fineness, last] => {
-            ticks_or_following(system, rate, threshold, fineness, last)
+            five_words(system, rate, threshold, fineness, last)
         }
         [system, rate, threshold, fineness, follow, last] => {
-            following_or_summing(system, rate, threshold, fineness, follow, last)
+            six_words(system, rate, threshold, fineness, follow, last)
         }
         [system, rate, threshold, fineness, follow, smooth, last] => {
+            let fineness = Some(*fineness);
+            let follow = Some(*follow);
+            let smooth = Some(*smooth);
             let live = live_in(last);
-            summing(system, rate, threshold, fineness, follow, smooth, live)
+            sliced(system, rate, threshold, fineness, follow, smooth, live)
         }
         _ => Err(WordsFault::CountOfWords),
     }
@@ -284,14 +292,18 @@ fn wav_ltc(values: &[&str]) -> Result<Job, WordsFault>
     ensures { result ≡ wav_ltc (map (λ v. v.now) values.now) }
 {
     match values {
-        [system, track, threshold] => in_wave(system, track, threshold, false),
-        [system, track, threshold, last] => wave_or_smooth(system, track, threshold, last),
+        [system, track, threshold] => {
+            sliced_track(system, track, threshold, None, None, Some(false))
+        }
+        [system, track, threshold, last] => four_wave_words(system, track, threshold, last),
         [system, track, threshold, smooth, last] => {
-            smooth_or_dull(system, track, threshold, smooth, last)
+            five_wave_words(system, track, threshold, smooth, last)
         }
         [system, track, threshold, smooth, deep, last] => {
+            let smooth = Some(*smooth);
+            let deep = Some(*deep);
             let live = live_in(last);
-            in_dull_wave(system, track, threshold, smooth, deep, live)
+            sliced_track(system, track, threshold, smooth, deep, live)
         }
         _ => Err(WordsFault::CountOfWords),
     }
@@ -305,8 +317,10 @@ fn ltc_pcm(values: &[&str]) -> Result<Job, WordsFault>
     let [level] = values else {
         return Err(WordsFault::CountOfWords);
     };
-    let level = level_in(level).ok_or(WordsFault::Value(1))?;
-    Ok(Job::LtcPcm { level })
+    let level = between(1, MAX_LEVEL, level).ok_or(WordsFault::Value(1))?;
+    Ok(Job::LtcPcm {
+        level: SoundLevel::new(level as u16),
+    })
 }
 
 // `vitc-make COUNT LABEL FRAMES LENGTH`

@@ -16,9 +16,4 @@ name_of (Truncated place) = TRUNCATED_NAME.now
 
 -- the byte place of a fault
 abbrev pub place_of : WaveFault → ℕ
-place_of (Riff place) = place
-place_of (Wave place) = place
-place_of (Ds64 place) = place
-place_of (Format place) = place
-place_of (Track place) = place
-place_of (Truncated place) = place
+place_of fault = elim fault [ Riff p ↦ p | Wave p ↦ p | Ds64 p ↦ p | Format p ↦ p | Track p ↦ p | Truncated p ↦ p ]

@@ -14,7 +14,7 @@ returns-in-Ok-clause-answer g c =
       e.4,
       record { front = ([], ([], refl), Appends-nil _); all = λ _. Appends-nil _ },
       record {
-        ends = record { rows = e.2; traced = e.5; lock = e.6; note = refl };
+        ends = record { rows = e.2; script = e.5.script; text = e.5.text; lock = e.6; note = refl };
         first = trace_first c.args.label.now went e.2 e.5;
       },
     )

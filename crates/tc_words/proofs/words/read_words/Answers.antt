@@ -1,8 +1,17 @@
 use Rattle.std.proofs.Common.{◌∙◌, map, string_bytes, sym, ap, inl, inr}
 use Rattle.command_words.specs.CommandLine.{begins_with_dash}
-use Rattle.tc_words.specs.Words.{after_dashes}
+use Rattle.std.proofs.Common.{ℕ, List, Some, None, Err}
+use Rattle.std.specs.declared.option.Option.{Option}
+use Rattle.std.specs.declared.result.Result.{Result}
+use Rattle.tc_job.specs.declared.job.Task.{Task}
+use Rattle.tc_job.specs.declared.fault.WordsFault.{WordsFault}
+use Rattle.tc_job.specs.declared.fault.WordsFault.TheVariants.{Dash}
+use Rattle.tc_words.specs.Words.{without_dashes}
 use Rattle.tc_words.proofs.FirstDash.{position-map}
 use Rattle.tc_words.proofs.words.read_words.Goals as goal
+
+abbrev after_dashes : Option ℕ → List (List ℕ) → Result Task WordsFault
+after_dashes dash words = elim dash [ Some place ↦ Err (Dash place) | None ↦ without_dashes words ]
 
 pub without_dashes-requires : goal.without_dashes-requires
 without_dashes-requires c = position-map begins_with_dash string_bytes c.args.words.now ∙ sym c.first_dash.ensures ∙ c.in-None.is

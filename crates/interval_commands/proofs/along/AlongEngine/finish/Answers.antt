@@ -9,7 +9,7 @@ use Rattle.interval_file.specs.Progress.{Progress}
 use Rattle.interval_file.specs.Decoding.{fault_at_end}
 use Rattle.interval_file.specs.Recording.{recording_of}
 use Rattle.tc_command.specs.declared.input_fault.InputFault.TheVariants.{Intervals}
-use Rattle.interval_commands.specs.Along.{IsWholeBehind}
+use Rattle.interval_commands.specs.KeptBehind.{IsWholeBehind}
 use Rattle.interval_commands.specs.KeptAlong.{Printed, printed_well}
 use Rattle.tc_io.specs.KeptVerdict.{good_too}
 use Rattle.tc_command.specs.KeptWorks.{if_err}
