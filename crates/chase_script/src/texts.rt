@@ -1,5 +1,5 @@
 //! The lines of a trace. Next: `line_text/src/line.rt`.
-ghost use Rattle.std.specs.Prelude.{◌≡◌, ◌+◌, ◌<◌, ◌≤◌, ◌++◌};
+ghost use Rattle.std.specs.Prelude.{◌≡◌, ◌+◌, ◌<◌, ◌≤◌, ◌++◌, codes};
 ghost use Rattle.arrayvec.specs.ArrayVec.{array_vec_len};
 ghost use Rattle.transport_model.specs.Move.{day_of};
 ghost use Rattle.chase_script.specs.TraceText.{state_name, loss_name, position_text, step_line, step_end_line};
@@ -16,15 +16,11 @@ pub fn step_text(step: u64, report: &StepReport, count: Count, position: u32) ->
     let mut line = Text::new();
     push_bytes(&mut line, b"step ");
     push_any_number(&mut line, step);
-    push_bytes(&mut line, b" ");
-    push_bytes(&mut line, state_name(report.state).as_bytes());
-    push_bytes(&mut line, b" error ");
+    push_state(&mut line, report.state);
     push_signed(&mut line, report.error);
     push_bytes(&mut line, b" order ");
     push_signed(&mut line, report.order);
-    push_bytes(&mut line, b" loss ");
-    push_bytes(&mut line, loss_name(report.loss).as_bytes());
-    push_bytes(&mut line, b" at ");
+    push_loss(&mut line, report.loss);
     push_position(&mut line, count, position);
     push_bytes(&mut line, b"\n");
     line
@@ -43,24 +39,31 @@ pub fn step_end_text(steps: u64, losses: u64) -> Text
     line
 }
 
-fn state_name(state: State) -> &'static str
-    ensures { result.now ≡ state_name state }
+/// Appends the name of a state, between the words that stand beside it. Bytes of a known length are
+/// appended without a call.
+fn push_state(line: &mut Text, state: State)
+    requires { array_vec_len line.old + 16 ≤ 128 }
+    ensures items { line.new.items ≡ line.old.items ++ (codes " " ++ state_name state ++ codes " error ") }
+    ensures len { array_vec_len line.new ≤ array_vec_len line.old + 16 }
 {
     match state {
-        State::Waiting => "waiting",
-        State::Locating => "locating",
-        State::Pulling => "pulling",
-        State::Locked => "locked",
+        State::Waiting => push_bytes(line, b" waiting error "),
+        State::Locating => push_bytes(line, b" locating error "),
+        State::Pulling => push_bytes(line, b" pulling error "),
+        State::Locked => push_bytes(line, b" locked error "),
     }
 }
 
-fn loss_name(loss: Option<Loss>) -> &'static str
-    ensures { result.now ≡ loss_name loss }
+/// Appends how the lock was lost, if it was, in the same way.
+fn push_loss(line: &mut Text, loss: Option<Loss>)
+    requires { array_vec_len line.old + 17 ≤ 128 }
+    ensures items { line.new.items ≡ line.old.items ++ (codes " loss " ++ loss_name loss ++ codes " at ") }
+    ensures len { array_vec_len line.new ≤ array_vec_len line.old + 17 }
 {
     match loss {
-        None => "none",
-        Some(Loss::NoCode) => "no-code",
-        Some(Loss::Window(_)) => "window",
+        None => push_bytes(line, b" loss none at "),
+        Some(Loss::NoCode) => push_bytes(line, b" loss no-code at "),
+        Some(Loss::Window(_)) => push_bytes(line, b" loss window at "),
     }
 }
 

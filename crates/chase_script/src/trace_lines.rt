@@ -71,6 +71,7 @@ impl TraceLines {
     }
 
     /// The next line, if there is one. A row is worked when its line is asked for.
+    #[inline(always)]
     pub fn next_line(&mut self) -> Option<Text>
         ensures one { IfSome result (λ line. line.items ≡ first_line self.old) }
         ensures line { IfSome result (λ line. text_left self.old ≡ line.items ++ text_left self.new) }
@@ -89,6 +90,7 @@ impl TraceLines {
     }
 
     /// The line of the next row.
+    #[inline(always)]
     fn step_line(&mut self) -> Text
         requires some { 0 < length self.old.rows }
         requires going { self.old.is_ended ≡ false }

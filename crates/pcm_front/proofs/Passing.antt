@@ -1,7 +1,7 @@
 -- A crossing that is still to come lies behind all ticks that have passed, so the pieces that stand before a distance
 -- ends are the first of its pieces.
 use Rattle.std.proofs.Common.{◌≡◌, ℕ, zero, suc, ◌+◌, ◌-◌, ◌*◌, ◌/◌, ◌<◌, ◌≤◌, ℤ, List, [], ◌∷◌, ◌++◌, length}
-use Rattle.std.proofs.Common.{replicate}
+use Rattle.std.proofs.Common.{replicate, ◌^◌, IfSome}
 use Rattle.std.proofs.Common.{Option, Some, None, refl, sym, ap, ap₂, ◌∙◌, append_assoc, append-nil, mul-suc, arith}
 use Rattle.std.specs.List.{flat_map}
 use Rattle.std.specs.Option.{option_map, option_to_list}
@@ -14,7 +14,7 @@ use Rattle.pcm_front.specs.declared.pace.Pace.{Pace}
 use Rattle.pcm_front.specs.declared.pace.Pace.TheVariants.{Ended, Passing}
 use Rattle.pcm_front.specs.declared.slicer.Slicer.{Slicer}
 use Rattle.pcm_front.specs.Distance.{distances_by, pieces_in}
-use Rattle.pcm_front.specs.Pace.{begun, begun_in, intervals_at, intervals_in, longest, passed_by, passed_since}
+use Rattle.pcm_front.specs.Pace.{begun, begun_in, intervals_at, intervals_in, longest, passed_as, passed_by, passed_since}
 use Rattle.pcm_front.specs.Pace.{ticks_since, IsPace, Passes}
 use Rattle.pcm_front.specs.Settings.{Settings}
 use Rattle.pcm_front.specs.StandsFor.{passed_in, passed_of, settings_of, Finds, StandsFor}
@@ -111,14 +111,30 @@ brought pace s front more distance p before now brings before_is now_is are =
     ∙ grown pace (distances_by s front) distance (intervals_in p) before now are
     ∙ ap (λ n. (flat_map (pieces_in (longest pace)) (distances_by s front) ++ begun pace n) ++ intervals_in p) before_is
 
+-- ---- the ticks, as far as they tell how many pieces stand
+
+pub passes_as : (pace : Pace) (before : ℕ) (distance : Option ℕ) (now first last : ℕ) → first ≡ passed_as pace before
+    → last ≡ passed_as pace now → IfSome distance (λ d. (1 ≤ d) × (d ≤ 2 ^ 62)) → Passes before distance now → Passes first distance last
+passes_as Ended before None now first last first_is last_is range passes = omega arith
+passes_as Ended before (Some d) now first last first_is last_is range passes = omega (arith, range.0)
+passes_as (Passing n) before distance now first last first_is last_is range passes = rw (first_is, last_is) passes
+
+are_as : (pace : Pace) (before : ℕ) (distance : Option ℕ) (now first last : ℕ) (p : Intervals) → first ≡ passed_as pace before
+    → last ≡ passed_as pace now
+    → begun pace first ++ intervals_in p ≡ flat_map (pieces_in (longest pace)) (option_to_list distance) ++ begun pace last
+    → begun pace before ++ intervals_in p ≡ flat_map (pieces_in (longest pace)) (option_to_list distance) ++ begun pace now
+are_as Ended before distance now first last p first_is last_is are = are
+are_as (Passing n) before distance now first last p first_is last_is are = rw (first_is, last_is) at are
+
 -- the same of a slicer that was given them
 pub brought_by : (pace : Pace) (old new : Slicer) (front more : List ℤ) (distance : Option ℕ) (p : Intervals) (before now : ℕ)
-    → settings_of new ≡ settings_of old → before ≡ passed_of old → now ≡ passed_of new → StandsFor old front → StandsFor new (front ++ more)
+    → settings_of new ≡ settings_of old → before ≡ passed_as pace (passed_of old) → now ≡ passed_as pace (passed_of new) → StandsFor old front → StandsFor new (front ++ more)
     → distances_by (settings_of old) (front ++ more) ≡ distances_by (settings_of old) front ++ option_to_list distance
     → begun pace before ++ intervals_in p ≡ flat_map (pieces_in (longest pace)) (option_to_list distance) ++ begun pace now
     → intervals_at pace (settings_of old) (front ++ more) ≡ intervals_at pace (settings_of old) front ++ intervals_in p
 brought_by pace old new front more distance p before now same before_is now_is was is brings are =
-    let first = before_is ∙ passed_is old.finder (sums old.window.smooth front) was.finds in
-    let last = now_is ∙ passed_is new.finder (sums new.window.smooth (front ++ more)) is.finds
+    let first = passed_is old.finder (sums old.window.smooth front) was.finds in
+    let last = passed_is new.finder (sums new.window.smooth (front ++ more)) is.finds
     ∙ ap (λ (s : Settings). passed_by s (front ++ more)) same in
-    brought pace (settings_of old) front more distance p before now brings first last are
+    brought pace (settings_of old) front more distance p (passed_of old) (passed_of new) brings first last
+    (are_as pace (passed_of old) distance (passed_of new) before now p before_is now_is are)

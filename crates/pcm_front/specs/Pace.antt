@@ -48,6 +48,11 @@ abbrev pub begun_in : Pace → ℕ → ℕ
 begun_in Ended passed = 0
 begun_in (Passing length) passed = passed / length
 
+-- the ticks of a distance that has not ended, as far as they tell how many pieces stand
+abbrev pub passed_as : Pace → ℕ → ℕ
+passed_as Ended passed = 0
+passed_as (Passing length) passed = passed
+
 abbrev pub begun : Pace → ℕ → List ℕ
 begun pace passed = replicate (begun_in pace passed) (longest pace)
 

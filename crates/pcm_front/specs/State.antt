@@ -118,12 +118,16 @@ level_in state sample = next_level state.threshold state.level sample
 abbrev pub crossing_in : FinderState → ℤ → Option ℕ
 crossing_in state sample = crossing_after state (threshold_by state.threshold (level_in state sample)) sample
 
+-- what is kept after a sample, at this level and by the threshold there
+abbrev pub after_sum : FinderState → Level → ℕ → ℤ → FinderState
+after_sum state level threshold sample =
+    state_of state.fineness state.threshold state.start (state.tick + state.fineness) sample level
+    (option_or (side_of threshold sample) state.side) (option_or (crossing_after state threshold sample) state.latest)
+
 -- what is kept after a sample
 abbrev pub state_after : FinderState → ℤ → FinderState
 state_after state sample =
-    let side = side_of (threshold_by state.threshold (level_in state sample)) sample in
-    state_of state.fineness state.threshold state.start (state.tick + state.fineness) sample (level_in state sample)
-    (option_or side state.side) (option_or (crossing_in state sample) state.latest)
+    after_sum state (level_in state sample) (threshold_by state.threshold (level_in state sample)) sample
 
 -- from one moment to the next, where both are there
 abbrev pub between : Option ℕ → Option ℕ → Option ℕ

@@ -35,6 +35,10 @@ fn tick_in_step(fineness: u32, threshold: u32, a: i32, b: i32) -> u32
     ensures least { 1 ≤ result }
     ensures most { result ≤ fineness }
 {
+    // In whole samples it is the only one, and a quotient takes long.
+    if fineness == 1 {
+        return 1;
+    }
     let threshold = threshold as i32;
     if threshold <= a {
         return 1;

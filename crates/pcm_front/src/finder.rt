@@ -1,19 +1,19 @@
 //! The crossings in a list of sums. Next: `slicer`.
-ghost use Rattle.std.specs.Prelude.{◌≡◌, ◌+◌, ◌-◌, ◌*◌, ◌<◌, ◌≤◌, ◌^◌, None, length, slice_range, IfSome};
+ghost use Rattle.std.specs.Prelude.{◌≡◌, ◌+◌, ◌-◌, ◌*◌, ◌<◌, ◌≤◌, ◌^◌, true, false, Some, None, length, slice_range, IfSome};
 ghost use Rattle.std.specs.List.{fold};
 ghost use Rattle.pcm_front.specs.KeptRuns.{latest, RunsTo};
 ghost use Rattle.pcm_front.specs.Level.{IsSum};
 ghost use Rattle.pcm_front.specs.Pace.{Passes};
-ghost use Rattle.pcm_front.specs.Side.{side_of};
+ghost use Rattle.pcm_front.specs.Side.{differs, side_of};
 ghost use Rattle.pcm_front.specs.StandsFor.{passed_in};
-ghost use Rattle.pcm_front.specs.State.{between, crossing_after, distance_at, fresh, late_start, state_after, IsAlone};
+ghost use Rattle.pcm_front.specs.State.{after_sum, between, crossing_after, distance_at, fresh, late_start, level_in, state_after, IsAlone};
 ghost use Rattle.pcm_front.specs.State.{IsThreshold, WindowState};
 
 use crate::crossing::tick_to;
 use crate::level::Level;
 use crate::quiet::{Band, end_of_run};
 use crate::samples::Samples;
-use crate::side::{Side, differs, side_of};
+use crate::side::{Side, crossed, side_of};
 use crate::start::Start;
 use crate::still::Passed;
 use crate::threshold::Threshold;
@@ -98,22 +98,52 @@ impl Finder {
         }
     }
 
-    /// The moment, a sample late, of the crossing at a sum on a side of a threshold, if it is one.
-    #[tactic(auto, using(crate::proofs::Sides::differs_none))]
-    fn crossing(&self, threshold: u32, now: Option<Side>, sum: i32) -> Option<u64>
-        requires threshold { threshold ≤ 524_272 }
-        requires side { now ≡ side_of threshold sum }
+    /// Takes one more sum into the level, where the threshold follows it.
+    #[inline(always)]
+    fn hear(&mut self, sum: i32)
         requires sum { IsSum sum }
-        requires room { self.now.tick + self.now.fineness ≤ 2 ^ 62 }
-        ensures value { result ≡ crossing_after self.now threshold sum }
-        ensures later { IfSome result (λ moment. (self.now.tick + 1 ≤ moment)
-            × (moment ≤ self.now.tick + self.now.fineness)) }
+        ensures { self.new ≡ record self.old { level = level_in self.old sum } }
     {
-        if !differs(self.side, now) {
-            return None;
+        match self.threshold {
+            Threshold::Fixed(_) => (),
+            Threshold::Follow(_) | Threshold::Deep(_) => self.level = self.level.after(sum),
         }
-        let tick = tick_to(now?, self.fineness, threshold, self.before, sum);
-        Some(self.tick + u64::from(tick))
+    }
+
+    /// Takes the sum, at a threshold, at which the sound goes over to a side, and gives the distance.
+    #[inline(always)]
+    fn cross(&mut self, side: Side, threshold: u32, sum: i32) -> Option<u64>
+        requires threshold { threshold ≤ 524_272 }
+        requires side { side_of threshold sum ≡ Some side }
+        requires differs { differs self.old.side (Some side) ≡ true }
+        requires sum { IsSum sum }
+        requires room { self.old.tick + self.old.fineness ≤ 2 ^ 62 }
+        ensures state { self.new ≡ after_sum self.old self.old.level threshold sum }
+        ensures distance { result ≡ between self.old.latest (crossing_after self.old threshold sum) }
+        ensures range { IfSome result (λ distance. (1 ≤ distance) × (distance ≤ 2 ^ 62)) }
+        ensures passes { Passes (passed_in self.old) result (passed_in self.new) }
+    {
+        let tick = tick_to(side, self.fineness, threshold, self.before, sum);
+        let moment = self.tick + u64::from(tick);
+        let distance = between(self.latest, Some(moment));
+        self.tick += u64::from(self.fineness);
+        self.before = sum;
+        self.side = Some(side);
+        self.latest = Some(moment);
+        distance
+    }
+
+    /// Takes a sum, at a threshold, at which the sound does not go over to the other side.
+    fn stay(&mut self, threshold: u32, sum: i32)
+        requires threshold { threshold ≤ 524_272 }
+        requires stays { differs self.old.side (side_of threshold sum) ≡ false }
+        requires sum { IsSum sum }
+        requires room { self.old.tick + self.old.fineness ≤ 2 ^ 62 }
+        ensures state { self.new ≡ after_sum self.old self.old.level threshold sum }
+    {
+        self.tick += u64::from(self.fineness);
+        self.before = sum;
+        self.side = side_of(threshold, sum).or(self.side);
     }
 
     /// The ticks that have passed, at the latest sum, since the moment from which the next distance runs.
@@ -136,17 +166,15 @@ impl Finder {
         ensures range { IfSome result (λ distance. (1 ≤ distance) × (distance ≤ 2 ^ 62)) }
         ensures passes { Passes (passed_in self.old) result (passed_in self.new) }
     {
-        let level = self.threshold.next_level(self.level, sum);
-        let threshold = self.threshold.at(level);
-        let side = side_of(threshold, sum);
-        let crossing = self.crossing(threshold, side, sum);
-        let distance = between(self.latest, crossing);
-        self.tick += u64::from(self.fineness);
-        self.before = sum;
-        self.level = level;
-        self.side = side.or(self.side);
-        self.latest = crossing.or(self.latest);
-        distance
+        self.hear(sum);
+        let threshold = self.threshold.at(self.level);
+        match crossed(self.side, threshold, sum) {
+            Some(side) => self.cross(side, threshold, sum),
+            None => {
+                self.stay(threshold, sum);
+                None
+            }
+        }
     }
 
     /// Takes samples, each of which stands for itself, from a place on and as long as none of them can

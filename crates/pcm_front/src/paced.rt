@@ -35,9 +35,12 @@ impl Slicer {
             → distances_by (settings_of self.old) (front ++ take (result.0 - 1) samples.now)
             ≡ distances_by (settings_of self.old) front) }
     {
-        let before = self.passed();
+        let before = self.passed_at(pace);
         let (count, distance) = self.run_samples(samples);
-        (count, pace.intervals(before, distance, self.passed()))
+        (
+            count,
+            pace.intervals(before, distance, self.passed_at(pace)),
+        )
     }
 
     /// The same of samples as bytes, as `run` takes them.
@@ -65,8 +68,11 @@ impl Slicer {
             → distances_by (settings_of self.old) (front ++ samples_of (take (result.0 - 2) bytes.now))
             ≡ distances_by (settings_of self.old) front) }
     {
-        let before = self.passed();
+        let before = self.passed_at(pace);
         let (count, distance) = self.run(bytes);
-        (count, pace.intervals(before, distance, self.passed()))
+        (
+            count,
+            pace.intervals(before, distance, self.passed_at(pace)),
+        )
     }
 }

@@ -1,5 +1,5 @@
 //! The sides of the threshold. Next: `crossing`.
-ghost use Rattle.std.specs.Prelude.{◌≡◌, ◌≤◌};
+ghost use Rattle.std.specs.Prelude.{◌≡◌, ◌≤◌, cond, None};
 ghost use Rattle.pcm_front.specs.Level.{IsSum};
 ghost use Rattle.pcm_front.specs.Side.{side_of, stays, differs, upward};
 
@@ -39,13 +39,18 @@ pub(crate) fn stays(side: Option<Side>, threshold: u32, sum: i32) -> bool
     }
 }
 
-/// Whether the sound goes over from one side to the other.
-pub(crate) fn differs(before: Option<Side>, now: Option<Side>) -> bool
-    ensures { result ≡ differs before now }
+/// The side to which the sound goes over from the other one, if it does. The side that it was on tells
+/// which one that can be, so one comparison tells it.
+pub(crate) fn crossed(before: Option<Side>, threshold: u32, sum: i32) -> Option<Side>
+    requires least { 1 ≤ threshold }
+    requires most { threshold ≤ 524_272 }
+    ensures { result ≡ cond (differs before (side_of threshold sum)) (side_of threshold sum) None }
 {
-    match (before, now) {
-        (Some(Side::High), Some(Side::Low)) | (Some(Side::Low), Some(Side::High)) => true,
-        _ => false,
+    let threshold = threshold as i32;
+    match before {
+        Some(Side::High) if sum <= -threshold => Some(Side::Low),
+        Some(Side::Low) if threshold <= sum => Some(Side::High),
+        _ => None,
     }
 }
 

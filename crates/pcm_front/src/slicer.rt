@@ -4,13 +4,14 @@ ghost use Rattle.std.specs.Prelude.{slice_range, None, IfSome, unsigned_abs, pos
 ghost use Rattle.std.specs.Option.{option_to_list};
 ghost use Rattle.pcm_front.specs.Distance.{distances_by};
 ghost use Rattle.pcm_front.specs.KeptRuns.{RunsTo};
-ghost use Rattle.pcm_front.specs.Pace.{Passes};
+ghost use Rattle.pcm_front.specs.Pace.{passed_as, Passes};
 ghost use Rattle.pcm_front.specs.Samples.{samples_of};
 ghost use Rattle.pcm_front.specs.Settings.{from_crossing, from_start};
 ghost use Rattle.pcm_front.specs.StandsFor.{passed_of, settings_of, tick_of, StandsFor};
 ghost use Rattle.pcm_front.specs.State.{IsThreshold};
 
 use crate::finder::Finder;
+use crate::pace::Pace;
 use crate::samples::{Bytes, Numbers, Samples};
 use crate::start::Start;
 use crate::threshold::Threshold;
@@ -116,11 +117,15 @@ impl Slicer {
     }
 
     /// The ticks that have passed, at the latest sample, since the moment from which the next distance
-    /// runs.
-    pub(crate) fn passed(&self) -> u64
-        ensures { result ≡ passed_of self.now }
+    /// runs. They are asked for only where pieces of it stand before it ends.
+    #[inline(always)]
+    pub(crate) fn passed_at(&self, pace: Pace) -> u64
+        ensures { result ≡ passed_as pace (passed_of self.now) }
     {
-        self.finder.passed()
+        match pace {
+            Pace::Ended => 0,
+            Pace::Passing(_) => self.finder.passed(),
+        }
     }
 
     /// Takes samples from the front up to the first one that brings a distance, or else all of them. Gives

@@ -1,8 +1,8 @@
 use Rattle.std.proofs.Common.{◌≡◌, ◌-◌, ◌++◌, ℤ, List, take}
 use Rattle.pcm_front.specs.Distance.{distances_by}
-use Rattle.pcm_front.specs.StandsFor.{settings_of, StandsFor}
+use Rattle.pcm_front.specs.StandsFor.{passed_of, settings_of, StandsFor}
 use Rattle.pcm_front.specs.Samples.{samples_of}
-use Rattle.pcm_front.proofs.Passing.{brought_by}
+use Rattle.pcm_front.proofs.Passing.{brought_by, passes_as}
 use Rattle.pcm_front.proofs.UpTo.{if_both, none_both}
 use Rattle.pcm_front.proofs.slicer.Slicer.intervals_of_bytes.Goals as goal
 
@@ -10,8 +10,14 @@ pub returns-clause-intervals : goal.returns-clause-intervals
 returns-clause-intervals c = λ front stands.
     let e = c.run-count.ensures in
     let taken = samples_of (take c.run-count.result.0 c.args.bytes.now) in
-    brought_by c.args.pace c.args.self.now c.run-count.new.self front taken c.run-count.result.1 c.intervals.result c.passed-before.result
-    c.passed.result e.settings c.passed-before.ensures c.passed.ensures stands (e.stands front stands) (e.distances front stands) c.intervals.ensures.intervals
+    brought_by c.args.pace c.args.self.now c.run-count.new.self front taken c.run-count.result.1 c.intervals.result c.passed_at-before.result
+    c.passed_at.result e.settings c.passed_at-before.ensures c.passed_at.ensures stands (e.stands front stands) (e.distances front stands) c.intervals.ensures.intervals
+
+pub intervals-requires-clause-passes : goal.intervals-requires-clause-passes
+intervals-requires-clause-passes c =
+    let e = c.run-count.ensures in
+    passes_as c.args.pace (passed_of c.args.self.now) c.run-count.result.1 (passed_of c.run-count.new.self) c.passed_at-before.result c.passed_at.result
+    c.passed_at-before.ensures c.passed_at.ensures e.range e.passes
 
 pub returns-clause-all : goal.returns-clause-all
 returns-clause-all c = λ none. c.run-count.ensures.all (none_both c.intervals.result.rest c.run-count.result.1 c.intervals.ensures.ended none)
