@@ -15,7 +15,7 @@ use std::marker::Model;
 use tc_address::{Count, day_subframes, shortest};
 
 /// A chase of a count.
-#[derive(Clone, Copy, Debug, PartialEq, Eq)]
+#[derive(Clone, Copy)]
 pub struct Chase {
     count: Count,
     mode: Mode,

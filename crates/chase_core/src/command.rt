@@ -2,7 +2,7 @@
 use tc_address::Direction;
 
 /// What the operator wants.
-#[derive(Clone, Copy, Debug, PartialEq, Eq)]
+#[derive(Clone, Copy, PartialEq, Eq)]
 pub enum Command {
     /// Follow the master.
     Play,
@@ -13,7 +13,7 @@ pub enum Command {
 }
 
 /// What the master's timecode reads.
-#[derive(Clone, Copy, Debug, PartialEq, Eq)]
+#[derive(Clone, Copy, PartialEq, Eq)]
 pub struct Master {
     /// The number of the label, of the chase's count and below the labels of a day.
     pub number: u32,

@@ -6,7 +6,7 @@ use crate::command::Command;
 use crate::report::State;
 
 /// A state with what belongs to it.
-#[derive(Clone, Copy, Debug, PartialEq, Eq)]
+#[derive(Clone, Copy)]
 pub(crate) enum Mode {
     /// Leaves the transport alone.
     Waiting,

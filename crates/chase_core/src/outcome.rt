@@ -7,7 +7,7 @@ use crate::report::Loss;
 use tc_address::Direction;
 
 /// What comes of a frame: the mode after it, and the parts of its report.
-#[derive(Clone, Copy, Debug, PartialEq, Eq)]
+#[derive(Clone, Copy)]
 pub(crate) struct Outcome {
     pub mode: Mode,
     pub error: i32,

@@ -18,7 +18,7 @@ use csv::ByteRecord;
 use tc_address::{Count, Direction, Label, number, read_text};
 
 /// What comes in one frame.
-#[derive(Clone, Copy, Debug, PartialEq, Eq)]
+#[derive(Clone, Copy, PartialEq, Eq)]
 pub struct ScriptRow {
     /// What the operator wants.
     pub command: Option<Command>,

@@ -29,7 +29,7 @@ const TRIED: usize = 256;
 type Part = ArrayVec<u8, FIELD_ROOM>;
 
 /// What bytes complete.
-#[derive(Clone, Copy, Debug, PartialEq, Eq)]
+#[derive(Clone, Copy)]
 pub enum Taken {
     /// So many bytes, and no field.
     Nothing(usize),
@@ -42,7 +42,7 @@ pub enum Taken {
 }
 
 /// What stands at the front of bytes.
-#[derive(Clone, Copy, Debug, PartialEq, Eq)]
+#[derive(Clone, Copy)]
 pub(crate) enum Piece {
     /// The header.
     Header(LineHeader),

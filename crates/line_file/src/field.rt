@@ -22,7 +22,7 @@ pub const MAX_LINES: u8 = 20;
 pub const MAX_RUNS: u8 = 89;
 
 /// What stands at the front of bytes behind the header.
-#[derive(Clone, Copy, Debug, PartialEq, Eq)]
+#[derive(Clone, Copy)]
 pub(crate) enum FoundField {
     /// A field of so many bytes, with the answer of its lines.
     Whole { answer: FieldAnswer, width: usize },

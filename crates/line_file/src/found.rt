@@ -2,7 +2,7 @@
 use crate::fault::LineFileFault;
 
 /// What stands at the front of bytes.
-#[derive(Clone, Copy, Debug, PartialEq, Eq)]
+#[derive(Clone, Copy)]
 pub(crate) enum Found {
     /// A whole thing.
     Whole,

@@ -25,7 +25,7 @@ pub const HEAD_LENGTH: usize = 8;
 pub const HEADER_LENGTH: usize = 12;
 
 /// What a line file says of its lines.
-#[derive(Clone, Copy, Debug, PartialEq, Eq)]
+#[derive(Clone, Copy)]
 pub struct LineHeader {
     /// The system of the time code: 25 or 30 frames.
     pub system: System,
@@ -34,7 +34,7 @@ pub struct LineHeader {
 }
 
 /// What stands at the front of a file.
-#[derive(Clone, Copy, Debug, PartialEq, Eq)]
+#[derive(Clone, Copy)]
 pub(crate) enum FoundHeader {
     /// A header.
     Whole(LineHeader),

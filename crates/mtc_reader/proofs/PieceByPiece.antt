@@ -80,3 +80,13 @@ behind_passed old mid later new at n m bytes event first stands none more gives 
     subst (λ (l : List ℕ). Gives old new l event)
     (ap (λ (l : List ℕ). l ++ take m (rest_of (at + n) bytes)) (cut_more at n bytes) ∙ cut_more (at + n) m bytes)
     (gives_then old later new _ (take m (rest_of (at + n) bytes)) event passed (λ front is. (more front is, gives front is)))
+
+-- the rest gives nothing either
+pub passes_rest : (old mid new : MtcReader) (at n : ℕ) (bytes : List ℕ) → Passes old mid (take at bytes)
+    → ((front : List ℕ) → StandsFor mid front → StandsFor new (front ++ take n (rest_of at bytes)))
+    → ((front : List ℕ) → StandsFor mid front → events_in (front ++ take n (rest_of at bytes)) ≡ events_in front)
+    → Passes old new (take (at + n) bytes)
+passes_rest old mid new at n bytes passes stands none =
+    let rest = take n (rest_of at bytes) in
+    let both : Passes old new (take at bytes ++ rest) = passes_on old mid new (take at bytes) rest passes (λ front is. (stands front is, none front is)) in
+    subst (λ (l : List ℕ). Passes old new l) (cut_more at n bytes) both

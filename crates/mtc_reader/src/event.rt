@@ -4,7 +4,7 @@ use tc_address::{Direction, Label, LabelFault};
 
 /// A label that was read, or the fault of an address that is no label. The place is that of the byte
 /// that completes it, counted from 0 over all bytes.
-#[derive(Clone, Copy, Debug, PartialEq, Eq)]
+#[derive(Clone, Copy)]
 pub enum MtcEvent {
     /// A full message. Its place is that of its `f7`.
     Full {

@@ -3,7 +3,7 @@ ghost use Rattle.std.specs.Prelude.{◌≡◌};
 ghost use Rattle.mtc_reader.specs.Messages.{kind_with};
 
 /// The kind of a message, as far as MIDI Time Code tells them apart.
-#[derive(Clone, Copy, Debug, PartialEq, Eq)]
+#[derive(Clone, Copy)]
 pub enum MessageKind {
     /// A quarter frame.
     Quarter,
@@ -14,7 +14,7 @@ pub enum MessageKind {
 }
 
 /// What a complete message carries.
-#[derive(Clone, Copy, Debug, PartialEq, Eq)]
+#[derive(Clone, Copy)]
 pub enum Message {
     /// The data byte of a quarter frame: a piece from 0 to 7 above four bits.
     QuarterFrame(u8),

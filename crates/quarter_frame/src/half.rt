@@ -8,7 +8,7 @@ use tc_address::{Direction, Label, advance};
 
 /// Which of the two frames that carry an address a frame is: the first at the even positions of a run,
 /// the second at the odd ones.
-#[derive(Clone, Copy, Debug, PartialEq, Eq)]
+#[derive(Clone, Copy)]
 pub enum Half {
     First,
     Second,

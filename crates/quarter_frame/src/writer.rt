@@ -15,7 +15,7 @@ use std::marker::Model;
 use tc_address::{Direction, Label};
 
 /// Writes the messages of one frame after another.
-#[derive(Debug, Drop)]
+#[derive(Drop)]
 pub struct QuarterWriter {
     /// The half of the next frame, where a run is open.
     next: Option<Half>,

@@ -6,7 +6,7 @@ use crate::gap::{Gap, gap_between};
 use crate::span::{Mark, Span};
 
 /// A span that may go on.
-#[derive(Clone, Copy, Debug, PartialEq, Eq)]
+#[derive(Clone, Copy)]
 pub struct OpenSpan {
     /// The span up to the frame heard last.
     pub span: Span,
@@ -15,7 +15,7 @@ pub struct OpenSpan {
 }
 
 /// Where the frames of a tape are.
-#[derive(Clone, Copy, Debug, PartialEq, Eq)]
+#[derive(Clone, Copy)]
 pub enum TapePlace {
     /// No span has begun.
     Before,
@@ -26,7 +26,7 @@ pub enum TapePlace {
 }
 
 /// What a frame tells: the span that ends before it, and the gap before a span that begins with it.
-#[derive(Clone, Copy, Debug, PartialEq, Eq)]
+#[derive(Clone, Copy, PartialEq, Eq)]
 pub struct Cut {
     pub ended: Option<Span>,
     pub gap: Option<Gap>,

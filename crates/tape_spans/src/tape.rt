@@ -44,7 +44,7 @@ const NO_CUT: Cut = Cut {
 
 /// The spans of a tape whose frames come one after another. It keeps no frame but the first and the last
 /// of the span that is open.
-#[derive(Debug, Drop)]
+#[derive(Drop)]
 pub struct TapeSpans {
     place: TapePlace,
     spans: u64,

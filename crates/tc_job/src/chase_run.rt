@@ -11,7 +11,7 @@ use tc_address::Label;
 pub const MAX_SLIP: u32 = 1_000;
 
 /// A chase over the frames of a recording, whose transport slips by chance.
-#[derive(Clone, Copy, Debug, PartialEq, Eq)]
+#[derive(Clone, Copy)]
 pub struct ChaseRun {
     label: Label,
     flight: Flight,

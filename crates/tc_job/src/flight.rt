@@ -3,7 +3,7 @@ use biphase::Profile;
 
 /// How the frames of a recording are had: under which tolerance its words are read, and how many frames
 /// are invented in a row at most.
-#[derive(Clone, Copy, Debug, PartialEq, Eq)]
+#[derive(Clone, Copy)]
 pub struct Flight {
     /// How many frames are invented in a row, at most.
     pub limit: u8,

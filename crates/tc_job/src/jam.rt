@@ -7,7 +7,7 @@ use crate::flight::Flight;
 use std::marker::Model;
 
 /// A clean recording that is to be made of a damaged one.
-#[derive(Clone, Copy, Debug, PartialEq, Eq)]
+#[derive(Clone, Copy)]
 pub struct Jam {
     flight: Flight,
     cell: u32,

@@ -12,7 +12,7 @@ use interval_file::FileVersion;
 use tc_address::Label;
 
 /// What the words name.
-#[derive(Clone, Copy, Debug, PartialEq, Eq)]
+#[derive(Clone, Copy)]
 pub enum Task {
     /// A job that is worked while its input comes, in fixed memory.
     Stream(Job),
@@ -22,7 +22,7 @@ pub enum Task {
 }
 
 /// What the program is to do while its input comes.
-#[derive(Clone, Copy, Debug, PartialEq, Eq)]
+#[derive(Clone, Copy)]
 pub enum Job {
     /// `ltc-read`: reads an interval file, and writes a line for each word, refused candidate and break.
     LtcRead,

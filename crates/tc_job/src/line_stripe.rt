@@ -7,7 +7,7 @@ use std::marker::Model;
 use tc_address::Label;
 
 /// A stripe of vertical interval time code: its labels, and its lines.
-#[derive(Clone, Copy, Debug, PartialEq, Eq)]
+#[derive(Clone, Copy)]
 pub struct LineStripe {
     label: Label,
     frames: u32,

@@ -9,7 +9,7 @@ use std::marker::Model;
 pub const MAX_WORDS: u32 = 100_000;
 
 /// A load run: the seed of its generator, and how many words it makes and reads.
-#[derive(Clone, Copy, Debug, PartialEq, Eq)]
+#[derive(Clone, Copy)]
 pub struct LoadRun {
     seed: u64,
     words: u32,

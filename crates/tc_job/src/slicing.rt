@@ -17,7 +17,7 @@ pub const MAX_FINENESS: u32 = 64;
 pub const MAX_LEVEL: u32 = 32_767;
 
 /// Sound, and how it is sliced.
-#[derive(Clone, Copy, Debug, PartialEq, Eq)]
+#[derive(Clone, Copy)]
 pub struct Slicing {
     system: System,
     rate: u32,

@@ -5,7 +5,7 @@ ghost use Rattle.tc_job.specs.SoundLevel.{IsLevel};
 use std::marker::Model;
 
 /// The level of each sample of a sound, from 1 to `MAX_LEVEL`.
-#[derive(Clone, Copy, Debug, PartialEq, Eq)]
+#[derive(Clone, Copy)]
 pub struct SoundLevel {
     level: u16,
 }

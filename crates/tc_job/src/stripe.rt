@@ -14,7 +14,7 @@ pub const MAX_FRAMES: u32 = 1_000_000;
 pub const MAX_TICK_RATE: u32 = 100_000_000;
 
 /// A stripe of linear time code: its labels, and its cells.
-#[derive(Clone, Copy, Debug, PartialEq, Eq)]
+#[derive(Clone, Copy)]
 pub struct Stripe {
     direction: Direction,
     label: Label,

@@ -14,7 +14,7 @@ use tc_address::System;
 pub const MAX_TRACKS: u32 = 64;
 
 /// A track of a sound file, and how it is sliced.
-#[derive(Clone, Copy, Debug, PartialEq, Eq)]
+#[derive(Clone, Copy)]
 pub struct WaveSlicing {
     system: System,
     track: u32,

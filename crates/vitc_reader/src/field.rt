@@ -14,7 +14,7 @@ use tc_address::System;
 use vitc_line::{VitcWord, decode};
 
 /// What the lines of a field say together.
-#[derive(Clone, Copy, Debug, PartialEq, Eq)]
+#[derive(Clone, Copy, PartialEq, Eq)]
 pub enum FieldAnswer {
     /// Each line that says a word says this one.
     Agreed(VitcWord),
@@ -72,7 +72,7 @@ fn say(system: System, read: Result<u128, RunFault>) -> Result<VitcWord, ReadFau
 }
 
 /// Reads the lines of one field, one after the other. It keeps no line.
-#[derive(Clone, Copy, Debug, PartialEq, Eq)]
+#[derive(Clone, Copy)]
 pub struct FieldReader {
     system: System,
     length: u32,

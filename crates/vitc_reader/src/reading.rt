@@ -46,7 +46,7 @@ fn cells_of(length: u32, factor: u64, run: u16) -> Option<u32>
 
 /// The runs so far of a line: how many cells they are, and their bits, with the last run taken to be high. Each run
 /// before it turns, so behind an odd number of runs the first one is high.
-#[derive(Clone, Copy, Debug, PartialEq, Eq)]
+#[derive(Clone, Copy)]
 struct Turned {
     cells: u32,
     bits: u128,

@@ -33,7 +33,7 @@ pub const SIZES_LENGTH: u32 = 16;
 pub const NO_SIZE: u32 = 0xffff_ffff;
 
 /// What the chunks so far say.
-#[derive(Clone, Copy, Debug, PartialEq, Eq)]
+#[derive(Clone, Copy)]
 pub struct Notes {
     /// The file is RF64 or BW64, so the size of its data may have 64 bits.
     pub is_long: bool,
@@ -44,7 +44,7 @@ pub struct Notes {
 }
 
 /// How far data go.
-#[derive(Clone, Copy, Debug, PartialEq, Eq)]
+#[derive(Clone, Copy)]
 pub enum Extent {
     /// So many bytes.
     Announced(u64),
@@ -53,7 +53,7 @@ pub enum Extent {
 }
 
 /// What a chunk is.
-#[derive(Clone, Copy, Debug, PartialEq, Eq)]
+#[derive(Clone, Copy)]
 pub(crate) enum Chunk {
     Format { size: u32 },
     Sizes { size: u32 },

@@ -26,7 +26,7 @@ pub const PIECE_ROOM: usize = 256;
 type Part = ArrayVec<u8, PIECE_ROOM>;
 
 /// What bytes complete.
-#[derive(Clone, Copy, Debug, PartialEq, Eq)]
+#[derive(Clone, Copy)]
 pub enum Taken {
     /// So many bytes, and no sample.
     Nothing(usize),

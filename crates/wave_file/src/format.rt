@@ -19,7 +19,7 @@ pub const FORMAT_LENGTH: u32 = 26;
 pub const MIN_FORMAT_LENGTH: u32 = 16;
 
 /// How samples stand in a file. The samples of all tracks at one time are a block.
-#[derive(Clone, Copy, Debug, PartialEq, Eq)]
+#[derive(Clone, Copy)]
 pub struct WaveFormat {
     /// From 1 to 64.
     pub tracks: u16,

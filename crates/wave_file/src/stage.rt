@@ -23,7 +23,7 @@ pub const MAX_BYTES: u64 = 4_611_686_018_427_387_904;
 pub const MAX_SAMPLES: u64 = 1_099_511_627_776;
 
 /// What the next bytes are.
-#[derive(Clone, Copy, Debug, PartialEq, Eq)]
+#[derive(Clone, Copy)]
 pub enum Stage {
     /// The first four letters.
     Riff,
@@ -57,7 +57,7 @@ pub enum Stage {
 }
 
 /// What a whole piece brings.
-#[derive(Clone, Copy, Debug, PartialEq, Eq)]
+#[derive(Clone, Copy)]
 pub(crate) enum Step {
     /// Another stage.
     Next { notes: Notes, stage: Stage },

@@ -131,9 +131,8 @@ fn lines_that_other_software_read(rt: HostRuntime) -> Result<(), Fail> {
         let (count, _, _, _, _, bits) = row;
         assert!(rt; has_lines(&word));
         assert_eq!(rt; encode(&word), bits, "{row:?}");
-        assert_eq!(rt;
-            decode(system_with_lines(count), bits),
-            Ok(word),
+        assert!(rt;
+            decode(system_with_lines(count), bits) == Ok(word),
             "{bits:x}"
         );
     }
@@ -197,6 +196,6 @@ const FAULTS: [(u128, LineFault); 19] = [
 fn first_faults(rt: HostRuntime) {
     for (bits, fault) in FAULTS {
         assert!(rt; bits < 1 << 90);
-        assert_eq!(rt; decode(System::F30, bits), Err(fault), "{bits:x}");
+        assert!(rt; decode(System::F30, bits) == Err(fault), "{bits:x}");
     }
 }

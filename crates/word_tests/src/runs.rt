@@ -164,10 +164,12 @@ fn system_with_lines(count: Count) -> System
 fn lines_that_other_software_read(rt: HostRuntime) -> Result<(), Fail> {
     for (length, runs, said) in LINES {
         let word = word_of(said)?;
-        let bits = read_runs(length, runs)?;
+        let Ok(bits) = read_runs(length, runs) else {
+            return Err("the runs are refused".into());
+        };
         assert!(rt; has_lines(&word));
         assert_eq!(rt; bits, encode(&word));
-        assert_eq!(rt; decode(system_with_lines(said.0), bits), Ok(word));
+        assert!(rt; decode(system_with_lines(said.0), bits) == Ok(word));
     }
     Ok(())
 }
@@ -254,7 +256,7 @@ fn the_first_fault_of_a_line(rt: HostRuntime) {
     for (runs, fault) in FAULTS {
         let mut reader = FieldReader::new(System::F30, 1820);
         reader.line(runs);
-        assert_eq!(rt; reader.answer(), FieldAnswer::Nothing(fault), "{runs:?}");
+        assert!(rt; reader.answer() == FieldAnswer::Nothing(fault), "{runs:?}");
     }
 }
 
@@ -292,26 +294,19 @@ fn answer_of(lines: &[&[u16]]) -> FieldAnswer {
 
 #[test]
 fn answers_of_fields(rt: HostRuntime) -> Result<(), Fail> {
-    assert_eq!(rt; answer_of(&[]), FieldAnswer::NoLine);
-    assert_eq!(rt;
-        answer_of(&[ZERO, ZERO]),
-        FieldAnswer::Agreed(word_of(FIRST)?)
+    assert!(rt; answer_of(&[]) == FieldAnswer::NoLine);
+    assert!(rt; answer_of(&[ZERO, ZERO]) == FieldAnswer::Agreed(word_of(FIRST)?));
+    assert!(rt;
+        answer_of(&[ZERO, ONE]) == FieldAnswer::Conflict(word_of(FIRST)?, word_of(SECOND)?)
     );
-    assert_eq!(rt;
-        answer_of(&[ZERO, ONE]),
-        FieldAnswer::Conflict(word_of(FIRST)?, word_of(SECOND)?)
-    );
-    assert_eq!(rt;
-        answer_of(&[ONE, ONE, ZERO, ONE]),
-        FieldAnswer::Conflict(word_of(SECOND)?, word_of(FIRST)?)
+    assert!(rt;
+        answer_of(&[ONE, ONE, ZERO, ONE])
+            == FieldAnswer::Conflict(word_of(SECOND)?, word_of(FIRST)?)
     );
     for (run, fault) in BAD {
-        assert_eq!(rt; answer_of(&[&[run]]), FieldAnswer::Nothing(fault));
-        assert_eq!(rt; answer_of(&[&[run], &[6]]), FieldAnswer::Nothing(fault));
-        assert_eq!(rt;
-            answer_of(&[&[run], ZERO]),
-            FieldAnswer::Agreed(word_of(FIRST)?)
-        );
+        assert!(rt; answer_of(&[&[run]]) == FieldAnswer::Nothing(fault));
+        assert!(rt; answer_of(&[&[run], &[6]]) == FieldAnswer::Nothing(fault));
+        assert!(rt; answer_of(&[&[run], ZERO]) == FieldAnswer::Agreed(word_of(FIRST)?));
     }
     Ok(())
 }
@@ -327,9 +322,9 @@ fn lines_in_bytes(rt: HostRuntime) -> Result<(), Fail> {
     let mut reader = FieldReader::new(System::F30, 460);
     assert!(rt; !reader.line_of_bytes(&[1, 108]));
     let too_long = ReadFault::Runs(RunFault::TooLong(0));
-    assert_eq!(rt; reader.answer(), FieldAnswer::Nothing(too_long));
+    assert!(rt; reader.answer() == FieldAnswer::Nothing(too_long));
     assert!(rt; reader.line_of_bytes(ZERO_IN_BYTES));
-    assert_eq!(rt; reader.answer(), FieldAnswer::Agreed(word_of(FIRST)?));
+    assert!(rt; reader.answer() == FieldAnswer::Agreed(word_of(FIRST)?));
     assert!(rt; !reader.line_of_bytes(&[0, 0]));
     Ok(())
 }

@@ -1,6 +1,6 @@
-use Rattle.std.proofs.Common.{◌+◌, [], sym, ap, subst, ◌∙◌, arith}
+use Rattle.std.proofs.Common.{◌+◌, [], sym, ap, subst, ◌∙◌, append-nil, arith}
 use Rattle.mtc_reader.specs.declared.reader.MtcReader.{MtcReader}
-use Rattle.mtc_reader.proofs.PieceByPiece.{behind_passed, nothing_yet, no_event, passes_none, within_rest, Passes}
+use Rattle.mtc_reader.proofs.PieceByPiece.{behind_passed, nothing_yet, no_event, passes_none, passes_rest, within_rest, Passes}
 use Rattle.mtc_reader.proofs.reader.MtcReader.take.Goals as goal
 
 -- no window was taken
@@ -43,3 +43,29 @@ bytes-preserved c =
       count = omega (arith, e.count, p.count, i.count);
       passes = passes_none c.args.self.now c.next-count.new.self _ event (no_event event (sym c.is_some.ensures ∙ c.if-is_some.false)) gives;
     }
+
+-- the window and its event
+pub returns-in-Some-clause-stands : goal.returns-in-Some-clause-stands
+returns-in-Some-clause-stands c = λ front stands. (c.in-Some.ensures.takes front stands).0
+
+pub returns-in-Some-clause-gives : goal.returns-in-Some-clause-gives
+returns-in-Some-clause-gives c = λ front stands. (c.in-Some.ensures.takes front stands).1
+
+-- all bytes, and no event
+pub returns-then-at-bytes-clause-stands : goal.returns-then-at-bytes-clause-stands
+returns-then-at-bytes-clause-stands c = λ front stands.
+    let p = c.passed-at.ensures in
+    (passes_rest c.args.self.now c.bytes.self c.passed-at.new.self c.bytes.at c.passed-at.result c.args.bytes.now
+    c.bytes.invariant.passes p.stands p.none front stands).0
+
+pub returns-then-at-bytes-clause-gives : goal.returns-then-at-bytes-clause-gives
+returns-then-at-bytes-clause-gives c = λ front stands.
+    let p = c.passed-at.ensures in
+    (passes_rest c.args.self.now c.bytes.self c.passed-at.new.self c.bytes.at c.passed-at.result c.args.bytes.now
+    c.bytes.invariant.passes p.stands p.none front stands).1 ∙ sym (append-nil _)
+
+pub returns-clause-stands : goal.returns-clause-stands
+returns-clause-stands c = λ front stands. (c.bytes.invariant.passes front stands).0
+
+pub returns-clause-gives : goal.returns-clause-gives
+returns-clause-gives c = λ front stands. (c.bytes.invariant.passes front stands).1 ∙ sym (append-nil _)
