@@ -1,6 +1,7 @@
 //! Why a script is not read. Next: `chase_command/src/chasing.rt`.
 use crate::column::Column;
 use std::alloc::AllocError;
+use thiserror::Error;
 
 /// The first refused record of a script, and the least column of it that is refused.
 #[derive(Clone, Copy, Debug, PartialEq, Eq)]
@@ -12,10 +13,12 @@ pub struct RowFault {
 }
 
 /// Why a script is not read.
-#[derive(Drop)]
+#[derive(Debug, Drop, Error)]
 pub enum ScriptFault {
     /// A record is refused.
+    #[error("Row")]
     Row(RowFault),
     /// There was not enough memory.
+    #[error("Memory")]
     Memory(AllocError),
 }

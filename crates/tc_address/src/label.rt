@@ -6,6 +6,7 @@ ghost use Rattle.tc_address.specs.Label.{address, is_dropped_by, IsLabel, IsFirs
 use crate::count::{Count, system_of};
 use crate::system::rate;
 use std::marker::Model;
+use thiserror::Error;
 
 /// A frame address together with its count.
 #[derive(Clone, Copy, Debug, PartialEq, Eq)]
@@ -36,17 +37,22 @@ impl Model for Label {
 }
 
 /// The first fault of a frame address, in the order of these variants.
-#[derive(Clone, Copy, Debug, PartialEq, Eq, Drop)]
+#[derive(Clone, Copy, Debug, PartialEq, Eq, Drop, Error)]
 pub enum LabelFault {
     /// The hours are above 23.
+    #[error("Hours")]
     Hours,
     /// The minutes are above 59.
+    #[error("Minutes")]
     Minutes,
     /// The seconds are above 59.
+    #[error("Seconds")]
     Seconds,
     /// The frames are not below the rate.
+    #[error("Frames")]
     Frames,
     /// Drop-frame counting drops the label.
+    #[error("Dropped")]
     Dropped,
 }
 

@@ -8,15 +8,19 @@ ghost use Rattle.tc_address.specs.Spelling.{IsFirstTextFault, IsFirstWrongPlace,
 
 use crate::count::Count;
 use crate::label::{Label, LabelFault};
+use thiserror::Error;
 
 /// The first fault of a text, in the order of these variants.
-#[derive(Clone, Copy, Debug, PartialEq, Eq, Drop)]
+#[derive(Clone, Copy, Debug, PartialEq, Eq, Drop, Error)]
 pub enum TextFault {
     /// There are not eleven bytes.
+    #[error("Length")]
     Length,
     /// The byte at this place, from 0, is not the digit or the separator that stands there.
+    #[error("Byte")]
     Byte(usize),
     /// The numbers are no label of the count.
+    #[error("Label")]
     Label(LabelFault),
 }
 
