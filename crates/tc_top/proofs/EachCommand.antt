@@ -1,5 +1,5 @@
--- Each job is a command as any other: it is proved once for each shape, of what a command of that shape brings.
-use Rattle.std.proofs.Common.{ℕ, List, Option, Some, None}
+-- Each job is a command as any other, by what the laws of the crates of the commands say of what it writes.
+use Rattle.std.proofs.Common.{ℕ, List}
 use Rattle.biphase.specs.declared.profile.Profile.{Profile}
 use Rattle.interval_file.specs.declared.header.FileVersion.{FileVersion}
 use Rattle.interval_file.specs.declared.header.IntervalHeader.{IntervalHeader}
@@ -12,6 +12,15 @@ use Rattle.tc_job.specs.WaveSlicing.{SlicesWave}
 use Rattle.tc_job.specs.declared.flight.Flight.{Flight}
 use Rattle.tc_job.specs.declared.job.Job.{Job}
 use Rattle.tc_job.specs.declared.job.Job.TheVariants.{LtcRead, LtcWorn, LtcRough, LtcFly, LtcSpans, LtcMtc, LtcJam, LtcChase, LtcConvert, LtcPcm}
+use Rattle.tc_job.specs.declared.job.Job.TheVariants.{MtcRead, PcmLtc, WavLtc, VitcRead, LtcMake, LtcLoad, VitcMake, Number, LabelOf, Help, Version}
+use Rattle.biphase.specs.declared.profile.Profile.TheVariants.{Normal, Worn, Rough}
+use Rattle.tc_address.specs.Numbering.{number_of}
+use Rattle.made_commands.specs.About.{help_text, version_line}
+use Rattle.made_commands.specs.Labels.{number_line, label_line}
+use Rattle.made_commands.specs.Load.{load_text}
+use Rattle.made_commands.specs.Made.{made}
+use Rattle.made_commands.specs.MadeLines.{made_lines}
+use Rattle.interval_commands.specs.Along.{Printing, along_intervals}
 use Rattle.tc_command.specs.Command.{IsCommand}
 use Rattle.tc_command.specs.KeptText.{text_is_command}
 use Rattle.tc_command.specs.Meaning.{Meaning}
@@ -30,14 +39,7 @@ use Rattle.signal_commands.specs.MtcRead.{along_midi}
 use Rattle.signal_commands.specs.PcmLtc.{along_samples}
 use Rattle.signal_commands.specs.VitcRead.{along_fields}
 use Rattle.signal_commands.specs.WavLtc.{along_sound_file}
-use Rattle.tc_top.specs.Commands.{HasMost, HasOwnLimit, IsLimited, Shape, meaning_by, meaning_of, shape_of}
-use Rattle.tc_top.specs.Commands.{writes_text, along_recording, along_its_frames, along_midi_bytes, along_sound, along_a_sound_file, along_line_file}
-
--- what a command of a shape brings
-abbrev pub Brings : Shape → Type 0
-Brings (along_recording p) = PrintsInOrder p
-Brings (along_its_frames flight made) = AddsInOrder made
-Brings _ = Unit {0}
+use Rattle.tc_top.specs.Commands.{HasOwnLimit, meaning_of}
 
 -- what the laws of the crates of the commands say
 pub record CommandLaws : Type 0 where
@@ -56,58 +58,55 @@ pub record CommandLaws : Type 0 where
   pub tracks : (slicing : SlicesWave) → IsCommand (along_sound_file slicing)
   pub fields : IsCommand along_fields
 
--- each shape
-by_shape : CommandLaws → (shape : Shape) → Brings shape → IsCommand (meaning_by shape)
-by_shape laws (writes_text text) brings = text_is_command text
-by_shape laws (along_recording p) brings = along_is_command laws.grow p brings
-by_shape laws (along_its_frames flight made) brings = along_is_command laws.grow (along_frames flight made) (laws.frames flight made brings)
-by_shape laws along_midi_bytes brings = laws.midi
-by_shape laws (along_sound slicing) brings = laws.samples slicing
-by_shape laws (along_a_sound_file slicing) brings = laws.tracks slicing
-by_shape laws along_line_file brings = laws.fields
+-- along a recording, and along its frames
+recorded : CommandLaws → (p : Printing) → PrintsInOrder p → IsCommand (along_intervals p)
+recorded laws p prints = along_is_command laws.grow p prints
 
--- what each job brings
-brings : CommandLaws → (job : Job) → Brings (shape_of job)
-brings laws LtcRead = laws.report _
-brings laws LtcWorn = laws.report _
-brings laws LtcRough = laws.report _
-brings laws (LtcConvert version) = laws.conversion version
-brings laws (LtcPcm size) = laws.sound size
-brings laws (LtcFly flight) = laws.lines
-brings laws (LtcSpans flight) = laws.spans
-brings laws (LtcMtc flight) = laws.messages
-brings laws (LtcJam jam) = laws.cells jam
-brings laws (LtcChase run) = laws.steps run
-brings laws job = tt
+flown : CommandLaws → (flight : Flight) (made : FrameText) → AddsInOrder made
+    → IsCommand (along_intervals (along_frames flight made))
+flown laws flight made adds = recorded laws (along_frames flight made) (laws.frames flight made adds)
 
 pub each_command : CommandLaws → (job : Job) → IsCommand (meaning_of job)
-each_command laws job = by_shape laws (shape_of job) (brings laws job)
+each_command laws LtcRead = recorded laws (report Normal) (laws.report Normal)
+each_command laws LtcWorn = recorded laws (report Worn) (laws.report Worn)
+each_command laws LtcRough = recorded laws (report Rough) (laws.report Rough)
+each_command laws (LtcFly flight) = flown laws flight lines_of_frames laws.lines
+each_command laws (LtcSpans flight) = flown laws flight lines_of_spans laws.spans
+each_command laws (LtcMtc flight) = flown laws flight messages_of_frames laws.messages
+each_command laws (LtcJam jam) = flown laws jam.flight (file_of_frames jam) (laws.cells jam)
+each_command laws (LtcChase run) = flown laws run.flight (lines_of_steps run) (laws.steps run)
+each_command laws (LtcConvert version) = recorded laws (conversion version) (laws.conversion version)
+each_command laws (LtcPcm size) = recorded laws (made_sound size) (laws.sound size)
+each_command laws MtcRead = laws.midi
+each_command laws (PcmLtc slicing) = laws.samples slicing
+each_command laws (WavLtc slicing) = laws.tracks slicing
+each_command laws VitcRead = laws.fields
+each_command laws (LtcMake stripe) = text_is_command (made stripe)
+each_command laws (LtcLoad run) = text_is_command (load_text run)
+each_command laws (VitcMake stripe) = text_is_command (made_lines stripe)
+each_command laws (Number label) = text_is_command (number_line (number_of label))
+each_command laws (LabelOf label) = text_is_command (label_line label)
+each_command laws Help = text_is_command help_text
+each_command laws Version = text_is_command version_line
 
 -- ---- without a limit of its own
 
--- a printing of a command along a recording has none
-abbrev NeverSpent : Shape → Type 0
-NeverSpent (along_recording p) = (header : IntervalHeader) (intervals : List ℕ) → ¬ p.spent header intervals
-NeverSpent _ = Unit {0}
-
-never : (job : Job) → NeverSpent (shape_of job)
-never LtcRead = λ header intervals spent. spent
-never LtcWorn = λ header intervals spent. spent
-never LtcRough = λ header intervals spent. spent
-never (LtcConvert version) = λ header intervals spent. spent
-never (LtcPcm size) = λ header intervals spent. spent
-never job = tt
-
-few_enough : (most : Option ℕ) → ¬ HasMost most → (frames : List Frame) → ¬ AreTooMany most frames
-few_enough None none frames = λ many. many
-few_enough (Some most) none frames = absurd (none tt)
-
-unlimited : (shape : Shape) → NeverSpent shape → ¬ IsLimited shape → (input : List ℕ) → ¬ Meaning.spent (meaning_by shape) input
-unlimited (along_recording p) never none input = never_spent p never (recording_of input)
-unlimited (along_its_frames flight made) never none input =
-    never_spent (along_frames flight made) (λ header intervals (spent : IsFlightSpent flight made header intervals). few_enough made.most none _ spent.too_many)
+-- along the frames of a recording, of which there are never too many
+unbounded : (flight : Flight) (made : FrameText) → ((frames : List Frame) → ¬ AreTooMany made.most frames) → (input : List ℕ)
+    → ¬ Meaning.spent (along_intervals (along_frames flight made)) input
+unbounded flight made few input =
+    never_spent (along_frames flight made) (λ header intervals (spent : IsFlightSpent flight made header intervals). few _ spent.too_many)
     (recording_of input)
-unlimited _ never none input = λ spent. spent
 
 pub unlimited_job : (job : Job) → ¬ HasOwnLimit job → (input : List ℕ) → ¬ Meaning.spent (meaning_of job) input
-unlimited_job job none input = unlimited (shape_of job) (never job) none input
+unlimited_job LtcRead none input = never_spent (report Normal) (λ header intervals spent. spent) (recording_of input)
+unlimited_job LtcWorn none input = never_spent (report Worn) (λ header intervals spent. spent) (recording_of input)
+unlimited_job LtcRough none input = never_spent (report Rough) (λ header intervals spent. spent) (recording_of input)
+unlimited_job (LtcConvert version) none input = never_spent (conversion version) (λ header intervals spent. spent) (recording_of input)
+unlimited_job (LtcPcm size) none input = never_spent (made_sound size) (λ header intervals spent. spent) (recording_of input)
+unlimited_job (LtcFly flight) none input = unbounded flight lines_of_frames (λ frames many. many) input
+unlimited_job (LtcSpans flight) none input = unbounded flight lines_of_spans (λ frames many. many) input
+unlimited_job (LtcMtc flight) none input = unbounded flight messages_of_frames (λ frames many. many) input
+unlimited_job (LtcJam jam) none input = unbounded jam.flight (file_of_frames jam) (λ frames many. many) input
+unlimited_job (LtcChase run) none input = absurd (none tt)
+unlimited_job job none input = λ spent. spent

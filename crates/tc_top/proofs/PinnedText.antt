@@ -32,7 +32,7 @@ use Rattle.frame_commands.specs.LtcJam.{clean_file}
 use Rattle.interval_commands.specs.LtcRead.{last_line, lines}
 use Rattle.frame_commands.specs.LtcSpans.{ShowsTheSpans, span_lines, spans_counted}
 use Rattle.frame_commands.specs.OfFrames.{frames_of}
-use Rattle.tc_top.specs.Promises.{IsPinned, Keep, pledge_of}
+use Rattle.tc_top.specs.Promises.{IsPinned, Promise}
 use Rattle.tc_top.specs.Tape.{ReportsTheTape}
 
 -- what the laws of events and of files say
@@ -104,7 +104,7 @@ one_track w bytes a b p q =
     ∙ sym q.are
 
 -- of each job whose promise names one
-pub one_text : PinnedLaws → (job : Job) (pulled a b : List ℕ) → IsPinned job → Keep (pledge_of job) pulled a → Keep (pledge_of job) pulled b → a ≡ b
+pub one_text : PinnedLaws → (job : Job) (pulled a b : List ℕ) → IsPinned job → Promise job pulled a → Promise job pulled b → a ≡ b
 one_text laws LtcRead pulled a b is p q = one_report laws Normal pulled a b p q
 one_text laws LtcWorn pulled a b is p q = one_report laws Worn pulled a b p q
 one_text laws LtcRough pulled a b is p q = one_report laws Rough pulled a b p q

@@ -29,7 +29,7 @@ pub record IsDone (job : Job) (e : Exchange) : Type 0 where
   pub end : IsEnd (meaning_of job) e.left
   pub input : IsInput (meaning_of job) e.pulled
   pub output : Meaning.output (meaning_of job) e.pulled e.written
-  pub promise : Promise job e
+  pub promise : Promise job e.pulled e.written
   pub note : e.note ≡ []
 
 -- how a job ended, by its status

@@ -9,7 +9,6 @@ use Rattle.tc_job.specs.declared.job.Job.TheVariants.{LtcRead, LtcWorn, LtcRough
 use Rattle.tc_job.specs.declared.job.Job.TheVariants.{LtcChase, MtcRead}
 use Rattle.tc_job.specs.declared.job.Job.TheVariants.{LtcMake, LtcLoad, LtcConvert, PcmLtc, WavLtc, LtcPcm, VitcRead}
 use Rattle.tc_job.specs.declared.job.Job.TheVariants.{VitcMake, Number, LabelOf, Help, Version}
-use Rattle.tc_job.specs.declared.job.Job.TheVariants.{LtcRead, LtcWorn, LtcRough, LtcFly, LtcSpans, LtcMtc, LtcJam, LtcChase, MtcRead}
 use Rattle.tc_top.specs.CleanCopy.{IsClean}
 use Rattle.tc_top.specs.Commands.{meaning_of}
 use Rattle.tc_command.specs.Exchange.{Exchange}
@@ -26,58 +25,51 @@ use Rattle.tc_top.specs.SentAgain.{SendsTheFrames}
 use Rattle.tc_top.specs.SoundAgain.{IsSlicedAgain}
 use Rattle.tc_top.specs.Tape.{ReportsTheTape}
 
--- what is promised of the bytes that were pulled and those that were written
-pub data Pledge : Type 1 where
-  -- it names the bytes written: no others keep it
-  names_the_text : (List ℕ → List ℕ → Type 0) → Pledge
-  -- it binds them, and others may keep it too
-  binds_the_text : (List ℕ → List ℕ → Type 0) → Pledge
-  -- the meaning says all: each line or interval is what the definition of a crate below makes of the bytes pulled
-  says_no_more : Pledge
+-- the meaning says all: each line or interval is what the definition of a crate below makes of the bytes pulled
+abbrev pub SaysNoMore : List ℕ → List ℕ → Type 0
+SaysNoMore pulled written = Unit {0}
 
--- a row a command
-abbrev pub pledge_of : Job → Pledge
-pledge_of LtcRead = names_the_text (ReportsTheTape Normal)
-pledge_of LtcWorn = names_the_text (ReportsTheTape Worn)
-pledge_of LtcRough = names_the_text (ReportsTheTape Rough)
-pledge_of (LtcFly flight) = names_the_text (ShowsTheFrames flight)
-pledge_of (LtcSpans flight) = names_the_text (ShowsTheSpans flight)
-pledge_of (LtcMtc flight) = binds_the_text (SendsTheFrames flight)
-pledge_of (LtcJam jam) = names_the_text (λ pulled. IsClean jam (recording_of pulled))
-pledge_of (LtcChase run) = names_the_text (λ pulled. FollowsTheCode run (recording_of pulled))
-pledge_of MtcRead = says_no_more
-pledge_of (LtcMake stripe) = names_the_text (λ pulled. IsReadBack stripe)
-pledge_of (LtcLoad run) = names_the_text (λ pulled. IsAllRead run)
-pledge_of (LtcConvert version) = names_the_text (ConvertsTheFile version)
-pledge_of (PcmLtc slicing) = says_no_more
-pledge_of (WavLtc slicing) = names_the_text (SlicesTheTrack slicing)
-pledge_of (LtcPcm size) = binds_the_text (IsSlicedAgain size)
-pledge_of VitcRead = says_no_more
-pledge_of (VitcMake stripe) = names_the_text (λ pulled. AreReadBack stripe)
-pledge_of (Number label) = says_no_more
-pledge_of (LabelOf label) = says_no_more
-pledge_of Help = says_no_more
-pledge_of Version = says_no_more
+-- the promise of a job, of the bytes that were pulled and those that were written
+abbrev pub Promise : Job → List ℕ → List ℕ → Type 0
+Promise LtcRead = ReportsTheTape Normal
+Promise LtcWorn = ReportsTheTape Worn
+Promise LtcRough = ReportsTheTape Rough
+Promise (LtcFly flight) = ShowsTheFrames flight
+Promise (LtcSpans flight) = ShowsTheSpans flight
+Promise (LtcMtc flight) = SendsTheFrames flight
+Promise (LtcJam jam) = λ pulled. IsClean jam (recording_of pulled)
+Promise (LtcChase run) = λ pulled. FollowsTheCode run (recording_of pulled)
+Promise MtcRead = SaysNoMore
+Promise (LtcMake stripe) = λ pulled. IsReadBack stripe
+Promise (LtcLoad run) = λ pulled. IsAllRead run
+Promise (LtcConvert version) = ConvertsTheFile version
+Promise (PcmLtc slicing) = SaysNoMore
+Promise (WavLtc slicing) = SlicesTheTrack slicing
+Promise (LtcPcm size) = IsSlicedAgain size
+Promise VitcRead = SaysNoMore
+Promise (VitcMake stripe) = λ pulled. AreReadBack stripe
+Promise (Number label) = SaysNoMore
+Promise (LabelOf label) = SaysNoMore
+Promise Help = SaysNoMore
+Promise Version = SaysNoMore
 
--- the bytes pulled and the bytes written keep the promise
-abbrev pub Keep : Pledge → List ℕ → List ℕ → Type 0
-Keep (names_the_text keep) pulled written = keep pulled written
-Keep (binds_the_text keep) pulled written = keep pulled written
-Keep says_no_more pulled written = Unit {0}
-
--- the promise of a job
-abbrev pub Promise : Job → Exchange → Type 0
-Promise job e = Keep (pledge_of job) e.pulled e.written
-
-abbrev pub NamesTheText : Pledge → Type 0
-NamesTheText (names_the_text keep) = Unit {0}
-NamesTheText _ = ⊥
-
--- the promise of a job names one text: it can be kept by no other bytes
+-- the promise of a job names one text: it can be kept by no other bytes. Those of the others bind it, or say nothing
 abbrev pub IsPinned : Job → Type 0
-IsPinned job = NamesTheText (pledge_of job)
+IsPinned LtcRead = Unit {0}
+IsPinned LtcWorn = Unit {0}
+IsPinned LtcRough = Unit {0}
+IsPinned (LtcFly flight) = Unit {0}
+IsPinned (LtcSpans flight) = Unit {0}
+IsPinned (LtcJam jam) = Unit {0}
+IsPinned (LtcChase run) = Unit {0}
+IsPinned (LtcMake stripe) = Unit {0}
+IsPinned (LtcLoad run) = Unit {0}
+IsPinned (LtcConvert version) = Unit {0}
+IsPinned (WavLtc slicing) = Unit {0}
+IsPinned (VitcMake stripe) = Unit {0}
+IsPinned _ = ⊥
 
 -- what the job writes of each input keeps its promise
 abbrev pub KeepsItsPromise : Job → Type 0
 KeepsItsPromise job = (e : Exchange) → AreBytes e.pulled → IsInput (meaning_of job) e.pulled
-    → Meaning.output (meaning_of job) e.pulled e.written → Promise job e
+    → Meaning.output (meaning_of job) e.pulled e.written → Promise job e.pulled e.written

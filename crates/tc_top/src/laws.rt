@@ -75,7 +75,8 @@ pub fn an_input_has_one_status()
 /// Of reports, frames, copies, traces, conversions, and what is made, the promise alone names the bytes: whoever
 /// keeps it for an input has written the same. So a body that says one of them otherwise breaks its promise.
 pub fn a_promise_names_one_text()
-    ensures { (job : Job) (e f : Exchange) → IsPinned job → e.pulled ≡ f.pulled → Promise job e → Promise job f
+    ensures { (job : Job) (e f : Exchange) → IsPinned job → e.pulled ≡ f.pulled → Promise job e.pulled e.written
+        → Promise job f.pulled f.written
         → e.written ≡ f.written }
 {
     a_list_has_one_list_of_events();

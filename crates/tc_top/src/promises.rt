@@ -29,7 +29,9 @@ pub(crate) fn a_promise_is_kept(job: &Job)
     ensures { KeepsItsPromise job.now }
 {
     match job {
-        Job::LtcRead | Job::LtcWorn | Job::LtcRough => reports_the_tape(),
+        Job::LtcRead => reports_the_tape(),
+        Job::LtcWorn => reports_the_tape(),
+        Job::LtcRough => reports_the_tape(),
         Job::LtcFly { .. } => shows_the_frames(),
         Job::LtcSpans { .. } => shows_the_spans(),
         Job::LtcMtc { .. } => sends_the_frames(),

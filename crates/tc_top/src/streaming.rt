@@ -1,9 +1,10 @@
 //! A job along its input. Next: `tc_command/src/intake.rt`, and behind it the crate of the command.
 ghost use Rattle.std.specs.Prelude.{◌≡◌, ◌⊎◌, ℕ, List, Some, false, OnOk, IfErr};
+ghost use Rattle.std.specs.Io.KnownBytes.{Appends};
 ghost use Rattle.tc_io.specs.Source.{Rose};
 ghost use Rattle.tc_command.specs.Causes.{SourceCause, OutCause, HasSourceCause, HasOutCause, ended_with};
 ghost use Rattle.tc_command.specs.Ends.{EndsSeen};
-ghost use Rattle.tc_command.specs.Exchange.{Exchange, IsPulled, IsWritten, IsNoted};
+ghost use Rattle.tc_command.specs.Exchange.{Exchange, IsPulled, IsNoted};
 ghost use Rattle.tc_command.specs.Meaning.{Meaning};
 ghost use Rattle.tc_command.specs.Ran.{CameToItsEnd, StoppedBefore};
 ghost use Rattle.tc_command.specs.WholeInput.{HasStatus};
@@ -33,7 +34,7 @@ pub fn stream<S: Source, K: Sink, N: Sink>(
     // What was pulled, what was written, and the note are those of the status, and a job that is done keeps its
     // promise. Whatever the status, what was written is a front of the output of the whole input.
     ensures answer { (e : Exchange) × IsPulled (S.left source.old) (S.left source.new) e
-        × IsWritten (K.written out.old) (K.written out.new) e
+        × Appends (K.written out.old) (K.written out.new) e.written
         × IsNoted (N.written notes.old) (N.written notes.new) (N.faults notes.old) (N.faults notes.new) e
         × IsAnswer job.now result e }
     ensures no_note { result ≡ Status.Done → notes.new ≡ notes.old }

@@ -1,6 +1,7 @@
 //! The top call: words and bytes in, bytes and a status out. Next: `command_words/src/command_line.rt`, and
 //! with the job `streaming`.
 ghost use Rattle.std.specs.Prelude.{◌≡◌, ◌⊎◌, ℕ, List, map, string_bytes, Some, false, Ok, Err};
+ghost use Rattle.std.specs.Io.KnownBytes.{Appends};
 ghost use Rattle.tc_io.specs.Source.{Rose};
 ghost use Rattle.tc_job.specs.declared.fault.WordsFault.{WordsFault};
 ghost use Rattle.tc_address.specs.Label.{Address};
@@ -13,7 +14,7 @@ ghost use Rattle.tc_command.specs.Causes.{SourceCause, OutCause};
 ghost use Rattle.tc_command.specs.Ends.{EndsSeen};
 ghost use Rattle.chase_command.specs.Chase.{ChaseSeesOneEnd, chase_status_on};
 ghost use Rattle.tc_top.specs.Commands.{meaning_of};
-ghost use Rattle.tc_command.specs.Exchange.{Exchange, IsPulled, IsWritten, IsNoted};
+ghost use Rattle.tc_command.specs.Exchange.{Exchange, IsPulled, IsNoted};
 ghost use Rattle.tc_command.specs.Meaning.{Meaning};
 
 use crate::streaming::stream;
@@ -36,7 +37,7 @@ pub fn run<S: Source, K: Sink, N: Sink>(
     // What was pulled, what was written, and the note are those of the status, and what is done keeps its promise.
     // Whatever the status, what was written is a front of the output of the whole input.
     ensures answer { (e : Exchange) × IsPulled (S.left source.old) (S.left source.new) e
-        × IsWritten (K.written out.old) (K.written out.new) e
+        × Appends (K.written out.old) (K.written out.new) e.written
         × IsNoted (N.written notes.old) (N.written notes.new) (N.faults notes.old) (N.faults notes.new) e
         × IsRunAnswer (map string_bytes words.now) result e }
     ensures no_note { result ≡ Status.Done → notes.new ≡ notes.old }
