@@ -5,7 +5,7 @@ use Rattle.tc_address.specs.declared.count.Count.{Count}
 use Rattle.tc_address.specs.declared.count.Count.TheVariants.{C24, C25, C30, Drop30}
 use Rattle.tc_address.specs.declared.direction.Direction.{Direction}
 use Rattle.tc_address.specs.Label.{Address}
-use Rattle.tc_bits.specs.Fields.{contents}
+use Rattle.tc_bits.specs.Fields.{field_values}
 use Rattle.ltc_word.specs.declared.word.LtcWord.{LtcWord}
 use Rattle.ltc_word.specs.Spelled.{spelling_of}
 use Rattle.ltc_word.specs.Spelling.{flags}
@@ -21,7 +21,7 @@ drops Drop30 = true
 -- the word of a label: no flag is set but that of drop-frame, the user bits are 0, and it is balanced
 abbrev pub word_of : Address → LtcWord
 word_of label =
-    record { fields = contents label (flags (drops label.count) false false false false) 0; balanced = true }
+    record { fields = field_values label (flags (drops label.count) false false false false) 0; balanced = true }
 
 -- this word, played in a direction
 abbrev pub played_as : Direction → Address → Played

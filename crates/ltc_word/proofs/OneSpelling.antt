@@ -8,7 +8,7 @@ use Rattle.tc_address.specs.Label.{address, is_dropped}
 use Rattle.tc_bits.specs.declared.raw.RawFields.{RawFields}
 use Rattle.tc_bits.specs.declared.flags.Flags.{Flags}
 use Rattle.tc_bits.specs.Fault.{first_field_fault}
-use Rattle.tc_bits.specs.Fields.{Contents, contents, agrees, digits_of, Says}
+use Rattle.tc_bits.specs.Fields.{FieldValues, field_values, agrees, digits_of, Says}
 use Rattle.tc_bits.specs.Reading.{raw_in}
 use Rattle.tc_bits.specs.Register.{number_in}
 use Rattle.tc_bits.specs.Spelling.{AreExact}
@@ -52,16 +52,16 @@ same_truth P true false p q = sym (q.1 (p.0 refl))
 same_truth P false true p q = p.1 (q.0 refl)
 same_truth P false false p q = refl
 
-abbrev pub word_with : Contents → Bool → LtcWord
+abbrev pub word_with : FieldValues → Bool → LtcWord
 word_with fields balanced = record { fields = fields; balanced = balanced }
 
 -- one word has these fields and this balance
-pub same_word : (fields : Contents) (balanced : Bool) (word : LtcWord) → fields ≡ word.fields
+pub same_word : (fields : FieldValues) (balanced : Bool) (word : LtcWord) → fields ≡ word.fields
     → balanced ≡ word.balanced → word_with fields balanced ≡ word
 same_word fields balanced word e b = ap₂ word_with e b
 
 -- the bits spell one word
-pub one_word : AreExact → ((system : System) (raw : RawFields) (a b : Contents) → Says system raw a
+pub one_word : AreExact → ((system : System) (raw : RawFields) (a b : FieldValues) → Says system raw a
     → Says system raw b → a ≡ b)
     → (system : System) (a b : LtcWord) (bits : ℕ) → Spells system a bits → Spells system b bits → a ≡ b
 one_word exact one system a b bits p q =
@@ -71,7 +71,7 @@ one_word exact one system a b bits p q =
     (same_truth (IsBalanced bits) a.balanced b.balanced p.balance q.balance)
 
 -- a word that is spelled has no fault
-pub no_fault : AreExact → ((system : System) (raw : RawFields) (c : Contents) → Says system raw c
+pub no_fault : AreExact → ((system : System) (raw : RawFields) (c : FieldValues) → Says system raw c
     → first_field_fault system raw ≡ None)
     → (system : System) (word : LtcWord) (bits : ℕ) → Spells system word bits → first_fault system bits ≡ None
 no_fault exact none system word bits s =
@@ -86,8 +86,8 @@ pub said : {system : System} {count : Count} {hours minutes seconds frames : ℕ
     → hours < 24 → minutes < 60 → seconds < 60 → frames < rate_of (system_with count)
     → is_dropped (address count hours minutes seconds frames) ≡ false
     → agrees count flags.bit10 ≡ true → system_with count ≡ system
-    → digits_of (contents (address count hours minutes seconds frames) flags user) ≡ raw
-    → Says system raw (contents (address count hours minutes seconds frames) flags user)
+    → digits_of (field_values (address count hours minutes seconds frames) flags user) ≡ raw
+    → Says system raw (field_values (address count hours minutes seconds frames) flags user)
 said h m s f counted flag count digits = record {
   valid = record { label = record { hours = h; minutes = m; seconds = s; frames = f; counted = counted }; flag = flag };
   count = count;

@@ -6,7 +6,7 @@ use Rattle.tc_address.specs.declared.system.System.{System}
 use Rattle.tc_address.specs.declared.system.System.TheVariants.{F24, F25, F30}
 use Rattle.tc_address.specs.Count.{system_with, rate_of}
 use Rattle.tc_address.specs.Label.{IsLabel}
-use Rattle.tc_bits.specs.Fields.{Contents, IsFields}
+use Rattle.tc_bits.specs.Fields.{FieldValues, IsFields}
 use Rattle.tc_bits.specs.Register.{field}
 use Rattle.tc_bits.specs.Row.{Holds, IsRow, sum_of, SumHolds, OnlySumHolds}
 use Rattle.tc_bits.specs.Spelling.{AreExact}
@@ -28,7 +28,7 @@ rate_within F25 = omega arith
 rate_within F30 = omega arith
 
 -- the numbers of a word fill the 80 bits
-row_is : AreExact → (system : System) (c : Contents) (polarity : ℕ) → IsLabel c.label → polarity < 2
+row_is : AreExact → (system : System) (c : FieldValues) (polarity : ℕ) → IsLabel c.label → polarity < 2
     → IsRow 80 (row_with system c polarity)
 row_is law F24 c polarity label low =
     record { shared = refl; within = refl; fit = (low, (lit< tt, law.fit (table_of F24) c label)) }

@@ -8,7 +8,7 @@ use Rattle.tc_bits.specs.declared.raw.RawFields.{RawFields}
 use Rattle.tc_bits.specs.Fault.{first_field_fault}
 use Rattle.tc_bits.specs.Reading.{raw_in}
 use Rattle.tc_bits.specs.Spelling.{AreExact}
-use Rattle.tc_bits.specs.Fields.{Contents, Says}
+use Rattle.tc_bits.specs.Fields.{FieldValues, Says}
 use Rattle.ltc_word.specs.declared.word.LtcWord.{LtcWord}
 use Rattle.ltc_word.specs.declared.word.WordFault.TheVariants.{Field}
 use Rattle.ltc_word.specs.Balance.{zeros}
@@ -21,7 +21,7 @@ use Rattle.ltc_word.proofs.OneSpelling.{spelled, word_with}
 
 -- digits without a fault say fields
 abbrev pub FaultlessSay : Type 0
-FaultlessSay = (system : System) (raw : RawFields) → first_field_fault system raw ≡ None → (c : Contents) × Says system raw c
+FaultlessSay = (system : System) (raw : RawFields) → first_field_fault system raw ≡ None → (c : FieldValues) × Says system raw c
 
 told : (n : ℕ) → (IsTrue (n == 0) ↔ (n ≡ 0))
 told n = (eqb-true n 0, eq-eqb n 0)

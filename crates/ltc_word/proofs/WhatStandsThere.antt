@@ -6,7 +6,7 @@ use Rattle.tc_address.specs.declared.system.System.{System}
 use Rattle.tc_bits.specs.declared.fault.FieldFault.{FieldFault}
 use Rattle.tc_bits.specs.declared.raw.RawFields.{RawFields}
 use Rattle.tc_bits.specs.Fault.{first_field_fault}
-use Rattle.tc_bits.specs.Fields.{Contents, Says, fields_of}
+use Rattle.tc_bits.specs.Fields.{FieldValues, Says, fields_of}
 use Rattle.tc_bits.specs.Reading.{raw_in}
 use Rattle.tc_bits.specs.Spelling.{AreExact}
 use Rattle.ltc_word.specs.declared.word.LtcWord.{LtcWord}
@@ -26,10 +26,10 @@ FaultlessSayThese = (system : System) (raw : RawFields) → first_field_fault sy
     → Says system raw (fields_of system raw)
 
 abbrev pub SayOne : Type 0
-SayOne = (system : System) (raw : RawFields) (a b : Contents) → Says system raw a → Says system raw b → a ≡ b
+SayOne = (system : System) (raw : RawFields) (a b : FieldValues) → Says system raw a → Says system raw b → a ≡ b
 
 abbrev pub SayFaultless : Type 0
-SayFaultless = (system : System) (raw : RawFields) (c : Contents) → Says system raw c → first_field_fault system raw ≡ None
+SayFaultless = (system : System) (raw : RawFields) (c : FieldValues) → Says system raw c → first_field_fault system raw ≡ None
 
 told : (n : ℕ) → (IsTrue (n == 0) ↔ (n ≡ 0))
 told n = (eqb-true n 0, eq-eqb n 0)

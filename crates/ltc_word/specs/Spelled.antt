@@ -4,7 +4,7 @@ use Rattle.std.specs.Prelude.{ℕ, ◌%◌, ◌==◌, List, ◌∷◌, if◌then
 use mathlib.Core.Bool.{beq}
 use Rattle.tc_address.specs.declared.system.System.{System}
 use Rattle.tc_address.specs.Count.{system_with}
-use Rattle.tc_bits.specs.Fields.{Contents}
+use Rattle.tc_bits.specs.Fields.{FieldValues}
 use Rattle.tc_bits.specs.Row.{Entry, entry, sum_of}
 use Rattle.tc_bits.specs.Table.{place, row_of}
 use Rattle.ltc_word.specs.declared.places.TheConstants as places
@@ -13,7 +13,7 @@ use Rattle.ltc_word.specs.Balance.{zeros}
 use Rattle.ltc_word.specs.Places.{polarity_bit, table_of}
 
 -- all numbers of a word in their places, with this one at the polarity correction
-abbrev pub row_with : System → Contents → ℕ → List Entry
+abbrev pub row_with : System → FieldValues → ℕ → List Entry
 row_with system fields polarity =
     entry (place (polarity_bit system) 1) polarity ∷ entry places.SYNC places.SYNC_PATTERN
     ∷ row_of (table_of system) fields

@@ -6,7 +6,7 @@ use Rattle.tc_address.specs.Count.{system_with}
 use Rattle.tc_address.specs.Label.{address}
 use Rattle.tc_bits.specs.declared.flags.Flags.{Flags}
 use Rattle.tc_bits.specs.Register.{number_in}
-use Rattle.tc_bits.specs.Fields.{IsFields, contents}
+use Rattle.tc_bits.specs.Fields.{IsFields, field_values}
 use Rattle.tc_bits.specs.Spelling.{SpellsAddress, SpellsFlags, SpellsUserBits}
 use Rattle.ltc_word.specs.declared.places.TheConstants as places
 use Rattle.ltc_word.specs.declared.word.LtcWord.{LtcWord}
@@ -27,7 +27,7 @@ pub record Spells (system : System) (word : LtcWord) (bits : ℕ) : Type 0 where
 -- a word by its parts
 abbrev pub word_with : Count → ℕ → ℕ → ℕ → ℕ → Flags → ℕ → Bool → LtcWord
 word_with count hours minutes seconds frames flags user balanced =
-    record { fields = contents (address count hours minutes seconds frames) flags user; balanced = balanced }
+    record { fields = field_values (address count hours minutes seconds frames) flags user; balanced = balanced }
 
 -- flags in the order of a report: drop-frame, colour-frame, binary group flags 0, 1 and 2
 abbrev pub flags : Bool → Bool → Bool → Bool → Bool → Flags

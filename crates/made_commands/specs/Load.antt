@@ -15,7 +15,7 @@ use Rattle.tc_address.specs.declared.system.System.TheVariants.{F25}
 use Rattle.tc_address.specs.Label.{Address, address, labels}
 use Rattle.tc_address.specs.Numbering.{day_length, step}
 use Rattle.tc_address.specs.Spelling.{text_of}
-use Rattle.tc_bits.specs.Fields.{contents}
+use Rattle.tc_bits.specs.Fields.{field_values}
 use Rattle.ltc_word.specs.declared.word.LtcWord.{LtcWord}
 use Rattle.ltc_word.specs.Spelling.{flags}
 use Rattle.direction_reader.specs.declared.event.Event.{Event}
@@ -70,7 +70,7 @@ behind g (bit ∷ more) = behind (one_cell g) more
 -- the word of a label, with the upper half of a draw as its user bits
 abbrev pub load_word : Address → ℕ → LtcWord
 load_word label value =
-    record { fields = contents label (flags false false false false false) (value / 2 ^ 32); balanced = true }
+    record { fields = field_values label (flags false false false false false) (value / 2 ^ 32); balanced = true }
 
 -- the word of the next draw
 abbrev pub next_word : Chance → Address → Played

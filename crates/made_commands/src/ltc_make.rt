@@ -42,12 +42,12 @@ pub fn make_recording<S: Source, K: Sink>(
     ensures why { IfErr result (λ stop. stop ≡ Stop.WriteFault) }
     ensures out { HasOutCause (K.faults out.old) (K.faults out.new) result }
 {
-    make(&mut Striping::new(stripe), source, out)
+    make(&mut UnmadeRecording::new(stripe), source, out)
 }
 
 /// A recording that is still to be made.
 #[derive(Drop)]
-struct Striping {
+struct UnmadeRecording {
     header: Option<[u8; 12]>,
     shaper: Shaper,
     direction: Direction,
@@ -55,9 +55,9 @@ struct Striping {
     frames: u32,
 }
 
-impl Striping {
+impl UnmadeRecording {
     /// The whole recording of a stripe.
-    fn new(stripe: &Stripe) -> Striping
+    fn new(stripe: &Stripe) -> UnmadeRecording
         ensures rest { rest_of result.header result.shaper result.direction result.label result.frames
             ≡ made stripe.now }
     {
@@ -67,7 +67,7 @@ impl Striping {
             system: system_of(label.count()),
             tick_rate: stripe.tick_rate(),
         };
-        Striping {
+        UnmadeRecording {
             header: Some(interval_header(&header)),
             shaper: stripe.shaper(),
             direction: stripe.direction(),
@@ -93,7 +93,7 @@ impl Striping {
     }
 }
 
-impl Maker for Striping {
+impl Maker for UnmadeRecording {
     ghost use Rattle.made_commands.specs.KeptStriping.{pieces_of, rest_of};
 
     ghost rest = { λ s. rest_of s.header s.shaper s.direction s.label s.frames };

@@ -54,19 +54,19 @@ pub fn make_lines<S: Source, K: Sink>(
     ensures why { IfErr result (λ stop. stop ≡ Stop.WriteFault) }
     ensures out { HasOutCause (K.faults out.old) (K.faults out.new) result }
 {
-    make(&mut LineStriping::new(stripe), source, out)
+    make(&mut UnmadeLines::new(stripe), source, out)
 }
 
 /// A line file that is still to be made.
 #[derive(Drop)]
-struct LineStriping {
+struct UnmadeLines {
     header: Option<[u8; 12]>,
     label: Label,
     frames: u32,
     length: u32,
 }
 
-impl Model for LineStriping {
+impl Model for UnmadeLines {
     ghost use Rattle.made_commands.specs.KeptLines.{Lining, IsLining};
 
     ghost Value = { Lining };
@@ -76,9 +76,9 @@ impl Model for LineStriping {
     ghost invariant = { λ t. IsLining (record { header = t.header; label = t.label; frames = t.frames; length = t.length }) };
 }
 
-impl LineStriping {
+impl UnmadeLines {
     /// The whole file of a stripe.
-    fn new(stripe: &LineStripe) -> LineStriping
+    fn new(stripe: &LineStripe) -> UnmadeLines
         ensures rest { rest_of_lines result ≡ made_lines stripe.now }
     {
         let label = stripe.label();
@@ -86,7 +86,7 @@ impl LineStriping {
             system: system_of(label.count()),
             length: stripe.length(),
         };
-        LineStriping {
+        UnmadeLines {
             header: Some(line_header(&header)),
             label,
             frames: stripe.frames(),
@@ -111,7 +111,7 @@ impl LineStriping {
     }
 }
 
-impl Maker for LineStriping {
+impl Maker for UnmadeLines {
     ghost use Rattle.made_commands.specs.KeptLines.{pieces_with, rest_of_lines};
 
     ghost rest = { λ t. rest_of_lines t };

@@ -12,7 +12,7 @@ use Rattle.tc_bits.specs.declared.flags.Flags.{Flags}
 use Rattle.tc_bits.specs.declared.place.Place.{Place}
 use Rattle.tc_bits.specs.declared.raw.RawFields.{RawFields}
 use Rattle.tc_bits.specs.declared.table.Table.{Table}
-use Rattle.tc_bits.specs.Fields.{Contents, IsFields, Says}
+use Rattle.tc_bits.specs.Fields.{FieldValues, IsFields, Says}
 use Rattle.tc_bits.specs.Reading.{flags_in, raw_in, user_in}
 use Rattle.tc_bits.specs.Register.{field, is_set}
 use Rattle.tc_bits.specs.Row.{Fit, Holds}
@@ -129,7 +129,7 @@ user_read t user bits s =
 
 -- ---- digits that say some fields spell them, and the other way round
 
-said : (system : System) (t : Table) (c : Contents) (bits : ℕ) → Says system (raw_in t bits) c → SpellsFields t c bits
+said : (system : System) (t : Table) (c : FieldValues) (bits : ℕ) → Says system (raw_in t bits) c → SpellsFields t c bits
 said system t c bits says =
     let e = says.digits in
     let flags : c.flags ≡ flags_in t bits = ap (λ (raw : RawFields). raw.flags) e in
@@ -185,7 +185,7 @@ flags_read t flags bits s =
     same_flags flags.bit10 flags.colour flags.bgf0 flags.bgf1 flags.bgf2 _ _ _ _ _
     (sym s.drop_frame) (sym s.colour_frame) (sym s.group_flag_zero) (sym s.group_flag_one) (sym s.group_flag_two)
 
-says : (system : System) (t : Table) (c : Contents) (bits : ℕ) → IsFields c → system_with c.label.count ≡ system
+says : (system : System) (t : Table) (c : FieldValues) (bits : ℕ) → IsFields c → system_with c.label.count ≡ system
     → SpellsFields t c bits → Says system (raw_in t bits) c
 says system t c bits valid count s =
     let a = s.address in
@@ -204,7 +204,7 @@ flag_read : (bits first : ℕ) (flag : Bool) → field bits first 1 ≡ digit fl
 flag_read bits first true e = rw e refl
 flag_read bits first false e = rw e refl
 
-held : (t : Table) (c : Contents) (bits : ℕ) → c.user < 2 ^ 32 → Holds (row_of t c) bits → SpellsFields t c bits
+held : (t : Table) (c : FieldValues) (bits : ℕ) → c.user < 2 ^ 32 → Holds (row_of t c) bits → SpellsFields t c bits
 held t c bits eight (
   fu,
   (
@@ -273,7 +273,7 @@ flag_held bits first false e =
 also : {Held Rest : Type 0} → Held → Rest → Held × Rest
 also held rest = (held, rest)
 
-holds : (t : Table) (c : Contents) (bits : ℕ) → SpellsFields t c bits → Holds (row_of t c) bits
+holds : (t : Table) (c : FieldValues) (bits : ℕ) → SpellsFields t c bits → Holds (row_of t c) bits
 holds t c bits s =
     let a = s.address in
     let f = s.flags in
@@ -300,7 +300,7 @@ rate_within F24 = omega arith
 rate_within F25 = omega arith
 rate_within F30 = omega arith
 
-fit : (t : Table) (c : Contents) → IsLabel c.label → Fit (row_of t c)
+fit : (t : Table) (c : FieldValues) → IsLabel c.label → Fit (row_of t c)
 fit t c label =
     let rate = rate_within (system_with c.label.count) in
     let frames = label.frames in

@@ -11,13 +11,13 @@ use Rattle.tc_bits.specs.declared.flags.Flags.{Flags}
 use Rattle.tc_bits.specs.declared.raw.RawFields.{RawFields}
 
 -- a frame address with its flag bits and user bits
-pub record Contents : Type 0 where
+pub record FieldValues : Type 0 where
   pub label : Address
   pub flags : Flags
   pub user : ℕ
 
-abbrev pub contents : Address → Flags → ℕ → Contents
-contents label flags user = record { label = label; flags = flags; user = user }
+abbrev pub field_values : Address → Flags → ℕ → FieldValues
+field_values label flags user = record { label = label; flags = flags; user = user }
 
 -- at 30 frames the drop-frame flag tells the count; at 24 and 25 it has no effect
 abbrev pub agrees : Count → Bool → Bool
@@ -27,12 +27,12 @@ agrees C30 flag = not flag
 agrees Drop30 flag = flag
 
 -- the address is a label, and the drop-frame flag agrees with its count
-pub record IsFields (c : Contents) : Type 0 where
+pub record IsFields (c : FieldValues) : Type 0 where
   pub label : IsLabel c.label
   pub flag : agrees c.label.count c.flags.bit10 ≡ true
 
 -- the units and tens of the address, with the flags and the user bits
-abbrev pub digits_of : Contents → RawFields
+abbrev pub digits_of : FieldValues → RawFields
 digits_of c = record {
   frame_units = c.label.frames % 10;
   frame_tens = c.label.frames / 10;
@@ -73,11 +73,11 @@ address_of system raw = address (count_in system raw.flags.bit10)
     (10 * raw.frame_tens + raw.frame_units)
 
 -- the fields that the digits say, whether or not they are at fault
-abbrev pub fields_of : System → RawFields → Contents
+abbrev pub fields_of : System → RawFields → FieldValues
 fields_of system raw = record { label = address_of system raw; flags = raw.flags; user = raw.user }
 
 -- the system's fields that have these digits
-pub record Says (system : System) (raw : RawFields) (c : Contents) : Type 0 where
+pub record Says (system : System) (raw : RawFields) (c : FieldValues) : Type 0 where
   pub valid : IsFields c
   pub count : system_with c.label.count ≡ system
   pub digits : digits_of c ≡ raw

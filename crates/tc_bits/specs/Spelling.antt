@@ -5,7 +5,7 @@ use Rattle.tc_address.specs.Count.{system_with}
 use Rattle.tc_address.specs.Label.{Address, IsLabel}
 use Rattle.tc_bits.specs.declared.flags.Flags.{Flags}
 use Rattle.tc_bits.specs.declared.table.Table.{Table}
-use Rattle.tc_bits.specs.Fields.{Contents, IsFields, Says}
+use Rattle.tc_bits.specs.Fields.{FieldValues, IsFields, Says}
 use Rattle.tc_bits.specs.Reading.{raw_in}
 use Rattle.tc_bits.specs.Register.{field, is_set}
 use Rattle.tc_bits.specs.Row.{Fit, Holds}
@@ -44,7 +44,7 @@ pub record SpellsUserBits (t : Table) (user bits : ℕ) : Type 0 where
   pub no_more : user < 2 ^ 32
 
 -- all of them
-pub record SpellsFields (t : Table) (c : Contents) (bits : ℕ) : Type 0 where
+pub record SpellsFields (t : Table) (c : FieldValues) (bits : ℕ) : Type 0 where
   pub address : SpellsAddress t c.label bits
   pub flags : SpellsFlags t c.flags bits
   pub user : SpellsUserBits t c.user bits
@@ -52,12 +52,12 @@ pub record SpellsFields (t : Table) (c : Contents) (bits : ℕ) : Type 0 where
 -- fields are spelled exactly where the digits say them, and exactly where their numbers stand in the
 -- places of the table, which they fit
 pub record AreExact : Type 0 where
-  pub said : (system : System) (t : Table) (c : Contents) (bits : ℕ) → Says system (raw_in t bits) c
+  pub said : (system : System) (t : Table) (c : FieldValues) (bits : ℕ) → Says system (raw_in t bits) c
       → SpellsFields t c bits
-  pub says : (system : System) (t : Table) (c : Contents) (bits : ℕ) → IsFields c → system_with c.label.count ≡ system
+  pub says : (system : System) (t : Table) (c : FieldValues) (bits : ℕ) → IsFields c → system_with c.label.count ≡ system
       → SpellsFields t c bits → Says system (raw_in t bits) c
-  pub held : (t : Table) (c : Contents) (bits : ℕ) → c.user < 2 ^ 32 → Holds (row_of t c) bits → SpellsFields t c bits
-  pub holds : (t : Table) (c : Contents) (bits : ℕ) → SpellsFields t c bits → Holds (row_of t c) bits
-  pub fit : (t : Table) (c : Contents) → IsLabel c.label → Fit (row_of t c)
+  pub held : (t : Table) (c : FieldValues) (bits : ℕ) → c.user < 2 ^ 32 → Holds (row_of t c) bits → SpellsFields t c bits
+  pub holds : (t : Table) (c : FieldValues) (bits : ℕ) → SpellsFields t c bits → Holds (row_of t c) bits
+  pub fit : (t : Table) (c : FieldValues) → IsLabel c.label → Fit (row_of t c)
   pub flag_read : (bits first : ℕ) (flag : Bool) → field bits first 1 ≡ digit flag → is_set (place first 1) bits ≡ flag
   pub flag_held : (bits first : ℕ) (flag : Bool) → is_set (place first 1) bits ≡ flag → field bits first 1 ≡ digit flag

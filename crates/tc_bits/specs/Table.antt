@@ -4,7 +4,7 @@ use Rattle.tc_address.specs.Label.{Address}
 use Rattle.tc_bits.specs.declared.flags.Flags.{Flags}
 use Rattle.tc_bits.specs.declared.place.Place.{Place}
 use Rattle.tc_bits.specs.declared.table.Table.{Table}
-use Rattle.tc_bits.specs.Fields.{Contents}
+use Rattle.tc_bits.specs.Fields.{FieldValues}
 use Rattle.tc_bits.specs.Row.{Entry, entry, are_within}
 use Rattle.tc_bits.specs.UserBits.{group}
 
@@ -82,5 +82,5 @@ user_row t user =
     ∷ entry (place t.user_seven 4) (group 7 user) ∷ entry (place t.user_eight 4) (group 8 user) ∷ []
 
 -- all fields of a word in the places of its table
-abbrev pub row_of : Table → Contents → List Entry
+abbrev pub row_of : Table → FieldValues → List Entry
 row_of t c = address_row t c.label ++ flag_row t c.flags ++ user_row t c.user

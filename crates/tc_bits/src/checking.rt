@@ -2,7 +2,7 @@
 
 ghost use Rattle.std.specs.Prelude.{◌≡◌, ◌+◌, ◌*◌, ◌<◌, IfOk, IfErr, Some};
 ghost use Rattle.tc_address.specs.declared.system.System.{System};
-ghost use Rattle.tc_bits.specs.Fields.{Contents, FitsDigits, Says, count_in};
+ghost use Rattle.tc_bits.specs.Fields.{FieldValues, FitsDigits, Says, count_in};
 ghost use Rattle.tc_bits.specs.Fault.{first_field_fault};
 
 use crate::fault::FieldFault;
@@ -27,7 +27,7 @@ fn count_of(system: System, drop_frame: bool) -> Count
 pub fn check_fields(system: System, raw: &RawFields) -> Result<Fields, FieldFault>
     requires { FitsDigits raw.now }
     ensures reads { IfOk result (Says system raw.now) }
-    ensures only { (fields : Contents) → Says system raw.now fields → result ≡ Ok fields }
+    ensures only { (fields : FieldValues) → Says system raw.now fields → result ≡ Ok fields }
     ensures refuses { IfErr result (λ fault. first_field_fault system raw.now ≡ Some fault) }
 {
     let frames = 10 * raw.frame_tens + raw.frame_units;

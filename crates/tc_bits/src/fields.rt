@@ -1,7 +1,7 @@
 //! The fields of a word that say an address. Next: `tc_address/src/label.rt`, and then `flags`.
 
 ghost use Rattle.std.specs.Prelude.{◌≡◌, IfOk, IfErr, true, false};
-ghost use Rattle.tc_bits.specs.Fields.{contents, agrees, IsFields};
+ghost use Rattle.tc_bits.specs.Fields.{field_values, agrees, IsFields};
 
 use crate::flags::Flags;
 use crate::user_bits::UserBits;
@@ -19,13 +19,13 @@ pub struct Fields {
 }
 
 impl Model for Fields {
-    ghost use Rattle.tc_bits.specs.Fields.{Contents, contents, IsFields};
+    ghost use Rattle.tc_bits.specs.Fields.{FieldValues, field_values, IsFields};
 
-    ghost Value = { Contents };
+    ghost Value = { FieldValues };
 
-    ghost view = { λ f. contents f.label f.flags f.user };
+    ghost view = { λ f. field_values f.label f.flags f.user };
 
-    ghost invariant = { λ f. IsFields (contents f.label f.flags f.user) };
+    ghost invariant = { λ f. IsFields (field_values f.label f.flags f.user) };
 
     ghost inverse = { λ c. record { label = c.label; flags = c.flags; user = c.user } };
 }
@@ -39,7 +39,7 @@ impl Fields {
     /// Puts a label, flags and user bits together. It is refused exactly where the count is 30 and
     /// the drop-frame flag is set, or the count is 30 drop-frame and the flag is not set.
     pub fn new(label: Label, flags: Flags, user: UserBits) -> Result<Fields, DropFlag>
-        ensures reads { IfOk result (λ fields. fields ≡ contents label flags user) }
+        ensures reads { IfOk result (λ fields. fields ≡ field_values label flags user) }
         ensures agrees { IfOk result (λ fields. agrees label.count flags.bit10 ≡ true) }
         ensures refuses { IfErr result (λ fault. agrees label.count flags.bit10 ≡ false) }
     {

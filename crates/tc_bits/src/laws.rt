@@ -6,7 +6,7 @@ ghost use Rattle.tc_bits.specs.declared.raw.RawFields.{RawFields};
 ghost use Rattle.tc_bits.specs.Row.{SumHolds, OnlySumHolds};
 ghost use Rattle.tc_bits.specs.Spelling.{AreExact};
 ghost use Rattle.tc_bits.specs.UserBits.{group};
-ghost use Rattle.tc_bits.specs.Fields.{Contents, Says, fields_of};
+ghost use Rattle.tc_bits.specs.Fields.{FieldValues, Says, fields_of};
 ghost use Rattle.tc_bits.specs.Fault.{first_field_fault};
 ghost use Rattle.tc_bits.specs.declared.names.TheConstants as names;
 
@@ -31,11 +31,11 @@ pub fn eight_groups_are_the_user_bits()
 
 /// Digits say one address at most, and they say one exactly where they have no fault.
 pub fn digits_are_exact()
-    ensures one { (system : System) (raw : RawFields) (a b : Contents) → Says system raw a → Says system raw b → a ≡ b }
-    ensures no_fault { (system : System) (raw : RawFields) (c : Contents) → Says system raw c
+    ensures one { (system : System) (raw : RawFields) (a b : FieldValues) → Says system raw a → Says system raw b → a ≡ b }
+    ensures no_fault { (system : System) (raw : RawFields) (c : FieldValues) → Says system raw c
         → first_field_fault system raw ≡ None }
     ensures some { (system : System) (raw : RawFields) → first_field_fault system raw ≡ None
-        → (c : Contents) × Says system raw c }
+        → (c : FieldValues) × Says system raw c }
     ensures these { (system : System) (raw : RawFields) → first_field_fault system raw ≡ None
         → Says system raw (fields_of system raw) }
 {}

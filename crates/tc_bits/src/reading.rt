@@ -2,7 +2,7 @@
 
 ghost use Rattle.std.specs.Prelude.{◌≡◌, ◌<◌, IfOk, IfErr, Some, true};
 ghost use Rattle.tc_bits.specs.Fault.{first_field_fault};
-ghost use Rattle.tc_bits.specs.Fields.{Contents, Says};
+ghost use Rattle.tc_bits.specs.Fields.{FieldValues, Says};
 ghost use Rattle.tc_bits.specs.Reading.{flags_in, raw_in, user_in};
 ghost use Rattle.tc_bits.specs.Register.{is_set};
 ghost use Rattle.tc_bits.specs.Table.{IsTable, is_table, place};
@@ -84,7 +84,7 @@ fn raw_at(table: &Table, bits: u128) -> RawFields
 pub fn fields_at(system: System, table: &Table, bits: u128) -> Result<Fields, FieldFault>
     requires { is_table table.now ≡ true }
     ensures reads { IfOk result (Says system (raw_in table.now bits)) }
-    ensures only { (fields : Contents) → Says system (raw_in table.now bits) fields → result ≡ Ok fields }
+    ensures only { (fields : FieldValues) → Says system (raw_in table.now bits) fields → result ≡ Ok fields }
     ensures refuses { IfErr result (λ fault. first_field_fault system (raw_in table.now bits) ≡ Some fault) }
 {
     check_fields(system, &raw_at(table, bits))

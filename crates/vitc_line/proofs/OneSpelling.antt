@@ -16,7 +16,7 @@ use Rattle.tc_bits.specs.Reading.{raw_in}
 use Rattle.tc_bits.specs.Spelling.{AreExact}
 use Rattle.tc_bits.specs.Table.{place}
 use Rattle.tc_bits.specs.Fault.{first_field_fault}
-use Rattle.tc_bits.specs.Fields.{Contents, contents, agrees, digits_of, Says}
+use Rattle.tc_bits.specs.Fields.{FieldValues, field_values, agrees, digits_of, Says}
 use Rattle.vitc_line.specs.declared.places.TheConstants as places
 use Rattle.vitc_line.specs.declared.word.VitcWord.{VitcWord}
 use Rattle.vitc_line.specs.CheckBits.{bits_of_residue, residue, is_wrong_residue, wrong_residue}
@@ -68,7 +68,7 @@ check_by_sums bits a b c d e f g h =
     none_from_check bits (λ r lt. residue_is_parity r bits ∙ each_residue (λ r. HasEvenOnes r bits) a b c d e f g h r
     lt)
 
-abbrev pub word_of : Contents → Bool → VitcWord
+abbrev pub word_of : FieldValues → Bool → VitcWord
 word_of fields mark = record { fields = fields; field_mark = mark }
 
 -- the fields that the bits say are spelled by them
@@ -98,12 +98,12 @@ says exact system word bits s =
     (record { address = s.address; flags = s.flags; user = s.user })
 
 -- one word has these fields and this mark
-pub same_word : (fields : Contents) (mark : Bool) (word : VitcWord) → fields ≡ word.fields → mark ≡ word.field_mark
+pub same_word : (fields : FieldValues) (mark : Bool) (word : VitcWord) → fields ≡ word.fields → mark ≡ word.field_mark
     → word_of fields mark ≡ word
 same_word fields mark word e b = ap₂ word_of e b
 
 -- the bits spell one word
-pub one_word : AreExact → ((system : System) (raw : RawFields) (a b : Contents) → Says system raw a
+pub one_word : AreExact → ((system : System) (raw : RawFields) (a b : FieldValues) → Says system raw a
     → Says system raw b → a ≡ b)
     → (system : System) (a b : VitcWord) (bits : ℕ) → Spells system a bits → Spells system b bits → a ≡ b
 one_word exact one system a b bits p q =
@@ -113,7 +113,7 @@ one_word exact one system a b bits p q =
     (sym p.mark ∙ q.mark)
 
 -- a word that is spelled has no fault
-pub no_fault : AreExact → ((system : System) (raw : RawFields) (c : Contents) → Says system raw c
+pub no_fault : AreExact → ((system : System) (raw : RawFields) (c : FieldValues) → Says system raw c
     → first_field_fault system raw ≡ None)
     → (system : System) (word : VitcWord) (bits : ℕ) → Spells system word bits → first_fault system bits ≡ None
 no_fault exact none system word bits s =
@@ -154,8 +154,8 @@ pub said : {system : System} {count : Count} {hours minutes seconds frames : ℕ
     → hours < 24 → minutes < 60 → seconds < 60 → frames < rate_of (system_with count)
     → is_dropped (address count hours minutes seconds frames) ≡ false
     → agrees count flags.bit10 ≡ true → system_with count ≡ system
-    → digits_of (contents (address count hours minutes seconds frames) flags user) ≡ raw
-    → Says system raw (contents (address count hours minutes seconds frames) flags user)
+    → digits_of (field_values (address count hours minutes seconds frames) flags user) ≡ raw
+    → Says system raw (field_values (address count hours minutes seconds frames) flags user)
 said h m s f counted flag count digits = record {
   valid = record { label = record { hours = h; minutes = m; seconds = s; frames = f; counted = counted }; flag = flag };
   count = count;

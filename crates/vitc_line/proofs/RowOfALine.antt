@@ -5,7 +5,7 @@ use Rattle.tc_address.specs.declared.system.System.{System}
 use Rattle.tc_address.specs.declared.system.System.TheVariants.{F24, F25, F30}
 use Rattle.tc_address.specs.Count.{system_with}
 use Rattle.tc_address.specs.Label.{IsLabel}
-use Rattle.tc_bits.specs.Fields.{Contents, IsFields}
+use Rattle.tc_bits.specs.Fields.{FieldValues, IsFields}
 use Rattle.tc_bits.specs.Register.{number_in}
 use Rattle.tc_bits.specs.Row.{Fit, Holds, IsRow, sum_of, SumHolds, OnlySumHolds}
 use Rattle.tc_bits.specs.Spelling.{AreExact}
@@ -29,7 +29,7 @@ digit_below false = lit< tt
 also : {Held Rest : Type 0} → Held → Rest → Held × Rest
 also held rest = (held, rest)
 
-fits : (system : System) (c : Contents) (mark : Bool) (check : ℕ) → check < 2 ^ 8 → Fit (row_of (table_of system) c)
+fits : (system : System) (c : FieldValues) (mark : Bool) (check : ℕ) → check < 2 ^ 8 → Fit (row_of (table_of system) c)
     → Fit (row_with system c mark check)
 fits system c mark check low rest =
     also low (also (digit_below mark) (also (lit< tt) (also (lit< tt)
@@ -37,7 +37,7 @@ fits system c mark check low rest =
     (also (lit< tt) (also (lit< tt) (also (lit< tt) rest))))))))))
 
 -- the numbers of a line fill the 90 bits
-row_is : AreExact → (system : System) (c : Contents) (mark : Bool) (check : ℕ) → IsLabel c.label → check < 2 ^ 8
+row_is : AreExact → (system : System) (c : FieldValues) (mark : Bool) (check : ℕ) → IsLabel c.label → check < 2 ^ 8
     → IsRow 90 (row_with system c mark check)
 row_is exact F24 c mark check label low =
     record { shared = refl; within = refl; fit = fits F24 c mark check low (exact.fit (table_of F24) c label) }

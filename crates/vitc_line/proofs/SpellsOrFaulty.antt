@@ -4,7 +4,7 @@ use Rattle.tc_address.specs.declared.system.System.{System}
 use Rattle.tc_bits.specs.declared.fault.FieldFault.{FieldFault}
 use Rattle.tc_bits.specs.declared.raw.RawFields.{RawFields}
 use Rattle.tc_bits.specs.Fault.{first_field_fault}
-use Rattle.tc_bits.specs.Fields.{Contents, Says}
+use Rattle.tc_bits.specs.Fields.{FieldValues, Says}
 use Rattle.tc_bits.specs.Reading.{raw_in}
 use Rattle.tc_bits.specs.Register.{is_set}
 use Rattle.tc_bits.specs.Spelling.{AreExact}
@@ -20,7 +20,7 @@ use Rattle.vitc_line.proofs.OneSpelling.{spelled, word_of}
 
 -- digits without a fault say fields
 abbrev pub FaultlessSay : Type 0
-FaultlessSay = (system : System) (raw : RawFields) → first_field_fault system raw ≡ None → (c : Contents) × Says system raw c
+FaultlessSay = (system : System) (raw : RawFields) → first_field_fault system raw ≡ None → (c : FieldValues) × Says system raw c
 
 -- the bits spell a word, or they have a first fault
 abbrev pub SpellsOrIsFaulty : System → ℕ → Type 0

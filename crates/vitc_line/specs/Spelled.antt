@@ -4,7 +4,7 @@ use Rattle.std.specs.Prelude.{ℕ, ◌+◌, ◌*◌, Bool, List, ◌∷◌, ◌+
 use Rattle.std.specs.List.{range_with_len}
 use Rattle.tc_address.specs.declared.system.System.{System}
 use Rattle.tc_address.specs.Count.{system_with}
-use Rattle.tc_bits.specs.Fields.{Contents}
+use Rattle.tc_bits.specs.Fields.{FieldValues}
 use Rattle.tc_bits.specs.Row.{Entry, entry, sum_of}
 use Rattle.tc_bits.specs.Table.{digit, place, row_of}
 use Rattle.vitc_line.specs.declared.places.TheConstants as places
@@ -13,7 +13,7 @@ use Rattle.vitc_line.specs.CheckBits.{residue}
 use Rattle.vitc_line.specs.Places.{field_mark_bit, sync_pair_place, table_of}
 
 -- all numbers of a line in their places, with this one as the check
-abbrev pub row_with : System → Contents → Bool → ℕ → List Entry
+abbrev pub row_with : System → FieldValues → Bool → ℕ → List Entry
 row_with system fields mark check =
     entry places.CHECK check ∷ entry (place (field_mark_bit system) 1) (digit mark)
     ∷ map (λ pair. entry (sync_pair_place pair) places.SYNC_PAIR) (range_with_len 0 9)

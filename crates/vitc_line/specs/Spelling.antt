@@ -7,7 +7,7 @@ use Rattle.tc_address.specs.Count.{system_with}
 use Rattle.tc_address.specs.Label.{address}
 use Rattle.tc_bits.specs.declared.flags.Flags.{Flags}
 use Rattle.tc_bits.specs.Register.{number_in, is_set}
-use Rattle.tc_bits.specs.Fields.{IsFields, contents}
+use Rattle.tc_bits.specs.Fields.{IsFields, field_values}
 use Rattle.tc_bits.specs.Spelling.{SpellsAddress, SpellsFlags, SpellsUserBits}
 use Rattle.tc_bits.specs.Table.{place}
 use Rattle.vitc_line.specs.declared.word.VitcWord.{VitcWord}
@@ -29,7 +29,7 @@ pub record Spells (system : System) (word : VitcWord) (bits : ℕ) : Type 0 wher
 -- a word by its parts
 abbrev pub word_with : Count → ℕ → ℕ → ℕ → ℕ → Flags → ℕ → Bool → VitcWord
 word_with count hours minutes seconds frames flags user mark =
-    record { fields = contents (address count hours minutes seconds frames) flags user; field_mark = mark }
+    record { fields = field_values (address count hours minutes seconds frames) flags user; field_mark = mark }
 
 -- flags in the order of a report: drop-frame, colour-frame, binary group flags 0, 1 and 2
 abbrev pub flags : Bool → Bool → Bool → Bool → Bool → Flags

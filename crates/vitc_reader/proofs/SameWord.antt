@@ -9,7 +9,7 @@ use Rattle.tc_address.specs.declared.count.Count.{Count}
 use Rattle.tc_address.specs.contracts.count.Count.{the_type}
 use Rattle.tc_address.specs.Label.{address}
 use Rattle.tc_bits.specs.declared.flags.Flags.{Flags}
-use Rattle.tc_bits.specs.Fields.{contents}
+use Rattle.tc_bits.specs.Fields.{field_values}
 use Rattle.vitc_line.specs.declared.word.VitcWord.{VitcWord}
 
 both : (p q : Bool) → (p && q) ≡ true → (p ≡ true) × (q ≡ true)
@@ -43,7 +43,7 @@ same_parts a b =
 abbrev word_by : Count → ℕ → ℕ → ℕ → ℕ → Bool → Bool → Bool → Bool → Bool → ℕ → Bool → VitcWord
 word_by count h m s f drop colour zero one two user mark =
     let flags : Flags = record { bit10 = drop; colour = colour; bgf0 = zero; bgf1 = one; bgf2 = two } in
-    record { fields = contents (address count h m s f) flags user; field_mark = mark }
+    record { fields = field_values (address count h m s f) flags user; field_mark = mark }
 
 same_by : (count : Count) (h m s f : ℕ) (drop colour zero one two : Bool) (user : ℕ) (mark : Bool)
     (count' : Count) (h' m' s' f' : ℕ) (drop' colour' zero' one' two' : Bool) (user' : ℕ) (mark' : Bool)

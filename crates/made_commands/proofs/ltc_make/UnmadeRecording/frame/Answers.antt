@@ -7,7 +7,7 @@ use Rattle.tc_address.specs.Numbering.{step}
 use Rattle.ltc_jam.specs.Word.{time_bits}
 use Rattle.made_commands.specs.KeptStriping.{cell_bytes}
 use Rattle.made_commands.proofs.MadeInPieces.{frame_written, one_step_fits}
-use Rattle.made_commands.proofs.ltc_make.Striping.frame.Goals as goal
+use Rattle.made_commands.proofs.ltc_make.UnmadeRecording.frame.Goals as goal
 
 -- the frame was written, and the next ones are left
 pub returns-clause-rest : goal.returns-clause-rest

@@ -4,7 +4,7 @@ use Rattle.tc_address.specs.Label.{Address, IsLabel}
 use Rattle.made_commands.specs.KeptLines.{Lining, frame_bytes}
 use Rattle.made_commands.specs.MadeLines.{field_lines, field_word}
 use Rattle.made_commands.proofs.MadeLinesInPieces.{frame_written}
-use Rattle.made_commands.proofs.vitc_make.LineStriping.frame.Goals as goal
+use Rattle.made_commands.proofs.vitc_make.UnmadeLines.frame.Goals as goal
 
 -- the two fields were written, and the next frames are left
 pub returns-clause-rest : goal.returns-clause-rest

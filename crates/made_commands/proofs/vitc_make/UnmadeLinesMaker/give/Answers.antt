@@ -1,7 +1,7 @@
 use Rattle.std.proofs.Common.{◌≡◌, ◌∙◌, None, sym, ap}
 use Rattle.made_commands.specs.KeptLines.{rest_of_lines}
 use Rattle.made_commands.proofs.MadeLinesInPieces.{no_frame_left}
-use Rattle.made_commands.proofs.vitc_make.LineStripingMaker.give.Goals as goal
+use Rattle.made_commands.proofs.vitc_make.UnmadeLinesMaker.give.Goals as goal
 
 -- the header was given, and no frame is left
 pub returns-then-self-eq0-clause-all : goal.returns-then-self-eq0-clause-all

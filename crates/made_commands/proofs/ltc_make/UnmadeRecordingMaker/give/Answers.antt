@@ -1,6 +1,6 @@
 use Rattle.std.proofs.Common.{◌≡◌, None}
 use Rattle.made_commands.proofs.MadeInPieces.{nothing_left}
-use Rattle.made_commands.proofs.ltc_make.StripingMaker.give.Goals as goal
+use Rattle.made_commands.proofs.ltc_make.UnmadeRecordingMaker.give.Goals as goal
 
 -- the header was given, and no frame is left
 pub returns-then-self-eq0-clause-all : goal.returns-then-self-eq0-clause-all

@@ -1,6 +1,6 @@
 use Rattle.std.proofs.Common.{◌≡◌, ◌<◌, ◌++◌, None}
 use Rattle.made_commands.specs.KeptLines.{frame_bytes}
-use Rattle.made_commands.proofs.vitc_make.LineStripingMaker.give.Given as goal
+use Rattle.made_commands.proofs.vitc_make.UnmadeLinesMaker.give.Given as goal
 
 -- the frames in the room and those that are left are the whole
 abbrev pub invariant-frames : goal.invariant-frames

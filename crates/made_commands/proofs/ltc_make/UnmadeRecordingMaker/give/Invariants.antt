@@ -1,6 +1,6 @@
 use Rattle.std.proofs.Common.{◌≡◌, ◌<◌, ◌++◌, None}
 use Rattle.made_commands.specs.KeptStriping.{rest_of}
-use Rattle.made_commands.proofs.ltc_make.StripingMaker.give.Given as goal
+use Rattle.made_commands.proofs.ltc_make.UnmadeRecordingMaker.give.Given as goal
 
 -- the frames in the room and those that are left are the whole
 abbrev pub invariant-frames : goal.invariant-frames
