@@ -30,9 +30,10 @@ pub record IsChainFrom (profile : Profile) (intervals : List ℕ) (lock : ℕ) (
   pub chain : FollowOn profile cells
   pub front : Begins (flat cells) (drop lock intervals)
 
--- the place where a stretch breaks, if it does. `kept` is what is kept of its cells, and `rest` is the list from the
--- place `after` them on. It breaks at the next interval, or one later where that may be a first half, and not before
--- the list goes on so far
+-- the place where a stretch breaks, if it does, behind the longest chain of its cells, so that no further cell fits.
+-- `kept` is what is kept of its cells, and the list is that from the place `after` them on. Where the next interval may
+-- be a first half, the one behind it is no second half to it, and the break is there, once the list goes on so far. Else
+-- it is at the next interval
 abbrev pub IsBreak : Profile → Latest → ℕ → List ℕ → Option ℕ → Type 0
 IsBreak profile kept after [] place = place ≡ None
 IsBreak profile kept after (x ∷ []) place =
@@ -45,7 +46,8 @@ pub record IsStretch (profile : Profile) (intervals : List ℕ) (stretch : Stret
   pub chain : IsChainFrom profile intervals stretch.lock stretch.cells
   pub longest : (others : List Cell) → IsChainFrom profile intervals stretch.lock others
       → length others ≤ length stretch.cells
-  pub broken : IsBreak profile (kept_of profile stretch.cells) (end_of stretch) (drop (end_of stretch) intervals) stretch.broken_at
+  pub broken : IsBreak profile (kept_of profile stretch.cells) (end_of stretch) (drop (end_of stretch) intervals)
+      stretch.broken_at
 
 -- the stretches from the place `start` on: the first is at the lock from there, and after its break those from the
 -- break on follow

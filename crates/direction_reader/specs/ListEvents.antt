@@ -26,8 +26,8 @@ abbrev pub duration : List Cell → ℕ
 duration cells = sum (flat cells)
 
 -- the events of a window of 80 bits, with the tick at its end and the sum of its intervals: it is a forward candidate
--- where it ends in the sync word, and a backward one where its bits in the other order of time do; the forward candidate
--- comes first
+-- where it ends in the sync word, and a backward one where its bits in the other order of time do; the forward
+-- candidate comes first
 unfoldable pub events_of_window : System → ℕ → ℕ → ℕ → List Event
 events_of_window system bits end length =
     candidate_in system Forward bits end length ++ candidate_in system Backward (reversed_bits bits) end length

@@ -22,7 +22,8 @@ turned Forward = Backward
 turned Backward = Forward
 
 -- the one event is the other, met from the other end: the same word or fault in the opposite direction, at the tick of
--- its other end. That tick and the event's own make up the sum of the intervals and the window's length
+-- its other end. That tick and the event's own make up the sum of the intervals and the length of the window, which a
+-- refused candidate does not tell
 abbrev pub IsMirrorOf : ℕ → Event → Event → Type 0
 IsMirrorOf total (Word direction word tick length) (Word other same there n) =
     (other ≡ turned direction) × (same ≡ word) × (there + tick ≡ total + length) × (n ≡ length)
@@ -35,10 +36,12 @@ abbrev pub TellFirst : System → ℕ → List Cell → List Event → Type 0
 TellFirst system tick cells events = (more : List Event) × (events ≡ events_of_cells system tick cells ++ more)
     × All (λ event. tick + duration cells ≤ tick_of event) more
 
--- between the `first` intervals before and the `last` intervals behind them, the cells are the other cells in the other
--- order of time, all of them. So the events of both begin with those of these cells, and from the last one to the first
--- one they are the same words, good or refused, each met from its other end
-pub record TellMirrored (system : System) (intervals : List ℕ) (first last : ℕ) (cells others : List Cell) (events mirrored_events : List Event) : Type 0 where
+-- the cells stand from place `first` of the intervals on, and the others from place `last` on in the other order of time.
+-- The cells `between` these places begin the cells, and in the other order of time they begin the others. So the events
+-- of both begin with those of these cells, and from the last one to the first one they are the same words, good or
+-- refused, each met from its other end
+pub record TellMirrored (system : System) (intervals : List ℕ) (first last : ℕ) (cells others : List Cell)
+    (events mirrored_events : List Event) : Type 0 where
   pub between : List Cell
   pub begin : Begins between cells
   pub others_begin : Begins (mirrored between) others

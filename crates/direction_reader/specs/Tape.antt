@@ -28,8 +28,8 @@ ComesBy end from (Lost interval tick) = interval ≤ from
 ComesBy end from event = tick_of event ≤ end
 
 -- in the intervals `front` and what comes behind them, the events are from the place `from` to the end of `front` those
--- of the windows of these cells and nothing else. Before them come words that begin before this place, so that at most
--- 79 of their cells stand behind it, and breaks at this place at the latest; and behind them what comes at the end of
+-- of the windows of these cells and nothing else. Before them come words that began before this place, so that they end
+-- with its 79th cell at the latest, and breaks at this place at the latest; and behind them what comes at the end of
 -- `front` or later
 pub record TellFrom (system : System) (front : List ℕ) (from : ℕ) (cells : List Cell) (events : List Event) : Type 0 where
   pub past : List Event

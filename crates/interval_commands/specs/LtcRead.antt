@@ -1,4 +1,4 @@
--- The report of a recording: what `ltc-read` prints, and under the other tolerance `ltc-worn`.
+-- The report of a recording: what `ltc-read` prints, and under the other tolerances `ltc-worn` and `ltc-rough`.
 use Rattle.std.specs.Prelude.{◌≡◌, ℕ, List, ◌++◌, length, count_by, sum}
 use Rattle.std.specs.List.{flat_map}
 use Rattle.biphase.specs.declared.profile.Profile.{Profile}

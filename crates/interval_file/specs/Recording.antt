@@ -16,7 +16,8 @@ pub record Recording : Type 0 where
   pub intervals : List ℕ
   pub verdict : Verdict IntervalFileFault
 
--- the verdict on bytes with this first fault, whatever follows them: what is cut off may go on
+-- the verdict on bytes with this first fault, whatever follows them: bytes that end too early are good so far, since
+-- more may come
 abbrev pub shown : IntervalFileFault → Verdict IntervalFileFault
 shown (Truncated end) = good
 shown fault = refused fault
@@ -26,7 +27,8 @@ abbrev pub whole_in : IntervalFileFault → ℕ
 whole_in (Interval first) = 1
 whole_in fault = 0
 
--- of so many whole intervals, those within the limit are read, and one more is past it, whatever its length is
+-- what is read behind a header, where so many intervals are whole, also one at the end that is out of range: of these
+-- in range those within the limit, and where one more is whole the bytes are past it
 abbrev pub within_limit : IntervalHeader → List ℕ → ℕ → Verdict IntervalFileFault → Recording
 within_limit header intervals whole verdict = record {
   header = Some header;

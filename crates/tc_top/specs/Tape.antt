@@ -1,4 +1,5 @@
--- The truth of a report: what the lines of `ltc-read`, and under the other tolerance `ltc-worn`, say of the tape.
+-- The truth of a report: what the lines of `ltc-read`, and under the other tolerances those of `ltc-worn` and
+-- `ltc-rough`, say of the tape.
 use Rattle.std.specs.Prelude.{◌≡◌, ℕ, List, reverse, Some}
 use Rattle.biphase.specs.declared.profile.Profile.{Profile}
 use Rattle.direction_reader.specs.declared.event.Event.{Event}
