@@ -32,8 +32,8 @@ pub record IsChainFrom (profile : Profile) (intervals : List ℕ) (lock : ℕ) (
 
 -- the place where a stretch breaks, if it does, behind the longest chain of its cells, so that no further cell fits.
 -- `kept` is what is kept of its cells, and the list is that from the place `after` them on. Where the next interval may
--- be a first half, the one behind it is no second half to it, and the break is there, once the list goes on so far. Else
--- it is at the next interval
+-- be a first half, the one behind it is no second half to it, and the break is there, once the list goes on so far.
+-- Else it is at the next interval
 abbrev pub IsBreak : Profile → Latest → ℕ → List ℕ → Option ℕ → Type 0
 IsBreak profile kept after [] place = place ≡ None
 IsBreak profile kept after (x ∷ []) place =

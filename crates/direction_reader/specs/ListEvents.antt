@@ -54,4 +54,5 @@ events_of_stretch system intervals stretch =
 -- the events of a list of intervals: those of its stretches, one stretch after another
 abbrev pub AreEvents : System → Profile → List ℕ → List Event → Type 0
 AreEvents system profile intervals events = (stretches : List Stretch)
-    × AreStretchesFrom profile intervals 0 stretches × (events ≡ flat_map (events_of_stretch system intervals) stretches)
+    × AreStretchesFrom profile intervals 0 stretches
+    × (events ≡ flat_map (events_of_stretch system intervals) stretches)

@@ -36,10 +36,10 @@ abbrev pub TellFirst : System → ℕ → List Cell → List Event → Type 0
 TellFirst system tick cells events = (more : List Event) × (events ≡ events_of_cells system tick cells ++ more)
     × All (λ event. tick + duration cells ≤ tick_of event) more
 
--- the cells stand from place `first` of the intervals on, and the others from place `last` on in the other order of time.
--- The cells `between` these places begin the cells, and in the other order of time they begin the others. So the events
--- of both begin with those of these cells, and from the last one to the first one they are the same words, good or
--- refused, each met from its other end
+-- the cells stand from place `first` of the intervals on, and the others from place `last` on in the other order of
+-- time. The cells `between` these places begin the cells, and in the other order of time they begin the others. So the
+-- events of both begin with those of these cells, and from the last one to the first one they are the same words, good
+-- or refused, each met from its other end
 pub record TellMirrored (system : System) (intervals : List ℕ) (first last : ℕ) (cells others : List Cell)
     (events mirrored_events : List Event) : Type 0 where
   pub between : List Cell

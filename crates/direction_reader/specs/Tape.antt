@@ -31,7 +31,8 @@ ComesBy end from event = tick_of event ≤ end
 -- of the windows of these cells and nothing else. Before them come words that began before this place, so that they end
 -- with its 79th cell at the latest, and breaks at this place at the latest; and behind them what comes at the end of
 -- `front` or later
-pub record TellFrom (system : System) (front : List ℕ) (from : ℕ) (cells : List Cell) (events : List Event) : Type 0 where
+pub record TellFrom (system : System) (front : List ℕ) (from : ℕ) (cells : List Cell) (events : List Event)
+    : Type 0 where
   pub past : List Event
   pub behind : List Event
   pub are : events ≡ past ++ events_of_cells system (sum (take from front)) cells ++ behind

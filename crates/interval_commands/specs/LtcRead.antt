@@ -16,7 +16,8 @@ lines header events = flat_map (event_line header) events
 -- the last line counts the intervals, the events of each kind and the ticks
 abbrev pub last_line : List ℕ → List Event → List ℕ
 last_line intervals events =
-    read_end_line (length intervals) (count_by is_word events) (count_by is_refused events) (count_by is_lost events) (sum intervals)
+    read_end_line (length intervals) (count_by is_word events) (count_by is_refused events) (count_by is_lost events)
+    (sum intervals)
 
 -- before the end: the lines of the events of the intervals
 pub record IsReadPart (profile : Profile) (header : IntervalHeader) (intervals written : List ℕ) : Type 0 where
