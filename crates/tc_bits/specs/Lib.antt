@@ -1,5 +1,6 @@
 pub mod Fault
 pub mod Fields
+pub mod KeptQuotients
 pub mod Reading
 pub mod Register
 pub mod Row

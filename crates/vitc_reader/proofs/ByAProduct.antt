@@ -1,46 +1,11 @@
--- A quotient by a product and a shift: the factor is so little above the true one that no quotient moves. And the lower part of the product tells how
--- much the division leaves.
+-- The quotient of a run by a cell, by a product and a shift; and the lower part of the product tells how much the
+-- division leaves.
 use Rattle.std.proofs.Common.{◌≡◌, ℕ, ◌+◌, ◌-◌, ◌*◌, ◌/◌, ◌%◌, ◌^◌, ◌<◌, ◌≤◌, sym, ap, ◌∙◌, arith, inl, inr}
-use Rattle.std.proofs.Math.Nat.{div-eq_of_lt-le, div-mul-le_self, le_of_mul-le-mul_left, div-add-mod, lt-mul-div-succ, mod-eq-sub-div-mul, mul-div-mul_right}
+use Rattle.std.proofs.Math.Nat.{div-mul-le_self, div-add-mod, mod-eq-sub-div-mul, mul-div-mul_right}
 use Rattle.std.proofs.lemmas.Bool.{cases_lt}
 use Rattle.std.proofs.lemmas.Nat.{mul-le}
 use Rattle.vitc_reader.specs.KeptLine.{factor_on}
-
-not_less : (p x d q m : ℕ) → q * d ≤ x → p ≤ m * d → q * p ≤ x * m
-not_less p x d q m low factor =
-    let a : q * p ≤ q * (m * d) = mul-le q p q (m * d) (omega arith) factor in
-    let b : (q * d) * m ≤ x * m = mul-le (q * d) m x m low (omega arith) in
-    let same : q * (m * d) ≡ (q * d) * m = grind arith in
-    omega (arith, a, b, same)
-
-times : (p x d q m : ℕ) → x + 1 ≤ (q + 1) * d → m * d ≤ p + d → (x + 1) * d ≤ p → d * (x * m + 1) ≤ d * ((q + 1) * p)
-times p x d q m high factor room =
-    let a : x * (m * d) ≤ x * (p + d) = mul-le x (m * d) x (p + d) (omega arith) factor in
-    let b : (x + 1) * p ≤ ((q + 1) * d) * p = mul-le (x + 1) p ((q + 1) * d) p high (omega arith) in
-    let one : d * (x * m + 1) ≡ x * (m * d) + d = grind arith in
-    let two : x * (p + d) ≡ x * p + x * d = grind arith in
-    let three : (x + 1) * p ≡ x * p + p = grind arith in
-    let four : ((q + 1) * d) * p ≡ d * ((q + 1) * p) = grind arith in
-    let five : (x + 1) * d ≡ x * d + d = grind arith in
-    omega (arith, a, b, one, two, three, four, five, room)
-
-is_quotient : (p x d q m : ℕ) → 1 ≤ d → q * d ≤ x → x + 1 ≤ (q + 1) * d → p ≤ m * d → m * d ≤ p + d → (x + 1) * d ≤ p → x * m / p ≡ q
-is_quotient p x d q m some low high least most room =
-    let below = not_less p x d q m low least in
-    let above : x * m + 1 ≤ (q + 1) * p = le_of_mul-le-mul_left {m = x * m + 1} {n = (q + 1) * p} {k = d} (times p x d q m high most room) some in
-    div-eq_of_lt-le p below (omega (arith, above))
-
-behind : (x d : ℕ) → 1 ≤ d → x + 1 ≤ (x / d + 1) * d
-behind x d some =
-    let lt : x < d * (x / d + 1) = lt-mul-div-succ x {b = d} some in
-    let same : d * (x / d + 1) ≡ (x / d + 1) * d = grind arith in
-    omega (arith, lt, same)
-
-pub by_product : (p x d : ℕ) → 1 ≤ d → (x + 1) * d ≤ p → x * (p / d + 1) / p ≡ x / d
-by_product p x d some room =
-    let most : (p / d + 1) * d ≤ p + d = let h = div-mul-le_self p d in let e : (p / d + 1) * d ≡ p / d * d + d = grind arith in omega (arith, h, e) in
-    let least : p ≤ (p / d + 1) * d = let h = behind p d some in omega (arith, h) in
-    is_quotient p x d (x / d) (p / d + 1) some (div-mul-le_self x d) (behind x d some) least most room
+use Rattle.tc_bits.specs.KeptQuotients.{behind, by_product}
 
 -- on a line of n ticks
 pub by_factor : (n x : ℕ) → 1 ≤ n → n ≤ 65535 → x < 2 ^ 25 → x * (2 ^ 43 / (4 * n) + 1) / 2 ^ 43 ≡ x / (4 * n)
