@@ -1,11 +1,8 @@
 //! Scripts whose rows, and traces whose lines, were worked by hand.
-use chase_command::chase;
 use chase_core::{Command, Loss, Master, State, StepReport};
 use chase_script::{Column, ScriptFault, ScriptRow, script_rows, step_text};
 use std::test::Fail;
-use tc_address::{Count, Direction, Label};
-use tc_command::Status;
-use tc_io::{MemorySink, SteadySource};
+use tc_address::{Count, Direction};
 
 #[test]
 fn rows_of_a_script(rt: HostRuntime) -> Result<(), Fail> {
@@ -70,34 +67,5 @@ fn what_is_refused_or_long_wants_no_memory(rt: HostRuntime) -> Result<(), Fail> 
         return Err("the slip is not refused".into());
     };
     assert_eq!(rt; (fault.row, fault.column), (301, Column::Slip));
-    Ok(())
-}
-
-/// How a chase along a script ends whose output takes nothing.
-fn status_of(rt: &HostRuntime, script: &[u8]) -> Result<Status, Fail> {
-    let alloc = rt.alloc();
-    let Ok(label) = Label::new(Count::C25, 0, 0, 0, 0) else {
-        return Err("no label".into());
-    };
-    let mut source = SteadySource::new(alloc, script)?;
-    let mut out = MemorySink::new(alloc, 0, &[])?;
-    let mut notes = MemorySink::new(alloc, 128, &[])?;
-    Ok(chase(alloc, &label, &mut source, &mut out, &mut notes))
-}
-
-#[test]
-fn a_long_script_wants_no_memory(rt: HostRuntime) -> Result<(), Fail> {
-    let alloc = rt.alloc();
-    let mut script = Vec::new(alloc);
-    script.extend_from_slice(b",,,,\n")?;
-    for _ in 0..18u32 {
-        assert_eq!(rt; status_of(&rt, &script)?, Status::WriteFault);
-        let mut refused = script.clone()?;
-        refused.extend_from_slice(b",,,,x\n")?;
-        assert_eq!(rt; status_of(&rt, &refused)?, Status::Refused);
-        let half = script.clone()?;
-        script.extend_from_slice(&half)?;
-    }
-    assert_eq!(rt; status_of(&rt, &script)?, Status::Limit);
     Ok(())
 }
