@@ -31,8 +31,6 @@ mod at_cell;
 mod hunting;
 pub mod laws;
 mod mid_cell;
-#[cfg(test)]
-mod tests;
 
 pub use at_cell::{AtCell, FromAtCell};
 pub use hunting::{FromHunting, Hunting};

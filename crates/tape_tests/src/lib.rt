@@ -17,3 +17,5 @@ mod frames;
 mod readings;
 #[cfg(test)]
 mod spans;
+#[cfg(test)]
+mod states;
