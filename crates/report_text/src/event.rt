@@ -1,5 +1,8 @@
 //! The line of an event. Next: `line_text/src/line.rt`.
-ghost use Rattle.std.specs.Prelude.{◌≡◌, ◌<◌, ◌≤◌, ◌^◌};
+ghost use Rattle.std.specs.Prelude.{◌≡◌, ◌+◌, ◌<◌, ◌≤◌, ◌^◌, ◌++◌, codes};
+ghost use Rattle.arrayvec.specs.ArrayVec.{array_vec_len};
+ghost use Rattle.line_text.specs.Line.{direction_name, flag_digit, flags_text, user_text};
+ghost use Rattle.tc_address.specs.Spelling.{text_of};
 ghost use Rattle.interval_file.specs.IntervalHeader.{IsTickRate};
 ghost use Rattle.report_text.specs.Texts.{
   event_line,
@@ -56,16 +59,7 @@ fn word_text(
     ensures { result.items ≡ word_line header.now direction word.now tick length }
 {
     let mut line = Text::new();
-    push_bytes(&mut line, b"word ");
-    push_bytes(&mut line, direction_name(direction).as_bytes());
-    push_bytes(&mut line, b" ");
-    push_bytes(&mut line, &text(&word.fields.label()));
-    push_bytes(&mut line, b" user ");
-    push_hexadecimal(&mut line, word.fields.user().groups());
-    push_bytes(&mut line, b" flags ");
-    push_flags(&mut line, word.fields.flags());
-    push_bytes(&mut line, b" balance ");
-    push_flag(&mut line, word.balanced);
+    push_word(&mut line, direction, word);
     push_bytes(&mut line, b" tick ");
     push_ticks(&mut line, tick);
     push_bytes(&mut line, b" length ");
@@ -74,6 +68,26 @@ fn word_text(
     push_count(&mut line, speed(header, length));
     push_bytes(&mut line, b"\n");
     line
+}
+
+/// Appends what the word itself says: its way, its fields, and whether it is balanced.
+fn push_word(line: &mut Text, direction: Direction, word: &LtcWord)
+    requires { array_vec_len line.old + 61 ≤ 128 }
+    ensures items { line.new.items ≡ line.old.items ++ codes "word " ++ direction_name direction ++ codes " "
+        ++ text_of word.now.fields.label ++ codes " user " ++ user_text word.now.fields.user
+        ++ codes " flags " ++ flags_text word.now.fields.flags ++ codes " balance " ++ flag_digit word.now.balanced }
+    ensures len { array_vec_len line.new ≤ array_vec_len line.old + 61 }
+{
+    push_bytes(line, b"word ");
+    push_bytes(line, direction_name(direction).as_bytes());
+    push_bytes(line, b" ");
+    push_bytes(line, &text(&word.fields.label()));
+    push_bytes(line, b" user ");
+    push_hexadecimal(line, word.fields.user().groups());
+    push_bytes(line, b" flags ");
+    push_flags(line, word.fields.flags());
+    push_bytes(line, b" balance ");
+    push_flag(line, word.balanced);
 }
 
 fn refused_text(direction: Direction, fault: FieldFault, tick: u64) -> Text

@@ -15,7 +15,6 @@ use Rattle.wave_file.specs.Chunk.{chunk_of}
 use Rattle.wave_file.specs.Stage.{width_of, IsPassed}
 use Rattle.wave_file.specs.declared.stage.Stage.TheVariants as stage
 use Rattle.wave_file.specs.Wave.{Reading, bad, chunk_at, chunks_at, format_at, judged_width, padded, piece, sizes_at, taken}
-use Rattle.tc_io.specs.Verdict.{good}
 
 -- two tests that hold together are one
 pub nat_le_same : (a b c d : ℕ) → (a ≤ b → c ≤ d) → (c ≤ d → a ≤ b) → nat_le a b ≡ nat_le c d

@@ -1,11 +1,11 @@
 -- What bytes show of a sound file they show whatever follows: a piece that is whole stays so, and the blocks of more bytes begin with theirs.
-use Rattle.std.proofs.Common.{true, false, ◌≡◌, ◌≢◌, ℕ, zero, suc, ◌+◌, ◌-◌, ◌*◌, ◌/◌, ◌<◌, ◌≤◌, ◌⊎◌, inl, inr, min, Bool, List, [], ◌∷◌, ◌++◌, length, take, drop}
+use Rattle.std.proofs.Common.{true, false, ◌≡◌, ℕ, zero, suc, ◌+◌, ◌-◌, ◌*◌, ◌/◌, ◌<◌, ◌≤◌, ◌⊎◌, inl, inr, min, Bool, List, [], ◌∷◌, ◌++◌, length, take, drop}
 use Rattle.std.proofs.Common.{refl, ap, ap₂, ◌∙◌, arith, sym, Option, Some, None}
 use Rattle.std.specs.Prelude.{nat_le, ◌==◌, ℤ, if◌then◌else◌, Result, Ok, Err}
 use Rattle.std.proofs.lemmas.Bool.{cases_lt, le-leb, lt-leb, leb-true, leb-false}
 use Rattle.std.proofs.lemmas.Nat.{le-div}
 use Rattle.std.proofs.Math.Nat.{div-mul-le_self}
-use Rattle.std.proofs.lemmas.List.{length-append, length-drop, length-take-le, take-append-le, drop-append-le, take_all}
+use Rattle.std.proofs.lemmas.List.{length-append, length-drop, take-append-le, drop-append-le}
 use Rattle.std.proofs.Math.Nat.{suc-mul}
 use Rattle.std.proofs.Math.Seq.{take-append-add}
 use Rattle.byteorder.specs.Endian.{big_number, little_number}
@@ -24,7 +24,7 @@ use Rattle.wave_file.specs.Format.{format_in, sample_in, samples_at}
 use Rattle.wave_file.specs.GoesOn.{GoesOn, IsWithin}
 use Rattle.wave_file.specs.Wave.{Reading, and_more, bad, behind_form, blocks_inside, bytes_inside, chunk_at, chunks_at}
 use Rattle.tc_io.specs.Verdict.{Verdict, good, refused, past_limit}
-use Rattle.wave_file.specs.Wave.{data_at, file_at, format_at, judged_width, padded, piece, reading_of, sizes_at, taken, unfinished, wave_at}
+use Rattle.wave_file.specs.Wave.{data_at, file_at, judged_width, padded, piece, reading_of, taken, unfinished}
 
 -- ---- a piece
 

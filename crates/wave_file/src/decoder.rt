@@ -164,7 +164,7 @@ impl WaveDecoder {
         }
         let block = usize::from(format.block);
         let inside = bytes_inside(extent, MAX_BYTES - self.place, bytes.len());
-        let count = least(inside / block, room.len(), left);
+        let count = whole_blocks(inside, block, room.len(), left);
         read_blocks(
             &format,
             self.track,
@@ -288,6 +288,16 @@ fn bytes_inside(extent: Extent, room: u64, length: usize) -> usize
         Extent::Announced(left) if left < within as u64 => left as usize,
         _ => within,
     }
+}
+
+/// How many whole blocks are in so many bytes, where there are so many places and so many are left.
+fn whole_blocks(inside: usize, block: usize, places: usize, left: u64) -> usize
+    requires { 1 ≤ block }
+    ensures inside { result * block ≤ inside }
+    ensures places { result ≤ places }
+    ensures left { result ≤ left }
+{
+    least(inside / block, places, left)
 }
 
 /// The least of these numbers.

@@ -1,11 +1,9 @@
-use Rattle.std.proofs.Common.{◌≡◌, ◌≤◌, ◌-◌, ◌*◌, ◌/◌, ◌++◌, ◌∷◌, [], ℕ, List, length, take, drop, refl, sym, arith, subst, ◌∙◌}
+use Rattle.std.proofs.Common.{◌≡◌, ◌≤◌, ◌-◌, ◌*◌, ◌++◌, ◌∷◌, [], ℕ, List, length, take, drop, refl, sym, arith, subst, ◌∙◌}
 use Rattle.std.specs.Prelude.{ℤ}
 use Rattle.wave_file.proofs.Decoding.{blocks_added}
 use Rattle.wave_file.proofs.decoder.WaveDecoder.samples.Goals as goal
 use Rattle.std.proofs.lemmas.Bool.{eqb-true}
 use Rattle.std.proofs.lemmas.List.{length-take-le}
-use Rattle.std.proofs.Math.Nat.{div-mul-le_self}
-use Rattle.std.proofs.lemmas.Nat.{mul-le}
 use Rattle.std.proofs.Math.Seq.{take-append_seam}
 use Rattle.wave_file.specs.declared.chunk.Extent.{Extent}
 use Rattle.wave_file.specs.declared.chunk.Extent.TheVariants.{Announced, Open}
@@ -23,27 +21,21 @@ has_less : (extent : Extent) (a b : ℕ) → a ≤ b → HasBytes b extent → H
 has_less (Announced n) a b less has = omega (arith, less, has)
 has_less Open a b less has = tt
 
-few_bytes : (count block inside : ℕ) → count ≤ inside / block → count * block ≤ inside
-few_bytes count block inside less =
-    let most = div-mul-le_self inside block in
-    let row = mul-le count block (inside / block) block less (omega arith) in
-    omega (arith, most, row)
-
 pub returns-clause-adds : goal.returns-clause-adds
 returns-clause-adds c =
     let d = c.self.inside in
     let format = c.in-Data.format in
     let extent = c.in-Data.extent in
-    let count = c.least-count.result in
+    let count = c.whole_blocks-count.result in
     let is = rw c.in-Data.is at c.self.invariant.stage in
     let none = nothing_in d.part.items (eqb-true (length d.part.items) 0 (sym c.is_empty.ensures ∙ c.if-not-is_empty.false)) in
-    let size : length (take count c.args.room.now) ≡ count = length-take-le count c.args.room.now c.least-count.ensures.places in
+    let size : length (take count c.args.room.now) ≡ count = length-take-le count c.args.room.now c.whole_blocks-count.ensures.places in
     let put = front_of c.read_blocks.new.places (drop count c.args.room.now) count (c.read_blocks.auto.places ∙ size) in
-    let few = few_bytes count format.block c.bytes_inside-inside.result (rw c.from-block.ensures at c.least-count.ensures.blocks) in
+    let few = rw c.from-block.ensures at c.whole_blocks-count.ensures.inside in
     let inside = c.bytes_inside-inside.ensures.length in
     let left = is.2 in
     let k = data_kept d.track d.place format (extent_behind extent (count * format.block)) (c.in-Data.left - count) is.0
     (omega (arith, left)) in
     rw (← c.self.view_is, none, c.in-Data.is, c.data_stage-self-inside.ensures, c.behind.ensures, put, c.read_blocks.ensures, size, c.from-block.ensures)
     (blocks_added d.track d.notes d.place format extent c.in-Data.left count c.args.bytes.now
-    (omega (arith, few, inside)) is.0.some (has_less extent _ _ few c.bytes_inside-inside.ensures.inside) c.least-count.ensures.left k.format_is)
+    (omega (arith, few, inside)) is.0.some (has_less extent _ _ few c.bytes_inside-inside.ensures.inside) c.whole_blocks-count.ensures.left k.format_is)
