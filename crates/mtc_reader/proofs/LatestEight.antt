@@ -9,7 +9,7 @@ use Rattle.std.specs.Str.{bytes_eq}
 use Rattle.std.proofs.lemmas.List.{drop-drop, drop-append-le, length-map, length-reverse}
 use Rattle.std.proofs.lemmas.List.FromFn.{fill_by_all}
 use Rattle.std.proofs.lemmas.Slice.Eq.{bytes_eq-Decides}
-use Rattle.mtc_reader.specs.declared.row.TheConstants.{NO_QUARTER}
+use Rattle.mtc_reader.specs.declared.eight.TheConstants.{NO_QUARTER}
 use Rattle.mtc_reader.specs.Events.{latest_eight, piece_of, pieces, window_event}
 use Rattle.mtc_reader.specs.StandsFor.{padded}
 
