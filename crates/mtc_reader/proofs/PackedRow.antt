@@ -1,6 +1,6 @@
 -- Eight quarter frames in two numbers. One more moves the others up, and the oldest out.
 use Rattle.std.proofs.Common.{◌≡◌, ◌⊎◌, inl, inr, false, ◌&&◌, ◌||◌, ◌==◌, ◌<◌, ◌≤◌, ℕ, ◌+◌, ◌*◌, ◌/◌, ◌%◌, List, [], ◌∷◌, ◌++◌, None, length}
-use Rattle.std.proofs.Common.{slice_index, refl, ◌∙◌, ap, ap₂, arith}
+use Rattle.std.proofs.Common.{slice_index, refl, ◌∙◌, ap₂, arith}
 use Rattle.mtc_reader.specs.Events.{latest_eight, piece_of, window_event}
 use Rattle.mtc_reader.specs.StandsFor.{four_in, have_ends}
 use Rattle.mtc_reader.proofs.LatestEight.{backward_at, forward_at, neither, shifted}

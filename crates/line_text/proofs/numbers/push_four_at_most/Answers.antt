@@ -1,4 +1,4 @@
-use Rattle.std.proofs.Common.{◌++◌, ◌∙◌, ◌≡◌, append_assoc, arith}
+use Rattle.std.proofs.Common.{append_assoc, arith}
 use Rattle.line_text.proofs.Digits.{last_two}
 use Rattle.line_text.proofs.numbers.push_four_at_most.Goals as goal
 
