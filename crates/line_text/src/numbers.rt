@@ -4,9 +4,11 @@ ghost use Rattle.std.specs.Fmt.{signed_decimal};
 ghost use Rattle.std.specs.Int.{w32, to_be_bytes};
 ghost use Rattle.arrayvec.specs.ArrayVec.{array_vec_len};
 ghost use Rattle.hex.specs.Hex.{encode_lower};
+ghost use Rattle.tc_address.specs.Spelling.{two_digits};
 
 use crate::line::{Text, push_bytes};
 use itoa::Buffer;
+use tc_address::two_digits;
 
 /// Appends a number in decimal digits, without leading zeros.
 pub fn push_number(text: &mut Text, number: u64)
@@ -14,8 +16,74 @@ pub fn push_number(text: &mut Text, number: u64)
     ensures items { text.new.items ≡ text.old.items ++ decimal number }
     ensures len { array_vec_len text.new ≡ array_vec_len text.old + length (decimal number) }
 {
-    let mut digits = Buffer::new();
-    push_bytes(text, digits.format(number).as_bytes());
+    if number < 100_000_000 {
+        push_eight_at_most(text, number as u32);
+    } else {
+        let mut digits = Buffer::new();
+        push_bytes(text, digits.format(number).as_bytes());
+    }
+}
+
+/// Appends a number of eight digits at most.
+#[inline(always)]
+#[tactic(auto, using(crate::proofs::Digits::last_four))]
+fn push_eight_at_most(text: &mut Text, number: u32)
+    requires small { number < 100_000_000 }
+    requires room { array_vec_len text.old + length (decimal number) ≤ 128 }
+    ensures items { text.new.items ≡ text.old.items ++ decimal number }
+    ensures len { array_vec_len text.new ≡ array_vec_len text.old + length (decimal number) }
+{
+    if number < 10_000 {
+        push_four_at_most(text, number);
+    } else {
+        push_four_at_most(text, number / 10_000);
+        push_two(text, number % 10_000 / 100);
+        push_two(text, number % 100);
+    }
+}
+
+/// Appends a number of four digits at most.
+#[inline(always)]
+#[tactic(auto, using(crate::proofs::Digits::last_two))]
+fn push_four_at_most(text: &mut Text, number: u32)
+    requires small { number < 10_000 }
+    requires room { array_vec_len text.old + length (decimal number) ≤ 128 }
+    ensures items { text.new.items ≡ text.old.items ++ decimal number }
+    ensures len { array_vec_len text.new ≡ array_vec_len text.old + length (decimal number) }
+{
+    if number < 100 {
+        push_two_at_most(text, number);
+    } else {
+        push_two_at_most(text, number / 100);
+        push_two(text, number % 100);
+    }
+}
+
+/// Appends a number of two digits at most.
+#[inline(always)]
+#[tactic(auto, using(crate::proofs::Digits::one_digit, crate::proofs::Digits::both_digits))]
+fn push_two_at_most(text: &mut Text, number: u32)
+    requires small { number < 100 }
+    requires room { array_vec_len text.old + length (decimal number) ≤ 128 }
+    ensures items { text.new.items ≡ text.old.items ++ decimal number }
+    ensures len { array_vec_len text.new ≡ array_vec_len text.old + length (decimal number) }
+{
+    if number < 10 {
+        text.push(b'0' + number as u8);
+    } else {
+        push_two(text, number);
+    }
+}
+
+/// Appends two digits.
+#[inline(always)]
+fn push_two(text: &mut Text, number: u32)
+    requires small { number < 100 }
+    requires room { array_vec_len text.old + 2 ≤ 128 }
+    ensures items { text.new.items ≡ text.old.items ++ two_digits number }
+    ensures len { array_vec_len text.new ≡ array_vec_len text.old + 2 }
+{
+    push_bytes(text, &two_digits(number));
 }
 
 /// Appends a count, a number below 2 to the 40th, in decimal digits: 13 at most.

@@ -1,5 +1,5 @@
 -- Eight numbers are a window. One more takes the place of the oldest.
-use Rattle.std.proofs.Common.{◌≡◌, ◌≢◌, ◌<◌, ◌≤◌, ℕ, ◌+◌, ◌-◌, Bool, true, false, List}
+use Rattle.std.proofs.Common.{◌≡◌, ◌≢◌, ◌≤◌, ℕ, ◌+◌, ◌-◌, Bool, true, false, List}
 use Rattle.std.proofs.Common.{[], ◌∷◌, ◌++◌, length, map, drop, slice_index, None, refl, sym, ◌∙◌, ap}
 use Rattle.std.proofs.Common.{arith, length-append, length-drop}
 use Rattle.std.proofs.Math.Seq.{drop-append-add}
@@ -9,7 +9,7 @@ use Rattle.std.specs.Str.{bytes_eq}
 use Rattle.std.proofs.lemmas.List.{drop-drop, drop-append-le, length-map, length-reverse}
 use Rattle.std.proofs.lemmas.List.FromFn.{fill_by_all}
 use Rattle.std.proofs.lemmas.Slice.Eq.{bytes_eq-Decides}
-use Rattle.mtc_reader.specs.declared.row.TheConstants.{NO_QUARTER}
+use Rattle.mtc_reader.specs.declared.eight.TheConstants.{NO_QUARTER}
 use Rattle.mtc_reader.specs.Events.{latest_eight, piece_of, pieces, window_event}
 use Rattle.mtc_reader.specs.StandsFor.{padded}
 

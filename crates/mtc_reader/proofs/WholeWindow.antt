@@ -3,7 +3,6 @@
 use Rattle.std.proofs.Common.{◌≡◌, ◌≢◌, ◌<◌, ℕ, ◌+◌, ◌-◌, true, None, List, [], ◌∷◌, ◌++◌, length, map, slice_index, refl, sym, ◌∙◌, ap, subst, arith}
 use Rattle.std.proofs.Common.{length-append, length-drop}
 use Rattle.std.specs.Prelude.{reverse}
-use Rattle.std.specs.Int.{to_be_bytes, w64}
 use Rattle.std.specs.Str.{bytes_eq}
 use Rattle.std.proofs.lemmas.List.{reverse-append}
 use Rattle.std.proofs.lemmas.Slice.Eq.{bytes_eq-Decides}
@@ -15,7 +14,7 @@ use Rattle.mtc_reader.specs.declared.reader.MtcReader.{MtcReader}
 use Rattle.mtc_reader.specs.Events.{events_in, latest_eight, piece_of, pieces, quarter_address, quarter_event, row_in, window_event}
 use Rattle.mtc_reader.specs.Laws.{quarters}
 use Rattle.mtc_reader.specs.Messages.{Current, current_in, messages_in, without_real_time}
-use Rattle.mtc_reader.specs.StandsFor.{Keeps, KeepsRow, StandsFor, events_of, padded}
+use Rattle.mtc_reader.specs.StandsFor.{Keeps, KeepsRow, StandsFor, eight_in, events_of, padded}
 use Rattle.mtc_reader.proofs.AlongTheBytes.{along, events_along}
 use Rattle.mtc_reader.proofs.LatestEight.{another_piece, eight, eight_of, latest_eight-next, padded_event}
 use Rattle.mtc_reader.proofs.ReadBack.{after, below, came, quarter_step, rising_window, sounds, IsQuarter, IsRow}
@@ -152,7 +151,7 @@ told before a b c d e f g h r =
 
 -- a reader that took them stands for the bytes with them, and they give one event
 pub window_taken : (reader next : MtcReader) (front : List ℕ) (a b c d e f g h : ℕ) → IsRow a b c d e f g h → next.bytes ≡ reader.bytes + 16
-    → ((before : List ℕ) → Keeps next.message (h ∷ 0xf1 ∷ before)) → to_be_bytes w64 next.row.latest ≡ a ∷ b ∷ c ∷ d ∷ e ∷ f ∷ g ∷ h ∷ []
+    → ((before : List ℕ) → Keeps next.message (h ∷ 0xf1 ∷ before)) → eight_in next.row.latest ≡ a ∷ b ∷ c ∷ d ∷ e ∷ f ∷ g ∷ h ∷ []
     → ((before : List Message) (place : ℕ) → KeepsRow reader.row before → window_event (latest_eight (row_in before ++ a ∷ [])) place ≡ None)
     → StandsFor reader front
     → StandsFor next (front ++ quarters (a ∷ b ∷ c ∷ d ∷ e ∷ f ∷ g ∷ h ∷ []))
@@ -200,7 +199,7 @@ row_of xs long are =
 -- and their bytes
 pub rising_taken : (reader next : MtcReader) (front bytes window : List ℕ) (event : MtcEvent)
     → bytes_eq (map piece_of window) pieces ≡ true → bytes ≡ quarters window → next.bytes ≡ reader.bytes + 16
-    → ((before : List ℕ) (n : ℕ) → n < 0x80 → Keeps next.message (n ∷ 0xf1 ∷ before)) → to_be_bytes w64 next.row.latest ≡ window
+    → ((before : List ℕ) (n : ℕ) → n < 0x80 → Keeps next.message (n ∷ 0xf1 ∷ before)) → eight_in next.row.latest ≡ window
     → ((before : List Message) (place : ℕ) → KeepsRow reader.row before → window_event (latest_eight (row_in before ++ slice_index window 0 ∷ [])) place ≡ None)
     → event ≡ quarter_event Forward (quarter_address window) (reader.bytes + 15) → StandsFor reader front
     → StandsFor next (front ++ bytes) × (events_in (front ++ bytes) ≡ events_in front ++ event ∷ [])

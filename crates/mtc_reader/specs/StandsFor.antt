@@ -1,16 +1,17 @@
 -- Which lists of bytes a reader stands for. What it keeps of the message on its way and of the row of quarter frames
 -- is tied to the list here.
-use Rattle.std.specs.Prelude.{◌≡◌, ◌⊎◌, ◌<◌, ℕ, Bool, ◌==◌, ◌&&◌, ◌||◌, List, [], ◌∷◌, take, length, reverse}
+use Rattle.std.specs.Prelude.{◌≡◌, ◌⊎◌, ◌<◌, ℕ, ◌/◌, ◌%◌, ◌^◌, Bool, ◌==◌, ◌&&◌, ◌||◌, List, [], ◌∷◌, ◌++◌, take}
+use Rattle.std.specs.Prelude.{length, reverse}
 use Rattle.std.specs.Prelude.{slice_index, Option, Some, None}
-use Rattle.std.specs.Int.{to_be_bytes, w64}
 use Rattle.mtc_reader.specs.declared.current.CurrentMessage.{CurrentMessage}
+use Rattle.mtc_reader.specs.declared.eight.EightQuarters.{EightQuarters}
+use Rattle.mtc_reader.specs.declared.eight.TheConstants.{NO_QUARTER}
 use Rattle.mtc_reader.specs.declared.event.MtcEvent.{MtcEvent}
 use Rattle.mtc_reader.specs.declared.message.Message.{Message}
 use Rattle.mtc_reader.specs.declared.message.MessageKind.{MessageKind}
 use Rattle.mtc_reader.specs.declared.message.MessageKind.TheVariants.{Quarter, Exclusive, Other}
 use Rattle.mtc_reader.specs.declared.reader.MtcReader.{MtcReader}
 use Rattle.mtc_reader.specs.declared.row.Row.{Row}
-use Rattle.mtc_reader.specs.declared.row.TheConstants.{NO_QUARTER}
 use Rattle.mtc_reader.specs.Messages.{Current, current_in, messages_in, without_real_time}
 use Rattle.mtc_reader.specs.Events.{piece_of, row_in, latest_eight}
 
@@ -44,9 +45,17 @@ have_ends window =
     let last = piece_of (slice_index window 7) in
     (first == 0) && (last == 7) || (first == 7) && (last == 0)
 
+-- the data bytes of four quarter frames in a number, each with both its bytes, the first one highest
+abbrev pub four_in : ℕ → List ℕ
+four_in four = (four / 2 ^ 48 % 256) ∷ (four / 2 ^ 32 % 256) ∷ (four / 2 ^ 16 % 256) ∷ (four % 256) ∷ []
+
+-- the data bytes of eight
+abbrev pub eight_in : EightQuarters → List ℕ
+eight_in eight = four_in eight.first ++ four_in eight.last
+
 -- the row is that of these messages, the latest first
 abbrev pub KeepsRow : Row → List Message → Type 0
-KeepsRow row messages = to_be_bytes w64 row.latest ≡ latest_eight (padded (row_in messages))
+KeepsRow row messages = eight_in row.latest ≡ latest_eight (padded (row_in messages))
 
 -- the reader was given these bytes
 pub record StandsFor (reader : MtcReader) (bytes : List ℕ) : Type 0 where

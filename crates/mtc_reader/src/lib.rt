@@ -14,12 +14,13 @@
 //!   events stay whatever bytes come later; the messages of a label are read as that label (`laws`).
 //! - `push_mtc_text` and `mtc_end_text` give the lines of a report byte for byte (`specs/Texts.antt`).
 //!
-//! Read `reader`, `current`, `message`, `row`, `address`, `event` and `texts`, in this order, and
-//! `specs/Messages.antt` and `Events.antt` beside them. Nothing here allocates or fails.
+//! Read `reader`, `current`, `message`, `eight`, `row`, `address`, `event` and `texts`, in this order,
+//! and `specs/Messages.antt` and `Events.antt` beside them. Nothing here allocates or fails.
 #![tactic(auto)]
 
 mod address;
 mod current;
+mod eight;
 mod event;
 pub mod laws;
 mod message;

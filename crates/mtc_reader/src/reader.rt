@@ -1,14 +1,14 @@
 //! From bytes to events, one byte at a time. Next: `current`, with a byte that is no real-time byte.
-ghost use Rattle.std.specs.Prelude.{◌≡◌, ◌<◌, ◌≤◌, ◌+◌, ◌^◌, ◌++◌, ℕ, List, [], ◌∷◌, None, true, false, length, map};
-ghost use Rattle.std.specs.Prelude.{take, bytes_eq, IfSome};
-ghost use Rattle.mtc_reader.specs.Events.{events_in, piece_of, pieces};
-ghost use Rattle.mtc_reader.specs.Laws.{quarters};
+ghost use Rattle.std.specs.Prelude.{◌≡◌, ◌<◌, ◌≤◌, ◌+◌, ◌^◌, ◌++◌, ℕ, List, [], ◌∷◌, None, true, false, length};
+ghost use Rattle.std.specs.Prelude.{take, IfSome};
+ghost use Rattle.mtc_reader.specs.Events.{events_in};
 ghost use Rattle.mtc_reader.specs.StandsFor.{StandsFor, events_of};
 
 use crate::address::quarter;
 use crate::current::CurrentMessage;
+use crate::eight::EightQuarters;
 use crate::event::MtcEvent;
-use crate::row::{Row, is_in_order};
+use crate::row::Row;
 use tc_address::Direction;
 
 /// Bytes from this one on are system real-time bytes.
@@ -112,16 +112,16 @@ impl MtcReader {
             × (events_in (front ++ take 16 bytes.now) ≡ events_in front ++ event ∷ [])) }
         ensures stays { result ≡ None → self.new ≡ self.old }
     {
-        let Some(window) = rising(bytes) else {
+        let Some(eight) = EightQuarters::rising(bytes) else {
             return None;
         };
-        if !self.row.pass_window(&window) {
+        if !self.row.pass_window(eight) {
             return None;
         }
         let place = self.bytes + 15;
         self.bytes += 16;
         self.message.pass();
-        Some(quarter(Direction::Forward, &window, place))
+        Some(quarter(Direction::Forward, &eight.numbers(), place))
     }
 
     /// Takes the first byte, or both bytes of a quarter frame, and answers how many these are, and the event
@@ -213,42 +213,5 @@ impl MtcReader {
             self.message.pass();
         }
         passed
-    }
-}
-
-/// The eight quarter frames in front, where their pieces rise from 0 to 7.
-#[inline(always)]
-fn rising(bytes: &[u8]) -> Option<[u8; 8]>
-    ensures long { IfSome result (λ window. 16 ≤ length bytes.now) }
-    ensures front { IfSome result (λ window. take 16 bytes.now ≡ quarters window) }
-    ensures pieces { IfSome result (λ window. bytes_eq (map piece_of window) pieces ≡ true) }
-{
-    let [
-        QUARTER_FRAME,
-        a,
-        QUARTER_FRAME,
-        b,
-        QUARTER_FRAME,
-        c,
-        QUARTER_FRAME,
-        d,
-        QUARTER_FRAME,
-        e,
-        QUARTER_FRAME,
-        f,
-        QUARTER_FRAME,
-        g,
-        QUARTER_FRAME,
-        h,
-        ..
-    ] = bytes
-    else {
-        return None;
-    };
-    let window = [*a, *b, *c, *d, *e, *f, *g, *h];
-    if is_in_order(&window) {
-        Some(window)
-    } else {
-        None
     }
 }

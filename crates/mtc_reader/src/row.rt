@@ -1,27 +1,21 @@
-//! The row of quarter frames that goes on. Next: `address`, with eight of them.
-ghost use Rattle.std.specs.Prelude.{◌≡◌, ◌≤◌, ◌++◌, ℕ, List, [], ◌∷◌, None, true, false, bytes_eq, length, map};
+//! The row of quarter frames that goes on (`eight`). Next: `address`, with eight of them.
+ghost use Rattle.std.specs.Prelude.{◌≡◌, ℕ, List, [], ◌∷◌, None, true, false, bytes_eq, map};
 ghost use Rattle.std.specs.Prelude.{reverse, slice_index};
-ghost use Rattle.std.specs.Int.{to_be_bytes, w64};
 ghost use Rattle.mtc_reader.specs.declared.message.Message.{Message};
 ghost use Rattle.mtc_reader.specs.declared.message.Message.TheVariants.{QuarterFrame};
 ghost use Rattle.mtc_reader.specs.Events.{event_of, latest_eight, piece_of, pieces, window_event};
-ghost use Rattle.mtc_reader.specs.StandsFor.{have_ends, KeepsRow};
+ghost use Rattle.mtc_reader.specs.StandsFor.{eight_in, KeepsRow};
 
 use crate::address::{full, quarter};
+use crate::eight::EightQuarters;
 use crate::event::MtcEvent;
 use crate::message::Message;
 use tc_address::Direction;
 
-/// What stands for a quarter frame that did not come yet: a number with no piece.
-pub const NO_QUARTER: u8 = 0xff;
-
-/// No quarter frame came yet.
-const NONE_YET: u64 = u64::MAX;
-
-/// The latest eight quarter frames since the last full message, a byte each, the oldest one highest.
+/// The latest eight quarter frames since the last full message.
 #[derive(Drop)]
 pub struct Row {
-    latest: u64,
+    latest: EightQuarters,
 }
 
 impl Row {
@@ -29,7 +23,9 @@ impl Row {
     pub fn new() -> Row
         ensures { KeepsRow result [] }
     {
-        Row { latest: NONE_YET }
+        Row {
+            latest: EightQuarters::none_yet(),
+        }
     }
 
     /// Takes the next message, which is complete at a byte place, and answers what it gives.
@@ -40,7 +36,7 @@ impl Row {
     {
         match message {
             Message::QuarterFrame(quarter) => {
-                self.latest = with_quarter(self.latest, quarter);
+                self.latest = self.latest.next(quarter);
                 self.event(place)
             }
             Message::FullMessage {
@@ -49,7 +45,7 @@ impl Row {
                 seconds,
                 frames,
             } => {
-                self.latest = NONE_YET;
+                self.latest = EightQuarters::none_yet();
                 Some(full(hours, minutes, seconds, frames, place))
             }
         }
@@ -64,8 +60,8 @@ impl Row {
             → event_of (QuarterFrame quarter) before place ≡ None }
         ensures stays { result ≡ false → self.new ≡ self.old }
     {
-        let latest = with_quarter(self.latest, quarter);
-        if may_carry(latest) {
+        let latest = self.latest.next(quarter);
+        if latest.may_carry() {
             return false;
         }
         self.latest = latest;
@@ -75,26 +71,25 @@ impl Row {
     /// Takes eight quarter frames where no eight can end with the first of them, and answers whether it took
     /// them.
     #[inline(always)]
-    pub fn pass_window(&mut self, window: &[u8; 8]) -> bool
-        ensures latest { result ≡ true → to_be_bytes w64 self.new.latest ≡ window.now }
+    pub fn pass_window(&mut self, eight: EightQuarters) -> bool
+        ensures latest { result ≡ true → self.new.latest ≡ eight }
         ensures none { result ≡ true → (before : List Message) (place : ℕ) → KeepsRow self.old before
-            → event_of (QuarterFrame (slice_index window.now 0)) before place ≡ None }
+            → event_of (QuarterFrame (slice_index (eight_in eight) 0)) before place ≡ None }
         ensures stays { result ≡ false → self.new ≡ self.old }
     {
-        if !self.pass(window[0]) {
+        if !self.pass(eight.numbers()[0]) {
             return false;
         }
-        self.latest = u64::from_be_bytes(*window);
+        self.latest = eight;
         true
     }
 
     /// What the latest eight quarter frames carry.
     #[inline(always)]
-    #[tactic(auto, using(crate::proofs::PackedRow::no_ends))]
     fn event(&self, place: u64) -> Option<MtcEvent>
-        ensures { result ≡ window_event (to_be_bytes w64 self.now.latest) place }
+        ensures { result ≡ window_event (eight_in self.now.latest) place }
     {
-        if may_carry(self.latest) {
+        if self.latest.may_carry() {
             carried_by(self.latest, place)
         } else {
             None
@@ -102,36 +97,12 @@ impl Row {
     }
 }
 
-/// One more quarter frame, in the place of the oldest.
-#[inline(always)]
-fn with_quarter(latest: u64, quarter: u8) -> u64
-    ensures { (row : List ℕ) → 8 ≤ length row → to_be_bytes w64 latest ≡ latest_eight row
-        → to_be_bytes w64 result ≡ latest_eight (row ++ quarter ∷ []) }
-{
-    (latest << 8) + u64::from(quarter)
-}
-
-/// Whether the latest eight quarter frames begin and end as those that carry an address: with the pieces 0
-/// and 7 forward, and with 7 and 0 backward.
-#[inline(always)]
-fn may_carry(latest: u64) -> bool
-    ensures { result ≡ have_ends (to_be_bytes w64 latest) }
-{
-    let first = (latest >> 56) % 256 / 16;
-    let last = latest % 256 / 16;
-    match last {
-        7 => first == 0,
-        0 => first == 7,
-        _ => false,
-    }
-}
-
-/// What eight quarter frames carry, of which the latest stands lowest.
+/// What eight quarter frames carry.
 #[inline(never)]
-fn carried_by(latest: u64, place: u64) -> Option<MtcEvent>
-    ensures { result ≡ window_event (to_be_bytes w64 latest) place }
+fn carried_by(latest: EightQuarters, place: u64) -> Option<MtcEvent>
+    ensures { result ≡ window_event (eight_in latest) place }
 {
-    let window = latest.to_be_bytes();
+    let window = latest.numbers();
     if is_in_order(&window) {
         return Some(quarter(Direction::Forward, &window, place));
     }
@@ -144,7 +115,7 @@ fn carried_by(latest: u64, place: u64) -> Option<MtcEvent>
 
 /// Whether the quarter frames have the pieces 0 to 7 in this order.
 #[inline(always)]
-pub fn is_in_order(window: &[u8; 8]) -> bool
+fn is_in_order(window: &[u8; 8]) -> bool
     ensures { result ≡ bytes_eq (map piece_of window.now) pieces }
 {
     let [a, b, c, d, e, f, g, h] = *window;

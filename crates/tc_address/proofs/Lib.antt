@@ -5,3 +5,4 @@ pub mod DroppedLabels
 pub mod OneNumber
 pub mod OneSpelling
 pub mod OneTextFault
+pub mod TwoDigits

@@ -7,6 +7,7 @@ ghost use Rattle.tc_address.specs.Spelling.{text_of, label_in, separator, is_dig
 ghost use Rattle.tc_address.specs.Spelling.{IsFirstTextFault, IsFirstWrongPlace, IsGoodBelow};
 
 use crate::count::Count;
+use crate::digits::two_digits;
 use crate::label::{Label, LabelFault};
 use thiserror::Error;
 
@@ -104,33 +105,25 @@ pub fn read_text(text: &[u8], count: Count) -> Result<Label, TextFault>
     Ok(label)
 }
 
-/// The ASCII digit of a number below ten.
-fn digit(n: u32) -> u8
-    requires { n < 10 }
-    ensures { result ≡ 48 + n }
-{
-    b'0' + n as u8
-}
-
 /// The text `HH:MM:SS:FF`, and `HH:MM:SS;FF` for drop-frame, in ASCII.
 pub fn text(label: &Label) -> [u8; 11]
     ensures { result ≡ text_of label.now }
 {
-    let hours = label.hours();
-    let minutes = label.minutes();
-    let seconds = label.seconds();
-    let frames = label.frames();
+    let [hour_tens, hour_units] = two_digits(label.hours());
+    let [minute_tens, minute_units] = two_digits(label.minutes());
+    let [second_tens, second_units] = two_digits(label.seconds());
+    let [frame_tens, frame_units] = two_digits(label.frames());
     [
-        digit(hours / 10),
-        digit(hours % 10),
+        hour_tens,
+        hour_units,
         b':',
-        digit(minutes / 10),
-        digit(minutes % 10),
+        minute_tens,
+        minute_units,
         b':',
-        digit(seconds / 10),
-        digit(seconds % 10),
+        second_tens,
+        second_units,
         separator(label.count()),
-        digit(frames / 10),
-        digit(frames % 10),
+        frame_tens,
+        frame_units,
     ]
 }

@@ -1,4 +1,7 @@
-use Rattle.std.proofs.Common.{take, refl}
+use Rattle.std.proofs.Common.{take, refl, ap, ◌∙◌, ◌+◌, ℕ, List}
+use Rattle.tc_address.specs.declared.direction.Direction.TheVariants.{Forward}
+use Rattle.mtc_reader.specs.Events.{quarter_address, quarter_event}
+use Rattle.mtc_reader.specs.StandsFor.{eight_in}
 use Rattle.mtc_reader.proofs.WholeWindow.{rising_taken}
 use Rattle.mtc_reader.proofs.reader.MtcReader.window.Goals as goal
 
@@ -8,5 +11,6 @@ returns-clause-takes c = λ front stands.
     let is = c.in-Some.ensures in
     let row = c.pass_window.ensures in
     let took = c.if-not-pass_window.false in
-    rising_taken c.args.self.now _ front (take 16 c.args.bytes.now) c.in-Some.window c.quarter.result is.pieces is.front refl c.pass.ensures (row.latest took)
-    (row.none took) c.quarter.ensures stands
+    let event = c.quarter.ensures ∙ ap (λ (l : List ℕ). quarter_event Forward (quarter_address l) (c.args.self.now.bytes + 15)) c.numbers.ensures in
+    rising_taken c.args.self.now _ front (take 16 c.args.bytes.now) (eight_in c.in-Some.eight) c.quarter.result is.pieces is.front refl c.pass.ensures
+    (ap eight_in (row.latest took)) (row.none took) event stands

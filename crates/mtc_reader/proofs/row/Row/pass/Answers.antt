@@ -1,19 +1,18 @@
 use Rattle.std.proofs.Common.{◌++◌, ◌∷◌, ◌∙◌, [], ap, arith, sym}
-use Rattle.std.specs.Int.{to_be_bytes, w64}
+use Rattle.mtc_reader.specs.StandsFor.{eight_in, padded}
 use Rattle.mtc_reader.specs.Events.{row_in, window_event}
-use Rattle.mtc_reader.specs.StandsFor.{padded}
 use Rattle.mtc_reader.proofs.LatestEight.{padded_event}
 use Rattle.mtc_reader.proofs.PackedRow.{no_ends}
 use Rattle.mtc_reader.proofs.row.Row.pass.Goals as goal
 
 -- the quarter frame was added
 pub returns-clause-keeps : goal.returns-clause-keeps
-returns-clause-keeps c = λ _ before keeps. c.with_quarter-latest.ensures (padded (row_in before)) (omega arith) keeps
+returns-clause-keeps c = λ _ before keeps. c.next-latest.ensures (padded (row_in before)) (omega arith) keeps
 
 -- and the row carries nothing
 pub returns-clause-none : goal.returns-clause-none
 returns-clause-none c = λ _ before place keeps.
     let row = row_in before ++ c.args.quarter ∷ [] in
     sym (padded_event row place)
-    ∙ ap (λ l. window_event l place) (sym (c.with_quarter-latest.ensures (padded (row_in before)) (omega arith) keeps))
-    ∙ no_ends (to_be_bytes w64 c.with_quarter-latest.result) place (sym c.may_carry.ensures ∙ c.if-may_carry.false)
+    ∙ ap (λ l. window_event l place) (sym (c.next-latest.ensures (padded (row_in before)) (omega arith) keeps))
+    ∙ no_ends (eight_in c.next-latest.result) place (sym c.may_carry.ensures ∙ c.if-may_carry.false)
