@@ -1,5 +1,5 @@
 -- Which bytes a decoder of a sound file stands for. No promise but its clauses speaks of it.
-use Rattle.std.specs.Prelude.{◌≡◌, ⊤, ◌≤◌, ◌<◌, ℕ, ◌+◌, ℤ, Bool, List, [], ◌∷◌, ◌++◌, length, take, Option, Some, None}
+use Rattle.std.specs.Prelude.{◌≡◌, ⊤, ◌≤◌, ◌<◌, ℕ, zero, ◌+◌, ◌-◌, ◌/◌, min, ℤ, Bool, List, [], ◌∷◌, ◌++◌, length, take, Option, Some, None}
 use Rattle.wave_file.specs.declared.chunk.Notes.{Notes}
 use Rattle.wave_file.specs.declared.decoder.Taken.{Taken}
 use Rattle.wave_file.specs.declared.decoder.Taken.TheVariants.{Nothing, Begin, Sample, Fault, Limit}
@@ -13,6 +13,7 @@ use Rattle.wave_file.specs.Step.{with_samples}
 use Rattle.wave_file.specs.Wave.{Reading, file_at, reading_of}
 use Rattle.tc_io.specs.Verdict.{Verdict, refused, past_limit}
 use Rattle.std.specs.Prelude.{true, false, ◌==◌}
+use Rattle.wave_file.specs.declared.chunk.Extent.{Extent}
 use Rattle.wave_file.specs.declared.chunk.Extent.TheVariants as extent
 use Rattle.wave_file.specs.declared.fault.WaveFault.{WaveFault}
 
@@ -68,6 +69,18 @@ pub record Adds (old new : Decoding) (bytes : List ℕ) (count : ℕ) (more : Li
   pub track : new.track ≡ old.track
   pub stands : (front : List ℕ) (samples : List ℤ) → StandsFor old front samples
       → StandsFor new (front ++ take count bytes) (samples ++ more)
+
+-- how many of so many bytes are data
+abbrev pub data_among : Extent → ℕ → ℕ
+data_among (extent.Announced n) count = min n count
+data_among extent.Open count = count
+
+-- how many whole blocks are taken at the front of so many bytes, with so many places for their samples: all that are data
+-- and within both limits, and none inside a block
+abbrev pub blocks_at : ℕ → Stage → ℕ → ℕ → ℕ → ℕ
+blocks_at place (Data format extent left) zero count places =
+    min (min (data_among extent (min count (MAX_BYTES - place)) / format.block) places) left
+blocks_at place stage part count places = 0
 
 -- what was taken, and whether the data began: only `Begin` tells a format, and it tells it once
 abbrev pub AddsTaken : Decoding → Decoding → List ℕ → Taken → Type 0

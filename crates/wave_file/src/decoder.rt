@@ -1,12 +1,12 @@
 //! The decoder of a sound file. Next: `signal_commands/src/wav_ltc.rt`.
-ghost use Rattle.std.specs.Prelude.{◌≡◌, ◌≤◌, ◌<◌, ◌*◌, ◌^◌, ◌++◌, ◌+◌, ℕ};
+ghost use Rattle.std.specs.Prelude.{◌≡◌, ◌≤◌, ◌<◌, ◌*◌, ◌^◌, ◌++◌, ◌+◌, ◌/◌, min, ℕ};
 ghost use Rattle.std.specs.Prelude.{ℤ, List, [], length, take, Some, None, OnOk, IfErr, IfSome};
 ghost use Rattle.wave_file.specs.Format.{samples_at, IsTakenFor};
 ghost use Rattle.wave_file.specs.Chunk.{IsNoted};
 ghost use Rattle.wave_file.specs.Stage.{format_at_stage, width_of, HasBytes, IsStage, IsWaiting};
 ghost use Rattle.wave_file.specs.Step.{IsLeft, IsStep};
 ghost use Rattle.wave_file.specs.StandsFor.{bytes_taken, format_in_decoding, may_end_before, no_decoding, AddsBlocks};
-ghost use Rattle.wave_file.specs.StandsFor.{AddsTaken};
+ghost use Rattle.wave_file.specs.StandsFor.{blocks_at, data_among, AddsTaken};
 ghost use Rattle.wave_file.specs.StandsFor.{IsTold, StandsFor, StopsAt};
 ghost use Rattle.wave_file.specs.Wave.{end_fault_of, reading_of};
 ghost use Rattle.tc_io.specs.Verdict.{good};
@@ -150,6 +150,8 @@ impl WaveDecoder {
         ensures samples { result.1 ≤ length room.new }
         ensures room { length room.new ≡ length room.old }
         ensures adds { AddsBlocks self.old self.new bytes.now result.0 (take result.1 room.new) }
+        ensures all { result.1 ≡ blocks_at self.old.place self.old.stage (length self.old.part)
+            (length bytes.now) (length room.old) }
     {
         let Stage::Data {
             format,
@@ -278,6 +280,7 @@ fn bytes_inside(extent: Extent, room: u64, length: usize) -> usize
     ensures length { result ≤ length }
     ensures room { result ≤ room }
     ensures inside { HasBytes result extent }
+    ensures all { result ≡ data_among extent (min length room) }
 {
     let within = if room < length as u64 {
         room as usize
@@ -296,6 +299,7 @@ fn whole_blocks(inside: usize, block: usize, places: usize, left: u64) -> usize
     ensures inside { result * block ≤ inside }
     ensures places { result ≤ places }
     ensures left { result ≤ left }
+    ensures all { result ≡ min (min (inside / block) places) left }
 {
     least(inside / block, places, left)
 }
@@ -305,6 +309,7 @@ fn least(blocks: usize, places: usize, left: u64) -> usize
     ensures blocks { result ≤ blocks }
     ensures places { result ≤ places }
     ensures left { result ≤ left }
+    ensures all { result ≡ min (min blocks places) left }
 {
     let most = if blocks < places { blocks } else { places };
     if left < most as u64 {
