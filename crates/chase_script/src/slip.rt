@@ -1,5 +1,5 @@
 //! The slip of a row. Next: `fault`.
-ghost use Rattle.std.specs.Prelude.{◌≡◌, ◌≤◌, length, IfOk, IfSome, unsigned_abs, option_map, pos, true};
+ghost use Rattle.std.specs.Prelude.{◌≡◌, ◌≤◌, length, IfOk, IfSome, unsigned_abs, option_map, neg_ℤ, pos, true};
 ghost use Rattle.std.specs.Char.{is_ascii_digit};
 ghost use Rattle.std.specs.List.{list_all};
 ghost use Rattle.std.specs.Str.Parse.{digits_value};
@@ -16,9 +16,17 @@ pub(crate) fn slip_in(field: &[u8]) -> Result<i32, Column>
 {
     match field {
         [] => Ok(0),
-        [b'-', digits @ ..] => Ok(-length_in(digits).ok_or(Column::Slip)?),
+        [b'-', digits @ ..] => length_back(digits).ok_or(Column::Slip),
         digits => length_in(digits).ok_or(Column::Slip),
     }
+}
+
+/// The length as a slip back, 0 or below.
+fn length_back(digits: &[u8]) -> Option<i32>
+    ensures value { result ≡ option_map (λ length. neg_ℤ (pos length)) (length_in digits.now) }
+    ensures fits { IfSome result (λ length. unsigned_abs length ≤ 1_000_000) }
+{
+    Some(-length_in(digits)?)
 }
 
 fn length_in(digits: &[u8]) -> Option<i32>

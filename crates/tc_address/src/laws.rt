@@ -30,6 +30,12 @@ pub fn a_step_moves_the_number()
     ensures label { (a : Address) (steps : ℤ) → ((step a steps).count ≡ a.count) × IsLabel (step a steps) }
 {}
 
+/// On a circle one move after another is the move by their sum.
+pub fn moves_add_up()
+    ensures { (day place : ℕ) (first then : ℤ) → 0 < day
+        → moved day (moved day place first) then ≡ moved day place (first +ℤ then) }
+{}
+
 /// One way between two places of a circle is the shortest.
 pub fn one_way_is_shortest()
     ensures { (day a b : ℕ) (d e : ℤ) → a < day → IsShortest day a b d → IsShortest day a b e → d ≡ e }
