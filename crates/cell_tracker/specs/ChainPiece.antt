@@ -10,10 +10,6 @@ pub record IsPiece (profile : Profile) (intervals : List ℕ) (cells : List Cell
   pub chain : IsChain profile cells
   pub part : Begins intervals (drop cut (flat cells))
 
--- the list is kept: it is a piece of some chain
-abbrev pub IsKept : Profile → List ℕ → Type 0
-IsKept profile intervals = (cells : List Cell) × (cut : ℕ) × IsPiece profile intervals cells cut
-
 -- those of the cells, the first of which begins at the place `at`, that lie wholly in the places from `low` up to
 -- `high`
 abbrev pub cells_between : ℕ → ℕ → ℕ → List Cell → List Cell

@@ -14,6 +14,7 @@ use Rattle.ltc_word.specs.Spelling.{Spells}
 use Rattle.tc_address.specs.declared.direction.Direction.{Direction}
 use Rattle.tc_address.specs.declared.direction.Direction.TheVariants.{Forward, Backward}
 use Rattle.tc_address.specs.declared.system.System.{System}
+use Rattle.tc_address.specs.declared.system.System.TheVariants.{F24, F25, F30}
 use Rattle.direction_reader.specs.Played.{in_time, low_bits}
 use Rattle.direction_reader.specs.Window.{bit_value}
 use Rattle.direction_reader.proofs.BitsShift.{bit_value-least}
@@ -114,7 +115,9 @@ units : (n : ℕ) → n / 2 ^ 0 % 2 ^ 4 < 10 → bit_at n 1 ≡ 1 → bit_at n 3
 units n low b d = omega arith
 
 units_low : (system : System) (word : LtcWord) (n : ℕ) → Spells system word n → n / 2 ^ 0 % 2 ^ 4 < 10
-units_low system word n s = let a = s.address in omega arith
+units_low F24 word n s = let a = s.address in omega arith
+units_low F25 word n s = let a = s.address in omega arith
+units_low F30 word n s = let a = s.address in omega arith
 
 sync_bit : (n k : ℕ) → bit_at n (64 + k) ≡ n / 2 ^ 64 / 2 ^ k % 2
 sync_bit n k = ap (λ (m : ℕ). m % 2) (sym (shr-shr n 64 k))

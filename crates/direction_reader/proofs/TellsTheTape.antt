@@ -4,7 +4,7 @@ use Rattle.std.proofs.Common.{count_by, cond, ◌+◌, sum, take}
 use Rattle.std.proofs.lemmas.List.Sums.{sum_by-append}
 use Rattle.biphase.specs.declared.cell.Cell.{Cell}
 use Rattle.biphase.specs.declared.profile.Profile.{Profile}
-use Rattle.cell_tracker.specs.ChainPiece.{IsPiece, IsKept, cells_from, stretch_of_piece}
+use Rattle.cell_tracker.specs.ChainPiece.{IsPiece, cells_from, stretch_of_piece}
 use Rattle.cell_tracker.specs.Lock.{IsLock, HasNoLock}
 use Rattle.cell_tracker.specs.Stretch.{Stretch, AreStretches}
 use Rattle.tc_address.specs.declared.system.System.{System}
@@ -103,11 +103,12 @@ words_told one law system profile l es ss stretches are tape cut lock is at =
     subst (λ (e : List Event). AreEventsOfWindows system (windows (sum (take lock l)) (cells_from tape cut l lock)) e) all windows_are.1
 
 no_break_told : HasOneList → IsOneStretch → (system : System) (profile : Profile) (l : List ℕ) (es : List Event) (ss : List Stretch)
-    → AreStretches profile l ss → AreEventsOfStretches system l ss es → IsKept profile l → breaks es ≡ 0
-no_break_told one law system profile l es [] stretches are kept = ap breaks are
-no_break_told one law system profile l es (s ∷ ss) stretches are kept =
+    → AreStretches profile l ss → AreEventsOfStretches system l ss es → (tape : List Cell) (cut : ℕ)
+    → IsPiece profile l tape cut → breaks es ≡ 0
+no_break_told one law system profile l es [] stretches are tape cut is = ap breaks are
+no_break_told one law system profile l es (s ∷ ss) stretches are tape cut is =
     no_break_of_windows system _ es
-    (words_told one law system profile l es (s ∷ ss) stretches are kept.0 kept.1 s.lock kept.2 stretches.0)
+    (words_told one law system profile l es (s ∷ ss) stretches are tape cut s.lock is stretches.0)
 
 pub tells_the_tape : AreListed → HasOneList → IsOneStretch → (system : System) (profile : Profile) (l : List ℕ)
     (es : List Event) → AreEvents system profile l es → TellsTheTape system profile l es

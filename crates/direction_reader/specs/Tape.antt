@@ -4,7 +4,7 @@ use Rattle.biphase.specs.declared.cell.Cell.{Cell}
 use Rattle.biphase.specs.declared.profile.Profile.{Profile}
 use Rattle.biphase.specs.Tolerance.{LooksAtLast}
 use Rattle.cell_tracker.specs.FoundAgain.{IsSecondLock}
-use Rattle.cell_tracker.specs.ChainPiece.{IsPiece, IsKept, cells_from}
+use Rattle.cell_tracker.specs.ChainPiece.{IsPiece, cells_from}
 use Rattle.cell_tracker.specs.Lock.{IsLock, HasNoLock}
 use Rattle.tc_address.specs.declared.system.System.{System}
 use Rattle.direction_reader.specs.declared.event.Event.{Event}
@@ -20,7 +20,7 @@ pub record TellsTheTape (system : System) (profile : Profile) (intervals : List 
   pub nothing : HasNoLock profile intervals 0 → events ≡ []
   pub words : (tape : List Cell) (cut lock : ℕ) → IsPiece profile intervals tape cut → IsLock profile intervals 0 lock
       → events ≡ events_of_cells system (sum (take lock intervals)) (cells_from tape cut intervals lock)
-  pub no_break : IsKept profile intervals → count_by is_lost events ≡ 0
+  pub no_break : (tape : List Cell) (cut : ℕ) → IsPiece profile intervals tape cut → count_by is_lost events ≡ 0
 
 -- a word, good or refused, ends at the tick `end` at the latest, and a break stands at the place `from` at the latest
 abbrev pub ComesBy : ℕ → ℕ → Event → Type 0

@@ -5,6 +5,7 @@ use Rattle.std.proofs.Common.{take, drop, slice_index, Some, None, refl}
 use Rattle.std.proofs.Common.{sym, ◌∙◌, ap, ap₂, subst, arith, Bool, true, false}
 use Rattle.std.specs.Prelude.{◌==◌, ◌&&◌, is_some, nat_le, if◌then◌else◌}
 use Rattle.std.specs.declared.option.Option.{Option}
+use Rattle.std.specs.Option.{is_none, option_or}
 use Rattle.std.proofs.lemmas.Bool.{cases_Bool, cases_eq, cases_lt, eqb-true, false≢true, le-leb, le-ltb, lt-leb, lt-ltb}
 use Rattle.std.proofs.lemmas.Bool.{ne_eqb}
 use Rattle.std.proofs.lemmas.List.{drop-drop, get_or-take, length-drop, length-take, length-take-le, take-append-drop, take-take}
@@ -19,12 +20,13 @@ use Rattle.interval_file.specs.declared.header.FileVersion.{FileVersion}
 use Rattle.interval_file.specs.declared.header.FileVersion.TheVariants.{One, Two}
 use Rattle.interval_file.specs.declared.header.IntervalHeader.{IntervalHeader}
 use Rattle.interval_file.specs.declared.header.TheConstants.{MAGIC, MAX_TICK_RATE}
-use Rattle.interval_file.specs.Contents.{contents_behind, contents_of, fault_at, first_wrong, header_of, header_with}
+use Rattle.interval_file.specs.Contents.{contents_behind, contents_of, first_wrong, header_of, header_with}
 use Rattle.tc_io.specs.Bytes.{AreBytes}
 use Rattle.interval_file.specs.Grammar.{Contents, InRange, IsFirstWrong, IsHeaderFault, MayStand}
-use Rattle.interval_file.specs.Grammar.{may_stand, no_header}
+use Rattle.interval_file.specs.Grammar.{fault_at, fault_unless, may_stand, no_header}
 use Rattle.interval_file.specs.IntervalHeader.{IsTickRate, header_bytes, system_at, version_at, version_byte}
 use Rattle.interval_file.specs.Piece.{least_in, ticks_in, piece_width, spelling}
+use Rattle.interval_file.proofs.InTheHeader.{fault_is, place_fault}
 
 -- ---- the first eight bytes
 
@@ -33,15 +35,22 @@ abbrev StandOrNot : ℕ → List ℕ → Type 0
 StandOrNot place list =
     (MayStand place list × (first_wrong place list ≡ None))
     ⊎ ((k : ℕ) × (k < length list) × (may_stand (place + k) (slice_index list k) ≡ false) × MayStand place (take k list)
-    × (first_wrong place list ≡ Some (fault_at (place + k))))
+    × (first_wrong place list ≡ Some (place_fault (place + k))))
 
 stand_or_not : (list : List ℕ) (place : ℕ) → StandOrNot place list
 stand_or_not [] place = inl (tt, refl)
 stand_or_not (byte ∷ more) place = by_test (cases_Bool (may_stand place byte)) (stand_or_not more (place + 1))
   where
+    answer_of : Bool → Option IntervalFileFault
+    answer_of may = option_or (if may then None else Some (place_fault place)) (first_wrong (place + 1) more)
+
+    answered : {may : Bool} → may_stand place byte ≡ may → first_wrong place (byte ∷ more) ≡ answer_of may
+    answered e = ap (λ (o : Option IntervalFileFault). option_or o (first_wrong (place + 1) more)) (fault_is place byte) ∙ ap answer_of e
+
     read_as : (may : Bool) → may_stand place byte ≡ may
-        → first_wrong place (byte ∷ more) ≡ (if may then first_wrong (place + 1) more else Some (fault_at place))
-    read_as may e = ap (λ (b : Bool). if b then first_wrong (place + 1) more else Some (fault_at place)) e
+        → first_wrong place (byte ∷ more) ≡ (if may then first_wrong (place + 1) more else Some (place_fault place))
+    read_as true e = answered e
+    read_as false e = answered e
 
     by_rest : may_stand place byte ≡ true → StandOrNot (place + 1) more → StandOrNot place (byte ∷ more)
     by_rest may (inl all) = inl ((may, all.0), read_as true may ∙ all.1)
@@ -50,7 +59,7 @@ stand_or_not (byte ∷ more) place = by_test (cases_Bool (may_stand place byte))
         let below = found.1 in
         let there : place + 1 + k ≡ place + suc k = omega arith in
         let wrong = subst (λ (n : ℕ). may_stand n (slice_index more k) ≡ false) there found.2 in
-        let first = read_as true may ∙ found.4 ∙ ap (λ (n : ℕ). Some (fault_at n)) there in
+        let first = read_as true may ∙ found.4 ∙ ap (λ (n : ℕ). Some (place_fault n)) there in
         inr (suc k, omega (arith, below), wrong, (may, found.3), first)
 
     by_test : (may_stand place byte ≡ true) ⊎ (may_stand place byte ≡ false) → StandOrNot (place + 1) more → StandOrNot place (byte ∷ more)
@@ -62,16 +71,16 @@ stand_or_not (byte ∷ more) place = by_test (cases_Bool (may_stand place byte))
           omega arith,
           subst (λ (n : ℕ). may_stand n byte ≡ false) here wrong,
           tt,
-          read_as false wrong ∙ ap (λ (n : ℕ). Some (fault_at n)) here,
+          read_as false wrong ∙ ap (λ (n : ℕ). Some (place_fault n)) here,
         )
 
 -- the fault of the first that may not
 wrong_place : (bytes : List ℕ) (place : ℕ) → place < 8 → IsFirstWrong place bytes
-    → (first : IntervalFileFault) × IsHeaderFault first bytes × (fault_at place ≡ first)
+    → (first : IntervalFileFault) × IsHeaderFault first bytes × (place_fault place ≡ first)
 wrong_place bytes place low is = by_row (cases_lt place 4) (cases_eq place 4) (cases_eq place 5)
   where
     by_row : (place < 4) ⊎ (4 ≤ place) → (place ≡ 4) ⊎ (place ≡ 4 → ⊥) → (place ≡ 5) ⊎ (place ≡ 5 → ⊥)
-        → (first : IntervalFileFault) × IsHeaderFault first bytes × (fault_at place ≡ first)
+        → (first : IntervalFileFault) × IsHeaderFault first bytes × (place_fault place ≡ first)
     by_row (inl magic) four five = (fault.Magic place, (magic, is), rw (lt-ltb place 4 magic) refl)
     by_row (inr more) (inl four) five = (fault.Version place, (four, is), rw four refl)
     by_row (inr more) (inr not_four) (inl five) = (fault.System place, (five, is), rw five refl)
@@ -102,7 +111,7 @@ head_or_fault bytes = by_answer (stand_or_not (take 8 bytes) 0)
         let before = subst (λ (l : List ℕ). MayStand 0 l) (take-take k 8 bytes (omega (arith, low))) found.3 in
         let is : IsFirstWrong k bytes = record { there = omega (arith, below, long); wrong = wrong; before = before } in
         let place = wrong_place bytes k low is in
-        let first = subst (λ (n : ℕ). first_wrong 0 (take 8 bytes) ≡ Some (fault_at n)) here found.4 in
+        let first = subst (λ (n : ℕ). first_wrong 0 (take 8 bytes) ≡ Some (place_fault n)) here found.4 in
         inr (place.0, place.1, subst (λ (f : IntervalFileFault). first_wrong 0 (take 8 bytes) ≡ Some f) place.2 first)
 
 -- ---- the header
@@ -150,6 +159,10 @@ system_says byte says = by_row (cases_eq byte 24) (cases_eq byte 25) (cases_eq b
 abbrev pub head_of : FileVersion → System → List ℕ
 head_of version system = MAGIC ++ version_byte version ∷ rate_of system ∷ 0 ∷ 0 ∷ []
 
+held : (holds : Bool) (first : IntervalFileFault) → is_none (fault_unless holds first) ≡ true → holds ≡ true
+held true first e = refl
+held false first e = absurd cc
+
 head_is : (l : List ℕ) → length l ≡ 8 → MayStand 0 l → (version : FileVersion) × (system : System) × (l ≡ head_of version system)
 head_is [] long may = absurd (omega (arith, long))
 head_is (a ∷ []) long may = absurd (omega (arith, long))
@@ -161,14 +174,14 @@ head_is (a ∷ b ∷ c ∷ e ∷ v ∷ s ∷ []) long may = absurd (omega (arith
 head_is (a ∷ b ∷ c ∷ e ∷ v ∷ s ∷ y ∷ []) long may = absurd (omega (arith, long))
 head_is (a ∷ b ∷ c ∷ e ∷ v ∷ s ∷ y ∷ z ∷ w ∷ more) long may = absurd (omega (arith, long))
 head_is (a ∷ b ∷ c ∷ e ∷ v ∷ s ∷ y ∷ z ∷ []) long may =
-    let version = version_says v may.1.1.1.1.0 in
-    let system = system_says s may.1.1.1.1.1.0 in
-    let l : a ≡ 0x4c = eqb-true a 0x4c may.0 in
-    let t : b ≡ 0x54 = eqb-true b 0x54 may.1.0 in
-    let k : c ≡ 0x43 = eqb-true c 0x43 may.1.1.0 in
-    let i : e ≡ 0x49 = eqb-true e 0x49 may.1.1.1.0 in
-    let first : y ≡ 0 = eqb-true y 0 may.1.1.1.1.1.1.0 in
-    let second : z ≡ 0 = eqb-true z 0 may.1.1.1.1.1.1.1.0 in
+    let version = version_says v (held (is_some (version_at v)) (fault.Version 4) may.1.1.1.1.0) in
+    let system = system_says s (held (is_some (system_at s)) (fault.System 5) may.1.1.1.1.1.0) in
+    let l : a ≡ 0x4c = eqb-true a 0x4c (held (a == 0x4c) (fault.Magic 0) may.0) in
+    let t : b ≡ 0x54 = eqb-true b 0x54 (held (b == 0x54) (fault.Magic 1) may.1.0) in
+    let k : c ≡ 0x43 = eqb-true c 0x43 (held (c == 0x43) (fault.Magic 2) may.1.1.0) in
+    let i : e ≡ 0x49 = eqb-true e 0x49 (held (e == 0x49) (fault.Magic 3) may.1.1.1.0) in
+    let first : y ≡ 0 = eqb-true y 0 (held (y == 0) (fault.Reserved 6) may.1.1.1.1.1.1.0) in
+    let second : z ≡ 0 = eqb-true z 0 (held (z == 0) (fault.Reserved 7) may.1.1.1.1.1.1.1.0) in
     let same_version = version.1 in
     let same_system = system.1 in
     (version.0, system.0, (cc))

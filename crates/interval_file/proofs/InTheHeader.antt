@@ -4,6 +4,7 @@ use Rattle.std.proofs.Common.{◌≡◌, ◌⊎◌, inl, inr, ℕ, ◌+◌, ◌-
 use Rattle.std.proofs.Common.{◌∙◌, ap, ap₂, arith, Bool, true, false}
 use Rattle.std.specs.Prelude.{⊤, nat_le, nat_lt, ◌==◌, ◌&&◌, is_some, if◌then◌else◌}
 use Rattle.std.specs.declared.option.Option.{Option}
+use Rattle.std.specs.Option.{is_none}
 use Rattle.std.proofs.lemmas.Bool.{and_parts, cases_lt, false_from_ne_true, leb-true, le-ltb, lt-leb, lt-ltb, ne_eqb}
 use Rattle.std.proofs.lemmas.List.{drop_more, length-drop, length-take-le, take-append-drop, take_all}
 use Rattle.std.proofs.lemmas.List.Sums.{fold-append}
@@ -16,8 +17,7 @@ use Rattle.interval_file.specs.declared.decoder.Taken.TheVariants.{Nothing, Faul
 use Rattle.interval_file.specs.declared.header.FileVersion.{FileVersion}
 use Rattle.interval_file.specs.declared.header.FileVersion.TheVariants.{One}
 use Rattle.interval_file.specs.declared.header.TheConstants.{MAGIC, MAX_TICK_RATE}
-use Rattle.interval_file.specs.Contents.{fault_at}
-use Rattle.interval_file.specs.Grammar.{EndsInHeader, IsFirstWrong, IsHeaderFault, IsWrongRate, MayStand, may_stand}
+use Rattle.interval_file.specs.Grammar.{EndsInHeader, IsFirstWrong, IsHeaderFault, IsWrongRate, MayStand, fault_at, fault_unless, may_stand}
 use Rattle.interval_file.specs.IntervalFile.{after, answer, end, fault_in, head_answer, header_answer, version_or}
 use Rattle.interval_file.specs.IntervalHeader.{IsTickRate, system_at, version_at}
 use Rattle.interval_file.specs.Progress.{Progress}
@@ -66,15 +66,31 @@ head_at place version system = record {
   recording = no_recording;
 }
 
+-- the fault of each place
+abbrev pub place_fault : ℕ → IntervalFileFault
+place_fault place =
+    if nat_lt place 4 then fault.Magic place
+    else if place == 4 then fault.Version place
+    else if place == 5 then fault.System place
+    else fault.Reserved place
+
 abbrev pub tested_as : Bool → ℕ → Taken
-tested_as may place = if may then Nothing else Fault (fault_at place)
+tested_as may place = if may then Nothing else Fault (place_fault place)
+
+-- the table with its tests as they came out
+abbrev of_row : (low four five magic version system zero : Bool) → ℕ → Option IntervalFileFault
+of_row low four five magic version system zero place =
+    if low then fault_unless magic (fault.Magic place)
+    else if four then fault_unless version (fault.Version place)
+    else if five then fault_unless system (fault.System place)
+    else fault_unless zero (fault.Reserved place)
 
 by_row : (low four five magic version system zero : Bool) (place : ℕ)
     → (if low then (if magic then Nothing else Fault (fault.Magic place))
     else if four then (if version then Nothing else Fault (fault.Version place))
     else if five then (if system then Nothing else Fault (fault.System place))
     else (if zero then Nothing else Fault (fault.Reserved place)))
-    ≡ (if (if low then magic else if four then version else if five then system else zero) then Nothing
+    ≡ (if is_none (of_row low four five magic version system zero place) then Nothing
     else Fault (if low then fault.Magic place else if four then fault.Version place else if five then fault.System place else fault.Reserved place))
 by_row true four five true version system zero place = refl
 by_row true four five false version system zero place = refl
@@ -89,6 +105,24 @@ by_row false false false magic version system false place = refl
 pub tested : (place byte : ℕ) → head_answer place byte ≡ tested_as (may_stand place byte) place
 tested place byte =
     by_row (nat_lt place 4) (place == 4) (place == 5) (byte == slice_index MAGIC place) (is_some (version_at byte)) (is_some (system_at byte)) (byte == 0) place
+
+faulty_row : (low four five magic version system zero : Bool) (place : ℕ)
+    → of_row low four five magic version system zero place
+    ≡ (if is_none (of_row low four five magic version system zero place) then None
+    else Some (if low then fault.Magic place else if four then fault.Version place else if five then fault.System place else fault.Reserved place))
+faulty_row true four five true version system zero place = refl
+faulty_row true four five false version system zero place = refl
+faulty_row false true five magic true system zero place = refl
+faulty_row false true five magic false system zero place = refl
+faulty_row false false true magic version true zero place = refl
+faulty_row false false true magic version false zero place = refl
+faulty_row false false false magic version system true place = refl
+faulty_row false false false magic version system false place = refl
+
+-- a byte that may not stand has the fault of its place
+pub fault_is : (place byte : ℕ) → fault_at place byte ≡ (if may_stand place byte then None else Some (place_fault place))
+fault_is place byte =
+    faulty_row (nat_lt place 4) (place == 4) (place == 5) (byte == slice_index MAGIC place) (is_some (version_at byte)) (is_some (system_at byte)) (byte == 0) place
 
 abbrev version_behind : ℕ → FileVersion → ℕ → FileVersion
 version_behind place version byte = if place == 4 then version_or version (version_at byte) else version
@@ -155,18 +189,18 @@ abbrev ending : Decoding → Option IntervalFileFault
 ending d = fault_at_end (end d.progress)
 
 -- the first byte that may not stand is the fault
-wrong_byte : (bytes : List ℕ) (place : ℕ) → place < 8 → IsFirstWrong place bytes → IsRead bytes (refused (fault_at place)) (fault_at place)
+wrong_byte : (bytes : List ℕ) (place : ℕ) → place < 8 → IsFirstWrong place bytes → IsRead bytes (refused (place_fault place)) (place_fault place)
 wrong_byte bytes place low is =
     let byte = slice_index bytes place in
     let rest = drop (place + 1) bytes in
     let there = is.there in
     let at_place = reaches bytes place is.before (omega (arith, there)) (omega arith) in
-    let met = head_behind place at_place.0 at_place.1 byte (Fault (fault_at place)) in
+    let met = head_behind place at_place.0 at_place.1 byte (Fault (place_fault place)) in
     let one = by_test place byte at_place.0 at_place.1 false low is.wrong in
     let all : decoding_of bytes ≡ met =
     split_fold bytes place ∙ ap (λ (l : List ℕ). fold with_byte (fold with_byte no_decoding (take place bytes)) l) (drop_more bytes place 0 there)
     ∙ ap (λ (d : Decoding). fold with_byte d (byte ∷ rest)) at_place.2 ∙ ap (λ (d : Decoding). fold with_byte d rest) one
-    ∙ stays rest met (fault_at place) refl tt in
+    ∙ stays rest met (place_fault place) refl tt in
     (ap (λ (d : Decoding). d.recording) all, ap ending all)
 
 -- a decoder behind the tick rate
@@ -280,19 +314,19 @@ named bytes first second e is = (is.0 ∙ ap (λ (f : IntervalFileFault). nothin
 pub header_fault_read : (bytes : List ℕ) (first : IntervalFileFault) → IsHeaderFault first bytes → IsRead bytes (shown first) first
 header_fault_read bytes (fault.Magic place) is =
     let low = is.0 in
-    named bytes (fault_at place) (fault.Magic place) (rw (lt-ltb place 4 low) refl) (wrong_byte bytes place (omega (arith, low)) is.1)
+    named bytes (place_fault place) (fault.Magic place) (rw (lt-ltb place 4 low) refl) (wrong_byte bytes place (omega (arith, low)) is.1)
 header_fault_read bytes (fault.Version place) is =
     let four = is.0 in
-    named bytes (fault_at place) (fault.Version place) (rw four refl) (wrong_byte bytes place (omega (arith, four)) is.1)
+    named bytes (place_fault place) (fault.Version place) (rw four refl) (wrong_byte bytes place (omega (arith, four)) is.1)
 header_fault_read bytes (fault.System place) is =
     let five = is.0 in
-    named bytes (fault_at place) (fault.System place) (rw five refl) (wrong_byte bytes place (omega (arith, five)) is.1)
+    named bytes (place_fault place) (fault.System place) (rw five refl) (wrong_byte bytes place (omega (arith, five)) is.1)
 header_fault_read bytes (fault.Reserved place) is =
     let six = is.0 in
     let not_four = ne_eqb place 4 (λ e. omega (arith, six, e)) in
     let not_five = ne_eqb place 5 (λ e. omega (arith, six, e)) in
-    let row : fault_at place ≡ fault.Reserved place = rw (le-ltb place 4 (omega (arith, six)), not_four, not_five) refl in
-    named bytes (fault_at place) (fault.Reserved place) row (wrong_byte bytes place is.1 is.2)
+    let row : place_fault place ≡ fault.Reserved place = rw (le-ltb place 4 (omega (arith, six)), not_four, not_five) refl in
+    named bytes (place_fault place) (fault.Reserved place) row (wrong_byte bytes place is.1 is.2)
 header_fault_read bytes (fault.TickRate place) is =
     named bytes (fault.TickRate 8) (fault.TickRate place) (ap (λ (n : ℕ). fault.TickRate n) (sym is.0)) (wrong_rate bytes is.1)
 header_fault_read bytes (fault.Interval place) is = absurd is

@@ -19,7 +19,6 @@ use Rattle.interval_file.specs.declared.header.FileVersion.{FileVersion}
 use Rattle.interval_file.specs.declared.header.FileVersion.TheVariants.{One, Two}
 use Rattle.interval_file.specs.declared.header.IntervalHeader.{IntervalHeader}
 use Rattle.interval_file.specs.declared.header.TheConstants.{MAX_TICK_RATE}
-use Rattle.interval_file.specs.Contents.{fault_at}
 use Rattle.tc_io.specs.Bytes.{AreBytes}
 use Rattle.interval_file.specs.Grammar.{AreIntervals, Contents, EndsInHeader, InRange, IsFaulty, IsFile, IsHeaderFault, Says, fault_of, faulty}
 use Rattle.interval_file.specs.Grammar.{file, intervals_bytes, may_stand, no_header}
@@ -35,7 +34,7 @@ use Rattle.interval_file.specs.Recording.{read_of}
 use Rattle.interval_file.proofs.FrontOfBytes.{in_range_or_not, is_spelled}
 use Rattle.interval_file.proofs.FileReadBack.{file_good}
 use Rattle.interval_file.proofs.FrontInterval.{least, widths}
-use Rattle.interval_file.proofs.InTheHeader.{InHeader, fault_stays, header_fault_read, in_header, tested, tested_as}
+use Rattle.interval_file.proofs.InTheHeader.{InHeader, fault_stays, header_fault_read, in_header, place_fault, tested, tested_as}
 use Rattle.interval_file.proofs.InTheHeader.{within_header}
 use Rattle.interval_file.proofs.OneText.{one_answer, reads, some_is}
 use Rattle.interval_file.proofs.RestFault.{rest_fault_read, stays_open, wrong_interval}
@@ -319,7 +318,7 @@ by_whole version system piece place false long behind low e =
 
 by_test : (place : ℕ) (may : Bool) → place < 8 → IsHeadAnswer place (tested_as may place)
 by_test place true low = inl (refl, omega (arith, low))
-by_test place false low = inr (inr (fault_at place, refl))
+by_test place false low = inr (inr (place_fault place, refl))
 
 head_answered : (version : FileVersion) (system : Option System) (part : List ℕ) (place byte : ℕ) → length part ≡ place - 8 → place < 12
     → IsHeadAnswer place (answer (within_header place version system part).progress byte)

@@ -2,6 +2,7 @@
 -- after another, up to the first of them that may not stand. The grammar says the same of it (`Grammar.antt`, `Says`).
 use Rattle.std.specs.Prelude.{ℕ, zero, suc, ◌+◌, List, [], ◌∷◌, ◌++◌, length, take, drop, slice_index, nat_lt, nat_le}
 use Rattle.std.specs.Prelude.{◌==◌, ◌&&◌, if◌then◌else◌, Option, Some, None, Ok, Err}
+use Rattle.std.specs.Option.{option_or}
 use Rattle.byteorder.specs.Endian.{big_number}
 use Rattle.tc_address.specs.declared.system.System.{System}
 use Rattle.interval_file.specs.declared.fault.IntervalFileFault.{IntervalFileFault}
@@ -9,24 +10,16 @@ use Rattle.interval_file.specs.declared.fault.IntervalFileFault.TheVariants as f
 use Rattle.interval_file.specs.declared.header.FileVersion.{FileVersion}
 use Rattle.interval_file.specs.declared.header.IntervalHeader.{IntervalHeader}
 use Rattle.interval_file.specs.declared.header.TheConstants.{HEADER_LENGTH, HEAD_LENGTH, MAX_TICK_RATE}
-use Rattle.interval_file.specs.Grammar.{Contents, file, no_header, faulty, may_stand}
+use Rattle.interval_file.specs.Grammar.{Contents, file, no_header, faulty, fault_at}
 use Rattle.interval_file.specs.IntervalHeader.{system_at, version_at}
 use Rattle.interval_file.specs.Piece.{interval_in, piece_width}
 
 -- ---- the header
 
--- the fault of a byte that may not stand at a place of the first eight
-abbrev pub fault_at : ℕ → IntervalFileFault
-fault_at place =
-    if nat_lt place 4 then fault.Magic place
-    else if place == 4 then fault.Version place
-    else if place == 5 then fault.System place
-    else fault.Reserved place
-
 -- the fault of the first byte that may not stand where it stands; these bytes begin at a place
 abbrev pub first_wrong : ℕ → List ℕ → Option IntervalFileFault
 first_wrong place [] = None
-first_wrong place (byte ∷ more) = if may_stand place byte then first_wrong (place + 1) more else Some (fault_at place)
+first_wrong place (byte ∷ more) = option_or (fault_at place byte) (first_wrong (place + 1) more)
 
 -- the header of a version, a system and a tick rate, where the rate is in range
 abbrev pub header_with : Option FileVersion → Option System → ℕ → Option IntervalHeader

@@ -4,6 +4,7 @@
 -- end before byte 12 or inside an interval, the text is truncated.
 use Rattle.std.specs.Prelude.{◌≡◌, ⊤, ◌≤◌, ◌<◌, ℕ, ◌+◌, List, [], ◌∷◌, ◌++◌, length, take, drop, slice_index, Bool}
 use Rattle.std.specs.Prelude.{true, false, Option, Some, None}
+use Rattle.std.specs.Option.{is_none}
 use Rattle.std.specs.Prelude.{is_some, nat_lt, ◌==◌, if◌then◌else◌}
 use Rattle.std.specs.List.{flat_map}
 use Rattle.byteorder.specs.Endian.{big_number}
@@ -40,13 +41,21 @@ pub record IsFile (bytes : List ℕ) (header : IntervalHeader) (intervals : List
 
 -- ---- a fault in the header
 
+-- the fault, where what is asked for does not hold
+abbrev pub fault_unless : Bool → IntervalFileFault → Option IntervalFileFault
+fault_unless holds fault = if holds then None else Some fault
+
+-- the fault of a byte that may not stand where it stands, at one of the first eight places
+abbrev pub fault_at : ℕ → ℕ → Option IntervalFileFault
+fault_at place byte =
+    if nat_lt place 4 then fault_unless (byte == slice_index MAGIC place) (Magic place)
+    else if place == 4 then fault_unless (is_some (version_at byte)) (Version place)
+    else if place == 5 then fault_unless (is_some (system_at byte)) (System place)
+    else fault_unless (byte == 0) (Reserved place)
+
 -- whether a byte may stand at one of the first eight places
 abbrev pub may_stand : ℕ → ℕ → Bool
-may_stand place byte =
-    if nat_lt place 4 then byte == slice_index MAGIC place
-    else if place == 4 then is_some (version_at byte)
-    else if place == 5 then is_some (system_at byte)
-    else byte == 0
+may_stand place byte = is_none (fault_at place byte)
 
 -- each of these bytes may stand where it stands, the first one at this place
 abbrev pub MayStand : ℕ → List ℕ → Type 0

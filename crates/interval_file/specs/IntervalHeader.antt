@@ -1,5 +1,5 @@
 -- The header of an interval file.
-use Rattle.std.specs.Prelude.{ℕ, ◌≤◌, List, ◌∷◌, ◌++◌, Option, Some, None, ◌==◌, if◌then◌else◌}
+use Rattle.std.specs.Prelude.{ℕ, ◌≤◌, List, [], ◌∷◌, ◌++◌, Option, find, ◌==◌}
 use Rattle.byteorder.specs.Endian.{big_bytes}
 use Rattle.tc_address.specs.declared.system.System.{System}
 use Rattle.tc_address.specs.declared.system.System.TheVariants.{F24, F25, F30}
@@ -20,18 +20,11 @@ version_byte Two = VERSION_TWO
 
 -- the version that stands as a number in the header
 abbrev pub version_at : ℕ → Option FileVersion
-version_at byte =
-    if byte == VERSION_ONE then Some One
-    else if byte == VERSION_TWO then Some Two
-    else None
+version_at byte = find (λ version. byte == version_byte version) (One ∷ Two ∷ [])
 
 -- the system whose rate stands as a number in the header
 abbrev pub system_at : ℕ → Option System
-system_at byte =
-    if byte == rate_of F24 then Some F24
-    else if byte == rate_of F25 then Some F25
-    else if byte == rate_of F30 then Some F30
-    else None
+system_at byte = find (λ system. byte == rate_of system) (F24 ∷ F25 ∷ F30 ∷ [])
 
 -- the bytes of a header
 abbrev pub header_bytes : IntervalHeader → List ℕ

@@ -1,5 +1,5 @@
 -- The header of a line file, as it is written.
-use Rattle.std.specs.Prelude.{ℕ, List, ◌∷◌, ◌++◌, Option, Some, None, ◌==◌, if◌then◌else◌}
+use Rattle.std.specs.Prelude.{ℕ, List, [], ◌∷◌, ◌++◌, Option, find, ◌==◌}
 use Rattle.byteorder.specs.Endian.{big_bytes}
 use Rattle.tc_address.specs.declared.system.System.{System}
 use Rattle.tc_address.specs.declared.system.System.TheVariants.{F25, F30}
@@ -15,10 +15,7 @@ IsHeader header = HasLines header.system × IsLineLength header.length
 
 -- the system whose rate stands as a number in the header
 abbrev pub system_at : ℕ → Option System
-system_at byte =
-    if byte == rate_of F25 then Some F25
-    else if byte == rate_of F30 then Some F30
-    else None
+system_at byte = find (λ system. byte == rate_of system) (F25 ∷ F30 ∷ [])
 
 -- the bytes of a header
 abbrev pub header_bytes : LineHeader → List ℕ

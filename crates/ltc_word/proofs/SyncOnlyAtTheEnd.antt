@@ -5,8 +5,13 @@ use Rattle.std.specs.Int.{bit_at}
 use Rattle.std.proofs.lemmas.Bool.{cases_lt}
 use Rattle.std.proofs.lemmas.Nat.{shr-shr}
 use Rattle.tc_address.specs.declared.system.System.{System}
+use Rattle.tc_address.specs.declared.system.System.TheVariants.{F24, F25, F30}
 use Rattle.tc_address.specs.Count.{system_with}
+use Rattle.tc_address.specs.Label.{Address}
+use Rattle.tc_bits.specs.Spelling.{SpellsAddress}
+use Rattle.ltc_word.specs.declared.places.TheConstants as places
 use Rattle.ltc_word.specs.declared.word.LtcWord.{LtcWord}
+use Rattle.ltc_word.specs.Places.{table_of}
 use Rattle.ltc_word.specs.Spelling.{Spells}
 use Rattle.ltc_word.specs.Reversal.{HasTwelveOnes}
 use Rattle.ltc_word.proofs.RowOfAWord.{rate_within}
@@ -27,9 +32,25 @@ pub record Stops (bits : ℕ) : Type 0 where
   pub hour_tens : bits / 2 ^ 56 % 2 ^ 2 < 3
   pub sync : bits / 2 ^ 64 % 2 ^ 16 ≡ 49148
 
+-- the digits stand in the same places in each system
+same_digits : (system : System) (a : Address) (bits : ℕ) → SpellsAddress (table_of system) a bits
+    → SpellsAddress places.TABLE a bits
+same_digits F24 a bits s = s
+same_digits F25 a bits s = record {
+  frame_units = s.frame_units;
+  frame_tens = s.frame_tens;
+  second_units = s.second_units;
+  second_tens = s.second_tens;
+  minute_units = s.minute_units;
+  minute_tens = s.minute_tens;
+  hour_units = s.hour_units;
+  hour_tens = s.hour_tens;
+}
+same_digits F30 a bits s = s
+
 pub stops : (system : System) (word : LtcWord) (bits : ℕ) → Spells system word bits → Stops bits
 stops system word bits s =
-    let a = s.address in
+    let a = same_digits system word.fields.label bits s.address in
     let label = s.valid.label in
     let rate = rate_within (system_with word.fields.label.count) in
     record {

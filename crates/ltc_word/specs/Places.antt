@@ -6,7 +6,7 @@ use Rattle.tc_address.specs.declared.system.System.TheVariants.{F24, F25, F30}
 use Rattle.tc_bits.specs.declared.place.Place.{Place}
 use Rattle.tc_bits.specs.declared.table.Table.{Table}
 use Rattle.tc_bits.specs.Row as row
-use Rattle.tc_bits.specs.Table.{place, places_in, with_group_flags}
+use Rattle.tc_bits.specs.Table.{place, places_in}
 use Rattle.ltc_word.specs.declared.places.TheConstants as places
 
 -- where the polarity correction stands in a system
@@ -15,19 +15,10 @@ polarity_bit F24 = places.BIT_27
 polarity_bit F25 = places.BIT_59
 polarity_bit F30 = places.BIT_27
 
--- where binary group flag 0 stands in a system
-abbrev pub group_flag_zero_bit : System → ℕ
-group_flag_zero_bit F25 = places.BIT_27
-group_flag_zero_bit system = places.BIT_43
-
--- where binary group flag 2 stands in a system
-abbrev pub group_flag_two_bit : System → ℕ
-group_flag_two_bit F25 = places.BIT_43
-group_flag_two_bit system = places.BIT_59
-
--- the table of a system
+-- the table of a system: at 25 frames binary group flags 0 and 2 have other places
 abbrev pub table_of : System → Table
-table_of system = with_group_flags places.TABLE (group_flag_zero_bit system) (group_flag_two_bit system)
+table_of F25 = record places.TABLE { group_flag_zero = places.BIT_27; group_flag_two = places.BIT_43 }
+table_of system = places.TABLE
 
 -- all places of a system
 abbrev pub places_of : System → List Place

@@ -2,7 +2,7 @@
 //! Bit 0 is the first in time, and each field has its least significant bit first. Next: `reading`.
 
 ghost use Rattle.std.specs.Prelude.{◌≡◌, ◌^◌, ◌<◌};
-ghost use Rattle.ltc_word.specs.Places.{group_flag_two_bit, group_flag_zero_bit, polarity_bit, table_of};
+ghost use Rattle.ltc_word.specs.Places.{polarity_bit, table_of};
 
 use tc_address::System;
 use tc_bits::{Place, Table};
@@ -61,29 +61,16 @@ pub(crate) fn correction(system: System) -> u128
     }
 }
 
-/// Where binary group flag 0 stands.
-fn group_flag_zero(system: System) -> u32
-    ensures { result ≡ group_flag_zero_bit system }
-{
-    match system {
-        System::F24 | System::F30 => BIT_43,
-        System::F25 => BIT_27,
-    }
-}
-
-/// Where binary group flag 2 stands.
-fn group_flag_two(system: System) -> u32
-    ensures { result ≡ group_flag_two_bit system }
-{
-    match system {
-        System::F24 | System::F30 => BIT_59,
-        System::F25 => BIT_43,
-    }
-}
-
 /// The first bit of each field in the system.
 pub(crate) fn table(system: System) -> Table
     ensures { result ≡ table_of system }
 {
-    TABLE.with_group_flags(group_flag_zero(system), group_flag_two(system))
+    match system {
+        System::F24 | System::F30 => TABLE,
+        System::F25 => Table {
+            group_flag_zero: BIT_27,
+            group_flag_two: BIT_43,
+            ..TABLE
+        },
+    }
 }

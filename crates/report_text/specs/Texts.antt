@@ -1,11 +1,8 @@
 -- The lines of a reading, byte for byte.
 use Rattle.std.specs.Prelude.{ℕ, ◌*◌, ◌/◌, ◌<◌, ◌≤◌, ◌^◌, List, ◌++◌, codes, decimal}
-use Rattle.tc_address.specs.declared.direction.Direction.{Direction}
 use Rattle.tc_address.specs.Count.{rate_of}
 use Rattle.tc_address.specs.Spelling.{text_of}
 use Rattle.tc_bits.specs.Fault.{name_of}
-use Rattle.tc_bits.specs.declared.fault.FieldFault.{FieldFault}
-use Rattle.ltc_word.specs.declared.word.LtcWord.{LtcWord}
 use Rattle.direction_reader.specs.declared.event.Event.{Event}
 use Rattle.direction_reader.specs.declared.event.Event.TheVariants.{Word, Refused, Lost}
 use Rattle.interval_file.specs.declared.header.IntervalHeader.{IntervalHeader}
@@ -15,29 +12,18 @@ use Rattle.line_text.specs.Line.{direction_name, flag_digit, flags_text, user_te
 abbrev pub speed_of : IntervalHeader → ℕ → ℕ
 speed_of header length = 1000 * header.tick_rate / (rate_of header.system * length)
 
--- the line of a word
-abbrev pub word_line : IntervalHeader → Direction → LtcWord → ℕ → ℕ → List ℕ
-word_line header direction word tick length =
+-- the line of an event: of a word, of a refused word, and of a break
+abbrev pub event_line : IntervalHeader → Event → List ℕ
+event_line header (Word direction word tick length) =
     codes "word " ++ direction_name direction ++ codes " " ++ text_of word.fields.label
     ++ codes " user " ++ user_text word.fields.user ++ codes " flags " ++ flags_text word.fields.flags
     ++ codes " balance " ++ flag_digit word.balanced ++ codes " tick " ++ decimal tick
     ++ codes " length " ++ decimal length ++ codes " speed " ++ decimal (speed_of header length) ++ codes "\n"
-
--- the line of a refused word
-abbrev pub refused_line : Direction → FieldFault → ℕ → List ℕ
-refused_line direction fault tick =
+event_line header (Refused direction fault tick) =
     codes "refused " ++ direction_name direction ++ codes " " ++ name_of fault ++ codes " tick " ++ decimal tick
     ++ codes "\n"
-
--- the line of a break
-abbrev pub lost_line : ℕ → ℕ → List ℕ
-lost_line interval tick = codes "lost interval " ++ decimal interval ++ codes " tick " ++ decimal tick ++ codes "\n"
-
--- the line of an event
-abbrev pub event_line : IntervalHeader → Event → List ℕ
-event_line header (Word direction word tick length) = word_line header direction word tick length
-event_line header (Refused direction fault tick) = refused_line direction fault tick
-event_line header (Lost interval tick) = lost_line interval tick
+event_line header (Lost interval tick) =
+    codes "lost interval " ++ decimal interval ++ codes " tick " ++ decimal tick ++ codes "\n"
 
 -- the last line of a reading
 abbrev pub read_end_line : ℕ → ℕ → ℕ → ℕ → ℕ → List ℕ

@@ -4,14 +4,9 @@ ghost use Rattle.arrayvec.specs.ArrayVec.{array_vec_len};
 ghost use Rattle.line_text.specs.Line.{direction_name, flag_digit, flags_text, user_text};
 ghost use Rattle.tc_address.specs.Spelling.{text_of};
 ghost use Rattle.interval_file.specs.IntervalHeader.{IsTickRate};
-ghost use Rattle.report_text.specs.Texts.{
-  event_line,
-  word_line,
-  refused_line,
-  lost_line,
-  speed_of,
-  FitsLine,
-};
+ghost use Rattle.interval_file.specs.declared.header.IntervalHeader.{IntervalHeader};
+ghost use Rattle.direction_reader.specs.declared.event.Event.TheVariants as events;
+ghost use Rattle.report_text.specs.Texts.{event_line, speed_of, FitsLine};
 
 use direction_reader::Event;
 use interval_file::IntervalHeader;
@@ -56,7 +51,7 @@ fn word_text(
     requires some { 1 ≤ length }
     requires length { length < 2 ^ 32 }
     requires header { IsTickRate header.now.tick_rate }
-    ensures { result.items ≡ word_line header.now direction word.now tick length }
+    ensures { result.items ≡ event_line header.now (events.Word direction word.now tick length) }
 {
     let mut line = Text::new();
     push_word(&mut line, direction, word);
@@ -92,7 +87,7 @@ fn push_word(line: &mut Text, direction: Direction, word: &LtcWord)
 
 fn refused_text(direction: Direction, fault: FieldFault, tick: u64) -> Text
     requires { tick < 2 ^ 60 }
-    ensures { result.items ≡ refused_line direction fault tick }
+    ensures { (header : IntervalHeader) → result.items ≡ event_line header (events.Refused direction fault tick) }
 {
     let mut line = Text::new();
     push_bytes(&mut line, b"refused ");
@@ -108,7 +103,7 @@ fn refused_text(direction: Direction, fault: FieldFault, tick: u64) -> Text
 fn lost_text(interval: u64, tick: u64) -> Text
     requires interval { interval < 2 ^ 40 }
     requires tick { tick < 2 ^ 60 }
-    ensures { result.items ≡ lost_line interval tick }
+    ensures { (header : IntervalHeader) → result.items ≡ event_line header (events.Lost interval tick) }
 {
     let mut line = Text::new();
     push_bytes(&mut line, b"lost interval ");

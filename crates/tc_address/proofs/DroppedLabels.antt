@@ -5,7 +5,7 @@ use Rattle.std.proofs.lemmas.Bool.Decides.{nat_tests}
 use Rattle.tc_address.specs.declared.count.Count.{Count}
 use Rattle.tc_address.specs.declared.count.Count.TheVariants.{C24, C25, C30, Drop30}
 use Rattle.tc_address.specs.Count.{rate_of, system_with}
-use Rattle.tc_address.specs.Label.{Address, address, drop_frame_drops, is_dropped_by, IsLabel}
+use Rattle.tc_address.specs.Label.{Address, address, is_dropped_by, IsLabel}
 use Rattle.tc_address.specs.DropFrame.{dropped_until}
 use Rattle.tc_address.specs.Numbering.{day_length}
 
@@ -56,10 +56,10 @@ address_of_frame-frame_of_day c h m s f hm hs hf =
     rw (frames.0, frames.1, seconds.0, seconds.1, minutes.0, minutes.1) refl
 
 -- what is dropped has frames 0 or 1 of second 0, in a minute that is no multiple of ten
-dropped_says : (m s f : ℕ) → drop_frame_drops m s f ≡ true → (s ≡ 0) × (f ≤ 1) × (m % 10 ≢ 0)
+dropped_says : (m s f : ℕ) → is_dropped_by Drop30 m s f ≡ true → (s ≡ 0) × (f ≤ 1) × (m % 10 ≢ 0)
 dropped_says m s f e = grind (arith, nat_tests)
 
-kept_says : (m s f : ℕ) → drop_frame_drops m s f ≡ false → (m % 10 ≡ 0) ⊎ (2 ≤ 2 * s + f)
+kept_says : (m s f : ℕ) → is_dropped_by Drop30 m s f ≡ false → (m % 10 ≡ 0) ⊎ (2 ≤ 2 * s + f)
 kept_says m s f e = grind (arith, nat_tests)
 
 -- ten minutes have 17,982 labels, and each minute but the first of them has 1,798

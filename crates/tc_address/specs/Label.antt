@@ -19,13 +19,10 @@ pub record Address : Type 0 where
 abbrev pub address : Count → ℕ → ℕ → ℕ → ℕ → Address
 address c h m s f = record { count = c; hours = h; minutes = m; seconds = s; frames = f }
 
--- frames 0 and 1 of second 0, in a minute that is no multiple of ten
-abbrev pub drop_frame_drops : ℕ → ℕ → ℕ → Bool
-drop_frame_drops minutes seconds frames = (seconds == 0) && nat_le frames 1 && not (minutes % 10 == 0)
-
--- the count drops an address with these parts: only drop-frame does
+-- the count drops an address with these parts: drop-frame drops frames 0 and 1 of second 0, in a minute that is no
+-- multiple of ten, and the other counts drop none
 abbrev pub is_dropped_by : Count → ℕ → ℕ → ℕ → Bool
-is_dropped_by Drop30 minutes seconds frames = drop_frame_drops minutes seconds frames
+is_dropped_by Drop30 minutes seconds frames = (seconds == 0) && nat_le frames 1 && not (minutes % 10 == 0)
 is_dropped_by count minutes seconds frames = false
 
 -- the count drops the address

@@ -1,6 +1,6 @@
 -- What the places of a table hold are the digits, flags and user bits that they say, and their numbers are a row.
 use Rattle.std.proofs.Common.{◌≡◌, ℕ, ◌+◌, ◌-◌, ◌*◌, ◌/◌, ◌^◌, ◌<◌, ◌≤◌, Bool, true, false, refl, sym, ap, lit<, arith}
-use Rattle.std.specs.Prelude.{◌&&◌, nat_le}
+use Rattle.std.specs.Prelude.{◌&&◌, nat_le, [], ◌∷◌}
 use Rattle.std.proofs.lemmas.Bool.{eqb-true, eqb-false, leb-true}
 use Rattle.std.proofs.lemmas.List.Sums.{AllPass-from_list_all}
 use Rattle.std.proofs.lemmas.Nat.{mod_below}
@@ -18,7 +18,7 @@ use Rattle.tc_bits.specs.Register.{field, is_set}
 use Rattle.tc_bits.specs.Row.{Fit, Holds}
 use Rattle.tc_bits.specs.Spelling.{AreExact, SpellsFields, SpellsFlags, SpellsUserBits}
 use Rattle.tc_bits.specs.Table.{IsTable, digit, is_table, place, places_in, row_of}
-use Rattle.tc_bits.specs.UserBits.{group}
+use Rattle.tc_bits.specs.UserBits.{group, number_of_groups}
 use Rattle.tc_bits.proofs.SideBySide.{both}
 
 -- ---- the test of a table
@@ -68,7 +68,7 @@ record AreGroups (a b c d e f g h user : ℕ) : Type 0 where
   pub no_more : user < 2 ^ 32
 
 groups_of_sum : (a b c d e f g h : ℕ) → a < 16 → b < 16 → c < 16 → d < 16 → e < 16 → f < 16 → g < 16 → h < 16
-    → AreGroups a b c d e f g h (a + b * 2 ^ 4 + c * 2 ^ 8 + d * 2 ^ 12 + e * 2 ^ 16 + f * 2 ^ 20 + g * 2 ^ 24 + h * 2 ^ 28)
+    → AreGroups a b c d e f g h (number_of_groups (a ∷ b ∷ c ∷ d ∷ e ∷ f ∷ g ∷ h ∷ []))
 groups_of_sum a b c d e f g h ha hb hc hd he hf hg hh = record {
   one = omega arith;
   two = omega arith;
@@ -82,7 +82,7 @@ groups_of_sum a b c d e f g h ha hb hc hd he hf hg hh = record {
 }
 
 sum_of_groups : (a b c d e f g h user : ℕ) → AreGroups a b c d e f g h user
-    → user ≡ a + b * 2 ^ 4 + c * 2 ^ 8 + d * 2 ^ 12 + e * 2 ^ 16 + f * 2 ^ 20 + g * 2 ^ 24 + h * 2 ^ 28
+    → user ≡ number_of_groups (a ∷ b ∷ c ∷ d ∷ e ∷ f ∷ g ∷ h ∷ [])
 sum_of_groups a b c d e f g h user are = omega arith
 
 below_sixteen : (bits first : ℕ) → field bits first 4 < 16

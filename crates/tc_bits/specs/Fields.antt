@@ -6,7 +6,7 @@ use Rattle.tc_address.specs.declared.system.System.TheVariants.{F24, F25, F30}
 use Rattle.tc_address.specs.declared.count.Count.{Count}
 use Rattle.tc_address.specs.declared.count.Count.TheVariants.{C24, C25, C30, Drop30}
 use Rattle.tc_address.specs.Count.{system_with}
-use Rattle.tc_address.specs.Label.{Address, address, IsLabel}
+use Rattle.tc_address.specs.Label.{Address, IsLabel}
 use Rattle.tc_bits.specs.declared.flags.Flags.{Flags}
 use Rattle.tc_bits.specs.declared.raw.RawFields.{RawFields}
 
@@ -66,11 +66,13 @@ pub record FitsDigits (raw : RawFields) : Type 0 where
 
 -- the address that the digits say
 abbrev pub address_of : System → RawFields → Address
-address_of system raw = address (count_in system raw.flags.bit10)
-    (10 * raw.hour_tens + raw.hour_units)
-    (10 * raw.minute_tens + raw.minute_units)
-    (10 * raw.second_tens + raw.second_units)
-    (10 * raw.frame_tens + raw.frame_units)
+address_of system raw = record {
+  count = count_in system raw.flags.bit10;
+  hours = 10 * raw.hour_tens + raw.hour_units;
+  minutes = 10 * raw.minute_tens + raw.minute_units;
+  seconds = 10 * raw.second_tens + raw.second_units;
+  frames = 10 * raw.frame_tens + raw.frame_units;
+}
 
 -- the fields that the digits say, whether or not they are at fault
 abbrev pub fields_of : System → RawFields → FieldValues

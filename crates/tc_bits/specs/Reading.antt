@@ -1,9 +1,10 @@
 -- What stands in the places of a table: digits, flags and user bits, whether or not they are an address.
-use Rattle.std.specs.Prelude.{ℕ, ◌+◌, ◌*◌, ◌^◌, ◌==◌}
+use Rattle.std.specs.Prelude.{ℕ, [], ◌∷◌, map, ◌==◌}
 use Rattle.tc_bits.specs.declared.flags.Flags.{Flags}
 use Rattle.tc_bits.specs.declared.raw.RawFields.{RawFields}
 use Rattle.tc_bits.specs.declared.table.Table.{Table}
 use Rattle.tc_bits.specs.Register.{field}
+use Rattle.tc_bits.specs.UserBits.{number_of_groups}
 
 -- the flags that stand in the bits
 abbrev pub flags_in : Table → ℕ → Flags
@@ -15,17 +16,10 @@ flags_in t bits = record {
   bgf2 = field bits t.group_flag_two 1 == 1;
 }
 
--- the user bits that stand in the bits, group 1 least significant
+-- the user bits that stand in the bits
 abbrev pub user_in : Table → ℕ → ℕ
-user_in t bits =
-    field bits t.user_one 4
-    + field bits t.user_two 4 * 2 ^ 4
-    + field bits t.user_three 4 * 2 ^ 8
-    + field bits t.user_four 4 * 2 ^ 12
-    + field bits t.user_five 4 * 2 ^ 16
-    + field bits t.user_six 4 * 2 ^ 20
-    + field bits t.user_seven 4 * 2 ^ 24
-    + field bits t.user_eight 4 * 2 ^ 28
+user_in t bits = number_of_groups (map (λ first. field bits first 4)
+    (t.user_one ∷ t.user_two ∷ t.user_three ∷ t.user_four ∷ t.user_five ∷ t.user_six ∷ t.user_seven ∷ t.user_eight ∷ []))
 
 -- the digits, flags and user bits that stand in the bits
 abbrev pub raw_in : Table → ℕ → RawFields

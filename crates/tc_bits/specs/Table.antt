@@ -12,10 +12,6 @@ use Rattle.tc_bits.specs.UserBits.{group}
 abbrev pub place : ℕ → ℕ → Place
 place first width = record { first = first; width = width }
 
--- the same table, with binary group flags 0 and 2 at these bits
-abbrev pub with_group_flags : Table → ℕ → ℕ → Table
-with_group_flags t flag_zero flag_two = record t { group_flag_zero = flag_zero; group_flag_two = flag_two }
-
 -- all places of a table
 abbrev pub places_in : Table → List Place
 places_in t =

@@ -1,8 +1,5 @@
 //! Where the fields of a word stand in its register. Next: `place`.
 
-ghost use Rattle.std.specs.Prelude.{◌≡◌};
-ghost use Rattle.tc_bits.specs.Table.{with_group_flags};
-
 /// A word's table: the number of the first bit of each field, which is its least significant one. A
 /// unit and a user group have four bits, a flag has one, the tens of frames and hours have two, and
 /// those of seconds and minutes three (SMPTE 12M, alike in each kind of word).
@@ -29,17 +26,4 @@ pub struct Table {
     pub user_six: u32,
     pub user_seven: u32,
     pub user_eight: u32,
-}
-
-impl Table {
-    /// The same table, with binary group flags 0 and 2 at these bits.
-    pub fn with_group_flags(self, zero: u32, two: u32) -> Table
-        ensures { result ≡ with_group_flags self zero two }
-    {
-        Table {
-            group_flag_zero: zero,
-            group_flag_two: two,
-            ..self
-        }
-    }
 }

@@ -7,7 +7,7 @@ use Rattle.tc_address.specs.declared.system.System.TheVariants.{F24, F25, F30}
 use Rattle.tc_bits.specs.declared.place.Place.{Place}
 use Rattle.tc_bits.specs.declared.table.Table.{Table}
 use Rattle.tc_bits.specs.Row as row
-use Rattle.tc_bits.specs.Table.{place, places_in, with_group_flags}
+use Rattle.tc_bits.specs.Table.{place, places_in}
 use Rattle.vitc_line.specs.declared.places.TheConstants as places
 
 -- pictures of 25 or 30 frames have lines with time code
@@ -26,21 +26,10 @@ field_mark_bit F24 = places.BIT_35
 field_mark_bit F25 = places.BIT_75
 field_mark_bit F30 = places.BIT_35
 
--- binary group flag 0
-abbrev pub group_flag_zero_bit : System → ℕ
-group_flag_zero_bit F24 = places.BIT_55
-group_flag_zero_bit F25 = places.BIT_35
-group_flag_zero_bit F30 = places.BIT_55
-
--- binary group flag 2
-abbrev pub group_flag_two_bit : System → ℕ
-group_flag_two_bit F24 = places.BIT_75
-group_flag_two_bit F25 = places.BIT_55
-group_flag_two_bit F30 = places.BIT_75
-
--- the table of a system
+-- the table of a system: at 25 frames binary group flags 0 and 2 have other places
 abbrev pub table_of : System → Table
-table_of system = with_group_flags places.TABLE (group_flag_zero_bit system) (group_flag_two_bit system)
+table_of F25 = record places.TABLE { group_flag_zero = places.BIT_35; group_flag_two = places.BIT_55 }
+table_of system = places.TABLE
 
 -- all places of a system
 abbrev pub places_of : System → List Place

@@ -2,13 +2,7 @@
 //! code). Bit 0 is the first in time, and each field has its least significant bit first. Next: `reading`.
 
 ghost use Rattle.std.specs.Prelude.{◌≡◌, ◌<◌};
-ghost use Rattle.vitc_line.specs.Places.{
-  field_mark_bit,
-  group_flag_two_bit,
-  group_flag_zero_bit,
-  sync_pair_place,
-  table_of,
-};
+ghost use Rattle.vitc_line.specs.Places.{field_mark_bit, sync_pair_place, table_of};
 
 use tc_address::System;
 use tc_bits::{Place, Table};
@@ -87,29 +81,16 @@ pub(crate) fn field_mark(system: System) -> u32
     }
 }
 
-/// Where binary group flag 0 stands.
-fn group_flag_zero(system: System) -> u32
-    ensures { result ≡ group_flag_zero_bit system }
-{
-    match system {
-        System::F24 | System::F30 => BIT_55,
-        System::F25 => BIT_35,
-    }
-}
-
-/// Where binary group flag 2 stands.
-fn group_flag_two(system: System) -> u32
-    ensures { result ≡ group_flag_two_bit system }
-{
-    match system {
-        System::F24 | System::F30 => BIT_75,
-        System::F25 => BIT_55,
-    }
-}
-
 /// The first bit of each field in the system.
 pub(crate) fn table(system: System) -> Table
     ensures { result ≡ table_of system }
 {
-    TABLE.with_group_flags(group_flag_zero(system), group_flag_two(system))
+    match system {
+        System::F24 | System::F30 => TABLE,
+        System::F25 => Table {
+            group_flag_zero: BIT_35,
+            group_flag_two: BIT_55,
+            ..TABLE
+        },
+    }
 }
