@@ -16,6 +16,15 @@ fn typed(alloc: Global, line: &str) -> Result<Vec<String>, AllocError> {
     Ok(words)
 }
 
+/// The job that a line names.
+fn job_in(alloc: Global, line: &str) -> Result<Job, Fail> {
+    let words = typed(alloc, line)?;
+    match read_words(alloc, &words) {
+        Ok(Task::Stream(job)) => Ok(job),
+        _ => Err("no job".into()),
+    }
+}
+
 #[test]
 fn many_words_want_no_memory(rt: HostRuntime) -> Result<(), Fail> {
     let mut words = typed(rt.alloc(), "version x")?;
@@ -46,24 +55,10 @@ fn label_text_of(job: &Job) -> Option<[u8; 11]> {
     }
 }
 
-fn slicing_in(task: &Task) -> Option<Slicing> {
-    match task {
-        Task::Stream(job) => slicing_of(job),
-        Task::Chase { .. } => None,
-    }
-}
-
 fn slicing_of(job: &Job) -> Option<Slicing> {
     match job {
         Job::PcmLtc { slicing } => Some(*slicing),
         _ => None,
-    }
-}
-
-fn wave_slicing_in(task: &Task) -> Option<WaveSlicing> {
-    match task {
-        Task::Stream(job) => wave_slicing_of(job),
-        Task::Chase { .. } => None,
     }
 }
 
@@ -74,24 +69,10 @@ fn wave_slicing_of(job: &Job) -> Option<WaveSlicing> {
     }
 }
 
-fn jam_in(task: &Task) -> Option<Jam> {
-    match task {
-        Task::Stream(job) => jam_of(job),
-        Task::Chase { .. } => None,
-    }
-}
-
 fn jam_of(job: &Job) -> Option<Jam> {
     match job {
         Job::LtcJam { jam } => Some(*jam),
         _ => None,
-    }
-}
-
-fn chase_in(task: &Task) -> Option<ChaseRun> {
-    match task {
-        Task::Stream(job) => chase_of(job),
-        Task::Chase { .. } => None,
     }
 }
 
@@ -102,24 +83,10 @@ fn chase_of(job: &Job) -> Option<ChaseRun> {
     }
 }
 
-fn level_in(task: &Task) -> Option<SoundLevel> {
-    match task {
-        Task::Stream(job) => level_of(job),
-        Task::Chase { .. } => None,
-    }
-}
-
 fn level_of(job: &Job) -> Option<SoundLevel> {
     match job {
         Job::LtcPcm { level } => Some(*level),
         _ => None,
-    }
-}
-
-fn lines_in(task: &Task) -> Option<LineStripe> {
-    match task {
-        Task::Stream(job) => lines_of(job),
-        Task::Chase { .. } => None,
     }
 }
 
@@ -131,57 +98,66 @@ fn lines_of(job: &Job) -> Option<LineStripe> {
 }
 
 #[test]
-fn jobs_are_read(rt: HostRuntime) -> Result<(), Fail> {
+fn reports_of_a_tape_are_read(rt: HostRuntime) -> Result<(), Fail> {
     let alloc = rt.alloc();
-    let words = typed(alloc, "ltc-read")?;
-    let read = read_words(alloc, &words);
-    assert!(rt; matches!(read, Ok(Task::Stream(Job::LtcRead))));
-    let words = typed(alloc, "ltc-worn")?;
-    let read = read_words(alloc, &words);
-    assert!(rt; matches!(read, Ok(Task::Stream(Job::LtcWorn))));
-    let words = typed(alloc, "ltc-rough")?;
-    let read = read_words(alloc, &words);
-    assert!(rt; matches!(read, Ok(Task::Stream(Job::LtcRough))));
-    let words = typed(alloc, "mtc-read")?;
-    let read = read_words(alloc, &words);
-    assert!(rt; matches!(read, Ok(Task::Stream(Job::MtcRead))));
-    let words = typed(alloc, "help")?;
-    let read = read_words(alloc, &words);
-    assert!(rt; matches!(read, Ok(Task::Stream(Job::Help))));
-    let words = typed(alloc, "version")?;
-    let read = read_words(alloc, &words);
-    assert!(rt; matches!(read, Ok(Task::Stream(Job::Version))));
+    assert!(rt; matches!(job_in(alloc, "ltc-read")?, Job::LtcRead));
+    assert!(rt; matches!(job_in(alloc, "ltc-worn")?, Job::LtcWorn));
+    assert!(rt; matches!(job_in(alloc, "ltc-rough")?, Job::LtcRough));
+    Ok(())
+}
+
+#[test]
+fn other_jobs_without_values_are_read(rt: HostRuntime) -> Result<(), Fail> {
+    let alloc = rt.alloc();
+    assert!(rt; matches!(job_in(alloc, "mtc-read")?, Job::MtcRead));
+    assert!(rt; matches!(job_in(alloc, "help")?, Job::Help));
+    assert!(rt; matches!(job_in(alloc, "version")?, Job::Version));
+    Ok(())
+}
+
+#[test]
+fn frames_to_be_shown_are_read(rt: HostRuntime) -> Result<(), Fail> {
+    let alloc = rt.alloc();
     for (line, limit, profile) in [
         ("ltc-fly 0", 0, Profile::Normal),
         ("ltc-fly 255", 255, Profile::Normal),
         ("ltc-fly 2 worn", 2, Profile::Worn),
         ("ltc-fly 0 rough", 0, Profile::Rough),
     ] {
-        let words = typed(alloc, line)?;
-        let Ok(Task::Stream(Job::LtcFly { flight })) = read_words(alloc, &words) else {
+        let Job::LtcFly { flight } = job_in(alloc, line)? else {
             return Err("no frames".into());
         };
         assert_eq!(rt; flight.limit, limit, "at {line}");
         assert_eq!(rt; flight.profile, profile, "at {line}");
     }
+    Ok(())
+}
+
+#[test]
+fn messages_to_be_sent_are_read(rt: HostRuntime) -> Result<(), Fail> {
+    let alloc = rt.alloc();
     for (line, limit, profile) in [
         ("ltc-mtc 0", 0, Profile::Normal),
         ("ltc-mtc 255", 255, Profile::Normal),
         ("ltc-mtc 255 worn", 255, Profile::Worn),
     ] {
-        let words = typed(alloc, line)?;
-        let Ok(Task::Stream(Job::LtcMtc { flight })) = read_words(alloc, &words) else {
+        let Job::LtcMtc { flight } = job_in(alloc, line)? else {
             return Err("no messages".into());
         };
         assert_eq!(rt; flight.limit, limit, "at {line}");
         assert_eq!(rt; flight.profile, profile, "at {line}");
     }
+    Ok(())
+}
+
+#[test]
+fn versions_are_read(rt: HostRuntime) -> Result<(), Fail> {
+    let alloc = rt.alloc();
     for (line, version) in [
         ("ltc-convert 1", FileVersion::One),
         ("ltc-convert 2", FileVersion::Two),
     ] {
-        let words = typed(alloc, line)?;
-        let Ok(Task::Stream(Job::LtcConvert { version: read })) = read_words(alloc, &words) else {
+        let Job::LtcConvert { version: read } = job_in(alloc, line)? else {
             return Err("no version".into());
         };
         assert_eq!(rt; read, version, "at {line}");
@@ -214,11 +190,7 @@ fn slicings_are_read(rt: HostRuntime) -> Result<(), Fail> {
             768_000,
         ),
     ] {
-        let words = typed(alloc, line)?;
-        let Ok(task) = read_words(alloc, &words) else {
-            return Err("no task".into());
-        };
-        let Some(slicing) = slicing_in(&task) else {
+        let Some(slicing) = slicing_of(&job_in(alloc, line)?) else {
             return Err("no slicing".into());
         };
         assert_eq!(rt; slicing.threshold(), threshold, "at {line}");
@@ -243,11 +215,7 @@ fn slicings_as_time_passes_are_read(rt: HostRuntime) -> Result<(), Fail> {
         ("pcm-ltc 25 48000 250 16 deep 4", Pace::Ended),
         ("pcm-ltc 25 48000 250 16 deep 4 live", Pace::Passing(7_680)),
     ] {
-        let words = typed(alloc, line)?;
-        let Ok(task) = read_words(alloc, &words) else {
-            return Err("no task".into());
-        };
-        let Some(slicing) = slicing_in(&task) else {
+        let Some(slicing) = slicing_of(&job_in(alloc, line)?) else {
             return Err("no slicing".into());
         };
         assert_eq!(rt; slicing.pace(), pace, "at {line}");
@@ -265,11 +233,7 @@ fn sound_files_as_time_passes_are_read(rt: HostRuntime) -> Result<(), Fail> {
         ("wav-ltc 30 2 250 3 deep", Pace::Ended),
         ("wav-ltc 30 2 250 3 deep live", Pace::Passing(6_400)),
     ] {
-        let words = typed(alloc, line)?;
-        let Ok(task) = read_words(alloc, &words) else {
-            return Err("no task".into());
-        };
-        let Some(wave) = wave_slicing_in(&task) else {
+        let Some(wave) = wave_slicing_of(&job_in(alloc, line)?) else {
             return Err("no slicing of a file".into());
         };
         assert_eq!(rt; wave.pace(768_000), pace, "at {line}");
@@ -290,11 +254,7 @@ fn tracks_of_sound_files_are_read(rt: HostRuntime) -> Result<(), Fail> {
             16,
         ),
     ] {
-        let words = typed(alloc, line)?;
-        let Ok(task) = read_words(alloc, &words) else {
-            return Err("no task".into());
-        };
-        let Some(wave) = wave_slicing_in(&task) else {
+        let Some(wave) = wave_slicing_of(&job_in(alloc, line)?) else {
             return Err("no slicing of a file".into());
         };
         assert_eq!(rt; wave.track(), track, "at {line}");
@@ -318,11 +278,7 @@ fn clean_copies_are_read(rt: HostRuntime) -> Result<(), Fail> {
         ),
         ("ltc-jam 2 24 48000 worn", 2, Profile::Worn, 24, 48_000),
     ] {
-        let words = typed(alloc, line)?;
-        let Ok(task) = read_words(alloc, &words) else {
-            return Err("no task".into());
-        };
-        let Some(jam) = jam_in(&task) else {
+        let Some(jam) = jam_of(&job_in(alloc, line)?) else {
             return Err("no clean recording".into());
         };
         assert_eq!(rt; jam.flight().limit, limit, "at {line}");
@@ -353,11 +309,7 @@ fn chases_over_code_are_read(rt: HostRuntime) -> Result<(), Fail> {
             1_000,
         ),
     ] {
-        let words = typed(alloc, line)?;
-        let Ok(task) = read_words(alloc, &words) else {
-            return Err("no task".into());
-        };
-        let Some(run) = chase_in(&task) else {
+        let Some(run) = chase_of(&job_in(alloc, line)?) else {
             return Err("no chase".into());
         };
         assert_eq!(rt; run.flight().limit, limit, "at {line}");
@@ -372,11 +324,7 @@ fn chases_over_code_are_read(rt: HostRuntime) -> Result<(), Fail> {
 fn levels_are_read(rt: HostRuntime) -> Result<(), Fail> {
     let alloc = rt.alloc();
     for (line, size) in [("ltc-pcm 1", 1), ("ltc-pcm 32767", 32_767)] {
-        let words = typed(alloc, line)?;
-        let Ok(task) = read_words(alloc, &words) else {
-            return Err("no task".into());
-        };
-        let Some(level) = level_in(&task) else {
+        let Some(level) = level_of(&job_in(alloc, line)?) else {
             return Err("no sound".into());
         };
         assert_eq!(rt; level.level(), size, "at {line}");
@@ -395,11 +343,7 @@ fn lines_to_be_made_are_read(rt: HostRuntime) -> Result<(), Fail> {
             1_000_000,
         ),
     ] {
-        let words = typed(alloc, line)?;
-        let Ok(task) = read_words(alloc, &words) else {
-            return Err("no task".into());
-        };
-        let Some(stripe) = lines_in(&task) else {
+        let Some(stripe) = lines_of(&job_in(alloc, line)?) else {
             return Err("no lines".into());
         };
         assert_eq!(rt; stripe.length(), length, "at {line}");
