@@ -4,7 +4,7 @@ use Rattle.direction_reader.specs.declared.event.Event.{Event}
 use Rattle.tc_job.specs.declared.flight.Flight.{Flight}
 use Rattle.tc_io.specs.Sink.{IsFront}
 use Rattle.tc_command.specs.KeptFirst.{front_of_more}
-use Rattle.interval_commands.specs.KeptCommand.{PrintsInOrder}
+use Rattle.interval_engine.specs.KeptCommand.{PrintsInOrder}
 use Rattle.frame_commands.specs.KeptFrames.{AddsInOrder}
 use Rattle.frame_commands.specs.OfFrames.{FrameText, along_frames, frames_of}
 use Rattle.frame_commands.proofs.FewerFrames.{EachListHasEvents, OneListOfEvents, flight_spent_stays}

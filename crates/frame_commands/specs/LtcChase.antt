@@ -15,7 +15,7 @@ use Rattle.interval_file.specs.declared.header.IntervalHeader.{IntervalHeader}
 use Rattle.interval_file.specs.Recording.{Recording, recording_of}
 use Rattle.tc_job.specs.ChaseRun.{Chasing}
 use Rattle.frame_commands.specs.declared.ltc_chase.TheConstants.{MAX_FRAMES}
-use Rattle.interval_commands.specs.Along.{IsSpentOf, IsWholeOf, Printing}
+use Rattle.interval_engine.specs.Along.{IsSpentOf, IsWholeOf, Printing}
 use Rattle.frame_commands.specs.OfFrames.{FrameText, along_frames, frames_of}
 
 -- the steps of a chase over these frames

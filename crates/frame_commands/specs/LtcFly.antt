@@ -10,7 +10,7 @@ use Rattle.report_text.specs.FrameTexts.{frame_line, fly_end_line}
 use Rattle.interval_file.specs.declared.header.IntervalHeader.{IntervalHeader}
 use Rattle.interval_file.specs.Recording.{recording_of}
 use Rattle.tc_job.specs.declared.flight.Flight.{Flight}
-use Rattle.interval_commands.specs.Along.{Printing}
+use Rattle.interval_engine.specs.Along.{Printing}
 use Rattle.frame_commands.specs.OfFrames.{FrameText, along_frames, frames_of, words_heard}
 use Rattle.flywheel.specs.Kinds.{is_gone, is_heard, is_invented}
 

@@ -7,7 +7,7 @@ use Rattle.interval_file.specs.declared.header.FileVersion.TheVariants.{One}
 use Rattle.interval_file.specs.declared.header.IntervalHeader.{IntervalHeader}
 use Rattle.interval_file.specs.Grammar.{file_of}
 use Rattle.tc_job.specs.Jam.{Jamming}
-use Rattle.interval_commands.specs.Along.{Printing}
+use Rattle.interval_engine.specs.Along.{Printing}
 use Rattle.frame_commands.specs.OfFrames.{FrameText, along_frames}
 
 -- the header of the clean recording: version 1, the system of the input, and the tick rate of the words

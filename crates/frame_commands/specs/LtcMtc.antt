@@ -2,7 +2,7 @@
 use Rattle.std.specs.Prelude.{[], None}
 use Rattle.quarter_frame.specs.Runs.{mtc_of}
 use Rattle.tc_job.specs.declared.flight.Flight.{Flight}
-use Rattle.interval_commands.specs.Along.{Printing}
+use Rattle.interval_engine.specs.Along.{Printing}
 use Rattle.frame_commands.specs.OfFrames.{FrameText, along_frames}
 
 -- the messages of the frames, and nothing last

@@ -11,7 +11,7 @@ use Rattle.tape_spans.specs.SpanTexts.{final_lines, last_spans_line, lines_behin
 use Rattle.interval_file.specs.declared.header.IntervalHeader.{IntervalHeader}
 use Rattle.interval_file.specs.Recording.{recording_of}
 use Rattle.tc_job.specs.declared.flight.Flight.{Flight}
-use Rattle.interval_commands.specs.Along.{Printing}
+use Rattle.interval_engine.specs.Along.{Printing}
 use Rattle.frame_commands.specs.OfFrames.{FrameText, along_frames, frames_of, words_heard}
 
 -- the lines of the spans of frames, with the header's tick rate and system: each has its own, and between two of them

@@ -10,7 +10,7 @@ use Rattle.flywheel.specs.declared.heard.HeardWord.{HeardWord}
 use Rattle.flywheel.specs.Frames.{frames}
 use Rattle.interval_file.specs.declared.header.IntervalHeader.{IntervalHeader}
 use Rattle.tc_job.specs.declared.flight.Flight.{Flight}
-use Rattle.interval_commands.specs.Along.{Printing}
+use Rattle.interval_engine.specs.Along.{Printing}
 
 -- the word that the flywheel hears of an event, if it is one
 abbrev pub heard_in : Event → List HeardWord

@@ -47,7 +47,7 @@ use direction_reader::laws::{
 use direction_reader::{Brought, DirectionReader, Event, Events};
 use flywheel::laws::frames_come_in_order;
 use flywheel::{Flywheel, Frame, HeardWord};
-use interval_commands::Behind;
+use interval_engine::Behind;
 use interval_file::IntervalHeader;
 use line_text::Text;
 use report_text::fly_end_text;

@@ -6,13 +6,13 @@ ghost use Rattle.made_commands.specs.Made.{interval_bytes};
 ghost use Rattle.tc_command.specs.Causes.{HasOutCause, HasSourceCause};
 ghost use Rattle.tc_command.specs.Ends.{SeesOneEnd};
 ghost use Rattle.tc_command.specs.Ran.{CameToItsEnd, StoppedBefore};
-ghost use Rattle.interval_commands.specs.Along.{along_intervals};
+ghost use Rattle.interval_engine.specs.Along.{along_intervals};
 ghost use Rattle.frame_commands.specs.LtcJam.{clean_recording};
 
 use crate::flight::{FlightTo, FrameReader};
 use crate::frame_sink::FrameSink;
 use flywheel::Frame;
-use interval_commands::work_along;
+use interval_engine::work_along;
 use interval_file::{FileVersion, IntervalHeader, interval_header};
 use ltc_jam::laws::a_clean_recording_is_written_frame_by_frame;
 use ltc_jam::{frame_cells, lead};

@@ -7,7 +7,7 @@ ghost use Rattle.tc_address.specs.Label.{Address};
 ghost use Rattle.tc_job.specs.ChaseRun.{Chasing};
 ghost use Rattle.tc_job.specs.Jam.{Jamming};
 ghost use Rattle.tc_job.specs.declared.flight.Flight.{Flight};
-ghost use Rattle.interval_commands.specs.KeptCommand.{PrintsInOrder};
+ghost use Rattle.interval_engine.specs.KeptCommand.{PrintsInOrder};
 ghost use Rattle.frame_commands.specs.declared.ltc_chase.TheConstants.{MAX_FRAMES};
 ghost use Rattle.frame_commands.specs.KeptFrames.{AddsInOrder};
 ghost use Rattle.frame_commands.specs.LtcChase.{lines_of_steps};

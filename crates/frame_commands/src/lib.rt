@@ -4,7 +4,7 @@
 //!
 //! What this crate promises, for all sources and sinks:
 //! - Each command writes what its `FrameText` makes of the frames of the file's intervals, with at most so
-//!   many invented ones in a row (`specs/OfFrames.antt`, over `interval_commands`).
+//!   many invented ones in a row (`specs/OfFrames.antt`, over `interval_engine`).
 //! - The lines of `ltc-fly` mark each frame that is invented (`specs/LtcFly.antt`); what `ltc-jam` writes is a
 //!   clean recording, from which each frame is read, and nothing else (`specs/LtcJam.antt`); in the trace of
 //!   `ltc-chase` each loss has its cause (`specs/LtcChase.antt`).

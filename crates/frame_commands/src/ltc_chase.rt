@@ -7,7 +7,7 @@ ghost use Rattle.frame_commands.specs.KeptSteps.{stepped};
 ghost use Rattle.tc_command.specs.Causes.{HasOutCause, HasSourceCause};
 ghost use Rattle.tc_command.specs.Ends.{SeesOneEnd};
 ghost use Rattle.tc_command.specs.Ran.{CameToItsEnd, StoppedBefore};
-ghost use Rattle.interval_commands.specs.Along.{along_intervals};
+ghost use Rattle.interval_engine.specs.Along.{along_intervals};
 ghost use Rattle.frame_commands.specs.LtcChase.{chased_recording};
 
 use crate::flight::{FlightTo, FrameReader};
@@ -16,7 +16,7 @@ use chase_script::{step_end_text, step_text};
 use code_chase::CodeChase;
 use code_chase::laws::a_frame_adds_a_line;
 use flywheel::Frame;
-use interval_commands::work_along;
+use interval_engine::work_along;
 use interval_file::IntervalHeader;
 use line_text::Text;
 use std::marker::Model;

@@ -3,13 +3,13 @@ ghost use Rattle.std.specs.Prelude.{OnOk, IfErr};
 ghost use Rattle.tc_command.specs.Causes.{HasOutCause, HasSourceCause};
 ghost use Rattle.tc_command.specs.Ends.{SeesOneEnd};
 ghost use Rattle.tc_command.specs.Ran.{CameToItsEnd, StoppedBefore};
-ghost use Rattle.interval_commands.specs.Along.{along_intervals};
+ghost use Rattle.interval_engine.specs.Along.{along_intervals};
 ghost use Rattle.frame_commands.specs.LtcMtc.{time_code};
 
 use crate::flight::{FlightTo, FrameReader};
 use crate::frame_sink::FrameSink;
 use flywheel::Frame;
-use interval_commands::work_along;
+use interval_engine::work_along;
 use interval_file::IntervalHeader;
 use quarter_frame::QuarterWriter;
 use tc_command::{Stop, push_piece};

@@ -8,13 +8,13 @@ ghost use Rattle.tc_io.specs.Sink.{AppendsFront};
 ghost use Rattle.tc_command.specs.Causes.{HasOutCause, HasSourceCause};
 ghost use Rattle.tc_command.specs.Ends.{SeesOneEnd};
 ghost use Rattle.tc_command.specs.Ran.{CameToItsEnd, StoppedBefore};
-ghost use Rattle.interval_commands.specs.Along.{along_intervals};
+ghost use Rattle.interval_engine.specs.Along.{along_intervals};
 ghost use Rattle.frame_commands.specs.LtcSpans.{spanned_recording};
 
 use crate::flight::{FlightTo, FrameReader};
 use crate::frame_sink::FrameSink;
 use flywheel::Frame;
-use interval_commands::work_along;
+use interval_engine::work_along;
 use interval_file::IntervalHeader;
 use tape_spans::laws::final_lines_come_first;
 use tape_spans::{Cut, Gap, Span, SpanText, TapeSpans, gap_text, span_text};

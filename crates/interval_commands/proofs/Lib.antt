@@ -1,9 +1,5 @@
-mod AnItemMore
 mod Converted
 mod CountedEvents
-mod InputBegins
 mod LinesGrow
 mod PrintedInOrder
-mod RunOfIntervals
 mod SoundGrows
-mod VerdictStays

@@ -8,7 +8,7 @@ use Rattle.pcm_front.specs.Side.{other_side, upward}
 use Rattle.pcm_front.specs.Sound.{sound}
 use Rattle.interval_file.specs.declared.header.IntervalHeader.{IntervalHeader}
 use Rattle.interval_commands.specs.declared.ltc_pcm.MadeSound.{MadeSound}
-use Rattle.interval_commands.specs.Along.{Printing}
+use Rattle.interval_engine.specs.Along.{Printing}
 use Rattle.interval_commands.specs.LtcPcm.{but_the_last, made_sound}
 
 -- the side behind intervals, of which the first has this side

@@ -1,7 +1,3 @@
-pub mod Along
-pub mod KeptBehind
-pub mod KeptAlong
-pub mod KeptCommand
 pub mod KeptConversion
 pub mod KeptReport
 pub mod KeptSound

@@ -3,7 +3,7 @@ use Rattle.std.specs.Prelude.{◌≡◌, ℕ, List}
 use Rattle.interval_file.specs.declared.header.FileVersion.{FileVersion}
 use Rattle.interval_file.specs.declared.header.IntervalHeader.{IntervalHeader}
 use Rattle.interval_file.specs.Grammar.{IsFile, file_of}
-use Rattle.interval_commands.specs.Along.{Printing}
+use Rattle.interval_engine.specs.Along.{Printing}
 
 -- the header in this version: the system and the tick rate stay
 abbrev pub in_version : FileVersion → IntervalHeader → IntervalHeader

@@ -2,7 +2,7 @@
 use Rattle.std.specs.Prelude.{◌≡◌, ℕ, ◌-◌, ℤ, List, length, take}
 use Rattle.pcm_front.specs.Samples.{bytes_of}
 use Rattle.pcm_front.specs.Sound.{sound}
-use Rattle.interval_commands.specs.Along.{Printing}
+use Rattle.interval_engine.specs.Along.{Printing}
 
 -- the samples but for the last one, which comes at the end of the recording
 abbrev pub but_the_last : List ℤ → List ℤ

@@ -7,8 +7,8 @@ ghost use Rattle.tc_io.specs.Bytes.{AreBytes};
 ghost use Rattle.interval_file.specs.Grammar.{IsFile};
 ghost use Rattle.interval_file.specs.Recording.{recording_of};
 ghost use Rattle.tc_command.specs.Meaning.{Meaning, IsInput};
-ghost use Rattle.interval_commands.specs.Along.{along_intervals};
-ghost use Rattle.interval_commands.specs.KeptCommand.{PrintsInOrder, RecordingsGrow};
+ghost use Rattle.interval_engine.specs.Along.{along_intervals};
+ghost use Rattle.interval_engine.specs.KeptCommand.{PrintsInOrder};
 ghost use Rattle.interval_commands.specs.LtcConvert.{conversion, in_version};
 ghost use Rattle.interval_commands.specs.LtcPcm.{made_sound};
 ghost use Rattle.interval_commands.specs.LtcRead.{report};
@@ -16,18 +16,7 @@ ghost use Rattle.interval_commands.specs.LtcRead.{report};
 use direction_reader::laws::{
     a_list_has_one_list_of_events, each_list_has_events, events_of_a_front_come_first,
 };
-use interval_file::laws::{
-    a_file_is_read_as_it_was_written, bytes_are_read_as_the_text_says,
-    the_decoder_reads_what_is_said,
-};
-
-/// What bytes say of a recording grows with more bytes, and stays as it is behind a fault and behind the
-/// limit. Of an input it has a header.
-pub fn recordings_grow()
-    ensures { RecordingsGrow }
-{
-    the_decoder_reads_what_is_said();
-}
+use interval_file::laws::{a_file_is_read_as_it_was_written, bytes_are_read_as_the_text_says};
 
 /// What each command prints behind some intervals there is, and is one, and it comes first, whatever intervals
 /// follow.

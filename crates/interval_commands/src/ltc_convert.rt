@@ -4,10 +4,10 @@ ghost use Rattle.std.specs.Prelude.{OnOk, IfErr};
 ghost use Rattle.tc_command.specs.Causes.{HasOutCause, HasSourceCause};
 ghost use Rattle.tc_command.specs.Ends.{SeesOneEnd};
 ghost use Rattle.tc_command.specs.Ran.{CameToItsEnd, StoppedBefore};
-ghost use Rattle.interval_commands.specs.Along.{along_intervals};
+ghost use Rattle.interval_engine.specs.Along.{along_intervals};
 ghost use Rattle.interval_commands.specs.LtcConvert.{conversion};
 
-use crate::along::{Behind, work_along};
+use interval_engine::{Behind, work_along};
 use interval_file::{FileVersion, IntervalHeader, interval_bytes, interval_header};
 use tc_command::{Gathered, Stop};
 use tc_io::{Sink, Source};

@@ -8,10 +8,10 @@ ghost use Rattle.tc_io.specs.Sink.{AppendsFront};
 ghost use Rattle.tc_command.specs.Causes.{HasOutCause, HasSourceCause};
 ghost use Rattle.tc_command.specs.Ends.{SeesOneEnd};
 ghost use Rattle.tc_command.specs.Ran.{CameToItsEnd, StoppedBefore};
-ghost use Rattle.interval_commands.specs.Along.{along_intervals};
+ghost use Rattle.interval_engine.specs.Along.{along_intervals};
 ghost use Rattle.interval_commands.specs.LtcPcm.{made_sound};
 
-use crate::along::{Behind, work_along};
+use interval_engine::{Behind, work_along};
 use arrayvec::ArrayVec;
 use biphase::MAX_INTERVAL;
 use byteorder::{ByteOrder, LittleEndian};

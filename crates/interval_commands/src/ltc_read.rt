@@ -13,14 +13,14 @@ ghost use Rattle.interval_file.specs.IntervalHeader.{IsTickRate};
 ghost use Rattle.report_text.specs.Texts.{event_line, read_end_line, FitsLine};
 ghost use Rattle.tc_io.specs.Sink.{AppendsFront};
 ghost use Rattle.tc_io.specs.Source.{Rose};
-ghost use Rattle.interval_commands.specs.Along.{Printing, along_intervals};
+ghost use Rattle.interval_engine.specs.Along.{Printing, along_intervals};
 ghost use Rattle.tc_command.specs.Causes.{HasOutCause, HasSourceCause};
 ghost use Rattle.tc_command.specs.Ends.{SeesOneEnd};
 ghost use Rattle.tc_command.specs.Ran.{CameToItsEnd, StoppedBefore};
 ghost use Rattle.interval_commands.specs.LtcRead.{lines, report};
 ghost use Rattle.interval_commands.specs.KeptReport.{counted, all_counted, Feeds, FitLines, FitsReport, Prints, Stands};
 
-use crate::along::{Behind, work_along};
+use interval_engine::{Behind, work_along};
 use biphase::{MAX_INTERVAL, MAX_INTERVALS, Profile};
 use direction_reader::laws::a_reader_gives_the_events_of_its_list;
 use direction_reader::{Brought, DirectionReader, Event, Events};

@@ -25,8 +25,8 @@ use Rattle.interval_file.specs.Grammar.{AreIntervals, IsFile}
 use Rattle.interval_file.specs.Recording.{Recording, end_fault_of, recording_of}
 use Rattle.tc_io.specs.Verdict.{good}
 use Rattle.tc_job.specs.Jam.{IsJamming, Jamming}
-use Rattle.interval_commands.specs.Along.{IsWholeOf}
-use Rattle.interval_commands.specs.KeptBehind.{IsWholeBehind}
+use Rattle.interval_engine.specs.Along.{IsWholeOf}
+use Rattle.interval_engine.specs.KeptBehind.{IsWholeBehind}
 use Rattle.tc_top.specs.CleanCopy.{CleansTheInput, IsClean}
 use Rattle.frame_commands.specs.LtcJam.{clean_file, clean_header, clean_intervals, clean_recording}
 use Rattle.interval_commands.specs.LtcRead.{last_line, lines, report}

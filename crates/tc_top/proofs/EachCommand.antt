@@ -20,11 +20,11 @@ use Rattle.made_commands.specs.Labels.{number_line, label_line}
 use Rattle.made_commands.specs.Load.{load_text}
 use Rattle.made_commands.specs.Made.{made}
 use Rattle.made_commands.specs.MadeLines.{made_lines}
-use Rattle.interval_commands.specs.Along.{Printing, along_intervals}
+use Rattle.interval_engine.specs.Along.{Printing, along_intervals}
 use Rattle.tc_command.specs.Command.{IsCommand}
 use Rattle.tc_command.specs.KeptText.{text_is_command}
 use Rattle.tc_command.specs.Meaning.{Meaning}
-use Rattle.interval_commands.specs.KeptCommand.{PrintsInOrder, RecordingsGrow, along_is_command, never_spent}
+use Rattle.interval_engine.specs.KeptCommand.{PrintsInOrder, RecordingsGrow, along_is_command, never_spent}
 use Rattle.interval_commands.specs.LtcConvert.{conversion}
 use Rattle.interval_commands.specs.LtcPcm.{made_sound}
 use Rattle.interval_commands.specs.LtcRead.{report}

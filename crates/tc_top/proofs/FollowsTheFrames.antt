@@ -24,7 +24,7 @@ use Rattle.interval_file.specs.declared.header.IntervalHeader.{IntervalHeader}
 use Rattle.interval_file.specs.Recording.{Recording, recording_of}
 use Rattle.tc_job.specs.ChaseRun.{Chasing, IsChasing}
 use Rattle.frame_commands.specs.declared.ltc_chase.TheConstants.{MAX_FRAMES}
-use Rattle.interval_commands.specs.KeptBehind.{IsSpentBehind, IsWholeBehind}
+use Rattle.interval_engine.specs.KeptBehind.{IsSpentBehind, IsWholeBehind}
 use Rattle.frame_commands.specs.LtcChase.{ChasesTheInput, FollowsTheCode, LosesWithCause, chased_recording}
 use Rattle.frame_commands.specs.OfFrames.{frames_of, words_heard}
 use Rattle.tc_top.proofs.CleanCopy.{words_are}

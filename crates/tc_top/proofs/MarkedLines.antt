@@ -7,8 +7,8 @@ use Rattle.flywheel.specs.Marked.{AreMarked, word_of, words_in}
 use Rattle.tc_job.specs.declared.flight.Flight.{Flight}
 use Rattle.interval_file.specs.declared.header.IntervalHeader.{IntervalHeader}
 use Rattle.interval_file.specs.Recording.{recording_of}
-use Rattle.interval_commands.specs.Along.{IsWholeOf}
-use Rattle.interval_commands.specs.KeptBehind.{IsWholeBehind}
+use Rattle.interval_engine.specs.Along.{IsWholeOf}
+use Rattle.interval_engine.specs.KeptBehind.{IsWholeBehind}
 use Rattle.frame_commands.specs.LtcFly.{flown_recording, ShowsTheFrames}
 use Rattle.frame_commands.specs.OfFrames.{frames_of, words_heard}
 

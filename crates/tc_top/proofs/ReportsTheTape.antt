@@ -8,8 +8,8 @@ use Rattle.direction_reader.specs.Tape.{TellsTheTape, FindsTheTape}
 use Rattle.tc_address.specs.declared.system.System.{System}
 use Rattle.interval_file.specs.declared.header.IntervalHeader.{IntervalHeader}
 use Rattle.interval_file.specs.Recording.{recording_of}
-use Rattle.interval_commands.specs.Along.{IsWholeOf}
-use Rattle.interval_commands.specs.KeptBehind.{IsWholeBehind}
+use Rattle.interval_engine.specs.Along.{IsWholeOf}
+use Rattle.interval_engine.specs.KeptBehind.{IsWholeBehind}
 use Rattle.interval_commands.specs.LtcRead.{report}
 use Rattle.tc_top.specs.Tape.{ReportsTheTape}
 

@@ -17,8 +17,8 @@ use Rattle.quarter_frame.specs.Runs.{begins_run, mtc_of}
 use Rattle.tc_job.specs.declared.flight.Flight.{Flight}
 use Rattle.interval_file.specs.declared.header.IntervalHeader.{IntervalHeader}
 use Rattle.interval_file.specs.Recording.{recording_of}
-use Rattle.interval_commands.specs.Along.{IsWholeOf}
-use Rattle.interval_commands.specs.KeptBehind.{IsWholeBehind}
+use Rattle.interval_engine.specs.Along.{IsWholeOf}
+use Rattle.interval_engine.specs.KeptBehind.{IsWholeBehind}
 use Rattle.frame_commands.specs.LtcMtc.{time_code}
 use Rattle.signal_commands.specs.MtcRead.{event_lines, is_full, is_quarter, is_refused, last_mtc_line}
 use Rattle.frame_commands.specs.OfFrames.{frames_of, words_heard}

@@ -20,7 +20,7 @@ use Rattle.interval_file.specs.Grammar.{AreIntervals, IsFile, file_of}
 use Rattle.interval_file.specs.Recording.{Recording, end_fault_of, recording_of}
 use Rattle.tc_io.specs.Verdict.{good}
 use Rattle.tc_io.specs.KeptVerdict.{ends_whole, is_good}
-use Rattle.interval_commands.specs.Along.{IsWholeOf, along_intervals}
+use Rattle.interval_engine.specs.Along.{IsWholeOf, along_intervals}
 use Rattle.interval_commands.specs.LtcPcm.{made_sound}
 use Rattle.tc_command.specs.Meaning.{IsInput}
 use Rattle.signal_commands.specs.PcmLtc.{pace_for, settings_for, sliced_header}

@@ -14,8 +14,8 @@ use Rattle.tape_spans.specs.SpanTexts.{final_lines, lines_behind, open_line}
 use Rattle.tc_job.specs.declared.flight.Flight.{Flight}
 use Rattle.interval_file.specs.declared.header.IntervalHeader.{IntervalHeader}
 use Rattle.interval_file.specs.Recording.{recording_of}
-use Rattle.interval_commands.specs.Along.{IsWholeOf}
-use Rattle.interval_commands.specs.KeptBehind.{IsWholeBehind}
+use Rattle.interval_engine.specs.Along.{IsWholeOf}
+use Rattle.interval_engine.specs.KeptBehind.{IsWholeBehind}
 use Rattle.frame_commands.specs.LtcSpans.{ShowsTheSpans, spanned_recording, spans_counted}
 use Rattle.frame_commands.specs.OfFrames.{frames_of, words_heard}
 

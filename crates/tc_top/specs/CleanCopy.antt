@@ -11,7 +11,7 @@ use Rattle.interval_file.specs.Grammar.{IsFile}
 use Rattle.interval_file.specs.Recording.{Recording, recording_of}
 use Rattle.tc_job.specs.declared.job.Job.TheVariants.{LtcRead}
 use Rattle.tc_job.specs.Jam.{Jamming}
-use Rattle.interval_commands.specs.Along.{IsWholeOf}
+use Rattle.interval_engine.specs.Along.{IsWholeOf}
 use Rattle.tc_top.specs.Commands.{meaning_of}
 use Rattle.frame_commands.specs.LtcJam.{clean_header, clean_intervals, clean_recording}
 use Rattle.interval_commands.specs.LtcRead.{last_line, lines}

@@ -7,7 +7,7 @@ use Rattle.tc_job.specs.declared.job.Job.TheVariants.{LtcChase, MtcRead, Number,
 use Rattle.tc_job.specs.declared.job.Job.TheVariants.{LtcConvert, PcmLtc, WavLtc, LtcPcm, LtcLoad, VitcRead}
 use Rattle.tc_job.specs.declared.job.Job.TheVariants.{VitcMake, Help, Version}
 use Rattle.tc_command.specs.Meaning.{Meaning, writes}
-use Rattle.interval_commands.specs.Along.{along_intervals}
+use Rattle.interval_engine.specs.Along.{along_intervals}
 use Rattle.interval_commands.specs.LtcConvert.{conversion}
 use Rattle.interval_commands.specs.LtcPcm.{made_sound}
 use Rattle.interval_commands.specs.LtcRead.{report}

@@ -28,7 +28,8 @@ use code_chase::laws::{each_loss_has_a_cause, whole_code_keeps_the_lock};
 use direction_reader::laws::a_list_has_one_list_of_events;
 use flywheel::laws::a_frame_that_goes_on_is_the_next;
 use frame_commands::laws::{each_sink_of_frames_adds_in_order, what_is_made_of_frames_is_in_order};
-use interval_commands::laws::{recordings_grow, what_is_printed_is_in_order};
+use interval_commands::laws::what_is_printed_is_in_order;
+use interval_engine::laws::recordings_grow;
 use interval_file::laws::a_file_is_read_as_it_was_written;
 use line_file::laws::bytes_have_one_list_of_answers;
 use ltc_jam::laws::{

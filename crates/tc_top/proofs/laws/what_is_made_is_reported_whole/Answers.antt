@@ -3,7 +3,7 @@ use Rattle.biphase.specs.declared.profile.Profile.TheVariants.{Normal}
 use Rattle.biphase.specs.Chain.{flat}
 use Rattle.direction_reader.specs.declared.event.Event.{Event}
 use Rattle.interval_file.specs.Recording.{Recording}
-use Rattle.interval_commands.specs.Along.{IsWholeOf}
+use Rattle.interval_engine.specs.Along.{IsWholeOf}
 use Rattle.interval_commands.specs.LtcRead.{last_line, lines, report}
 use Rattle.made_commands.specs.Made.{made_cells, made_header}
 use Rattle.tc_top.proofs.laws.what_is_made_is_reported_whole.Goals as goal

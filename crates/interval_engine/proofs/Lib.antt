@@ -1,0 +1,4 @@
+mod AnItemMore
+mod InputBegins
+mod RunOfIntervals
+mod VerdictStays

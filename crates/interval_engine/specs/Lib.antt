@@ -1,0 +1,4 @@
+pub mod Along
+pub mod KeptBehind
+pub mod KeptAlong
+pub mod KeptCommand
