@@ -2,7 +2,8 @@
 //! `tc_command/src/pushing.rt`.
 ghost use Rattle.std.specs.Prelude.{◌≡◌, ◌≤◌, ◌+◌, ◌*◌, ◌++◌, length, OnOk, IfErr};
 ghost use Rattle.arrayvec.specs.ArrayVec.{array_vec_len};
-ghost use Rattle.made_commands.specs.Made.{interval_bytes};
+ghost use Rattle.interval_file.specs.declared.header.FileVersion.TheVariants.{One};
+ghost use Rattle.interval_file.specs.Grammar.{intervals_bytes};
 ghost use Rattle.tc_command.specs.Causes.{HasOutCause, HasSourceCause};
 ghost use Rattle.tc_command.specs.Ends.{SeesOneEnd};
 ghost use Rattle.tc_command.specs.Ran.{CameToItsEnd, StoppedBefore};
@@ -16,8 +17,7 @@ use interval_engine::work_along;
 use interval_file::{FileVersion, IntervalHeader, interval_header};
 use ltc_jam::laws::a_clean_recording_is_written_frame_by_frame;
 use ltc_jam::{frame_cells, lead};
-use made_commands::{push_all, push_interval};
-use tc_command::{PIECE, Piece, Stop, push_piece};
+use tc_command::{PIECE, Piece, Stop, push_piece, put_bytes, put_interval};
 use tc_io::{Sink, Source};
 use tc_job::{Flight, Jam};
 
@@ -71,7 +71,7 @@ impl FrameSink for CleanRecording {
             tick_rate: jam.tick_rate(),
         });
         let mut room = Piece::new();
-        push_all(&mut room, &header);
+        put_bytes(&mut room, &header);
         push_intervals(&mut room, &lead(jam.cell()));
         push_piece(out, &room)?;
         Ok(CleanRecording { jam })
@@ -99,9 +99,9 @@ impl FrameSink for CleanRecording {
 /// Intervals for which there is room.
 fn push_intervals(room: &mut Piece, intervals: &[u32])
     requires { array_vec_len room.old + 4 * length intervals.now ≤ PIECE }
-    ensures { room.new.items ≡ room.old.items ++ interval_bytes intervals.now }
+    ensures { room.new.items ≡ room.old.items ++ intervals_bytes One intervals.now }
 {
     'intervals: for interval in intervals {
-        push_interval(room, *interval);
+        put_interval(room, *interval);
     }
 }

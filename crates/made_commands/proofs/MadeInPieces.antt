@@ -1,5 +1,8 @@
 -- A recording is made cell by cell and frame by frame: what was written and what is still to be made are the whole.
 use Rattle.std.proofs.Common.{◌≡◌, None, ℕ, zero, suc, ◌+◌, ◌-◌, ◌<◌, ◌/◌, ◌%◌, Bool, List, [], ◌∷◌, ◌++◌, refl, sym, ap, ap₂, ◌∙◌, append_assoc}
+use Rattle.interval_file.specs.declared.header.FileVersion.TheVariants.{One}
+use Rattle.interval_file.specs.Grammar.{intervals_bytes}
+use Rattle.interval_file.specs.Piece.{spelling}
 use Rattle.std.proofs.Common.{arith, w64, to_z, of_z}
 use Rattle.std.specs.Prelude.{◌==◌, ℤ, pos, ◌+ℤ◌, map}
 use Rattle.std.specs.declared.option.Option.{Option}
@@ -9,7 +12,6 @@ use Rattle.std.proofs.lemmas.List.Concat.{flat_map-append}
 use Rattle.biphase.specs.declared.cell.Cell.{Cell}
 use Rattle.biphase.specs.Chain.{flat, intervals_of}
 use Rattle.biphase.specs.Shape.{Shape, shaped, shaped_from}
-use Rattle.byteorder.specs.Endian.{big_bytes}
 use Rattle.direction_reader.specs.Played.{Played, bits_of_words, low_bits}
 use Rattle.flywheel.specs.Frames.{steps_in}
 use Rattle.tc_address.specs.declared.direction.Direction.{Direction}
@@ -18,19 +20,19 @@ use Rattle.tc_address.specs.Label.{Address, IsLabel}
 use Rattle.tc_address.specs.Numbering.{step}
 use Rattle.made_commands.specs.KeptStriping.{cell_bytes, rest_of}
 use Rattle.ltc_jam.specs.Word.{played_as, time_bits}
-use Rattle.made_commands.specs.Made.{frames_from, interval_bytes}
+use Rattle.made_commands.specs.Made.{frames_from}
 
 -- the bytes of a cell, and those of the cells behind it
 cell_bytes-next : (shape next : Shape) (cell : Cell) (bit : Bool) (tail : List Bool) → shaped shape (bit ∷ tail) ≡ cell ∷ shaped next tail
-    → cell_bytes shape (bit ∷ tail) ≡ interval_bytes (intervals_of cell) ++ cell_bytes next tail
+    → cell_bytes shape (bit ∷ tail) ≡ intervals_bytes One (intervals_of cell) ++ cell_bytes next tail
 cell_bytes-next shape next cell bit tail e =
-    ap (λ (cells : List Cell). interval_bytes (flat cells)) e ∙ flat_map-append (big_bytes 4) (intervals_of cell) (flat (shaped next tail))
+    ap (λ (cells : List Cell). intervals_bytes One (flat cells)) e ∙ flat_map-append (spelling One) (intervals_of cell) (flat (shaped next tail))
 
 -- a cell was pushed
-pub cell_pushed : (old new : List ℕ) (shape next : Shape) (cell : Cell) (bit : Bool) (tail : List Bool) → new ≡ old ++ interval_bytes (intervals_of cell)
+pub cell_pushed : (old new : List ℕ) (shape next : Shape) (cell : Cell) (bit : Bool) (tail : List Bool) → new ≡ old ++ intervals_bytes One (intervals_of cell)
     → shaped shape (bit ∷ tail) ≡ cell ∷ shaped next tail → new ++ cell_bytes next tail ≡ old ++ cell_bytes shape (bit ∷ tail)
 cell_pushed old new shape next cell bit tail pushed e =
-    ap (λ (l : List ℕ). l ++ cell_bytes next tail) pushed ∙ append_assoc old (interval_bytes (intervals_of cell)) (cell_bytes next tail)
+    ap (λ (l : List ℕ). l ++ cell_bytes next tail) pushed ∙ append_assoc old (intervals_bytes One (intervals_of cell)) (cell_bytes next tail)
     ∙ ap (λ (l : List ℕ). old ++ l) (sym (cell_bytes-next shape next cell bit tail e))
 
 -- the bits that are left, one of them taken

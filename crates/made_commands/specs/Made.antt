@@ -1,7 +1,6 @@
 -- The recording that `ltc-make` makes, all of it at once: words from a label on, and cells of a shape.
-use Rattle.std.specs.Prelude.{ℕ, true, false, List, ◌∷◌, ◌++◌, map, take, drop}
-use Rattle.std.specs.List.{flat_map, range_with_len}
-use Rattle.byteorder.specs.Endian.{big_bytes}
+use Rattle.std.specs.Prelude.{ℕ, true, false, List, ◌∷◌, map, take, drop}
+use Rattle.std.specs.List.{range_with_len}
 use Rattle.biphase.specs.declared.cell.Cell.{Cell}
 use Rattle.biphase.specs.declared.profile.Profile.TheVariants.{Normal}
 use Rattle.biphase.specs.Chain.{flat}
@@ -16,8 +15,7 @@ use Rattle.direction_reader.specs.Played.{Played, bits_of_words, events_of_words
 use Rattle.flywheel.specs.Frames.{steps_in}
 use Rattle.interval_file.specs.declared.header.FileVersion.TheVariants.{One}
 use Rattle.interval_file.specs.declared.header.IntervalHeader.{IntervalHeader}
-use Rattle.interval_file.specs.Grammar.{IsFile}
-use Rattle.interval_file.specs.IntervalHeader.{header_bytes}
+use Rattle.interval_file.specs.Grammar.{file_of, IsFile}
 use Rattle.ltc_jam.specs.Word.{played_as}
 use Rattle.tc_job.specs.Stripe.{Striping}
 
@@ -34,17 +32,13 @@ made_frames s = frames_from s.direction s.label s.frames
 abbrev pub made_cells : Striping → List Cell
 made_cells s = shaped s.shape (false ∷ true ∷ bits_of_words (made_frames s))
 
--- intervals as they stand in a file, each in four bytes
-abbrev pub interval_bytes : List ℕ → List ℕ
-interval_bytes intervals = flat_map (big_bytes 4) intervals
-
 -- the header of the file, of version 1
 abbrev pub made_header : Striping → IntervalHeader
 made_header s = record { version = One; system = system_with s.label.count; tick_rate = s.tick_rate }
 
 -- the file
 abbrev pub made : Striping → List ℕ
-made s = header_bytes (made_header s) ++ interval_bytes (flat (made_cells s))
+made s = file_of (made_header s) (flat (made_cells s))
 
 -- ---- what is read from it
 

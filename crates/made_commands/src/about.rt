@@ -8,8 +8,7 @@ ghost use Rattle.tc_command.specs.Causes.{HasOutCause};
 ghost use Rattle.tc_command.specs.Meaning.{writes};
 ghost use Rattle.tc_command.specs.Ran.{CameToItsEnd, StoppedBefore};
 
-use crate::ltc_make::push_all;
-use tc_command::{Maker, PIECE, Piece, Stop, make};
+use tc_command::{Maker, PIECE, Piece, Stop, make, put_bytes};
 use tc_io::{Sink, Source};
 use tc_job::usages::USAGES;
 
@@ -59,8 +58,8 @@ impl Page {
     {
         let mut text = Piece::new();
         push_usages(&USAGES, &mut text);
-        push_all(&mut text, MANUAL.as_bytes());
-        push_all(&mut text, b"\n");
+        put_bytes(&mut text, MANUAL.as_bytes());
+        put_bytes(&mut text, b"\n");
         Page { text: Some(text) }
     }
 
@@ -69,9 +68,9 @@ impl Page {
         ensures { rest_of result.text ≡ version_line }
     {
         let mut text = Piece::new();
-        push_all(&mut text, b"tc ");
-        push_all(&mut text, VERSION.as_bytes());
-        push_all(&mut text, b"\n");
+        put_bytes(&mut text, b"tc ");
+        put_bytes(&mut text, VERSION.as_bytes());
+        put_bytes(&mut text, b"\n");
         Page { text: Some(text) }
     }
 }
@@ -94,9 +93,9 @@ fn push_usage(command: &str, values: &str, room: &mut Piece)
     ensures items { room.new.items ≡ room.old.items ++ usage_line (command.now, values.now) }
     ensures len { array_vec_len room.new ≡ array_vec_len room.old + length (usage_line (command.now, values.now)) }
 {
-    push_all(room, command.as_bytes());
-    push_all(room, values.as_bytes());
-    push_all(room, b"\n");
+    put_bytes(room, command.as_bytes());
+    put_bytes(room, values.as_bytes());
+    put_bytes(room, b"\n");
 }
 
 impl Maker for Page {

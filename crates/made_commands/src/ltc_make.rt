@@ -3,25 +3,25 @@ ghost use Rattle.std.specs.Prelude.{◌≡◌, ◌+◌, ◌^◌, ◌<◌, ◌≤
 ghost use Rattle.std.specs.Prelude.{OnOk, IfErr};
 ghost use Rattle.arrayvec.specs.ArrayVec.{array_vec_len};
 ghost use Rattle.biphase.specs.Chain.{intervals_of};
-ghost use Rattle.byteorder.specs.Endian.{big_bytes};
 ghost use Rattle.direction_reader.specs.Played.{low_bits};
 ghost use Rattle.flywheel.specs.Frames.{steps_in};
+ghost use Rattle.interval_file.specs.declared.header.FileVersion.TheVariants.{One};
+ghost use Rattle.interval_file.specs.Grammar.{intervals_bytes};
 ghost use Rattle.ltc_word.specs.Spelled.{spelling_of};
 ghost use Rattle.made_commands.specs.KeptStriping.{cell_bytes, rest_of};
-ghost use Rattle.made_commands.specs.Made.{interval_bytes, made};
+ghost use Rattle.made_commands.specs.Made.{made};
 ghost use Rattle.tc_command.specs.Causes.{HasOutCause};
 ghost use Rattle.tc_command.specs.Meaning.{writes};
 ghost use Rattle.tc_command.specs.Ran.{CameToItsEnd, StoppedBefore};
 
 use biphase::{Cell, Shaper};
-use byteorder::{BigEndian, ByteOrder};
 use interval_file::{FileVersion, IntervalHeader, interval_header};
 use ltc_jam::played_bits;
 use ltc_word::laws::{each_word_has_its_spelling, spelling_is_exact};
 use ltc_word::{LtcWord, encode};
 use tc_address::laws::steps_add_up;
 use tc_address::{Direction, Label, advance, system_of};
-use tc_command::{Maker, PIECE, Piece, Stop, make};
+use tc_command::{Maker, PIECE, Piece, Stop, make, put_bytes, put_interval};
 use tc_io::{Sink, Source};
 use tc_job::Stripe;
 
@@ -132,7 +132,7 @@ fn begin(header: &[u8; 12], shaper: &mut Shaper, room: &mut Piece)
     ensures { (tail : List Bool) → room.new.items ++ cell_bytes shaper.new tail
         ≡ header.now ++ cell_bytes shaper.old (false ∷ true ∷ tail) }
 {
-    push_all(room, header);
+    put_bytes(room, header);
     push_cell(room, shaper.next_cell(false));
     push_cell(room, shaper.next_cell(true));
 }
@@ -154,38 +154,15 @@ fn write_bits(shaper: &mut Shaper, bits: u128, room: &mut Piece)
 /// The intervals of a cell.
 fn push_cell(room: &mut Piece, cell: Cell)
     requires { array_vec_len room.old + 8 ≤ PIECE }
-    ensures items { room.new.items ≡ room.old.items ++ interval_bytes (intervals_of cell) }
+    ensures items { room.new.items ≡ room.old.items ++ intervals_bytes One (intervals_of cell) }
     ensures len { array_vec_len room.new ≤ array_vec_len room.old + 8 }
 {
     match cell {
-        Cell::Zero(ticks) => push_interval(room, ticks),
+        Cell::Zero(ticks) => put_interval(room, ticks),
         Cell::One(first, second) => {
-            push_interval(room, first);
-            push_interval(room, second);
+            put_interval(room, first);
+            put_interval(room, second);
         }
-    }
-}
-
-/// An interval, the most significant byte first.
-pub fn push_interval(room: &mut Piece, ticks: u32)
-    requires { array_vec_len room.old + 4 ≤ PIECE }
-    ensures items { room.new.items ≡ room.old.items ++ big_bytes 4 ticks }
-    ensures len { array_vec_len room.new ≡ array_vec_len room.old + 4 }
-{
-    let mut bytes = [0; 4];
-    BigEndian::write_u32(&mut bytes, ticks);
-    push_all(room, &bytes);
-}
-
-/// Bytes for which there is room.
-pub fn push_all(room: &mut Piece, bytes: &[u8])
-    requires { array_vec_len room.old + length bytes.now ≤ PIECE }
-    ensures items { room.new.items ≡ room.old.items ++ bytes.now }
-    ensures len { array_vec_len room.new ≡ array_vec_len room.old + length bytes.now }
-{
-    match room.try_extend_from_slice(bytes) {
-        Ok(()) => (),
-        Err(_) => unreachable!(),
     }
 }
 

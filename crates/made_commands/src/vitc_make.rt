@@ -16,7 +16,6 @@ ghost use Rattle.tc_command.specs.Causes.{HasOutCause};
 ghost use Rattle.tc_command.specs.Meaning.{writes};
 ghost use Rattle.tc_command.specs.Ran.{CameToItsEnd, StoppedBefore};
 
-use crate::ltc_make::push_all;
 use arrayvec::ArrayVec;
 use byteorder::{BigEndian, ByteOrder};
 use line_file::{LineHeader, line_header};
@@ -24,7 +23,7 @@ use ltc_jam::word_of;
 use std::marker::Model;
 use tc_address::laws::steps_add_up;
 use tc_address::{Label, advance, system_of};
-use tc_command::{Maker, PIECE, Piece, Stop, make};
+use tc_command::{Maker, PIECE, Piece, Stop, make, put_bytes};
 use tc_io::{Sink, Source};
 use tc_job::LineStripe;
 use vitc_line::laws::{each_word_has_its_line, spelling_is_exact};
@@ -120,7 +119,7 @@ impl Maker for UnmadeLines {
 
     fn give(&mut self, room: &mut Piece) -> bool {
         if let Some(header) = self.header.take() {
-            push_all(room, &header);
+            put_bytes(room, &header);
             return true;
         }
         if self.frames == 0 {
@@ -154,9 +153,9 @@ fn push_field(length: u32, word: &VitcWord, room: &mut Piece)
     ensures len { array_vec_len room.new ≤ array_vec_len room.old + FIELD_ROOM }
 {
     let line = line_with(length, word);
-    push_all(room, &[2]);
-    push_all(room, &line);
-    push_all(room, &line);
+    put_bytes(room, &[2]);
+    put_bytes(room, &line);
+    put_bytes(room, &line);
 }
 
 /// The bytes of a line with this word.

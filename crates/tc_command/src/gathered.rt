@@ -4,7 +4,7 @@ ghost use Rattle.std.specs.Io.KnownBytes.{Appends};
 ghost use Rattle.tc_io.specs.Sink.{AppendsFront};
 ghost use Rattle.tc_command.specs.Causes.{HasOutCause};
 
-use crate::making::Piece;
+use crate::piece::Piece;
 use crate::pushing::push_piece;
 use crate::stop::Stop;
 use tc_io::Sink;

@@ -15,7 +15,7 @@
 //!   is one output of an input, and what bytes show stays. From it follow the status of a whole input
 //!   (`specs/WholeInput.antt`) and that what was written is a front of the whole output.
 //!
-//! Read `engine`, `intake`, `making`, `gathered`, `pushing`, `input_fault`, `stop`, `status` and `notes`.
+//! Read `engine`, `intake`, `making`, `piece`, `gathered`, `pushing`, `input_fault`, `stop`, `status` and `notes`.
 #![tactic(auto)]
 
 mod engine;
@@ -24,6 +24,7 @@ mod input_fault;
 mod intake;
 mod making;
 mod notes;
+mod piece;
 mod pushing;
 mod status;
 mod stop;
@@ -32,8 +33,9 @@ pub use engine::Engine;
 pub use gathered::Gathered;
 pub use input_fault::InputFault;
 pub use intake::work;
-pub use making::{Maker, PIECE, Piece, give_all, make};
+pub use making::{Maker, give_all, make};
 pub use notes::{chase_note, push_note, stop_note, usage_note};
+pub use piece::{PIECE, Piece, put_bytes, put_interval};
 pub use pushing::{push_line, push_piece};
 pub use status::Status;
 pub use stop::{ChaseStop, Stop};

@@ -1,5 +1,5 @@
 //! The way out of a command that reads nothing: its output goes out piece by piece, in fixed room.
-//! Next: `pushing`.
+//! Next: `piece`, and then `pushing`.
 ghost use Rattle.std.specs.Prelude.{◌≡◌, ℕ, ◌<◌, ◌≤◌, List, [], ◌++◌, true, false, OnOk, OnErr, IfErr};
 ghost use Rattle.std.specs.Io.KnownBytes.{Appends};
 ghost use Rattle.tc_io.specs.Sink.{AppendsFront};
@@ -8,16 +8,10 @@ ghost use Rattle.tc_command.specs.Causes.{HasOutCause, HasSourceCause};
 ghost use Rattle.tc_command.specs.Meaning.{writes};
 ghost use Rattle.tc_command.specs.Ran.{CameToItsEnd, StoppedBefore};
 
+use crate::piece::Piece;
 use crate::pushing::push_piece;
 use crate::stop::Stop;
-use arrayvec::ArrayVec;
 use tc_io::{Sink, Source};
-
-/// The room in which output is gathered before it is pushed.
-pub type Piece = ArrayVec<u8, PIECE>;
-
-/// How many bytes it takes.
-pub const PIECE: usize = 4096;
 
 /// A command that reads nothing, and has some of its output still to give.
 pub trait Maker {

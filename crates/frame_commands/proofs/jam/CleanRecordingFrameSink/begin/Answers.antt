@@ -13,10 +13,10 @@ use Rattle.frame_commands.proofs.jam.CleanRecordingFrameSink.begin.Goals as goal
 pub returns-clause-begins : goal.returns-clause-begins
 returns-clause-begins g c =
     let jam = c.args.jam in
-    let head : c.push_all.new.room.items ≡ header_bytes (clean_header jam c.args.header.now) = cc in
+    let head : c.put_bytes.new.room.items ≡ header_bytes (clean_header jam c.args.header.now) = cc in
     let first : c.deref.result.now ≡ intervals_of_lead jam.cell = cc in
     let law = c.a_clean_recording_is_written_frame_by_frame.ensures in
-    let begins = file_begins law jam c.args.header.now c.push_all.new.room.items c.deref.result.now head first in
+    let begins = file_begins law jam c.args.header.now c.put_bytes.new.room.items c.deref.result.now head first in
     let is : c.deref-2.result.now ≡ clean_file jam c.args.header.now [] = c.deref-2.ensures.0 ∙ c.push_intervals.ensures ∙ begins in (
       refl,
       subst (λ (l : List ℕ). Appends (g.K.Sink.written c.args.out.now) (g.K.Sink.written c.push_piece.new.out) l) is c.in_ok-push_piece.ensures.all,
@@ -26,10 +26,10 @@ returns-clause-begins g c =
 pub returns-in_err-push_piece-clause-front : goal.returns-in_err-push_piece-clause-front
 returns-in_err-push_piece-clause-front g c =
     let jam = c.args.jam in
-    let head : c.push_all.new.room.items ≡ header_bytes (clean_header jam c.args.header.now) = cc in
+    let head : c.put_bytes.new.room.items ≡ header_bytes (clean_header jam c.args.header.now) = cc in
     let first : c.deref.result.now ≡ intervals_of_lead jam.cell = cc in
     let law = c.a_clean_recording_is_written_frame_by_frame.ensures in
-    let begins = file_begins law jam c.args.header.now c.push_all.new.room.items c.deref.result.now head first in
+    let begins = file_begins law jam c.args.header.now c.put_bytes.new.room.items c.deref.result.now head first in
     let is : c.deref-2.result.now ≡ clean_file jam c.args.header.now [] = c.deref-2.ensures.0 ∙ c.push_intervals.ensures ∙ begins in
     through c.from_residual.result c.from_residual.ensures.1 (λ stop same. (
       rw same c.in_err-push_piece.ensures.why,
