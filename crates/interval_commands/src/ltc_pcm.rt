@@ -11,10 +11,10 @@ ghost use Rattle.tc_command.specs.Ran.{CameToItsEnd, StoppedBefore};
 ghost use Rattle.interval_engine.specs.Along.{along_intervals};
 ghost use Rattle.interval_commands.specs.LtcPcm.{made_sound};
 
-use interval_engine::{Behind, work_along};
 use arrayvec::ArrayVec;
 use biphase::MAX_INTERVAL;
 use byteorder::{ByteOrder, LittleEndian};
+use interval_engine::{Behind, work_along};
 use interval_file::IntervalHeader;
 use pcm_front::Side;
 use tc_command::{Gathered, Stop, push_piece};

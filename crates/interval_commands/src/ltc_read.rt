@@ -20,10 +20,10 @@ ghost use Rattle.tc_command.specs.Ran.{CameToItsEnd, StoppedBefore};
 ghost use Rattle.interval_commands.specs.LtcRead.{lines, report};
 ghost use Rattle.interval_commands.specs.KeptReport.{counted, all_counted, Feeds, FitLines, FitsReport, Prints, Stands};
 
-use interval_engine::{Behind, work_along};
 use biphase::{MAX_INTERVAL, MAX_INTERVALS, Profile};
 use direction_reader::laws::a_reader_gives_the_events_of_its_list;
 use direction_reader::{Brought, DirectionReader, Event, Events};
+use interval_engine::{Behind, work_along};
 use interval_file::IntervalHeader;
 use line_text::Text;
 use report_text::{event_text, read_end_text};
