@@ -5,6 +5,8 @@ use biphase::{
 };
 use std::test::Fail;
 
+const ROUGH: Profile = Profile::Rough;
+
 #[test]
 fn pairs_at_the_edges_of_their_kinds(rt: HostRuntime) {
     for (a, b, want) in [
@@ -81,14 +83,19 @@ fn a_worn_recording_may_differ_more(rt: HostRuntime) {
 }
 
 #[test]
-fn a_rough_recording_is_compared_with_the_latest_four(rt: HostRuntime) {
-    const ROUGH: Profile = Profile::Rough;
-    assert_eq!(rt; kind(ROUGH, 99, 33), PairKind::Step);
-    assert_eq!(rt; kind(ROUGH, 100, 33), PairKind::Wild);
-    assert_eq!(rt; kind(ROUGH, 99, 66), PairKind::Same);
-    let mut four = LatestFour::new();
-    let lock = ROUGH.at_lock(&mut four, 100);
-    assert_eq!(rt; lock, 400);
+fn the_pairs_of_a_rough_recording(rt: HostRuntime) {
+    for (x, y, want) in [
+        (99, 33, PairKind::Step),
+        (100, 33, PairKind::Wild),
+        (99, 66, PairKind::Same),
+    ] {
+        assert_eq!(rt; kind(ROUGH, x, y), want);
+    }
+}
+
+/// Behind a first cell of 100 ticks, four of which make the sum.
+#[test]
+fn a_rough_zero_and_a_rough_half(rt: HostRuntime) {
     for (x, zero, half) in [
         (74, false, false),
         (75, true, false),
@@ -99,9 +106,13 @@ fn a_rough_recording_is_compared_with_the_latest_four(rt: HostRuntime) {
         (70, false, true),
         (71, false, false),
     ] {
-        assert_eq!(rt; is_zero(ROUGH, lock, x), zero, "{x} as a zero");
-        assert_eq!(rt; may_begin_one(ROUGH, lock, x), half, "{x} as a half");
+        assert_eq!(rt; is_zero(ROUGH, 400, x), zero, "{x} as a zero");
+        assert_eq!(rt; may_begin_one(ROUGH, 400, x), half, "{x} as a half");
     }
+}
+
+#[test]
+fn the_halves_of_a_rough_one(rt: HostRuntime) {
     for (x, y, one) in [
         (70, 55, true),
         (70, 56, false),
@@ -109,16 +120,33 @@ fn a_rough_recording_is_compared_with_the_latest_four(rt: HostRuntime) {
         (46, 29, false),
         (44, 30, false),
     ] {
-        assert_eq!(rt; is_one(ROUGH, lock, x, y), one, "{x} and {y} as a one");
+        assert_eq!(rt; is_one(ROUGH, 400, x, y), one, "{x} and {y} as a one");
     }
+}
+
+#[test]
+fn a_rough_recording_is_compared_with_the_latest_four(rt: HostRuntime) {
+    let mut four = LatestFour::new();
+    assert_eq!(rt; ROUGH.at_lock(&mut four, 100), 400);
     for (c, sum) in [(125, 425), (120, 445), (130, 475), (110, 485), (90, 450)] {
         assert_eq!(rt; ROUGH.after(&mut four, c), sum, "with {c}");
     }
-    assert_eq!(rt; is_zero(ROUGH, 500, 156), true);
-    assert_eq!(rt; is_zero(ROUGH, 500, 157), false);
-    let longest = 2 * MAX_INTERVAL;
-    assert_eq!(rt; ROUGH.at_lock(&mut four, longest), 8 * MAX_INTERVAL);
-    assert_eq!(rt; is_zero(ROUGH, 8 * MAX_INTERVAL, MAX_INTERVAL), false);
+}
+
+#[test]
+fn the_greatest_cells_of_a_rough_recording(rt: HostRuntime) {
+    let mut four = LatestFour::new();
+    assert_eq!(rt;
+        ROUGH.at_lock(&mut four, 2 * MAX_INTERVAL),
+        8 * MAX_INTERVAL
+    );
+    for (sum, x, zero) in [
+        (500, 156, true),
+        (500, 157, false),
+        (8 * MAX_INTERVAL, MAX_INTERVAL, false),
+    ] {
+        assert_eq!(rt; is_zero(ROUGH, sum, x), zero, "{x} after {sum}");
+    }
     assert_eq!(rt; is_one(ROUGH, u32::MAX, u32::MAX, u32::MAX), false);
 }
 
