@@ -1,5 +1,9 @@
 //! The words of the command line as a task, or their first fault. Next: `values` for each value, then
 //! `tc_job/src/job.rt`.
+//!
+//! The words that may follow are matched behind those that always stand, so that each word is read
+//! once, and a value that is missing ends the reading by `let .. else`, which proves faster than
+//! `ok_or(..)?`.
 ghost use Rattle.std.specs.Prelude.{◌≡◌, ◌⊎◌, map, position, string_bytes, alloc_error};
 ghost use Rattle.command_words.specs.CommandLine.{begins_with_dash};
 ghost use Rattle.tc_job.specs.declared.job.Job.TheVariants as jobs;
