@@ -23,7 +23,11 @@ pub(crate) fn flight_in(values: &[&str]) -> Result<Flight, WordsFault>
 fn flight_with(limit: &str, profile: Option<Profile>) -> Result<Flight, WordsFault>
     ensures { result ≡ flight_with limit.now profile }
 {
-    let limit = limit_in(limit).ok_or(WordsFault::Value(1))?;
-    let profile = profile.ok_or(WordsFault::Value(2))?;
+    let Some(limit) = limit_in(limit) else {
+        return Err(WordsFault::Value(1));
+    };
+    let Some(profile) = profile else {
+        return Err(WordsFault::Value(2));
+    };
     Ok(Flight { limit, profile })
 }

@@ -18,12 +18,24 @@ pub(crate) fn chased(
 ) -> Result<Job, WordsFault>
     ensures { result ≡ chased count.now label.now limit.now seed.now bound.now profile }
 {
-    let count = count_in(count).ok_or(WordsFault::Value(1))?;
-    let label = spelled(count, label).ok_or(WordsFault::Value(2))?;
-    let limit = limit_in(limit).ok_or(WordsFault::Value(3))?;
-    let seed = number_spelled(seed).ok_or(WordsFault::Value(4))?;
-    let bound = between(0, MAX_SLIP, bound).ok_or(WordsFault::Value(5))?;
-    let profile = profile.ok_or(WordsFault::Value(6))?;
+    let Some(count) = count_in(count) else {
+        return Err(WordsFault::Value(1));
+    };
+    let Some(label) = spelled(count, label) else {
+        return Err(WordsFault::Value(2));
+    };
+    let Some(limit) = limit_in(limit) else {
+        return Err(WordsFault::Value(3));
+    };
+    let Some(seed) = number_spelled(seed) else {
+        return Err(WordsFault::Value(4));
+    };
+    let Some(bound) = between(0, MAX_SLIP, bound) else {
+        return Err(WordsFault::Value(5));
+    };
+    let Some(profile) = profile else {
+        return Err(WordsFault::Value(6));
+    };
     Ok(Job::LtcChase {
         run: ChaseRun::new(label, Flight { limit, profile }, seed, bound),
     })

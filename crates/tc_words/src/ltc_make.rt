@@ -25,14 +25,30 @@ pub(crate) fn striped(
     ensures { result ≡ striped count.now direction.now label.now frames.now cell.now tick_rate.now
         (option_copied to_cell.entry) (option_copied step.entry) }
 {
-    let count = count_in(count).ok_or(WordsFault::Value(1))?;
-    let direction = direction_in(direction).ok_or(WordsFault::Value(2))?;
-    let label = spelled(count, label).ok_or(WordsFault::Value(3))?;
-    let frames = between(1, MAX_FRAMES, frames).ok_or(WordsFault::Value(4))?;
-    let cell = between(MIN_SHAPED, MAX_SHAPED, cell).ok_or(WordsFault::Value(5))?;
-    let tick_rate = between(1, MAX_TICK_RATE, tick_rate).ok_or(WordsFault::Value(6))?;
-    let to_cell = length_or(cell, to_cell).ok_or(WordsFault::Value(7))?;
-    let step = step_or_none(cell, to_cell, step).ok_or(WordsFault::Value(8))?;
+    let Some(count) = count_in(count) else {
+        return Err(WordsFault::Value(1));
+    };
+    let Some(direction) = direction_in(direction) else {
+        return Err(WordsFault::Value(2));
+    };
+    let Some(label) = spelled(count, label) else {
+        return Err(WordsFault::Value(3));
+    };
+    let Some(frames) = between(1, MAX_FRAMES, frames) else {
+        return Err(WordsFault::Value(4));
+    };
+    let Some(cell) = between(MIN_SHAPED, MAX_SHAPED, cell) else {
+        return Err(WordsFault::Value(5));
+    };
+    let Some(tick_rate) = between(1, MAX_TICK_RATE, tick_rate) else {
+        return Err(WordsFault::Value(6));
+    };
+    let Some(to_cell) = length_or(cell, to_cell) else {
+        return Err(WordsFault::Value(7));
+    };
+    let Some(step) = step_or_none(cell, to_cell, step) else {
+        return Err(WordsFault::Value(8));
+    };
     let shaper = shaper_with(cell, to_cell, step);
     Ok(Job::LtcMake {
         stripe: Stripe::new(direction, label, frames, shaper, tick_rate),

@@ -27,13 +27,27 @@ pub(crate) fn sliced(
     ensures { result ≡ sliced system.now rate.now threshold.now (option_copied fineness.entry)
         (option_copied follow.entry) (option_copied smooth.entry) live }
 {
-    let system = system_in(system).ok_or(WordsFault::Value(1))?;
-    let rate = between(1, MAX_TICK_RATE, rate).ok_or(WordsFault::Value(2))?;
-    let least = between(1, MAX_LEVEL, threshold).ok_or(WordsFault::Value(3))?;
-    let fineness = fineness_or_one(rate, fineness).ok_or(WordsFault::Value(4))?;
-    let threshold = following_or_fixed(least, follow).ok_or(WordsFault::Value(5))?;
-    let smooth = smooth_or_one(smooth).ok_or(WordsFault::Value(6))?;
-    let live = live.ok_or(WordsFault::Value(7))?;
+    let Some(system) = system_in(system) else {
+        return Err(WordsFault::Value(1));
+    };
+    let Some(rate) = between(1, MAX_TICK_RATE, rate) else {
+        return Err(WordsFault::Value(2));
+    };
+    let Some(least) = between(1, MAX_LEVEL, threshold) else {
+        return Err(WordsFault::Value(3));
+    };
+    let Some(fineness) = fineness_or_one(rate, fineness) else {
+        return Err(WordsFault::Value(4));
+    };
+    let Some(threshold) = following_or_fixed(least, follow) else {
+        return Err(WordsFault::Value(5));
+    };
+    let Some(smooth) = smooth_or_one(smooth) else {
+        return Err(WordsFault::Value(6));
+    };
+    let Some(live) = live else {
+        return Err(WordsFault::Value(7));
+    };
     let threshold = of_sums(smooth, threshold);
     Ok(Job::PcmLtc {
         slicing: Slicing::new(system, rate, threshold, fineness, smooth, live),

@@ -21,10 +21,18 @@ pub(crate) fn in_lines(
         value_or 4 (between MIN_LINE_LENGTH MAX_LINE_LENGTH length.now) (λ n.
         Ok (Job.VitcMake (line_stripe_of l f n)))))) }
 {
-    let count = count_with_lines(count).ok_or(WordsFault::Value(1))?;
-    let label = spelled(count, label).ok_or(WordsFault::Value(2))?;
-    let frames = between(1, MAX_FRAMES, frames).ok_or(WordsFault::Value(3))?;
-    let length = between(MIN_LINE_LENGTH, MAX_LINE_LENGTH, length).ok_or(WordsFault::Value(4))?;
+    let Some(count) = count_with_lines(count) else {
+        return Err(WordsFault::Value(1));
+    };
+    let Some(label) = spelled(count, label) else {
+        return Err(WordsFault::Value(2));
+    };
+    let Some(frames) = between(1, MAX_FRAMES, frames) else {
+        return Err(WordsFault::Value(3));
+    };
+    let Some(length) = between(MIN_LINE_LENGTH, MAX_LINE_LENGTH, length) else {
+        return Err(WordsFault::Value(4));
+    };
     Ok(Job::VitcMake {
         stripe: LineStripe::new(label, frames, length),
     })

@@ -26,12 +26,24 @@ pub(crate) fn sliced_track(
     ensures { result ≡ sliced_track system.now track.now threshold.now (option_copied smooth.entry)
         (option_copied deep.entry) live }
 {
-    let system = system_in(system).ok_or(WordsFault::Value(1))?;
-    let track = between(1, MAX_TRACKS, track).ok_or(WordsFault::Value(2))?;
-    let least = between(1, MAX_LEVEL, threshold).ok_or(WordsFault::Value(3))?;
-    let smooth = smooth_or_one(smooth).ok_or(WordsFault::Value(4))?;
-    let threshold = deep_or_half(least, deep).ok_or(WordsFault::Value(5))?;
-    let live = live.ok_or(WordsFault::Value(6))?;
+    let Some(system) = system_in(system) else {
+        return Err(WordsFault::Value(1));
+    };
+    let Some(track) = between(1, MAX_TRACKS, track) else {
+        return Err(WordsFault::Value(2));
+    };
+    let Some(least) = between(1, MAX_LEVEL, threshold) else {
+        return Err(WordsFault::Value(3));
+    };
+    let Some(smooth) = smooth_or_one(smooth) else {
+        return Err(WordsFault::Value(4));
+    };
+    let Some(threshold) = deep_or_half(least, deep) else {
+        return Err(WordsFault::Value(5));
+    };
+    let Some(live) = live else {
+        return Err(WordsFault::Value(6));
+    };
     let threshold = of_sums(smooth, threshold);
     Ok(Job::WavLtc {
         slicing: WaveSlicing::new(system, track, threshold, smooth, live),

@@ -1,5 +1,9 @@
 //! The words of the command line as a task, or their first fault. Next: `values` for each value, then
 //! `tc_job/src/job.rt`.
+//!
+//! The words that may follow are matched behind those that always stand, so that each word is read
+//! once, and a value that is missing ends the reading by `let .. else`, which proves faster than
+//! `ok_or(..)?`.
 ghost use Rattle.std.specs.Prelude.{◌≡◌, ◌⊎◌, map, position, string_bytes, alloc_error};
 ghost use Rattle.command_words.specs.CommandLine.{begins_with_dash};
 ghost use Rattle.tc_job.specs.declared.job.Job.TheVariants as jobs;
@@ -83,8 +87,12 @@ fn chase(values: &[&str]) -> Result<Task, WordsFault>
     let [count, label] = values else {
         return Err(WordsFault::CountOfWords);
     };
-    let count = count_in(count).ok_or(WordsFault::Value(1))?;
-    let label = spelled(count, label).ok_or(WordsFault::Value(2))?;
+    let Some(count) = count_in(count) else {
+        return Err(WordsFault::Value(1));
+    };
+    let Some(label) = spelled(count, label) else {
+        return Err(WordsFault::Value(2));
+    };
     Ok(Task::Chase { label })
 }
 
@@ -157,13 +165,15 @@ fn ltc_mtc(values: &[&str]) -> Result<Job, WordsFault>
 fn ltc_jam(values: &[&str]) -> Result<Job, WordsFault>
     ensures { result ≡ ltc_jam (map (λ v. v.now) values.now) }
 {
-    match values {
-        [limit, cell, tick_rate] => jammed(limit, cell, tick_rate, Some(Profile::Normal)),
-        [limit, cell, tick_rate, tolerance] => {
-            jammed(limit, cell, tick_rate, tolerance_in(tolerance))
-        }
-        _ => Err(WordsFault::CountOfWords),
-    }
+    let [limit, cell, tick_rate, more @ ..] = values else {
+        return Err(WordsFault::CountOfWords);
+    };
+    let profile = match more {
+        [] => Some(Profile::Normal),
+        [tolerance] => tolerance_in(tolerance),
+        _ => return Err(WordsFault::CountOfWords),
+    };
+    jammed(limit, cell, tick_rate, profile)
 }
 
 // The job of three words and the tolerance that the fourth says, or their first fault.
@@ -176,10 +186,18 @@ fn jammed(
 ) -> Result<Job, WordsFault>
     ensures { result ≡ jammed limit.now cell.now tick_rate.now profile }
 {
-    let limit = limit_in(limit).ok_or(WordsFault::Value(1))?;
-    let cell = between(MIN_SHAPED, MAX_SHAPED, cell).ok_or(WordsFault::Value(2))?;
-    let tick_rate = between(1, MAX_TICK_RATE, tick_rate).ok_or(WordsFault::Value(3))?;
-    let profile = profile.ok_or(WordsFault::Value(4))?;
+    let Some(limit) = limit_in(limit) else {
+        return Err(WordsFault::Value(1));
+    };
+    let Some(cell) = between(MIN_SHAPED, MAX_SHAPED, cell) else {
+        return Err(WordsFault::Value(2));
+    };
+    let Some(tick_rate) = between(1, MAX_TICK_RATE, tick_rate) else {
+        return Err(WordsFault::Value(3));
+    };
+    let Some(profile) = profile else {
+        return Err(WordsFault::Value(4));
+    };
     Ok(Job::LtcJam {
         jam: Jam::new(Flight { limit, profile }, cell, tick_rate),
     })
@@ -190,17 +208,15 @@ fn jammed(
 fn ltc_chase(values: &[&str]) -> Result<Job, WordsFault>
     ensures { result ≡ ltc_chase (map (λ v. v.now) values.now) }
 {
-    match values {
-        [count, label, limit, seed, bound] => {
-            let normal = Some(Profile::Normal);
-            chased(count, label, limit, seed, bound, normal)
-        }
-        [count, label, limit, seed, bound, tolerance] => {
-            let profile = tolerance_in(tolerance);
-            chased(count, label, limit, seed, bound, profile)
-        }
-        _ => Err(WordsFault::CountOfWords),
-    }
+    let [count, label, limit, seed, bound, more @ ..] = values else {
+        return Err(WordsFault::CountOfWords);
+    };
+    let profile = match more {
+        [] => Some(Profile::Normal),
+        [tolerance] => tolerance_in(tolerance),
+        _ => return Err(WordsFault::CountOfWords),
+    };
+    chased(count, label, limit, seed, bound, profile)
 }
 
 // `ltc-make COUNT DIRECTION LABEL FRAMES CELL TICK-RATE [TO-CELL STEP]`
@@ -208,20 +224,12 @@ fn ltc_chase(values: &[&str]) -> Result<Job, WordsFault>
 fn ltc_make(values: &[&str]) -> Result<Job, WordsFault>
     ensures { result ≡ ltc_make (map (λ v. v.now) values.now) }
 {
-    match values {
-        [count, direction, label, frames, cell, tick_rate] => {
-            striped(count, direction, label, frames, cell, tick_rate, None, None)
-        }
-        [
-            count,
-            direction,
-            label,
-            frames,
-            cell,
-            tick_rate,
-            to_cell,
-            step,
-        ] => {
+    let [count, direction, label, frames, cell, tick_rate, more @ ..] = values else {
+        return Err(WordsFault::CountOfWords);
+    };
+    match more {
+        [] => striped(count, direction, label, frames, cell, tick_rate, None, None),
+        [to_cell, step] => {
             let to_cell = Some(*to_cell);
             let step = Some(*step);
             striped(
@@ -240,8 +248,12 @@ fn ltc_load(values: &[&str]) -> Result<Job, WordsFault>
     let [seed, words] = values else {
         return Err(WordsFault::CountOfWords);
     };
-    let seed = number_spelled(seed).ok_or(WordsFault::Value(1))?;
-    let words = between(1, MAX_WORDS, words).ok_or(WordsFault::Value(2))?;
+    let Some(seed) = number_spelled(seed) else {
+        return Err(WordsFault::Value(1));
+    };
+    let Some(words) = between(1, MAX_WORDS, words) else {
+        return Err(WordsFault::Value(2));
+    };
     Ok(Job::LtcLoad {
         run: LoadRun::new(seed, words),
     })
@@ -255,7 +267,9 @@ fn ltc_convert(values: &[&str]) -> Result<Job, WordsFault>
     let [version] = values else {
         return Err(WordsFault::CountOfWords);
     };
-    let version = version_in(version).ok_or(WordsFault::Value(1))?;
+    let Some(version) = version_in(version) else {
+        return Err(WordsFault::Value(1));
+    };
     Ok(Job::LtcConvert { version })
 }
 
@@ -264,18 +278,15 @@ fn ltc_convert(values: &[&str]) -> Result<Job, WordsFault>
 fn pcm_ltc(values: &[&str]) -> Result<Job, WordsFault>
     ensures { result ≡ pcm_ltc (map (λ v. v.now) values.now) }
 {
-    match values {
-        [system, rate, threshold] => {
-            sliced(system, rate, threshold, None, None, None, Some(false))
-        }
-        [system, rate, threshold, last] => four_words(system, rate, threshold, last),
-        [system, rate, threshold, fineness, last] => {
-            five_words(system, rate, threshold, fineness, last)
-        }
-        [system, rate, threshold, fineness, follow, last] => {
-            six_words(system, rate, threshold, fineness, follow, last)
-        }
-        [system, rate, threshold, fineness, follow, smooth, last] => {
+    let [system, rate, threshold, more @ ..] = values else {
+        return Err(WordsFault::CountOfWords);
+    };
+    match more {
+        [] => sliced(system, rate, threshold, None, None, None, Some(false)),
+        [last] => four_words(system, rate, threshold, last),
+        [fineness, last] => five_words(system, rate, threshold, fineness, last),
+        [fineness, follow, last] => six_words(system, rate, threshold, fineness, follow, last),
+        [fineness, follow, smooth, last] => {
             let fineness = Some(*fineness);
             let follow = Some(*follow);
             let smooth = Some(*smooth);
@@ -291,15 +302,14 @@ fn pcm_ltc(values: &[&str]) -> Result<Job, WordsFault>
 fn wav_ltc(values: &[&str]) -> Result<Job, WordsFault>
     ensures { result ≡ wav_ltc (map (λ v. v.now) values.now) }
 {
-    match values {
-        [system, track, threshold] => {
-            sliced_track(system, track, threshold, None, None, Some(false))
-        }
-        [system, track, threshold, last] => four_wave_words(system, track, threshold, last),
-        [system, track, threshold, smooth, last] => {
-            five_wave_words(system, track, threshold, smooth, last)
-        }
-        [system, track, threshold, smooth, deep, last] => {
+    let [system, track, threshold, more @ ..] = values else {
+        return Err(WordsFault::CountOfWords);
+    };
+    match more {
+        [] => sliced_track(system, track, threshold, None, None, Some(false)),
+        [last] => four_wave_words(system, track, threshold, last),
+        [smooth, last] => five_wave_words(system, track, threshold, smooth, last),
+        [smooth, deep, last] => {
             let smooth = Some(*smooth);
             let deep = Some(*deep);
             let live = live_in(last);
@@ -317,7 +327,9 @@ fn ltc_pcm(values: &[&str]) -> Result<Job, WordsFault>
     let [level] = values else {
         return Err(WordsFault::CountOfWords);
     };
-    let level = between(1, MAX_LEVEL, level).ok_or(WordsFault::Value(1))?;
+    let Some(level) = between(1, MAX_LEVEL, level) else {
+        return Err(WordsFault::Value(1));
+    };
     Ok(Job::LtcPcm {
         level: SoundLevel::new(level as u16),
     })
@@ -342,8 +354,12 @@ fn number(values: &[&str]) -> Result<Job, WordsFault>
     let [count, label] = values else {
         return Err(WordsFault::CountOfWords);
     };
-    let count = count_in(count).ok_or(WordsFault::Value(1))?;
-    let label = spelled(count, label).ok_or(WordsFault::Value(2))?;
+    let Some(count) = count_in(count) else {
+        return Err(WordsFault::Value(1));
+    };
+    let Some(label) = spelled(count, label) else {
+        return Err(WordsFault::Value(2));
+    };
     Ok(Job::Number { label })
 }
 
@@ -355,7 +371,11 @@ fn label_of(values: &[&str]) -> Result<Job, WordsFault>
     let [count, number] = values else {
         return Err(WordsFault::CountOfWords);
     };
-    let count = count_in(count).ok_or(WordsFault::Value(1))?;
-    let label = numbered(count, number).ok_or(WordsFault::Value(2))?;
+    let Some(count) = count_in(count) else {
+        return Err(WordsFault::Value(1));
+    };
+    let Some(label) = numbered(count, number) else {
+        return Err(WordsFault::Value(2));
+    };
     Ok(Job::LabelOf { label })
 }
