@@ -38,3 +38,9 @@ returns-in-Help-clause-stops g c = rw c.in-Help.is c.tell_help.ensures.stops
 
 pub returns-in-Version-clause-stops : goal.returns-in-Version-clause-stops
 returns-in-Version-clause-stops g c = rw c.in-Version.is c.tell_version.ensures.stops
+
+pub returns-in-LtcLoad-clause-ends : goal.returns-in-LtcLoad-clause-ends
+returns-in-LtcLoad-clause-ends g c = rw c.in-LtcLoad.is c.tell_load.ensures.ends
+
+pub returns-in-WavLtc-clause-ends : goal.returns-in-WavLtc-clause-ends
+returns-in-WavLtc-clause-ends g c = rw c.in-WavLtc.is c.slice_track.ensures.ends
