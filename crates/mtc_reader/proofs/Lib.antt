@@ -11,3 +11,4 @@ pub mod OneQuarterMore
 pub mod PieceByPiece
 pub mod PushedInTurn
 pub mod WholeWindow
+pub mod Told
