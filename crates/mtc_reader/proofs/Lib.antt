@@ -12,3 +12,4 @@ pub mod PieceByPiece
 pub mod PushedInTurn
 pub mod WholeWindow
 pub mod Told
+pub mod Sounding
