@@ -6,9 +6,8 @@ use Rattle.std.specs.List.{cons_option}
 use Rattle.std.proofs.lemmas.Bool.{le-ltb, lt-ltb}
 use Rattle.std.proofs.lemmas.List.{length-reverse}
 use Rattle.mtc_reader.specs.declared.event.MtcEvent.{MtcEvent}
-use Rattle.mtc_reader.specs.declared.message.Message.{Message}
 use Rattle.mtc_reader.specs.declared.reader.MtcReader.{MtcReader}
-use Rattle.mtc_reader.specs.Events.{event_at, event_of, event_with, events_in}
+use Rattle.mtc_reader.specs.Events.{event_with, events_in}
 use Rattle.mtc_reader.specs.Messages.{completed_by, current_in, messages_in, without_real_time}
 use Rattle.mtc_reader.specs.StandsFor.{Keeps, KeepsRow, StandsFor, events_of}
 use Rattle.mtc_reader.proofs.OneByteMore.{events_more, reverse_more}

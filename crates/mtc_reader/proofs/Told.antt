@@ -1,10 +1,8 @@
 -- What an address gives, by whether it is a label.
 use Rattle.std.proofs.Common.{◌≡◌, ℕ, Bool, true, false, cond, Ok, Err, ap}
-use Rattle.std.specs.declared.result.Result.{Result}
 use Rattle.tc_address.specs.declared.direction.Direction.{Direction}
 use Rattle.tc_address.specs.declared.label.LabelFault.{LabelFault}
 use Rattle.tc_address.specs.Label.{Address, is_label}
-use Rattle.mtc_reader.specs.declared.event.MtcEvent.{MtcEvent}
 use Rattle.mtc_reader.specs.declared.event.MtcEvent.TheVariants.{Full, Quarter, RefusedFull, RefusedQuarter}
 use Rattle.mtc_reader.specs.Events.{fault_of, full_event, label_or_fault, quarter_event}
 

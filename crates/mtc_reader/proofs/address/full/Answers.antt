@@ -1,4 +1,4 @@
-use Rattle.std.proofs.Common.{ap, ◌∙◌, ◌/◌, ◌%◌}
+use Rattle.std.proofs.Common.{ap, ◌∙◌, ◌%◌}
 use Rattle.tc_address.specs.declared.count.Count.{Count}
 use Rattle.tc_address.specs.Label.{address}
 use Rattle.mtc_reader.specs.Events.{full_address, label_or_fault}

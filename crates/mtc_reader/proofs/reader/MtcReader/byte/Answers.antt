@@ -1,4 +1,4 @@
-use Rattle.std.proofs.Common.{◌≡◌, ◌+◌, ℕ, List, None, Some, ap, subst, sym, refl, ◌∙◌}
+use Rattle.std.proofs.Common.{◌+◌, None, ap, subst, refl, ◌∙◌}
 use Rattle.std.specs.declared.option.Option.{Option}
 use Rattle.std.specs.Prelude.{reverse}
 use Rattle.std.specs.List.{cons_option}
