@@ -11,3 +11,5 @@ pub mod OneQuarterMore
 pub mod PieceByPiece
 pub mod PushedInTurn
 pub mod WholeWindow
+pub mod Told
+pub mod Sounding

@@ -1,5 +1,5 @@
 -- The events of one byte more are those of the bytes before it, and what the byte gives.
-use Rattle.std.proofs.Common.{◌≡◌, ℕ, List, [], ◌∷◌, ◌++◌, Option, Some, None, refl, sym, ◌∙◌, ap, append-nil}
+use Rattle.std.proofs.Common.{◌≡◌, ℕ, ◌+◌, ◌<◌, ◌≤◌, List, [], ◌∷◌, ◌++◌, length, take, get_or, Option, Some, None, refl, sym, ◌∙◌, ap, append-nil, arith}
 use Rattle.std.specs.Prelude.{reverse}
 use Rattle.std.specs.List.{cons_option}
 use Rattle.std.proofs.lemmas.List.{reverse-append}
@@ -23,3 +23,13 @@ events_more bytes byte result is =
 -- the status byte of a quarter frame completes nothing
 pub status_gives_none : (bytes : List ℕ) → events_in (bytes ++ 0xf1 ∷ []) ≡ events_in bytes
 status_gives_none bytes = events_more bytes 0xf1 None refl ∙ append-nil (events_in bytes)
+
+-- the first byte, and the first two
+pub first_one : (bytes : List ℕ) → 0 < length bytes → get_or bytes 0 0 ∷ [] ≡ take 1 bytes
+first_one [] some = absurd (omega (arith, some))
+first_one (byte ∷ more) some = refl
+
+pub first_two : (bytes : List ℕ) → 2 ≤ length bytes → get_or bytes 0 0 ∷ get_or bytes 1 0 ∷ [] ≡ take 2 bytes
+first_two [] two = absurd (omega (arith, two))
+first_two (byte ∷ []) two = absurd (omega (arith, two))
+first_two (byte ∷ next ∷ more) two = refl

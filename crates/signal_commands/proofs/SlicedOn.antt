@@ -1,5 +1,5 @@
 -- A file of sliced sound grows by the intervals that more samples bring, and past the limit nothing more is taken.
-use Rattle.std.proofs.Common.{◌≡◌, inl, ℕ, ◌+◌, ◌-◌, ◌*◌, ◌/◌, ◌^◌, ◌%◌, ◌==◌, ap₂, get_or, mul-le-mul, ◌<◌, ◌≤◌, Bool, true, false, nat_lt, cond, ℤ}
+use Rattle.std.proofs.Common.{◌≡◌, inl, ℕ, ◌+◌, ◌-◌, ◌*◌, ◌/◌, ◌^◌, ◌%◌, ◌==◌, ap₂, get_or, mul-add, mul-le-mul, ◌<◌, ◌≤◌, Bool, true, false, nat_lt, cond, ℤ}
 use Rattle.std.proofs.Common.{List, [], ◌∷◌, ◌++◌, length, take, drop, Some, None, sym, ◌∙◌, ap, refl, subst, append_assoc, append-nil, arith}
 use Rattle.std.specs.declared.option.Option.{Option}
 use Rattle.std.specs.Option.{option_to_list}
@@ -27,7 +27,7 @@ use Rattle.std.specs.Prelude.{IfErr, IfOk, Ok, Err}
 use Rattle.std.specs.declared.result.Result.{Result}
 use Rattle.tc_command.specs.declared.stop.Stop.{Stop}
 use Rattle.tc_command.specs.declared.stop.Stop.TheVariants as stops
-use Rattle.signal_commands.specs.KeptSlices.{Slices, Stands, half_is_none, length-samples, samples_of-append}
+use Rattle.signal_commands.specs.KeptSlices.{IsGoing, Slices, Stands, half_is_none, length-samples, samples_of-append}
 use Rattle.tc_command.specs.declared.input_fault.InputFault.TheVariants.{HalfSample}
 use Rattle.signal_commands.specs.PcmLtc.{along_samples, odd_fault, pace_for, samples_within, settings_for, sliced}
 use Rattle.signal_commands.specs.PcmLtc.{sliced_header}
@@ -254,6 +254,24 @@ grows s next bytes count k pace brought few within whole counted same_slicing sa
       stands = stands;
       brings = λ samples is_for. sym (by_words (samples ++ samples_of (take count bytes))) ∙ brings samples is_for
           ∙ ap (λ (l : List ℕ). l ++ intervals_in brought) (by_words samples);
+    }
+
+-- the slicer counts what it took
+pub still_going : (s next : SlicedSound) (length count k : ℕ) → IsGoing s
+    → 2 * s.samples + length ≤ 2 * MAX_SAMPLES → count ≤ length → count ≡ 2 * k
+    → next.samples ≡ s.samples + count / 2 → next.slicing ≡ s.slicing
+    → pcm.settings_of next.slicer ≡ pcm.settings_of s.slicer
+    → pcm.tick_of next.slicer ≡ pcm.tick_of s.slicer + (pcm.settings_of s.slicer).fineness * k → IsGoing next
+still_going s next length count k going few within whole counted same_slicing same_settings later =
+    let half : count / 2 ≡ k = omega (arith, whole) in
+    let fine : (pcm.settings_of s.slicer).fineness ≡ s.slicing.fineness = ap (λ (how : Settings). how.fineness) going.settings in
+    record {
+      within = omega (arith, half, whole, counted, within, few);
+      fine = rw same_slicing going.fine;
+      settings = same_settings ∙ going.settings ∙ ap settings_for (sym same_slicing);
+      tick = later ∙ ap (λ (n : ℕ). pcm.tick_of s.slicer + n * k) fine ∙ ap (λ (n : ℕ). n + s.slicing.fineness * k) going.tick
+          ∙ sym (mul-add s.slicing.fineness s.samples k) ∙ ap₂ (λ (f n : ℕ). f * n) (ap (λ (w : words.Slices). w.fineness) (sym same_slicing))
+          (ap (λ (n : ℕ). s.samples + n) (sym half) ∙ sym counted);
     }
 
 -- ---- bytes of which as many are taken as may still come

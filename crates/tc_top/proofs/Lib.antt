@@ -12,3 +12,4 @@ mod SpansOfTheTape
 mod StoppedAnswer
 mod TrackOfAFile
 mod WordsAnswer
+pub mod WorkedAs

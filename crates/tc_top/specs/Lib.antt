@@ -6,3 +6,4 @@ pub mod Promises
 pub mod SentAgain
 pub mod SoundAgain
 pub mod Tape
+pub mod Worked

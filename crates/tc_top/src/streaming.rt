@@ -1,15 +1,15 @@
 //! A job along its input. Next: `tc_command/src/intake.rt`, and behind it the crate of the command.
-ghost use Rattle.std.specs.Prelude.{◌≡◌, ◌⊎◌, ℕ, List, Some, false, OnOk, IfErr};
+ghost use Rattle.std.specs.Prelude.{◌≡◌, ◌⊎◌, ℕ, List, Some, false};
 ghost use Rattle.std.specs.Io.KnownBytes.{Appends};
 ghost use Rattle.tc_io.specs.Source.{Rose};
-ghost use Rattle.tc_command.specs.Causes.{SourceCause, OutCause, HasSourceCause, HasOutCause, ended_with};
+ghost use Rattle.tc_command.specs.Causes.{SourceCause, OutCause};
 ghost use Rattle.tc_command.specs.Ends.{EndsSeen};
 ghost use Rattle.tc_command.specs.Exchange.{Exchange, IsPulled, IsNoted};
 ghost use Rattle.tc_command.specs.Meaning.{Meaning};
-ghost use Rattle.tc_command.specs.Ran.{CameToItsEnd, StoppedBefore};
 ghost use Rattle.tc_command.specs.WholeInput.{HasStatus};
 ghost use Rattle.tc_top.specs.Answer.{IsAnswer};
 ghost use Rattle.tc_top.specs.Commands.{meaning_of};
+ghost use Rattle.tc_top.specs.Worked.{IsWorked};
 
 use crate::laws::each_job_is_a_command;
 use crate::promises::a_promise_is_kept;
@@ -69,16 +69,21 @@ pub fn stream<S: Source, K: Sink, N: Sink>(
 
 /// Works a job to its end, or to where it stops.
 fn work_on<S: Source, K: Sink>(job: &Job, source: &mut S, out: &mut K) -> Result<(), Stop>
-    ensures ends { OnOk result (CameToItsEnd (meaning_of job.now) (S.left source.old) (S.left source.new)
-        (K.written out.old) (K.written out.new)) }
-    ensures stops { IfErr result (λ stop. StoppedBefore (meaning_of job.now) stop (S.left source.old) (S.left source.new)
-        (K.written out.old) (K.written out.new)) }
-    ensures source { HasSourceCause (S.faults source.old) (S.faults source.new) result }
-    ensures once { S.ends source.old ≡ 0
-        → EndsSeen (Meaning.reads (meaning_of job.now)) (ended_with result) (S.ends source.new) }
-    ensures out { HasOutCause (K.faults out.old) (K.faults out.new) result }
-    ensures idle { Meaning.reads (meaning_of job.now) ≡ false → source.new ≡ source.old }
-    ensures writes { Meaning.reads (meaning_of job.now) ≡ false → IfErr result (λ stop. stop ≡ Stop.WriteFault) }
+    ensures { IsWorked (meaning_of job.now) (source.new ≡ source.old)
+        (record {
+          left = S.left source.old;
+          ends = S.ends source.old;
+          source_faults = S.faults source.old;
+          written = K.written out.old;
+          out_faults = K.faults out.old;
+        })
+        (record {
+          left = S.left source.new;
+          ends = S.ends source.new;
+          source_faults = S.faults source.new;
+          written = K.written out.new;
+          out_faults = K.faults out.new;
+        }) result }
 {
     match job {
         Job::LtcRead => read_recording(Profile::Normal, source, out),

@@ -1,7 +1,7 @@
 use Rattle.std.proofs.Common.{◌+◌, ◌/◌, take, length, ap, refl, arith}
 use Rattle.pcm_front.specs.Settings.{Settings}
 use Rattle.tc_command.specs.KeptWorks.{through}
-use Rattle.signal_commands.proofs.SlicedOn.{grown, grown_part, grows, ticks_fit}
+use Rattle.signal_commands.proofs.SlicedOn.{grown, grown_part, grows, still_going, ticks_fit}
 use Rattle.signal_commands.proofs.pcm_ltc.SlicedSound.slice_run.Goals as goal
 
 pub intervals_of_bytes-count-requires-clause-room : goal.intervals_of_bytes-count-requires-clause-room
@@ -10,6 +10,15 @@ intervals_of_bytes-count-requires-clause-room g c =
     let going = c.requires.going in
     ticks_fit s.slicing.fineness s.samples s.slicer.finder.tick s.slicer.finder.fineness (length c.args.bytes.now) going.tick
     (ap (λ (how : Settings). how.fineness) going.settings) going.fine going.within (omega (arith, c.requires.within))
+
+-- the slicer counts them too
+pub returns-clause-going : goal.returns-clause-going
+returns-clause-going g c =
+    let s = c.args.self.now in
+    let going = c.requires.going in
+    let e = c.intervals_of_bytes-count.ensures in
+    still_going s (record s { slicer = c.intervals_of_bytes-count.new.self; samples = s.samples + c.intervals_of_bytes-count.result.0 / 2; gathered = c.spell.new.gathered })
+    (length c.args.bytes.now) c.intervals_of_bytes-count.result.0 e.whole.0 going c.requires.within e.within e.whole.1 refl refl e.settings e.whole.2
 
 -- the intervals were not taken
 pub returns-in_err-spell-clause-stops : goal.returns-in_err-spell-clause-stops
