@@ -11,7 +11,7 @@ use Rattle.tc_command.specs.Meaning.{Meaning}
 use Rattle.tc_command.specs.Ran.{CameToItsEnd, StoppedBefore}
 use Rattle.tc_command.specs.Status.{status_of}
 use Rattle.tc_top.specs.Commands.{meaning_of}
-use Rattle.tc_top.specs.Worked.{IsWorked, Shown}
+use Rattle.tc_top.specs.KeptWorked.{IsWorked, Shown}
 
 -- one that reads
 pub reads_as : (job is : Job) (left : Type 0) (old new : Shown) (result : Result (Unit {0}) Stop) → job ≡ is → Meaning.reads (meaning_of is) ≡ true

@@ -9,7 +9,7 @@ ghost use Rattle.tc_command.specs.Meaning.{Meaning};
 ghost use Rattle.tc_command.specs.WholeInput.{HasStatus};
 ghost use Rattle.tc_top.specs.Answer.{IsAnswer};
 ghost use Rattle.tc_top.specs.Commands.{meaning_of};
-ghost use Rattle.tc_top.specs.Worked.{IsWorked};
+ghost use Rattle.tc_top.specs.KeptWorked.{IsWorked};
 
 use crate::laws::each_job_is_a_command;
 use crate::promises::a_promise_is_kept;

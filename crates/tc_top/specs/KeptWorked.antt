@@ -1,4 +1,4 @@
--- How a job was worked along its input.
+-- How a job was worked along its input. No public clause speaks of it: `stream` says the same in its own.
 use Rattle.std.specs.Prelude.{◌≡◌, ℕ, List, false, Option, OnOk, IfErr, Result}
 use Rattle.tc_command.specs.declared.stop.Stop.{Stop}
 use Rattle.tc_command.specs.declared.stop.Stop.TheVariants.{WriteFault}
