@@ -1,8 +1,14 @@
-use Rattle.std.proofs.Common.{◌≡◌, ◌≤◌, pos, int_le, false, subst, sym, ◌∙◌, arith}
+use Rattle.std.proofs.Common.{◌≡◌, ◌≤◌, ◌^◌, pos, int_le, false, subst, sym, ◌∙◌, arith}
 use Rattle.std.proofs.lemmas.Int.{ints}
+use Rattle.std.proofs.lemmas.Nat.{mul-le}
 use Rattle.pcm_front.specs.Crossing.{apart}
 use Rattle.pcm_front.proofs.Rounding.{tick_is, tick_in_step-within}
 use Rattle.pcm_front.proofs.crossing.tick_in_step.Goals as goal
+
+pub overflow_mul-fineness : goal.overflow_mul-fineness
+overflow_mul-fineness c =
+    let most = mul-le c.args.fineness c.ascent-rise.result 64 (2 ^ 20) c.requires.most c.ascent-rise.ensures.most in
+    omega (arith, most)
 
 pub returns-clause-value : goal.returns-clause-value
 returns-clause-value c =
