@@ -18,14 +18,14 @@ pub enum Profile {
 }
 
 /// A part of a whole: 2 of 3 is two thirds.
-#[derive(Clone, Copy, Debug, PartialEq, Eq)]
+#[derive(Clone, Copy)]
 pub struct Ratio {
     pub part: u8,
     pub whole: u8,
 }
 
 /// The numbers of a tolerance that compares with the last cell.
-#[derive(Clone, Copy, Debug, PartialEq, Eq)]
+#[derive(Clone, Copy)]
 pub struct Tolerance {
     /// Two neighbouring cells differ by at most the first of them, divided by this number.
     pub cell: u8,
@@ -43,7 +43,7 @@ pub struct Tolerance {
 
 /// The numbers of a tolerance that compares with the latest four cells, the sum of whose lengths is
 /// four times their mean.
-#[derive(Clone, Copy, Debug, PartialEq, Eq)]
+#[derive(Clone, Copy)]
 pub struct SumTolerance {
     /// A cell is at least this part of the sum.
     pub least_cell: Ratio,

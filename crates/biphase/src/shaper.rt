@@ -23,7 +23,7 @@ pub enum ShapeFault {
 }
 
 /// Makes cells whose length begins with one length and moves by a step a cell towards another.
-#[derive(Clone, Copy, Debug, PartialEq, Eq)]
+#[derive(Clone, Copy)]
 pub struct Shaper {
     length: u32,
     to: u32,

@@ -2,7 +2,7 @@
 
 /// What an interval brought, told at once: nearly every interval brings nothing. The events
 /// themselves are worked out where there may be some.
-#[derive(Clone, Copy, Debug, PartialEq, Eq)]
+#[derive(Clone, Copy, PartialEq, Eq)]
 pub enum Brought {
     /// No event.
     Nothing,

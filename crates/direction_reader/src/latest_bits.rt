@@ -5,7 +5,7 @@ ghost use Rattle.direction_reader.specs.LatestBits.{after_bit, EndsInCandidate};
 use crate::window::{Filling, FromFilling, Full};
 
 /// The latest bits of a stretch: at most those of one window.
-#[derive(Clone, Copy, Debug, PartialEq, Eq)]
+#[derive(Clone, Copy)]
 pub enum LatestBits {
     Full(Full),
     Filling(Filling),

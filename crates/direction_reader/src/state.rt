@@ -13,7 +13,7 @@ use cell_tracker::{AtCell, FromAtCell, FromHunting, FromMidCell, Hunting, MidCel
 /// A state of the tracker, in numbers, so that no profile is written with each cell. Most intervals find
 /// it at the end of a cell, and the compiler asks for the first variant first, where another one's arm
 /// stands first in a `match`.
-#[derive(Clone, Copy, Debug, PartialEq, Eq)]
+#[derive(Clone, Copy)]
 pub enum State {
     /// With the number that the profile compares with.
     AtCell(u32),
@@ -23,7 +23,7 @@ pub enum State {
 }
 
 /// What an interval brought to the stretch.
-#[derive(Clone, Copy, Debug, PartialEq, Eq)]
+#[derive(Clone, Copy)]
 pub enum Step {
     /// No cell ended.
     Nothing,

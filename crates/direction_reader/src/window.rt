@@ -11,7 +11,7 @@ use std::marker::Model;
 pub const WINDOW_BITS: u32 = 80;
 
 /// The bits of a stretch so far, fewer than 80, the latest in bit 79 of a register of 80 bits.
-#[derive(Clone, Copy, Debug, PartialEq, Eq)]
+#[derive(Clone, Copy)]
 pub struct Filling {
     bits: u128,
     count: u32,
@@ -32,7 +32,7 @@ impl Model for Filling {
 }
 
 /// The latest 80 bits of a stretch, the oldest in bit 0.
-#[derive(Clone, Copy, Debug, PartialEq, Eq)]
+#[derive(Clone, Copy)]
 pub struct Full {
     bits: u128,
 }
@@ -50,7 +50,7 @@ impl Model for Full {
 }
 
 /// What a bit makes of a window that is not full.
-#[derive(Clone, Copy, Debug, PartialEq, Eq)]
+#[derive(Clone, Copy)]
 pub enum FromFilling {
     /// It is still not full.
     Filling(Filling),

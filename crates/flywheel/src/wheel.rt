@@ -12,7 +12,7 @@ use crate::heard::HeardWord;
 use std::marker::Model;
 
 /// Bridges the gaps between the words that are heard, with at most `limit` invented frames in each.
-#[derive(Debug, Drop)]
+#[derive(Drop)]
 pub struct Flywheel {
     limit: u8,
     reference: Option<HeardWord>,

@@ -40,7 +40,7 @@ use std::marker::Model;
 use tc_address::System;
 
 /// What a byte of an interval file completes.
-#[derive(Clone, Copy, Debug, PartialEq, Eq)]
+#[derive(Clone, Copy)]
 pub enum Taken {
     /// Nothing yet.
     Nothing,

@@ -35,7 +35,7 @@ pub enum FileVersion {
 }
 
 /// What an interval file says of its recording, and how it spells its intervals.
-#[derive(Clone, Copy, Debug, PartialEq, Eq)]
+#[derive(Clone, Copy)]
 pub struct IntervalHeader {
     /// The version of the file.
     pub version: FileVersion,

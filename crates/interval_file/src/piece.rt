@@ -19,7 +19,7 @@ use byteorder::{BigEndian, ByteOrder};
 pub const LEAST_LONG: u32 = 65_536;
 
 /// What stands at the front of bytes that begin between two intervals.
-#[derive(Clone, Copy, Debug, PartialEq, Eq)]
+#[derive(Clone, Copy)]
 pub enum Next {
     /// No whole interval.
     Short,

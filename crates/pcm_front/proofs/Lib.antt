@@ -1,5 +1,6 @@
 pub mod Sides
 mod Examples
+mod StaysKept
 pub mod StillSums
 pub mod OneMore
 pub mod DistancesStay

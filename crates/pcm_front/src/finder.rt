@@ -21,7 +21,7 @@ use crate::window::Window;
 use std::marker::Model;
 
 /// Finds the crossings in a list of sums, one sum at a time.
-#[derive(Debug, Drop)]
+#[derive(Drop)]
 pub(crate) struct Finder {
     fineness: u32,
     threshold: Threshold,

@@ -6,7 +6,7 @@ ghost use Rattle.pcm_front.specs.Level.{silent, level_after, half_height, quarte
 use crate::samples::Samples;
 
 /// How loud the sound is: its peak, and the sum of some thousand sizes.
-#[derive(Clone, Copy, Debug, PartialEq, Eq)]
+#[derive(Clone, Copy)]
 pub struct Level {
     /// The size of the greatest samples. It rises fast and falls slowly.
     pub(crate) peak: u32,

@@ -14,7 +14,7 @@ use std::simd::prelude::*;
 const LANES: usize = 32;
 
 /// The samples from the least to the most.
-#[derive(Clone, Copy, Debug)]
+#[derive(Clone, Copy)]
 pub(crate) struct Band {
     pub(crate) least: i16,
     pub(crate) most: i16,

@@ -4,7 +4,7 @@ ghost use Rattle.pcm_front.specs.Level.{IsSum};
 ghost use Rattle.pcm_front.specs.Side.{side_of, stays, differs, upward};
 
 /// A side of the threshold.
-#[derive(Clone, Copy, Debug, PartialEq, Eq)]
+#[derive(Clone, Copy)]
 pub enum Side {
     High,
     Low,

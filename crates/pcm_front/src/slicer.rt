@@ -18,7 +18,7 @@ use crate::threshold::Threshold;
 use crate::window::{MAX_SMOOTH, Window};
 
 /// Finds the crossings in the samples of a recording, or in sums of its latest samples.
-#[derive(Debug, Drop)]
+#[derive(Drop)]
 pub struct Slicer {
     finder: Finder,
     window: Window,

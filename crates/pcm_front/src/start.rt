@@ -1,7 +1,7 @@
 //! Where the first distance begins. Next: `samples`.
 
 /// Where the first distance begins.
-#[derive(Clone, Copy, Debug, PartialEq, Eq)]
+#[derive(Clone, Copy)]
 pub enum Start {
     /// At the first crossing.
     Crossing,

@@ -11,7 +11,7 @@ use crate::threshold::Threshold;
 use crate::window::{Turn, summed};
 
 /// How far samples were passed over, with the sum of the last of them and the level after it.
-#[derive(Clone, Copy, Debug)]
+#[derive(Clone, Copy)]
 pub(crate) struct Passed {
     pub(crate) end: usize,
     pub(crate) before: i32,

@@ -16,7 +16,7 @@ use std::marker::Model;
 pub const MAX_SMOOTH: u32 = 16;
 
 /// The latest samples, but for one of those in a sum.
-#[derive(Debug, Drop)]
+#[derive(Drop)]
 pub(crate) struct Window {
     /// The latest samples, as a ring: one less than are in a sum.
     ring: [i16; 15],
@@ -25,7 +25,7 @@ pub(crate) struct Window {
 
 /// How a ring of samples stands. These numbers are not in one struct with the samples, so that they can
 /// stay in registers from sample to sample.
-#[derive(Clone, Copy, Debug)]
+#[derive(Clone, Copy)]
 pub(crate) struct Turn {
     /// Of how many samples sums are made, from 1 to `MAX_SMOOTH`.
     pub(crate) smooth: u32,

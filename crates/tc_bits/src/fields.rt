@@ -31,7 +31,7 @@ impl Model for Fields {
 }
 
 /// The drop-frame flag says another count than the label's.
-#[derive(Clone, Copy, Debug, PartialEq, Eq, Drop, Error)]
+#[derive(Clone, Copy, Debug, Drop, Error)]
 #[error("the drop-frame flag says another count than the label's")]
 pub struct DropFlag;
 

@@ -6,7 +6,7 @@ ghost use Rattle.tc_bits.specs.Register.{IsPlace, number_in};
 use crate::register::get_field;
 
 /// Some neighbouring bits of a register, the least significant one first.
-#[derive(Clone, Copy, Debug, PartialEq, Eq)]
+#[derive(Clone, Copy)]
 pub struct Place {
     /// The number of the field's least significant bit.
     pub first: u32,

@@ -5,7 +5,7 @@ use crate::user_bits::UserBits;
 
 /// The digits of a word, its flag bits and its user bits. Units have four bits, from 0 to 15, and
 /// tens have two or three, from 0 to 7.
-#[derive(Clone, Copy, Debug, PartialEq, Eq)]
+#[derive(Clone, Copy)]
 pub struct RawFields {
     pub frame_units: u32,
     pub frame_tens: u32,

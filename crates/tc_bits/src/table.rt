@@ -3,7 +3,7 @@
 /// A word's table: the number of the first bit of each field, which is its least significant one. A
 /// unit and a user group have four bits, a flag has one, the tens of frames and hours have two, and
 /// those of seconds and minutes three (SMPTE 12M, alike in each kind of word).
-#[derive(Clone, Copy, Debug, PartialEq, Eq)]
+#[derive(Clone, Copy)]
 pub struct Table {
     pub frame_units: u32,
     pub frame_tens: u32,

@@ -6,7 +6,7 @@ use line_file::LineFileFault;
 use wave_file::WaveFault;
 
 /// The first fault of an input.
-#[derive(Clone, Copy, Debug, PartialEq, Eq)]
+#[derive(Clone, Copy)]
 pub enum InputFault {
     /// Of an interval file.
     Intervals(IntervalFileFault),

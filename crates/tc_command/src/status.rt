@@ -6,7 +6,7 @@ use crate::stop::{ChaseStop, Stop};
 use tc_job::WordsFault;
 
 /// How a run ended.
-#[derive(Clone, Copy, Debug, PartialEq, Eq)]
+#[derive(Clone, Copy)]
 pub enum Status {
     /// The input was read to its end, and the whole output was written.
     Done,

@@ -3,7 +3,7 @@ use crate::input_fault::InputFault;
 use chase_script::RowFault;
 
 /// Why a job stopped before its end.
-#[derive(Clone, Copy, Debug, PartialEq, Eq)]
+#[derive(Clone, Copy)]
 pub enum Stop {
     /// The input has a fault of the command's grammar.
     Refused(InputFault),
@@ -16,7 +16,7 @@ pub enum Stop {
 }
 
 /// Why a chase stopped before its end.
-#[derive(Clone, Copy, Debug, PartialEq, Eq)]
+#[derive(Clone, Copy)]
 pub enum ChaseStop {
     /// The script has a refused row.
     Refused(RowFault),

@@ -9,7 +9,7 @@ use tc_command::Status;
 pub const NO_ARGUMENTS: u8 = 8;
 
 /// Why there are no arguments, so that nothing was run.
-#[derive(Clone, Copy, Debug, PartialEq, Eq)]
+#[derive(Clone, Copy)]
 pub enum NoArguments {
     /// There was not enough memory for them.
     Memory,

@@ -7,7 +7,7 @@ use std::marker::Model;
 use tc_address::{Count, day_subframes};
 
 /// A tape at a position of the day.
-#[derive(Clone, Copy, Debug, PartialEq, Eq)]
+#[derive(Clone, Copy)]
 pub struct Transport {
     count: Count,
     position: u32,

@@ -1,10 +1,33 @@
 use Rattle.std.specs.Int.{w32}
 use Rattle.std.specs.Prelude.{slice_range}
-use Rattle.std.proofs.Common.{FitsSigned, rules, ◌+◌, ◌-◌, ◌*◌, None, subst, refl, to_z-of_z}
+use Rattle.std.proofs.Common.{FitsSigned, rules, ◌+◌, ◌-◌, ◌*◌, ◌^◌, None, length, subst, refl, arith, to_z-of_z}
 use Rattle.pcm_front.specs.KeptRuns.{RunsTo}
 use Rattle.pcm_front.specs.State.{state_of, FinderState}
 use Rattle.pcm_front.proofs.QuietRuns.{quiet_to}
+use Rattle.pcm_front.proofs.StaysKept.{kept_later, ticks_within}
 use Rattle.pcm_front.proofs.finder.Finder.pass_alone.Goals as goal
+
+pub overflow_mul-self : goal.overflow_mul-self
+overflow_mul-self g c =
+    let s = c.self.inside in
+    let room = ticks_within s.tick s.fineness c.args.at c.end_of_run-end.result (length (g.S.Samples.list c.args.samples.now)) (2 ^ 62)
+    c.end_of_run-end.ensures.within (rw (← c.self.view_is) at c.requires.room) in
+    rw c.from.ensures (omega (arith, room))
+
+pub overflow_add-self : goal.overflow_add-self
+overflow_add-self g c =
+    let s = c.self.inside in
+    let room = ticks_within s.tick s.fineness c.args.at c.end_of_run-end.result (length (g.S.Samples.list c.args.samples.now)) (2 ^ 62)
+    c.end_of_run-end.ensures.within (rw (← c.self.view_is) at c.requires.room) in
+    rw c.from.ensures (omega (arith, room))
+
+pub invariant_of-self : goal.invariant_of-self
+invariant_of-self g c =
+    let s = c.self.inside in
+    let start : FinderState = state_of s.fineness s.threshold s.start s.tick s.before s.level s.side s.latest in
+    let fits : FitsSigned w32 c.last_in-self-inside.result = search rules in
+    rw (to_z-of_z fits) (kept_later start (s.tick + c.from.result * (c.end_of_run-end.result - c.args.at)) c.last_in-self-inside.result
+    c.level_over-self-inside.result c.self.invariant (omega arith) c.last_in-self-inside.ensures.size c.level_over-self-inside.ensures.range)
 
 pub returns-clause-runs : goal.returns-clause-runs
 returns-clause-runs g c = λ window alone.

@@ -1,4 +1,4 @@
-use Rattle.std.proofs.Common.{◌≡◌, ◌≤◌, ◌-◌, ◌*◌, ◌++◌, ◌∷◌, [], ℕ, List, length, take, drop, refl, sym, arith, subst, ◌∙◌}
+use Rattle.std.proofs.Common.{◌≡◌, ◌≤◌, ◌+◌, ◌-◌, ◌*◌, ◌++◌, ◌∷◌, [], ℕ, List, length, take, drop, refl, sym, arith, subst, ◌∙◌}
 use Rattle.std.specs.Prelude.{ℤ}
 use Rattle.wave_file.proofs.Decoding.{blocks_added}
 use Rattle.wave_file.proofs.decoder.WaveDecoder.samples.Goals as goal
@@ -20,6 +20,28 @@ front_of places rest n e = subst (λ (n : ℕ). take n (places ++ rest) ≡ plac
 has_less : (extent : Extent) (a b : ℕ) → a ≤ b → HasBytes b extent → HasBytes a extent
 has_less (Announced n) a b less has = omega (arith, less, has)
 has_less Open a b less has = tt
+
+pub invariant_of-self : goal.invariant_of-self
+invariant_of-self c =
+    let d = c.self.inside in
+    let block = c.from-block.result in
+    let count = c.whole_blocks-count.result in
+    let is = rw c.in-Data.is at c.self.invariant.stage in
+    let left = is.2 in
+    let k = data_kept d.track (d.place + count * block) c.in-Data.format (extent_behind c.in-Data.extent (count * block)) (c.in-Data.left - count) is.0
+    (omega (arith, left)) in
+    let none = eqb-true (length d.part.items) 0 (sym c.is_empty.ensures ∙ c.if-not-is_empty.false) in
+    let inside = c.whole_blocks-count.ensures.inside in
+    let room = c.bytes_inside-inside.ensures.room in
+    let within = c.self.invariant.within in
+    rw (c.data_stage-self-inside.ensures, c.behind.ensures) record {
+      least = c.self.invariant.least;
+      most = c.self.invariant.most;
+      notes = c.self.invariant.notes;
+      stage = k.is;
+      part = let wait = k.wait in omega (arith, none, wait);
+      within = omega (arith, none, inside, room, within);
+    }
 
 pub returns-clause-adds : goal.returns-clause-adds
 returns-clause-adds c =
