@@ -1,3 +1,4 @@
 pub mod Examples
 pub mod FirstDash
 pub mod Numbers
+pub mod WordsBehind

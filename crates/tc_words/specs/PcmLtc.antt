@@ -1,10 +1,11 @@
 -- The values of `pcm-ltc`, word by word.
-use Rattle.std.specs.Prelude.{ℕ, ◌*◌, nat_le, Bool, codes, [], ◌∷◌, Option, Some, None, Result, Ok}
+use Rattle.std.specs.Prelude.{ℕ, ◌*◌, nat_le, nat_lt, Bool, codes, List, [], ◌∷◌, length, slice_get, Option, Some, None, Result, Ok, Err}
 use Rattle.std.specs.Prelude.{if◌then◌else◌, option_and_then}
 use Rattle.pcm_front.specs.declared.threshold.Threshold.{Threshold}
 use Rattle.pcm_front.specs.declared.threshold.Threshold.TheVariants.{Fixed, Follow, Deep}
 use Rattle.pcm_front.specs.declared.window.TheConstants.{MAX_SMOOTH}
 use Rattle.tc_job.specs.declared.fault.WordsFault.{WordsFault}
+use Rattle.tc_job.specs.declared.fault.WordsFault.TheVariants.{Value}
 use Rattle.tc_job.specs.declared.job.Job.{Job}
 use Rattle.tc_job.specs.declared.job.Job.TheVariants.{PcmLtc}
 use Rattle.tc_job.specs.declared.slicing.TheConstants.{MAX_FINENESS, MAX_LEVEL}
@@ -35,12 +36,11 @@ unfoldable pub following_in : ℕ → Word → Option Threshold
 following_in least word = value_in ((codes "follow", Follow least) ∷ (codes "deep", Deep least) ∷ []) word
 
 -- the job of three words, and of those behind them that are there: so many ticks a sample, a threshold that follows the
--- level, sums of so many samples, and whether a distance is written as it passes
-unfoldable pub sliced : Word → Word → Word → Option Word → Option Word → Option Word → Option Bool
-    → Result Job WordsFault
-sliced system rate threshold fineness follow smooth live =
+-- level, sums of so many samples; no other word may stand there. The last says whether a distance is written as it passes
+unfoldable pub sliced : Word → Word → Word → List Word → Bool → Result Job WordsFault
+sliced system rate threshold more live =
     value_or 1 (system_in system) (λ s. value_or 2 (between 1 MAX_TICK_RATE rate) (λ r.
-    value_or 3 (between 1 MAX_LEVEL threshold) (λ t. value_or 4 (read_or 1 (fineness_in r) fineness) (λ f.
-    value_or 5 (read_or (Fixed t) (following_in t) follow) (λ h.
-    value_or 6 (read_or 1 (between 1 MAX_SMOOTH) smooth) (λ n. value_or 7 live (λ l.
-    Ok (PcmLtc (slicing_of s r (of_sums n h) f n l)))))))))
+    value_or 3 (between 1 MAX_LEVEL threshold) (λ t. value_or 4 (read_or 1 (fineness_in r) (slice_get more 0)) (λ f.
+    value_or 5 (read_or (Fixed t) (following_in t) (slice_get more 1)) (λ h.
+    value_or 6 (read_or 1 (between 1 MAX_SMOOTH) (slice_get more 2)) (λ n.
+    if nat_lt 3 (length more) then Err (Value 7) else Ok (PcmLtc (slicing_of s r (of_sums n h) f n live))))))))

@@ -1,6 +1,6 @@
 -- The task of a list of words, or their first fault.
-use Rattle.std.specs.Prelude.{true, false, List, [], ◌∷◌, Option, Some, None, Result, Ok, Err, if◌then◌else◌}
-use Rattle.std.specs.Prelude.{codes, position}
+use Rattle.std.specs.Prelude.{List, [], ◌∷◌, Option, Some, None, Result, Ok, Err, if◌then◌else◌}
+use Rattle.std.specs.Prelude.{codes, length, nat_lt, position}
 use Rattle.std.specs.Str.{bytes_eq}
 use Rattle.biphase.specs.declared.profile.Profile.{Profile}
 use Rattle.biphase.specs.declared.profile.Profile.TheVariants.{Normal}
@@ -24,7 +24,7 @@ use Rattle.tc_words.specs.LtcChase.{chased}
 use Rattle.tc_words.specs.Flight.{flight_in}
 use Rattle.tc_words.specs.LtcMake.{striped}
 use Rattle.tc_words.specs.PcmLtc.{sliced}
-use Rattle.tc_words.specs.Live.{is_live, live_in}
+use Rattle.tc_words.specs.Live.{before_live, ends_live}
 use Rattle.tc_words.specs.Values.{Word, between, count_in, count_with_lines, map_ok, number_spelled, numbered}
 use Rattle.tc_words.specs.Values.{tolerance_in, value_or, version_in}
 use Rattle.tc_words.specs.WavLtc.{sliced_track}
@@ -78,32 +78,17 @@ ltc_convert _ = Err CountOfWords
 -- `pcm-ltc SYSTEM RATE THRESHOLD [FINENESS [follow|deep [SMOOTH]]] [live]`: without the last words the ticks are
 -- samples, the threshold stays where it is, each sample stands for itself, and a distance is written when it has ended
 unfoldable pub pcm_ltc : List Word → Result Job WordsFault
-pcm_ltc (system ∷ rate ∷ threshold ∷ []) = sliced system rate threshold None None None (Some false)
-pcm_ltc (system ∷ rate ∷ threshold ∷ last ∷ []) =
-    if is_live last then sliced system rate threshold None None None (Some true)
-    else sliced system rate threshold (Some last) None None (Some false)
-pcm_ltc (system ∷ rate ∷ threshold ∷ fineness ∷ last ∷ []) =
-    if is_live last then sliced system rate threshold (Some fineness) None None (Some true)
-    else sliced system rate threshold (Some fineness) (Some last) None (Some false)
-pcm_ltc (system ∷ rate ∷ threshold ∷ fineness ∷ follow ∷ last ∷ []) =
-    if is_live last then sliced system rate threshold (Some fineness) (Some follow) None (Some true)
-    else sliced system rate threshold (Some fineness) (Some follow) (Some last) (Some false)
-pcm_ltc (system ∷ rate ∷ threshold ∷ fineness ∷ follow ∷ smooth ∷ last ∷ []) =
-    sliced system rate threshold (Some fineness) (Some follow) (Some smooth) (live_in last)
+pcm_ltc (system ∷ rate ∷ threshold ∷ more) =
+    if nat_lt 4 (length more) then Err CountOfWords
+    else sliced system rate threshold (before_live more) (ends_live more)
 pcm_ltc _ = Err CountOfWords
 
 -- `wav-ltc SYSTEM TRACK THRESHOLD [SMOOTH [deep]] [live]`: without the last words each sample stands for itself, the
 -- threshold is at a half, and a distance is written when it has ended
 unfoldable pub wav_ltc : List Word → Result Job WordsFault
-wav_ltc (system ∷ track ∷ threshold ∷ []) = sliced_track system track threshold None None (Some false)
-wav_ltc (system ∷ track ∷ threshold ∷ last ∷ []) =
-    if is_live last then sliced_track system track threshold None None (Some true)
-    else sliced_track system track threshold (Some last) None (Some false)
-wav_ltc (system ∷ track ∷ threshold ∷ smooth ∷ last ∷ []) =
-    if is_live last then sliced_track system track threshold (Some smooth) None (Some true)
-    else sliced_track system track threshold (Some smooth) (Some last) (Some false)
-wav_ltc (system ∷ track ∷ threshold ∷ smooth ∷ deep ∷ last ∷ []) =
-    sliced_track system track threshold (Some smooth) (Some deep) (live_in last)
+wav_ltc (system ∷ track ∷ threshold ∷ more) =
+    if nat_lt 3 (length more) then Err CountOfWords
+    else sliced_track system track threshold (before_live more) (ends_live more)
 wav_ltc _ = Err CountOfWords
 
 -- `ltc-pcm LEVEL`

@@ -1,21 +1,23 @@
-//! The word `live`: a distance is written as it passes. Next: `pcm_ltc` and `wav_ltc`.
-ghost use Rattle.std.specs.Prelude.{◌≡◌, codes};
-ghost use Rattle.std.specs.Str.{bytes_eq};
-ghost use Rattle.tc_words.specs.Live.{is_live, live_in};
+//! The word `live` behind all others: a distance is written as it passes. Next: `pcm_ltc` and `wav_ltc`.
+ghost use Rattle.std.specs.Prelude.{◌≡◌, codes, map};
+ghost use Rattle.tc_words.specs.Live.{before_live, ends_live, is_live};
 
-/// Whether a word is `live`.
-pub(crate) fn is_live(word: &str) -> bool
+/// The words before `live` at the end, and whether it stands there.
+pub(crate) fn without_live<'a, 'b>(words: &'a [&'b str]) -> (&'a [&'b str], bool)
+    ensures words { map (λ v. v.now) result.0.now ≡ before_live (map (λ v. v.now) words.now) }
+    ensures live { result.1 ≡ ends_live (map (λ v. v.now) words.now) }
+{
+    match words {
+        [front @ .., last] if is_live(last) => (front, true),
+        _ => (words, false),
+    }
+}
+
+fn is_live(word: &str) -> bool
     ensures { result ≡ is_live word.now }
 {
     match word {
         "live" => true,
         _ => false,
     }
-}
-
-/// A last word, which can be no other.
-pub(crate) fn live_in(word: &str) -> Option<bool>
-    ensures { result ≡ live_in word.now }
-{
-    if is_live(word) { Some(true) } else { None }
 }

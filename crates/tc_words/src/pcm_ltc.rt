@@ -1,31 +1,26 @@
 //! The values of `pcm-ltc`, word by word. Next: `tc_job/src/slicing.rt`, which holds them.
-ghost use Rattle.std.specs.Prelude.{◌≡◌, ◌≤◌, ◌*◌, IfSome, Some, None, false, true, if◌then◌else◌};
+ghost use Rattle.std.specs.Prelude.{◌≡◌, ◌≤◌, ◌*◌, IfSome, map};
 ghost use Rattle.std.specs.Option.{option_copied};
 ghost use Rattle.pcm_front.specs.State.{IsThreshold};
 ghost use Rattle.pcm_front.specs.declared.window.TheConstants.{MAX_SMOOTH};
 ghost use Rattle.tc_job.specs.SoundLevel.{IsLevel};
-ghost use Rattle.tc_words.specs.Live.{is_live};
 ghost use Rattle.tc_words.specs.PcmLtc.{fineness_in, following_in, of_sums, sliced, IsSampleThreshold};
 ghost use Rattle.tc_words.specs.Values.{between, read_or};
 
-use crate::live::is_live;
-use crate::values::{between, system_in};
+use crate::values::{between, system_in, word_at};
 use pcm_front::{MAX_SMOOTH, Threshold};
 use tc_job::{Job, MAX_FINENESS, MAX_LEVEL, MAX_TICK_RATE, Slicing, WordsFault};
 
-/// The job of three words, and of those behind them that are there.
+/// The job of three words, and of those behind them that are there, of which there are three at most.
 #[tactic(auto, unfolding(crate::specs::PcmLtc::sliced))]
 pub(crate) fn sliced(
     system: &str,
     rate: &str,
     threshold: &str,
-    fineness: Option<&str>,
-    follow: Option<&str>,
-    smooth: Option<&str>,
-    live: Option<bool>,
+    more: &[&str],
+    live: bool,
 ) -> Result<Job, WordsFault>
-    ensures { result ≡ sliced system.now rate.now threshold.now (option_copied fineness.entry)
-        (option_copied follow.entry) (option_copied smooth.entry) live }
+    ensures { result ≡ sliced system.now rate.now threshold.now (map (λ v. v.now) more.now) live }
 {
     let Some(system) = system_in(system) else {
         return Err(WordsFault::Value(1));
@@ -36,98 +31,22 @@ pub(crate) fn sliced(
     let Some(least) = between(1, MAX_LEVEL, threshold) else {
         return Err(WordsFault::Value(3));
     };
-    let Some(fineness) = fineness_or_one(rate, fineness) else {
+    let Some(fineness) = fineness_or_one(rate, word_at(more, 0)) else {
         return Err(WordsFault::Value(4));
     };
-    let Some(threshold) = following_or_fixed(least, follow) else {
+    let Some(threshold) = following_or_fixed(least, word_at(more, 1)) else {
         return Err(WordsFault::Value(5));
     };
-    let Some(smooth) = smooth_or_one(smooth) else {
+    let Some(smooth) = smooth_or_one(word_at(more, 2)) else {
         return Err(WordsFault::Value(6));
     };
-    let Some(live) = live else {
+    if more.len() > 3 {
         return Err(WordsFault::Value(7));
-    };
+    }
     let threshold = of_sums(smooth, threshold);
     Ok(Job::PcmLtc {
         slicing: Slicing::new(system, rate, threshold, fineness, smooth, live),
     })
-}
-
-/// The job of four words: the last one is `live`, or how many ticks a sample has.
-pub(crate) fn four_words(
-    system: &str,
-    rate: &str,
-    threshold: &str,
-    last: &str,
-) -> Result<Job, WordsFault>
-    ensures { result ≡ (if is_live last.now then sliced system.now rate.now threshold.now None None None (Some true)
-        else sliced system.now rate.now threshold.now (Some last.now) None None (Some false)) }
-{
-    if is_live(last) {
-        sliced(system, rate, threshold, None, None, None, Some(true))
-    } else {
-        sliced(system, rate, threshold, Some(last), None, None, Some(false))
-    }
-}
-
-/// Of five words: the last one is `live`, or the threshold follows the level.
-pub(crate) fn five_words(
-    system: &str,
-    rate: &str,
-    threshold: &str,
-    fineness: &str,
-    last: &str,
-) -> Result<Job, WordsFault>
-    ensures { result ≡ (if is_live last.now
-        then sliced system.now rate.now threshold.now (Some fineness.now) None None (Some true)
-        else sliced system.now rate.now threshold.now (Some fineness.now) (Some last.now) None (Some false)) }
-{
-    let fineness = Some(fineness);
-    if is_live(last) {
-        sliced(system, rate, threshold, fineness, None, None, Some(true))
-    } else {
-        sliced(
-            system,
-            rate,
-            threshold,
-            fineness,
-            Some(last),
-            None,
-            Some(false),
-        )
-    }
-}
-
-/// Of six words: the last one is `live`, or how many samples are in a sum.
-pub(crate) fn six_words(
-    system: &str,
-    rate: &str,
-    threshold: &str,
-    fineness: &str,
-    follow: &str,
-    last: &str,
-) -> Result<Job, WordsFault>
-    ensures { result ≡ (if is_live last.now
-        then sliced system.now rate.now threshold.now (Some fineness.now) (Some follow.now) None (Some true)
-        else sliced system.now rate.now threshold.now (Some fineness.now) (Some follow.now) (Some last.now)
-        (Some false)) }
-{
-    let fineness = Some(fineness);
-    let follow = Some(follow);
-    if is_live(last) {
-        sliced(system, rate, threshold, fineness, follow, None, Some(true))
-    } else {
-        sliced(
-            system,
-            rate,
-            threshold,
-            fineness,
-            follow,
-            Some(last),
-            Some(false),
-        )
-    }
 }
 
 /// So many ticks a sample, and one without a word.

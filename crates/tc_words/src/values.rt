@@ -1,5 +1,6 @@
 //! The values of the words, one by one. Next: `tc_address/src/spelling.rt`, which reads labels.
-ghost use Rattle.std.specs.Prelude.{◌≡◌, ◌≤◌, IfSome};
+ghost use Rattle.std.specs.Prelude.{◌≡◌, ◌≤◌, IfSome, map, slice_get};
+ghost use Rattle.std.specs.Option.{option_copied};
 ghost use Rattle.std.specs.Char.{is_ascii_digit};
 ghost use Rattle.std.specs.List.{list_all};
 ghost use Rattle.tc_words.specs.Values.{between, count_in, count_with_lines, direction_in, is_number};
@@ -13,6 +14,13 @@ ghost use Rattle.vitc_line.specs.Places.{HasLines};
 use biphase::Profile;
 use interval_file::FileVersion;
 use tc_address::{Count, Direction, Label, System, day_labels, label_at, read_text};
+
+/// A word that need not be there.
+pub fn word_at<'a>(words: &[&'a str], i: usize) -> Option<&'a str>
+    ensures { option_copied result ≡ slice_get (map (λ v. v.now) words.now) i }
+{
+    words.get(i).copied()
+}
 
 /// A count: `24`, `25`, `30` or `30d`.
 #[tactic(auto, unfolding(crate::specs::Values::count_in))]

@@ -1,30 +1,26 @@
 //! The values of `wav-ltc`, word by word. Next: `tc_job/src/wave_slicing.rt`, which holds them.
-ghost use Rattle.std.specs.Prelude.{◌≡◌, IfSome, Some, None, false, true, if◌then◌else◌};
+ghost use Rattle.std.specs.Prelude.{◌≡◌, IfSome, map};
 ghost use Rattle.std.specs.Option.{option_copied};
 ghost use Rattle.tc_job.specs.SoundLevel.{IsLevel};
-ghost use Rattle.tc_words.specs.Live.{is_live};
 ghost use Rattle.tc_words.specs.PcmLtc.{IsSampleThreshold};
 ghost use Rattle.tc_words.specs.Values.{read_or};
 ghost use Rattle.tc_words.specs.WavLtc.{deep_in, sliced_track};
 
-use crate::live::is_live;
 use crate::pcm_ltc::{of_sums, smooth_or_one};
-use crate::values::{between, system_in};
+use crate::values::{between, system_in, word_at};
 use pcm_front::Threshold;
 use tc_job::{Job, MAX_LEVEL, MAX_TRACKS, WaveSlicing, WordsFault};
 
-/// The job of three words, and of those behind them that are there.
+/// The job of three words, and of those behind them that are there, of which there are two at most.
 #[tactic(auto, unfolding(crate::specs::WavLtc::sliced_track))]
 pub(crate) fn sliced_track(
     system: &str,
     track: &str,
     threshold: &str,
-    smooth: Option<&str>,
-    deep: Option<&str>,
-    live: Option<bool>,
+    more: &[&str],
+    live: bool,
 ) -> Result<Job, WordsFault>
-    ensures { result ≡ sliced_track system.now track.now threshold.now (option_copied smooth.entry)
-        (option_copied deep.entry) live }
+    ensures { result ≡ sliced_track system.now track.now threshold.now (map (λ v. v.now) more.now) live }
 {
     let Some(system) = system_in(system) else {
         return Err(WordsFault::Value(1));
@@ -35,56 +31,19 @@ pub(crate) fn sliced_track(
     let Some(least) = between(1, MAX_LEVEL, threshold) else {
         return Err(WordsFault::Value(3));
     };
-    let Some(smooth) = smooth_or_one(smooth) else {
+    let Some(smooth) = smooth_or_one(word_at(more, 0)) else {
         return Err(WordsFault::Value(4));
     };
-    let Some(threshold) = deep_or_half(least, deep) else {
+    let Some(threshold) = deep_or_half(least, word_at(more, 1)) else {
         return Err(WordsFault::Value(5));
     };
-    let Some(live) = live else {
+    if more.len() > 2 {
         return Err(WordsFault::Value(6));
-    };
+    }
     let threshold = of_sums(smooth, threshold);
     Ok(Job::WavLtc {
         slicing: WaveSlicing::new(system, track, threshold, smooth, live),
     })
-}
-
-/// The job of four words: the last one is `live`, or how many samples are in a sum.
-pub(crate) fn four_wave_words(
-    system: &str,
-    track: &str,
-    threshold: &str,
-    last: &str,
-) -> Result<Job, WordsFault>
-    ensures { result ≡ (if is_live last.now then sliced_track system.now track.now threshold.now None None (Some true)
-        else sliced_track system.now track.now threshold.now (Some last.now) None (Some false)) }
-{
-    if is_live(last) {
-        sliced_track(system, track, threshold, None, None, Some(true))
-    } else {
-        sliced_track(system, track, threshold, Some(last), None, Some(false))
-    }
-}
-
-/// Of five words: the last one is `live` or `deep`.
-pub(crate) fn five_wave_words(
-    system: &str,
-    track: &str,
-    threshold: &str,
-    smooth: &str,
-    last: &str,
-) -> Result<Job, WordsFault>
-    ensures { result ≡ (if is_live last.now
-        then sliced_track system.now track.now threshold.now (Some smooth.now) None (Some true)
-        else sliced_track system.now track.now threshold.now (Some smooth.now) (Some last.now) (Some false)) }
-{
-    let smooth = Some(smooth);
-    if is_live(last) {
-        sliced_track(system, track, threshold, smooth, None, Some(true))
-    } else {
-        sliced_track(system, track, threshold, smooth, Some(last), Some(false))
-    }
 }
 
 /// A threshold at a quarter of the level, and without a word at a half of it.

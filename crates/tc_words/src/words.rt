@@ -15,15 +15,15 @@ ghost use Rattle.tc_words.specs.Words.{ltc_convert, pcm_ltc, wav_ltc, ltc_pcm, t
 ghost use Rattle.tc_words.specs.Words.{jammed};
 
 use crate::flight::flight_in;
-use crate::live::live_in;
+use crate::live::without_live;
 use crate::ltc_chase::chased;
 use crate::ltc_make::striped;
-use crate::pcm_ltc::{five_words, four_words, six_words, sliced};
+use crate::pcm_ltc::sliced;
 use crate::values::{
     between, count_in, limit_in, number_spelled, numbered, spelled, tolerance_in, version_in,
 };
 use crate::vitc_make::in_lines;
-use crate::wav_ltc::{five_wave_words, four_wave_words, sliced_track};
+use crate::wav_ltc::sliced_track;
 use biphase::{MAX_SHAPED, MIN_SHAPED, Profile};
 use command_words::CommandLine;
 use std::alloc::Global;
@@ -281,20 +281,11 @@ fn pcm_ltc(values: &[&str]) -> Result<Job, WordsFault>
     let [system, rate, threshold, more @ ..] = values else {
         return Err(WordsFault::CountOfWords);
     };
-    match more {
-        [] => sliced(system, rate, threshold, None, None, None, Some(false)),
-        [last] => four_words(system, rate, threshold, last),
-        [fineness, last] => five_words(system, rate, threshold, fineness, last),
-        [fineness, follow, last] => six_words(system, rate, threshold, fineness, follow, last),
-        [fineness, follow, smooth, last] => {
-            let fineness = Some(*fineness);
-            let follow = Some(*follow);
-            let smooth = Some(*smooth);
-            let live = live_in(last);
-            sliced(system, rate, threshold, fineness, follow, smooth, live)
-        }
-        _ => Err(WordsFault::CountOfWords),
+    if more.len() > 4 {
+        return Err(WordsFault::CountOfWords);
     }
+    let (more, live) = without_live(more);
+    sliced(system, rate, threshold, more, live)
 }
 
 // `wav-ltc SYSTEM TRACK THRESHOLD [SMOOTH [deep]] [live]`
@@ -305,18 +296,11 @@ fn wav_ltc(values: &[&str]) -> Result<Job, WordsFault>
     let [system, track, threshold, more @ ..] = values else {
         return Err(WordsFault::CountOfWords);
     };
-    match more {
-        [] => sliced_track(system, track, threshold, None, None, Some(false)),
-        [last] => four_wave_words(system, track, threshold, last),
-        [smooth, last] => five_wave_words(system, track, threshold, smooth, last),
-        [smooth, deep, last] => {
-            let smooth = Some(*smooth);
-            let deep = Some(*deep);
-            let live = live_in(last);
-            sliced_track(system, track, threshold, smooth, deep, live)
-        }
-        _ => Err(WordsFault::CountOfWords),
+    if more.len() > 3 {
+        return Err(WordsFault::CountOfWords);
     }
+    let (more, live) = without_live(more);
+    sliced_track(system, track, threshold, more, live)
 }
 
 // `ltc-pcm LEVEL`
