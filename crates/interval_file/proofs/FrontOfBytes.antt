@@ -23,7 +23,7 @@ use Rattle.interval_file.specs.declared.header.TheConstants.{MAGIC, MAX_TICK_RAT
 use Rattle.interval_file.specs.Contents.{contents_behind, contents_of, first_wrong, header_of, header_with}
 use Rattle.tc_io.specs.Bytes.{AreBytes}
 use Rattle.interval_file.specs.Grammar.{Contents, InRange, IsFirstWrong, IsHeaderFault, MayStand}
-use Rattle.interval_file.specs.Grammar.{fault_at, fault_unless, may_stand, no_header}
+use Rattle.interval_file.specs.Grammar.{fault_unless, may_stand, no_header}
 use Rattle.interval_file.specs.IntervalHeader.{IsTickRate, header_bytes, system_at, version_at, version_byte}
 use Rattle.interval_file.specs.Piece.{least_in, ticks_in, piece_width, spelling}
 use Rattle.interval_file.proofs.InTheHeader.{fault_is, place_fault}

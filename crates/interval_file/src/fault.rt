@@ -2,33 +2,40 @@
 ghost use Rattle.std.specs.Prelude.{◌≡◌};
 
 use crate::names;
-use thiserror::Error;
+use std::error::Error;
+use std::fmt;
 
 /// The first fault of an interval file, with the byte place, from 0, at which it stands.
-#[derive(Clone, Copy, Debug, PartialEq, Eq, Error)]
+#[derive(Clone, Copy, Debug, PartialEq, Eq)]
 pub enum IntervalFileFault {
     /// One of the first four bytes is not that of the magic, `LTCI`.
-    #[error("no interval file")]
     Magic(u64),
     /// The version is neither 1 nor 2.
-    #[error("an unknown version")]
     Version(u64),
     /// The system is none of 24, 25 and 30.
-    #[error("an unknown system")]
     System(u64),
     /// A reserved byte is not 0.
-    #[error("a reserved byte that is not 0")]
     Reserved(u64),
     /// The tick rate is 0 or above 100,000,000. The place is its first byte.
-    #[error("a tick rate out of range")]
     TickRate(u64),
     /// An interval is 0 or above 16,777,215 ticks. The place is its first byte.
-    #[error("an interval out of range")]
     Interval(u64),
     /// The input ends inside the header or inside an interval. The place is the number of its bytes.
-    #[error("an input that ends too early")]
     Truncated(u64),
 }
+
+impl fmt::Display for IntervalFileFault {
+    ghost use Rattle.std.specs.Prelude.{Some};
+    ghost use Rattle.interval_file.specs.Fault.{name_of};
+
+    ghost output = { λ fault. Some (name_of fault) };
+
+    fn fmt<W: fmt::Write>(&self, f: &mut fmt::Formatter<W>) -> fmt::Result {
+        f.write_str(self.name())
+    }
+}
+
+impl Error for IntervalFileFault {}
 
 impl IntervalFileFault {
     ghost use Rattle.interval_file.specs.Fault.{name_of, place_of};

@@ -1,19 +1,15 @@
 -- The parts of the definitions of a line file by which the code and the lemmas go. No promise speaks of them.
-use Rattle.std.specs.Prelude.{ℕ, zero, suc, ◌+◌, ◌*◌, ◌%◌, Bool, true, false, not, ◌&&◌, ◌==◌, nat_lt, nat_le, is_some}
-use Rattle.std.specs.Prelude.{if◌then◌else◌, List, [], ◌∷◌}
-use Rattle.std.specs.Prelude.{◌++◌, length, drop, slice_index, Option, Some, None}
-use Rattle.byteorder.specs.Endian.{big_number}
-use Rattle.tc_address.specs.declared.system.System.{System}
+use Rattle.std.specs.Prelude.{ℕ, ◌+◌, ◌%◌, Bool, false, ◌&&◌, ◌==◌, nat_le}
+use Rattle.std.specs.Prelude.{List, [], ◌∷◌}
+use Rattle.std.specs.Prelude.{◌++◌, drop, slice_index, Some, None}
 use Rattle.line_file.specs.declared.fault.LineFileFault.{LineFileFault}
-use Rattle.line_file.specs.declared.fault.LineFileFault.TheVariants as fault
-use Rattle.tc_io.specs.Verdict.{Verdict, good, refused, past_limit}
-use Rattle.line_file.specs.declared.decoder.TheConstants.{MAX_FIELDS}
-use Rattle.line_file.specs.declared.field.TheConstants.{MAX_LINES, MAX_RUNS}
+use Rattle.tc_io.specs.Verdict.{Verdict}
+use Rattle.line_file.specs.declared.field.TheConstants.{MAX_RUNS}
 use Rattle.line_file.specs.declared.header.LineHeader.{LineHeader}
-use Rattle.line_file.specs.declared.header.TheConstants.{MAGIC, VERSION, HEAD_LENGTH, HEADER_LENGTH}
+use Rattle.line_file.specs.declared.header.TheConstants.{HEAD_LENGTH}
 use Rattle.vitc_reader.specs.declared.line_length.TheConstants.{MIN_LINE_LENGTH, MAX_LINE_LENGTH}
 use Rattle.line_file.specs.LineHeader.{system_at}
-use Rattle.line_file.specs.LineFile.{Fields, Front, Reading, and_then, bad, length_at, lines_width, short, whole}
+use Rattle.line_file.specs.LineFile.{Fields, Front, Reading, and_then, length_at, lines_width, whole}
 
 -- the first thing, where the others are whole too
 abbrev pub with_first : {A : Type 0} → A → Front (List A) → Front (List A)

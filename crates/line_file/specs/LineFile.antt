@@ -3,7 +3,7 @@
 -- piece that fails its test is the fault. This project's own.
 use Rattle.std.specs.Prelude.{ℕ, zero, suc, ◌+◌, ◌*◌, ◌%◌, Bool, true, false, not, ◌&&◌, ◌==◌, nat_lt, nat_le, is_some}
 use Rattle.std.specs.Prelude.{if◌then◌else◌, List, [], ◌∷◌}
-use Rattle.std.specs.Prelude.{◌++◌, length, drop, slice_index, Option, Some, None}
+use Rattle.std.specs.Prelude.{length, drop, slice_index, Option, Some, None}
 use Rattle.byteorder.specs.Endian.{big_number}
 use Rattle.tc_address.specs.declared.system.System.{System}
 use Rattle.line_file.specs.declared.fault.LineFileFault.{LineFileFault}

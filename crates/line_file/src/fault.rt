@@ -2,39 +2,44 @@
 ghost use Rattle.std.specs.Prelude.{◌≡◌};
 
 use crate::names;
-use thiserror::Error;
+use std::error::Error;
+use std::fmt;
 
 /// The first fault of a line file, with the byte place, from 0, at which it stands.
-#[derive(Clone, Copy, Debug, PartialEq, Eq, Error)]
+#[derive(Clone, Copy, Debug, PartialEq, Eq)]
 pub enum LineFileFault {
     /// One of the first four bytes is not that of the magic, `VITL`.
-    #[error("no line file")]
     Magic(u64),
     /// The version is not 1.
-    #[error("an unknown version")]
     Version(u64),
     /// The system is neither 25 nor 30.
-    #[error("an unknown system")]
     System(u64),
     /// A reserved byte is not 0.
-    #[error("a reserved byte that is not 0")]
     Reserved(u64),
     /// A line lasts less than 460 or more than 65,535 ticks. The place is its first byte.
-    #[error("a line length out of range")]
     LineLength(u64),
     /// A field has more than 20 lines. The place is that of the number.
-    #[error("too many lines in a field")]
     LineCount(u64),
     /// A line has an even number of runs, or more than 89. The place is that of the number.
-    #[error("a number of runs out of range")]
     RunCount(u64),
     /// A run has 0 ticks. The place is its first byte.
-    #[error("a run out of range")]
     Run(u64),
     /// The input ends inside the header or inside a field. The place is the number of its bytes.
-    #[error("an input that ends too early")]
     Truncated(u64),
 }
+
+impl fmt::Display for LineFileFault {
+    ghost use Rattle.std.specs.Prelude.{Some};
+    ghost use Rattle.line_file.specs.Fault.{name_of};
+
+    ghost output = { λ fault. Some (name_of fault) };
+
+    fn fmt<W: fmt::Write>(&self, f: &mut fmt::Formatter<W>) -> fmt::Result {
+        f.write_str(self.name())
+    }
+}
+
+impl Error for LineFileFault {}
 
 impl LineFileFault {
     ghost use Rattle.line_file.specs.Fault.{name_of, place_of};

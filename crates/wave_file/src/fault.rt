@@ -3,31 +3,39 @@ ghost use Rattle.std.specs.Prelude.{◌≡◌};
 ghost use Rattle.wave_file.specs.Fault.{name_of, place_of};
 
 use crate::names;
-use thiserror::Error;
+use std::error::Error;
+use std::fmt;
 
 /// The first fault of a sound file, with the byte place, from 0, at which it stands.
-#[derive(Clone, Copy, Debug, PartialEq, Eq, Error)]
+#[derive(Clone, Copy, Debug, PartialEq, Eq)]
 pub enum WaveFault {
     /// The first four bytes are none of `RIFF`, `RF64` and `BW64`.
-    #[error("no sound file")]
     Riff(u64),
     /// Bytes 8 to 11 are not `WAVE`.
-    #[error("a file of chunks that is no sound file")]
     Wave(u64),
     /// The sizes of 64 bits are missing or cut. The place is the first letter of the chunk.
-    #[error("no sizes of 64 bits")]
     Ds64(u64),
     /// The format is missing, cut, or none that is taken. The place is the first letter of the chunk, or
     /// that of the field.
-    #[error("a format that is not taken")]
     Format(u64),
     /// The track is not among those of the file. The place is that of their number.
-    #[error("a track that is not there")]
     Track(u64),
     /// The input ends too early. The place is the number of its bytes.
-    #[error("an input that ends too early")]
     Truncated(u64),
 }
+
+impl fmt::Display for WaveFault {
+    ghost use Rattle.std.specs.Prelude.{Some};
+    ghost use Rattle.wave_file.specs.Fault.{name_of};
+
+    ghost output = { λ fault. Some (name_of fault) };
+
+    fn fmt<W: fmt::Write>(&self, f: &mut fmt::Formatter<W>) -> fmt::Result {
+        f.write_str(self.name())
+    }
+}
+
+impl Error for WaveFault {}
 
 impl WaveFault {
     /// The name under which notes print the fault.
