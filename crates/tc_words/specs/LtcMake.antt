@@ -1,5 +1,5 @@
 -- The values of `ltc-make`, word by word.
-use Rattle.std.specs.Prelude.{◌/◌, min, Option, Result, Ok}
+use Rattle.std.specs.Prelude.{◌/◌, min, List, slice_get, Result, Ok}
 use Rattle.biphase.specs.declared.shaper.TheConstants.{MIN_SHAPED, MAX_SHAPED}
 use Rattle.biphase.specs.Shape.{shape_with}
 use Rattle.tc_address.specs.Spelling.{label_in}
@@ -10,13 +10,13 @@ use Rattle.tc_job.specs.declared.stripe.TheConstants.{MAX_FRAMES, MAX_TICK_RATE}
 use Rattle.tc_job.specs.Stripe.{stripe_of}
 use Rattle.tc_words.specs.Values.{Word, between, count_in, direction_in, read_or, value_or}
 
--- the job of six words, and of two more where they are there: without them the cells are of one length, and else they
--- move to another one by a step, which is at most an eighth of the lesser
-unfoldable pub striped : Word → Word → Word → Word → Word → Word → Option Word → Option Word → Result Job WordsFault
-striped count direction label frames cell tick_rate to_cell step =
+-- the job of six words, and of the two behind them where they are there: without them the cells are of one length, and
+-- else they move to another one by a step, which is at most an eighth of the lesser
+unfoldable pub striped : Word → Word → Word → Word → Word → Word → List Word → Result Job WordsFault
+striped count direction label frames cell tick_rate more =
     value_or 1 (count_in count) (λ c. value_or 2 (direction_in direction) (λ d. value_or 3 (label_in c label) (λ l.
     value_or 4 (between 1 MAX_FRAMES frames) (λ f. value_or 5 (between MIN_SHAPED MAX_SHAPED cell) (λ n.
     value_or 6 (between 1 MAX_TICK_RATE tick_rate) (λ r.
-    value_or 7 (read_or n (between MIN_SHAPED MAX_SHAPED) to_cell) (λ to.
-    value_or 8 (read_or 0 (between 0 (min n to / 8)) step) (λ s.
+    value_or 7 (read_or n (between MIN_SHAPED MAX_SHAPED) (slice_get more 0)) (λ to.
+    value_or 8 (read_or 0 (between 0 (min n to / 8)) (slice_get more 1)) (λ s.
     Ok (LtcMake (stripe_of d l f (shape_with n to s) r))))))))))

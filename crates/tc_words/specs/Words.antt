@@ -1,8 +1,7 @@
 -- The task of a list of words, or their first fault.
-use Rattle.std.specs.Prelude.{List, [], ◌∷◌, Option, Some, None, Result, Ok, Err, if◌then◌else◌}
-use Rattle.std.specs.Prelude.{codes, length, nat_lt, position}
+use Rattle.std.specs.Prelude.{List, [], ◌∷◌, Some, None, Result, Ok, Err, if◌then◌else◌}
+use Rattle.std.specs.Prelude.{◌||◌, codes, length, nat_eq, nat_lt, position, slice_get}
 use Rattle.std.specs.Str.{bytes_eq}
-use Rattle.biphase.specs.declared.profile.Profile.{Profile}
 use Rattle.biphase.specs.declared.profile.Profile.TheVariants.{Normal}
 use Rattle.biphase.specs.declared.shaper.TheConstants.{MIN_SHAPED, MAX_SHAPED}
 use Rattle.command_words.specs.CommandLine.{begins_with_dash}
@@ -25,7 +24,7 @@ use Rattle.tc_words.specs.Flight.{flight_in}
 use Rattle.tc_words.specs.LtcMake.{striped}
 use Rattle.tc_words.specs.PcmLtc.{sliced}
 use Rattle.tc_words.specs.Live.{before_live, ends_live}
-use Rattle.tc_words.specs.Values.{Word, between, count_in, count_with_lines, map_ok, number_spelled, numbered}
+use Rattle.tc_words.specs.Values.{Word, between, count_in, count_with_lines, map_ok, number_spelled, numbered, read_or}
 use Rattle.tc_words.specs.Values.{tolerance_in, value_or, version_in}
 use Rattle.tc_words.specs.WavLtc.{sliced_track}
 
@@ -36,32 +35,27 @@ abbrev pub no_values : Job → List Word → Result Job WordsFault
 no_values job [] = Ok job
 no_values job _ = Err CountOfWords
 
--- the job of three words, and of the tolerance that the fourth says, where it says one
-unfoldable pub jammed : Word → Word → Word → Option Profile → Result Job WordsFault
-jammed limit cell tick_rate profile =
-    value_or 1 (between 0 255 limit) (λ n. value_or 2 (between MIN_SHAPED MAX_SHAPED cell) (λ c.
-    value_or 3 (between 1 MAX_TICK_RATE tick_rate) (λ r. value_or 4 profile (λ p.
-    Ok (jobs.LtcJam (jamming_of (record { limit = n; profile = p }) c r))))))
-
--- `ltc-jam LIMIT CELL TICK-RATE [worn|rough]`
+-- `ltc-jam LIMIT CELL TICK-RATE [worn|rough]`: without the last word it is the normal tolerance
 unfoldable pub ltc_jam : List Word → Result Job WordsFault
-ltc_jam (limit ∷ cell ∷ tick_rate ∷ []) = jammed limit cell tick_rate (Some Normal)
-ltc_jam (limit ∷ cell ∷ tick_rate ∷ tolerance ∷ []) = jammed limit cell tick_rate (tolerance_in tolerance)
+ltc_jam (limit ∷ cell ∷ tick_rate ∷ more) =
+    if nat_lt 1 (length more) then Err CountOfWords
+    else value_or 1 (between 0 255 limit) (λ n. value_or 2 (between MIN_SHAPED MAX_SHAPED cell) (λ c.
+    value_or 3 (between 1 MAX_TICK_RATE tick_rate) (λ r. value_or 4 (read_or Normal tolerance_in (slice_get more 0)) (λ p.
+    Ok (jobs.LtcJam (jamming_of (record { limit = n; profile = p }) c r))))))
 ltc_jam _ = Err CountOfWords
 
--- `ltc-chase COUNT LABEL LIMIT SEED BOUND [worn|rough]`
+-- `ltc-chase COUNT LABEL LIMIT SEED BOUND [worn|rough]`: without the last word it is the normal tolerance
 unfoldable pub ltc_chase : List Word → Result Job WordsFault
-ltc_chase (count ∷ label ∷ limit ∷ seed ∷ bound ∷ []) = chased count label limit seed bound (Some Normal)
-ltc_chase (count ∷ label ∷ limit ∷ seed ∷ bound ∷ tolerance ∷ []) =
-    chased count label limit seed bound (tolerance_in tolerance)
+ltc_chase (count ∷ label ∷ limit ∷ seed ∷ bound ∷ more) =
+    if nat_lt 1 (length more) then Err CountOfWords
+    else chased count label limit seed bound (read_or Normal tolerance_in (slice_get more 0))
 ltc_chase _ = Err CountOfWords
 
 -- `ltc-make COUNT DIRECTION LABEL FRAMES CELL TICK-RATE [TO-CELL STEP]`
 unfoldable pub ltc_make : List Word → Result Job WordsFault
-ltc_make (count ∷ direction ∷ label ∷ frames ∷ cell ∷ tick_rate ∷ []) =
-    striped count direction label frames cell tick_rate None None
-ltc_make (count ∷ direction ∷ label ∷ frames ∷ cell ∷ tick_rate ∷ to_cell ∷ step ∷ []) =
-    striped count direction label frames cell tick_rate (Some to_cell) (Some step)
+ltc_make (count ∷ direction ∷ label ∷ frames ∷ cell ∷ tick_rate ∷ more) =
+    if nat_eq (length more) 0 || nat_eq (length more) 2 then striped count direction label frames cell tick_rate more
+    else Err CountOfWords
 ltc_make _ = Err CountOfWords
 
 -- `ltc-load SEED WORDS`

@@ -1,12 +1,12 @@
 //! The values of `ltc-make`, word by word. Next: `tc_job/src/stripe.rt`, which holds them.
-ghost use Rattle.std.specs.Prelude.{◌≡◌, ◌≤◌, ◌/◌, min, IfSome};
+ghost use Rattle.std.specs.Prelude.{◌≡◌, ◌≤◌, ◌/◌, min, map, IfSome};
 ghost use Rattle.std.specs.Option.{option_copied};
 ghost use Rattle.biphase.specs.Shape.{IsShape, IsShaped, shape_with};
 ghost use Rattle.biphase.specs.declared.shaper.TheConstants.{MIN_SHAPED, MAX_SHAPED};
 ghost use Rattle.tc_words.specs.LtcMake.{striped};
 ghost use Rattle.tc_words.specs.Values.{between, read_or};
 
-use crate::values::{between, count_in, direction_in, spelled};
+use crate::values::{between, count_in, direction_in, spelled, word_at};
 use biphase::{MAX_SHAPED, MIN_SHAPED, Shaper};
 use tc_job::{Job, MAX_FRAMES, MAX_TICK_RATE, Stripe, WordsFault};
 
@@ -19,11 +19,10 @@ pub(crate) fn striped(
     frames: &str,
     cell: &str,
     tick_rate: &str,
-    to_cell: Option<&str>,
-    step: Option<&str>,
+    more: &[&str],
 ) -> Result<Job, WordsFault>
     ensures { result ≡ striped count.now direction.now label.now frames.now cell.now tick_rate.now
-        (option_copied to_cell.entry) (option_copied step.entry) }
+        (map (λ v. v.now) more.now) }
 {
     let Some(count) = count_in(count) else {
         return Err(WordsFault::Value(1));
@@ -43,10 +42,10 @@ pub(crate) fn striped(
     let Some(tick_rate) = between(1, MAX_TICK_RATE, tick_rate) else {
         return Err(WordsFault::Value(6));
     };
-    let Some(to_cell) = length_or(cell, to_cell) else {
+    let Some(to_cell) = length_or(cell, word_at(more, 0)) else {
         return Err(WordsFault::Value(7));
     };
-    let Some(step) = step_or_none(cell, to_cell, step) else {
+    let Some(step) = step_or_none(cell, to_cell, word_at(more, 1)) else {
         return Err(WordsFault::Value(8));
     };
     let shaper = shaper_with(cell, to_cell, step);

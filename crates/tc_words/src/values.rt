@@ -4,7 +4,7 @@ ghost use Rattle.std.specs.Option.{option_copied};
 ghost use Rattle.std.specs.Char.{is_ascii_digit};
 ghost use Rattle.std.specs.List.{list_all};
 ghost use Rattle.tc_words.specs.Values.{between, count_in, count_with_lines, direction_in, is_number};
-ghost use Rattle.tc_words.specs.Values.{number_spelled, numbered};
+ghost use Rattle.tc_words.specs.Values.{number_spelled, numbered, read_or};
 ghost use Rattle.tc_words.specs.Values.{system_in, tolerance_in, version_in};
 ghost use Rattle.tc_address.specs.Count.{system_with};
 ghost use Rattle.tc_address.specs.Label.{IsLabel};
@@ -105,6 +105,16 @@ pub fn tolerance_in(word: &str) -> Option<Profile>
         "worn" => Some(Profile::Worn),
         "rough" => Some(Profile::Rough),
         _ => None,
+    }
+}
+
+/// The tolerance that a word says, and without a word the normal one.
+pub fn tolerance_or_normal(word: Option<&str>) -> Option<Profile>
+    ensures { result ≡ read_or Profile.Normal tolerance_in (option_copied word.entry) }
+{
+    match word {
+        None => Some(Profile::Normal),
+        Some(word) => tolerance_in(word),
     }
 }
 

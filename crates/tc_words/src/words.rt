@@ -12,7 +12,6 @@ ghost use Rattle.tc_words.specs.Values.{map_ok};
 ghost use Rattle.tc_words.specs.Words.{answer_to, without_dashes, job_of, no_values};
 ghost use Rattle.tc_words.specs.Words.{ltc_jam, ltc_chase, number, label_of, ltc_make};
 ghost use Rattle.tc_words.specs.Words.{ltc_convert, pcm_ltc, wav_ltc, ltc_pcm, task_of, chase, ltc_load, vitc_make};
-ghost use Rattle.tc_words.specs.Words.{jammed};
 
 use crate::flight::flight_in;
 use crate::live::without_live;
@@ -20,11 +19,12 @@ use crate::ltc_chase::chased;
 use crate::ltc_make::striped;
 use crate::pcm_ltc::sliced;
 use crate::values::{
-    between, count_in, limit_in, number_spelled, numbered, spelled, tolerance_in, version_in,
+    between, count_in, limit_in, number_spelled, numbered, spelled, tolerance_or_normal,
+    version_in, word_at,
 };
 use crate::vitc_make::in_lines;
 use crate::wav_ltc::sliced_track;
-use biphase::{MAX_SHAPED, MIN_SHAPED, Profile};
+use biphase::{MAX_SHAPED, MIN_SHAPED};
 use command_words::CommandLine;
 use std::alloc::Global;
 use tc_job::{
@@ -168,24 +168,9 @@ fn ltc_jam(values: &[&str]) -> Result<Job, WordsFault>
     let [limit, cell, tick_rate, more @ ..] = values else {
         return Err(WordsFault::CountOfWords);
     };
-    let profile = match more {
-        [] => Some(Profile::Normal),
-        [tolerance] => tolerance_in(tolerance),
-        _ => return Err(WordsFault::CountOfWords),
-    };
-    jammed(limit, cell, tick_rate, profile)
-}
-
-// The job of three words and the tolerance that the fourth says, or their first fault.
-#[tactic(auto, unfolding(crate::specs::Words::jammed))]
-fn jammed(
-    limit: &str,
-    cell: &str,
-    tick_rate: &str,
-    profile: Option<Profile>,
-) -> Result<Job, WordsFault>
-    ensures { result ≡ jammed limit.now cell.now tick_rate.now profile }
-{
+    if more.len() > 1 {
+        return Err(WordsFault::CountOfWords);
+    }
     let Some(limit) = limit_in(limit) else {
         return Err(WordsFault::Value(1));
     };
@@ -195,7 +180,7 @@ fn jammed(
     let Some(tick_rate) = between(1, MAX_TICK_RATE, tick_rate) else {
         return Err(WordsFault::Value(3));
     };
-    let Some(profile) = profile else {
+    let Some(profile) = tolerance_or_normal(word_at(more, 0)) else {
         return Err(WordsFault::Value(4));
     };
     Ok(Job::LtcJam {
@@ -211,11 +196,10 @@ fn ltc_chase(values: &[&str]) -> Result<Job, WordsFault>
     let [count, label, limit, seed, bound, more @ ..] = values else {
         return Err(WordsFault::CountOfWords);
     };
-    let profile = match more {
-        [] => Some(Profile::Normal),
-        [tolerance] => tolerance_in(tolerance),
-        _ => return Err(WordsFault::CountOfWords),
-    };
+    if more.len() > 1 {
+        return Err(WordsFault::CountOfWords);
+    }
+    let profile = tolerance_or_normal(word_at(more, 0));
     chased(count, label, limit, seed, bound, profile)
 }
 
@@ -227,17 +211,10 @@ fn ltc_make(values: &[&str]) -> Result<Job, WordsFault>
     let [count, direction, label, frames, cell, tick_rate, more @ ..] = values else {
         return Err(WordsFault::CountOfWords);
     };
-    match more {
-        [] => striped(count, direction, label, frames, cell, tick_rate, None, None),
-        [to_cell, step] => {
-            let to_cell = Some(*to_cell);
-            let step = Some(*step);
-            striped(
-                count, direction, label, frames, cell, tick_rate, to_cell, step,
-            )
-        }
-        _ => Err(WordsFault::CountOfWords),
+    if more.len() != 0 && more.len() != 2 {
+        return Err(WordsFault::CountOfWords);
     }
+    striped(count, direction, label, frames, cell, tick_rate, more)
 }
 
 // `ltc-load SEED WORDS`
