@@ -1,4 +1,6 @@
 mod AnItemMore
+mod ByteMore
 mod InputBegins
+mod PassedOn
 mod RunOfIntervals
 mod VerdictStays
