@@ -1,4 +1,5 @@
 mod AnItemMore
+mod AtTheEnd
 mod ByteMore
 mod InputBegins
 mod PassedOn

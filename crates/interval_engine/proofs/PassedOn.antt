@@ -1,5 +1,6 @@
 -- What a stop says that is passed on, and that no pull failed where none was made.
 use Rattle.std.proofs.Common.{◌≡◌, ap, refl, Ok, Err}
+use Rattle.std.specs.Prelude.{IfErr}
 use Rattle.std.specs.Result.{IsErrAnd}
 use Rattle.std.specs.declared.result.Result.{Result}
 use Rattle.tc_command.specs.declared.input_fault.InputFault.{InputFault}
@@ -55,3 +56,12 @@ limit_is_no_read_fault is = absurd cc
 -- and a failed push no limit
 pub failed_push_is_no_limit : {A : Type 0} → WriteFault ≡ Limit → A
 failed_push_is_no_limit is = absurd cc
+
+-- where only a push may fail, no pull did
+pub only_a_push : {T : Type 0} (P : Stop → Type 0) (result : Result T Stop)
+    → IfErr result (λ stop. (stop ≡ WriteFault) × P stop) → result ≡ Err ReadFault → ⊥
+only_a_push P (Ok done) why is = absurd cc
+only_a_push P (Err (Refused fault)) why is = absurd cc
+only_a_push P (Err ReadFault) why is = (let other = why.0 in absurd cc)
+only_a_push P (Err WriteFault) why is = absurd cc
+only_a_push P (Err Limit) why is = absurd cc
