@@ -1,6 +1,28 @@
-use Rattle.std.proofs.Common.{[], arith, refl}
+use Rattle.std.proofs.Common.{[], ◌∷◌, arith, refl}
 use Rattle.frame_commands.proofs.FramesInOrder.{gives_none, none_counted, sends_none}
 use Rattle.frame_commands.proofs.flight.FrameReader.hear.Goals as goal
+
+-- a word, at the tick
+pub returns-in-Some-Word : goal.returns-in-Some-Word
+returns-in-Some-Word g c =
+    let h = c.hear_word.ensures in
+    let latest = rw (c.in-Some-Word.is, c.in-Some-Word.field-0-is) at c.requires.latest in
+    let same = latest.0 in
+    record {
+      keeps = h.keeps;
+      heard = (let one = h.heard in omega (arith, one));
+      ready = rw same at h.ready;
+      none_due = rw same at h.none_due;
+      gives = (
+        h.gives.0 ∷ [],
+        h.gives.1,
+        rw (c.in-Some-Word.is, c.in-Some-Word.field-0-is, ← c.label.ensures.value, ← same) h.gives.2,
+        h.gives.3,
+        h.gives.4,
+      );
+      why = h.why;
+      cause = h.cause;
+    }
 
 -- no word
 pub returns-in-Some-Refused : goal.returns-in-Some-Refused
