@@ -40,12 +40,14 @@ input said printing stands decoder behind count choice bytes written s ends = re
 }
 
 -- behind the header, it is the whole output where the command says so of the header and the intervals
-whole : {B C : Type 0} (printing : C → Printing) (stands : Relation B C) (b : B) (choice : C) (bytes written more : List ℕ)
+whole : {B C : Type 0} (printing : C → Printing) (stands : Relation B C) (b : B) (choice : C)
+    (bytes written more : List ℕ)
     (printed : Printed stands (Some b) choice (recording_of bytes) written)
     → Printing.whole (printing choice) printed.0 (recording_of bytes).intervals (written ++ more)
     → IsWholeOf (printing choice) (recording_of bytes) (written ++ more)
 whole printing stands b choice bytes written more printed is =
-    subst (λ (h : Option IntervalHeader). IsWholeBehind (printing choice) h (recording_of bytes).intervals (written ++ more))
+    subst (λ (h : Option IntervalHeader). IsWholeBehind (printing choice) h (recording_of bytes).intervals
+    (written ++ more))
     (sym printed.1) is
 
 -- what stands last was taken
@@ -68,7 +70,8 @@ last_taken said printing stands decoder behind b count choice old new is ends sa
     )
 
 -- it was not: a front of it was written
-pub last_refused : ReadsWhatIsSaid → {B C : Type 0} (printing : C → Printing) (stands : Relation B C) (decoder : Progress)
+pub last_refused : ReadsWhatIsSaid → {B C : Type 0} (printing : C → Printing) (stands : Relation B C)
+    (decoder : Progress)
     (behind : Option B) (b : B) (count : ℕ) (choice : C) (old new : Option (List ℕ)) → behind ≡ Some b
     → fault_at_end (end decoder) ≡ None
     → ((header : IntervalHeader) (intervals written : List ℕ) → stands b choice header intervals written
@@ -85,5 +88,8 @@ last_refused said printing stands decoder behind b count choice old new is ends 
     ap (λ (l : List ℕ). written ++ l) f.1.1 ∙ sym (append_assoc written f.0 f.1.0) in (
       f.0,
       f.2,
-      (input said printing stands decoder behind count choice bytes written s ends, (written ++ last.0, due, (f.1.0, e))),
+      (
+        input said printing stands decoder behind count choice bytes written s ends,
+        (written ++ last.0, due, (f.1.0, e)),
+      ),
     )
