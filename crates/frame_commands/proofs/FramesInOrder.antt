@@ -3,7 +3,9 @@ use Rattle.std.proofs.Common.{◌≡◌, ℕ, ◌+◌, List, [], ◌∷◌, ◌+
 use Rattle.std.specs.declared.option.Option.{Option}
 use Rattle.std.proofs.lemmas.List.Sums.{sum_by-append, sum_by-cons}
 use Rattle.std.proofs.lemmas.Grind.{flat_map-append}
-use Rattle.std.specs.Prelude.{IfSome, Some, None}
+use Rattle.std.specs.Prelude.{IfSome, Some, None, Ok, Err}
+use Rattle.std.specs.Result.{IsErrAnd}
+use Rattle.std.specs.declared.result.Result.{Result}
 use Rattle.direction_reader.specs.declared.event.Event.{Event}
 use Rattle.direction_reader.specs.declared.event.Event.TheVariants as events
 use Rattle.direction_reader.specs.Brings.{IsLatest}
@@ -17,8 +19,10 @@ use Rattle.flywheel.specs.Wheel.{Wheel, IsPast}
 use Rattle.std.proofs.KnownBytes.{Appends-nil, Appends-trans}
 use Rattle.interval_file.specs.declared.header.IntervalHeader.{IntervalHeader}
 use Rattle.frame_commands.specs.declared.flight.FrameReader.{FrameReader}
-use Rattle.frame_commands.specs.KeptFlight.{counted, Comes, Counts, GivesAll, GivesDue, GivesDueAll, GivesDueAllFirst, GivesFirst, Sends, SendsFront}
+use Rattle.frame_commands.specs.KeptFlight.{counted, Comes, Counts, GivesAll, GivesDue, GivesDueAll, GivesDueAllFirst}
+use Rattle.frame_commands.specs.KeptFlight.{GivesFirst, KeepsReading, Sends, SendsFront}
 use Rattle.frame_commands.specs.OfFrames.{FrameText, heard_in, words_heard}
+use Rattle.tc_command.specs.declared.stop.Stop.{Stop}
 use Rattle.tc_command.specs.KeptPushed.{front_of_piece}
 use Rattle.flywheel.specs.Kinds.{is_gone, is_heard, is_invented}
 
@@ -193,3 +197,15 @@ pub due_and_first : (a b : Wheel) (tick : ℕ) (ws : List HeardWord) (due fs : L
 due_and_first a b tick ws due fs same first second = λ words earlier given stands before.
     let comes = second words (given ++ due) (first words earlier given stands before) in
     (comes.0, ap (λ (n : ℕ). frames n (words ++ ws) tick) (sym same) ∙ comes.1 ∙ ap (λ (l : List Frame). l ++ comes.0) (append_assoc given due fs))
+
+-- an error that is passed on
+pub passed_on : {T : Type 0} (result : Result T Stop) (stop : Stop) → IsErrAnd result (λ told. told ≡ stop)
+    → result ≡ Err stop
+passed_on (Ok done) stop is = absurd is
+passed_on (Err told) stop is = ap (λ (s : Stop). Err s) is
+
+-- frames were given one time and then another
+pub keeps_both : (before between after : FrameReader) (taken more : ℕ) → KeepsReading before between taken
+    → KeepsReading between after more → KeepsReading before after more
+keeps_both before between after taken more one two =
+    record { reader = two.reader ∙ one.reader; limit = two.limit ∙ one.limit; room = two.room }

@@ -87,6 +87,33 @@ an_interval stands decoder next before behind count now choice x front bytes wri
       printed = subst (λ (r : Recording). Printed stands behind choice r after) (sym same) printed;
     }
 
+-- the header, which comes once
+pub a_header : {B C : Type 0} (stands : Relation B C) (decoder next : Progress) (before : Option B) (b : B) (count : ℕ)
+    (choice : C)
+    (header : IntervalHeader) (front bytes written more : List ℕ) → HasHeader before decoder.taken
+    → decoder.taken + 1 ≡ 12
+    → Stands stands decoder before count choice front written → Completes front bytes (Header header) next
+    → stands b choice header [] more
+    → Stands stands next (Some b) count choice (front ++ bytes) (written ++ more)
+a_header stands decoder next (Some before) b count choice header front bytes written more has twelve s is begun =
+    absurd (omega (arith, has, twelve))
+a_header stands decoder next None b count choice header front bytes written more has twelve s is begun =
+    let p = s.printed in
+    let same = completed front bytes (Header header) next is s.good in
+    let first : Recording = record { header = Some header; intervals = []; verdict = (recording_of front).verdict } in
+    let begins : recording_of (front ++ bytes) ≡ first = same ∙ rw (p.0, p.1) refl in
+    record {
+      progress = sym is.0;
+      good = ap (λ (r : Recording). r.verdict) same ∙ s.good;
+      counts = s.counts ∙ ap (λ (r : Recording). length r.intervals) (sym same);
+      printed = subst (λ (r : Recording). Printed stands (Some b) choice r (written ++ more)) (sym begins) (
+        header,
+        refl,
+        subst (λ (w : List ℕ). stands b choice header [] w)
+            (ap (λ (w : List ℕ). w ++ more) (sym p.2)) begun,
+      );
+    }
+
 -- ---- the command stops
 
 -- a fault, or an interval past the limit: nothing that follows is looked at

@@ -3,6 +3,8 @@ use Rattle.std.proofs.Common.{◌≡◌, ℕ, ◌+◌, ◌-◌, ◌<◌, ◌≤�
 use Rattle.std.proofs.lemmas.Bool.{lt-ltb}
 use Rattle.std.proofs.lemmas.Grind.{common_steps}
 use Rattle.std.proofs.lemmas.List.{take-take}
+use Rattle.std.specs.Prelude.{◌≢◌}
+use Rattle.std.specs.Io.KnownBytes.{Appends}
 use Rattle.std.specs.declared.option.Option.{Option}
 use Rattle.tc_io.specs.Sink.{AppendsFront}
 use Rattle.biphase.specs.declared.cell.TheConstants.{MAX_INTERVALS}
@@ -16,7 +18,7 @@ use Rattle.tc_command.specs.declared.stop.Stop.{Stop}
 use Rattle.tc_command.specs.declared.stop.Stop.TheVariants.{Refused, WriteFault}
 use Rattle.interval_engine.specs.Along.{Printing}
 use Rattle.interval_engine.specs.KeptBehind.{IsPartBehind}
-use Rattle.interval_engine.specs.KeptAlong.{IntervalStops, Stands, stop_at, IsHalt}
+use Rattle.interval_engine.specs.KeptAlong.{FitsBehind, IntervalStops, IsHalt, Stands, TakesInterval, stop_at}
 use Rattle.tc_command.specs.KeptWorks.{cut_more}
 use Rattle.interval_engine.proofs.AnItemMore.{Completes, Relation, a_fault, cut_some}
 
@@ -67,3 +69,22 @@ behind_stops printing stands b count choice x old new below says = (
         due.2,
       ),
 )
+
+-- the output of an interval was taken, as the command itself says it
+pub behind_takes : {B C : Type 0} (fits : B → ℕ → Type 0) (stands : Relation B C) (b now : B) (count : ℕ) (choice : C)
+    (x : ℕ)
+    (old new : Option (List ℕ)) → count ≢ MAX_INTERVALS → FitsBehind fits (Some b) count
+    → ((n : ℕ) → fits b n → fits now (n + 1))
+    → ((header : IntervalHeader) (intervals written : List ℕ) → stands b choice header intervals written
+    → (more : List ℕ) × Appends old new more × stands now choice header (intervals ++ x ∷ []) (written ++ more))
+    → TakesInterval fits stands (Some b) (Some now) count (count + 1) choice old new x
+behind_takes fits stands b now count choice x old new other keeps next says =
+    let below : count < MAX_INTERVALS = (let most = keeps.0 in omega (arith, most, other)) in
+    record {
+      below = below;
+      one = refl;
+      keeps = (omega (arith, below), next count keeps.1);
+      header = refl;
+      works = λ r written printed.
+          let due = says printed.0 r.intervals written printed.2 in (due.0, due.1, (printed.0, printed.1, due.2));
+    }

@@ -1,6 +1,6 @@
 -- What a command along an interval file keeps. No promise speaks of it.
 use Rattle.std.specs.Prelude.{◌≡◌, ◌⊎◌, ℕ, ◌<◌, ◌≤◌, List, [], ◌∷◌, ◌++◌, length, Option, Some, None, nat_lt}
-use Rattle.std.specs.Prelude.{if◌then◌else◌, ⊤}
+use Rattle.std.specs.Prelude.{◌+◌, IsSome, if◌then◌else◌, ⊤}
 use Rattle.std.proofs.Common.{subst, sym}
 use Rattle.std.specs.Io.KnownBytes.{Appends}
 use Rattle.tc_io.specs.Sink.{AppendsFront, IsFront}
@@ -17,6 +17,7 @@ use Rattle.tc_command.specs.declared.stop.Stop.{Stop}
 use Rattle.tc_command.specs.declared.stop.Stop.TheVariants.{Refused, ReadFault, WriteFault, Limit}
 use Rattle.interval_engine.specs.Along.{Printing, IsPartOf, IsSpentOf, along_intervals}
 use Rattle.interval_engine.specs.KeptBehind.{IsPartBehind}
+use Rattle.tc_command.specs.KeptWorks.{Works}
 use Rattle.tc_command.specs.Stops.{IsStop}
 
 -- the header is whole with its last byte
@@ -63,6 +64,28 @@ pub record StandsWithin {B C : Type 0} (printing : C → Printing)
 -- the recording with an interval more
 abbrev pub longer : Recording → ℕ → Recording
 longer r x = record { header = r.header; intervals = r.intervals ++ x ∷ []; verdict = r.verdict }
+
+-- an interval within the limit was taken, and its output
+pub record TakesInterval {B C : Type 0} (fits : B → ℕ → Type 0)
+    (stands : B → C → IntervalHeader → List ℕ → List ℕ → Type 0) (before behind : Option B)
+    (count now : ℕ) (choice : C) (old new : Option (List ℕ)) (x : ℕ) : Type 0 where
+  pub below : count < MAX_INTERVALS
+  pub one : now ≡ count + 1
+  pub keeps : FitsBehind fits behind now
+  pub header : IsSome behind
+  pub works : (r : Recording) (written : List ℕ) → Printed stands before choice r written
+      → (more : List ℕ) × Appends old new more
+      × Printed stands behind choice (longer r x) (written ++ more)
+
+-- it worked on these bytes, and goes on
+pub record Advanced {B C : Type 0} (fits : B → ℕ → Type 0)
+    (stands : B → C → IntervalHeader → List ℕ → List ℕ → Type 0)
+    (decoder next : Progress) (before behind : Option B) (count now : ℕ) (choice : C)
+    (old new : Option (List ℕ)) (bytes : List ℕ) : Type 0 where
+  pub going : IsGoing fits next behind now
+  pub taken : next.taken ≡ decoder.taken + length bytes
+  pub works : Works (Stands stands decoder before count choice)
+      (Stands stands next behind now choice) old new bytes
 
 -- why an interval stops the command: it is past the limit, or its output was not taken
 abbrev pub IntervalStops : {B C : Type 0} → Printing → (B → C → IntervalHeader → List ℕ → List ℕ → Type 0) → Option B

@@ -19,6 +19,7 @@ ghost use Rattle.tc_command.specs.Status.{status_of};
 ghost use Rattle.tc_command.specs.KeptWorks.{Works};
 ghost use Rattle.tc_command.specs.Stops.{Stops};
 ghost use Rattle.interval_engine.specs.KeptAlong.{
+  Advanced,
   FitsBehind,
   Halts,
   HaltsOn,
@@ -29,6 +30,7 @@ ghost use Rattle.interval_engine.specs.KeptAlong.{
   Printed,
   Stands,
   StandsWithin,
+  TakesInterval,
   longer,
   stop_at,
 };
@@ -179,14 +181,11 @@ impl<B: Behind> Along<B> {
     fn advance<K: Sink>(&mut self, bytes: &[u8], out: &mut K) -> Result<usize, Stop>
         requires going { IsGoing B.fits self.old.decoder self.old.behind self.old.intervals }
         requires some { 0 < length bytes.now }
-        ensures going { OnOk result (IsGoing B.fits self.new.decoder self.new.behind self.new.intervals) }
-        ensures taken { IfOk result (λ count. (1 ≤ count) × (count ≤ length bytes.now)
-            × (self.new.decoder.taken ≡ self.old.decoder.taken + count)) }
-        ensures choice { self.new.choice ≡ self.old.choice }
-        ensures works { IfOk result (λ count. Works
-            (Stands B.stands self.old.decoder self.old.behind self.old.intervals self.old.choice)
-            (Stands B.stands self.new.decoder self.new.behind self.new.intervals self.new.choice)
+        ensures advances { IfOk result (λ count. (1 ≤ count) × (count ≤ length bytes.now)
+            × Advanced B.fits B.stands self.old.decoder self.new.decoder
+            self.old.behind self.new.behind self.old.intervals self.new.intervals self.old.choice
             (K.written out.old) (K.written out.new) (take count bytes.now)) }
+        ensures choice { self.new.choice ≡ self.old.choice }
         ensures stops { IfErr result (λ stop. HaltsOn
             (Stands B.stands self.old.decoder self.old.behind self.old.intervals self.old.choice)
             (Halts (B.printing self.old.choice) B.stands self.new.behind self.old.choice stop
@@ -266,13 +265,10 @@ impl<B: Behind> Along<B> {
     /// Works on one byte.
     fn byte<K: Sink>(&mut self, byte: u8, out: &mut K) -> Result<(), Stop>
         requires { IsGoing B.fits self.old.decoder self.old.behind self.old.intervals }
-        ensures going { OnOk result (IsGoing B.fits self.new.decoder self.new.behind self.new.intervals) }
-        ensures taken { OnOk result (self.new.decoder.taken ≡ self.old.decoder.taken + 1) }
-        ensures choice { self.new.choice ≡ self.old.choice }
-        ensures works { OnOk result (Works
-            (Stands B.stands self.old.decoder self.old.behind self.old.intervals self.old.choice)
-            (Stands B.stands self.new.decoder self.new.behind self.new.intervals self.new.choice)
+        ensures advances { OnOk result (Advanced B.fits B.stands self.old.decoder self.new.decoder
+            self.old.behind self.new.behind self.old.intervals self.new.intervals self.old.choice
             (K.written out.old) (K.written out.new) (byte ∷ [])) }
+        ensures choice { self.new.choice ≡ self.old.choice }
         ensures stops { IfErr result (λ stop. (front written rest : List ℕ)
             → Stands B.stands self.old.decoder self.old.behind self.old.intervals self.old.choice front written
             → Halts (B.printing self.old.choice) B.stands self.new.behind self.old.choice stop
@@ -299,14 +295,11 @@ impl<B: Behind> Along<B> {
     #[inline(never)]
     fn whole_intervals<K: Sink>(&mut self, bytes: &[u8], out: &mut K) -> Result<usize, Stop>
         requires going { IsGoing B.fits self.old.decoder self.old.behind self.old.intervals }
-        ensures going { OnOk result (IsGoing B.fits self.new.decoder self.new.behind self.new.intervals) }
-        ensures taken { IfOk result (λ count. (count ≤ length bytes.now)
-            × (self.new.decoder.taken ≡ self.old.decoder.taken + count)) }
-        ensures choice { self.new.choice ≡ self.old.choice }
-        ensures works { IfOk result (λ count. Works
-            (Stands B.stands self.old.decoder self.old.behind self.old.intervals self.old.choice)
-            (Stands B.stands self.new.decoder self.new.behind self.new.intervals self.new.choice)
+        ensures advances { IfOk result (λ count. (count ≤ length bytes.now)
+            × Advanced B.fits B.stands self.old.decoder self.new.decoder
+            self.old.behind self.new.behind self.old.intervals self.new.intervals self.old.choice
             (K.written out.old) (K.written out.new) (take count bytes.now)) }
+        ensures choice { self.new.choice ≡ self.old.choice }
         ensures stops { IfErr result (λ stop. HaltsOn
             (Stands B.stands self.old.decoder self.old.behind self.old.intervals self.old.choice)
             (Halts (B.printing self.old.choice) B.stands self.new.behind self.old.choice stop
@@ -338,14 +331,11 @@ impl<B: Behind> Along<B> {
         requires version { self.old.decoder.version ≡ version }
         requires room { self.old.intervals + length bytes.now ≤ MAX_INTERVALS }
         requires going { IsGoing B.fits self.old.decoder self.old.behind self.old.intervals }
-        ensures going { OnOk result (IsGoing B.fits self.new.decoder self.new.behind self.new.intervals) }
-        ensures taken { IfOk result (λ count. (count ≤ length bytes.now)
-            × (self.new.decoder.taken ≡ self.old.decoder.taken + count)) }
-        ensures choice { self.new.choice ≡ self.old.choice }
-        ensures works { IfOk result (λ count. Works
-            (Stands B.stands self.old.decoder self.old.behind self.old.intervals self.old.choice)
-            (Stands B.stands self.new.decoder self.new.behind self.new.intervals self.new.choice)
+        ensures advances { IfOk result (λ count. (count ≤ length bytes.now)
+            × Advanced B.fits B.stands self.old.decoder self.new.decoder
+            self.old.behind self.new.behind self.old.intervals self.new.intervals self.old.choice
             (K.written out.old) (K.written out.new) (take count bytes.now)) }
+        ensures choice { self.new.choice ≡ self.old.choice }
         ensures stops { IfErr result (λ stop. HaltsOn
             (Stands B.stands self.old.decoder self.old.behind self.old.intervals self.old.choice)
             (Halts (B.printing self.old.choice) B.stands self.new.behind self.old.choice stop
@@ -387,14 +377,9 @@ impl<B: Behind> Along<B> {
         requires header { IsSome self.old.behind }
         ensures decoder { self.new.decoder ≡ self.old.decoder }
         ensures choice { self.new.choice ≡ self.old.choice }
-        ensures count { OnOk result ((self.old.intervals < MAX_INTERVALS)
-            × (self.new.intervals ≡ self.old.intervals + 1)) }
-        ensures fits { OnOk result (FitsBehind B.fits self.new.behind self.new.intervals) }
-        ensures header { OnOk result (IsSome self.new.behind) }
-        ensures works { OnOk result ((r : Recording) (written : List ℕ)
-            → Printed B.stands self.old.behind self.old.choice r written
-            → (more : List ℕ) × Appends (K.written out.old) (K.written out.new) more
-            × Printed B.stands self.new.behind self.new.choice (longer r x) (written ++ more)) }
+        ensures takes { OnOk result (TakesInterval B.fits B.stands self.old.behind self.new.behind
+            self.old.intervals self.new.intervals self.old.choice
+            (K.written out.old) (K.written out.new) x) }
         ensures stops { IfErr result (λ stop. IntervalStops (B.printing self.old.choice) B.stands self.old.behind self.old.intervals
             self.old.choice (K.written out.old) (K.written out.new) x stop
             × (stop ≡ Stop.Limit → self.new.behind ≡ self.old.behind)) }

@@ -3,7 +3,7 @@ use Rattle.flywheel.specs.declared.frame.Frame.{Frame}
 use Rattle.flywheel.specs.Frames.{frames}
 use Rattle.flywheel.specs.StandsFor as flies
 use Rattle.frame_commands.specs.declared.flight.FrameReader.{FrameReader}
-use Rattle.tc_command.specs.KeptWorks.{at_err}
+use Rattle.frame_commands.proofs.FramesInOrder.{passed_on}
 use Rattle.frame_commands.proofs.FramesInOrder.{both_counted, none_counted, not_heard, one_counted, sends_both, sends_none, sends_then_front}
 use Rattle.frame_commands.proofs.flight.FrameReader.pass.Goals as goal
 
@@ -66,18 +66,35 @@ due-preserved g c =
     }
 
 -- a front of its bytes was pushed
-pub returns-in_err-push-clause-front : goal.returns-in_err-push-clause-front
-returns-in_err-push-clause-front g c =
+pub returns-in_err-push : goal.returns-in_err-push
+returns-in_err-push g c =
+    let s = c.args.self.now in
     let i = c.due.invariant in
     let m = i.given in
     let frame = c.in-Some.frame in
-    at_err c.from_residual.result (
-      m.0 ++ frame ∷ [],
-      sends_then_front g.T.FrameSink.made g.T.FrameSink.given c.args.sink.now c.due.sink _ _ _ m.0 (frame ∷ []) m.2 c.in_err-push.ensures.front,
-      (λ words earlier given stands before.
-          let so_far = m.3 words earlier given stands before in
-          let now = subst (λ (fs : List Frame). flies.StandsFor c.passed.new.self words c.args.tick fs) (append_assoc given m.0 (frame ∷ []))
-          (c.in-Some.ensures.stands words so_far.0 (given ++ m.0) so_far.2 so_far.1) in
-          let comes = c.frames_come_in_order.ensures.given c.passed.new.self words c.args.tick (given ++ (m.0 ++ frame ∷ [])) now in
-          (comes.0, ap (λ (n : ℕ). frames n words c.args.tick) (sym (c.passed.ensures.limit ∙ i.limit)) ∙ comes.1)),
-    )
+    let e = c.in_err-push.ensures in
+    let mid : FrameReader = record c.due.self { wheel = c.passed.new.self } in
+    let limit = c.passed.ensures.limit ∙ i.limit in
+    let kind = not_heard frame c.args.tick mid c.in-Some.ensures.past in
+    rw (passed_on c.from_residual.result _ c.from_residual.ensures.1) record {
+      keeps = record { reader = e.reader ∙ i.reader; limit = rw e.wheel limit; room = e.room };
+      heard = ap (λ (f : FrameReader). f.heard) e.counted ∙ kind.0 ∙ i.heard;
+      ready = tt;
+      none_due = tt;
+      gives = tt;
+      front = (
+        m.0 ++ frame ∷ [],
+        sends_then_front g.T.FrameSink.made g.T.FrameSink.given c.args.sink.now c.due.sink _ _ _ m.0
+            (frame ∷ []) m.2 e.front,
+        (λ words earlier given stands before.
+            let so_far = m.3 words earlier given stands before in
+            let now = subst (λ (fs : List Frame). flies.StandsFor c.passed.new.self words c.args.tick fs)
+            (append_assoc given m.0 (frame ∷ [])) (c.in-Some.ensures.stands words so_far.0
+            (given ++ m.0) so_far.2 so_far.1) in
+            let comes = c.frames_come_in_order.ensures.given c.passed.new.self words c.args.tick
+            (given ++ (m.0 ++ frame ∷ [])) now in
+            (comes.0, ap (λ (n : ℕ). frames n words c.args.tick) (sym limit) ∙ comes.1)),
+      );
+      why = e.why;
+      cause = rw i.same at e.cause;
+    }
