@@ -8,6 +8,7 @@ pub mod Gathered
 pub mod Hissy
 pub mod HoldsBits
 pub mod Invariants
+pub mod KeptStep
 pub mod LatestBits
 pub mod LatestCells
 pub mod ListEvents

@@ -1,10 +1,8 @@
 //! The states of the tracker, and what an interval does to each. Next: `cell_tracker/src/hunting.rt`, and
 //! with what it answers `latest_cells`.
-ghost use Rattle.std.specs.Prelude.{◌≡◌, ◌≤◌, ℕ, List, Option};
-ghost use Rattle.cell_tracker.specs.Stretch.{Stretch};
+ghost use Rattle.std.specs.Prelude.{◌≤◌};
 ghost use Rattle.biphase.specs.declared.cell.TheConstants.{MAX_INTERVAL};
-ghost use Rattle.direction_reader.specs.StandsFor.{TrackerStandsFor, StandsAfter};
-ghost use Rattle.direction_reader.specs.Tracker.{profile_of, Steps};
+ghost use Rattle.direction_reader.specs.KeptStep.{IsStepped};
 ghost use Rattle.direction_reader.specs.Tracking.{tracking_with, StateFits};
 
 use biphase::{LatestFour, MAX_INTERVAL, Profile};
@@ -45,14 +43,8 @@ impl State {
         requires most { x ≤ MAX_INTERVAL }
         requires fits { StateFits profile self.old four.old }
         ensures fits { StateFits profile self.new four.new }
-        ensures steps { Steps (tracking_with profile self.old four.old) x
+        ensures stepped { IsStepped (tracking_with profile self.old four.old) x
             (tracking_with profile self.new four.new) result }
-        ensures profile { profile_of (tracking_with profile self.new four.new)
-            ≡ profile_of (tracking_with profile self.old four.old) }
-        ensures stands { (intervals : List ℕ) (earlier : List Stretch) (open_yet : Option Stretch)
-            → TrackerStandsFor (tracking_with profile self.old four.old) intervals earlier open_yet
-            → StandsAfter (tracking_with profile self.old four.old) (tracking_with profile self.new four.new) x
-            intervals earlier open_yet result }
     {
         match self {
             State::Hunting(hunting) => match hunting.feed(four, x) {

@@ -1,9 +1,8 @@
 //! Where the tracker stands, and what an interval does to it. Next: `state`.
-ghost use Rattle.std.specs.Prelude.{◌≡◌, ◌≤◌, ◌↔◌, ℕ, List, [], Option, None, IsTrue};
-ghost use Rattle.cell_tracker.specs.Stretch.{Stretch};
+ghost use Rattle.std.specs.Prelude.{◌≡◌, ◌≤◌, ◌↔◌, [], None, IsTrue};
 ghost use Rattle.biphase.specs.declared.cell.TheConstants.{MAX_INTERVAL};
-ghost use Rattle.direction_reader.specs.StandsFor.{TrackerStandsFor, StandsAfter, IsAtCell};
-ghost use Rattle.direction_reader.specs.Tracker.{profile_of, Steps};
+ghost use Rattle.direction_reader.specs.KeptStep.{IsStepped};
+ghost use Rattle.direction_reader.specs.StandsFor.{TrackerStandsFor, IsAtCell};
 ghost use Rattle.direction_reader.specs.Tracking.{searching};
 
 use crate::state::{State, Step};
@@ -48,11 +47,7 @@ impl Tracker {
     pub fn step(&mut self, x: u32) -> Step
         requires least { 1 ≤ x }
         requires most { x ≤ MAX_INTERVAL }
-        ensures steps { Steps self.old x self.new result }
-        ensures profile { profile_of self.new ≡ profile_of self.old }
-        ensures stands { (intervals : List ℕ) (earlier : List Stretch) (open_yet : Option Stretch)
-            → TrackerStandsFor self.old intervals earlier open_yet
-            → StandsAfter self.old self.new x intervals earlier open_yet result }
+        ensures { IsStepped self.old x self.new result }
     {
         self.state.step(self.profile, &mut self.four, x)
     }
