@@ -3,7 +3,6 @@ use Rattle.std.proofs.Common.{◌≡◌, inl, ℕ, ◌+◌, ◌-◌, ◌*◌, �
 use Rattle.std.proofs.Common.{List, [], ◌∷◌, ◌++◌, length, take, drop, Some, None, sym, ◌∙◌, ap, refl, subst, append_assoc, append-nil, arith}
 use Rattle.std.specs.declared.option.Option.{Option}
 use Rattle.std.specs.Option.{option_to_list}
-use Rattle.std.specs.Io.KnownBytes.{Appends}
 use Rattle.std.proofs.lemmas.Bool.{ltb-true, lt-ltb}
 use Rattle.std.proofs.lemmas.Grind.{flat_map-append}
 use Rattle.std.proofs.lemmas.List.{length-append, length-take, length-take-le, take-append-drop, take-append-le, take-take, take_all}
@@ -28,6 +27,7 @@ use Rattle.std.specs.declared.result.Result.{Result}
 use Rattle.tc_command.specs.declared.stop.Stop.{Stop}
 use Rattle.tc_command.specs.declared.stop.Stop.TheVariants as stops
 use Rattle.signal_commands.specs.KeptSlices.{IsGoing, Slices, Stands, half_is_none, length-samples, samples_of-append}
+use Rattle.signal_commands.specs.KeptStops.{StopsBehind, of_both}
 use Rattle.tc_command.specs.declared.input_fault.InputFault.TheVariants.{HalfSample}
 use Rattle.signal_commands.specs.PcmLtc.{along_samples, odd_fault, pace_for, samples_within, settings_for, sliced}
 use Rattle.signal_commands.specs.PcmLtc.{sliced_header}
@@ -157,24 +157,6 @@ grown_part s next whole written bytes rest count brought old new slices grows f 
       ),
     )
 
--- what is gathered was pushed, and this is the part of bytes past the limit
-pub at_limit : (s : SlicedSound) (whole written bytes : List ℕ) (old new : Option (List ℕ)) → Slices s whole written → s.samples ≡ MAX_SAMPLES
-    → 2 ≤ length bytes → Appends old new s.gathered.room.items
-    → Stops (along_samples s.slicing) stops.Limit old new (whole ++ bytes) written
-at_limit s whole written bytes old new slices full some pushed =
-    let long = length-samples s.samples whole slices.count in
-    let all = samples_of-append s.samples whole bytes slices.count in
-    let more = length-append (samples_of whole) (samples_of bytes) in (
-      s.gathered.room.items,
-      pushed,
-      inl (
-        record { is = is_past MAX_SAMPLES (whole ++ bytes) (rw all (omega (arith, long, full, more, some_samples bytes some))); unspent = λ spent. spent },
-        slices.are ∙ ap (sliced s.slicing) (sym (ap (take MAX_SAMPLES) all
-            ∙ take-append-le MAX_SAMPLES (samples_of whole) (samples_of bytes) (omega (arith, long, full))
-            ∙ take_all MAX_SAMPLES (samples_of whole) (omega (arith, long, full)))),
-      ),
-    )
-
 -- what is gathered was not taken
 pub gathered_part : (s : SlicedSound) (whole written bytes : List ℕ) (old new : Option (List ℕ)) → Slices s whole written
     → AppendsFront old new s.gathered.room.items
@@ -191,6 +173,28 @@ gathered_part s whole written bytes old new slices f =
         (f.1.0, ap (λ (l : List ℕ). written ++ l) f.1.1 ∙ sym (append_assoc written f.0 f.1.0)),
       ),
     )
+
+-- past the limit: what is gathered was pushed, and is the part of the bytes; or it was not
+pub at_limit : (s : SlicedSound) (whole written bytes : List ℕ) (stop : Stop) (old new : Option (List ℕ)) → Slices s whole written
+    → s.samples ≡ MAX_SAMPLES → 2 ≤ length bytes → StopsBehind stops.Limit old new s.gathered.room.items stop
+    → Stops (along_samples s.slicing) stop old new (whole ++ bytes) written
+at_limit s whole written bytes stop old new slices full some behind =
+    let long = length-samples s.samples whole slices.count in
+    let all = samples_of-append s.samples whole bytes slices.count in
+    let more = length-append (samples_of whole) (samples_of bytes) in
+    of_both (λ (x : Stop). Stops (along_samples s.slicing) x old new (whole ++ bytes) written) stops.Limit stop
+    old new s.gathered.room.items behind
+    (λ pushed. (
+      s.gathered.room.items,
+      pushed,
+      inl (
+        record { is = is_past MAX_SAMPLES (whole ++ bytes) (rw all (omega (arith, long, full, more, some_samples bytes some))); unspent = λ spent. spent },
+        slices.are ∙ ap (sliced s.slicing) (sym (ap (take MAX_SAMPLES) all
+            ∙ take-append-le MAX_SAMPLES (samples_of whole) (samples_of bytes) (omega (arith, long, full))
+            ∙ take_all MAX_SAMPLES (samples_of whole) (omega (arith, long, full)))),
+      ),
+    ))
+    (gathered_part s whole written bytes old new slices)
 
 -- ---- the end
 
