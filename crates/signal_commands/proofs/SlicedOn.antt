@@ -22,7 +22,7 @@ use Rattle.tc_io.specs.Sink.{AppendsFront}
 use Rattle.tc_job.specs.Slicing as words
 use Rattle.signal_commands.specs.declared.pcm_ltc.SlicedSound.{SlicedSound}
 use Rattle.signal_commands.specs.declared.pcm_ltc.TheConstants.{MAX_SAMPLES}
-use Rattle.std.specs.Prelude.{IfErr, IfOk, Ok, Err}
+use Rattle.std.specs.Prelude.{IfErr, IfOk, OnOk, Ok, Err}
 use Rattle.std.specs.declared.result.Result.{Result}
 use Rattle.tc_command.specs.declared.stop.Stop.{Stop}
 use Rattle.tc_command.specs.declared.stop.Stop.TheVariants as stops
@@ -333,3 +333,32 @@ ok_to (Err stop) says to = tt
 pub ok_both : {T : Type 0} (P Q : T → Type 0) (result : Result T Stop) → IfOk result P → IfOk result Q → IfOk result (λ value. P value × Q value)
 ok_both P Q (Ok value) p q = (p, q)
 ok_both P Q (Err stop) p q = tt
+
+-- ---- what is still to come
+
+-- a byte at most is kept
+one_at_most : (half : Option ℕ) → length (option_to_list half) ≤ 1
+one_at_most None = omega arith
+one_at_most (Some low) = omega arith
+
+-- samples leave less to come
+pub falls : (before after count : ℕ) (old new : Option ℕ) → new ≡ None → 2 ≤ count → 2 * after ≡ 2 * before + count
+    → after ≤ MAX_SAMPLES
+    → 2 * MAX_SAMPLES + 1 - (2 * after + length (option_to_list new))
+    < 2 * MAX_SAMPLES + 1 - (2 * before + length (option_to_list old))
+falls before after count old new none some samples within =
+    let kept = ap (λ (half : Option ℕ). length (option_to_list half)) none in
+    omega (arith, one_at_most old, kept, some, samples, within)
+
+-- and so does a byte that is kept
+pub falls_by_half : (samples : ℕ) (old : Option ℕ) (low : ℕ) → old ≡ None → samples ≤ MAX_SAMPLES
+    → 2 * MAX_SAMPLES + 1 - (2 * samples + length (option_to_list (Some low)))
+    < 2 * MAX_SAMPLES + 1 - (2 * samples + length (option_to_list old))
+falls_by_half samples old low none within =
+    let kept = ap (λ (half : Option ℕ). length (option_to_list half)) none in omega (arith, kept, within)
+
+-- what three facts of a success say together
+pub with_three : {G Q : Type 0} {P R : ℕ → Type 0} (result : Result ℕ Stop) → OnOk result G → IfOk result P
+    → IfOk result R → (G → (n : ℕ) → P n → R n → Q) → OnOk result Q
+with_three (Ok n) g p r to = to g n p r
+with_three (Err stop) g p r to = tt
