@@ -260,6 +260,14 @@ grows s next bytes count k pace brought few within whole counted same_slicing sa
           ∙ ap (λ (l : List ℕ). l ++ intervals_in brought) (by_words samples);
     }
 
+-- bytes of whole samples are two at least
+pub two_at_least : (count k length : ℕ) → count ≡ 2 * k → 1 ≤ count → count ≤ length → (2 ≤ count) × (count ≤ length)
+two_at_least count k length whole some within = (omega (arith, whole, some), within)
+
+-- and two a sample
+pub two_each : (samples count k : ℕ) → count ≡ 2 * k → 2 * (samples + count / 2) ≡ 2 * samples + count
+two_each samples count k whole = omega (arith, whole)
+
 -- the slicer counts what it took
 pub still_going : (s next : SlicedSound) (length count k : ℕ) → IsGoing s
     → 2 * s.samples + length ≤ 2 * MAX_SAMPLES → count ≤ length → count ≡ 2 * k
