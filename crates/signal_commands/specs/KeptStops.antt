@@ -13,14 +13,19 @@ IsOfInput ReadFault = ⊥
 IsOfInput WriteFault = ⊥
 IsOfInput Limit = ⊤
 
--- what was gathered was pushed, and the job stops for its cause; or it was not, and the job stops for that
+-- what was gathered was pushed, and the job stops for its cause; or it was not, and the job stops
+-- for that
 abbrev pub StopsBehind : Stop → Option (List ℕ) → Option (List ℕ) → List ℕ → Stop → Type 0
 StopsBehind cause old new gathered stop =
-    ((stop ≡ cause) × Appends old new gathered) ⊎ ((stop ≡ WriteFault) × AppendsFront old new gathered)
+    ((stop ≡ cause) × Appends old new gathered)
+    ⊎ ((stop ≡ WriteFault) × AppendsFront old new gathered)
 
 -- so what holds of both holds of the stop
-pub of_both : (Says : Stop → Type 0) (cause stop : Stop) (old new : Option (List ℕ)) (gathered : List ℕ)
-    → StopsBehind cause old new gathered stop → (Appends old new gathered → Says cause)
+pub of_both : (Says : Stop → Type 0) (cause stop : Stop) (old new : Option (List ℕ))
+    (gathered : List ℕ) → StopsBehind cause old new gathered stop
+    → (Appends old new gathered → Says cause)
     → (AppendsFront old new gathered → Says WriteFault) → Says stop
-of_both Says cause stop old new gathered (inl pushed) to failed = subst Says (sym pushed.0) (to pushed.1)
-of_both Says cause stop old new gathered (inr front) to failed = subst Says (sym front.0) (failed front.1)
+of_both Says cause stop old new gathered (inl pushed) to failed =
+    subst Says (sym pushed.0) (to pushed.1)
+of_both Says cause stop old new gathered (inr front) to failed =
+    subst Says (sym front.0) (failed front.1)

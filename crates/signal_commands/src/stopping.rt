@@ -10,7 +10,8 @@ use tc_io::Sink;
 /// Pushes what is gathered before the input stops the job, and answers on why it stops.
 pub(crate) fn push_before<K: Sink>(cause: Stop, gathered: &mut Gathered, out: &mut K) -> Stop
     requires { IsOfInput cause }
-    ensures behind { StopsBehind cause (K.written out.old) (K.written out.new) gathered.old.room.items result }
+    ensures behind { StopsBehind cause (K.written out.old) (K.written out.new)
+        gathered.old.room.items result }
     ensures cause { OutCause (status_of result) (K.faults out.old) (K.faults out.new) }
     ensures no_pull { result ≡ Stop.ReadFault → ⊥ }
 {
