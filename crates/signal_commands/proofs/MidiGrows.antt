@@ -1,6 +1,5 @@
 -- The lines of MIDI bytes grow by the line of the event that a byte gives, and the last line counts all of them.
 use Rattle.std.proofs.Common.{◌≡◌, ℕ, ◌+◌, ◌≤◌, List, [], ◌∷◌, ◌++◌, length, take, drop, count_by, Bool, cond, sym, ◌∙◌, ap, arith, append_assoc, append-nil}
-use Rattle.std.proofs.Common.{subst}
 use Rattle.std.specs.declared.option.Option.{Option}
 use Rattle.std.proofs.lemmas.Grind.{flat_map-append}
 use Rattle.std.proofs.lemmas.List.{take-append-drop}
@@ -14,7 +13,7 @@ use Rattle.tc_io.specs.Sink.{AppendsFront}
 use Rattle.signal_commands.specs.declared.mtc_read.MtcReport.{MtcReport}
 use Rattle.signal_commands.specs.declared.mtc_read.TheConstants.{MAX_BYTES}
 use Rattle.tc_command.specs.declared.stop.Stop.TheVariants as stops
-use Rattle.signal_commands.specs.KeptMtc.{FitsReport, Stands, counted}
+use Rattle.signal_commands.specs.KeptMtc.{counted, Stands}
 use Rattle.signal_commands.specs.MtcRead.{along_midi, event_lines, is_full, is_quarter, is_refused, last_mtc_line}
 use Rattle.tc_command.specs.Stops.{Stops}
 use Rattle.signal_commands.proofs.MidiLimit.{lines_of_all}
@@ -121,23 +120,3 @@ same_line b f q r b' f' q' r' same_b same_f same_q same_r =
 pub last_line_is : (r : MtcReport) (bytes written line : List ℕ) → Stands r bytes written → line ≡ end_line r.reader.bytes r.full r.quarter r.refused
     → line ≡ last_mtc_line bytes (events_in bytes)
 last_line_is r bytes written line s is = is ∙ same_line _ _ _ _ _ _ _ _ s.reader.count s.full s.quarter s.refused
-
--- ---- what the engine keeps, with an event more
-
-one_at_most : (event : MtcEvent) (r : MtcReport)
-    → let next = counted event r in next.full + next.quarter + next.refused ≤ r.full + r.quarter + r.refused + 1
-one_at_most (Full l p) r = omega arith
-one_at_most (Quarter d l p) r = omega arith
-one_at_most (RefusedFull l p) r = omega arith
-one_at_most (RefusedQuarter d l p) r = omega arith
-
--- the counts fit
-pub fits_more : (r mid next : MtcReport) (event : MtcEvent) (count : ℕ) → FitsReport r
-    → mid ≡ record r { reader = mid.reader } → 1 ≤ count → mid.reader.bytes ≡ r.reader.bytes + count
-    → mid.reader.bytes ≤ MAX_BYTES → next ≡ counted event mid → next.reader.bytes ≡ mid.reader.bytes → FitsReport next
-fits_more r mid next event count fits kept some taken within is same =
-    let events : MtcReport → ℕ = λ x. x.full + x.quarter + x.refused in
-    let one : events next ≤ events mid + 1 = subst (λ (x : MtcReport). events x ≤ events mid + 1) (sym is)
-    (one_at_most event mid) in
-    let before : events mid ≡ events r = ap events kept in
-    record { within = omega (arith, same, within); counts = omega (arith, one, before, fits.counts, some, taken, same) }

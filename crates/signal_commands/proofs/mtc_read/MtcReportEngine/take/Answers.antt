@@ -2,12 +2,11 @@ use Rattle.std.proofs.Common.{◌≡◌, inl, ◌++◌, ◌∷◌, ◌∙◌, []
 use Rattle.std.proofs.KnownBytes.{Appends-nil}
 use Rattle.std.proofs.lemmas.List.{length-append}
 use Rattle.mtc_reader.specs.Texts.{event_line}
-use Rattle.mtc_reader.specs.declared.reader.MtcReader.{MtcReader}
 use Rattle.signal_commands.specs.declared.mtc_read.MtcReport.{MtcReport}
 use Rattle.signal_commands.specs.declared.mtc_read.TheConstants.{MAX_BYTES}
 use Rattle.signal_commands.specs.MtcRead.{event_lines}
 use Rattle.tc_command.specs.KeptWorks.{through}
-use Rattle.signal_commands.proofs.MidiGrows.{fits_more, grown, grown_part, none_counted, one_counted}
+use Rattle.signal_commands.proofs.MidiGrows.{grown, grown_part, none_counted, one_counted}
 use Rattle.signal_commands.proofs.MidiLimit.{is_past, lines_at_limit}
 use Rattle.signal_commands.proofs.mtc_read.MtcReportEngine.take.Goals as goal
 
@@ -53,18 +52,6 @@ returns-in_ok-print-clause-works g c = λ front written stands.
       grown r next front written (take c.read-count.result.0 bytes) (event ∷ []) stands (rw p.reader e.within)
           (rw p.reader (e.stands front stands.reader)) gives counts,
     )
-
-pub returns-in_ok-print-clause-going : goal.returns-in_ok-print-clause-going
-returns-in_ok-print-clause-going g c =
-    let e = c.read-count.ensures in
-    let p = c.in_ok-print.ensures in
-    fits_more c.args.self.now c.read-count.new.self c.print.new.self c.in-Some.event c.read-count.result.0
-    c.requires.going e.kept e.least e.count e.within p.counted (ap (λ (x : MtcReader). x.bytes) p.reader)
-
-pub returns-in_ok-print-clause-budget : goal.returns-in_ok-print-clause-budget
-returns-in_ok-print-clause-budget g c =
-    let e = c.read-count.ensures in
-    omega (arith, e.least, e.count, e.within, ap (λ (x : MtcReader). x.bytes) c.in_ok-print.ensures.reader)
 
 -- there is none
 pub returns-in_default-clause-works : goal.returns-in_default-clause-works
