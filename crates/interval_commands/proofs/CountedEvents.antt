@@ -1,5 +1,6 @@
 -- What is counted of events is how many there are of each kind, and nothing else of the reading changes.
-use Rattle.std.proofs.Common.{◌≡◌, ◌≤◌, ℕ, ◌+◌, ◌*◌, List, [], ◌∷◌, count_by, arith, cond, IfSome, Some, None}
+use Rattle.std.proofs.Common.{◌≡◌, ◌≤◌, ℕ, ◌+◌, ◌*◌, List, [], ◌∷◌, ◌++◌, count_by, arith, cond, IfSome}
+use Rattle.std.proofs.Common.{Some, None, refl}
 use Rattle.std.proofs.lemmas.List.Sums.{sum_by-cons}
 use Rattle.std.specs.declared.option.Option.{Option}
 use Rattle.direction_reader.specs.declared.event.Event.{Event}
@@ -9,7 +10,7 @@ use Rattle.biphase.specs.declared.cell.TheConstants.{MAX_INTERVAL, MAX_INTERVALS
 use Rattle.direction_reader.specs.Brings.{IsLatest, Brings}
 use Rattle.report_text.specs.Texts.{FitsLine}
 use Rattle.interval_commands.specs.declared.ltc_read.Report.{Report}
-use Rattle.direction_reader.specs.Events.{is_word, is_refused, is_lost}
+use Rattle.direction_reader.specs.Events.{listed, is_word, is_refused, is_lost}
 use Rattle.interval_commands.specs.KeptReport.{counted, all_counted, FitLines}
 
 pub words-all_counted : (events : List Event) (r : Report) → (all_counted events r).words ≡ r.words + count_by is_word events
@@ -34,6 +35,21 @@ lost-all_counted (Word d w t l ∷ more) r = lost-all_counted more (counted (Wor
 lost-all_counted (Refused d f t ∷ more) r = lost-all_counted more (counted (Refused d f t) r)
 lost-all_counted (Lost p t ∷ more) r = let rest = lost-all_counted more (counted (Lost p t) r) in
     let one : count_by is_lost (Lost p t ∷ more) ≡ 1 + count_by is_lost more = sum_by-cons (λ (e : Event). cond (is_lost e) 1 0) (Lost p t) more in omega arith
+
+-- events that are counted behind others
+pub all_counted-append : (events more : List Event) (r : Report)
+    → all_counted (events ++ more) r ≡ all_counted more (all_counted events r)
+all_counted-append [] more r = refl
+all_counted-append (event ∷ events) more r = all_counted-append events more (counted event r)
+
+-- an event, where there is one, counts one
+pub one_at_most : (event : Option Event) (r : Report)
+    → let next = all_counted (listed event) r in next.words + next.refused + next.lost
+    ≤ r.words + r.refused + r.lost + 1
+one_at_most None r = omega arith
+one_at_most (Some (Word d w t l)) r = omega arith
+one_at_most (Some (Refused d f t)) r = omega arith
+one_at_most (Some (Lost p t)) r = omega arith
 
 -- the numbers of the events that the latest interval brings fit their lines
 latest_fits : (intervals sum : ℕ) (event : Event) → intervals ≤ MAX_INTERVALS → sum ≤ intervals * MAX_INTERVAL

@@ -13,9 +13,11 @@ use Rattle.direction_reader.specs.StandsFor.{StandsFor}
 use Rattle.direction_reader.specs.Tracker.{profile_of}
 use Rattle.interval_file.specs.declared.header.IntervalHeader.{IntervalHeader}
 use Rattle.report_text.specs.Texts.{event_line, read_end_line}
+use Rattle.tc_command.specs.KeptPushed.{front_of_more}
+use Rattle.tc_io.specs.Sink.{AppendsFront}
 use Rattle.interval_commands.specs.declared.ltc_read.Report.{Report}
 use Rattle.interval_commands.specs.KeptReport.{Feeds, Prints, Stands}
-use Rattle.direction_reader.specs.Events.{event_list, is_word, is_refused, is_lost}
+use Rattle.direction_reader.specs.Events.{event_list, listed, is_word, is_refused, is_lost}
 use Rattle.interval_commands.specs.LtcRead.{lines, last_line, IsReadPart, IsReadWhole}
 
 -- how many of some events and more are of a kind
@@ -27,6 +29,17 @@ lines_of_more : (header : IntervalHeader) (events more : List Event) (written : 
     → written ++ lines header more ≡ lines header (events ++ more)
 lines_of_more header events more written are =
     ap (λ (l : List ℕ). l ++ lines header more) are ∙ sym (flat_map-append (event_line header) events more)
+
+-- the lines of what an interval brought
+pub lines_of_both : (header : IntervalHeader) (events : Events)
+    → lines header (event_list events) ≡ lines header (listed events.first) ++ lines header (listed events.second)
+lines_of_both header events = flat_map-append (event_line header) (listed events.first) (listed events.second)
+
+-- a front of the first of them
+pub front_of_first : (header : IntervalHeader) (events : Events) (old new : Option (List ℕ))
+    → AppendsFront old new (lines header (listed events.first)) → AppendsFront old new (lines header (event_list events))
+front_of_first header events old new front =
+    subst (λ (l : List ℕ). AppendsFront old new l) (sym (lines_of_both header events)) (front_of_more old new _ _ front)
 
 -- one interval more
 pub more_printed : (r next : Report) (profile : Profile) (header : IntervalHeader) (intervals written : List ℕ) (x : ℕ) (own : Events)

@@ -1,11 +1,11 @@
 //! The engine of `ltc-read`: intervals become events, and events become lines. Next:
 //! `direction_reader/src/reader.rt`, and `report_text/src/event.rt` for the lines.
-ghost use Rattle.std.specs.Prelude.{◌≡◌, ◌≤◌, ◌<◌, ◌+◌, ◌*◌, List, ◌∷◌, ◌++◌, [], ℕ, OnOk, OnErr, IfOk, IfErr};
+ghost use Rattle.std.specs.Prelude.{◌≡◌, ◌≤◌, ◌<◌, ◌+◌, ◌*◌, List, ◌∷◌, ◌++◌, [], ℕ, OnOk, OnErr, IfOk, IfErr, IfSome};
 ghost use Rattle.std.specs.Io.KnownBytes.{Appends};
 ghost use Rattle.biphase.specs.declared.cell.TheConstants.{MAX_INTERVAL, MAX_INTERVALS};
 ghost use Rattle.direction_reader.specs.declared.event.Event.{Event};
 ghost use Rattle.direction_reader.specs.declared.event.Events.{Events};
-ghost use Rattle.direction_reader.specs.Events.{event_list};
+ghost use Rattle.direction_reader.specs.Events.{event_list, listed};
 ghost use Rattle.direction_reader.specs.Reader.{Takes};
 ghost use Rattle.direction_reader.specs.StandsFor.{MayTell, Tells};
 ghost use Rattle.interval_file.specs.declared.header.IntervalHeader.{IntervalHeader};
@@ -128,33 +128,32 @@ impl Report {
         ensures why { IfErr result (λ stop. stop ≡ Stop.WriteFault) }
         ensures cause { HasOutCause (K.faults out.old) (K.faults out.new) result }
     {
-        match (events.first, events.second) {
-            (Some(first), Some(second)) => {
-                self.push_one(&first, out)?;
-                self.push_one(&second, out)
-            }
-            (Some(event), None) | (None, Some(event)) => self.push_one(&event, out),
-            (None, None) => Ok(()),
-        }
+        self.push_one(events.first, out)?;
+        self.push_one(events.second, out)
     }
 
-    /// Counts an event, and pushes its line.
-    fn push_one<K: Sink>(&mut self, event: &Event, out: &mut K) -> Result<(), Stop>
-        requires line { FitsLine event.now }
+    /// Counts an event and pushes its line, where there is one.
+    fn push_one<K: Sink>(&mut self, event: Option<Event>, out: &mut K) -> Result<(), Stop>
+        requires line { IfSome event FitsLine }
         requires header { IsTickRate self.old.header.tick_rate }
         requires room { self.old.words + self.old.refused + self.old.lost ≤ 2 * MAX_INTERVALS + 1 }
-        ensures counted { self.new ≡ counted event.now self.old }
+        ensures counted { self.new ≡ all_counted (listed event) self.old }
         ensures reader { self.new.reader ≡ self.old.reader }
         ensures header { self.new.header ≡ self.old.header }
         ensures all { OnOk result (Appends (K.written out.old) (K.written out.new)
-            (event_line self.old.header event.now)) }
+            (lines self.old.header (listed event))) }
         ensures front { OnErr result (AppendsFront (K.written out.old) (K.written out.new)
-            (event_line self.old.header event.now)) }
+            (lines self.old.header (listed event))) }
         ensures why { IfErr result (λ stop. stop ≡ Stop.WriteFault) }
         ensures cause { HasOutCause (K.faults out.old) (K.faults out.new) result }
     {
-        self.count(event);
-        push_line(out, &event_text(event, &self.header))
+        match event {
+            Some(event) => {
+                self.count(&event);
+                push_line(out, &event_text(&event, &self.header))
+            }
+            None => Ok(()),
+        }
     }
 
     /// Counts an event.

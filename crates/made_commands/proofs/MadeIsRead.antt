@@ -1,5 +1,5 @@
 -- What is made is read back: its cells are a chain, and each of its frames has a label, and so a word with one spelling.
-use Rattle.std.proofs.Common.{◌≡◌, ℕ, zero, suc, ◌+◌, ◌≤◌, Bool, true, false, List, [], ◌∷◌, refl, subst, arith}
+use Rattle.std.proofs.Common.{◌≡◌, ℕ, zero, suc, ◌+◌, Bool, true, false, List, ◌∷◌, refl, subst, arith}
 use Rattle.std.specs.Prelude.{ℤ, map, take, drop}
 use Rattle.std.specs.List.{range_with_len}
 use Rattle.biphase.specs.declared.cell.Cell.{Cell}

@@ -1,7 +1,7 @@
 -- A line file that is made is read back: each field has a label, a word with one line, and runs that stand for its bits.
-use Rattle.std.proofs.Common.{◌≡◌, ℕ, zero, suc, ◌+◌, ◌*◌, ◌%◌, ◌^◌, ◌<◌, ◌≤◌, Bool, true, false, List, [], ◌∷◌, Ok, Some, None, length, refl}
-use Rattle.std.proofs.Common.{sym, ap, subst, lit<, lit≤, arith}
-use Rattle.std.specs.Prelude.{pos, map, if◌then◌else◌}
+use Rattle.std.proofs.Common.{◌≡◌, ℕ, zero, suc, ◌+◌, ◌*◌, ◌%◌, ◌^◌, ◌<◌, ◌≤◌, Bool, true, false, List, [], ◌∷◌, Ok, length, refl}
+use Rattle.std.proofs.Common.{sym, subst, lit<, lit≤, arith}
+use Rattle.std.specs.Prelude.{pos, map}
 use Rattle.std.specs.List.{flat_map, range_with_len}
 use Rattle.line_file.specs.declared.decoder.TheConstants.{MAX_FIELDS}
 use Rattle.line_file.specs.declared.header.LineHeader.{LineHeader}
@@ -9,7 +9,6 @@ use Rattle.line_file.specs.Answers.{AreAnswers, AreAnswersOf}
 use Rattle.line_file.specs.Grammar.{file_of, AreRuns, AreFields}
 use Rattle.line_file.specs.LineFile.{Reading, reading_of}
 use Rattle.line_file.specs.LineHeader.{IsHeader}
-use Rattle.line_file.specs.declared.fault.LineFileFault.TheVariants as fault
 use Rattle.tc_address.specs.declared.count.Count.{Count}
 use Rattle.tc_address.specs.declared.count.Count.TheVariants.{C24, C25, C30, Drop30}
 use Rattle.tc_address.specs.Count.{system_with}

@@ -1,12 +1,10 @@
 -- A line file is made field by field: what was written and what is still to be made are the whole.
-use Rattle.std.proofs.Common.{◌≡◌, None, ℕ, zero, suc, ◌+◌, ◌<◌, false, true, List, [], ◌∷◌, ◌++◌, length, drop, refl, sym, ap, ap₂}
-use Rattle.std.proofs.Common.{◌∙◌, append_assoc, arith, get_or}
+use Rattle.std.proofs.Common.{◌≡◌, None, ℕ, zero, suc, ◌+◌, false, true, List, [], ◌∷◌, ◌++◌, length, refl, sym, ap, ap₂}
+use Rattle.std.proofs.Common.{◌∙◌, append_assoc, arith}
 use Rattle.std.specs.Prelude.{ℤ, pos, ◌+ℤ◌, map}
 use Rattle.std.specs.declared.option.Option.{Option}
 use Rattle.std.specs.List.{flat_map, range_with_len}
 use Rattle.std.proofs.lemmas.Int.{ints}
-use Rattle.std.proofs.Math.Seq.{drop-cons}
-use Rattle.byteorder.specs.Endian.{big_bytes}
 use Rattle.line_file.specs.Grammar.{field_bytes}
 use Rattle.tc_address.specs.Label.{Address, IsLabel}
 use Rattle.tc_address.specs.Numbering.{step}

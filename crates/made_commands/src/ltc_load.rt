@@ -1,6 +1,7 @@
 //! `ltc-load`: a recording made by chance, and read interval after interval as it is made. Next: `labels`,
 //! which has its line.
-ghost use Rattle.std.specs.Prelude.{◌≡◌, ◌≤◌, ◌<◌, ◌+◌, ◌*◌, ◌/◌, ◌%◌, ◌^◌, ◌++◌, [], ◌∷◌, List, ℕ, fold, Some};
+ghost use Rattle.std.specs.Prelude.{◌≡◌, ◌≤◌, ◌<◌, ◌+◌, ◌*◌, ◌/◌, ◌%◌, ◌^◌, ◌++◌, [], ◌∷◌, List, ℕ, decimal, fold};
+ghost use Rattle.std.specs.Prelude.{length, Some};
 ghost use Rattle.arrayvec.specs.ArrayVec.{array_vec_len};
 ghost use Rattle.biphase.specs.Chain.{flat, intervals_of};
 ghost use Rattle.biphase.specs.declared.cell.TheConstants.{MAX_INTERVAL, MAX_INTERVALS};
@@ -25,7 +26,7 @@ use direction_reader::laws::{
     a_list_has_one_list_of_events, a_reader_gives_the_events_of_its_list, played_words_are_read,
 };
 use direction_reader::{Brought, DirectionReader, Event};
-use line_text::{Text, push_bytes, push_number};
+use line_text::{Text, push_any_number, push_bytes, push_number};
 use ltc_jam::laws::steps_lead_to_labels;
 use ltc_word::LtcWord;
 use ltc_word::laws::each_word_has_its_spelling;
@@ -75,37 +76,43 @@ impl Counts {
     }
 
     /// The line of a run with these counts.
-    #[tactic(auto, using(crate::proofs::Digits::digits_of_any, crate::proofs::Digits::digits_of_words, crate::proofs::Digits::digits_of_counts))]
     fn line(&self, run: &LoadRun) -> Text
         requires { total self.now < 100_000_000 }
         ensures { result.items ≡ line_with run.now self.now }
     {
         let mut line = Text::new();
         push_bytes(&mut line, b"load seed ");
-        push_number(&mut line, run.seed());
-        push_bytes(&mut line, b" words ");
-        push_number(&mut line, u64::from(run.words()));
-        push_bytes(&mut line, b" read ");
-        push_number(&mut line, self.words);
-        push_bytes(&mut line, b" refused ");
-        push_number(&mut line, self.refused);
-        push_bytes(&mut line, b" lost ");
-        push_number(&mut line, self.lost);
-        push_bytes(&mut line, b" first ");
-        push_label(&mut line, self.first);
-        push_bytes(&mut line, b" last ");
-        push_label(&mut line, self.last);
+        push_any_number(&mut line, run.seed());
+        push_named(&mut line, b" words ", u64::from(run.words()));
+        push_named(&mut line, b" read ", self.words);
+        push_named(&mut line, b" refused ", self.refused);
+        push_named(&mut line, b" lost ", self.lost);
+        push_label(&mut line, b" first ", self.first);
+        push_label(&mut line, b" last ", self.last);
         push_bytes(&mut line, b"\n");
         line
     }
 }
 
-/// Appends the text of a label, or that there is none.
-fn push_label(line: &mut Text, label: Option<Label>)
-    requires { array_vec_len line.old + 11 ≤ 128 }
-    ensures items { line.new.items ≡ line.old.items ++ label_text label }
-    ensures len { array_vec_len line.new ≤ array_vec_len line.old + 11 }
+/// Appends a name, and a number of at most eight digits.
+#[tactic(auto, using(crate::proofs::Digits::digits_of_counts))]
+fn push_named(line: &mut Text, name: &[u8], number: u64)
+    requires few { number < 100_000_000 }
+    requires room { array_vec_len line.old + length name.now + 8 ≤ 128 }
+    ensures items { line.new.items ≡ line.old.items ++ name.now ++ decimal number }
+    ensures len { array_vec_len line.new ≤ array_vec_len line.old + length name.now + 8 }
 {
+    push_bytes(line, name);
+    push_number(line, number);
+}
+
+/// Appends a name, and the text of a label, or that there is none.
+fn push_label(line: &mut Text, name: &[u8], label: Option<Label>)
+    requires { array_vec_len line.old + length name.now + 11 ≤ 128 }
+    ensures items { line.new.items ≡ line.old.items ++ name.now ++ label_text label }
+    ensures len { array_vec_len line.new ≤ array_vec_len line.old + length name.now + 11 }
+{
+    push_bytes(line, name);
     match label {
         Some(label) => push_bytes(line, &text(&label)),
         None => push_bytes(line, b"-"),

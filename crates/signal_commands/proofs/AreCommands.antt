@@ -14,13 +14,12 @@ use Rattle.pcm_front.specs.declared.pace.Pace.{Pace}
 use Rattle.pcm_front.specs.Pace.{intervals_at, IsPace}
 use Rattle.pcm_front.specs.Samples.{sample_in, samples_of}
 use Rattle.pcm_front.specs.Settings.{Settings}
-use Rattle.tc_command.specs.declared.input_fault.InputFault.{InputFault}
 use Rattle.interval_file.specs.declared.header.IntervalHeader.{IntervalHeader}
 use Rattle.interval_file.specs.Grammar.{file_of, intervals_bytes}
 use Rattle.interval_file.specs.IntervalHeader.{header_bytes}
 use Rattle.interval_file.specs.Piece.{spelling}
 use Rattle.line_file.specs.declared.fault.LineFileFault.{LineFileFault}
-use Rattle.tc_io.specs.Verdict.{Verdict, good, refused, past_limit}
+use Rattle.tc_io.specs.Verdict.{refused, past_limit}
 use Rattle.tc_io.specs.Sink.{IsFront}
 use Rattle.tc_job.specs.Slicing.{Slices}
 use Rattle.vitc_reader.specs.declared.field.FieldAnswer.{FieldAnswer}

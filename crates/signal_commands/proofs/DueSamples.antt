@@ -121,3 +121,7 @@ put_then_front a b c first bytes room piece p f = (
   ),
   Appends-trans a b c p.0 f.0 p.1 f.2,
 )
+
+-- no sample brings anything
+pub nothing_due : (pace : Pace) (s : Settings) (front : List ℤ) → AreDue pace s front [] []
+nothing_due pace s front = ap (spelled pace s) (append-nil front) ∙ sym (append-nil (spelled pace s front))

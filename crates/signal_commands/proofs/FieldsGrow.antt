@@ -1,5 +1,6 @@
 -- The lines of fields grow by the line of the field that bytes complete, and the last line counts all of them.
-use Rattle.std.proofs.Common.{◌≡◌, ℕ, ◌+◌, List, [], ◌∷◌, ◌++◌, length, count_by, Bool, cond, Some, None, refl, sym, ◌∙◌, ap, ap₂, arith, subst}
+use Rattle.std.proofs.Common.{◌≡◌, ℕ, ◌+◌, ◌-◌, ◌≤◌, ◌<◌, List, [], ◌∷◌, ◌++◌, length, count_by}
+use Rattle.std.proofs.Common.{Bool, cond, Some, None, refl, sym, ◌∙◌, ap, ap₂, arith, subst}
 use Rattle.std.proofs.Common.{append_assoc, append-nil}
 use Rattle.std.specs.declared.option.Option.{Option}
 use Rattle.std.proofs.lemmas.List.{length-append}
@@ -11,13 +12,14 @@ use Rattle.line_file.specs.declared.fault.LineFileFault.{LineFileFault}
 use Rattle.tc_io.specs.Verdict.{good}
 use Rattle.tc_command.specs.declared.input_fault.InputFault.TheVariants.{Lines}
 use Rattle.tc_io.specs.Sink.{AppendsFront}
+use Rattle.line_file.specs.declared.decoder.TheConstants.{MAX_FIELDS}
 use Rattle.line_file.specs.LineFile.{reading_of}
 use Rattle.line_file.specs.StandsFor as reads
 use Rattle.line_file.specs.StandsFor.{Decoding, IsTold}
 use Rattle.line_file.specs.Texts.{field_line, field_end_line}
 use Rattle.signal_commands.specs.declared.vitc_read.FieldReport.{FieldReport}
 use Rattle.tc_command.specs.declared.stop.Stop.TheVariants as stops
-use Rattle.signal_commands.specs.KeptFields.{counted, Stands}
+use Rattle.signal_commands.specs.KeptFields.{FitsFields, Stands, counted, most_bytes}
 use Rattle.tc_command.specs.Stops.{Stops}
 use Rattle.signal_commands.specs.VitcRead.{along_fields, answer_lines, is_agreed, is_conflict, is_nothing, last_field_line}
 
@@ -184,3 +186,40 @@ printed law r mid next front written taken answer s reads_on same is =
     one_more law r next front written taken answer s
     (subst (λ (d : Decoding). reads.StandsFor d (front ++ taken) (s.answers ++ answer ∷ [])) (sym (same_decoder mid next answer is)) reads_on)
     (one_counted r mid next answer same is)
+
+-- ---- what the engine keeps, with a field more
+
+one_kind : (answer : FieldAnswer)
+    → cond (is_agreed answer) 1 0 + cond (is_conflict answer) 1 0 + cond (is_nothing answer) 1 0 ≤ 1
+one_kind (Agreed word) = omega arith
+one_kind (Conflict word other) = omega arith
+one_kind NoLine = omega arith
+one_kind (Nothing fault) = omega arith
+
+-- the counts fit
+pub fits_more : (r next : FieldReport) (d : Decoding) (answer : FieldAnswer) → FitsFields r
+    → d.fields ≡ r.decoder.fields + 1 → d.fields ≤ MAX_FIELDS
+    → next ≡ counted answer (record r { decoder = d }) → FitsFields next
+fits_more r next d answer fits one within is =
+    let mid : FieldReport = record r { decoder = d } in
+    let counts = one_counted r mid next answer refl is in
+    let kind = one_kind answer in
+    let same = ap (λ (x : Decoding). x.fields) (same_decoder mid next answer is) in
+    record {
+      number = omega (arith, counts.fields, fits.number, one, same);
+      within = omega (arith, counts.fields, fits.number, one, within);
+      counts = omega (arith, counts.fields, counts.agreed, counts.conflict, counts.nothing, fits.counts, kind);
+    }
+
+-- there is less to come
+pub less_to_come : (r next : FieldReport) (d : Decoding) (answer : FieldAnswer) (count : ℕ) → 1 ≤ count
+    → d.place + length d.part ≡ r.decoder.place + length r.decoder.part + count → reads.FitsFields d
+    → next ≡ counted answer (record r { decoder = d })
+    → most_bytes - (next.decoder.place + length next.decoder.part)
+    < most_bytes - (r.decoder.place + length r.decoder.part)
+less_to_come r next d answer count some taken fits is =
+    let less : most_bytes - (d.place + length d.part) < most_bytes - (r.decoder.place + length r.decoder.part) =
+    omega (arith, some, taken, fits.0, fits.1) in
+    subst
+    (λ (x : Decoding). most_bytes - (x.place + length x.part) < most_bytes - (r.decoder.place + length r.decoder.part))
+    (sym (same_decoder (record r { decoder = d }) next answer is)) less

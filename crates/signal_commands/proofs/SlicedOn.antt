@@ -3,7 +3,6 @@ use Rattle.std.proofs.Common.{◌≡◌, inl, ℕ, ◌+◌, ◌-◌, ◌*◌, �
 use Rattle.std.proofs.Common.{List, [], ◌∷◌, ◌++◌, length, take, drop, Some, None, sym, ◌∙◌, ap, refl, subst, append_assoc, append-nil, arith}
 use Rattle.std.specs.declared.option.Option.{Option}
 use Rattle.std.specs.Option.{option_to_list}
-use Rattle.std.specs.Io.KnownBytes.{Appends}
 use Rattle.std.proofs.lemmas.Bool.{ltb-true, lt-ltb}
 use Rattle.std.proofs.lemmas.Grind.{flat_map-append}
 use Rattle.std.proofs.lemmas.List.{length-append, length-take, length-take-le, take-append-drop, take-append-le, take-take, take_all}
@@ -23,11 +22,12 @@ use Rattle.tc_io.specs.Sink.{AppendsFront}
 use Rattle.tc_job.specs.Slicing as words
 use Rattle.signal_commands.specs.declared.pcm_ltc.SlicedSound.{SlicedSound}
 use Rattle.signal_commands.specs.declared.pcm_ltc.TheConstants.{MAX_SAMPLES}
-use Rattle.std.specs.Prelude.{IfErr, IfOk, Ok, Err}
+use Rattle.std.specs.Prelude.{IfErr, IfOk, OnOk, Ok, Err}
 use Rattle.std.specs.declared.result.Result.{Result}
 use Rattle.tc_command.specs.declared.stop.Stop.{Stop}
 use Rattle.tc_command.specs.declared.stop.Stop.TheVariants as stops
 use Rattle.signal_commands.specs.KeptSlices.{IsGoing, Slices, Stands, half_is_none, length-samples, samples_of-append}
+use Rattle.signal_commands.specs.KeptStops.{StopsBehind, of_both}
 use Rattle.tc_command.specs.declared.input_fault.InputFault.TheVariants.{HalfSample}
 use Rattle.signal_commands.specs.PcmLtc.{along_samples, odd_fault, pace_for, samples_within, settings_for, sliced}
 use Rattle.signal_commands.specs.PcmLtc.{sliced_header}
@@ -157,24 +157,6 @@ grown_part s next whole written bytes rest count brought old new slices grows f 
       ),
     )
 
--- what is gathered was pushed, and this is the part of bytes past the limit
-pub at_limit : (s : SlicedSound) (whole written bytes : List ℕ) (old new : Option (List ℕ)) → Slices s whole written → s.samples ≡ MAX_SAMPLES
-    → 2 ≤ length bytes → Appends old new s.gathered.room.items
-    → Stops (along_samples s.slicing) stops.Limit old new (whole ++ bytes) written
-at_limit s whole written bytes old new slices full some pushed =
-    let long = length-samples s.samples whole slices.count in
-    let all = samples_of-append s.samples whole bytes slices.count in
-    let more = length-append (samples_of whole) (samples_of bytes) in (
-      s.gathered.room.items,
-      pushed,
-      inl (
-        record { is = is_past MAX_SAMPLES (whole ++ bytes) (rw all (omega (arith, long, full, more, some_samples bytes some))); unspent = λ spent. spent },
-        slices.are ∙ ap (sliced s.slicing) (sym (ap (take MAX_SAMPLES) all
-            ∙ take-append-le MAX_SAMPLES (samples_of whole) (samples_of bytes) (omega (arith, long, full))
-            ∙ take_all MAX_SAMPLES (samples_of whole) (omega (arith, long, full)))),
-      ),
-    )
-
 -- what is gathered was not taken
 pub gathered_part : (s : SlicedSound) (whole written bytes : List ℕ) (old new : Option (List ℕ)) → Slices s whole written
     → AppendsFront old new s.gathered.room.items
@@ -191,6 +173,28 @@ gathered_part s whole written bytes old new slices f =
         (f.1.0, ap (λ (l : List ℕ). written ++ l) f.1.1 ∙ sym (append_assoc written f.0 f.1.0)),
       ),
     )
+
+-- past the limit: what is gathered was pushed, and is the part of the bytes; or it was not
+pub at_limit : (s : SlicedSound) (whole written bytes : List ℕ) (stop : Stop) (old new : Option (List ℕ)) → Slices s whole written
+    → s.samples ≡ MAX_SAMPLES → 2 ≤ length bytes → StopsBehind stops.Limit old new s.gathered.room.items stop
+    → Stops (along_samples s.slicing) stop old new (whole ++ bytes) written
+at_limit s whole written bytes stop old new slices full some behind =
+    let long = length-samples s.samples whole slices.count in
+    let all = samples_of-append s.samples whole bytes slices.count in
+    let more = length-append (samples_of whole) (samples_of bytes) in
+    of_both (λ (x : Stop). Stops (along_samples s.slicing) x old new (whole ++ bytes) written) stops.Limit stop
+    old new s.gathered.room.items behind
+    (λ pushed. (
+      s.gathered.room.items,
+      pushed,
+      inl (
+        record { is = is_past MAX_SAMPLES (whole ++ bytes) (rw all (omega (arith, long, full, more, some_samples bytes some))); unspent = λ spent. spent },
+        slices.are ∙ ap (sliced s.slicing) (sym (ap (take MAX_SAMPLES) all
+            ∙ take-append-le MAX_SAMPLES (samples_of whole) (samples_of bytes) (omega (arith, long, full))
+            ∙ take_all MAX_SAMPLES (samples_of whole) (omega (arith, long, full)))),
+      ),
+    ))
+    (gathered_part s whole written bytes old new slices)
 
 -- ---- the end
 
@@ -255,6 +259,14 @@ grows s next bytes count k pace brought few within whole counted same_slicing sa
       brings = λ samples is_for. sym (by_words (samples ++ samples_of (take count bytes))) ∙ brings samples is_for
           ∙ ap (λ (l : List ℕ). l ++ intervals_in brought) (by_words samples);
     }
+
+-- bytes of whole samples are two at least
+pub two_at_least : (count k length : ℕ) → count ≡ 2 * k → 1 ≤ count → count ≤ length → (2 ≤ count) × (count ≤ length)
+two_at_least count k length whole some within = (omega (arith, whole, some), within)
+
+-- and two a sample
+pub two_each : (samples count k : ℕ) → count ≡ 2 * k → 2 * (samples + count / 2) ≡ 2 * samples + count
+two_each samples count k whole = omega (arith, whole)
 
 -- the slicer counts what it took
 pub still_going : (s next : SlicedSound) (length count k : ℕ) → IsGoing s
@@ -329,3 +341,32 @@ ok_to (Err stop) says to = tt
 pub ok_both : {T : Type 0} (P Q : T → Type 0) (result : Result T Stop) → IfOk result P → IfOk result Q → IfOk result (λ value. P value × Q value)
 ok_both P Q (Ok value) p q = (p, q)
 ok_both P Q (Err stop) p q = tt
+
+-- ---- what is still to come
+
+-- a byte at most is kept
+one_at_most : (half : Option ℕ) → length (option_to_list half) ≤ 1
+one_at_most None = omega arith
+one_at_most (Some low) = omega arith
+
+-- samples leave less to come
+pub falls : (before after count : ℕ) (old new : Option ℕ) → new ≡ None → 2 ≤ count → 2 * after ≡ 2 * before + count
+    → after ≤ MAX_SAMPLES
+    → 2 * MAX_SAMPLES + 1 - (2 * after + length (option_to_list new))
+    < 2 * MAX_SAMPLES + 1 - (2 * before + length (option_to_list old))
+falls before after count old new none some samples within =
+    let kept = ap (λ (half : Option ℕ). length (option_to_list half)) none in
+    omega (arith, one_at_most old, kept, some, samples, within)
+
+-- and so does a byte that is kept
+pub falls_by_half : (samples : ℕ) (old : Option ℕ) (low : ℕ) → old ≡ None → samples ≤ MAX_SAMPLES
+    → 2 * MAX_SAMPLES + 1 - (2 * samples + length (option_to_list (Some low)))
+    < 2 * MAX_SAMPLES + 1 - (2 * samples + length (option_to_list old))
+falls_by_half samples old low none within =
+    let kept = ap (λ (half : Option ℕ). length (option_to_list half)) none in omega (arith, kept, within)
+
+-- what three facts of a success say together
+pub with_three : {G Q : Type 0} {P R : ℕ → Type 0} (result : Result ℕ Stop) → OnOk result G → IfOk result P
+    → IfOk result R → (G → (n : ℕ) → P n → R n → Q) → OnOk result Q
+with_three (Ok n) g p r to = to g n p r
+with_three (Err stop) g p r to = tt

@@ -34,6 +34,7 @@ use Rattle.tc_command.specs.KeptGathered.{IsPut}
 use Rattle.tc_command.specs.Stops.{IsStop, Stops}
 use Rattle.pcm_front.specs.declared.slicer.Slicer.{Slicer}
 use Rattle.signal_commands.specs.declared.wav_ltc.SlicedTrack.{SlicedTrack}
+use Rattle.signal_commands.specs.KeptStops.{StopsBehind, of_both}
 use Rattle.signal_commands.specs.KeptTrack.{AreDue, IsGoing, Stands, pace_in, spelled}
 use Rattle.signal_commands.specs.WavLtc.{along_sound_file, track_file, track_header, track_of, track_pace}
 use Rattle.signal_commands.specs.WavLtc.{track_settings}
@@ -86,6 +87,24 @@ pub record Decodes (s next : SlicedTrack) (bytes : List ℕ) (samples : List ℤ
   pub stands : (front : List ℕ) (before : List ℤ) → StandsFor s.decoder front before → StandsFor next.decoder (front ++ bytes) (before ++ samples)
   pub told : (all : List ℕ) (given : List ℤ) → StandsFor next.decoder all given
       → IsTold (reading_of next.decoder.track all) (format_in_decoding next.decoder) given good
+
+-- what it says, where it tells the format too
+pub decodes_more : (s next : SlicedTrack) (bytes : List ℕ) (samples : List ℤ) (told : Option WaveFormat)
+    → next.slicing ≡ s.slicing → next.decoder.track ≡ s.decoder.track
+    → ((front : List ℕ) (before : List ℤ) → StandsFor s.decoder front before
+    → StandsFor next.decoder (front ++ bytes) (before ++ samples))
+    → bytes_taken next.decoder ≤ MAX_BYTES → told ≡ format_in_decoding next.decoder
+    → ((all : List ℕ) (given : List ℤ) → StandsFor next.decoder all given
+    → IsTold (reading_of next.decoder.track all) told given good)
+    → Decodes s next bytes samples
+decodes_more s next bytes samples told slicing track stands within is tells = record {
+  slicing = slicing;
+  track = track;
+  within = within;
+  stands = stands;
+  told = λ all given at.
+      subst (λ (f : Option WaveFormat). IsTold (reading_of next.decoder.track all) f given good) is (tells all given at);
+}
 
 -- and the slicer of the samples in them
 pub record Slices (s next : SlicedTrack) (samples : List ℤ) : Type 0 where
@@ -244,31 +263,41 @@ told_stop s front written all v stands told =
     subst (λ (t : ℕ). IsTold (reading_of t all) (format_in_decoding s.decoder) stands.samples v) stands.track
     (subst (λ (l : List ℕ). IsTold (reading_of s.decoder.track l) (format_in_decoding s.decoder) stands.samples v) (append-nil all) (told []))
 
-pub fault_stop : (s : SlicedTrack) (front written bytes : List ℕ) (f : WaveFault) (old new : Option (List ℕ)) (stands : Stands s front written)
-    → StopsAt s.decoder (front ++ bytes) stands.samples (taken.Fault f) → Appends old new s.gathered.room.items
-    → Stops (along_sound_file s.slicing) (stops.Refused (Sound f)) old new (front ++ bytes) written
-fault_stop s front written bytes f old new stands stop pushed =
-    let told = told_stop s front written (front ++ bytes) (refused f) stands stop in (
+pub fault_stop : (s : SlicedTrack) (front written bytes : List ℕ) (f : WaveFault) (stop : Stop) (old new : Option (List ℕ))
+    (stands : Stands s front written) → StopsAt s.decoder (front ++ bytes) stands.samples (taken.Fault f)
+    → StopsBehind (stops.Refused (Sound f)) old new s.gathered.room.items stop
+    → Stops (along_sound_file s.slicing) stop old new (front ++ bytes) written
+fault_stop s front written bytes f stop old new stands at behind =
+    let told = told_stop s front written (front ++ bytes) (refused f) stands at in
+    of_both (λ (x : Stop). Stops (along_sound_file s.slicing) x old new (front ++ bytes) written) (stops.Refused (Sound f)) stop
+    old new s.gathered.room.items behind
+    (λ pushed. (
       s.gathered.room.items,
       pushed,
       (
         record { is = ap (verdict_as Sound) told.verdict_is; unspent = λ spent. spent },
         stands.are ∙ ap₂ (track_file s.slicing) (sym told.format_is) (sym told.samples_are),
       ),
-    )
+    ))
+    (gathered_stop s front written bytes old new stands)
 
-pub limit_stop : (s : SlicedTrack) (front written bytes : List ℕ) (old new : Option (List ℕ)) (stands : Stands s front written)
-    → StopsAt s.decoder (front ++ bytes) stands.samples taken.Limit → Appends old new s.gathered.room.items
-    → Stops (along_sound_file s.slicing) stops.Limit old new (front ++ bytes) written
-limit_stop s front written bytes old new stands stop pushed =
-    let told = told_stop s front written (front ++ bytes) past_limit stands stop in (
+pub limit_stop : (s : SlicedTrack) (front written bytes : List ℕ) (stop : Stop) (old new : Option (List ℕ))
+    (stands : Stands s front written) → StopsAt s.decoder (front ++ bytes) stands.samples taken.Limit
+    → StopsBehind stops.Limit old new s.gathered.room.items stop
+    → Stops (along_sound_file s.slicing) stop old new (front ++ bytes) written
+limit_stop s front written bytes stop old new stands at behind =
+    let told = told_stop s front written (front ++ bytes) past_limit stands at in
+    of_both (λ (x : Stop). Stops (along_sound_file s.slicing) x old new (front ++ bytes) written) stops.Limit stop
+    old new s.gathered.room.items behind
+    (λ pushed. (
       s.gathered.room.items,
       pushed,
       inl (
         record { is = ap (verdict_as Sound) told.verdict_is; unspent = λ spent. spent },
         stands.are ∙ ap₂ (track_file s.slicing) (sym told.format_is) (sym told.samples_are),
       ),
-    )
+    ))
+    (gathered_stop s front written bytes old new stands)
 
 -- ---- the room that the slicer needs
 

@@ -6,18 +6,15 @@ use Rattle.std.proofs.lemmas.Grind.{flat_map-append}
 use Rattle.pcm_front.specs.declared.pace.Pace.{Pace}
 use Rattle.pcm_front.specs.Pace.{intervals_at, IsPace}
 use Rattle.pcm_front.specs.Settings.{Settings}
-use Rattle.tc_command.specs.declared.input_fault.InputFault.{InputFault}
 use Rattle.interval_file.specs.declared.header.FileVersion.TheVariants.{One}
 use Rattle.interval_file.specs.Grammar.{intervals_bytes}
 use Rattle.interval_file.specs.IntervalHeader.{header_bytes}
 use Rattle.interval_file.specs.Piece.{spelling}
 use Rattle.tc_io.specs.Sink.{IsFront}
 use Rattle.tc_job.specs.WaveSlicing.{SlicesWave}
-use Rattle.wave_file.specs.declared.fault.WaveFault.{WaveFault}
 use Rattle.wave_file.specs.declared.format.WaveFormat.{WaveFormat}
 use Rattle.wave_file.specs.GoesOn.{GoesOn}
 use Rattle.wave_file.specs.Wave.{Reading, reading_of}
-use Rattle.tc_io.specs.Verdict.{Verdict, good, refused, past_limit}
 use Rattle.tc_command.specs.Command.{IsCommand}
 use Rattle.signal_commands.specs.KeptTrack.{AreDue, spelled}
 use Rattle.signal_commands.specs.WavLtc.{along_sound_file, track_file, track_header, track_of, track_pace}

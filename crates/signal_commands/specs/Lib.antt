@@ -1,6 +1,7 @@
 pub mod KeptFields
 pub mod KeptMtc
 pub mod KeptSlices
+pub mod KeptStops
 pub mod KeptTrack
 pub mod MtcRead
 pub mod PcmLtc

@@ -17,6 +17,7 @@ pub mod laws;
 mod mtc_read;
 mod pcm_ltc;
 mod spelling;
+mod stopping;
 mod vitc_read;
 mod wav_ltc;
 

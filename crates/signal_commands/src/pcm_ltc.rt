@@ -11,6 +11,7 @@ ghost use Rattle.signal_commands.specs.PcmLtc.{along_samples, pace_for};
 ghost use Rattle.tc_command.specs.Stops.{Stops};
 
 use crate::spelling::spell;
+use crate::stopping::push_before;
 use interval_file::{FileVersion, IntervalHeader, interval_header};
 use pcm_front::{Pace, Slicer};
 use tc_command::{Engine, Gathered, InputFault, Stop, work};
@@ -90,8 +91,7 @@ impl SlicedSound {
         ensures no_pull { result ≡ Err Stop.ReadFault → ⊥ }
     {
         if self.samples == MAX_SAMPLES {
-            self.gathered.push(out)?;
-            return Err(Stop::Limit);
+            return Err(push_before(Stop::Limit, &mut self.gathered, out));
         }
         let samples = within(bytes, MAX_SAMPLES - self.samples);
         self.slice_all(samples, out)

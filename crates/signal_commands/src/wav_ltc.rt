@@ -19,6 +19,7 @@ ghost use Rattle.signal_commands.specs.WavLtc.{along_sound_file, track_header};
 ghost use Rattle.interval_file.specs.IntervalHeader.{header_bytes};
 
 use crate::spelling::spell;
+use crate::stopping::push_before;
 use interval_file::{FileVersion, IntervalHeader, interval_header};
 use pcm_front::laws::intervals_of_a_front_come_first;
 use pcm_front::{Pace, Slicer};
@@ -132,13 +133,10 @@ impl SlicedTrack {
                 Ok(count)
             }
             Taken::Fault(fault) => {
-                self.gathered.push(out)?;
-                Err(Stop::Refused(InputFault::Sound(fault)))
+                let cause = Stop::Refused(InputFault::Sound(fault));
+                Err(push_before(cause, &mut self.gathered, out))
             }
-            Taken::Limit => {
-                self.gathered.push(out)?;
-                Err(Stop::Limit)
-            }
+            Taken::Limit => Err(push_before(Stop::Limit, &mut self.gathered, out)),
         }
     }
 

@@ -1,13 +1,16 @@
-use Rattle.std.proofs.Common.{◌+◌, ◌++◌, ℤ, List, take, drop, ◌∙◌, ap, refl, subst, arith}
-use Rattle.std.proofs.Common.{take-append-drop}
+use Rattle.std.proofs.Common.{◌+◌, ◌++◌, ◌≤◌, ℤ, List, take, drop, ◌∙◌, ap, refl, subst, arith}
+use Rattle.std.proofs.Common.{[], sym, append-nil, take-append-drop}
+use Rattle.std.specs.Prelude.{IfSome}
 use Rattle.std.proofs.lemmas.List.{take_all}
+use Rattle.pcm_front.specs.Distance.{IsInterval}
 use Rattle.pcm_front.specs.Settings.{Settings}
 use Rattle.pcm_front.specs.StandsFor as pcm
 use Rattle.pcm_front.specs.StandsFor.{settings_of, tick_of}
-use Rattle.tc_command.specs.KeptGathered.{put_more}
+use Rattle.tc_command.specs.KeptGathered.{none_put, put_more}
 use Rattle.tc_command.specs.KeptWorks.{at_err}
 use Rattle.signal_commands.specs.KeptTrack.{AreDue}
-use Rattle.signal_commands.proofs.DueSamples.{due_at, due_behind, front_of_longer, joined, next_tick, put_then_front}
+use Rattle.signal_commands.proofs.DueSamples.{due_at, due_behind, front_of_longer, joined}
+use Rattle.signal_commands.proofs.DueSamples.{next_tick, nothing_due, put_then_front}
 use Rattle.signal_commands.proofs.DueSamples.{rest_fits, run_due, run_within}
 use Rattle.signal_commands.proofs.TrackGoesOn.{due_of}
 use Rattle.signal_commands.proofs.wav_ltc.slice.Goals as goal
@@ -17,6 +20,33 @@ intervals_of_samples-count-requires-clause-room g c =
     let i = c.samples.invariant in
     rest_fits (tick_of c.args.slicer.now) (settings_of c.args.slicer.now).fineness c.samples.at (tick_of c.samples.slicer)
     (settings_of c.samples.slicer).fineness c.args.samples.now i.tick (ap (λ (x : Settings). x.fineness) i.settings) i.within c.requires.room
+
+-- no sample yet
+pub samples-init : goal.samples-init
+samples-init g c =
+    let settings = settings_of c.args.slicer.now in
+    record {
+      within = omega arith;
+      settings = refl;
+      tick = omega arith;
+      stands = λ front stands. subst (pcm.StandsFor c.args.slicer.now) (sym (append-nil front)) stands;
+      put = λ front stands. (
+        [],
+        nothing_due c.args.pace settings front,
+        none_put (g.K.Sink.written c.args.out.now) c.args.gathered.now.room.items [] refl,
+      );
+      same = refl;
+    }
+
+-- the lengths are those of intervals
+pub spell-requires-clause-length : goal.spell-requires-clause-length
+spell-requires-clause-length g c = subst IsInterval (sym c.intervals_of_samples-count.ensures.length) c.requires.pace
+
+pub spell-requires-clause-rest : goal.spell-requires-clause-rest
+spell-requires-clause-rest g c =
+    let brought = c.intervals_of_samples-count.result.1 in
+    subst (λ n. IfSome brought.rest (λ rest. (1 ≤ rest) × (rest ≤ n)))
+    (sym c.intervals_of_samples-count.ensures.length) c.intervals_of_samples-count.ensures.rest
 
 -- a run more
 pub samples-preserved : goal.samples-preserved

@@ -1,24 +1,17 @@
-use Rattle.std.proofs.Common.{◌≡◌, ◌+◌, ◌-◌, ◌*◌, ◌≤◌, ◌++◌, List, ℕ, take, drop, length, ap, sym, subst, ◌∙◌, append_assoc, arith, length-append}
+use Rattle.std.proofs.Common.{◌≡◌, ◌-◌, ◌*◌, ◌≤◌, ◌++◌, List, ℕ, take, drop, length, ap, sym, subst, ◌∙◌, append_assoc, arith, length-append}
 use Rattle.std.proofs.lemmas.List.{length-take, take-append-drop}
 use Rattle.signal_commands.specs.declared.pcm_ltc.TheConstants.{MAX_SAMPLES}
 use Rattle.signal_commands.specs.KeptSlices.{Slices}
 use Rattle.signal_commands.specs.PcmLtc.{along_samples}
-use Rattle.tc_command.specs.KeptWorks.{through}
 use Rattle.tc_command.specs.Stops.{Stops}
-use Rattle.signal_commands.proofs.SlicedOn.{at_limit, err_to, gathered_part, ok_to, ok_both, same_front, within_few, within_some}
+use Rattle.signal_commands.proofs.SlicedOn.{at_limit, err_to, ok_to, ok_both, same_front, within_few, within_some}
 use Rattle.signal_commands.proofs.pcm_ltc.SlicedSound.slice.Goals as goal
-
--- so many samples were taken, and what is gathered was not
-pub returns-in_err-push-clause-stops : goal.returns-in_err-push-clause-stops
-returns-in_err-push-clause-stops g c =
-    through c.from_residual.result c.from_residual.ensures.1 (λ stop same whole written rest slices.
-    rw (same, c.in_err-push.ensures.why) (gathered_part c.args.self.now whole written (c.args.bytes.now ++ rest) _ _ slices c.in_err-push.ensures.front))
 
 -- so many samples were taken, and here is another
 pub returns-then-self-eq-MAX_SAMPLES-clause-stops : goal.returns-then-self-eq-MAX_SAMPLES-clause-stops
 returns-then-self-eq-MAX_SAMPLES-clause-stops g c = λ whole written rest slices.
-    at_limit c.args.self.now whole written (c.args.bytes.now ++ rest) _ _ slices c.if-self-eq-MAX_SAMPLES.true
-    (omega (arith, length-append c.args.bytes.now rest, c.requires.some)) c.in_ok-push.ensures.all
+    at_limit c.args.self.now whole written (c.args.bytes.now ++ rest) _ _ _ slices c.if-self-eq-MAX_SAMPLES.true
+    (omega (arith, length-append c.args.bytes.now rest, c.requires.some)) c.push_before.ensures.behind
 
 pub slice_all-requires-clause-some : goal.slice_all-requires-clause-some
 slice_all-requires-clause-some g c =

@@ -1,4 +1,5 @@
-use Rattle.std.proofs.Common.{◌++◌, [], ◌∷◌, List, ℕ, Some, None, drop, get_or, take, ap, subst, sym, ◌∙◌, append-nil}
+use Rattle.std.proofs.Common.{◌++◌, [], ◌∷◌, List, ℕ, Some, None, drop, get_or, take, ap, subst}
+use Rattle.std.proofs.Common.{sym, ◌∙◌, append-nil, refl}
 use Rattle.std.proofs.KnownBytes.{Appends-nil}
 use Rattle.std.proofs.lemmas.List.{take_all}
 use Rattle.std.specs.declared.option.Option.{Option}
@@ -7,7 +8,8 @@ use Rattle.signal_commands.specs.KeptSlices.{Slices}
 use Rattle.signal_commands.specs.PcmLtc.{along_samples}
 use Rattle.tc_command.specs.Stops.{Stops}
 use Rattle.tc_command.specs.KeptWorks.{first_only, through}
-use Rattle.signal_commands.proofs.SlicedOn.{any_half, err_to, half_first, half_then, no_half, ok_to}
+use Rattle.signal_commands.proofs.SlicedOn.{any_half, err_to, falls, falls_by_half, half_first}
+use Rattle.signal_commands.proofs.SlicedOn.{half_then, no_half, ok_to, with_three}
 use Rattle.signal_commands.proofs.pcm_ltc.SlicedSoundEngine.take.Goals as goal
 
 -- the sample that the first byte completes stops the command
@@ -39,6 +41,12 @@ returns-in-Some-clause-works g c = λ front written stands.
       },
     )
 
+pub returns-in-Some-clause-budget : goal.returns-in-Some-clause-budget
+returns-in-Some-clause-budget g c =
+    let e = c.in_ok-slice.ensures in
+    falls c.args.self.now.samples c.slice.new.self.samples c.in_ok-slice.field-0 c.args.self.now.half None refl
+    e.count.0 e.samples e.going.within
+
 -- the only byte begins one
 pub returns-then-bytes-eq1-clause-works : goal.returns-then-bytes-eq1-clause-works
 returns-then-bytes-eq1-clause-works g c = λ front written stands.
@@ -56,7 +64,19 @@ returns-then-bytes-eq1-clause-works g c = λ front written stands.
       },
     )
 
+pub returns-then-bytes-eq1-clause-budget : goal.returns-then-bytes-eq1-clause-budget
+returns-then-bytes-eq1-clause-budget g c =
+    falls_by_half c.args.self.now.samples c.args.self.now.half (get_or c.args.bytes.now 0 0) c.in_default.is
+    c.requires.going.within
+
 -- whole samples stand first
+pub returns-clause-budget : goal.returns-clause-budget
+returns-clause-budget g c =
+    let e = c.slice-2.ensures in
+    with_three c.slice-2.result e.going e.count e.samples (λ going count within samples.
+    falls c.args.self.now.samples c.slice-2.new.self.samples count c.args.self.now.half c.slice-2.new.self.half
+    (e.half ∙ c.in_default.is) within.0 samples going.within)
+
 pub returns-clause-stops : goal.returns-clause-stops
 returns-clause-stops g c =
     let s = c.args.self.now in

@@ -4,7 +4,7 @@ use Rattle.std.proofs.lemmas.List.{take-append-drop}
 use Rattle.line_file.specs.Texts.{field_line}
 use Rattle.signal_commands.specs.declared.vitc_read.FieldReport.{FieldReport}
 use Rattle.tc_command.specs.KeptWorks.{through}
-use Rattle.signal_commands.proofs.FieldsGrow.{none_more, one_more_part, printed}
+use Rattle.signal_commands.proofs.FieldsGrow.{fits_more, less_to_come, none_more, one_more_part, printed}
 use Rattle.signal_commands.proofs.vitc_read.FieldReportEngine.take.Goals as goal
 use Rattle.tc_io.specs.Verdict.{verdict_as}
 use Rattle.tc_command.specs.declared.input_fault.InputFault.TheVariants.{Lines}
@@ -30,6 +30,17 @@ returns-in_ok-print-in-Field-clause-works g c = λ front written stands.
       printed c.a_decoder_tells_the_file.ensures r mid c.print.new.self front written taken c.in-Field.answer stands reads_on refl
           c.in_ok-print-in-Field.ensures.counted,
     )
+
+pub returns-in_ok-print-in-Field-clause-going : goal.returns-in_ok-print-in-Field-clause-going
+returns-in_ok-print-in-Field-clause-going g c =
+    fits_more c.args.self.now c.print.new.self c.take.new.self c.in-Field.answer c.requires.going
+    c.in-Field.ensures.takes.fields c.in-Field.ensures.bounds.0 c.in_ok-print-in-Field.ensures.counted
+
+pub returns-in_ok-print-in-Field-clause-budget : goal.returns-in_ok-print-in-Field-clause-budget
+returns-in_ok-print-in-Field-clause-budget g c =
+    let adds = c.in-Field.ensures.takes in
+    less_to_come c.args.self.now c.print.new.self c.take.new.self c.in-Field.answer c.in-Field.count adds.some
+    adds.taken c.in-Field.ensures.bounds c.in_ok-print-in-Field.ensures.counted
 
 -- its line was not taken
 pub returns-in_err-print-in-Field-clause-stops : goal.returns-in_err-print-in-Field-clause-stops

@@ -1,11 +1,7 @@
-use Rattle.std.proofs.Common.{Option, take, refl, subst, ap, ◌∙◌}
-use Rattle.wave_file.specs.declared.format.WaveFormat.{WaveFormat}
-use Rattle.wave_file.specs.StandsFor.{IsTold}
-use Rattle.wave_file.specs.Wave.{reading_of}
-use Rattle.tc_io.specs.Verdict.{good}
+use Rattle.std.proofs.Common.{take, refl, ap, ◌∙◌}
 use Rattle.signal_commands.specs.KeptTrack.{pace_in}
 use Rattle.tc_command.specs.KeptWorks.{through}
-use Rattle.signal_commands.proofs.SlicedTracks.{Decodes, Slices, slice_stop, sliced_on, ticks_fit}
+use Rattle.signal_commands.proofs.SlicedTracks.{Slices, decodes_more, slice_stop, sliced_on, ticks_fit}
 use Rattle.signal_commands.proofs.wav_ltc.SlicedTrack.take_blocks.Goals as goal
 
 -- the ticks of the samples are few
@@ -15,14 +11,8 @@ slice-requires-clause-room g c =
     let adds = c.samples-count.ensures.adds in
     let more = take c.samples-count.result.1 c.samples-count.new.room in
     let next = record s { decoder = c.samples-count.new.self } in
-    let decodes : Decodes s next (take c.samples-count.result.0 c.args.bytes.now) more = record {
-      slicing = refl;
-      track = adds.track;
-      within = c.format-told.ensures.within;
-      stands = adds.stands;
-      told = λ all given stands. subst (λ (f : Option WaveFormat). IsTold (reading_of c.samples-count.new.self.track all) f given good)
-          c.format-told.ensures.value (c.format-told.ensures.told all given stands);
-    } in
+    let decodes = decodes_more s next (take c.samples-count.result.0 c.args.bytes.now) more _ refl
+    adds.track adds.stands c.format-told.ensures.within c.format-told.ensures.value c.format-told.ensures.told in
     ticks_fit c.samples_are_few_and_behind_a_format.ensures s next (take c.samples-count.result.0 c.args.bytes.now) more c.requires decodes
 
 -- what they bring was not taken
@@ -32,14 +22,8 @@ returns-in_err-slice-clause-stops g c =
     let adds = c.samples-count.ensures.adds in
     let more = take c.samples-count.result.1 c.samples-count.new.room in
     let next = record s { decoder = c.samples-count.new.self } in
-    let decodes : Decodes s next (take c.samples-count.result.0 c.args.bytes.now) more = record {
-      slicing = refl;
-      track = adds.track;
-      within = c.format-told.ensures.within;
-      stands = adds.stands;
-      told = λ all given stands. subst (λ (f : Option WaveFormat). IsTold (reading_of c.samples-count.new.self.track all) f given good)
-          c.format-told.ensures.value (c.format-told.ensures.told all given stands);
-    } in
+    let decodes = decodes_more s next (take c.samples-count.result.0 c.args.bytes.now) more _ refl
+    adds.track adds.stands c.format-told.ensures.within c.format-told.ensures.value c.format-told.ensures.told in
     through c.from_residual.result c.from_residual.ensures.1 (λ stop same front written stands.
     let f = c.in_err-slice.ensures.front stands.samples stands.slicer in
     rw (same, c.in_err-slice.ensures.why) (slice_stop c.samples_are_few_and_behind_a_format.ensures s next front written c.args.bytes.now f.0
@@ -52,14 +36,8 @@ returns-clause-works g c = λ front written stands.
     let adds = c.samples-count.ensures.adds in
     let more = take c.samples-count.result.1 c.samples-count.new.room in
     let next = record s { decoder = c.samples-count.new.self; slicer = c.slice.new.slicer; room = c.samples-count.new.room; gathered = c.slice.new.gathered } in
-    let decodes : Decodes s next (take c.samples-count.result.0 c.args.bytes.now) more = record {
-      slicing = refl;
-      track = adds.track;
-      within = c.format-told.ensures.within;
-      stands = adds.stands;
-      told = λ all given stands. subst (λ (f : Option WaveFormat). IsTold (reading_of c.samples-count.new.self.track all) f given good)
-          c.format-told.ensures.value (c.format-told.ensures.told all given stands);
-    } in
+    let decodes = decodes_more s next (take c.samples-count.result.0 c.args.bytes.now) more _ refl
+    adds.track adds.stands c.format-told.ensures.within c.format-told.ensures.value c.format-told.ensures.told in
     let slices : Slices s next more = record { settings = c.in_ok-slice.ensures.settings; stands = c.in_ok-slice.ensures.stands } in
     let all = c.in_ok-slice.ensures.all stands.samples stands.slicer in
     sliced_on c.samples_are_few_and_behind_a_format.ensures s next front written (take c.samples-count.result.0 c.args.bytes.now) all.0 more _ _ stands

@@ -1,12 +1,9 @@
 use Rattle.std.specs.Int.{w16}
-use Rattle.std.proofs.Common.{FitsSigned, rules, to_z-of_z, [], ◌∷◌, Option, take, refl, subst, ap, ◌∙◌}
-use Rattle.wave_file.specs.declared.format.WaveFormat.{WaveFormat}
-use Rattle.wave_file.specs.StandsFor.{IsTold}
-use Rattle.wave_file.specs.Wave.{reading_of}
-use Rattle.tc_io.specs.Verdict.{good}
+use Rattle.std.proofs.Common.{FitsSigned, rules, to_z-of_z, [], ◌∷◌, take, refl, ap, ◌∙◌}
 use Rattle.signal_commands.specs.KeptTrack.{pace_in}
 use Rattle.tc_command.specs.KeptWorks.{through}
-use Rattle.signal_commands.proofs.SlicedTracks.{Decodes, Slices, begun, fault_stop, gathered_stop, limit_stop, passed_on, slice_stop, sliced_on, ticks_fit}
+use Rattle.signal_commands.proofs.SlicedTracks.{Slices, begun, decodes_more, fault_stop, gathered_stop, limit_stop}
+use Rattle.signal_commands.proofs.SlicedTracks.{passed_on, slice_stop, sliced_on, ticks_fit}
 use Rattle.signal_commands.proofs.wav_ltc.SlicedTrack.take_piece.Goals as goal
 
 -- bytes without a sample
@@ -16,14 +13,8 @@ returns-in-Nothing-clause-works g c = λ front written stands.
     let takes = c.in-Nothing.ensures.takes in
     let adds = takes.0 in
     let next = record s { decoder = c.take-taken.new.self } in
-    let decodes : Decodes s next (take c.in-Nothing.count c.args.bytes.now) [] = record {
-      slicing = refl;
-      track = adds.track;
-      within = c.format-told.ensures.within;
-      stands = adds.stands;
-      told = λ all given stands. subst (λ (f : Option WaveFormat). IsTold (reading_of c.take-taken.new.self.track all) f given good)
-          c.format-told.ensures.value (c.format-told.ensures.told all given stands);
-    } in
+    let decodes = decodes_more s next (take c.in-Nothing.count c.args.bytes.now) [] _ refl
+    adds.track adds.stands c.format-told.ensures.within c.format-told.ensures.value c.format-told.ensures.told in
     passed_on s next front written (take c.in-Nothing.count c.args.bytes.now) _ stands decodes refl refl takes.1
 
 -- the header
@@ -38,14 +29,8 @@ returns-in_ok-put-in-Begin-clause-works g c = λ front written stands.
     let takes = c.in-Begin.ensures.takes in
     let adds = takes.0 in
     let next = record s { decoder = c.take-taken.new.self; gathered = c.put.new.self } in
-    let decodes : Decodes s next (take c.in-Begin.count c.args.bytes.now) [] = record {
-      slicing = refl;
-      track = adds.track;
-      within = c.format-told.ensures.within;
-      stands = adds.stands;
-      told = λ all given stands. subst (λ (f : Option WaveFormat). IsTold (reading_of c.take-taken.new.self.track all) f given good)
-          c.format-told.ensures.value (c.format-told.ensures.told all given stands);
-    } in
+    let decodes = decodes_more s next (take c.in-Begin.count c.args.bytes.now) [] _ refl
+    adds.track adds.stands c.format-told.ensures.within c.format-told.ensures.value c.format-told.ensures.told in
     begun c.samples_are_few_and_behind_a_format.ensures s next front written (take c.in-Begin.count c.args.bytes.now) c.in-Begin.format _ _ stands decodes
     refl takes.1 takes.2 (rw c.header-header.ensures at c.in_ok-put-in-Begin.ensures.all)
 
@@ -56,14 +41,8 @@ slice-requires-clause-room g c =
     let takes = c.in-Sample.ensures.takes in
     let adds = takes.0 in
     let next = record s { decoder = c.take-taken.new.self } in
-    let decodes : Decodes s next (take c.in-Sample.count c.args.bytes.now) (c.in-Sample.sample ∷ []) = record {
-      slicing = refl;
-      track = adds.track;
-      within = c.format-told.ensures.within;
-      stands = adds.stands;
-      told = λ all given stands. subst (λ (f : Option WaveFormat). IsTold (reading_of c.take-taken.new.self.track all) f given good)
-          c.format-told.ensures.value (c.format-told.ensures.told all given stands);
-    } in
+    let decodes = decodes_more s next (take c.in-Sample.count c.args.bytes.now) (c.in-Sample.sample ∷ []) _ refl
+    adds.track adds.stands c.format-told.ensures.within c.format-told.ensures.value c.format-told.ensures.told in
     ticks_fit c.samples_are_few_and_behind_a_format.ensures s next (take c.in-Sample.count c.args.bytes.now) (c.in-Sample.sample ∷ []) c.requires.going decodes
 
 pub returns-in_err-slice-in-Sample-clause-stops : goal.returns-in_err-slice-in-Sample-clause-stops
@@ -72,14 +51,8 @@ returns-in_err-slice-in-Sample-clause-stops g c =
     let takes = c.in-Sample.ensures.takes in
     let adds = takes.0 in
     let next = record s { decoder = c.take-taken.new.self } in
-    let decodes : Decodes s next (take c.in-Sample.count c.args.bytes.now) (c.in-Sample.sample ∷ []) = record {
-      slicing = refl;
-      track = adds.track;
-      within = c.format-told.ensures.within;
-      stands = adds.stands;
-      told = λ all given stands. subst (λ (f : Option WaveFormat). IsTold (reading_of c.take-taken.new.self.track all) f given good)
-          c.format-told.ensures.value (c.format-told.ensures.told all given stands);
-    } in
+    let decodes = decodes_more s next (take c.in-Sample.count c.args.bytes.now) (c.in-Sample.sample ∷ []) _ refl
+    adds.track adds.stands c.format-told.ensures.within c.format-told.ensures.value c.format-told.ensures.told in
     through c.from_residual-in_err-slice-in-Sample.result c.from_residual-in_err-slice-in-Sample.ensures.1 (λ stop same front written stands.
     let fits : FitsSigned w16 c.in-Sample.sample = search rules in
     let f = (rw (to_z-of_z fits) at c.in_err-slice-in-Sample.ensures.front) stands.samples stands.slicer in
@@ -93,14 +66,8 @@ returns-in_ok-slice-in-Sample-clause-works g c = λ front written stands.
     let adds = takes.0 in
     let more = c.in-Sample.sample ∷ [] in
     let next = record s { decoder = c.take-taken.new.self; slicer = c.slice.new.slicer; gathered = c.slice.new.gathered } in
-    let decodes : Decodes s next (take c.in-Sample.count c.args.bytes.now) more = record {
-      slicing = refl;
-      track = adds.track;
-      within = c.format-told.ensures.within;
-      stands = adds.stands;
-      told = λ all given stands. subst (λ (f : Option WaveFormat). IsTold (reading_of c.take-taken.new.self.track all) f given good)
-          c.format-told.ensures.value (c.format-told.ensures.told all given stands);
-    } in
+    let decodes = decodes_more s next (take c.in-Sample.count c.args.bytes.now) more _ refl
+    adds.track adds.stands c.format-told.ensures.within c.format-told.ensures.value c.format-told.ensures.told in
     let fits : FitsSigned w16 c.in-Sample.sample = search rules in
     let slices : Slices s next more = record {
       settings = c.in_ok-slice-in-Sample.ensures.settings;
@@ -111,25 +78,13 @@ returns-in_ok-slice-in-Sample-clause-works g c = λ front written stands.
     decodes slices takes.1 c.pace_in-pace.result (c.pace_in-pace.ensures.value ∙ ap (pace_in s.slicing) c.format-told.ensures.value) all.1 all.2
 
 -- a fault
-pub returns-in_err-push-in-Fault-clause-stops : goal.returns-in_err-push-in-Fault-clause-stops
-returns-in_err-push-in-Fault-clause-stops g c =
-    through c.from_residual-in_err-push-in-Fault.result c.from_residual-in_err-push-in-Fault.ensures.1 (λ stop same front written stands.
-    rw (same, c.in_err-push-in-Fault.ensures.why)
-    (gathered_stop c.args.self.now front written c.args.bytes.now _ _ stands c.in_err-push-in-Fault.ensures.front))
-
-pub returns-in_ok-push-in-Fault-clause-stops : goal.returns-in_ok-push-in-Fault-clause-stops
-returns-in_ok-push-in-Fault-clause-stops g c = λ front written stands.
-    fault_stop c.args.self.now front written c.args.bytes.now c.in-Fault.fault _ _ stands (c.in-Fault.ensures.stops front stands.samples stands.decoder)
-    c.in_ok-push-in-Fault.ensures.all
+pub returns-in-Fault-clause-stops : goal.returns-in-Fault-clause-stops
+returns-in-Fault-clause-stops g c = λ front written stands.
+    fault_stop c.args.self.now front written c.args.bytes.now c.in-Fault.fault _ _ _ stands
+    (c.in-Fault.ensures.stops front stands.samples stands.decoder) c.push_before.ensures.behind
 
 -- the limit
-pub returns-in_err-push-in-Limit-clause-stops : goal.returns-in_err-push-in-Limit-clause-stops
-returns-in_err-push-in-Limit-clause-stops g c =
-    through c.from_residual-in_err-push-in-Limit.result c.from_residual-in_err-push-in-Limit.ensures.1 (λ stop same front written stands.
-    rw (same, c.in_err-push-in-Limit.ensures.why)
-    (gathered_stop c.args.self.now front written c.args.bytes.now _ _ stands c.in_err-push-in-Limit.ensures.front))
-
-pub returns-in_ok-push-in-Limit-clause-stops : goal.returns-in_ok-push-in-Limit-clause-stops
-returns-in_ok-push-in-Limit-clause-stops g c = λ front written stands.
-    limit_stop c.args.self.now front written c.args.bytes.now _ _ stands (c.in-Limit.ensures.stops front stands.samples stands.decoder)
-    c.in_ok-push-in-Limit.ensures.all
+pub returns-in-Limit-clause-stops : goal.returns-in-Limit-clause-stops
+returns-in-Limit-clause-stops g c = λ front written stands.
+    limit_stop c.args.self.now front written c.args.bytes.now _ _ _ stands
+    (c.in-Limit.ensures.stops front stands.samples stands.decoder) c.push_before-in-Limit.ensures.behind
