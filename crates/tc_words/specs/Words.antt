@@ -40,7 +40,8 @@ unfoldable pub ltc_jam : List Word → Result Job WordsFault
 ltc_jam (limit ∷ cell ∷ tick_rate ∷ more) =
     if nat_lt 1 (length more) then Err CountOfWords
     else value_or 1 (between 0 255 limit) (λ n. value_or 2 (between MIN_SHAPED MAX_SHAPED cell) (λ c.
-    value_or 3 (between 1 MAX_TICK_RATE tick_rate) (λ r. value_or 4 (read_or Normal tolerance_in (slice_get more 0)) (λ p.
+    value_or 3 (between 1 MAX_TICK_RATE tick_rate) (λ r.
+    value_or 4 (read_or Normal tolerance_in (slice_get more 0)) (λ p.
     Ok (jobs.LtcJam (jamming_of (record { limit = n; profile = p }) c r))))))
 ltc_jam _ = Err CountOfWords
 
