@@ -128,29 +128,29 @@ impl Report {
         ensures why { IfErr result (λ stop. stop ≡ Stop.WriteFault) }
         ensures cause { HasOutCause (K.faults out.old) (K.faults out.new) result }
     {
-        self.push_one(events.first, out)?;
-        self.push_one(events.second, out)
+        self.push_one(&events.first, out)?;
+        self.push_one(&events.second, out)
     }
 
     /// Counts an event and pushes its line, where there is one.
-    fn push_one<K: Sink>(&mut self, event: Option<Event>, out: &mut K) -> Result<(), Stop>
-        requires line { IfSome event FitsLine }
+    fn push_one<K: Sink>(&mut self, event: &Option<Event>, out: &mut K) -> Result<(), Stop>
+        requires line { IfSome event.now FitsLine }
         requires header { IsTickRate self.old.header.tick_rate }
         requires room { self.old.words + self.old.refused + self.old.lost ≤ 2 * MAX_INTERVALS + 1 }
-        ensures counted { self.new ≡ all_counted (listed event) self.old }
+        ensures counted { self.new ≡ all_counted (listed event.now) self.old }
         ensures reader { self.new.reader ≡ self.old.reader }
         ensures header { self.new.header ≡ self.old.header }
         ensures all { OnOk result (Appends (K.written out.old) (K.written out.new)
-            (lines self.old.header (listed event))) }
+            (lines self.old.header (listed event.now))) }
         ensures front { OnErr result (AppendsFront (K.written out.old) (K.written out.new)
-            (lines self.old.header (listed event))) }
+            (lines self.old.header (listed event.now))) }
         ensures why { IfErr result (λ stop. stop ≡ Stop.WriteFault) }
         ensures cause { HasOutCause (K.faults out.old) (K.faults out.new) result }
     {
         match event {
             Some(event) => {
-                self.count(&event);
-                push_line(out, &event_text(&event, &self.header))
+                self.count(event);
+                push_line(out, &event_text(event, &self.header))
             }
             None => Ok(()),
         }
