@@ -37,7 +37,8 @@ lines_of_both header events = flat_map-append (event_line header) (listed events
 
 -- a front of the first of them
 pub front_of_first : (header : IntervalHeader) (events : Events) (old new : Option (List ℕ))
-    → AppendsFront old new (lines header (listed events.first)) → AppendsFront old new (lines header (event_list events))
+    → AppendsFront old new (lines header (listed events.first))
+    → AppendsFront old new (lines header (event_list events))
 front_of_first header events old new front =
     subst (λ (l : List ℕ). AppendsFront old new l) (sym (lines_of_both header events)) (front_of_more old new _ _ front)
 

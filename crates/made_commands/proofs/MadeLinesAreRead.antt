@@ -1,5 +1,6 @@
 -- A line file that is made is read back: each field has a label, a word with one line, and runs that stand for its bits.
-use Rattle.std.proofs.Common.{◌≡◌, ℕ, zero, suc, ◌+◌, ◌*◌, ◌%◌, ◌^◌, ◌<◌, ◌≤◌, Bool, true, false, List, [], ◌∷◌, Ok, length, refl}
+use Rattle.std.proofs.Common.{◌≡◌, ℕ, zero, suc, ◌+◌, ◌*◌, ◌%◌, ◌^◌, ◌<◌, ◌≤◌}
+use Rattle.std.proofs.Common.{Bool, true, false, List, [], ◌∷◌, Ok, length, refl}
 use Rattle.std.proofs.Common.{sym, subst, lit<, lit≤, arith}
 use Rattle.std.specs.Prelude.{pos, map}
 use Rattle.std.specs.List.{flat_map, range_with_len}

@@ -1,5 +1,6 @@
 -- A line file is made field by field: what was written and what is still to be made are the whole.
-use Rattle.std.proofs.Common.{◌≡◌, None, ℕ, zero, suc, ◌+◌, false, true, List, [], ◌∷◌, ◌++◌, length, refl, sym, ap, ap₂}
+use Rattle.std.proofs.Common.{◌≡◌, None, ℕ, zero, suc, ◌+◌, false, true}
+use Rattle.std.proofs.Common.{List, [], ◌∷◌, ◌++◌, length, refl, sym, ap, ap₂}
 use Rattle.std.proofs.Common.{◌∙◌, append_assoc, arith}
 use Rattle.std.specs.Prelude.{ℤ, pos, ◌+ℤ◌, map}
 use Rattle.std.specs.declared.option.Option.{Option}

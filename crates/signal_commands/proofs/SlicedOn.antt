@@ -175,7 +175,8 @@ gathered_part s whole written bytes old new slices f =
     )
 
 -- past the limit: what is gathered was pushed, and is the part of the bytes; or it was not
-pub at_limit : (s : SlicedSound) (whole written bytes : List ℕ) (stop : Stop) (old new : Option (List ℕ)) → Slices s whole written
+pub at_limit : (s : SlicedSound) (whole written bytes : List ℕ) (stop : Stop) (old new : Option (List ℕ))
+    → Slices s whole written
     → s.samples ≡ MAX_SAMPLES → 2 ≤ length bytes → StopsBehind stops.Limit old new s.gathered.room.items stop
     → Stops (along_samples s.slicing) stop old new (whole ++ bytes) written
 at_limit s whole written bytes stop old new slices full some behind =
@@ -188,7 +189,10 @@ at_limit s whole written bytes stop old new slices full some behind =
       s.gathered.room.items,
       pushed,
       inl (
-        record { is = is_past MAX_SAMPLES (whole ++ bytes) (rw all (omega (arith, long, full, more, some_samples bytes some))); unspent = λ spent. spent },
+        record {
+          is = is_past MAX_SAMPLES (whole ++ bytes) (rw all (omega (arith, long, full, more, some_samples bytes some)));
+          unspent = λ spent. spent;
+        },
         slices.are ∙ ap (sliced s.slicing) (sym (ap (take MAX_SAMPLES) all
             ∙ take-append-le MAX_SAMPLES (samples_of whole) (samples_of bytes) (omega (arith, long, full))
             ∙ take_all MAX_SAMPLES (samples_of whole) (omega (arith, long, full)))),

@@ -263,7 +263,8 @@ told_stop s front written all v stands told =
     subst (λ (t : ℕ). IsTold (reading_of t all) (format_in_decoding s.decoder) stands.samples v) stands.track
     (subst (λ (l : List ℕ). IsTold (reading_of s.decoder.track l) (format_in_decoding s.decoder) stands.samples v) (append-nil all) (told []))
 
-pub fault_stop : (s : SlicedTrack) (front written bytes : List ℕ) (f : WaveFault) (stop : Stop) (old new : Option (List ℕ))
+pub fault_stop : (s : SlicedTrack) (front written bytes : List ℕ) (f : WaveFault) (stop : Stop)
+    (old new : Option (List ℕ))
     (stands : Stands s front written) → StopsAt s.decoder (front ++ bytes) stands.samples (taken.Fault f)
     → StopsBehind (stops.Refused (Sound f)) old new s.gathered.room.items stop
     → Stops (along_sound_file s.slicing) stop old new (front ++ bytes) written

@@ -1,17 +1,9 @@
--- Lines that were pushed one after another were pushed as one text, and a front of a later line leaves a front of that
--- text.
-use Rattle.std.proofs.Common.{◌≡◌, ℕ, List, [], ◌++◌, sym, ◌∙◌, ap, subst, append_assoc, append-nil}
+-- Pieces that were pushed one after another were pushed as one text, and a front of a later one leaves a front of it.
+use Rattle.std.proofs.Common.{◌≡◌, ℕ, List, ◌++◌, sym, ◌∙◌, ap, append_assoc}
 use Rattle.std.specs.declared.option.Option.{Option}
 use Rattle.std.specs.Io.KnownBytes.{Appends}
 use Rattle.std.proofs.KnownBytes.{Appends-trans}
 use Rattle.tc_io.specs.Sink.{AppendsFront}
-
--- one line after another
-pub two_pushed : (a b c : Option (List ℕ)) (first second : List ℕ) → Appends a b first → Appends b c second
-    → Appends a c (first ++ (second ++ []))
-two_pushed a b c first second f s =
-    let e : first ++ second ≡ first ++ (second ++ []) = ap (λ (l : List ℕ). first ++ l) (sym (append-nil second)) in
-    subst (λ (l : List ℕ). Appends a c l) e (Appends-trans a b c first second f s)
 
 -- a front of the first line
 pub front_of_more : (a b : Option (List ℕ)) (first more : List ℕ) → AppendsFront a b first
@@ -20,14 +12,6 @@ front_of_more a b first more f =
     let e : first ++ more ≡ f.0 ++ (f.1.0 ++ more) =
     ap (λ (l : List ℕ). l ++ more) f.1.1 ∙ append_assoc f.0 f.1.0 more in
     (f.0, (f.1.0 ++ more, e), f.2)
-
--- the first line and a front of the second
-pub front_of_second : (a b c : Option (List ℕ)) (first second : List ℕ) → Appends a b first → AppendsFront b c second
-    → AppendsFront a c (first ++ (second ++ []))
-front_of_second a b c first second pushed f =
-    let e : first ++ (second ++ []) ≡ (first ++ f.0) ++ f.1.0 =
-    ap (λ (l : List ℕ). first ++ l) (append-nil second ∙ f.1.1) ∙ sym (append_assoc first f.0 f.1.0) in
-    (first ++ f.0, (f.1.0, e), Appends-trans a b c first f.0 pushed f.2)
 
 -- what came first, and a front of the next piece of the rest
 pub front_of_piece : (a b c : Option (List ℕ)) (whole first rest piece more : List ℕ) → whole ≡ first ++ rest

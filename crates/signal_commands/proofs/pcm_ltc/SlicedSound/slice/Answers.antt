@@ -1,4 +1,5 @@
-use Rattle.std.proofs.Common.{◌≡◌, ◌-◌, ◌*◌, ◌≤◌, ◌++◌, List, ℕ, take, drop, length, ap, sym, subst, ◌∙◌, append_assoc, arith, length-append}
+use Rattle.std.proofs.Common.{◌≡◌, ◌-◌, ◌*◌, ◌≤◌, ◌++◌, List, ℕ, take, drop, length}
+use Rattle.std.proofs.Common.{ap, sym, subst, ◌∙◌, append_assoc, arith, length-append}
 use Rattle.std.proofs.lemmas.List.{length-take, take-append-drop}
 use Rattle.signal_commands.specs.declared.pcm_ltc.TheConstants.{MAX_SAMPLES}
 use Rattle.signal_commands.specs.KeptSlices.{Slices}
