@@ -8,8 +8,8 @@ use Rattle.tc_address.specs.Label.{Address}
 use Rattle.chase_script.specs.declared.row.ScriptRow.{ScriptRow}
 use Rattle.chase_script.specs.Script.{script_in}
 use Rattle.chase_command.specs.declared.chasing.TheConstants.{MAX_SCRIPT}
-use Rattle.tc_command.specs.declared.stop.ChaseStop.{ChaseStop}
-use Rattle.tc_command.specs.declared.stop.ChaseStop.TheVariants.{Refused, ReadFault, WriteFault, Memory, Limit}
+use Rattle.chase_command.specs.declared.stop.ChaseStop.{ChaseStop}
+use Rattle.chase_command.specs.declared.stop.ChaseStop.TheVariants.{Refused, ReadFault, WriteFault, Memory, Limit}
 use Rattle.std.specs.Prelude.{if◌then◌else◌, Ok, Err}
 use Rattle.chase_script.specs.Script.{Script}
 use Rattle.chase_command.specs.Chase.{IsChaseAnswer, IsScript, IsWhole, chase_output, chase_text}
@@ -17,8 +17,8 @@ use Rattle.chase_command.specs.KeptScript.{IsChaseOutput, IsChaseStop, IsTraced}
 use Rattle.tc_command.specs.Exchange.{Exchange, WritesAFront}
 use Rattle.tc_command.specs.KeptFirst.{whole_input}
 use Rattle.tc_command.specs.KeptWorks.{all_at_end}
-use Rattle.tc_command.specs.Notes.{chase_note}
-use Rattle.tc_command.specs.Status.{status_of_chase}
+use Rattle.chase_command.specs.Stop.{note_of}
+use Rattle.chase_command.specs.Stop.{status_of}
 use Rattle.chase_command.proofs.ChaseStatus.{ends_by}
 
 abbrev text_of_script : Address → Script → List ℕ
@@ -59,7 +59,7 @@ stop_first label Limit left all pulled written consumed is = nothing_first writt
 
 -- a chase that stopped answers so
 pub answer_of : (label : Address) (stop : ChaseStop) (e : Exchange) → IsChaseStop label stop e.left e.pulled e.written
-    → e.note ≡ chase_note stop → IsChaseAnswer label (status_of_chase stop) e
+    → e.note ≡ note_of stop → IsChaseAnswer label (status_of stop) e
 answer_of label stop e stopped same = record {
   ends = ends_by label stop e stopped same;
   first = λ rest whole left output.

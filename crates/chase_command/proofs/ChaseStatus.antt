@@ -12,20 +12,20 @@ use Rattle.chase_script.specs.declared.row.ScriptRow.{ScriptRow}
 use Rattle.chase_script.specs.Script.{script_in}
 use Rattle.chase_command.specs.declared.chasing.TheConstants.{MAX_SCRIPT}
 use Rattle.tc_command.specs.declared.status.Status.TheVariants as status
-use Rattle.tc_command.specs.declared.stop.ChaseStop.{ChaseStop}
-use Rattle.tc_command.specs.declared.stop.ChaseStop.TheVariants.{Refused, ReadFault, WriteFault, Memory, Limit}
+use Rattle.chase_command.specs.declared.stop.ChaseStop.{ChaseStop}
+use Rattle.chase_command.specs.declared.stop.ChaseStop.TheVariants.{Refused, ReadFault, WriteFault, Memory, Limit}
 use Rattle.chase_command.specs.Chase.{ChaseEndsBy}
 use Rattle.tc_command.specs.Causes.{SourceCause, OutCause}
-use Rattle.tc_command.specs.Status.{status_of_chase}
+use Rattle.chase_command.specs.Stop.{status_of}
 use Rattle.chase_command.specs.KeptScript.{IsChaseStop, IsGatherStop, IsPullStop, IsRowStop}
 use Rattle.tc_command.specs.Exchange.{Exchange}
-use Rattle.tc_command.specs.Notes.{chase_note}
+use Rattle.chase_command.specs.Stop.{note_of}
 use Rattle.tc_command.specs.KeptWorks.{all_at_end, front_of_all}
 
 -- ---- a chase that stopped ended so
 
 pub ends_by : (label : Address) (stop : ChaseStop) (e : Exchange) → IsChaseStop label stop e.left e.pulled e.written
-    → e.note ≡ chase_note stop → ChaseEndsBy label (status_of_chase stop) e
+    → e.note ≡ note_of stop → ChaseEndsBy label (status_of stop) e
 ends_by label (Refused fault) e stopped same = (fault, same, stopped.0, stopped.1, stopped.2)
 ends_by label ReadFault e stopped same = (same, stopped.0, stopped.1)
 ends_by label WriteFault e stopped same = (same, stopped)

@@ -11,11 +11,11 @@ use Rattle.chase_script.specs.Lock.{KeepsItsLock}
 use Rattle.chase_script.specs.Script.{script_in}
 use Rattle.chase_script.specs.TraceText.{trace_from, trace_text}
 use Rattle.chase_command.specs.declared.chasing.TheConstants.{MAX_SCRIPT}
-use Rattle.tc_command.specs.declared.stop.ChaseStop.TheVariants as chase
+use Rattle.chase_command.specs.declared.stop.ChaseStop.TheVariants as chase
 use Rattle.tc_command.specs.declared.status.Status.{Status}
 use Rattle.tc_command.specs.declared.status.Status.TheVariants as status
 use Rattle.tc_command.specs.Exchange.{Exchange, WritesAFront}
-use Rattle.tc_command.specs.Notes.{chase_note}
+use Rattle.chase_command.specs.Stop.{note_of}
 
 -- the text of the trace of these rows, of a chase that begins at the label
 abbrev pub chase_text : Address → List ScriptRow → List ℕ
@@ -77,16 +77,16 @@ pub record IsChaseDone (label : Address) (e : Exchange) : Type 0 where
 -- the first pull or for the rows
 abbrev pub ChaseEndsBy : Address → Status → Exchange → Type 0
 ChaseEndsBy label status.Done e = IsChaseDone label e
-ChaseEndsBy label status.Refused e = (fault : RowFault) × (e.note ≡ chase_note (chase.Refused fault))
+ChaseEndsBy label status.Refused e = (fault : RowFault) × (e.note ≡ note_of (chase.Refused fault))
     × IsWhole e.left e.pulled × (script_in label.count e.pulled ≡ Err fault) × (e.written ≡ [])
 ChaseEndsBy label status.ReadFault e =
-    (e.note ≡ chase_note chase.ReadFault) × (length e.pulled ≤ MAX_SCRIPT) × (e.written ≡ [])
-ChaseEndsBy label status.WriteFault e = (e.note ≡ chase_note chase.WriteFault)
+    (e.note ≡ note_of chase.ReadFault) × (length e.pulled ≤ MAX_SCRIPT) × (e.written ≡ [])
+ChaseEndsBy label status.WriteFault e = (e.note ≡ note_of chase.WriteFault)
     × ((rows : List ScriptRow) × IsScript label e.left e.pulled rows × IsFront e.written (chase_text label rows))
 ChaseEndsBy label status.Memory e =
-    (e.note ≡ chase_note chase.Memory) × ((e.pulled ≡ []) ⊎ IsWhole e.left e.pulled) × (e.written ≡ [])
+    (e.note ≡ note_of chase.Memory) × ((e.pulled ≡ []) ⊎ IsWhole e.left e.pulled) × (e.written ≡ [])
 ChaseEndsBy label status.Limit e =
-    (e.note ≡ chase_note chase.Limit) × (length e.pulled ≡ MAX_SCRIPT + 1) × (e.written ≡ [])
+    (e.note ≡ note_of chase.Limit) × (length e.pulled ≡ MAX_SCRIPT + 1) × (e.written ≡ [])
 ChaseEndsBy label status.Usage e = ⊥
 
 -- what a chase answers: it ended by its status, and whatever that is, what was written is a front of the trace where

@@ -2,8 +2,8 @@
 use Rattle.std.specs.Prelude.{◌≡◌, ◌⊎◌, ℕ, ◌+◌, ◌≤◌, List, [], length, Option, Result, Ok, Err}
 use Rattle.chase_script.specs.Script.{Script}
 use Rattle.chase_command.specs.declared.chasing.TheConstants.{MAX_SCRIPT}
-use Rattle.tc_command.specs.declared.stop.ChaseStop.{ChaseStop}
-use Rattle.tc_command.specs.declared.stop.ChaseStop.TheVariants.{Refused, ReadFault, WriteFault, Memory, Limit}
+use Rattle.chase_command.specs.declared.stop.ChaseStop.{ChaseStop}
+use Rattle.chase_command.specs.declared.stop.ChaseStop.TheVariants.{Refused, ReadFault, WriteFault, Memory, Limit}
 use Rattle.std.specs.Io.KnownBytes.{IsAtEnd}
 use Rattle.tc_io.specs.Sink.{IsFront}
 use Rattle.tc_address.specs.Label.{Address}
@@ -12,7 +12,7 @@ use Rattle.chase_script.specs.Script.{script_in}
 use Rattle.chase_command.specs.Chase.{IsScript, IsWhole, chase_output, chase_text}
 use Rattle.tc_command.specs.declared.status.Status.{Status}
 use Rattle.tc_command.specs.declared.status.Status.TheVariants as status
-use Rattle.tc_command.specs.Status.{status_of_chase}
+use Rattle.chase_command.specs.Stop.{status_of}
 
 -- the chase came to its end: the whole trace was written
 pub record IsTraced (label : Address) (left : Option (List ℕ)) (pulled written : List ℕ) (rows : List ScriptRow) : Type 0 where
@@ -34,7 +34,7 @@ IsChaseStop label Limit left pulled written = (length pulled ≡ MAX_SCRIPT + 1)
 -- of a part of it that came to its end, or stopped
 abbrev pub chase_ended : {T : Type 0} → Result T ChaseStop → Status
 chase_ended (Ok _) = status.Done
-chase_ended (Err stop) = status_of_chase stop
+chase_ended (Err stop) = status_of stop
 
 -- the one output of a whole input
 abbrev pub IsChaseOutput : Address → List ℕ → List ℕ → Type 0

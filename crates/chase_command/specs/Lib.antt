@@ -1,2 +1,3 @@
 pub mod Chase
 pub mod KeptScript
+pub mod Stop

@@ -15,18 +15,16 @@ ghost use Rattle.chase_command.specs.Chase.{chase_status_on};
 ghost use Rattle.tc_command.specs.Exchange.{Exchange, IsPulled, IsNoted};
 ghost use Rattle.chase_command.specs.KeptScript.{IsChaseStop, IsGatherStop, IsPullStop, IsRowStop, IsTraced, chase_ended};
 
+use crate::stop::ChaseStop;
 use crate::trace::Trace;
 use chase_script::{Script, ScriptFault, script_rows};
 use std::alloc::Global;
 use tc_address::{Count, Label};
-use tc_command::{ChaseStop, Status, chase_note, give_all, push_note};
+use tc_command::{PULLED, Status, give_all, push_note};
 use tc_io::{Sink, Source};
 
 /// How many bytes a script has at most.
 pub const MAX_SCRIPT: usize = 1_048_576;
-
-/// The room for the bytes of one pull.
-const PULLED: usize = 4096;
 
 /// Works a chase that begins at a label along a script. Nothing is written before the whole script was
 /// read and each row was judged.
@@ -63,8 +61,8 @@ pub fn chase<S: Source, K: Sink, N: Sink>(
     match trace_script(alloc, label, source, out) {
         Ok(()) => Status::Done,
         Err(stop) => {
-            push_note(notes, &chase_note(stop));
-            Status::of_chase(stop)
+            push_note(notes, &stop.note());
+            stop.status()
         }
     }
 }

@@ -8,11 +8,12 @@
 //!   `IsChaseAnswer`). Nothing is written before the whole script was read and each row was judged.
 //! - Where no call fails, the whole input leaves one status, want of memory aside (clause `status`).
 //!
-//! Read `chasing` and `trace`. `tc_top` stands on this crate.
+//! Read `chasing`, `trace` and `stop`. `tc_top` stands on this crate.
 #![tactic(auto)]
 
 mod chasing;
 pub mod laws;
+mod stop;
 mod trace;
 
 pub use chasing::{MAX_SCRIPT, chase};

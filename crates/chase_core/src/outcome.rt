@@ -18,6 +18,15 @@ pub(crate) struct Outcome {
 /// Half a frame, in subframes: how far a locked transport may be from its place.
 const WINDOW: u32 = 40;
 
+/// How far a locating transport goes in a step at most, in subframes: 32 frames.
+const MOST_LOCATING: u32 = 2_560;
+
+/// By how much a pulling transport goes beside its master in a step at most, in subframes: 16 frames.
+const MOST_PULLING: u32 = 1_280;
+
+/// By how much a locked one does, in subframes.
+const MOST_LOCKED: u32 = 24;
+
 /// How far a frame carries a master, in subframes.
 fn motion(direction: Direction) -> i32
     ensures { result ≡ motion_of direction }
@@ -73,7 +82,7 @@ pub(crate) fn located(target: u32, error: i32) -> Outcome
         Outcome {
             mode: Mode::Locating(target),
             error,
-            order: held(error, 2560),
+            order: held(error, MOST_LOCATING),
             loss: None,
         }
     }
@@ -99,9 +108,9 @@ pub(crate) fn pulled(direction: Direction, error: i32) -> Outcome
     ensures order { unsigned_abs result.order ≤ 2_560 }
 {
     if is_near(error) {
-        followed(Mode::Locked, direction, error, 24)
+        followed(Mode::Locked, direction, error, MOST_LOCKED)
     } else {
-        followed(Mode::Pulling, direction, error, 1280)
+        followed(Mode::Pulling, direction, error, MOST_PULLING)
     }
 }
 

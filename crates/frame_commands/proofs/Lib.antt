@@ -1,9 +1,15 @@
+mod CleanCopy
 mod FewerFrames
 mod FlightGrows
+mod FollowsTheFrames
 mod FramesAnew
 mod FramesFirst
 mod FramesInOrder
 mod LinesOfFrames
 mod MadeInOrder
+mod MarkedLines
+mod OneText
 mod SpansOfFrames
+mod SpansOfTheTape
 mod StepsGrow
+mod ToldOfFrames

@@ -1,5 +1,5 @@
 -- `ltc-chase`: the steps of a chase over the frames of a recording; and why such a chase loses its lock.
-use Rattle.std.specs.Prelude.{◌≡◌, ℕ, suc, ◌-◌, ◌≤◌, List, length, take, slice_get, Some, None, unsigned_abs}
+use Rattle.std.specs.Prelude.{◌≡◌, ℕ, suc, true, ◌-◌, ◌≤◌, List, length, take, slice_get, Some, None, unsigned_abs}
 use Rattle.std.specs.List.{count_by}
 use Rattle.chase_core.specs.declared.report.State.TheVariants.{Locked}
 use Rattle.chase_core.specs.declared.report.Loss.{Loss}
@@ -15,8 +15,9 @@ use Rattle.interval_file.specs.declared.header.IntervalHeader.{IntervalHeader}
 use Rattle.interval_file.specs.Recording.{Recording, recording_of}
 use Rattle.tc_job.specs.ChaseRun.{Chasing}
 use Rattle.frame_commands.specs.declared.ltc_chase.TheConstants.{MAX_FRAMES}
-use Rattle.interval_engine.specs.Along.{IsSpentOf, IsWholeOf, Printing}
+use Rattle.interval_engine.specs.Along.{IsSpentOf, IsWholeOf, Printing, along_intervals}
 use Rattle.frame_commands.specs.OfFrames.{FrameText, along_frames, frames_of}
+use Rattle.tc_command.specs.Told.{Told}
 
 -- the steps of a chase over these frames
 abbrev pub steps_over : Chasing → List Frame → List Traced
@@ -82,3 +83,12 @@ pub record FollowsTheCode (c : Chasing) (input : Recording) (written : List ℕ)
 abbrev pub ChasesTheInput : Chasing → Type 0
 ChasesTheInput c = (input written : List ℕ) → IsWholeOf (chased_recording c) (recording_of input) written
     → FollowsTheCode c (recording_of input) written
+
+-- what is told of it
+abbrev pub told_ltc_chase : Chasing → Told
+told_ltc_chase c = record {
+  meaning = along_intervals (chased_recording c);
+  promise = λ pulled. FollowsTheCode c (recording_of pulled);
+  is_pinned = true;
+  has_own_limit = true;
+}

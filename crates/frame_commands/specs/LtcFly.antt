@@ -10,9 +10,10 @@ use Rattle.report_text.specs.FrameTexts.{frame_line, fly_end_line}
 use Rattle.interval_file.specs.declared.header.IntervalHeader.{IntervalHeader}
 use Rattle.interval_file.specs.Recording.{recording_of}
 use Rattle.tc_job.specs.declared.flight.Flight.{Flight}
-use Rattle.interval_engine.specs.Along.{Printing}
+use Rattle.interval_engine.specs.Along.{Printing, along_intervals}
 use Rattle.frame_commands.specs.OfFrames.{FrameText, along_frames, frames_of, words_heard}
 use Rattle.flywheel.specs.Kinds.{is_gone, is_heard, is_invented}
+use Rattle.tc_command.specs.Told.{Told}
 
 -- the lines of frames, one after another
 abbrev pub frame_lines : List Frame → List ℕ
@@ -44,3 +45,12 @@ pub record ShowsTheFrames (flight : Flight) (bytes written : List ℕ) : Type 0 
   pub are : written ≡ frame_lines frames ++ last_fly_line (recording_of bytes).intervals frames
   pub heard : words_in frames ≡ map word_of (words_heard events)
   pub marked : AreMarked flight.limit None frames
+
+-- what is told of it
+abbrev pub told_ltc_fly : Flight → Told
+told_ltc_fly flight = record {
+  meaning = along_intervals (flown_recording flight);
+  promise = ShowsTheFrames flight;
+  is_pinned = true;
+  has_own_limit = false;
+}

@@ -1,5 +1,5 @@
 -- `ltc-spans`: the spans of a recording, from its frames.
-use Rattle.std.specs.Prelude.{◌≡◌, ℕ, List, [], ◌++◌, length, sum, map, All, Some, None}
+use Rattle.std.specs.Prelude.{◌≡◌, ℕ, true, false, List, [], ◌++◌, length, sum, map, All, Some, None}
 use Rattle.std.specs.List.{flat_map}
 use Rattle.direction_reader.specs.declared.event.Event.{Event}
 use Rattle.direction_reader.specs.ListEvents.{AreEvents}
@@ -11,8 +11,9 @@ use Rattle.tape_spans.specs.SpanTexts.{final_lines, last_spans_line, lines_behin
 use Rattle.interval_file.specs.declared.header.IntervalHeader.{IntervalHeader}
 use Rattle.interval_file.specs.Recording.{recording_of}
 use Rattle.tc_job.specs.declared.flight.Flight.{Flight}
-use Rattle.interval_engine.specs.Along.{Printing}
+use Rattle.interval_engine.specs.Along.{Printing, along_intervals}
 use Rattle.frame_commands.specs.OfFrames.{FrameText, along_frames, frames_of, words_heard}
+use Rattle.tc_command.specs.Told.{Told}
 
 -- the lines of the spans of frames, with the header's tick rate and system: each has its own, and between two of them
 -- stands that of the gap
@@ -51,3 +52,12 @@ pub record ShowsTheSpans (flight : Flight) (bytes written : List ℕ) : Type 0 w
   pub heard : words_in frames ≡ map word_of (words_heard events)
   pub all : present frames ≡ flat_map frames_in (frames_of_spans frames)
   pub together : All HoldsTogether (frames_of_spans frames)
+
+-- what is told of it
+abbrev pub told_ltc_spans : Flight → Told
+told_ltc_spans flight = record {
+  meaning = along_intervals (spanned_recording flight);
+  promise = ShowsTheSpans flight;
+  is_pinned = true;
+  has_own_limit = false;
+}

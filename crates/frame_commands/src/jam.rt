@@ -9,7 +9,12 @@ ghost use Rattle.tc_command.specs.Ends.{SeesOneEnd};
 ghost use Rattle.tc_command.specs.Ran.{CameToItsEnd, StoppedBefore};
 ghost use Rattle.interval_engine.specs.Along.{along_intervals};
 ghost use Rattle.frame_commands.specs.LtcJam.{clean_recording};
+ghost use Rattle.tc_command.specs.Told.{IsTold, WorksAsTold};
+ghost use Rattle.frame_commands.specs.LtcJam.{told_ltc_jam};
 
+use crate::laws::{each_sink_of_frames_adds_in_order, what_is_jammed_is_read, what_is_made_of_frames_is_in_order};
+use interval_engine::laws::recordings_grow;
+use direction_reader::laws::a_list_has_one_list_of_events;
 use crate::flight::{FlightTo, FrameReader};
 use crate::frame_sink::FrameSink;
 use flywheel::Frame;
@@ -23,15 +28,23 @@ use tc_job::{Flight, Jam};
 
 /// Works `ltc-jam`: a clean recording of the frames of a recording.
 pub fn jam_sync<S: Source, K: Sink>(jam: Jam, source: &mut S, out: &mut K) -> Result<(), Stop>
-    ensures ends { OnOk result (CameToItsEnd (along_intervals (clean_recording jam)) (S.left source.old) (S.left source.new)
-        (K.written out.old) (K.written out.new)) }
-    ensures stops { IfErr result (λ stop. StoppedBefore (along_intervals (clean_recording jam)) stop (S.left source.old) (S.left source.new)
-        (K.written out.old) (K.written out.new)) }
-    ensures source { HasSourceCause (S.faults source.old) (S.faults source.new) result }
-    ensures once { SeesOneEnd (S.ends source.old) (S.ends source.new) result }
-    ensures out { HasOutCause (K.faults out.old) (K.faults out.new) result }
+    ensures { WorksAsTold (told_ltc_jam jam) S.left S.ends S.faults K.written K.faults source.old source.new
+        out.old out.new result }
 {
+    a_copy_is_told(jam);
     work_along::<FlightTo<CleanRecording>, S, K>(jam, source, out)
+}
+
+/// What is told of `ltc-jam` holds: what is written is a clean recording.
+fn a_copy_is_told(jam: Jam)
+    ensures { IsTold (told_ltc_jam jam) }
+{
+    recordings_grow();
+    what_is_made_of_frames_is_in_order();
+    each_sink_of_frames_adds_in_order();
+    a_list_has_one_list_of_events();
+    what_is_jammed_is_read();
+    let _cell = jam.cell();
 }
 
 /// A clean recording of frames, in the cells that it was told.

@@ -4,25 +4,31 @@ ghost use Rattle.mtc_reader.specs.Laws.{falling, full_message, rising};
 ghost use Rattle.quarter_frame.specs.Message.{full_of};
 ghost use Rattle.quarter_frame.specs.Runs.{quarters};
 ghost use Rattle.tc_address.specs.Label.{Address};
-ghost use Rattle.tc_job.specs.ChaseRun.{Chasing};
-ghost use Rattle.tc_job.specs.Jam.{Jamming};
+ghost use Rattle.tc_job.specs.ChaseRun.{Chasing, IsChasing};
+ghost use Rattle.tc_job.specs.Jam.{IsJamming, Jamming};
 ghost use Rattle.tc_job.specs.declared.flight.Flight.{Flight};
 ghost use Rattle.interval_engine.specs.KeptCommand.{PrintsInOrder};
 ghost use Rattle.frame_commands.specs.declared.ltc_chase.TheConstants.{MAX_FRAMES};
 ghost use Rattle.frame_commands.specs.KeptFrames.{AddsInOrder};
-ghost use Rattle.frame_commands.specs.LtcChase.{lines_of_steps};
+ghost use Rattle.frame_commands.specs.LtcChase.{ChasesTheInput, lines_of_steps};
 ghost use Rattle.frame_commands.specs.LtcFly.{lines_of_frames};
-ghost use Rattle.frame_commands.specs.LtcJam.{file_of_frames};
+ghost use Rattle.frame_commands.specs.LtcJam.{CleansTheInput, file_of_frames};
 ghost use Rattle.frame_commands.specs.LtcMtc.{messages_of_frames};
 ghost use Rattle.frame_commands.specs.LtcSpans.{lines_of_spans};
 ghost use Rattle.frame_commands.specs.OfFrames.{FrameText, along_frames};
 
-use code_chase::laws::a_frame_adds_a_line;
+use biphase::laws::shaped_cells_are_a_chain;
+use code_chase::laws::{
+    a_frame_adds_a_line, each_loss_has_a_cause, whole_code_keeps_the_lock,
+};
 use direction_reader::laws::{
     a_list_has_one_list_of_events, each_list_has_events, events_of_a_front_come_first,
 };
-use flywheel::laws::frames_of_a_front_come_first;
-use ltc_jam::laws::a_clean_recording_is_written_frame_by_frame;
+use flywheel::laws::{a_frame_that_goes_on_is_the_next, frames_of_a_front_come_first};
+use ltc_jam::laws::{
+    a_clean_recording_is_written_frame_by_frame, cells_of_one_length_are_shaped,
+    clean_recordings_are_read, what_is_read_has_labels_of_its_system,
+};
 use quarter_frame::laws::messages_of_a_front_come_first;
 use tape_spans::laws::final_lines_come_first;
 
@@ -49,6 +55,29 @@ pub fn each_sink_of_frames_adds_in_order()
     a_clean_recording_is_written_frame_by_frame();
     a_frame_adds_a_line();
     final_lines_come_first();
+}
+
+/// What `ltc-jam` writes of a whole input is the file of a clean recording: each frame of the input that was
+/// heard or invented is read from it, in order and in its place, and nothing else.
+pub fn what_is_jammed_is_read()
+    ensures { (j : Jamming) → IsJamming j → CleansTheInput j }
+{
+    cells_of_one_length_are_shaped();
+    clean_recordings_are_read();
+    shaped_cells_are_a_chain();
+    what_is_read_has_labels_of_its_system();
+}
+
+/// What `ltc-chase` writes of a whole input is the trace of a chase over its frames, or over the first of
+/// them, where there are more than its limit; and each loss in it has its cause: no code where its frame is
+/// gone or has another count, and out of the window where it does not join or the transport slipped far.
+pub fn what_is_chased_follows_the_code()
+    ensures { (c : Chasing) → IsChasing c → ChasesTheInput c }
+{
+    what_is_read_has_labels_of_its_system();
+    a_frame_that_goes_on_is_the_next();
+    each_loss_has_a_cause();
+    whole_code_keeps_the_lock();
 }
 
 /// `ltc-chase` follows a hundred million frames, and no more.

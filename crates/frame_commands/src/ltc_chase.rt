@@ -9,7 +9,12 @@ ghost use Rattle.tc_command.specs.Ends.{SeesOneEnd};
 ghost use Rattle.tc_command.specs.Ran.{CameToItsEnd, StoppedBefore};
 ghost use Rattle.interval_engine.specs.Along.{along_intervals};
 ghost use Rattle.frame_commands.specs.LtcChase.{chased_recording};
+ghost use Rattle.tc_command.specs.Told.{IsTold, WorksAsTold};
+ghost use Rattle.frame_commands.specs.LtcChase.{told_ltc_chase};
 
+use crate::laws::{each_sink_of_frames_adds_in_order, what_is_chased_follows_the_code, what_is_made_of_frames_is_in_order};
+use interval_engine::laws::recordings_grow;
+use direction_reader::laws::a_list_has_one_list_of_events;
 use crate::flight::{FlightTo, FrameReader};
 use crate::frame_sink::FrameSink;
 use chase_script::{step_end_text, step_text};
@@ -34,15 +39,23 @@ pub fn chase_code<S: Source, K: Sink>(
     source: &mut S,
     out: &mut K,
 ) -> Result<(), Stop>
-    ensures ends { OnOk result (CameToItsEnd (along_intervals (chased_recording run)) (S.left source.old) (S.left source.new)
-        (K.written out.old) (K.written out.new)) }
-    ensures stops { IfErr result (λ stop. StoppedBefore (along_intervals (chased_recording run)) stop (S.left source.old) (S.left source.new)
-        (K.written out.old) (K.written out.new)) }
-    ensures source { HasSourceCause (S.faults source.old) (S.faults source.new) result }
-    ensures once { SeesOneEnd (S.ends source.old) (S.ends source.new) result }
-    ensures out { HasOutCause (K.faults out.old) (K.faults out.new) result }
+    ensures { WorksAsTold (told_ltc_chase run) S.left S.ends S.faults K.written K.faults source.old source.new
+        out.old out.new result }
 {
+    a_trace_is_told(run);
     work_along::<FlightTo<StepLines>, S, K>(run, source, out)
+}
+
+/// What is told of `ltc-chase` holds: what is written is the trace of a chase that follows the frames.
+fn a_trace_is_told(run: ChaseRun)
+    ensures { IsTold (told_ltc_chase run) }
+{
+    recordings_grow();
+    what_is_made_of_frames_is_in_order();
+    each_sink_of_frames_adds_in_order();
+    a_list_has_one_list_of_events();
+    what_is_chased_follows_the_code();
+    let _label = run.label();
 }
 
 /// The lines of the steps of a chase.

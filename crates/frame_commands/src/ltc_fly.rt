@@ -5,7 +5,14 @@ ghost use Rattle.tc_command.specs.Ends.{SeesOneEnd};
 ghost use Rattle.tc_command.specs.Ran.{CameToItsEnd, StoppedBefore};
 ghost use Rattle.interval_engine.specs.Along.{along_intervals};
 ghost use Rattle.frame_commands.specs.LtcFly.{flown_recording};
+ghost use Rattle.tc_command.specs.Told.{IsTold, WorksAsTold};
+ghost use Rattle.frame_commands.specs.LtcFly.{told_ltc_fly};
+ghost use Rattle.tc_job.specs.declared.flight.Flight.{Flight};
 
+use crate::laws::{each_sink_of_frames_adds_in_order, what_is_made_of_frames_is_in_order};
+use interval_engine::laws::recordings_grow;
+use direction_reader::laws::a_list_has_one_list_of_events;
+use flywheel::laws::invention_is_bounded_and_marked;
 use crate::flight::{FlightTo, FrameReader};
 use crate::frame_sink::FrameSink;
 use flywheel::Frame;
@@ -22,15 +29,23 @@ pub fn fly_along<S: Source, K: Sink>(
     source: &mut S,
     out: &mut K,
 ) -> Result<(), Stop>
-    ensures ends { OnOk result (CameToItsEnd (along_intervals (flown_recording flight)) (S.left source.old) (S.left source.new)
-        (K.written out.old) (K.written out.new)) }
-    ensures stops { IfErr result (λ stop. StoppedBefore (along_intervals (flown_recording flight)) stop (S.left source.old) (S.left source.new)
-        (K.written out.old) (K.written out.new)) }
-    ensures source { HasSourceCause (S.faults source.old) (S.faults source.new) result }
-    ensures once { SeesOneEnd (S.ends source.old) (S.ends source.new) result }
-    ensures out { HasOutCause (K.faults out.old) (K.faults out.new) result }
+    ensures { WorksAsTold (told_ltc_fly flight) S.left S.ends S.faults K.written K.faults source.old source.new
+        out.old out.new result }
 {
+    flown_frames_are_told();
     work_along::<FlightTo<FrameLines>, S, K>(flight, source, out)
+}
+
+/// What is told of `ltc-fly` holds: the frames are the words of the file, and invented ones that are marked and
+/// bounded.
+fn flown_frames_are_told()
+    ensures { (flight : Flight) → IsTold (told_ltc_fly flight) }
+{
+    recordings_grow();
+    what_is_made_of_frames_is_in_order();
+    each_sink_of_frames_adds_in_order();
+    a_list_has_one_list_of_events();
+    invention_is_bounded_and_marked();
 }
 
 /// The lines of frames. The choice is how the frames are had.

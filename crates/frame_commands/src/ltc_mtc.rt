@@ -5,7 +5,13 @@ ghost use Rattle.tc_command.specs.Ends.{SeesOneEnd};
 ghost use Rattle.tc_command.specs.Ran.{CameToItsEnd, StoppedBefore};
 ghost use Rattle.interval_engine.specs.Along.{along_intervals};
 ghost use Rattle.frame_commands.specs.LtcMtc.{time_code};
+ghost use Rattle.tc_command.specs.Told.{IsTold, WorksAsTold};
+ghost use Rattle.frame_commands.specs.LtcMtc.{told_ltc_mtc};
+ghost use Rattle.tc_job.specs.declared.flight.Flight.{Flight};
 
+use crate::laws::{each_sink_of_frames_adds_in_order, what_is_made_of_frames_is_in_order};
+use interval_engine::laws::recordings_grow;
+use direction_reader::laws::a_list_has_one_list_of_events;
 use crate::flight::{FlightTo, FrameReader};
 use crate::frame_sink::FrameSink;
 use flywheel::Frame;
@@ -22,15 +28,21 @@ pub fn send_time_code<S: Source, K: Sink>(
     source: &mut S,
     out: &mut K,
 ) -> Result<(), Stop>
-    ensures ends { OnOk result (CameToItsEnd (along_intervals (time_code flight)) (S.left source.old) (S.left source.new)
-        (K.written out.old) (K.written out.new)) }
-    ensures stops { IfErr result (λ stop. StoppedBefore (along_intervals (time_code flight)) stop (S.left source.old) (S.left source.new)
-        (K.written out.old) (K.written out.new)) }
-    ensures source { HasSourceCause (S.faults source.old) (S.faults source.new) result }
-    ensures once { SeesOneEnd (S.ends source.old) (S.ends source.new) result }
-    ensures out { HasOutCause (K.faults out.old) (K.faults out.new) result }
+    ensures { WorksAsTold (told_ltc_mtc flight) S.left S.ends S.faults K.written K.faults source.old source.new
+        out.old out.new result }
 {
+    messages_are_told();
     work_along::<FlightTo<FrameMessages>, S, K>(flight, source, out)
+}
+
+/// What is told of `ltc-mtc` holds.
+fn messages_are_told()
+    ensures { (flight : Flight) → IsTold (told_ltc_mtc flight) }
+{
+    recordings_grow();
+    what_is_made_of_frames_is_in_order();
+    each_sink_of_frames_adds_in_order();
+    a_list_has_one_list_of_events();
 }
 
 /// The messages of frames. The choice is how the frames are had.

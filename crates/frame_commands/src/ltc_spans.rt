@@ -10,7 +10,15 @@ ghost use Rattle.tc_command.specs.Ends.{SeesOneEnd};
 ghost use Rattle.tc_command.specs.Ran.{CameToItsEnd, StoppedBefore};
 ghost use Rattle.interval_engine.specs.Along.{along_intervals};
 ghost use Rattle.frame_commands.specs.LtcSpans.{spanned_recording};
+ghost use Rattle.tc_command.specs.Told.{IsTold, WorksAsTold};
+ghost use Rattle.frame_commands.specs.LtcSpans.{told_ltc_spans};
+ghost use Rattle.tc_job.specs.declared.flight.Flight.{Flight};
 
+use crate::laws::{each_sink_of_frames_adds_in_order, what_is_made_of_frames_is_in_order};
+use interval_engine::laws::recordings_grow;
+use direction_reader::laws::a_list_has_one_list_of_events;
+use flywheel::laws::{a_frame_that_goes_on_is_the_next, invention_is_bounded_and_marked};
+use tape_spans::laws::{spans_share_the_frames_out, the_open_span_has_the_last_line};
 use crate::flight::{FlightTo, FrameReader};
 use crate::frame_sink::FrameSink;
 use flywheel::Frame;
@@ -30,15 +38,25 @@ pub fn tell_spans<S: Source, K: Sink>(
     source: &mut S,
     out: &mut K,
 ) -> Result<(), Stop>
-    ensures ends { OnOk result (CameToItsEnd (along_intervals (spanned_recording flight)) (S.left source.old) (S.left source.new)
-        (K.written out.old) (K.written out.new)) }
-    ensures stops { IfErr result (λ stop. StoppedBefore (along_intervals (spanned_recording flight)) stop (S.left source.old) (S.left source.new)
-        (K.written out.old) (K.written out.new)) }
-    ensures source { HasSourceCause (S.faults source.old) (S.faults source.new) result }
-    ensures once { SeesOneEnd (S.ends source.old) (S.ends source.new) result }
-    ensures out { HasOutCause (K.faults out.old) (K.faults out.new) result }
+    ensures { WorksAsTold (told_ltc_spans flight) S.left S.ends S.faults K.written K.faults source.old source.new
+        out.old out.new result }
 {
+    spans_are_told();
     work_along::<FlightTo<SpanLines>, S, K>(flight, source, out)
+}
+
+/// What is told of `ltc-spans` holds: the spans share out the frames of the file.
+fn spans_are_told()
+    ensures { (flight : Flight) → IsTold (told_ltc_spans flight) }
+{
+    recordings_grow();
+    what_is_made_of_frames_is_in_order();
+    each_sink_of_frames_adds_in_order();
+    a_list_has_one_list_of_events();
+    invention_is_bounded_and_marked();
+    a_frame_that_goes_on_is_the_next();
+    spans_share_the_frames_out();
+    the_open_span_has_the_last_line();
 }
 
 /// The lines of spans, which say the speed at the header's tick rate and system.

@@ -4,3 +4,4 @@ pub mod KeptSound
 pub mod LtcConvert
 pub mod LtcPcm
 pub mod LtcRead
+pub mod Tape

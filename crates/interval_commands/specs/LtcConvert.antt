@@ -1,9 +1,11 @@
 -- `ltc-convert`: a recording in another version of the interval file, or in the same.
-use Rattle.std.specs.Prelude.{◌≡◌, ℕ, List}
+use Rattle.std.specs.Prelude.{◌≡◌, ℕ, true, false, List}
 use Rattle.interval_file.specs.declared.header.FileVersion.{FileVersion}
 use Rattle.interval_file.specs.declared.header.IntervalHeader.{IntervalHeader}
 use Rattle.interval_file.specs.Grammar.{IsFile, file_of}
 use Rattle.interval_engine.specs.Along.{Printing}
+use Rattle.interval_engine.specs.Along.{along_intervals}
+use Rattle.tc_command.specs.Told.{Told}
 
 -- the header in this version: the system and the tick rate stay
 abbrev pub in_version : FileVersion → IntervalHeader → IntervalHeader
@@ -24,3 +26,12 @@ pub record ConvertsTheFile (version : FileVersion) (bytes written : List ℕ) : 
   pub intervals : List ℕ
   pub from : IsFile bytes header intervals
   pub to : IsFile written (in_version version header) intervals
+
+-- what is told of it
+abbrev pub told_ltc_convert : FileVersion → Told
+told_ltc_convert version = record {
+  meaning = along_intervals (conversion version);
+  promise = ConvertsTheFile version;
+  is_pinned = true;
+  has_own_limit = false;
+}

@@ -6,7 +6,13 @@ ghost use Rattle.tc_command.specs.Ends.{SeesOneEnd};
 ghost use Rattle.tc_command.specs.Ran.{CameToItsEnd, StoppedBefore};
 ghost use Rattle.interval_engine.specs.Along.{along_intervals};
 ghost use Rattle.interval_commands.specs.LtcConvert.{conversion};
+ghost use Rattle.tc_command.specs.Told.{IsTold, WorksAsTold};
+ghost use Rattle.interval_commands.specs.LtcConvert.{told_ltc_convert};
+ghost use Rattle.interval_file.specs.declared.header.FileVersion.{FileVersion};
 
+use crate::laws::{converting_keeps_the_recording, what_is_printed_is_in_order};
+use interval_engine::laws::recordings_grow;
+use interval_file::laws::a_file_is_read_as_it_was_written;
 use interval_engine::{Behind, work_along};
 use interval_file::{FileVersion, IntervalHeader, interval_bytes, interval_header};
 use tc_command::{Gathered, Stop};
@@ -18,15 +24,22 @@ pub fn convert_recording<S: Source, K: Sink>(
     source: &mut S,
     out: &mut K,
 ) -> Result<(), Stop>
-    ensures ends { OnOk result (CameToItsEnd (along_intervals (conversion version)) (S.left source.old) (S.left source.new)
-        (K.written out.old) (K.written out.new)) }
-    ensures stops { IfErr result (λ stop. StoppedBefore (along_intervals (conversion version)) stop (S.left source.old) (S.left source.new)
-        (K.written out.old) (K.written out.new)) }
-    ensures source { HasSourceCause (S.faults source.old) (S.faults source.new) result }
-    ensures once { SeesOneEnd (S.ends source.old) (S.ends source.new) result }
-    ensures out { HasOutCause (K.faults out.old) (K.faults out.new) result }
+    ensures { WorksAsTold (told_ltc_convert version) S.left S.ends S.faults K.written K.faults source.old source.new
+        out.old out.new result }
 {
+    a_conversion_is_told();
     work_along::<Conversion, S, K>(version, source, out)
+}
+
+/// What is told of `ltc-convert` holds: what is pulled is a file, and what is written is its file of the asked
+/// version.
+fn a_conversion_is_told()
+    ensures { (version : FileVersion) → IsTold (told_ltc_convert version) }
+{
+    recordings_grow();
+    what_is_printed_is_in_order();
+    converting_keeps_the_recording();
+    a_file_is_read_as_it_was_written();
 }
 
 /// A recording on its way into a version.

@@ -10,7 +10,11 @@ ghost use Rattle.tc_command.specs.Ends.{SeesOneEnd};
 ghost use Rattle.tc_command.specs.Ran.{CameToItsEnd, StoppedBefore};
 ghost use Rattle.interval_engine.specs.Along.{along_intervals};
 ghost use Rattle.interval_commands.specs.LtcPcm.{made_sound};
+ghost use Rattle.tc_command.specs.Told.{IsTold, WorksAsTold};
+ghost use Rattle.interval_commands.specs.LtcPcm.{told_ltc_pcm};
 
+use crate::laws::what_is_printed_is_in_order;
+use interval_engine::laws::recordings_grow;
 use arrayvec::ArrayVec;
 use biphase::MAX_INTERVAL;
 use byteorder::{ByteOrder, LittleEndian};
@@ -27,15 +31,19 @@ pub fn sound_recording<S: Source, K: Sink>(
     source: &mut S,
     out: &mut K,
 ) -> Result<(), Stop>
-    ensures ends { OnOk result (CameToItsEnd (along_intervals (made_sound level)) (S.left source.old) (S.left source.new)
-        (K.written out.old) (K.written out.new)) }
-    ensures stops { IfErr result (λ stop. StoppedBefore (along_intervals (made_sound level)) stop (S.left source.old) (S.left source.new)
-        (K.written out.old) (K.written out.new)) }
-    ensures source { HasSourceCause (S.faults source.old) (S.faults source.new) result }
-    ensures once { SeesOneEnd (S.ends source.old) (S.ends source.new) result }
-    ensures out { HasOutCause (K.faults out.old) (K.faults out.new) result }
+    ensures { WorksAsTold (told_ltc_pcm level) S.left S.ends S.faults K.written K.faults source.old source.new
+        out.old out.new result }
 {
+    made_sound_is_told();
     work_along::<MadeSound, S, K>(level, source, out)
+}
+
+/// What is told of `ltc-pcm` holds.
+fn made_sound_is_told()
+    ensures { (level : ℕ) → IsTold (told_ltc_pcm level) }
+{
+    recordings_grow();
+    what_is_printed_is_in_order();
 }
 
 /// So many equal samples are put at once, at most.

@@ -19,10 +19,18 @@ ghost use Rattle.tc_command.specs.Ends.{SeesOneEnd};
 ghost use Rattle.tc_command.specs.Ran.{CameToItsEnd, StoppedBefore};
 ghost use Rattle.interval_commands.specs.LtcRead.{lines, report};
 ghost use Rattle.interval_commands.specs.KeptReport.{counted, all_counted, Feeds, FitLines, FitsReport, Prints, Stands};
+ghost use Rattle.tc_command.specs.Told.{IsTold, WorksAsTold};
+ghost use Rattle.interval_commands.specs.Tape.{told_ltc_read};
+ghost use Rattle.biphase.specs.declared.profile.Profile.{Profile};
 
+use crate::laws::what_is_printed_is_in_order;
 use biphase::{MAX_INTERVAL, MAX_INTERVALS, Profile};
-use direction_reader::laws::a_reader_gives_the_events_of_its_list;
+use direction_reader::laws::{
+    a_list_has_one_list_of_events, a_reader_gives_the_events_of_its_list, events_find_the_tape_again,
+    events_mirror_the_tape, events_tell_the_tape,
+};
 use direction_reader::{Brought, DirectionReader, Event, Events};
+use interval_engine::laws::recordings_grow;
 use interval_engine::{Behind, work_along};
 use interval_file::IntervalHeader;
 use line_text::Text;
@@ -37,15 +45,23 @@ pub fn read_recording<S: Source, K: Sink>(
     source: &mut S,
     out: &mut K,
 ) -> Result<(), Stop>
-    ensures ends { OnOk result (CameToItsEnd (along_intervals (report profile)) (S.left source.old) (S.left source.new)
-        (K.written out.old) (K.written out.new)) }
-    ensures stops { IfErr result (λ stop. StoppedBefore (along_intervals (report profile)) stop (S.left source.old) (S.left source.new)
-        (K.written out.old) (K.written out.new)) }
-    ensures source { HasSourceCause (S.faults source.old) (S.faults source.new) result }
-    ensures once { SeesOneEnd (S.ends source.old) (S.ends source.new) result }
-    ensures out { HasOutCause (K.faults out.old) (K.faults out.new) result }
+    ensures { WorksAsTold (told_ltc_read profile) S.left S.ends S.faults K.written K.faults source.old source.new
+        out.old out.new result }
 {
+    a_report_is_told();
     work_along::<Report, S, K>(profile, source, out)
+}
+
+/// What is told of the reports holds: they hold the lines of the events of their file, and these tell the tape.
+fn a_report_is_told()
+    ensures { (profile : Profile) → IsTold (told_ltc_read profile) }
+{
+    recordings_grow();
+    what_is_printed_is_in_order();
+    a_list_has_one_list_of_events();
+    events_tell_the_tape();
+    events_find_the_tape_again();
+    events_mirror_the_tape();
 }
 
 /// The report of a recording: its header, its reader, and how many events of each kind were printed.

@@ -1,4 +1,5 @@
 pub mod Along
-pub mod KeptBehind
 pub mod KeptAlong
+pub mod KeptBehind
 pub mod KeptCommand
+pub mod KeptPinned

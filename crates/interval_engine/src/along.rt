@@ -12,9 +12,8 @@ ghost use Rattle.interval_file.specs.Decoding.{IsBetween};
 ghost use Rattle.interval_file.specs.Recording.{Recording};
 ghost use Rattle.tc_io.specs.Sink.{AppendsFront};
 ghost use Rattle.interval_engine.specs.Along.{IsPartOf, IsSpentOf, Printing, along_intervals};
-ghost use Rattle.tc_command.specs.Causes.{HasOutCause, HasSourceCause, OutCause};
-ghost use Rattle.tc_command.specs.Ends.{SeesOneEnd};
-ghost use Rattle.tc_command.specs.Ran.{CameToItsEnd, StoppedBefore};
+ghost use Rattle.tc_command.specs.Causes.{HasOutCause, OutCause};
+ghost use Rattle.tc_command.specs.Worked.{IsWorked};
 ghost use Rattle.tc_command.specs.Status.{status_of};
 ghost use Rattle.tc_command.specs.KeptWorks.{Works};
 ghost use Rattle.tc_command.specs.Stops.{Stops};
@@ -142,13 +141,8 @@ pub fn work_along<B: Behind, S: Source, K: Sink>(
     source: &mut S,
     out: &mut K,
 ) -> Result<(), Stop>
-    ensures ends { OnOk result (CameToItsEnd (along_intervals (B.printing choice)) (S.left source.old) (S.left source.new)
-        (K.written out.old) (K.written out.new)) }
-    ensures stops { IfErr result (λ stop. StoppedBefore (along_intervals (B.printing choice)) stop (S.left source.old) (S.left source.new)
-        (K.written out.old) (K.written out.new)) }
-    ensures source { HasSourceCause (S.faults source.old) (S.faults source.new) result }
-    ensures once { SeesOneEnd (S.ends source.old) (S.ends source.new) result }
-    ensures out { HasOutCause (K.faults out.old) (K.faults out.new) result }
+    ensures { IsWorked (along_intervals (B.printing choice)) S.left S.ends S.faults K.written K.faults
+        source.old source.new out.old out.new result }
 {
     work(&mut Along::<B>::new(choice), source, out)
 }

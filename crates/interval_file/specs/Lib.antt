@@ -4,6 +4,7 @@ pub mod Fault
 pub mod Grammar
 pub mod IntervalFile
 pub mod IntervalHeader
+pub mod KeptIntervals
 pub mod Next
 pub mod NextByte
 pub mod Piece

@@ -20,7 +20,7 @@ use Rattle.tc_address.specs.Label.{Address, IsLabel}
 use Rattle.tc_address.specs.Numbering.{step}
 use Rattle.tc_job.specs.Stripe.{IsStripe, Striping}
 use Rattle.ltc_jam.specs.Word.{played_as, word_of}
-use Rattle.made_commands.specs.KeptIntervals.{ShapesAreIntervals, in_range}
+use Rattle.interval_file.specs.KeptIntervals.{ShapesAreIntervals, in_range}
 use Rattle.made_commands.specs.Made.{IsReadBack, frames_from, made, made_cells, made_events, made_frames}
 
 -- what the laws of the crates below say

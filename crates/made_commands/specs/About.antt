@@ -3,6 +3,7 @@ use Rattle.std.specs.Prelude.{ℕ, List, ◌++◌, codes, map}
 use Rattle.std.specs.List.{flat_map}
 use Rattle.made_commands.specs.declared.about.TheConstants.{MANUAL, VERSION}
 use Rattle.tc_job.specs.declared.usages.TheConstants.{USAGES}
+use Rattle.tc_command.specs.Told.{Told, told_text}
 
 -- the word of a command, and what stands behind it in its line
 abbrev pub Usage : Type 0
@@ -27,3 +28,10 @@ help_text = usage_lines usages ++ MANUAL.now ++ codes "\n"
 -- the line of `version`
 abbrev pub version_line : List ℕ
 version_line = codes "tc " ++ VERSION.now ++ codes "\n"
+
+-- what is told of `help` and `version`
+abbrev pub told_help : Told
+told_help = told_text help_text
+
+abbrev pub told_version : Told
+told_version = told_text version_line

@@ -1,6 +1,5 @@
 pub mod About
 pub mod KeptDivisors
-pub mod KeptIntervals
 pub mod KeptLine
 pub mod KeptLines
 pub mod KeptLoad

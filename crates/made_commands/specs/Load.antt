@@ -27,6 +27,7 @@ use Rattle.generator.specs.Draw.{drawn}
 use Rattle.tc_job.specs.LoadRun.{Loading}
 use Rattle.made_commands.specs.declared.chance.Chance.{Chance}
 use Rattle.made_commands.specs.declared.chance.TheConstants.{FIRST_LENGTH, LEAST_LENGTH, GREATEST_LENGTH}
+use Rattle.tc_command.specs.Told.{Told, told_made}
 
 -- ---- the generator
 
@@ -159,3 +160,7 @@ pub record IsAllRead (l : Loading) (written : List ℕ) : Type 0 where
   pub read : count_by is_word (load_events l) ≡ l.words
   pub refused : count_by is_refused (load_events l) ≡ 0
   pub lost : count_by is_lost (load_events l) ≡ 0
+
+-- what is told of `ltc-load`
+abbrev pub told_ltc_load : Loading → Told
+told_ltc_load l = told_made (load_text l) (IsAllRead l)

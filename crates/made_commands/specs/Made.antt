@@ -18,6 +18,7 @@ use Rattle.interval_file.specs.declared.header.IntervalHeader.{IntervalHeader}
 use Rattle.interval_file.specs.Grammar.{file_of, IsFile}
 use Rattle.ltc_jam.specs.Word.{played_as}
 use Rattle.tc_job.specs.Stripe.{Striping}
+use Rattle.tc_command.specs.Told.{Told, told_made}
 
 -- so many frames from a label on in a direction, each with its word
 unfoldable pub frames_from : Direction → Address → ℕ → List Played
@@ -51,3 +52,7 @@ made_events s = events_of_words (duration (take 2 (made_cells s))) (drop 2 (made
 pub record IsReadBack (s : Striping) (written : List ℕ) : Type 0 where
   pub file : IsFile written (made_header s) (flat (made_cells s))
   pub events : AreEvents (system_with s.label.count) Normal (flat (made_cells s)) (made_events s)
+
+-- what is told of `ltc-make`
+abbrev pub told_ltc_make : Striping → Told
+told_ltc_make s = told_made (made s) (IsReadBack s)

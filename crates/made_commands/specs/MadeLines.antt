@@ -15,6 +15,7 @@ use Rattle.line_file.specs.Grammar.{file_of}
 use Rattle.line_file.specs.LineFile.{Reading, reading_of}
 use Rattle.ltc_jam.specs.Word.{word_of}
 use Rattle.tc_job.specs.LineStripe.{LineStriping}
+use Rattle.tc_command.specs.Told.{Told, told_made}
 
 -- the word of a label in one of its fields, with the fields that a word of linear code has there: no flag is set but
 -- that of drop-frame, and the user bits are 0
@@ -59,3 +60,7 @@ pub record AreReadBack (s : LineStriping) (written : List ℕ) : Type 0 where
   pub are : written ≡ made_lines s
   pub file : reading_of written ≡ whole_reading (made_line_header s) (made_fields s)
   pub answers : AreAnswersOf (reading_of written) (map (λ word. Agreed word) (made_words s))
+
+-- what is told of `vitc-make`
+abbrev pub told_vitc_make : LineStriping → Told
+told_vitc_make s = told_made (made_lines s) (AreReadBack s)

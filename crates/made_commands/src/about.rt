@@ -6,7 +6,8 @@ ghost use Rattle.made_commands.specs.About.{help_text, usage_line, usage_lines, 
 ghost use Rattle.made_commands.specs.KeptLine.{rest_of};
 ghost use Rattle.tc_command.specs.Causes.{HasOutCause};
 ghost use Rattle.tc_command.specs.Meaning.{writes};
-ghost use Rattle.tc_command.specs.Ran.{CameToItsEnd, StoppedBefore};
+ghost use Rattle.tc_command.specs.Told.{WorksAsTold};
+ghost use Rattle.made_commands.specs.About.{told_help, told_version};
 
 use tc_command::{Maker, PIECE, Piece, Stop, make, put_bytes};
 use tc_io::{Sink, Source};
@@ -20,26 +21,16 @@ pub const MANUAL: &str = "The manual: man 1 tc, and of files and lines man 5 tc-
 
 /// Works `help`: how each command is typed, and where the manual is.
 pub fn tell_help<S: Source, K: Sink>(source: &mut S, out: &mut K) -> Result<(), Stop>
-    ensures ends { OnOk result (CameToItsEnd (writes help_text) (S.left source.old) (S.left source.new)
-        (K.written out.old) (K.written out.new)) }
-    ensures stops { IfErr result (λ stop. StoppedBefore (writes help_text) stop (S.left source.old) (S.left source.new)
-        (K.written out.old) (K.written out.new)) }
-    ensures idle { source.new ≡ source.old }
-    ensures why { IfErr result (λ stop. stop ≡ Stop.WriteFault) }
-    ensures out { HasOutCause (K.faults out.old) (K.faults out.new) result }
+    ensures { WorksAsTold told_help S.left S.ends S.faults K.written K.faults source.old source.new
+        out.old out.new result }
 {
     make(&mut Page::help(), source, out)
 }
 
 /// Works `version`: which version this is.
 pub fn tell_version<S: Source, K: Sink>(source: &mut S, out: &mut K) -> Result<(), Stop>
-    ensures ends { OnOk result (CameToItsEnd (writes version_line) (S.left source.old) (S.left source.new)
-        (K.written out.old) (K.written out.new)) }
-    ensures stops { IfErr result (λ stop. StoppedBefore (writes version_line) stop (S.left source.old) (S.left source.new)
-        (K.written out.old) (K.written out.new)) }
-    ensures idle { source.new ≡ source.old }
-    ensures why { IfErr result (λ stop. stop ≡ Stop.WriteFault) }
-    ensures out { HasOutCause (K.faults out.old) (K.faults out.new) result }
+    ensures { WorksAsTold told_version S.left S.ends S.faults K.written K.faults source.old source.new
+        out.old out.new result }
 {
     make(&mut Page::version(), source, out)
 }

@@ -7,10 +7,12 @@ ghost use Rattle.made_commands.specs.Labels.{number_line, label_line};
 ghost use Rattle.made_commands.specs.Load.{load_text};
 ghost use Rattle.tc_command.specs.Causes.{HasOutCause};
 ghost use Rattle.tc_command.specs.Meaning.{writes};
-ghost use Rattle.tc_command.specs.Ran.{CameToItsEnd, StoppedBefore};
+ghost use Rattle.tc_command.specs.Told.{WorksAsTold};
+ghost use Rattle.made_commands.specs.Labels.{told_label, told_number};
+ghost use Rattle.made_commands.specs.Load.{told_ltc_load};
 
-use crate::ltc_load::load_text;
-use line_text::{Text, push_bytes, push_number};
+use crate::ltc_load::{a_load_is_told, load_text};
+use line_text::{Text, push_bytes, push_any_number};
 use tc_address::{Label, number, text};
 use tc_command::{Maker, Piece, Stop, make};
 use tc_io::{Sink, Source};
@@ -18,14 +20,10 @@ use tc_job::LoadRun;
 
 /// Works `ltc-load`: what was read of a recording that was made by chance.
 pub fn tell_load<S: Source, K: Sink>(run: &LoadRun, source: &mut S, out: &mut K) -> Result<(), Stop>
-    ensures ends { OnOk result (CameToItsEnd (writes (load_text run.now)) (S.left source.old) (S.left source.new)
-        (K.written out.old) (K.written out.new)) }
-    ensures stops { IfErr result (λ stop. StoppedBefore (writes (load_text run.now)) stop (S.left source.old) (S.left source.new)
-        (K.written out.old) (K.written out.new)) }
-    ensures idle { source.new ≡ source.old }
-    ensures why { IfErr result (λ stop. stop ≡ Stop.WriteFault) }
-    ensures out { HasOutCause (K.faults out.old) (K.faults out.new) result }
+    ensures { WorksAsTold (told_ltc_load run.now) S.left S.ends S.faults K.written K.faults source.old source.new
+        out.old out.new result }
 {
+    a_load_is_told(run);
     make(&mut OneLine::load(run), source, out)
 }
 
@@ -35,13 +33,8 @@ pub fn tell_label<S: Source, K: Sink>(
     source: &mut S,
     out: &mut K,
 ) -> Result<(), Stop>
-    ensures ends { OnOk result (CameToItsEnd (writes (label_line label.now)) (S.left source.old) (S.left source.new)
-        (K.written out.old) (K.written out.new)) }
-    ensures stops { IfErr result (λ stop. StoppedBefore (writes (label_line label.now)) stop (S.left source.old) (S.left source.new)
-        (K.written out.old) (K.written out.new)) }
-    ensures idle { source.new ≡ source.old }
-    ensures why { IfErr result (λ stop. stop ≡ Stop.WriteFault) }
-    ensures out { HasOutCause (K.faults out.old) (K.faults out.new) result }
+    ensures { WorksAsTold (told_label label.now) S.left S.ends S.faults K.written K.faults source.old source.new
+        out.old out.new result }
 {
     make(&mut OneLine::label(label), source, out)
 }
@@ -52,13 +45,8 @@ pub fn tell_number<S: Source, K: Sink>(
     source: &mut S,
     out: &mut K,
 ) -> Result<(), Stop>
-    ensures ends { OnOk result (CameToItsEnd (writes (number_line (number_of label.now))) (S.left source.old) (S.left source.new)
-        (K.written out.old) (K.written out.new)) }
-    ensures stops { IfErr result (λ stop. StoppedBefore (writes (number_line (number_of label.now))) stop (S.left source.old) (S.left source.new)
-        (K.written out.old) (K.written out.new)) }
-    ensures idle { source.new ≡ source.old }
-    ensures why { IfErr result (λ stop. stop ≡ Stop.WriteFault) }
-    ensures out { HasOutCause (K.faults out.old) (K.faults out.new) result }
+    ensures { WorksAsTold (told_number label.now) S.left S.ends S.faults K.written K.faults source.old source.new
+        out.old out.new result }
 {
     make(&mut OneLine::number(label), source, out)
 }
@@ -71,12 +59,11 @@ struct OneLine {
 
 impl OneLine {
     /// The line of `number`: how many labels of its count stand before the label in the day.
-    #[tactic(auto, using(crate::proofs::Digits::digits_of_any))]
     fn number(label: &Label) -> OneLine
         ensures { rest_of result.line ≡ number_line (number_of label.now) }
     {
         let mut line = Text::new();
-        push_number(&mut line, u64::from(number(label)));
+        push_any_number(&mut line, u64::from(number(label)));
         push_bytes(&mut line, b"\n");
         OneLine { line: Some(line) }
     }

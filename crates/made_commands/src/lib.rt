@@ -23,6 +23,5 @@ mod vitc_make;
 
 pub use about::{MANUAL, VERSION, tell_help, tell_version};
 pub use labels::{tell_label, tell_load, tell_number};
-pub use ltc_load::is_all_read;
 pub use ltc_make::make_recording;
 pub use vitc_make::make_lines;

@@ -16,7 +16,8 @@ ghost use Rattle.interval_file.specs.Grammar.{AreIntervals};
 ghost use Rattle.made_commands.specs.KeptDivisors.{AreFactors};
 ghost use Rattle.made_commands.specs.KeptLoad.{FitsTally, HasRead, first_or, line_with, no_counts, total, with_event};
 ghost use Rattle.made_commands.specs.Load.{IsAllRead, IsChance, behind, cells_by, first_label, label_text, load_text};
-ghost use Rattle.made_commands.specs.Load.{load_word};
+ghost use Rattle.made_commands.specs.Load.{load_word, told_ltc_load};
+ghost use Rattle.tc_command.specs.Told.{IsTold};
 
 use crate::chance::Chance;
 use crate::divisors::Divisors;
@@ -221,13 +222,20 @@ impl Tally {
 }
 
 /// Each word of a run is read, and nothing else.
-pub fn is_all_read(run: &LoadRun)
+fn is_all_read(run: &LoadRun)
     ensures { IsAllRead run.now (load_text run.now) }
 {
     each_word_has_its_spelling();
     steps_lead_to_labels();
     played_words_are_read();
     let _label = first_label(run.seed());
+}
+
+/// What is told of `ltc-load` holds: each word of a run is read, and nothing else.
+pub(crate) fn a_load_is_told(run: &LoadRun)
+    ensures { IsTold (told_ltc_load run.now) }
+{
+    is_all_read(run);
 }
 
 /// The line of a run, whose words were made and read.

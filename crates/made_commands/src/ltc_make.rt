@@ -12,8 +12,10 @@ ghost use Rattle.made_commands.specs.KeptStriping.{cell_bytes, rest_of};
 ghost use Rattle.made_commands.specs.Made.{made};
 ghost use Rattle.tc_command.specs.Causes.{HasOutCause};
 ghost use Rattle.tc_command.specs.Meaning.{writes};
-ghost use Rattle.tc_command.specs.Ran.{CameToItsEnd, StoppedBefore};
+ghost use Rattle.tc_command.specs.Told.{IsTold, WorksAsTold};
+ghost use Rattle.made_commands.specs.Made.{told_ltc_make};
 
+use crate::laws::what_is_made_is_read_whole;
 use biphase::{Cell, Shaper};
 use interval_file::{FileVersion, IntervalHeader, interval_header};
 use ltc_jam::played_bits;
@@ -34,15 +36,19 @@ pub fn make_recording<S: Source, K: Sink>(
     source: &mut S,
     out: &mut K,
 ) -> Result<(), Stop>
-    ensures ends { OnOk result (CameToItsEnd (writes (made stripe.now)) (S.left source.old) (S.left source.new)
-        (K.written out.old) (K.written out.new)) }
-    ensures stops { IfErr result (λ stop. StoppedBefore (writes (made stripe.now)) stop (S.left source.old) (S.left source.new)
-        (K.written out.old) (K.written out.new)) }
-    ensures idle { source.new ≡ source.old }
-    ensures why { IfErr result (λ stop. stop ≡ Stop.WriteFault) }
-    ensures out { HasOutCause (K.faults out.old) (K.faults out.new) result }
+    ensures { WorksAsTold (told_ltc_make stripe.now) S.left S.ends S.faults K.written K.faults source.old source.new
+        out.old out.new result }
 {
+    a_stripe_is_told(stripe);
     make(&mut UnmadeRecording::new(stripe), source, out)
+}
+
+/// What is told of `ltc-make` holds: what is made is read back, frame by frame.
+fn a_stripe_is_told(stripe: &Stripe)
+    ensures { IsTold (told_ltc_make stripe.now) }
+{
+    what_is_made_is_read_whole();
+    let _frames = stripe.frames();
 }
 
 /// A recording that is still to be made.

@@ -14,8 +14,10 @@ ghost use Rattle.vitc_reader.specs.Runs.{IsLineLength};
 ghost use Rattle.vitc_reader.specs.Written.{runs_in};
 ghost use Rattle.tc_command.specs.Causes.{HasOutCause};
 ghost use Rattle.tc_command.specs.Meaning.{writes};
-ghost use Rattle.tc_command.specs.Ran.{CameToItsEnd, StoppedBefore};
+ghost use Rattle.tc_command.specs.Told.{IsTold, WorksAsTold};
+ghost use Rattle.made_commands.specs.MadeLines.{told_vitc_make};
 
+use crate::laws::lines_that_are_made_are_read_back;
 use arrayvec::ArrayVec;
 use byteorder::{BigEndian, ByteOrder};
 use line_file::{LineHeader, line_header};
@@ -45,15 +47,19 @@ pub fn make_lines<S: Source, K: Sink>(
     source: &mut S,
     out: &mut K,
 ) -> Result<(), Stop>
-    ensures ends { OnOk result (CameToItsEnd (writes (made_lines stripe.now)) (S.left source.old) (S.left source.new)
-        (K.written out.old) (K.written out.new)) }
-    ensures stops { IfErr result (λ stop. StoppedBefore (writes (made_lines stripe.now)) stop (S.left source.old) (S.left source.new)
-        (K.written out.old) (K.written out.new)) }
-    ensures idle { source.new ≡ source.old }
-    ensures why { IfErr result (λ stop. stop ≡ Stop.WriteFault) }
-    ensures out { HasOutCause (K.faults out.old) (K.faults out.new) result }
+    ensures { WorksAsTold (told_vitc_make stripe.now) S.left S.ends S.faults K.written K.faults source.old source.new
+        out.old out.new result }
 {
+    a_line_stripe_is_told(stripe);
     make(&mut UnmadeLines::new(stripe), source, out)
+}
+
+/// What is told of `vitc-make` holds: what is made is read back, field by field.
+fn a_line_stripe_is_told(stripe: &LineStripe)
+    ensures { IsTold (told_vitc_make stripe.now) }
+{
+    lines_that_are_made_are_read_back();
+    let _frames = stripe.frames();
 }
 
 /// A line file that is still to be made.

@@ -10,7 +10,7 @@ use arrayvec::ArrayVec;
 const END: u8 = 0xf7;
 
 /// Bytes below this one are data bytes.
-const STATUS: u8 = 0x80;
+pub(crate) const STATUS: u8 = 0x80;
 
 /// What the message on its way may still become: a quarter frame, which wants its first data byte, a full
 /// message, or nothing more. Of the data bytes of a full message nine are kept, one more than it has.

@@ -5,7 +5,7 @@ ghost use Rattle.mtc_reader.specs.Events.{events_in};
 ghost use Rattle.mtc_reader.specs.StandsFor.{StandsFor, events_of};
 
 use crate::address::quarter;
-use crate::current::CurrentMessage;
+use crate::current::{CurrentMessage, STATUS};
 use crate::eight::EightQuarters;
 use crate::event::MtcEvent;
 use crate::row::Row;
@@ -16,9 +16,6 @@ const REAL_TIME: u8 = 0xf8;
 
 /// The status byte of a quarter frame.
 const QUARTER_FRAME: u8 = 0xf1;
-
-/// Bytes below this one are data bytes.
-const STATUS: u8 = 0x80;
 
 /// Reads the labels of MIDI Time Code, one byte at a time.
 #[derive(Drop)]

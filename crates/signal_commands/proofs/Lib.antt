@@ -8,3 +8,4 @@ mod PutMore
 mod SlicedOn
 mod SlicedTracks
 mod TrackGoesOn
+mod TrackOfAFile

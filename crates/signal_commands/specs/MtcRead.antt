@@ -9,6 +9,7 @@ use Rattle.tc_io.specs.Verdict.{Verdict, good, past_limit}
 use Rattle.signal_commands.specs.declared.mtc_read.TheConstants.{MAX_BYTES}
 use Rattle.tc_command.specs.Meaning.{Meaning}
 use Rattle.tc_command.specs.declared.input_fault.InputFault.{InputFault}
+use Rattle.tc_command.specs.Told.{Told, told_by_meaning}
 
 -- the lines of events, one after another
 abbrev pub event_lines : List MtcEvent → List ℕ
@@ -55,3 +56,7 @@ along_midi = record {
   part = λ bytes written. written ≡ lines_within MAX_BYTES bytes;
   output = λ bytes written. written ≡ mtc_report bytes;
 }
+
+-- what is told of it
+abbrev pub told_mtc_read : Told
+told_mtc_read = told_by_meaning along_midi

@@ -14,6 +14,7 @@ use Rattle.tc_job.specs.Pace.{pace_of}
 use Rattle.tc_job.specs.Slicing.{Slices}
 use Rattle.signal_commands.specs.declared.pcm_ltc.TheConstants.{MAX_SAMPLES}
 use Rattle.tc_command.specs.Meaning.{Meaning}
+use Rattle.tc_command.specs.Told.{Told, told_by_meaning}
 
 -- the header: each sample has so many ticks
 abbrev pub sliced_header : Slices → IntervalHeader
@@ -50,3 +51,7 @@ along_samples s = record {
   part = λ bytes written. written ≡ sliced s (take MAX_SAMPLES (samples_of bytes));
   output = λ bytes written. written ≡ sliced s (samples_of bytes);
 }
+
+-- what is told of it
+abbrev pub told_pcm_ltc : Slices → Told
+told_pcm_ltc slicing = told_by_meaning (along_samples slicing)

@@ -9,6 +9,7 @@ use Rattle.line_file.specs.Texts.{field_line, field_end_line}
 use Rattle.tc_command.specs.declared.input_fault.InputFault.TheVariants.{Lines}
 use Rattle.tc_command.specs.Meaning.{Meaning}
 use Rattle.tc_io.specs.Verdict.{verdict_as}
+use Rattle.tc_command.specs.Told.{Told, told_by_meaning}
 
 -- the lines of answers, the first of which is that of the field with this number
 abbrev pub answer_lines : ℕ → List FieldAnswer → List ℕ
@@ -49,3 +50,7 @@ along_fields = record {
   output = λ bytes written. (answers : List FieldAnswer) × AreAnswersOf (reading_of bytes) answers
       × (written ≡ field_report answers);
 }
+
+-- what is told of it
+abbrev pub told_vitc_read : Told
+told_vitc_read = told_by_meaning along_fields

@@ -1,6 +1,6 @@
 -- `wav-ltc`: a track of a sound file, as an interval file of the distances of its crossings. The first one runs from
 -- the place of the first sample, so that a sixteenth of each tick is a place in the file.
-use Rattle.std.specs.Prelude.{◌≡◌, ℕ, ◌*◌, true, ℤ, List, [], Option, Some, None}
+use Rattle.std.specs.Prelude.{◌≡◌, ℕ, ◌*◌, true, false, ℤ, List, [], Option, Some, None}
 use Rattle.std.specs.Option.{option_map}
 use Rattle.pcm_front.specs.declared.pace.Pace.{Pace}
 use Rattle.pcm_front.specs.Pace.{intervals_at}
@@ -15,6 +15,7 @@ use Rattle.wave_file.specs.declared.format.WaveFormat.{WaveFormat}
 use Rattle.wave_file.specs.Wave.{end_fault_of, reading_of}
 use Rattle.tc_io.specs.Verdict.{verdict_as}
 use Rattle.tc_command.specs.Meaning.{Meaning}
+use Rattle.tc_command.specs.Told.{Told}
 
 -- in 16 ticks a sample, from the place of the first one on
 abbrev pub track_settings : SlicesWave → Settings
@@ -53,4 +54,13 @@ along_sound_file w = record {
   spent = λ bytes. ⊥;
   part = λ bytes written. written ≡ track_of w bytes;
   output = λ bytes written. written ≡ track_of w bytes;
+}
+
+-- what is told of it
+abbrev pub told_wav_ltc : SlicesWave → Told
+told_wav_ltc w = record {
+  meaning = along_sound_file w;
+  promise = SlicesTheTrack w;
+  is_pinned = true;
+  has_own_limit = false;
 }

@@ -13,7 +13,10 @@ ghost use Rattle.tc_command.specs.Ends.{SeesOneEnd};
 ghost use Rattle.tc_command.specs.Ran.{CameToItsEnd, StoppedBefore};
 ghost use Rattle.signal_commands.specs.KeptMtc.{counted, FitsReport, Stands};
 ghost use Rattle.signal_commands.specs.MtcRead.{along_midi};
+ghost use Rattle.tc_command.specs.Told.{WorksAsTold};
+ghost use Rattle.signal_commands.specs.MtcRead.{told_mtc_read};
 
+use crate::laws::each_signal_makes_a_command;
 use line_text::Text;
 use mtc_reader::{MtcEvent, MtcReader, mtc_end_text, push_mtc_text};
 use tc_command::{Engine, Stop, push_line, work};
@@ -24,14 +27,10 @@ pub const MAX_BYTES: u64 = 1_000_000_000;
 
 /// Works `mtc-read`: a line for each label of MIDI Time Code in MIDI bytes, and the last line.
 pub fn read_midi<S: Source, K: Sink>(source: &mut S, out: &mut K) -> Result<(), Stop>
-    ensures ends { OnOk result (CameToItsEnd (along_midi) (S.left source.old) (S.left source.new)
-        (K.written out.old) (K.written out.new)) }
-    ensures stops { IfErr result (λ stop. StoppedBefore (along_midi) stop (S.left source.old) (S.left source.new)
-        (K.written out.old) (K.written out.new)) }
-    ensures source { HasSourceCause (S.faults source.old) (S.faults source.new) result }
-    ensures once { SeesOneEnd (S.ends source.old) (S.ends source.new) result }
-    ensures out { HasOutCause (K.faults out.old) (K.faults out.new) result }
+    ensures { WorksAsTold told_mtc_read S.left S.ends S.faults K.written K.faults source.old source.new
+        out.old out.new result }
 {
+    each_signal_makes_a_command();
     work(&mut MtcReport::new(), source, out)
 }
 

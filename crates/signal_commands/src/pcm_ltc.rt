@@ -9,7 +9,10 @@ ghost use Rattle.tc_command.specs.Ran.{CameToItsEnd, StoppedBefore};
 ghost use Rattle.signal_commands.specs.KeptSlices.{IsGoing, Slices, Stands};
 ghost use Rattle.signal_commands.specs.PcmLtc.{along_samples, pace_for};
 ghost use Rattle.tc_command.specs.Stops.{Stops};
+ghost use Rattle.tc_command.specs.Told.{WorksAsTold};
+ghost use Rattle.signal_commands.specs.PcmLtc.{told_pcm_ltc};
 
+use crate::laws::each_signal_makes_a_command;
 use crate::spelling::spell;
 use crate::stopping::push_before;
 use interval_file::{FileVersion, IntervalHeader, interval_header};
@@ -27,14 +30,10 @@ pub fn slice_sound<S: Source, K: Sink>(
     source: &mut S,
     out: &mut K,
 ) -> Result<(), Stop>
-    ensures ends { OnOk result (CameToItsEnd (along_samples slicing.now) (S.left source.old) (S.left source.new)
-        (K.written out.old) (K.written out.new)) }
-    ensures stops { IfErr result (λ stop. StoppedBefore (along_samples slicing.now) stop (S.left source.old) (S.left source.new)
-        (K.written out.old) (K.written out.new)) }
-    ensures source { HasSourceCause (S.faults source.old) (S.faults source.new) result }
-    ensures once { SeesOneEnd (S.ends source.old) (S.ends source.new) result }
-    ensures out { HasOutCause (K.faults out.old) (K.faults out.new) result }
+    ensures { WorksAsTold (told_pcm_ltc slicing.now) S.left S.ends S.faults K.written K.faults source.old source.new
+        out.old out.new result }
 {
+    each_signal_makes_a_command();
     work(&mut SlicedSound::new(slicing), source, out)
 }
 

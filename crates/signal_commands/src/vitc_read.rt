@@ -10,7 +10,10 @@ ghost use Rattle.tc_command.specs.Ends.{SeesOneEnd};
 ghost use Rattle.tc_command.specs.Ran.{CameToItsEnd, StoppedBefore};
 ghost use Rattle.signal_commands.specs.KeptFields.{counted, FitsFields, Stands};
 ghost use Rattle.signal_commands.specs.VitcRead.{along_fields};
+ghost use Rattle.tc_command.specs.Told.{WorksAsTold};
+ghost use Rattle.signal_commands.specs.VitcRead.{told_vitc_read};
 
+use crate::laws::each_signal_makes_a_command;
 use line_file::laws::a_decoder_tells_the_file;
 use line_file::{LineDecoder, Taken, field_end_text, field_text};
 use tc_command::{Engine, InputFault, Stop, push_line, work};
@@ -19,14 +22,10 @@ use vitc_reader::FieldAnswer;
 
 /// Works `vitc-read`: a line for each field of a line file, and the last line.
 pub fn read_fields<S: Source, K: Sink>(source: &mut S, out: &mut K) -> Result<(), Stop>
-    ensures ends { OnOk result (CameToItsEnd (along_fields) (S.left source.old) (S.left source.new)
-        (K.written out.old) (K.written out.new)) }
-    ensures stops { IfErr result (λ stop. StoppedBefore (along_fields) stop (S.left source.old) (S.left source.new)
-        (K.written out.old) (K.written out.new)) }
-    ensures source { HasSourceCause (S.faults source.old) (S.faults source.new) result }
-    ensures once { SeesOneEnd (S.ends source.old) (S.ends source.new) result }
-    ensures out { HasOutCause (K.faults out.old) (K.faults out.new) result }
+    ensures { WorksAsTold told_vitc_read S.left S.ends S.faults K.written K.faults source.old source.new
+        out.old out.new result }
 {
+    each_signal_makes_a_command();
     work(&mut FieldReport::new(), source, out)
 }
 

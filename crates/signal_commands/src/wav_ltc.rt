@@ -17,7 +17,11 @@ ghost use Rattle.wave_file.specs.StandsFor.{bytes_taken};
 ghost use Rattle.signal_commands.specs.KeptTrack.{AreDue, IsGoing, Stands, pace_in};
 ghost use Rattle.signal_commands.specs.WavLtc.{along_sound_file, track_header};
 ghost use Rattle.interval_file.specs.IntervalHeader.{header_bytes};
+ghost use Rattle.tc_command.specs.Told.{IsTold, WorksAsTold};
+ghost use Rattle.signal_commands.specs.WavLtc.{told_wav_ltc};
+ghost use Rattle.tc_job.specs.WaveSlicing.{SlicesWave};
 
+use crate::laws::each_signal_makes_a_command;
 use crate::spelling::spell;
 use crate::stopping::push_before;
 use interval_file::{FileVersion, IntervalHeader, interval_header};
@@ -41,15 +45,19 @@ pub fn slice_track<S: Source, K: Sink>(
     source: &mut S,
     out: &mut K,
 ) -> Result<(), Stop>
-    ensures ends { OnOk result (CameToItsEnd (along_sound_file slicing.now) (S.left source.old) (S.left source.new)
-        (K.written out.old) (K.written out.new)) }
-    ensures stops { IfErr result (λ stop. StoppedBefore (along_sound_file slicing.now) stop (S.left source.old) (S.left source.new)
-        (K.written out.old) (K.written out.new)) }
-    ensures source { HasSourceCause (S.faults source.old) (S.faults source.new) result }
-    ensures once { SeesOneEnd (S.ends source.old) (S.ends source.new) result }
-    ensures out { HasOutCause (K.faults out.old) (K.faults out.new) result }
+    ensures { WorksAsTold (told_wav_ltc slicing.now) S.left S.ends S.faults K.written K.faults source.old source.new
+        out.old out.new result }
 {
+    a_sliced_track_is_told();
     work(&mut SlicedTrack::new(slicing), source, out)
+}
+
+/// What is told of `wav-ltc` holds: what is pulled has a format, and what is written is the file of its track.
+fn a_sliced_track_is_told()
+    ensures { (slicing : SlicesWave) → IsTold (told_wav_ltc slicing) }
+{
+    each_signal_makes_a_command();
+    samples_are_few_and_behind_a_format();
 }
 
 /// A sound file on its way into intervals.

@@ -1,3 +1,3 @@
 mod BytesPulled
-mod Digits
 mod OneEnd
+mod WorkedSo

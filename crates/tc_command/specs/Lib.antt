@@ -9,10 +9,13 @@ pub mod KeptGathered
 pub mod KeptPushed
 pub mod KeptStatus
 pub mod KeptText
+pub mod KeptTold
 pub mod KeptWorks
 pub mod Meaning
 pub mod Notes
 pub mod Ran
 pub mod Status
 pub mod Stops
+pub mod Told
 pub mod WholeInput
+pub mod Worked

@@ -4,10 +4,6 @@ use Rattle.tc_command.specs.declared.input_fault.InputFault.{InputFault}
 use Rattle.tc_command.specs.InputFault.{name_of, place_of}
 use Rattle.tc_job.specs.declared.fault.WordsFault.{WordsFault}
 use Rattle.tc_job.specs.declared.fault.WordsFault.TheVariants as words
-use Rattle.chase_script.specs.declared.fault.RowFault.{RowFault}
-use Rattle.chase_script.specs.Column.{number_of_column}
-use Rattle.tc_command.specs.declared.stop.ChaseStop.{ChaseStop}
-use Rattle.tc_command.specs.declared.stop.ChaseStop.TheVariants as chase
 use Rattle.tc_command.specs.declared.stop.Stop.{Stop}
 use Rattle.tc_command.specs.declared.stop.Stop.TheVariants.{Refused, ReadFault, WriteFault, Limit}
 
@@ -18,15 +14,6 @@ stop_note (Refused fault) =
 stop_note ReadFault = codes "tc: read fault\n"
 stop_note WriteFault = codes "tc: write fault\n"
 stop_note Limit = codes "tc: limit\n"
-
--- why a chase stopped: the first refused row of a script and its least refused column, or the cause alone
-abbrev pub chase_note : ChaseStop → List ℕ
-chase_note (chase.Refused fault) = codes "tc: refused: row " ++ decimal fault.row ++ codes " column "
-    ++ decimal (number_of_column fault.column) ++ codes "\n"
-chase_note chase.ReadFault = codes "tc: read fault\n"
-chase_note chase.WriteFault = codes "tc: write fault\n"
-chase_note chase.Memory = codes "tc: out of memory\n"
-chase_note chase.Limit = codes "tc: limit\n"
 
 -- the first fault of the words, or want of memory
 abbrev pub usage_note : WordsFault → List ℕ

@@ -2,8 +2,6 @@
 use Rattle.std.specs.Prelude.{ℕ}
 use Rattle.tc_job.specs.declared.fault.WordsFault.{WordsFault}
 use Rattle.tc_job.specs.declared.fault.WordsFault.TheVariants as words
-use Rattle.tc_command.specs.declared.stop.ChaseStop.{ChaseStop}
-use Rattle.tc_command.specs.declared.stop.ChaseStop.TheVariants as chase
 use Rattle.tc_command.specs.declared.stop.Stop.{Stop}
 use Rattle.tc_command.specs.declared.stop.Stop.TheVariants as stops
 use Rattle.tc_command.specs.declared.status.Status.{Status}
@@ -26,14 +24,6 @@ status_of (stops.Refused fault) = Refused
 status_of stops.ReadFault = ReadFault
 status_of stops.WriteFault = WriteFault
 status_of stops.Limit = Limit
-
--- the status of a chase that stopped
-abbrev pub status_of_chase : ChaseStop → Status
-status_of_chase (chase.Refused fault) = Refused
-status_of_chase chase.ReadFault = ReadFault
-status_of_chase chase.WriteFault = WriteFault
-status_of_chase chase.Memory = Memory
-status_of_chase chase.Limit = Limit
 
 -- the status of words that were not read
 abbrev pub status_of_words : WordsFault → Status

@@ -9,17 +9,33 @@ ghost use Rattle.tc_command.specs.Ends.{SeesOneEnd};
 ghost use Rattle.tc_command.specs.Meaning.{Meaning};
 ghost use Rattle.tc_command.specs.Ran.{CameToItsEnd, StoppedBefore};
 ghost use Rattle.tc_command.specs.Stops.{Stops};
+ghost use Rattle.tc_command.specs.Worked.{IsWorked};
 
 use crate::engine::Engine;
 use crate::stop::Stop;
 use tc_io::{Sink, Source};
 
 /// The room for the bytes of one pull.
-const PULLED: usize = 4096;
+pub const PULLED: usize = 4096;
 
-/// Pulls the input to its end. Each byte that was pulled is worked on before the next pull, and what
-/// it gave is pushed.
+/// Works a command along its input. Each byte that was pulled is worked on before the next pull, and what it
+/// gave is pushed.
 pub fn work<E: Engine, S: Source, K: Sink>(
+    engine: &mut E,
+    source: &mut S,
+    out: &mut K,
+) -> Result<(), Stop>
+    requires going { E.is_going engine.old }
+    requires new { E.stands engine.old [] [] }
+    requires reads { Meaning.reads (E.meaning (E.choice engine.old)) ≡ true }
+    ensures { IsWorked (E.meaning (E.choice engine.old)) S.left S.ends S.faults K.written K.faults
+        source.old source.new out.old out.new result }
+{
+    pull_all(engine, source, out)
+}
+
+/// Pulls the input to its end.
+fn pull_all<E: Engine, S: Source, K: Sink>(
     engine: &mut E,
     source: &mut S,
     out: &mut K,

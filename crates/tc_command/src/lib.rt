@@ -11,6 +11,9 @@
 //! - It stops by a fault of the source or of the sink only where its count rose (`specs/Causes.antt`).
 //! - It sees the end of its input once, and pulls nothing after it (`specs/Ends.antt`).
 //! - The note is the one line of how it ended (`specs/Notes.antt`).
+//! - All that is told of a command is its `Told`: its meaning, its promise, and what belongs to them. Its function
+//!   has one clause, `WorksAsTold`: the run was worked so, and what is told holds (`specs/Told.antt`, over
+//!   `specs/Worked.antt`).
 //! - What holds of every command is `IsCommand` (`specs/Command.antt`): what is written comes first, there
 //!   is one output of an input, and what bytes show stays. From it follow the status of a whole input
 //!   (`specs/WholeInput.antt`) and that what was written is a front of the whole output.
@@ -32,10 +35,10 @@ mod stop;
 pub use engine::Engine;
 pub use gathered::Gathered;
 pub use input_fault::InputFault;
-pub use intake::work;
+pub use intake::{PULLED, work};
 pub use making::{Maker, give_all, make};
-pub use notes::{chase_note, push_note, stop_note, usage_note};
+pub use notes::{push_note, stop_note, usage_note};
 pub use piece::{PIECE, Piece, put_bytes, put_interval};
 pub use pushing::{push_line, push_piece};
 pub use status::Status;
-pub use stop::{ChaseStop, Stop};
+pub use stop::Stop;

@@ -4,9 +4,9 @@ ghost use Rattle.std.specs.Prelude.{◌≡◌, ℕ, ◌<◌, ◌≤◌, List, []
 ghost use Rattle.std.specs.Io.KnownBytes.{Appends};
 ghost use Rattle.tc_io.specs.Sink.{AppendsFront};
 ghost use Rattle.tc_io.specs.Bytes.{AreBytes};
-ghost use Rattle.tc_command.specs.Causes.{HasOutCause, HasSourceCause};
+ghost use Rattle.tc_command.specs.Causes.{HasOutCause};
 ghost use Rattle.tc_command.specs.Meaning.{writes};
-ghost use Rattle.tc_command.specs.Ran.{CameToItsEnd, StoppedBefore};
+ghost use Rattle.tc_command.specs.Worked.{IsWorked};
 
 use crate::piece::Piece;
 use crate::pushing::push_piece;
@@ -35,13 +35,8 @@ pub fn make<M: Maker, S: Source, K: Sink>(
     source: &mut S,
     out: &mut K,
 ) -> Result<(), Stop>
-    ensures ends { OnOk result (CameToItsEnd (writes (M.rest maker.old)) (S.left source.old) (S.left source.new)
-        (K.written out.old) (K.written out.new)) }
-    ensures stops { IfErr result (λ stop. StoppedBefore (writes (M.rest maker.old)) stop (S.left source.old) (S.left source.new)
-        (K.written out.old) (K.written out.new)) }
-    ensures idle { source.new ≡ source.old }
-    ensures out { HasOutCause (K.faults out.old) (K.faults out.new) result }
-    ensures why { IfErr result (λ stop. stop ≡ Stop.WriteFault) }
+    ensures { IsWorked (writes (M.rest maker.old)) S.left S.ends S.faults K.written K.faults
+        source.old source.new out.old out.new result }
 {
     give_all(maker, out)
 }

@@ -3,12 +3,11 @@ ghost use Rattle.std.specs.Prelude.{◌≡◌, ◌++◌, ◌+◌, ◌≤◌, ◌
 ghost use Rattle.std.specs.Io.KnownBytes.{Appends};
 ghost use Rattle.tc_io.specs.Source.{Rose};
 ghost use Rattle.tc_io.specs.Sink.{AppendsFront};
-ghost use Rattle.tc_command.specs.Notes.{usage_note, stop_note, chase_note};
+ghost use Rattle.tc_command.specs.Notes.{usage_note, stop_note};
 
 use crate::input_fault::InputFault;
-use crate::stop::{ChaseStop, Stop};
-use chase_script::RowFault;
-use line_text::{Text, push_bytes, push_number};
+use crate::stop::Stop;
+use line_text::{Text, push_bytes, push_any_number};
 use tc_io::{Sink, push_all};
 use tc_job::WordsFault;
 
@@ -33,19 +32,6 @@ pub fn stop_note(stop: Stop) -> Text
     }
 }
 
-/// The note of a chase that stopped.
-pub fn chase_note(stop: ChaseStop) -> Text
-    ensures { result.items ≡ chase_note stop }
-{
-    match stop {
-        ChaseStop::Refused(fault) => row_note(fault),
-        ChaseStop::ReadFault => line_of(b"tc: read fault\n"),
-        ChaseStop::WriteFault => line_of(b"tc: write fault\n"),
-        ChaseStop::Memory => line_of(b"tc: out of memory\n"),
-        ChaseStop::Limit => line_of(b"tc: limit\n"),
-    }
-}
-
 /// The note of words that name no job, or that there is no memory to read.
 pub fn usage_note(fault: WordsFault) -> Text
     ensures { result.items ≡ usage_note fault }
@@ -59,37 +45,23 @@ pub fn usage_note(fault: WordsFault) -> Text
     }
 }
 
-#[tactic(auto, using(crate::proofs::Digits::digits_of_any))]
 fn refused_note(fault: InputFault) -> Text
     ensures { result.items ≡ stop_note (Stop.Refused fault) }
 {
     let mut line = line_of(b"tc: refused: ");
     push_bytes(&mut line, fault.name().as_bytes());
     push_bytes(&mut line, b" at byte ");
-    push_number(&mut line, fault.place());
+    push_any_number(&mut line, fault.place());
     push_bytes(&mut line, b"\n");
     line
 }
 
-#[tactic(auto, using(crate::proofs::Digits::digits_of_any))]
-fn row_note(fault: RowFault) -> Text
-    ensures { result.items ≡ chase_note (ChaseStop.Refused fault) }
-{
-    let mut line = line_of(b"tc: refused: row ");
-    push_number(&mut line, fault.row);
-    push_bytes(&mut line, b" column ");
-    push_number(&mut line, fault.column.number());
-    push_bytes(&mut line, b"\n");
-    line
-}
-
-#[tactic(auto, using(crate::proofs::Digits::digits_of_any))]
 fn numbered(front: &[u8], number: u64) -> Text
     requires { length front.now ≤ 100 }
     ensures { result.items ≡ front.now ++ decimal number ++ codes "\n" }
 {
     let mut line = line_of(front);
-    push_number(&mut line, number);
+    push_any_number(&mut line, number);
     push_bytes(&mut line, b"\n");
     line
 }

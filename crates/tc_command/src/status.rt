@@ -1,8 +1,8 @@
 //! How a run ended. Next: `notes`.
 ghost use Rattle.std.specs.Prelude.{◌≡◌};
-ghost use Rattle.tc_command.specs.Status.{code_of, status_of, status_of_words, status_of_chase};
+ghost use Rattle.tc_command.specs.Status.{code_of, status_of, status_of_words};
 
-use crate::stop::{ChaseStop, Stop};
+use crate::stop::Stop;
 use tc_job::WordsFault;
 
 /// How a run ended.
@@ -49,19 +49,6 @@ impl Status {
             Stop::ReadFault => Status::ReadFault,
             Stop::WriteFault => Status::WriteFault,
             Stop::Limit => Status::Limit,
-        }
-    }
-
-    /// The status of a chase that stopped.
-    pub fn of_chase(stop: ChaseStop) -> Status
-        ensures { result ≡ status_of_chase stop }
-    {
-        match stop {
-            ChaseStop::Refused(_) => Status::Refused,
-            ChaseStop::ReadFault => Status::ReadFault,
-            ChaseStop::WriteFault => Status::WriteFault,
-            ChaseStop::Memory => Status::Memory,
-            ChaseStop::Limit => Status::Limit,
         }
     }
 

@@ -1,6 +1,5 @@
 //! Why a job stopped before its end. Next: `status`.
 use crate::input_fault::InputFault;
-use chase_script::RowFault;
 
 /// Why a job stopped before its end.
 #[derive(Clone, Copy)]
@@ -12,20 +11,5 @@ pub enum Stop {
     /// A push on the output failed.
     WriteFault,
     /// The input is longer than the command takes.
-    Limit,
-}
-
-/// Why a chase stopped before its end.
-#[derive(Clone, Copy)]
-pub enum ChaseStop {
-    /// The script has a refused row.
-    Refused(RowFault),
-    /// A pull failed.
-    ReadFault,
-    /// A push on the output failed.
-    WriteFault,
-    /// There was not enough memory for the script or its rows.
-    Memory,
-    /// The script is longer than a chase takes.
     Limit,
 }

@@ -1,58 +1,51 @@
--- The meaning of each job: what it takes and what it writes. A row a command.
+-- All that is told of the command of each job: what it takes and what it writes, and what it promises of that. A line a
+-- command.
 use Rattle.biphase.specs.declared.profile.Profile.TheVariants.{Normal, Worn, Rough}
-use Rattle.tc_address.specs.Numbering.{number_of}
 use Rattle.tc_job.specs.declared.job.Job.{Job}
-use Rattle.tc_job.specs.declared.job.Job.TheVariants.{LtcRead, LtcWorn, LtcRough, LtcFly, LtcSpans, LtcMtc, LtcJam}
-use Rattle.tc_job.specs.declared.job.Job.TheVariants.{LtcChase, MtcRead, Number, LabelOf, LtcMake}
-use Rattle.tc_job.specs.declared.job.Job.TheVariants.{LtcConvert, PcmLtc, WavLtc, LtcPcm, LtcLoad, VitcRead}
-use Rattle.tc_job.specs.declared.job.Job.TheVariants.{VitcMake, Help, Version}
-use Rattle.tc_command.specs.Meaning.{Meaning, writes}
-use Rattle.interval_engine.specs.Along.{along_intervals}
-use Rattle.interval_commands.specs.LtcConvert.{conversion}
-use Rattle.interval_commands.specs.LtcPcm.{made_sound}
-use Rattle.interval_commands.specs.LtcRead.{report}
-use Rattle.frame_commands.specs.LtcChase.{lines_of_steps}
-use Rattle.frame_commands.specs.LtcFly.{lines_of_frames}
-use Rattle.frame_commands.specs.LtcJam.{file_of_frames}
-use Rattle.frame_commands.specs.LtcMtc.{messages_of_frames}
-use Rattle.frame_commands.specs.LtcSpans.{lines_of_spans}
-use Rattle.frame_commands.specs.OfFrames.{along_frames}
-use Rattle.made_commands.specs.About.{help_text, version_line}
-use Rattle.made_commands.specs.Labels.{number_line, label_line}
-use Rattle.made_commands.specs.Load.{load_text}
-use Rattle.made_commands.specs.Made.{made}
-use Rattle.made_commands.specs.MadeLines.{made_lines}
-use Rattle.signal_commands.specs.MtcRead.{along_midi}
-use Rattle.signal_commands.specs.PcmLtc.{along_samples}
-use Rattle.signal_commands.specs.VitcRead.{along_fields}
-use Rattle.signal_commands.specs.WavLtc.{along_sound_file}
+use Rattle.tc_job.specs.declared.job.Job.TheVariants as jobs
+use Rattle.tc_command.specs.Meaning.{Meaning}
+use Rattle.tc_command.specs.Told.{Told}
+use Rattle.interval_commands.specs.LtcConvert.{told_ltc_convert}
+use Rattle.interval_commands.specs.LtcPcm.{told_ltc_pcm}
+use Rattle.interval_commands.specs.Tape.{told_ltc_read}
+use Rattle.frame_commands.specs.LtcChase.{told_ltc_chase}
+use Rattle.frame_commands.specs.LtcFly.{told_ltc_fly}
+use Rattle.frame_commands.specs.LtcJam.{told_ltc_jam}
+use Rattle.frame_commands.specs.LtcMtc.{told_ltc_mtc}
+use Rattle.frame_commands.specs.LtcSpans.{told_ltc_spans}
+use Rattle.made_commands.specs.About.{told_help, told_version}
+use Rattle.made_commands.specs.Labels.{told_label, told_number}
+use Rattle.made_commands.specs.Load.{told_ltc_load}
+use Rattle.made_commands.specs.Made.{told_ltc_make}
+use Rattle.made_commands.specs.MadeLines.{told_vitc_make}
+use Rattle.signal_commands.specs.MtcRead.{told_mtc_read}
+use Rattle.signal_commands.specs.PcmLtc.{told_pcm_ltc}
+use Rattle.signal_commands.specs.VitcRead.{told_vitc_read}
+use Rattle.signal_commands.specs.WavLtc.{told_wav_ltc}
 
--- what each command takes and writes: it writes a text and reads nothing, or it reads an interval file and writes of its
--- intervals or of the frames of its words, or MIDI bytes, samples of sound, a track of a sound file, or a line file
+abbrev pub told_of : Job → Told
+told_of jobs.LtcRead = told_ltc_read Normal
+told_of jobs.LtcWorn = told_ltc_read Worn
+told_of jobs.LtcRough = told_ltc_read Rough
+told_of (jobs.LtcFly flight) = told_ltc_fly flight
+told_of (jobs.LtcSpans flight) = told_ltc_spans flight
+told_of (jobs.LtcMtc flight) = told_ltc_mtc flight
+told_of (jobs.LtcJam jam) = told_ltc_jam jam
+told_of (jobs.LtcChase run) = told_ltc_chase run
+told_of (jobs.LtcMake stripe) = told_ltc_make stripe
+told_of (jobs.LtcConvert version) = told_ltc_convert version
+told_of (jobs.LtcLoad run) = told_ltc_load run
+told_of (jobs.LtcPcm level) = told_ltc_pcm level
+told_of (jobs.PcmLtc slicing) = told_pcm_ltc slicing
+told_of (jobs.WavLtc slicing) = told_wav_ltc slicing
+told_of jobs.MtcRead = told_mtc_read
+told_of jobs.VitcRead = told_vitc_read
+told_of (jobs.VitcMake stripe) = told_vitc_make stripe
+told_of (jobs.Number label) = told_number label
+told_of (jobs.LabelOf label) = told_label label
+told_of jobs.Help = told_help
+told_of jobs.Version = told_version
+
+-- what each command takes and writes
 abbrev pub meaning_of : Job → Meaning
-meaning_of LtcRead = along_intervals (report Normal)
-meaning_of LtcWorn = along_intervals (report Worn)
-meaning_of LtcRough = along_intervals (report Rough)
-meaning_of (LtcFly flight) = along_intervals (along_frames flight lines_of_frames)
-meaning_of (LtcSpans flight) = along_intervals (along_frames flight lines_of_spans)
-meaning_of (LtcMtc flight) = along_intervals (along_frames flight messages_of_frames)
-meaning_of (LtcJam jam) = along_intervals (along_frames jam.flight (file_of_frames jam))
-meaning_of (LtcChase run) = along_intervals (along_frames run.flight (lines_of_steps run))
-meaning_of MtcRead = along_midi
-meaning_of (LtcMake stripe) = writes (made stripe)
-meaning_of (LtcLoad run) = writes (load_text run)
-meaning_of (LtcConvert version) = along_intervals (conversion version)
-meaning_of (PcmLtc slicing) = along_samples slicing
-meaning_of (WavLtc slicing) = along_sound_file slicing
-meaning_of (LtcPcm size) = along_intervals (made_sound size)
-meaning_of VitcRead = along_fields
-meaning_of (VitcMake stripe) = writes (made_lines stripe)
-meaning_of (Number label) = writes (number_line (number_of label))
-meaning_of (LabelOf label) = writes (label_line label)
-meaning_of Help = writes help_text
-meaning_of Version = writes version_line
-
--- the jobs with a limit of the command's own
-abbrev pub HasOwnLimit : Job → Type 0
-HasOwnLimit (LtcChase run) = Unit {0}
-HasOwnLimit _ = ⊥
+meaning_of job = (told_of job).meaning

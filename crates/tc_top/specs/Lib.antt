@@ -2,8 +2,6 @@ pub mod Answer
 pub mod CleanCopy
 pub mod Commands
 pub mod Exit
-pub mod KeptWorked
 pub mod Promises
 pub mod SentAgain
 pub mod SoundAgain
-pub mod Tape

@@ -1,43 +1,25 @@
 //! What follows from the definitions alone.
-ghost use Rattle.std.specs.Prelude.{◌≡◌, List, ℕ, ◌++◌, map, Ok, Err};
+ghost use Rattle.std.specs.Prelude.{◌≡◌, List, ℕ, ◌++◌, map, false, Ok, Err};
 ghost use Rattle.biphase.specs.Chain.{flat};
 ghost use Rattle.tc_job.specs.declared.job.Job.{Job};
-ghost use Rattle.tc_job.specs.ChaseRun.{Chasing, IsChasing};
-ghost use Rattle.tc_job.specs.Jam.{IsJamming, Jamming};
 ghost use Rattle.tc_job.specs.LineStripe.{IsLineStripe, LineStriping};
 ghost use Rattle.tc_job.specs.Stripe.{IsStripe, Striping};
 ghost use Rattle.vitc_reader.specs.declared.field.FieldAnswer.{FieldAnswer};
 ghost use Rattle.tc_command.specs.declared.status.Status.{Status};
-ghost use Rattle.tc_command.specs.Command.{IsCommand};
-ghost use Rattle.tc_command.specs.Exchange.{Exchange};
 ghost use Rattle.tc_command.specs.Meaning.{Meaning, IsInput};
+ghost use Rattle.tc_command.specs.Told.{IsTold, Told};
 ghost use Rattle.tc_command.specs.WholeInput.{HasStatus, status_by};
 ghost use Rattle.interval_commands.specs.LtcRead.{last_line, lines};
-ghost use Rattle.frame_commands.specs.LtcChase.{ChasesTheInput};
 ghost use Rattle.made_commands.specs.Made.{made, made_cells, made_events, made_header};
 ghost use Rattle.made_commands.specs.MadeLines.{made_lines, made_words};
 ghost use Rattle.signal_commands.specs.VitcRead.{field_report};
-ghost use Rattle.tc_top.specs.CleanCopy.{CleansTheInput};
 ghost use Rattle.tc_top.specs.declared.exit.NoArguments.{NoArguments};
 ghost use Rattle.tc_top.specs.Exit.{exit_number};
-ghost use Rattle.tc_top.specs.Commands.{HasOwnLimit, meaning_of};
-ghost use Rattle.tc_top.specs.Promises.{IsPinned, Promise};
+ghost use Rattle.tc_top.specs.Commands.{meaning_of, told_of};
 
-use biphase::laws::shaped_cells_are_a_chain;
-use code_chase::laws::{each_loss_has_a_cause, whole_code_keeps_the_lock};
 use direction_reader::laws::a_list_has_one_list_of_events;
-use flywheel::laws::a_frame_that_goes_on_is_the_next;
-use frame_commands::laws::{each_sink_of_frames_adds_in_order, what_is_made_of_frames_is_in_order};
-use interval_commands::laws::what_is_printed_is_in_order;
-use interval_engine::laws::recordings_grow;
-use interval_file::laws::a_file_is_read_as_it_was_written;
 use line_file::laws::bytes_have_one_list_of_answers;
-use ltc_jam::laws::{
-    cells_of_one_length_are_shaped, clean_recordings_are_read,
-    what_is_read_has_labels_of_its_system,
-};
 use made_commands::laws::{lines_that_are_made_are_read_back, what_is_made_is_read_whole};
-use signal_commands::laws::each_signal_makes_a_command;
 
 /// The exit numbers, one by one.
 pub fn exit_numbers_are_these()
@@ -51,38 +33,16 @@ pub fn exit_numbers_are_these()
     ensures no_arguments { exit_number (Err NoArguments.Other) ≡ 8 }
 {}
 
-/// What holds of every command holds of each job: what it writes of some bytes comes first, whatever bytes
-/// follow, each input has an output, and no other, in whatever pieces it comes, and a fault and the limits stay.
-pub fn each_job_is_a_command()
-    ensures { (job : Job) → IsCommand (meaning_of job) }
-{
-    recordings_grow();
-    what_is_printed_is_in_order();
-    what_is_made_of_frames_is_in_order();
-    each_sink_of_frames_adds_in_order();
-    each_signal_makes_a_command();
-}
-
 /// An input leaves a job one status where no call fails. A limit of the command's own comes first, and
 /// where it has none, the grammar and the limit of the file settle it alone.
 pub fn an_input_has_one_status()
     ensures one { (job : Job) (input : List ℕ) (a b : Status) → HasStatus (meaning_of job) input a
         → HasStatus (meaning_of job) input b → a ≡ b }
-    ensures file { (job : Job) (input : List ℕ) (status : Status) → ¬ HasOwnLimit job
+    ensures file { (job : Job) (input : List ℕ) (status : Status) → IsTold (told_of job)
+        → Told.has_own_limit (told_of job) ≡ false
         → HasStatus (meaning_of job) input status
         → status ≡ status_by (Meaning.verdict (meaning_of job) input) (Meaning.end_fault (meaning_of job) input) }
 {}
-
-/// Of reports, frames, copies, traces, conversions, and what is made, the promise alone names the bytes: whoever
-/// keeps it for an input has written the same. So a body that says one of them otherwise breaks its promise.
-pub fn a_promise_names_one_text()
-    ensures { (job : Job) (e f : Exchange) → IsPinned job → e.pulled ≡ f.pulled → Promise job e.pulled e.written
-        → Promise job f.pulled f.written
-        → e.written ≡ f.written }
-{
-    a_list_has_one_list_of_events();
-    a_file_is_read_as_it_was_written();
-}
 
 /// The report of `ltc-read` of what `ltc-make` makes is known: a line a frame, with its word, and the last
 /// line.
@@ -92,32 +52,6 @@ pub fn what_is_made_is_reported_whole()
 {
     what_is_made_is_read_whole();
     a_list_has_one_list_of_events();
-}
-
-/// What `ltc-jam` writes of a whole input is the file of a clean recording: each frame of the input that was
-/// heard or invented is read from it, in order and in its place, and nothing else. So the report of `ltc-read` of
-/// it is known.
-pub fn what_is_jammed_is_read()
-    ensures { (j : Jamming) → IsJamming j → CleansTheInput j }
-{
-    cells_of_one_length_are_shaped();
-    clean_recordings_are_read();
-    shaped_cells_are_a_chain();
-    what_is_read_has_labels_of_its_system();
-    a_list_has_one_list_of_events();
-    a_file_is_read_as_it_was_written();
-}
-
-/// What `ltc-chase` writes of a whole input is the trace of a chase over its frames, or over the first of
-/// them, where there are more than its limit; and each loss in it has its cause: no code where its frame is
-/// gone or has another count, and out of the window where it does not join or the transport slipped far.
-pub fn what_is_chased_follows_the_code()
-    ensures { (c : Chasing) → IsChasing c → ChasesTheInput c }
-{
-    what_is_read_has_labels_of_its_system();
-    a_frame_that_goes_on_is_the_next();
-    each_loss_has_a_cause();
-    whole_code_keeps_the_lock();
 }
 
 /// What `vitc-make` makes is an input of `vitc-read`, and its report is known: each field is agreed with its

@@ -8,11 +8,10 @@ ghost use Rattle.tc_command.specs.Exchange.{Exchange, IsPulled, IsNoted};
 ghost use Rattle.tc_command.specs.Meaning.{Meaning};
 ghost use Rattle.tc_command.specs.WholeInput.{HasStatus};
 ghost use Rattle.tc_top.specs.Answer.{IsAnswer};
-ghost use Rattle.tc_top.specs.Commands.{meaning_of};
-ghost use Rattle.tc_top.specs.KeptWorked.{IsWorked};
+ghost use Rattle.tc_command.specs.Told.{IsTold, WorksAsTold};
+ghost use Rattle.tc_top.specs.Commands.{meaning_of, told_of};
 
-use crate::laws::each_job_is_a_command;
-use crate::promises::a_promise_is_kept;
+use crate::reading_on::it_is_read_on;
 use biphase::Profile;
 use frame_commands::{chase_code, fly_along, jam_sync, send_time_code, tell_spans};
 use interval_commands::{convert_recording, read_recording, sound_recording};
@@ -39,6 +38,10 @@ pub fn stream<S: Source, K: Sink, N: Sink>(
         × IsAnswer job.now result e }
     ensures no_note { result ≡ Status.Done → notes.new ≡ notes.old }
 
+    // What is told of the job's command holds: it is a command as any other, whose promise names one text, where it
+    // is said to, and which passes no limit of its own, where it is said to have none.
+    ensures told { IsTold (told_of job.now) }
+
     // A read fault and a write fault come only where a count of faults rose.
     ensures source { SourceCause result (S.faults source.old) (S.faults source.new) }
     ensures out { OutCause result (K.faults out.old) (K.faults out.new) }
@@ -56,8 +59,7 @@ pub fn stream<S: Source, K: Sink, N: Sink>(
         → ¬ Rose (S.faults source.old) (S.faults source.new) → ¬ Rose (K.faults out.old) (K.faults out.new)
         → HasStatus (meaning_of job.now) input result }
 {
-    a_promise_is_kept(job);
-    each_job_is_a_command();
+    it_is_read_on(job);
     match work_on(job, source, out) {
         Ok(()) => Status::Done,
         Err(stop) => {
@@ -69,21 +71,8 @@ pub fn stream<S: Source, K: Sink, N: Sink>(
 
 /// Works a job to its end, or to where it stops.
 fn work_on<S: Source, K: Sink>(job: &Job, source: &mut S, out: &mut K) -> Result<(), Stop>
-    ensures { IsWorked (meaning_of job.now) (source.new ≡ source.old)
-        (record {
-          left = S.left source.old;
-          ends = S.ends source.old;
-          source_faults = S.faults source.old;
-          written = K.written out.old;
-          out_faults = K.faults out.old;
-        })
-        (record {
-          left = S.left source.new;
-          ends = S.ends source.new;
-          source_faults = S.faults source.new;
-          written = K.written out.new;
-          out_faults = K.faults out.new;
-        }) result }
+    ensures { WorksAsTold (told_of job.now) S.left S.ends S.faults K.written K.faults source.old source.new
+        out.old out.new result }
 {
     match job {
         Job::LtcRead => read_recording(Profile::Normal, source, out),

@@ -23,10 +23,10 @@ returns-in-Ok-clause-answer g c =
 pub returns-in-Err-clause-answer : goal.returns-in-Err-clause-answer
 returns-in-Err-clause-answer g c =
     let e = c.in-Err.ensures.stops in
-    let went : Exchange = record { pulled = e.0; left = g.S.Source.left c.trace_script.new.source; written = e.1; note = c.chase_note.result.items } in (
+    let went : Exchange = record { pulled = e.0; left = g.S.Source.left c.trace_script.new.source; written = e.1; note = c.note.result.items } in (
       went,
       record { bytes = e.2; left = refl },
       e.3,
       record { front = c.push_note.ensures.front; all = c.push_note.ensures.all },
-      rw c.of_chase.ensures (answer_of c.args.label.now c.in-Err.stop went e.4 c.chase_note.ensures),
+      rw c.status.ensures (answer_of c.args.label.now c.in-Err.stop went e.4 c.note.ensures),
     )

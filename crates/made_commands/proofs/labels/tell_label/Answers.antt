@@ -1,7 +1,5 @@
+use Rattle.tc_command.specs.KeptTold.{text_is_told}
 use Rattle.made_commands.proofs.labels.tell_label.Goals as goal
 
-pub returns-clause-ends : goal.returns-clause-ends
-returns-clause-ends g c = rw (← c.label.ensures) c.make.ensures.ends
-
-pub returns-clause-stops : goal.returns-clause-stops
-returns-clause-stops g c = rw (← c.label.ensures) c.make.ensures.stops
+pub returns : goal.returns
+returns g c = record { told = text_is_told _; worked = rw (← c.label.ensures) c.make.ensures }

@@ -1,7 +1,4 @@
 use Rattle.made_commands.proofs.labels.tell_load.Goals as goal
 
-pub returns-clause-ends : goal.returns-clause-ends
-returns-clause-ends g c = rw (← c.load.ensures) c.make.ensures.ends
-
-pub returns-clause-stops : goal.returns-clause-stops
-returns-clause-stops g c = rw (← c.load.ensures) c.make.ensures.stops
+pub returns : goal.returns
+returns g c = record { told = c.a_load_is_told.ensures; worked = rw (← c.load.ensures) c.make.ensures }

@@ -1,7 +1,4 @@
 use Rattle.made_commands.proofs.vitc_make.make_lines.Goals as goal
 
-pub returns-clause-ends : goal.returns-clause-ends
-returns-clause-ends g c = rw (← c.new.ensures.rest) c.make.ensures.ends
-
-pub returns-clause-stops : goal.returns-clause-stops
-returns-clause-stops g c = rw (← c.new.ensures.rest) c.make.ensures.stops
+pub returns : goal.returns
+returns g c = record { told = c.a_line_stripe_is_told.ensures; worked = rw (← c.new.ensures.rest) c.make.ensures }

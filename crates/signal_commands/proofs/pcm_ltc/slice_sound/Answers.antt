@@ -1,8 +1,9 @@
+use Rattle.tc_command.specs.KeptTold.{meaning_is_told}
 use Rattle.signal_commands.proofs.pcm_ltc.slice_sound.Goals as goal
 
 -- the choice of the engine is that of the words
-pub returns-clause-ends : goal.returns-clause-ends
-returns-clause-ends g c = rw c.new.ensures.choice at c.work.ensures.ends
-
-pub returns-clause-stops : goal.returns-clause-stops
-returns-clause-stops g c = rw c.new.ensures.choice at c.work.ensures.stops
+pub returns : goal.returns
+returns g c = record {
+  told = meaning_is_told _ (c.each_signal_makes_a_command.ensures.samples c.args.slicing.now) (λ input spent. spent);
+  worked = rw c.new.ensures.choice at c.work.ensures;
+}

@@ -1,10 +1,10 @@
 use Rattle.tc_command.specs.KeptStatus.{by_file, one_status}
 use Rattle.tc_top.specs.Commands.{meaning_of}
-use Rattle.tc_top.proofs.EachCommand.{unlimited_job}
 use Rattle.tc_top.proofs.laws.an_input_has_one_status.Goals as goal
 
 pub returns-clause-one : goal.returns-clause-one
 returns-clause-one c = λ job input a b x y. one_status (meaning_of job) input a b x y
 
 pub returns-clause-file : goal.returns-clause-file
-returns-clause-file c = λ job input status none is. by_file (meaning_of job) input status (unlimited_job job none input) is
+returns-clause-file c = λ job input status told none is.
+    by_file (meaning_of job) input status (told.unlimited none input) is

@@ -1,0 +1,80 @@
+-- What is told of the commands along frames holds.
+use Rattle.std.proofs.Common.{◌≡◌, ℕ, List}
+use Rattle.flywheel.specs.declared.frame.Frame.{Frame}
+use Rattle.interval_file.specs.Recording.{recording_of}
+use Rattle.tc_job.specs.ChaseRun.{Chasing}
+use Rattle.tc_job.specs.Jam.{Jamming}
+use Rattle.tc_job.specs.declared.flight.Flight.{Flight}
+use Rattle.tc_command.specs.Command.{IsCommand}
+use Rattle.tc_command.specs.KeptTold.{meaning_is_told}
+use Rattle.tc_command.specs.Meaning.{Meaning}
+use Rattle.tc_command.specs.Told.{IsTold}
+use Rattle.interval_engine.specs.Along.{along_intervals}
+use Rattle.interval_engine.specs.KeptCommand.{PrintsInOrder, RecordingsGrow, along_is_command, never_spent}
+use Rattle.frame_commands.specs.KeptFrames.{AddsInOrder}
+use Rattle.frame_commands.specs.LtcChase.{ChasesTheInput, lines_of_steps, told_ltc_chase}
+use Rattle.frame_commands.specs.LtcFly.{lines_of_frames, told_ltc_fly}
+use Rattle.frame_commands.specs.LtcJam.{CleansTheInput, file_of_frames, told_ltc_jam}
+use Rattle.frame_commands.specs.LtcMtc.{messages_of_frames, told_ltc_mtc}
+use Rattle.frame_commands.specs.LtcSpans.{lines_of_spans, told_ltc_spans}
+use Rattle.frame_commands.specs.OfFrames.{AreTooMany, FrameText, IsFlightSpent, along_frames}
+use Rattle.frame_commands.proofs.MarkedLines.{FramesLaws, shows_the_frames}
+use Rattle.frame_commands.proofs.OneText.{HaveOneList, one_copy, one_flight, one_tape, one_trace}
+use Rattle.frame_commands.proofs.SpansOfTheTape.{SpansLaws, shows_the_spans}
+
+-- what the laws say of every command along frames
+pub record AlongLaws : Type 0 where
+  pub grow : RecordingsGrow
+  pub frames : (flight : Flight) (made : FrameText) → AddsInOrder made → PrintsInOrder (along_frames flight made)
+  pub one_list : HaveOneList
+
+command : AlongLaws → (flight : Flight) (made : FrameText) → AddsInOrder made
+    → IsCommand (along_intervals (along_frames flight made))
+command laws flight made adds = along_is_command laws.grow (along_frames flight made) (laws.frames flight made adds)
+
+-- of frames of which there are never too many
+unlimited : (flight : Flight) (made : FrameText) → ((frames : List Frame) → ¬ AreTooMany made.most frames)
+    → (input : List ℕ) → ¬ Meaning.spent (along_intervals (along_frames flight made)) input
+unlimited flight made few input =
+    never_spent (along_frames flight made)
+    (λ header intervals (spent : IsFlightSpent flight made header intervals). few _ spent.too_many) (recording_of input)
+
+pub fly_is_told : AlongLaws → AddsInOrder lines_of_frames → FramesLaws → (flight : Flight) → IsTold (told_ltc_fly flight)
+fly_is_told laws adds marked flight = record {
+  command = command laws flight lines_of_frames adds;
+  kept = λ pulled written are input output. shows_the_frames marked flight pulled written output;
+  pinned = λ yes. one_flight laws.one_list flight;
+  unlimited = λ none. unlimited flight lines_of_frames (λ frames many. many);
+}
+
+pub spans_are_told : AlongLaws → AddsInOrder lines_of_spans → SpansLaws → (flight : Flight)
+    → IsTold (told_ltc_spans flight)
+spans_are_told laws adds shared flight = record {
+  command = command laws flight lines_of_spans adds;
+  kept = λ pulled written are input output. shows_the_spans shared flight pulled written output;
+  pinned = λ yes. one_tape laws.one_list flight;
+  unlimited = λ none. unlimited flight lines_of_spans (λ frames many. many);
+}
+
+pub messages_are_told : AlongLaws → AddsInOrder messages_of_frames → (flight : Flight) → IsTold (told_ltc_mtc flight)
+messages_are_told laws adds flight =
+    meaning_is_told (along_intervals (along_frames flight messages_of_frames)) (command laws flight messages_of_frames adds)
+    (unlimited flight messages_of_frames (λ frames many. many))
+
+pub copy_is_told : AlongLaws → (j : Jamming) → AddsInOrder (file_of_frames j) → CleansTheInput j
+    → IsTold (told_ltc_jam j)
+copy_is_told laws j adds cleans = record {
+  command = command laws j.flight (file_of_frames j) adds;
+  kept = λ pulled written are input output. cleans pulled written output;
+  pinned = λ yes pulled. one_copy laws.one_list j (recording_of pulled);
+  unlimited = λ none. unlimited j.flight (file_of_frames j) (λ frames many. many);
+}
+
+pub trace_is_told : AlongLaws → (c : Chasing) → AddsInOrder (lines_of_steps c) → ChasesTheInput c
+    → IsTold (told_ltc_chase c)
+trace_is_told laws c adds follows = record {
+  command = command laws c.flight (lines_of_steps c) adds;
+  kept = λ pulled written are input output. follows pulled written output;
+  pinned = λ yes pulled. one_trace laws.one_list c (recording_of pulled);
+  unlimited = λ none. absurd cc;
+}

@@ -1,0 +1,11 @@
+use Rattle.frame_commands.proofs.CleanCopy.{copy_is_clean}
+use Rattle.frame_commands.proofs.laws.what_is_jammed_is_read.Goals as goal
+
+pub returns : goal.returns
+returns c = copy_is_clean (record {
+  shaped_so = c.cells_of_one_length_are_shaped.ensures;
+  read = c.clean_recordings_are_read.ensures;
+  intervals = c.shaped_cells_are_a_chain.ensures.intervals;
+  events = c.what_is_read_has_labels_of_its_system.ensures.events;
+  frames = c.what_is_read_has_labels_of_its_system.ensures.frames;
+})

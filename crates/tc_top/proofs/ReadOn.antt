@@ -1,0 +1,51 @@
+-- What a further command makes of what a job wrote follows from what is said of the files between them.
+use Rattle.std.proofs.Common.{◌≡◌, ℕ, ◌<◌, ◌≤◌, ◌^◌, List, ◌++◌, length, Some, refl, ◌∙◌, ap, subst}
+use Rattle.biphase.specs.declared.cell.TheConstants.{MAX_INTERVALS}
+use Rattle.biphase.specs.declared.profile.Profile.{Profile}
+use Rattle.biphase.specs.declared.profile.Profile.TheVariants.{Normal}
+use Rattle.direction_reader.specs.declared.event.Event.{Event}
+use Rattle.direction_reader.specs.ListEvents.{AreEvents}
+use Rattle.tc_address.specs.declared.system.System.{System}
+use Rattle.interval_file.specs.declared.header.IntervalHeader.{IntervalHeader}
+use Rattle.interval_file.specs.Grammar.{IsFile}
+use Rattle.interval_file.specs.Recording.{Recording, recording_of}
+use Rattle.tc_job.specs.declared.job.Job.{Job}
+use Rattle.tc_job.specs.declared.job.Job.TheVariants.{LtcMtc, LtcJam, LtcPcm}
+use Rattle.tc_job.specs.Jam.{Jamming}
+use Rattle.interval_engine.specs.Along.{IsWholeOf}
+use Rattle.interval_commands.specs.LtcRead.{last_line, lines, report}
+use Rattle.tc_top.specs.CleanCopy.{IsReportedClean}
+use Rattle.tc_top.specs.Promises.{IsReadOn}
+use Rattle.tc_top.proofs.LabelsHeard.{HaveLabels}
+use Rattle.tc_top.proofs.SentIsRead.{AreReadBack, sends_the_frames}
+use Rattle.tc_top.proofs.SlicedAgain.{SoundLaws, sliced_again}
+
+-- what the laws of the crates below say
+pub record ReadOnLaws : Type 1 where
+  pub one_list : (system : System) (profile : Profile) (list : List ℕ) (a b : List Event)
+      → AreEvents system profile list a → AreEvents system profile list b → a ≡ b
+  pub labels : HaveLabels
+  pub back : AreReadBack
+  pub sound : SoundLaws
+
+-- the report of a file within the limit whose events are these
+reported : ReadOnLaws → (header : IntervalHeader) (list bytes : List ℕ) (events : List Event) → IsFile bytes header list
+    → AreEvents header.system Normal list events → (text : List ℕ) → length list ≤ MAX_INTERVALS
+    → IsWholeOf (report Normal) (recording_of bytes) text → text ≡ lines header events ++ last_line list events
+reported laws header list bytes events file are text few output =
+    let said = (laws.sound.files bytes header list file few).0 in
+    let whole = subst (λ (r : Recording). IsWholeOf (report Normal) r text) said output in
+    let same = laws.one_list header.system Normal list whole.events events whole.are_events are in
+    whole.are ∙ ap (λ (es : List Event). lines header es ++ last_line list es) same
+
+copy_is_reported : ReadOnLaws → (j : Jamming) (pulled written : List ℕ) → IsReportedClean j pulled written
+copy_is_reported laws j pulled written = λ clean text few output.
+    reported laws _ _ written _ clean.file clean.read text few output
+
+pub read_on : ReadOnLaws → (job : Job) → ((level : ℕ) → job ≡ LtcPcm level → level < 2 ^ 15) → IsReadOn job
+read_on laws (LtcMtc flight) level = λ pulled written are input output.
+    sends_the_frames laws.back laws.labels flight pulled written output
+read_on laws (LtcJam jam) level = λ pulled written are input output. copy_is_reported laws jam pulled written
+read_on laws (LtcPcm size) level = λ pulled written are input output.
+    sliced_again laws.sound size (level size refl) pulled written are input output
+read_on laws job level = λ pulled written are input output. tt

@@ -1,0 +1,19 @@
+use Rattle.tc_top.proofs.ReadOn.{read_on}
+use Rattle.tc_top.proofs.reading_on.it_is_read_on.Goals as goal
+
+pub returns : goal.returns
+returns c = read_on (record {
+  one_list = c.a_list_has_one_list_of_events.ensures;
+  labels = c.what_is_read_has_labels_of_its_system.ensures.events;
+  back = c.what_is_sent_is_read_back.ensures.events;
+  sound = record {
+    inputs = c.bytes_are_read_as_the_text_says.ensures.input;
+    files = c.a_file_is_read_as_it_was_written.ensures.read;
+    samples = c.samples_are_read_as_they_were_written.ensures.sound;
+    apart = c.a_sound_is_sliced_into_its_intervals.ensures.distances;
+    sliced = c.a_sound_is_sliced_into_its_intervals.ensures.intervals;
+    alone = c.sums_of_one_are_the_samples.ensures.sums;
+    followed = c.a_sound_is_sliced_at_a_threshold_that_follows.ensures.follow;
+    behind = c.a_sound_is_sliced_at_a_threshold_that_follows.ensures.behind;
+  };
+}) c.args.job.now c.has_a_level_of_samples.ensures

@@ -1,0 +1,40 @@
+//! What a further command makes of what a job wrote is what is promised of it. Next: `laws`.
+ghost use Rattle.std.specs.Prelude.{◌≡◌, ℕ, ◌<◌, ◌^◌};
+ghost use Rattle.tc_job.specs.declared.job.Job.{Job};
+ghost use Rattle.tc_top.specs.Promises.{IsReadOn};
+
+use direction_reader::laws::a_list_has_one_list_of_events;
+use interval_file::laws::{a_file_is_read_as_it_was_written, bytes_are_read_as_the_text_says};
+use ltc_jam::laws::what_is_read_has_labels_of_its_system;
+use pcm_front::laws::{
+    a_sound_is_sliced_at_a_threshold_that_follows, a_sound_is_sliced_into_its_intervals,
+    samples_are_read_as_they_were_written, sums_of_one_are_the_samples,
+};
+use quarter_frame::laws::what_is_sent_is_read_back;
+use tc_job::Job;
+
+/// What is sent is read as the frames of the file, the report of a copy is that of its frames, and what is
+/// sounded is sliced into its intervals again.
+pub(crate) fn it_is_read_on(job: &Job)
+    ensures { IsReadOn job.now }
+{
+    a_list_has_one_list_of_events();
+    a_file_is_read_as_it_was_written();
+    what_is_read_has_labels_of_its_system();
+    what_is_sent_is_read_back();
+    bytes_are_read_as_the_text_says();
+    samples_are_read_as_they_were_written();
+    a_sound_is_sliced_into_its_intervals();
+    a_sound_is_sliced_at_a_threshold_that_follows();
+    sums_of_one_are_the_samples();
+    has_a_level_of_samples(job);
+}
+
+/// The level of made sound is one of a sample.
+fn has_a_level_of_samples(job: &Job)
+    ensures { (level : ℕ) → job.now ≡ Job.LtcPcm level → level < 2 ^ 15 }
+{
+    if let Job::LtcPcm { level } = job {
+        let _level = level.level();
+    }
+}
