@@ -1,5 +1,5 @@
 -- A cell that differs from the one before it by a hundredth of that one differs from it by a ninety-ninth of its own.
-use Rattle.std.proofs.Common.{◌≡◌, ℕ, ◌+◌, ◌*◌, ◌<◌, ◌≤◌, max, List, [], ◌∷◌, arith}
+use Rattle.std.proofs.Common.{ℕ, ◌*◌, ◌<◌, ◌≤◌, max, List, [], ◌∷◌, arith}
 use Rattle.std.specs.Int.{abs_diff}
 use Rattle.biphase.specs.declared.cell.Cell.{Cell}
 use Rattle.biphase.specs.declared.profile.Profile.{Profile}
