@@ -13,11 +13,14 @@ pub mod KeepsTheLast
 pub mod KeepsTheSum
 pub mod LastsLong
 pub mod LaterEvents
+pub mod MadeMargin
+pub mod MadeTurns
 pub mod NoLater
 pub mod NoneBefore
 pub mod PartIsFound
 pub mod Rounded
 pub mod SamePiece
+pub mod ScaledTape
 pub mod SilenceFirst
 pub mod ThreeParts
 pub mod TurnsInOrder

@@ -1,5 +1,5 @@
 //! What follows from the definitions alone: from a tape that is found late to the words of a sound.
-ghost use Rattle.std.specs.Prelude.{◌≡◌, ℕ, ◌+◌, ◌/◌, ◌≤◌, max, List, [], ◌∷◌, map, count_by, true, false, take, drop};
+ghost use Rattle.std.specs.Prelude.{◌≡◌, ℕ, ◌+◌, ◌*◌, ◌/◌, ◌≤◌, max, List, [], ◌∷◌, map, count_by, true, false, take, drop};
 ghost use Rattle.std.specs.Prelude.{ℤ, pos, ◌+ℤ◌, ◌-ℤ◌, unsigned_abs, length};
 ghost use Rattle.std.specs.List.{AllByRecursion};
 ghost use Rattle.biphase.specs.declared.cell.Cell.{Cell};
@@ -7,7 +7,7 @@ ghost use Rattle.biphase.specs.declared.cell.Cell.TheVariants.{One};
 ghost use Rattle.biphase.specs.declared.cell.TheConstants.{MAX_INTERVALS};
 ghost use Rattle.biphase.specs.declared.profile.Profile.{Profile};
 ghost use Rattle.biphase.specs.declared.profile.Profile.TheVariants.{Normal, Worn, Rough};
-ghost use Rattle.biphase.specs.Chain.{bits, IsChain};
+ghost use Rattle.biphase.specs.Chain.{bits, flat, IsChain};
 ghost use Rattle.biphase.specs.Tolerance.{LooksAtLast};
 ghost use Rattle.cell_tracker.specs.ChainPiece.{cells_from};
 ghost use Rattle.cell_tracker.specs.Lock.{IsLock};
@@ -16,12 +16,15 @@ ghost use Rattle.direction_reader.specs.Events.{is_lost};
 ghost use Rattle.direction_reader.specs.ListEvents.{duration, events_of_cells, AreEvents};
 ghost use Rattle.direction_reader.specs.Played.{Played, AreSpelled, bits_of_words, events_of_words};
 ghost use Rattle.pcm_front.specs.declared.threshold.Threshold.{Threshold};
+ghost use Rattle.pcm_front.specs.declared.threshold.Threshold.TheVariants.{Fixed};
 ghost use Rattle.pcm_front.specs.Crossing.{moments};
 ghost use Rattle.pcm_front.specs.Distance.{distances, distances_from_start, gaps, IsInterval};
 ghost use Rattle.pcm_front.specs.Level.{least_of};
+ghost use Rattle.pcm_front.specs.Sound.{sound};
 ghost use Rattle.tc_address.specs.declared.system.System.{System};
 ghost use Rattle.tape_sound.specs.Heard.{AreHeard, BeginsLate, FitsAFile, FitsBehindASilence, HasMargin};
 ghost use Rattle.tape_sound.specs.Late.{delays_of, AreFoundAs, IsSteady, IsWithinAHundredth};
+ghost use Rattle.tape_sound.specs.Made.{scaled};
 ghost use Rattle.tape_sound.specs.Margin.{ComeWithin, GoesOverAt, IsNoisy, StaysBetween};
 ghost use Rattle.tape_sound.specs.OnTime.{told, untimed, AreOnTime};
 ghost use Rattle.tape_sound.specs.Part.{FindThePart, PartHasMargin};
@@ -163,4 +166,20 @@ pub fn a_part_with_a_margin_is_found()
         → FindThePart system profile fineness threshold tape cut sound first count events }
 {
     events_find_the_tape_again();
+}
+
+/// The sound that `ltc-pcm` makes of a steady tape has a margin: of its size less the threshold, where that
+/// is fixed. Where it follows, the noise is at most a third of the size too. The tape's lengths are in
+/// samples, and those that are found in ticks: it is steady for a delay of one sample.
+pub fn a_made_sound_has_a_margin()
+    ensures fixed { (profile : Profile) (fineness size noise threshold : ℕ) (tape : List Cell) (noisy : List ℤ)
+        → 1 ≤ fineness → 1 ≤ threshold → threshold + noise ≤ size → IsNoisy noise (sound size (flat tape)) noisy
+        → IsSteady profile 1 tape → HasMargin profile fineness (Fixed threshold) (scaled fineness tape) noisy }
+    ensures followed { (profile : Profile) (fineness size noise : ℕ) (threshold : Threshold) (tape : List Cell)
+        (noisy : List ℤ) → 1 ≤ fineness → 1 ≤ least_of threshold → least_of threshold + noise ≤ size
+        → 3 * noise ≤ size → IsNoisy noise (sound size (flat tape)) noisy → IsSteady profile 1 tape
+        → HasMargin profile fineness threshold (scaled fineness tape) noisy }
+    ensures bits { (times : ℕ) (tape : List Cell) → bits (scaled times tape) ≡ bits tape }
+{
+    levels_are_bounded();
 }
