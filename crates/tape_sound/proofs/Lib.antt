@@ -15,6 +15,7 @@ pub mod LastsLong
 pub mod LaterEvents
 pub mod MadeMargin
 pub mod MadeTurns
+pub mod NeededParts
 pub mod NoLater
 pub mod NoneBefore
 pub mod PartIsFound

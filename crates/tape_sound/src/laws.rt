@@ -1,6 +1,6 @@
 //! What follows from the definitions alone: from a tape that is found late to the words of a sound.
-ghost use Rattle.std.specs.Prelude.{◌≡◌, ℕ, ◌+◌, ◌*◌, ◌/◌, ◌≤◌, max, List, [], ◌∷◌, map, count_by, true, false, take, drop};
-ghost use Rattle.std.specs.Prelude.{ℤ, pos, ◌+ℤ◌, ◌-ℤ◌, unsigned_abs, length};
+ghost use Rattle.std.specs.Prelude.{◌≡◌, ℕ, ◌+◌, ◌*◌, ◌/◌, ◌≤◌, max, List, [], ◌∷◌, map, count_by, true, false, take};
+ghost use Rattle.std.specs.Prelude.{drop, ℤ, pos, neg_ℤ, ◌+ℤ◌, ◌-ℤ◌, unsigned_abs, length};
 ghost use Rattle.std.specs.List.{AllByRecursion};
 ghost use Rattle.biphase.specs.declared.cell.Cell.{Cell};
 ghost use Rattle.biphase.specs.declared.cell.Cell.TheVariants.{One};
@@ -15,6 +15,7 @@ ghost use Rattle.direction_reader.specs.declared.event.Event.{Event};
 ghost use Rattle.direction_reader.specs.Events.{is_lost};
 ghost use Rattle.direction_reader.specs.ListEvents.{duration, events_of_cells, AreEvents};
 ghost use Rattle.direction_reader.specs.Played.{Played, AreSpelled, bits_of_words, events_of_words};
+ghost use Rattle.pcm_front.specs.declared.side.Side.TheVariants.{Low};
 ghost use Rattle.pcm_front.specs.declared.threshold.Threshold.{Threshold};
 ghost use Rattle.pcm_front.specs.declared.threshold.Threshold.TheVariants.{Fixed};
 ghost use Rattle.pcm_front.specs.Crossing.{moments};
@@ -25,7 +26,7 @@ ghost use Rattle.tc_address.specs.declared.system.System.{System};
 ghost use Rattle.tape_sound.specs.Heard.{AreHeard, BeginsLate, FitsAFile, FitsBehindASilence, HasMargin};
 ghost use Rattle.tape_sound.specs.Late.{delays_of, AreFoundAs, IsSteady, IsWithinAHundredth};
 ghost use Rattle.tape_sound.specs.Made.{scaled};
-ghost use Rattle.tape_sound.specs.Margin.{ComeWithin, GoesOverAt, IsNoisy, StaysBetween};
+ghost use Rattle.tape_sound.specs.Margin.{turns, ComeBehind, ComeWithin, GoesOverAt, IsNoisy, StaysBetween};
 ghost use Rattle.tape_sound.specs.OnTime.{told, untimed, AreOnTime};
 ghost use Rattle.tape_sound.specs.Part.{FindThePart, PartHasMargin};
 
@@ -74,6 +75,26 @@ pub fn noise_keeps_crossings_within_the_delay()
         (clean sound : List ℤ) → 1 ≤ fineness → IsNoisy noise clean sound
         → StaysBetween low high noise threshold sound → GoesOverAt fineness low high delay from clean
         → ComeWithin delay from (moments fineness threshold sound) }
+{}
+
+/// Each part of this is needed. Where noise of 6 meets a low bound that leaves room for 3, the sound crosses
+/// too soon; where the clean sound comes back over the low bound, though not over the high one, it
+/// crosses too often; and where the clean sound is slow to reach the high bound, too late.
+pub fn each_part_of_a_margin_is_needed()
+    ensures dips { let clean = neg_ℤ (pos 20) ∷ neg_ℤ (pos 1) ∷ pos 20 ∷ [] in
+        let sound = neg_ℤ (pos 20) ∷ pos 5 ∷ pos 20 ∷ [] in
+        IsNoisy 6 clean sound × GoesOverAt 1 (λ place. pos 1) (λ place. pos 10) 1 (2 ∷ []) clean
+        × ¬ ComeWithin 1 (2 ∷ []) (moments 1 (Fixed 4) sound) }
+    ensures comes_back { let clean = neg_ℤ (pos 20) ∷ pos 20 ∷ neg_ℤ (pos 2) ∷ pos 20 ∷ [] in
+        let sound = neg_ℤ (pos 20) ∷ pos 20 ∷ neg_ℤ (pos 5) ∷ pos 20 ∷ [] in
+        IsNoisy 3 clean sound × StaysBetween (λ place. pos 1) (λ place. pos 7) 3 (Fixed 4) sound
+        × ComeWithin 1 (1 ∷ []) (turns 1 (λ place. pos 7) clean Low 1 3)
+        × ¬ ComeWithin 1 (1 ∷ []) (moments 1 (Fixed 4) sound) }
+    ensures slow { let clean = neg_ℤ (pos 20) ∷ pos 5 ∷ pos 20 ∷ [] in
+        let sound = neg_ℤ (pos 20) ∷ pos 3 ∷ pos 20 ∷ [] in
+        IsNoisy 3 clean sound × StaysBetween (λ place. pos 1) (λ place. pos 7) 3 (Fixed 4) sound
+        × ComeBehind (turns 1 (λ place. pos 1) clean Low 1 2) (1 ∷ [])
+        × ¬ ComeWithin 0 (1 ∷ []) (moments 1 (Fixed 4) sound) }
 {}
 
 /// Whatever the sound, its threshold stays between its least and half of the greatest sample.
