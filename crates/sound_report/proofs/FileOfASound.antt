@@ -1,13 +1,13 @@
 -- What is sliced of a sound is the file of its distances, and what is reported of this file are the events of them.
-use Rattle.std.proofs.Common.{◌≡◌, ℕ, ◌*◌, ◌<◌, ◌≤◌, None, Bool, List, [], ◌∷◌, ◌++◌, length, count_by, sum, drop}
-use Rattle.std.proofs.Common.{Option, Some}
-use Rattle.std.proofs.Common.{ap, subst, ◌∙◌, refl, mul-pos, arith}
+use Rattle.std.proofs.Common.{◌≡◌, ℕ, ◌*◌, ◌<◌, ◌≤◌, None, List, [], ◌∷◌, ◌++◌, length, count_by, sum, drop}
+use Rattle.std.proofs.Common.{Some}
+use Rattle.std.proofs.Common.{ap, subst, ◌∙◌, mul-pos, arith}
 use Rattle.std.specs.List.{AllByRecursion}
 use Rattle.biphase.specs.declared.cell.Cell.{Cell}
 use Rattle.biphase.specs.declared.cell.TheConstants.{MAX_INTERVALS}
 use Rattle.biphase.specs.declared.profile.Profile.{Profile}
 use Rattle.direction_reader.specs.declared.event.Event.{Event}
-use Rattle.direction_reader.specs.Events.{is_lost, is_refused, is_word}
+use Rattle.direction_reader.specs.Events.{is_lost, is_refused}
 use Rattle.direction_reader.specs.ListEvents.{AreEvents}
 use Rattle.direction_reader.specs.Played.{Played, events_of_words}
 use Rattle.interval_commands.specs.LtcRead.{lines, report}
@@ -60,7 +60,7 @@ reported files profile header delay tick tape words distances written text rate 
     let file : IsFile written header distances =
     record { tick_rate = rate; range = in_range distances fit; are = are } in
     let own = subst (λ (r : Recording). IsWholeOf (report profile) r text) (files written header distances file few).0
-        whole in
+    whole in
     let on_time = read own.events own.are_events in
     let many = counts delay tick (drop 2 tape) words own.events on_time in
     record {

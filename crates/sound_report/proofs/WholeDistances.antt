@@ -1,10 +1,9 @@
 -- A distance that fits an interval is written as it is, and at each pace where nothing lasts longer than a piece.
-use Rattle.std.proofs.Common.{◌≡◌, ℕ, ◌+◌, ◌-◌, ◌*◌, ◌/◌, ◌<◌, ◌≤◌, max, min, Bool, true, false, ℤ, List, [], ◌∷◌, ◌++◌}
+use Rattle.std.proofs.Common.{◌≡◌, ℕ, ◌-◌, ◌*◌, ◌/◌, ◌<◌, ◌≤◌, Bool, true, false, ℤ, List, [], ◌∷◌, ◌++◌}
 use Rattle.std.proofs.Common.{replicate}
 use Rattle.std.proofs.Common.{ap, ap₂, refl, ◌∙◌, arith}
 use Rattle.std.specs.List.{flat_map, AllByRecursion}
 use Rattle.std.proofs.Math.Nat.{div-eq_of_lt}
-use Rattle.pcm_front.specs.declared.pace.Pace.{Pace}
 use Rattle.pcm_front.specs.declared.pace.Pace.TheVariants.{Ended, Passing}
 use Rattle.pcm_front.specs.Distance.{distances_by, greatest, intervals_by, pieces_of, whole_pieces, IsInterval}
 use Rattle.pcm_front.specs.Pace.{intervals_at, passed_by}
