@@ -1,0 +1,3 @@
+pub mod CountsTheWords
+pub mod FileOfASound
+pub mod WholeDistances

@@ -1,0 +1,53 @@
+-- A distance that fits an interval is written as it is, and at each pace where nothing lasts longer than a piece.
+use Rattle.std.proofs.Common.{◌≡◌, ℕ, ◌-◌, ◌*◌, ◌/◌, ◌<◌, ◌≤◌, Bool, true, false, ℤ, List, [], ◌∷◌, ◌++◌}
+use Rattle.std.proofs.Common.{replicate}
+use Rattle.std.proofs.Common.{ap, ap₂, refl, ◌∙◌, arith}
+use Rattle.std.specs.List.{flat_map, AllByRecursion}
+use Rattle.std.proofs.Math.Nat.{div-eq_of_lt}
+use Rattle.pcm_front.specs.declared.pace.Pace.TheVariants.{Ended, Passing}
+use Rattle.pcm_front.specs.Distance.{distances_by, greatest, intervals_by, pieces_of, whole_pieces, IsInterval}
+use Rattle.pcm_front.specs.Pace.{intervals_at, passed_by}
+use Rattle.pcm_front.specs.Settings.{Settings}
+use Rattle.tc_address.specs.declared.system.System.{System}
+use Rattle.tc_address.specs.Count.{rate_of}
+use Rattle.tc_job.specs.Pace.{pace_of, quarter_frame}
+use Rattle.sound_report.specs.Whole.{AreWhole}
+
+one_piece : (distance : ℕ) → IsInterval distance → pieces_of distance ≡ distance ∷ []
+one_piece distance is =
+    let below : distance - 1 < greatest = omega (arith, is.0, is.1) in
+    let none : whole_pieces greatest distance ≡ 0 = div-eq_of_lt below in
+    ap (λ (k : ℕ). replicate k greatest ++ (distance - greatest * k) ∷ []) none
+    ∙ ap (λ (rest : ℕ). rest ∷ []) (omega arith)
+
+pieces_whole : (distances : List ℕ) → AllByRecursion IsInterval distances → flat_map pieces_of distances ≡ distances
+pieces_whole [] are = refl
+pieces_whole (distance ∷ distances) are = ap₂ ◌++◌ (one_piece distance are.0) (pieces_whole distances are.1)
+
+-- what the law of short distances says
+pub record PaceLaws : Type 0 where
+  pub ended : (settings : Settings) (samples : List ℤ)
+      → intervals_at Ended settings samples ≡ intervals_by settings samples
+  pub short : (length : ℕ) (settings : Settings) (samples : List ℤ) → IsInterval length → 1 ≤ settings.fineness
+      → AllByRecursion (λ distance. distance ≤ length) (distances_by settings samples)
+      → passed_by settings samples < length
+      → intervals_at (Passing length) settings samples ≡ intervals_by settings samples
+
+quarter_is : (system : System) (tick_rate : ℕ) → IsInterval (quarter_frame system tick_rate)
+quarter_is system tick_rate =
+    let quarter : ℕ = tick_rate / (4 * rate_of system) in (omega arith, omega arith)
+
+by_pace : PaceLaws → (live : Bool) (system : System) (tick_rate : ℕ) (settings : Settings) (samples : List ℤ)
+    → 1 ≤ settings.fineness → AreWhole live system tick_rate settings samples
+    → intervals_at (pace_of live system tick_rate) settings samples ≡ intervals_by settings samples
+by_pace laws false system tick_rate settings samples some whole = laws.ended settings samples
+by_pace laws true system tick_rate settings samples some whole =
+    laws.short (quarter_frame system tick_rate) settings samples (quarter_is system tick_rate) some whole.0 whole.1
+
+-- the intervals that are written of a sound are its distances
+pub written_whole : PaceLaws → (live : Bool) (system : System) (tick_rate : ℕ) (settings : Settings) (samples : List ℤ)
+    → 1 ≤ settings.fineness → AreWhole live system tick_rate settings samples
+    → AllByRecursion IsInterval (distances_by settings samples)
+    → intervals_at (pace_of live system tick_rate) settings samples ≡ distances_by settings samples
+written_whole laws live system tick_rate settings samples some whole fit =
+    by_pace laws live system tick_rate settings samples some whole ∙ pieces_whole (distances_by settings samples) fit

@@ -1,0 +1,68 @@
+//! What is sliced of a sound with a margin is reported as the tape.
+ghost use Rattle.std.specs.Prelude.{◌≡◌, ◌+◌, ◌*◌, ℕ, List, ◌∷◌, true, false, Some, take};
+ghost use Rattle.biphase.specs.declared.cell.Cell.{Cell};
+ghost use Rattle.biphase.specs.declared.profile.Profile.{Profile};
+ghost use Rattle.biphase.specs.Chain.{bits};
+ghost use Rattle.direction_reader.specs.ListEvents.{duration};
+ghost use Rattle.direction_reader.specs.Played.{Played, AreSpelled, bits_of_words};
+ghost use Rattle.interval_commands.specs.LtcRead.{report};
+ghost use Rattle.interval_engine.specs.Along.{along_intervals};
+ghost use Rattle.interval_file.specs.IntervalHeader.{IsTickRate};
+ghost use Rattle.pcm_front.specs.Distance.{distances, distances_from_start};
+ghost use Rattle.pcm_front.specs.Samples.{samples_of};
+ghost use Rattle.pcm_front.specs.Sums.{sums};
+ghost use Rattle.signal_commands.specs.PcmLtc.{along_samples, settings_for, sliced_header};
+ghost use Rattle.signal_commands.specs.WavLtc.{along_sound_file, track_header, track_settings};
+ghost use Rattle.sound_report.specs.Whole.{AreWhole};
+ghost use Rattle.sound_report.specs.WordsReport.{ReportsWords};
+ghost use Rattle.tape_sound.specs.Heard.{BeginsLate, FitsAFile, FitsBehindASilence, HasMargin};
+ghost use Rattle.tc_command.specs.Meaning.{Meaning};
+ghost use Rattle.tc_job.specs.Slicing.{Slices, IsSlicing};
+ghost use Rattle.tc_job.specs.WaveSlicing.{SlicesWave};
+ghost use Rattle.wave_file.specs.declared.format.WaveFormat.{WaveFormat};
+ghost use Rattle.wave_file.specs.Wave.{reading_of};
+
+use interval_file::laws::a_file_is_read_as_it_was_written;
+use pcm_front::laws::short_distances_are_whole;
+use tape_sound::laws::{
+    a_silence_before_the_tape_costs_no_word, noise_below_the_margin_costs_no_word,
+};
+
+/// `pcm-ltc` and then a report: of a sound whose sums have a margin for a tape, the report under the
+/// tolerance of that margin has a line for each word of the tape, and none beside. Its ticks run from the
+/// first transition.
+pub fn what_is_sliced_of_a_margin_is_reported()
+    ensures { (profile : Profile) (s : Slices) (tape : List Cell) (words : List Played) (sound written text : List ℕ)
+        → IsSlicing s → (margin : HasMargin profile s.fineness s.threshold tape (sums s.smooth (samples_of sound)))
+        → FitsAFile margin.delay tape
+        → AreWhole s.live s.system (s.rate * s.fineness) (settings_for s) (samples_of sound)
+        → bits tape ≡ false ∷ true ∷ bits_of_words words → AreSpelled s.system words
+        → Meaning.output (along_samples s) sound written
+        → Meaning.output (along_intervals (report profile)) written text
+        → ReportsWords (sliced_header s) margin.delay (duration (take 2 tape)) tape words
+        (distances s.fineness s.threshold (sums s.smooth (samples_of sound))) text }
+{
+    a_file_is_read_as_it_was_written();
+    noise_below_the_margin_costs_no_word();
+    short_distances_are_whole();
+}
+
+/// `wav-ltc` and then a report: of a track whose sums have a margin for a tape, which begins behind a
+/// silence, the report under the tolerance of that margin has a line for each word of the tape, and none
+/// beside. Its ticks run from the first sample.
+pub fn what_is_sliced_of_a_track_is_reported()
+    ensures { (profile : Profile) (w : SlicesWave) (format : WaveFormat) (tape : List Cell) (words : List Played)
+        (file written text : List ℕ) → (reading_of w.track file).format ≡ Some format → IsTickRate (16 * format.rate)
+        → (margin : HasMargin profile 16 w.threshold tape (sums w.smooth (reading_of w.track file).samples))
+        → BeginsLate margin.delay margin.start tape → FitsBehindASilence margin.delay margin.start tape
+        → AreWhole w.live w.system (16 * format.rate) (track_settings w) (reading_of w.track file).samples
+        → bits tape ≡ false ∷ true ∷ bits_of_words words → AreSpelled w.system words
+        → Meaning.output (along_sound_file w) file written
+        → Meaning.output (along_intervals (report profile)) written text
+        → ReportsWords (track_header w format) margin.delay (margin.start + duration (take 2 tape)) tape words
+        (distances_from_start 16 w.threshold (sums w.smooth (reading_of w.track file).samples)) text }
+{
+    a_file_is_read_as_it_was_written();
+    a_silence_before_the_tape_costs_no_word();
+    short_distances_are_whole();
+}

@@ -1,0 +1,18 @@
+//! From a sound to the report of its words.
+//!
+//! `tape_sound` says what is read of a sound with a margin. This crate says it of bytes: of what
+//! `pcm-ltc` writes of samples, and of what `wav-ltc` writes of a track of a sound file, the report has a
+//! line for each word of the tape, at its place, and none beside; and its last line counts them, and
+//! nothing refused or lost.
+//!
+//! What this crate promises, all of it by laws:
+//! - `what_is_sliced_of_a_margin_is_reported` and `what_is_sliced_of_a_track_is_reported`, over
+//!   `specs/WordsReport.antt`, `ReportsWords`, for each tolerance: `ltc-read`, `ltc-worn` and `ltc-rough`.
+//! - It is the same where the sound is sliced live, as long as nothing lasts a quarter of a frame
+//!   (`specs/Whole.antt`, `AreWhole`).
+//!
+//! Read `specs/WordsReport.antt`, `specs/Whole.antt` and `laws`. Nothing here runs, and the program does not
+//! stand on it.
+#![tactic(auto)]
+
+pub mod laws;

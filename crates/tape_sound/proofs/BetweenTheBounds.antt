@@ -1,0 +1,155 @@
+-- Noise moves no crossing past those of the clean sound: where the sound lies on a side, the clean sound has reached it
+-- at the low bound, and where that reaches it at the high bound, the sound lies there.
+use Rattle.std.proofs.Common.{◌≡◌, ℕ, suc, ◌+◌, ◌-◌, ◌*◌, ◌<◌, ◌≤◌, true, ℤ, pos, ◌≤ℤ◌, Option, Some}
+use Rattle.std.proofs.Common.{List, [], ◌∷◌, map, ap, subst, sym, ◌∙◌, add-one, mul-suc, arith}
+use Rattle.std.specs.List.{filter, range_with_len}
+use Rattle.std.specs.Option.{option_or}
+use Rattle.pcm_front.specs.declared.side.Side.{Side}
+use Rattle.pcm_front.specs.declared.threshold.Threshold.{Threshold}
+use Rattle.pcm_front.specs.Level.{threshold_at}
+use Rattle.pcm_front.specs.Side.{sample_at, side_at, side_after, upward}
+use Rattle.pcm_front.specs.Crossing.{apart, is_crossing, tick_to, moment}
+use Rattle.tape_sound.specs.Margin.{reach_moment, reaches, tick_to_bound, turns, turns_by}
+use Rattle.tape_sound.specs.Margin.{ComeBehind, ComeWithin, HasRoom}
+use Rattle.tape_sound.proofs.CrossingsAreTurns.{crossings_are_turns, is_on, is_on_itself, lies_on, lies_there}
+use Rattle.tape_sound.proofs.CrossingsAreTurns.{moment_to, on_is}
+use Rattle.tape_sound.proofs.CrossingsAreTurns.{side_above}
+use Rattle.tape_sound.proofs.NoLater.{lower_reached, near_upward, other_way, reach, reached, tick_less, tick_within}
+use Rattle.tape_sound.proofs.TurnsInOrder.{Leads, turns_behind}
+
+step_bounds : (f i tick : ℕ) → 1 ≤ i → tick ≤ f → f * (i - 1) + tick ≤ f * (i + 1 - 1)
+step_bounds f i tick first most =
+    let place : i + 1 - 1 ≡ suc (i - 1) = omega (arith, first) in
+    let product : f * (i + 1 - 1) ≡ f * (i - 1) + f = ap (λ (k : ℕ). f * k) place ∙ mul-suc f (i - 1) ∙ (omega arith) in
+    omega (arith, product, most)
+
+-- what lies between others in order comes within the delay where they do
+squeezed : (delay : ℕ) (from lows ms highs : List ℕ) → ComeBehind lows from → ComeBehind ms lows → ComeBehind highs ms
+    → ComeWithin delay from highs → ComeWithin delay from ms
+squeezed delay [] lows ms (h ∷ highs) low own high within = absurd within
+squeezed delay (c ∷ from) lows ms [] low own high within = absurd within
+squeezed delay [] [] [] [] low own high within = tt
+squeezed delay [] [] (m ∷ ms) [] low own high within = absurd own
+squeezed delay [] (l ∷ lows) ms [] low own high within = absurd low
+squeezed delay (c ∷ from) lows [] (h ∷ highs) low own high within = absurd high
+squeezed delay (c ∷ from) [] (m ∷ ms) (h ∷ highs) low own high within = absurd own
+squeezed delay (c ∷ from) (l ∷ lows) (m ∷ ms) (h ∷ highs) low own high within = (
+  omega (arith, low.0, own.0),
+  omega (arith, high.0, within.1),
+  squeezed delay from lows ms highs low.1 own.1 high.1 within.2,
+)
+
+-- ---- a clean sound and noise
+
+module _ (f noise : ℕ) (low high : ℕ → ℤ) (threshold : Threshold) (clean sound : List ℤ) (some : 1 ≤ f) (first end : ℕ)
+    (near : (i : ℕ) → first ≤ i → i < end → apart (sample_at sound i) (sample_at clean i) ≤ noise)
+    (stays : (i : ℕ) → first ≤ i → i < end → HasRoom (low i) (high i) noise (threshold_at threshold sound i)) where
+  abbrev th : ℕ → ℕ
+  th i = threshold_at threshold sound i
+
+  abbrev x : ℕ → Side → ℤ
+  x i side = upward side (sample_at sound i)
+
+  abbrev c : ℕ → Side → ℤ
+  c i side = upward side (sample_at clean i)
+
+  near_at : (i : ℕ) (side : Side) → first ≤ i → i < end → apart (x i side) (c i side) ≤ noise
+  near_at i side g h = near_upward noise (sample_at sound i) (sample_at clean i) side (near i g h)
+
+  near_back : (i : ℕ) (side : Side) → first ≤ i → i < end → apart (c i side) (x i side) ≤ noise
+  near_back i side g h = other_way noise (x i side) (c i side) (near_at i side g h)
+
+  above_at : (i : ℕ) (side : Side) → lies_on threshold sound i side ≡ true → pos (th i) ≤ℤ x i side
+  above_at i side is = side_above (th i) (sample_at sound i) side (on_is side (side_at threshold sound i) is)
+
+  -- the moment of the sound, where it lies on a side
+  moment_is : (i : ℕ) (side : Side) → lies_on threshold sound i side ≡ true
+      → moment f threshold sound i ≡ f * (i - 1) + tick_to_bound f (pos (th i)) (x (i - 1) side) (x i side)
+  moment_is i side is =
+      ap (λ (o : Option Side). f * (i - 1) + tick_to o f (th i) (sample_at sound (i - 1)) (sample_at sound i))
+      (on_is side (side_at threshold sound i) is)
+
+  pub low_reached : (i : ℕ) → first ≤ i → i < end → (side : Side) → lies_on threshold sound i side ≡ true
+      → low i ≤ℤ c i side
+  low_reached i g h side is =
+      lower_reached (pos (th i)) (low i) noise (x i side) (c i side) (stays i g h).above (near_at i side g h)
+      (above_at i side is)
+
+  low_leads : Leads f (first + 1) end (lies_on threshold sound)
+      (λ place side. reaches (low place) side (sample_at clean place)) (moment_to f threshold sound)
+      (λ place side. reach_moment f (low place) clean place side)
+  low_leads = record {
+    too = λ i g h side is. reach (low i) (c i side) (low_reached i (omega (arith, g)) h side is);
+    later = λ i g h side is.
+        let g_too : first ≤ i = omega (arith, g) in
+        let less = tick_less f (pos (th i)) (low i) noise (x (i - 1) side) (x i side) (c (i - 1) side) (c i side) some
+        (stays i g_too h).above
+        (near_at (i - 1) side (omega (arith, g)) (omega (arith, h))) (near_at i side g_too h) (above_at i side is)
+        (low_reached i g_too h side is) in
+        let same = moment_is i side is in omega (arith, same, less);
+    least = λ i g h side is. let same = moment_is i side is in omega (arith, same);
+    most = λ i g h side is.
+        let within = tick_within f (low i) (c (i - 1) side) (c i side) some (reached (low i) (c i side) is) in
+        step_bounds f i (tick_to_bound f (low i) (c (i - 1) side) (c i side)) (omega (arith, g)) within.1;
+  }
+
+  high_reached : (i : ℕ) → first ≤ i → i < end → (side : Side) → reaches (high i) side (sample_at clean i) ≡ true
+      → pos (th i) ≤ℤ x i side
+  high_reached i g h side is =
+      lower_reached (high i) (pos (th i)) noise (c i side) (x i side) (stays i g h).below (near_back i side g h)
+      (reached (high i) (c i side) is)
+
+  pub high_on : (i : ℕ) → first ≤ i → i < end → (side : Side) → reaches (high i) side (sample_at clean i) ≡ true
+      → lies_on threshold sound i side ≡ true
+  high_on i g h side is =
+      ap (is_on side) (lies_there (th i) (sample_at sound i) side (stays i g h).some (high_reached i g h side is))
+      ∙ is_on_itself side
+
+  high_leads : Leads f (first + 1) end (λ place side. reaches (high place) side (sample_at clean place))
+      (lies_on threshold sound) (λ place side. reach_moment f (high place) clean place side)
+      (moment_to f threshold sound)
+  high_leads = record {
+    too = λ i g h side is. high_on i (omega (arith, g)) h side is;
+    later = λ i g h side is.
+        let g_too : first ≤ i = omega (arith, g) in
+        let on = high_on i g_too h side is in
+        let less = tick_less f (high i) (pos (th i)) noise (c (i - 1) side) (c i side) (x (i - 1) side) (x i side) some
+        (stays i g_too h).below
+        (near_back (i - 1) side (omega (arith, g)) (omega (arith, h))) (near_back i side g_too h)
+        (reached (high i) (c i side) is) (high_reached i g_too h side is) in
+        let same = moment_is i side on in omega (arith, same, less);
+    least = λ i g h side is. omega arith;
+    most = λ i g h side is.
+        let within = tick_within f (pos (th i)) (x (i - 1) side) (x i side) some (above_at i side is) in
+        let same = moment_is i side is in
+        let bound = step_bounds f i (tick_to_bound f (pos (th i)) (x (i - 1) side) (x i side)) (omega (arith, g))
+        within.1 in
+        omega (arith, same, bound);
+  }
+
+  -- from a place at which the clean sound stands on a side, the crossings in so many places are turns
+  crossings_from : (side : Side) (stop k : ℕ) → first ≤ stop → stop < end
+      → reaches (high stop) side (sample_at clean stop) ≡ true
+      → map (moment f threshold sound) (filter (is_crossing threshold sound) (range_with_len (stop + 1) k))
+      ≡ turns_by (lies_on threshold sound) (moment_to f threshold sound) side (stop + 1) k
+  crossings_from side stop k from there stands =
+      let on : side_at threshold sound stop ≡ Some side =
+      on_is side (side_at threshold sound stop) (high_on stop from there side stands) in
+      let after : side_after threshold sound (stop + 1) ≡ Some side =
+      ap (side_after threshold sound) (add-one stop) ∙ ap
+      (λ (o : Option Side). option_or o (side_after threshold sound stop)) on in
+      crossings_are_turns f threshold sound (stop + 1) k side after
+
+  -- in these places each crossing comes within the delay of its own moment
+  pub part_within : (delay : ℕ) (from : List ℕ) (side : Side) (stop k : ℕ) → first ≤ stop → (stop + 1) + k ≤ end
+      → reaches (high stop) side (sample_at clean stop) ≡ true → ComeBehind (turns f low clean side (stop + 1) k) from
+      → ComeWithin delay from (turns f high clean side (stop + 1) k)
+      → ComeWithin delay from (map (moment f threshold sound)
+      (filter (is_crossing threshold sound) (range_with_len (stop + 1) k)))
+  part_within delay from side stop k low_bound room stands behind within =
+      let own = turns_by (lies_on threshold sound) (moment_to f threshold sound) side (stop + 1) k in
+      let lows = turns_behind f (first + 1) end _ _ _ _ low_leads (stop + 1) k (omega (arith, low_bound)) room side in
+      let highs = turns_behind f (first + 1) end _ _ _ _ high_leads (stop + 1) k (omega (arith, low_bound)) room side in
+      subst (ComeWithin delay from) (sym (crossings_from side stop k low_bound (omega (arith, room)) stands))
+      (squeezed delay from (turns f low clean side (stop + 1) k) own (turns f high clean side (stop + 1) k) behind lows
+      highs within)

@@ -1,0 +1,6 @@
+pub mod Heard
+pub mod Late
+pub mod Made
+pub mod Margin
+pub mod OnTime
+pub mod Part

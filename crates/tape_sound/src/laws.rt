@@ -1,0 +1,206 @@
+//! What follows from the definitions alone: from a tape that is found late to the words of a sound.
+ghost use Rattle.std.specs.Prelude.{◌≡◌, ℕ, ◌+◌, ◌*◌, ◌/◌, ◌≤◌, max, List, [], ◌∷◌, map, count_by, true, false, take};
+ghost use Rattle.std.specs.Prelude.{drop, ℤ, pos, neg_ℤ, ◌+ℤ◌, ◌-ℤ◌, unsigned_abs, length};
+ghost use Rattle.std.specs.List.{AllByRecursion};
+ghost use Rattle.biphase.specs.declared.cell.Cell.{Cell};
+ghost use Rattle.biphase.specs.declared.cell.Cell.TheVariants.{One};
+ghost use Rattle.biphase.specs.declared.cell.TheConstants.{MAX_INTERVALS};
+ghost use Rattle.biphase.specs.declared.profile.Profile.{Profile};
+ghost use Rattle.biphase.specs.declared.profile.Profile.TheVariants.{Normal, Worn, Rough};
+ghost use Rattle.biphase.specs.Chain.{bits, flat, IsChain};
+ghost use Rattle.biphase.specs.Tolerance.{LooksAtLast};
+ghost use Rattle.cell_tracker.specs.ChainPiece.{cells_from};
+ghost use Rattle.cell_tracker.specs.Lock.{IsLock};
+ghost use Rattle.direction_reader.specs.declared.event.Event.{Event};
+ghost use Rattle.direction_reader.specs.Events.{is_lost};
+ghost use Rattle.direction_reader.specs.ListEvents.{duration, events_of_cells, AreEvents};
+ghost use Rattle.direction_reader.specs.Played.{Played, AreSpelled, bits_of_words, events_of_words};
+ghost use Rattle.pcm_front.specs.declared.side.Side.TheVariants.{Low};
+ghost use Rattle.pcm_front.specs.declared.threshold.Threshold.{Threshold};
+ghost use Rattle.pcm_front.specs.declared.threshold.Threshold.TheVariants.{Fixed};
+ghost use Rattle.pcm_front.specs.Crossing.{moments};
+ghost use Rattle.pcm_front.specs.Distance.{distances, distances_from_start, gaps, IsInterval};
+ghost use Rattle.pcm_front.specs.Level.{least_of};
+ghost use Rattle.pcm_front.specs.Sound.{sound};
+ghost use Rattle.tc_address.specs.declared.system.System.{System};
+ghost use Rattle.tape_sound.specs.Heard.{AreHeard, BeginsLate, FitsAFile, FitsBehindASilence, HasMargin};
+ghost use Rattle.tape_sound.specs.Late.{delays_of, AreFoundAs, IsSteady, IsWithinAHundredth};
+ghost use Rattle.tape_sound.specs.Made.{scaled};
+ghost use Rattle.tape_sound.specs.Margin.{turns, ComeBehind, ComeWithin, GoesOverAt, IsNoisy, StaysBetween};
+ghost use Rattle.tape_sound.specs.OnTime.{told, untimed, AreOnTime};
+ghost use Rattle.tape_sound.specs.Part.{FindThePart, PartHasMargin};
+
+use cell_tracker::laws::a_recording_within_the_tolerance_is_one_stretch;
+use direction_reader::laws::{
+    a_list_has_one_list_of_events, events_find_the_tape_again, events_tell_the_tape,
+    played_words_are_read,
+};
+use pcm_front::laws::{levels_are_bounded, the_first_distance_leads_to_the_first_crossing};
+
+/// A tape that runs steadily keeps the tolerance as it is found, and has its bits.
+pub fn a_steady_tape_is_found_within_the_tolerance()
+    ensures chain { (profile : Profile) (delay first : ℕ) (tape cells : List Cell) → first ≤ delay
+        → IsSteady profile delay tape → AreFoundAs delay first tape cells → IsChain profile cells }
+    ensures bits { (delay first : ℕ) (tape cells : List Cell) → AreFoundAs delay first tape cells
+        → bits cells ≡ bits tape }
+{}
+
+/// Where nothing on the tape drifts by more than a hundredth, it is steady if each cell is longer than
+/// 40 delays under the normal tolerance, 28 under the worn and 11 under the rough one.
+pub fn a_tape_within_a_hundredth_is_steady()
+    ensures steady { (profile : Profile) (delay : ℕ) (tape : List Cell)
+        → IsWithinAHundredth (delays_of profile) delay tape → IsSteady profile delay tape }
+    ensures normal { delays_of Normal ≡ 40 }
+    ensures worn { delays_of Worn ≡ 28 }
+    ensures rough { delays_of Rough ≡ 11 }
+{}
+
+/// Fewer are too few. A one that is longer than 38 delays of 50 ticks, and whose halves differ by a
+/// hundredth, breaks the normal tolerance where its middle is found late; so does one of 27 such delays
+/// under the worn tolerance, and one of 10 delays of 10 ticks under the rough one.
+pub fn fewer_delays_are_refused()
+    ensures normal { IsWithinAHundredth 38 50 (One 960 941 ∷ [])
+        × AreFoundAs 50 0 (One 960 941 ∷ []) (One 1010 891 ∷ []) × ¬ IsChain Normal (One 1010 891 ∷ []) }
+    ensures worn { IsWithinAHundredth 27 50 (One 682 669 ∷ [])
+        × AreFoundAs 50 0 (One 682 669 ∷ []) (One 732 619 ∷ []) × ¬ IsChain Worn (One 732 619 ∷ []) }
+    ensures rough { IsWithinAHundredth 10 10 (One 51 50 ∷ [])
+        × AreFoundAs 10 0 (One 51 50 ∷ []) (One 61 40 ∷ []) × ¬ IsChain Rough (One 61 40 ∷ []) }
+{}
+
+/// Noise moves no crossing past the delay. Where a clean sound goes over once at each of some moments,
+/// all the way from the low bound to the high one within the delay, so does the sound with noise: each
+/// of its crossings comes within the delay, and there are no others.
+pub fn noise_keeps_crossings_within_the_delay()
+    ensures { (fineness noise : ℕ) (low high : ℕ → ℤ) (delay : ℕ) (threshold : Threshold) (from : List ℕ)
+        (clean sound : List ℤ) → 1 ≤ fineness → IsNoisy noise clean sound
+        → StaysBetween low high noise threshold sound → GoesOverAt fineness low high delay from clean
+        → ComeWithin delay from (moments fineness threshold sound) }
+{}
+
+/// Each part of this is needed. Where noise of 6 meets a low bound that leaves room for 3, the sound crosses
+/// too soon; where the clean sound comes back over the low bound, though not over the high one, it
+/// crosses too often; and where the clean sound is slow to reach the high bound, too late.
+pub fn each_part_of_a_margin_is_needed()
+    ensures dips { let clean = neg_ℤ (pos 20) ∷ neg_ℤ (pos 1) ∷ pos 20 ∷ [] in
+        let sound = neg_ℤ (pos 20) ∷ pos 5 ∷ pos 20 ∷ [] in
+        IsNoisy 6 clean sound × GoesOverAt 1 (λ place. pos 1) (λ place. pos 10) 1 (2 ∷ []) clean
+        × ¬ ComeWithin 1 (2 ∷ []) (moments 1 (Fixed 4) sound) }
+    ensures comes_back { let clean = neg_ℤ (pos 20) ∷ pos 20 ∷ neg_ℤ (pos 2) ∷ pos 20 ∷ [] in
+        let sound = neg_ℤ (pos 20) ∷ pos 20 ∷ neg_ℤ (pos 5) ∷ pos 20 ∷ [] in
+        IsNoisy 3 clean sound × StaysBetween (λ place. pos 1) (λ place. pos 7) 3 (Fixed 4) sound
+        × ComeWithin 1 (1 ∷ []) (turns 1 (λ place. pos 7) clean Low 1 3)
+        × ¬ ComeWithin 1 (1 ∷ []) (moments 1 (Fixed 4) sound) }
+    ensures slow { let clean = neg_ℤ (pos 20) ∷ pos 5 ∷ pos 20 ∷ [] in
+        let sound = neg_ℤ (pos 20) ∷ pos 3 ∷ pos 20 ∷ [] in
+        IsNoisy 3 clean sound × StaysBetween (λ place. pos 1) (λ place. pos 7) 3 (Fixed 4) sound
+        × ComeBehind (turns 1 (λ place. pos 1) clean Low 1 2) (1 ∷ [])
+        × ¬ ComeWithin 0 (1 ∷ []) (moments 1 (Fixed 4) sound) }
+{}
+
+/// Whatever the sound, its threshold stays between its least and half of the greatest sample.
+pub fn a_threshold_stays_within_the_level()
+    ensures { (threshold : Threshold) (most noise : ℕ) (sound : List ℤ) → 1 ≤ least_of threshold
+        → AllByRecursion (λ sample. unsigned_abs sample ≤ most) sound
+        → StaysBetween (λ place. pos (least_of threshold) -ℤ pos noise)
+        (λ place. pos (max (least_of threshold) (most / 2)) +ℤ pos noise) noise threshold sound }
+{
+    levels_are_bounded();
+}
+
+/// What is read of a tape that is heard: its words, good or refused, from the first unequal pair on, and
+/// no break.
+pub fn what_is_heard_of_a_tape_is_read()
+    ensures words { (system : System) (profile : Profile) (delay : ℕ) (tape : List Cell) (cut lock : ℕ)
+        (moments : List ℕ) (events : List Event) → AreHeard profile delay tape cut moments
+        → AreEvents system profile (gaps moments) events → IsLock profile (gaps moments) 0 lock
+        → map untimed events ≡ map untimed (events_of_cells system 0 (cells_from tape cut (gaps moments) lock)) }
+    ensures no_break { (system : System) (profile : Profile) (delay : ℕ) (tape : List Cell) (cut : ℕ)
+        (moments : List ℕ) (events : List Event) → AreHeard profile delay tape cut moments
+        → AreEvents system profile (gaps moments) events → count_by is_lost events ≡ 0 }
+{
+    events_tell_the_tape();
+}
+
+/// From sound to words. Of a sound with a margin, whose tape begins with the bits 0 and 1 and has the
+/// bits of words behind them, each word is read, and nothing else: its tick and its length are those of
+/// the tape from its first transition, but for the delay. And its distances are intervals of a file where
+/// those of the tape are.
+pub fn noise_below_the_margin_costs_no_word()
+    ensures words { (system : System) (profile : Profile) (fineness : ℕ) (threshold : Threshold) (tape : List Cell)
+        (words : List Played) (sound : List ℤ) (events : List Event) → 1 ≤ fineness
+        → HasMargin profile fineness threshold tape sound
+        → bits tape ≡ false ∷ true ∷ bits_of_words words → AreSpelled system words
+        → AreEvents system profile (distances fineness threshold sound) events
+        → map untimed events ≡ told words }
+    ensures on_time { (system : System) (profile : Profile) (fineness : ℕ) (threshold : Threshold) (tape : List Cell)
+        (words : List Played) (sound : List ℤ) (events : List Event) → 1 ≤ fineness
+        → (margin : HasMargin profile fineness threshold tape sound)
+        → bits tape ≡ false ∷ true ∷ bits_of_words words → AreSpelled system words
+        → AreEvents system profile (distances fineness threshold sound) events
+        → AreOnTime margin.delay events (events_of_words (duration (take 2 tape)) (drop 2 tape) words) }
+    ensures fit { (profile : Profile) (fineness : ℕ) (threshold : Threshold) (tape : List Cell) (sound : List ℤ)
+        → 1 ≤ fineness → (margin : HasMargin profile fineness threshold tape sound)
+        → FitsAFile margin.delay tape → AllByRecursion IsInterval (distances fineness threshold sound)
+        × (length (distances fineness threshold sound) ≤ MAX_INTERVALS) }
+{
+    a_list_has_one_list_of_events();
+    played_words_are_read();
+}
+
+/// The same where the first distance runs from the first sample, and the tape begins behind a silence of
+/// more than three cells: the interval of the silence changes nothing, and each tick is that from the
+/// first sample.
+pub fn a_silence_before_the_tape_costs_no_word()
+    ensures words { (system : System) (profile : Profile) (fineness : ℕ) (threshold : Threshold) (tape : List Cell)
+        (words : List Played) (sound : List ℤ) (events : List Event) → 1 ≤ fineness
+        → (margin : HasMargin profile fineness threshold tape sound) → BeginsLate margin.delay margin.start tape
+        → bits tape ≡ false ∷ true ∷ bits_of_words words → AreSpelled system words
+        → AreEvents system profile (distances_from_start fineness threshold sound) events
+        → map untimed events ≡ told words }
+    ensures on_time { (system : System) (profile : Profile) (fineness : ℕ) (threshold : Threshold) (tape : List Cell)
+        (words : List Played) (sound : List ℤ) (events : List Event) → 1 ≤ fineness
+        → (margin : HasMargin profile fineness threshold tape sound) → BeginsLate margin.delay margin.start tape
+        → bits tape ≡ false ∷ true ∷ bits_of_words words → AreSpelled system words
+        → AreEvents system profile (distances_from_start fineness threshold sound) events
+        → AreOnTime margin.delay events
+        (events_of_words (margin.start + duration (take 2 tape)) (drop 2 tape) words) }
+    ensures fit { (profile : Profile) (fineness : ℕ) (threshold : Threshold) (tape : List Cell) (sound : List ℤ)
+        → 1 ≤ fineness → (margin : HasMargin profile fineness threshold tape sound)
+        → BeginsLate margin.delay margin.start tape → FitsBehindASilence margin.delay margin.start tape
+        → AllByRecursion IsInterval (distances_from_start fineness threshold sound)
+        × (length (distances_from_start fineness threshold sound) ≤ MAX_INTERVALS) }
+{
+    a_list_has_one_list_of_events();
+    a_recording_within_the_tolerance_is_one_stretch();
+    events_tell_the_tape();
+    played_words_are_read();
+    the_first_distance_leads_to_the_first_crossing();
+}
+
+/// Between damage, under the normal and the worn tolerance: where a part of a sound has a margin for a
+/// part of a tape, whatever stands before and behind it, the events find this part of the tape.
+pub fn a_part_with_a_margin_is_found()
+    ensures { (system : System) (profile : Profile) (fineness : ℕ) (threshold : Threshold) (tape : List Cell) (cut : ℕ)
+        (sound : List ℤ) (first count : ℕ) (events : List Event) → LooksAtLast profile → 1 ≤ fineness
+        → PartHasMargin profile fineness threshold tape cut sound first count
+        → AreEvents system profile (distances fineness threshold sound) events
+        → FindThePart system profile fineness threshold tape cut sound first count events }
+{
+    events_find_the_tape_again();
+}
+
+/// The sound that `ltc-pcm` makes of a steady tape has a margin: of its size less the threshold, where that
+/// is fixed. Where it follows, the noise is at most a third of the size too. The tape's lengths are in
+/// samples, and those that are found in ticks: it is steady for a delay of one sample.
+pub fn a_made_sound_has_a_margin()
+    ensures fixed { (profile : Profile) (fineness size noise threshold : ℕ) (tape : List Cell) (noisy : List ℤ)
+        → 1 ≤ fineness → 1 ≤ threshold → threshold + noise ≤ size → IsNoisy noise (sound size (flat tape)) noisy
+        → IsSteady profile 1 tape → HasMargin profile fineness (Fixed threshold) (scaled fineness tape) noisy }
+    ensures followed { (profile : Profile) (fineness size noise : ℕ) (threshold : Threshold) (tape : List Cell)
+        (noisy : List ℤ) → 1 ≤ fineness → 1 ≤ least_of threshold → least_of threshold + noise ≤ size
+        → 3 * noise ≤ size → IsNoisy noise (sound size (flat tape)) noisy → IsSteady profile 1 tape
+        → HasMargin profile fineness threshold (scaled fineness tape) noisy }
+    ensures bits { (times : ℕ) (tape : List Cell) → bits (scaled times tape) ≡ bits tape }
+{
+    levels_are_bounded();
+}
