@@ -51,7 +51,7 @@ pub record StandThere : Type 0 where
       → fault_in system bits ≡ Some fault
 
 -- the event by the first fault of the fields
-by_fault : (system : System) (direction : Direction) (bits end length : ℕ) (event : Event) (o : Option FieldFault)
+pub by_fault : (system : System) (direction : Direction) (bits end length : ℕ) (event : Event) (o : Option FieldFault)
     → fault_in system bits ≡ o
     → event ≡ elim o [ None ↦ Word direction (word_in system bits) end length | Some fault ↦ Refused direction fault end ]
     → event ≡ event_of system direction bits end length

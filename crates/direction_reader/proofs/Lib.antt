@@ -9,6 +9,7 @@ pub mod Examples
 pub mod FindsTheTape
 pub mod FirmAdds
 pub mod FirmCellsGrow
+pub mod FirmJudges
 pub mod FirmKept
 pub mod FirmSteps
 pub mod FirmWindows

@@ -9,6 +9,7 @@ pub mod Firm
 pub mod FirmReader
 pub mod FirmStandsFor
 pub mod FirmStep
+pub mod FirmTape
 pub mod Gathered
 pub mod Hissy
 pub mod HoldsBits

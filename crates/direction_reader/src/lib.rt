@@ -40,6 +40,7 @@ mod candidates;
 mod event;
 mod firm_cells;
 mod firm_event;
+pub mod firm_laws;
 mod firm_reader;
 mod latest_bits;
 mod latest_cells;
