@@ -38,21 +38,21 @@ abbrev number_at : List Cell → ℕ → ℕ
 number_at cells k = bits_in (take 80 (drop k cells))
 
 -- by the bits of all cells
-number_is : (cells : List Cell) (k : ℕ) → number_at cells k ≡ window_bits (bits cells) k
+pub number_is : (cells : List Cell) (k : ℕ) → number_at cells k ≡ window_bits (bits cells) k
 number_is cells k =
     sym (bits_are (take 80 (drop k cells))) ∙ ap number_of (sym (take-map bit_of 80 (drop k cells)))
     ∙ ap (λ (l : List Bool). number_of (take 80 l)) (sym (drop-map bit_of k cells))
 
-abbrev IsForward : List Cell → ℕ → Type 0
+abbrev pub IsForward : List Cell → ℕ → Type 0
 IsForward cells k = EndsInSync (number_at cells k)
 
-abbrev IsBackward : List Cell → ℕ → Type 0
+abbrev pub IsBackward : List Cell → ℕ → Type 0
 IsBackward cells k = EndsInSync (reversed_bits (number_at cells k))
 
-no_forward : (system : System) (tick : ℕ) (cells : List Cell) (k : ℕ) → (IsForward cells k → ⊥) → candidate_at system tick cells k Forward ≡ []
+pub no_forward : (system : System) (tick : ℕ) (cells : List Cell) (k : ℕ) → (IsForward cells k → ⊥) → candidate_at system tick cells k Forward ≡ []
 no_forward system tick cells k none = rw (sync_false (number_at cells k) none) refl
 
-no_backward : (system : System) (tick : ℕ) (cells : List Cell) (k : ℕ) → (IsBackward cells k → ⊥) → candidate_at system tick cells k Backward ≡ []
+pub no_backward : (system : System) (tick : ℕ) (cells : List Cell) (k : ℕ) → (IsBackward cells k → ⊥) → candidate_at system tick cells k Backward ≡ []
 no_backward system tick cells k none = rw (sync_false (reversed_bits (number_at cells k)) none) refl
 
 -- a window with a backward candidate is one

@@ -36,7 +36,7 @@ use Rattle.direction_reader.proofs.WindowsGrow.{duration-append, last_window}
 
 -- ---- numbers of bits
 
-number_join : (a b : List Bool) → number_of (a ++ b) ≡ number_of a + 2 ^ length a * number_of b
+pub number_join : (a b : List Bool) → number_of (a ++ b) ≡ number_of a + 2 ^ length a * number_of b
 number_join [] b = omega arith
 number_join (x ∷ a) b =
     let more = number_join a b in
@@ -47,7 +47,7 @@ number_join (x ∷ a) b =
     let part : number_of (x ∷ a) ≡ bit_value x + 2 * number_of a = refl in
     rw two (omega (arith, more, assoc, whole, part))
 
-number_below : (a : List Bool) → number_of a < 2 ^ length a
+pub number_below : (a : List Bool) → number_of a < 2 ^ length a
 number_below [] = omega arith
 number_below (x ∷ a) =
     let more = number_below a in
@@ -126,7 +126,7 @@ latest_bits bs enough =
     ∙ ap number_of (drop_behind pad bs (length bs) (length bs - 96) (omega (arith, long)))
 
 -- cells as bits
-cells_number : (cells : List Cell) (n m : ℕ) → bits_in (take n (drop m cells)) ≡ number_of (take n (drop m (bits cells)))
+pub cells_number : (cells : List Cell) (n m : ℕ) → bits_in (take n (drop m cells)) ≡ number_of (take n (drop m (bits cells)))
 cells_number cells n m =
     sym (bits_are (take n (drop m cells))) ∙ ap number_of (sym (take-map bit_of n (drop m cells)))
     ∙ ap (λ (l : List Bool). number_of (take n l)) (sym (drop-map bit_of m cells))

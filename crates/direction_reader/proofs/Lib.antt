@@ -11,6 +11,7 @@ pub mod FirmAdds
 pub mod FirmCellsGrow
 pub mod FirmJudges
 pub mod FirmKept
+pub mod FirmPlayed
 pub mod FirmSteps
 pub mod FirmWindows
 pub mod FrontsFirst

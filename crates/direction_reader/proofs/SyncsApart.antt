@@ -62,13 +62,13 @@ turned_clear laws list k i lt zero =
     let back : bit_at n (79 - (79 - i)) ≡ 0 = sym (laws.turned n (79 - i) (omega arith)) ∙ zero in
     false_of_zero _ (sym (bit_of_window list k i lt) ∙ rw place at back)
 
-next_clear : WordLaws → (list : List Bool) (k : ℕ) → Begins list k → at list (k + 1) ≡ false
+pub next_clear : WordLaws → (list : List Bool) (k : ℕ) → Begins list k → at list (k + 1) ≡ false
 next_clear laws list k sync = turned_clear laws list k 1 (omega arith) (zero_78 (reversed_bits (window_bits list k)) sync)
 
-fourteenth_clear : WordLaws → (list : List Bool) (k : ℕ) → Begins list k → at list (k + 14) ≡ false
+pub fourteenth_clear : WordLaws → (list : List Bool) (k : ℕ) → Begins list k → at list (k + 14) ≡ false
 fourteenth_clear laws list k sync = turned_clear laws list k 14 (omega arith) (clear_65 (reversed_bits (window_bits list k)) sync)
 
-fifteenth_clear : WordLaws → (list : List Bool) (k : ℕ) → Begins list k → at list (k + 15) ≡ false
+pub fifteenth_clear : WordLaws → (list : List Bool) (k : ℕ) → Begins list k → at list (k + 15) ≡ false
 fifteenth_clear laws list k sync = turned_clear laws list k 15 (omega arith) (clear_64 (reversed_bits (window_bits list k)) sync)
 
 backward_middle : WordLaws → (list : List Bool) (j k : ℕ) → j + 2 ≤ k → k < j + 13 → Begins list j → Begins list k → ⊥

@@ -1,9 +1,10 @@
 -- What a reading that asks each word for a witness says of the tape, beside one that asks for none.
-use Rattle.std.specs.Prelude.{◌≡◌, ℕ, ◌+◌, ◌≤◌, List, [], length, take, sum, map, Bool, true}
+use Rattle.std.specs.Prelude.{◌≡◌, ℕ, ◌+◌, ◌≤◌, List, [], ◌∷◌, length, take, sum, map, Bool, true}
 use Rattle.biphase.specs.declared.cell.Cell.{Cell}
 use Rattle.biphase.specs.declared.profile.Profile.{Profile}
 use Rattle.cell_tracker.specs.ChainPiece.{IsPiece, cells_from}
 use Rattle.cell_tracker.specs.Lock.{IsLock, HasNoLock}
+use Rattle.tc_address.specs.declared.direction.Direction.{Direction}
 use Rattle.tc_address.specs.declared.system.System.{System}
 use Rattle.direction_reader.specs.declared.event.Event.{Event}
 use Rattle.direction_reader.specs.declared.event.Event.TheVariants.{Word}
@@ -11,6 +12,12 @@ use Rattle.direction_reader.specs.declared.firm_event.FirmEvent.{FirmEvent}
 use Rattle.direction_reader.specs.declared.firm_event.FirmEvent.TheVariants.{Told}
 use Rattle.direction_reader.specs.Firm.{is_firm, judged, firm_events_of_cells}
 use Rattle.direction_reader.specs.ListEvents.{duration, events_of_cells}
+use Rattle.direction_reader.specs.Played.{Played}
+
+-- words that are all played in one direction
+abbrev pub AreOneWay : Direction → List Played → Type 0
+AreOneWay direction [] = Unit {0}
+AreOneWay direction (p ∷ more) = (p.direction ≡ direction) × AreOneWay direction more
 
 -- what is told of an event, with a witness or without
 abbrev pub IsJudged : Event → FirmEvent → Type 0

@@ -1,25 +1,29 @@
 //! What follows from the definition of a witness alone.
-ghost use Rattle.std.specs.Prelude.{◌≡◌, ℕ, ◌<◌, ◌+◌, ◌*◌, ◌^◌, List, [], ◌∷◌, true, All, length, map, reverse};
+ghost use Rattle.std.specs.Prelude.{◌≡◌, ℕ, ◌<◌, ◌+◌, ◌*◌, ◌^◌, List, [], ◌∷◌, true, false, All, length, map, reverse, take, drop};
 ghost use Rattle.std.specs.List.{AllZip};
 ghost use Rattle.biphase.specs.declared.cell.Cell.{Cell};
 ghost use Rattle.biphase.specs.declared.profile.Profile.{Profile};
+ghost use Rattle.biphase.specs.Chain.{bits, flat, IsChain};
 ghost use Rattle.cell_tracker.specs.Recording.{cells_of};
 ghost use Rattle.direction_reader.specs.declared.event.Event.{Event};
 ghost use Rattle.direction_reader.specs.declared.firm_event.FirmEvent.{FirmEvent};
 ghost use Rattle.direction_reader.specs.declared.firm_event.FirmEvent.TheVariants.{Told, Alone};
 ghost use Rattle.direction_reader.specs.Firm.{AreFirmEvents, candidate_at, firm_candidate_at, firm_events_of_cells};
 ghost use Rattle.direction_reader.specs.Firm.{is_firm, sync_in_time};
-ghost use Rattle.direction_reader.specs.FirmTape.{FirmTellsTheTape, HasWitness, IsJudged, IsTold};
-ghost use Rattle.direction_reader.specs.ListEvents.{AreEvents};
-ghost use Rattle.direction_reader.specs.Played.{low_bits};
+ghost use Rattle.direction_reader.specs.FirmTape.{AreOneWay, FirmTellsTheTape, HasWitness, IsJudged, IsTold};
+ghost use Rattle.direction_reader.specs.ListEvents.{AreEvents, duration};
+ghost use Rattle.direction_reader.specs.Played.{Played, AreSpelled, bits_of_words, events_of_words, low_bits};
 ghost use Rattle.tc_address.specs.declared.direction.Direction.{Direction};
 ghost use Rattle.tc_address.specs.declared.direction.Direction.TheVariants.{Forward, Backward};
 ghost use Rattle.tc_address.specs.declared.system.System.{System};
 ghost use Rattle.tc_address.specs.declared.system.System.TheVariants.{F25};
 
+use crate::laws::events_are_those_that_are_spelled;
+use biphase::laws::kinds_are_as_the_cells_say;
 use cell_tracker::laws::{
     a_list_has_one_list_of_stretches, a_recording_within_the_tolerance_is_one_stretch,
 };
+use ltc_word::laws::{reversed_twice_is_the_same, twelve_ones_are_the_sync_word};
 
 /// The sync word of either direction is that of the other from its end.
 pub fn the_sync_words_are_each_others_reverse()
@@ -66,6 +70,22 @@ pub fn a_word_beside_another_is_told()
     ensures first { (cells : List Cell) (k : ℕ) → k < 16 → is_firm Forward cells k ≡ true }
     ensures last { (cells : List Cell) (k : ℕ) → length cells < k + 96 → is_firm Backward cells k ≡ true }
 {}
+
+/// Where a chain begins with the bits 0 and 1, and then has the bits of words that are played one after
+/// another in one direction, a witness changes nothing: each of the words is told, and nothing else.
+/// (Where the tape turns, the word at the turn has another word's data beside it, and is alone.)
+pub fn words_that_are_played_one_way_are_told()
+    ensures { (system : System) (profile : Profile) (direction : Direction) (cells : List Cell)
+        (words : List Played) → IsChain profile cells → bits cells ≡ false ∷ true ∷ bits_of_words words
+        → AreSpelled system words → AreOneWay direction words
+        → AreFirmEvents system profile (flat cells)
+        (map (λ event. Told event) (events_of_words (duration (take 2 cells)) (drop 2 cells) words)) }
+{
+    events_are_those_that_are_spelled();
+    kinds_are_as_the_cells_say();
+    reversed_twice_is_the_same();
+    twelve_ones_are_the_sync_word();
+}
 
 /// Truth of the reading: the events of a recording within the tolerance are those of the tape's own
 /// windows from the first unequal pair on.
