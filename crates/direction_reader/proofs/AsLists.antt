@@ -51,7 +51,7 @@ pub record StandThere : Type 0 where
       → fault_in system bits ≡ Some fault
 
 -- the event by the first fault of the fields
-by_fault : (system : System) (direction : Direction) (bits end length : ℕ) (event : Event) (o : Option FieldFault)
+pub by_fault : (system : System) (direction : Direction) (bits end length : ℕ) (event : Event) (o : Option FieldFault)
     → fault_in system bits ≡ o
     → event ≡ elim o [ None ↦ Word direction (word_in system bits) end length | Some fault ↦ Refused direction fault end ]
     → event ≡ event_of system direction bits end length
@@ -69,7 +69,7 @@ the_event there system direction bits end length (Refused d f t) is =
 the_event there system direction bits end length (Lost p t) is = absurd is
 
 -- the candidate that there is, and the one that there is not
-some_listed : StandThere → (system : System) (direction : Direction) (bits end length : ℕ) (o : Option Event)
+pub some_listed : StandThere → (system : System) (direction : Direction) (bits end length : ℕ) (o : Option Event)
     → ends_in_sync bits ≡ true → IsSomeAnd o (IsEventOf system direction bits end length)
     → listed o ≡ candidate_in system direction bits end length
 some_listed there system direction bits end length None sync is = absurd is
@@ -78,7 +78,7 @@ some_listed there system direction bits end length (Some event) sync is =
     let all : event ∷ [] ≡ event_of system direction bits end length ∷ [] = ap (λ (e : Event). e ∷ []) same in
     rw sync all
 
-none_listed : (system : System) (direction : Direction) (bits end length : ℕ) (o : Option Event)
+pub none_listed : (system : System) (direction : Direction) (bits end length : ℕ) (o : Option Event)
     → ends_in_sync bits ≡ false → o ≡ None → listed o ≡ candidate_in system direction bits end length
 none_listed system direction bits end length o sync none = rw (sync, none) refl
 
@@ -122,7 +122,7 @@ of_window there system w own are =
     ]
 
 -- the bits of cells as one number
-bits_are : (cells : List Cell) → number_of (bits cells) ≡ bits_in cells
+pub bits_are : (cells : List Cell) → number_of (bits cells) ≡ bits_in cells
 bits_are [] = refl
 bits_are (Zero x ∷ cells) = let more = bits_are cells in omega arith
 bits_are (One a b ∷ cells) = let more = bits_are cells in omega arith

@@ -168,7 +168,7 @@ none_yet tick =
     }
 
 -- the oldest boundary
-oldest : (tick : ℕ) (cells : List Cell) → slice_index (ticks tick cells) 0 ≡ tick
+pub oldest : (tick : ℕ) (cells : List Cell) → slice_index (ticks tick cells) 0 ≡ tick
 oldest tick [] = refl
 oldest tick (cell ∷ cells) = refl
 

@@ -38,7 +38,7 @@ pub begin_stays : (l more : List ℕ) (s : Stretch) → s.lock ≤ length l → 
 begin_stays l more s within = ap sum (take-append-le s.lock l more within)
 
 -- and breaks where it broke
-break_stays : (l more : List ℕ) (place : Option ℕ) → IfSome place (λ p. p < length l) → break_events (l ++ more) place ≡ break_events l place
+pub break_stays : (l more : List ℕ) (place : Option ℕ) → IfSome place (λ p. p < length l) → break_events (l ++ more) place ≡ break_events l place
 break_stays l more None within = refl
 break_stays l more (Some p) within = let front = take-append-le (p + 1) l more (omega arith) in rw front refl
 

@@ -7,7 +7,15 @@ pub mod EventsExist
 pub mod EventsJoin
 pub mod Examples
 pub mod FindsTheTape
+pub mod FirmAdds
+pub mod FirmCellsGrow
+pub mod FirmJudges
+pub mod FirmKept
+pub mod FirmPlayed
+pub mod FirmSteps
+pub mod FirmWindows
 pub mod FrontsFirst
+pub mod InSync
 pub mod LaterEvents
 pub mod MirroredEvents
 pub mod MirroredWindows
@@ -16,6 +24,7 @@ pub mod OneListOfEvents
 pub mod ReaderSteps
 pub mod TellsTheTape
 pub mod SyncInTime
+pub mod SyncsApart
 pub mod TheEvents
 pub mod TrackerSteps
 pub mod WindowHolds

@@ -34,10 +34,10 @@ use Rattle.direction_reader.proofs.EventsJoin.{window_more, stretch_more, begin_
 use Rattle.direction_reader.proofs.WindowsGrow.{few, one_more}
 
 -- the sum of one interval more
-sum_more : (l : List ℕ) (x : ℕ) → sum (l ++ x ∷ []) ≡ sum l + x
+pub sum_more : (l : List ℕ) (x : ℕ) → sum (l ++ x ∷ []) ≡ sum l + x
 sum_more l x = sum_by-append (λ n. n) l (x ∷ []) ∙ ap (λ n. sum l + n) (let one : sum (x ∷ []) ≡ x = omega arith in one)
 
-count_more : (l : List ℕ) (x : ℕ) → length (l ++ x ∷ []) ≡ length l + 1
+pub count_more : (l : List ℕ) (x : ℕ) → length (l ++ x ∷ []) ≡ length l + 1
 count_more l x = length-append l (x ∷ [])
 
 -- ---- no cell ended
@@ -193,7 +193,7 @@ begins_now r n x l es takes is_bits is_boundaries stands after =
     begins r n x l es (length l) x r.tick takes is_bits boundaries (omega arith) start (omega arith) stands after.0 after.2
 
 -- the last interval of a list, and the sum before it
-last_sum : (l : List ℕ) (first : ℕ) → IsLastZero l first → (0 < length l) × (sum (take (length l - 1) l) + first ≡ sum l)
+pub last_sum : (l : List ℕ) (first : ℕ) → IsLastZero l first → (0 < length l) × (sum (take (length l - 1) l) + first ≡ sum l)
 last_sum l first is =
     let within = slice_get_within l (length l - 1) first is in
     let value : get_or l (length l - 1) 0 ≡ first = get_or_from_slice_get l (length l - 1) first 0 is in

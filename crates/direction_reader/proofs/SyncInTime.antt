@@ -31,11 +31,11 @@ pub record WordLaws : Type 0 where
 abbrev pub at : List Bool → ℕ → Bool
 at list i = get_or list i false
 
-true_of_one : (b : Bool) → bit_value b ≡ 1 → b ≡ true
+pub true_of_one : (b : Bool) → bit_value b ≡ 1 → b ≡ true
 true_of_one true e = refl
 true_of_one false e = absurd (omega arith)
 
-false_of_zero : (b : Bool) → bit_value b ≡ 0 → b ≡ false
+pub false_of_zero : (b : Bool) → bit_value b ≡ 0 → b ≡ false
 false_of_zero true e = absurd (omega arith)
 false_of_zero false e = refl
 
@@ -119,16 +119,16 @@ units_low F24 word n s = let a = s.address in omega arith
 units_low F25 word n s = let a = s.address in omega arith
 units_low F30 word n s = let a = s.address in omega arith
 
-sync_bit : (n k : ℕ) → bit_at n (64 + k) ≡ n / 2 ^ 64 / 2 ^ k % 2
+pub sync_bit : (n k : ℕ) → bit_at n (64 + k) ≡ n / 2 ^ 64 / 2 ^ k % 2
 sync_bit n k = ap (λ (m : ℕ). m % 2) (sym (shr-shr n 64 k))
 
-clear_78 : (n : ℕ) → EndsInSync n → bit_at n 78 ≡ 1 → ⊥
+pub clear_78 : (n : ℕ) → EndsInSync n → bit_at n 78 ≡ 1 → ⊥
 clear_78 n sync one = let e = sync_bit n 14 in let m = n / 2 ^ 64 in let h : m % 2 ^ 16 ≡ 49148 = sync in omega (arith, e, one)
 
-clear_64 : (n : ℕ) → EndsInSync n → bit_at n 64 ≡ 0
+pub clear_64 : (n : ℕ) → EndsInSync n → bit_at n 64 ≡ 0
 clear_64 n sync = let e = sync_bit n 0 in let m = n / 2 ^ 64 in let h : m % 2 ^ 16 ≡ 49148 = sync in omega (arith, e)
 
-set_79 : (n : ℕ) → EndsInSync n → bit_at n 79 ≡ 1
+pub set_79 : (n : ℕ) → EndsInSync n → bit_at n 79 ≡ 1
 set_79 n sync = let e = sync_bit n 15 in let m = n / 2 ^ 64 in let h : m % 2 ^ 16 ≡ 49148 = sync in omega (arith, e)
 
 plays_forward : WordLaws → (system : System) (word : LtcWord) (n : ℕ) → Spells system word n → Plays Forward (low_bits 80 n)
@@ -226,18 +226,18 @@ at_window list j m lt = get_or-take 80 (drop j list) m false lt ∙ get_or-drop 
 abbrev pub window_bits : List Bool → ℕ → ℕ
 window_bits list j = number_of (take 80 (drop j list))
 
-bit_of_window : (list : List Bool) (j m : ℕ) → m < 80 → bit_at (window_bits list j) m ≡ bit_value (at list (j + m))
+pub bit_of_window : (list : List Bool) (j m : ℕ) → m < 80 → bit_at (window_bits list j) m ≡ bit_value (at list (j + m))
 bit_of_window list j m lt = bit_of_number (take 80 (drop j list)) m ∙ ap bit_value (at_window list j m lt)
 
-forward_ones : (list : List Bool) (j : ℕ) → EndsInSync (window_bits list j) → Twelve list (j + 66)
+pub forward_ones : (list : List Bool) (j : ℕ) → EndsInSync (window_bits list j) → Twelve list (j + 66)
 forward_ones list j sync k lt =
     let e : j + (66 + k) ≡ j + 66 + k = omega arith in
     rw (← e) (true_of_one _ (sym (bit_of_window list j (66 + k) (omega arith)) ∙ ones_of_sync (window_bits list j) k sync lt))
 
-forward_clear : (list : List Bool) (j : ℕ) → EndsInSync (window_bits list j) → at list (j + 64) ≡ false
+pub forward_clear : (list : List Bool) (j : ℕ) → EndsInSync (window_bits list j) → at list (j + 64) ≡ false
 forward_clear list j sync = false_of_zero _ (sym (bit_of_window list j 64 (omega arith)) ∙ clear_64 (window_bits list j) sync)
 
-backward_ones : WordLaws → (list : List Bool) (j : ℕ) → EndsInSync (reversed_bits (window_bits list j)) → Twelve list (j + 2)
+pub backward_ones : WordLaws → (list : List Bool) (j : ℕ) → EndsInSync (reversed_bits (window_bits list j)) → Twelve list (j + 2)
 backward_ones laws list j sync k lt =
     let n = window_bits list j in
     let one : bit_at (reversed_bits n) (66 + (11 - k)) ≡ 1 = ones_of_sync (reversed_bits n) (11 - k) sync (omega arith) in
@@ -246,7 +246,7 @@ backward_ones laws list j sync k lt =
     let e : j + (2 + k) ≡ j + 2 + k = omega arith in
     rw (← e) (true_of_one _ (sym (bit_of_window list j (2 + k) (omega arith)) ∙ rw m at back))
 
-backward_set : WordLaws → (list : List Bool) (j : ℕ) → EndsInSync (reversed_bits (window_bits list j)) → at list (j + 0) ≡ true
+pub backward_set : WordLaws → (list : List Bool) (j : ℕ) → EndsInSync (reversed_bits (window_bits list j)) → at list (j + 0) ≡ true
 backward_set laws list j sync =
     let n = window_bits list j in
     let back : bit_at n 0 ≡ 1 = sym (laws.turned n 79 (omega arith)) ∙ set_79 (reversed_bits n) sync in
@@ -254,7 +254,7 @@ backward_set laws list j sync =
 
 -- ---- windows over two words
 
-true_false : (b : Bool) → b ≡ true → b ≡ false → ⊥
+pub true_false : (b : Bool) → b ≡ true → b ≡ false → ⊥
 true_false b t f = let e : true ≡ false = sym t ∙ f in absurd cc
 
 pub starts_with : (direction : Direction) (v r : List Bool) → Plays direction v → Starts (v ++ r)

@@ -67,7 +67,7 @@ width_in_time : WordLaws → (d : Direction) (n : ℕ) → n < 2 ^ 80 → in_tim
 width_in_time laws Forward n lt = lt
 width_in_time laws Backward n lt = laws.width n
 
-window_is : WordLaws → (d : Direction) (n : ℕ) (r : List Bool) → n < 2 ^ 80 → window_bits (low_bits 80 (in_time d n) ++ r) 0 ≡ in_time d n
+pub window_is : WordLaws → (d : Direction) (n : ℕ) (r : List Bool) → n < 2 ^ 80 → window_bits (low_bits 80 (in_time d n) ++ r) 0 ≡ in_time d n
 window_is laws d n r lt =
     first_window (low_bits 80 (in_time d n)) r (length-low_bits 80 (in_time d n))
     ∙ number-low_bits 80 (in_time d n) (width_in_time laws d n lt)
@@ -130,7 +130,7 @@ quiet_then system cells p (suc n) m events quiet rest =
 starts_nothing : Starts []
 starts_nothing a b c d = absurd cc
 
-starts_words : WordLaws → (system : System) (words : List Played) → AreSpelled system words → Starts (bits_of_words words)
+pub starts_words : WordLaws → (system : System) (words : List Played) → AreSpelled system words → Starts (bits_of_words words)
 starts_words laws system [] spelled = starts_nothing
 starts_words laws system (w ∷ more) spelled =
     starts_with w.direction (played_bits w) (bits_of_words more) (plays laws w.direction system w.word (spelling_of w.word) spelled.0)

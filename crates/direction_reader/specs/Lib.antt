@@ -1,9 +1,15 @@
 pub use Rattle.cell_tracker.specs.State
+pub mod Beside
 pub mod Bits
 pub mod Boundaries
 pub mod Brings
 pub mod Candidate
 pub mod Events
+pub mod Firm
+pub mod FirmReader
+pub mod FirmStandsFor
+pub mod FirmStep
+pub mod FirmTape
 pub mod Gathered
 pub mod Hissy
 pub mod HoldsBits

@@ -18,30 +18,43 @@
 //! - The events tell a tape within the tolerance (`specs/Tape.antt`). Where the tolerance looks at the
 //!   last cell alone, they find it again between damage (`specs/Tape.antt`), and mirror it in reverse
 //!   order (`specs/Mirror.antt`): clauses `truth`, `damage` and `mirror` of `feed`.
+//! - `FirmReader` asks each word for a witness beside it: another word's sync word on the side away from its
+//!   own, or the edge of its stretch (`specs/Firm.antt`, `AreFirmEvents`). It stands for the intervals
+//!   that it was fed and for what it has told of them (`specs/FirmReader.antt`), and `finish` tells what
+//!   still waits (clause `all`). At most one word waits, and one candidate behind it.
 //! - A window holds the latest of the bits that it was given (`specs/HoldsBits.antt`).
 //! - `window_events` gives the candidates of one window, the forward one first
 //!   (`specs/Candidate.antt`).
 //! - The numbers of an event are in the ranges of `specs/Brings.antt`.
 //!
 //! Read `reader`, `tracker`, `state`, `latest_cells`, `latest_bits`, `window`, `boundaries`, `brought`,
-//! `candidates` and `event`, in this order: the way of an interval. `specs/Invariants.antt` is what
-//! the code keeps. `report_text` prints the events. Nothing here allocates.
+//! `candidates` and `event`, in this order: the way of an interval. Then `firm_reader`, `firm_cells`,
+//! `beside`, `waiting` and `firm_event`, the way of one that is asked for witnesses, over the same tracker
+//! and cells. `specs/Invariants.antt` is what the code keeps. `report_text` prints the events. Nothing here allocates.
 #![tactic(auto)]
 
+mod beside;
 mod boundaries;
 mod brought;
 mod candidates;
 mod event;
+mod firm_cells;
+mod firm_event;
+pub mod firm_laws;
+mod firm_reader;
 mod latest_bits;
 mod latest_cells;
 pub mod laws;
 mod reader;
 mod state;
 mod tracker;
+mod waiting;
 mod window;
 
 pub use brought::Brought;
 pub use candidates::window_events;
 pub use event::{Event, Events};
+pub use firm_event::{FirmEvent, FirmEvents};
+pub use firm_reader::FirmReader;
 pub use reader::DirectionReader;
 pub use window::{Filling, FromFilling, Full};

@@ -1,0 +1,79 @@
+-- Which lists of intervals a reader stands for that asks each word for a witness, and what it has told of them. What it
+-- has told and what `finish` tells are together the events of the list.
+use Rattle.std.specs.Prelude.{◌≡◌, ℕ, ◌+◌, ◌*◌, ◌≤◌, List, [], ◌++◌, length, sum, Option, Some, None, IfSome}
+use Rattle.std.specs.List.{flat_map}
+use Rattle.biphase.specs.declared.cell.TheConstants.{MAX_INTERVAL}
+use Rattle.cell_tracker.specs.Stretch.{Stretch}
+use Rattle.tc_address.specs.declared.system.System.{System}
+use Rattle.direction_reader.specs.declared.event.Event.{Event}
+use Rattle.direction_reader.specs.declared.event.Event.TheVariants.{Word, Refused, Lost}
+use Rattle.direction_reader.specs.declared.firm_event.FirmEvent.{FirmEvent}
+use Rattle.direction_reader.specs.declared.firm_event.FirmEvent.TheVariants.{Told, Alone}
+use Rattle.direction_reader.specs.declared.firm_event.FirmEvents.{FirmEvents}
+use Rattle.direction_reader.specs.Brings.{greatest_cell}
+use Rattle.direction_reader.specs.Firm.{firm_events_of_stretch}
+use Rattle.direction_reader.specs.FirmStandsFor.{KeptFirm, FirmCellsStandFor}
+use Rattle.direction_reader.specs.FirmStep.{WaitsWithin}
+use Rattle.direction_reader.specs.Gathered.{begin_of}
+use Rattle.direction_reader.specs.Invariants.{IsReading}
+use Rattle.direction_reader.specs.ListEvents.{duration}
+use Rattle.direction_reader.specs.StandsFor.{AreInside, TrackerStandsFor, waiting}
+use Rattle.direction_reader.specs.Tracker.{profile_of}
+use Rattle.direction_reader.specs.Tracking.{Tracking}
+
+-- the system, the number and the sum of the intervals taken, the state of the tracker, and what is kept of the cells
+pub record FirmState : Type 0 where
+  pub system : System
+  pub intervals : ℕ
+  pub tick : ℕ
+  pub tracker : Tracking
+  pub cells : KeptFirm
+
+-- a reader takes one interval more
+pub record FirmTakes (old : FirmState) (x : ℕ) (new : FirmState) : Type 0 where
+  pub system : new.system ≡ old.system
+  pub profile : profile_of new.tracker ≡ profile_of old.tracker
+  pub intervals : new.intervals ≡ old.intervals + 1
+  pub tick : new.tick ≡ old.tick + x
+
+-- what is kept fits what is counted
+pub record IsFirmReading (r : FirmState) : Type 0 where
+  pub reading : IsReading r.intervals r.tick r.tracker r.cells.cells
+  pub waits : WaitsWithin r.tick r.cells.waits
+
+-- an event that is told with the latest of so many intervals, whose sum is a tick: a word may have waited, a break not
+abbrev pub IsToldBy : ℕ → ℕ → FirmEvent → Type 0
+IsToldBy intervals sum (Told (Word direction word tick length)) =
+    (tick ≤ sum) × (80 ≤ length) × (length ≤ 80 * greatest_cell)
+IsToldBy intervals sum (Told (Refused direction fault tick)) = tick ≤ sum
+IsToldBy intervals sum (Told (Lost interval tick)) = (interval + 1 ≡ intervals) × (tick ≡ sum)
+IsToldBy intervals sum (Alone direction tick) = tick ≤ sum
+
+-- what the latest of so many intervals brings
+pub record FirmBrings (intervals sum : ℕ) (events : FirmEvents) : Type 0 where
+  pub first : IfSome events.first (IsToldBy intervals sum)
+  pub second : IfSome events.second (IsToldBy intervals sum)
+  pub third : IfSome events.third (IsToldBy intervals sum)
+
+-- the open stretch: what is kept of its cells, and what is told of them
+pub record FirmOpen (reader : FirmState) (intervals : List ℕ) (stretch : Stretch) (told : List FirmEvent) : Type 0 where
+  pub lock : stretch.lock ≤ length intervals
+  pub kept : FirmCellsStandFor reader.cells reader.system (begin_of intervals stretch) stretch.cells told
+  pub ends : reader.tick ≡ begin_of intervals stretch + duration stretch.cells + waiting reader.tracker
+
+-- where no stretch is open nothing is told of one, and nothing waits
+abbrev pub FirmLatest : FirmState → List ℕ → Option Stretch → List FirmEvent → Type 0
+FirmLatest reader intervals None told = (told ≡ []) × (reader.cells.waits ≡ None)
+FirmLatest reader intervals (Some stretch) told = FirmOpen reader intervals stretch told
+
+-- the reader was fed these intervals, and has told these events of them
+pub record FirmStandsFor (reader : FirmState) (intervals : List ℕ) (told : List FirmEvent) : Type 0 where
+  pub count : reader.intervals ≡ length intervals
+  pub sum_is : reader.tick ≡ sum intervals
+  pub earlier : List Stretch
+  pub open_yet : Option Stretch
+  pub tracker : TrackerStandsFor reader.tracker intervals earlier open_yet
+  pub inside : AreInside (length intervals) earlier
+  pub latest : List FirmEvent
+  pub latest_are : FirmLatest reader intervals open_yet latest
+  pub all : told ≡ flat_map (firm_events_of_stretch reader.system intervals) earlier ++ latest

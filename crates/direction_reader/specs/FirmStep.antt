@@ -1,0 +1,111 @@
+-- What a cell does to a word that waits for its witness, in numbers. No public clause speaks of it.
+use Rattle.std.specs.Prelude.{◌≡◌, ℕ, ◌+◌, ◌-◌, List, [], ◌∷◌, ◌++◌, Option, Some, None, Bool, true, slice_index}
+use Rattle.std.specs.Prelude.{nat_lt, if◌then◌else◌, IfSome, ◌≤◌, ◌*◌}
+use Rattle.std.specs.Option.{option_map}
+use Rattle.ltc_word.specs.Reversal.{reversed_bits}
+use Rattle.tc_address.specs.declared.direction.Direction.TheVariants.{Forward, Backward}
+use Rattle.tc_address.specs.declared.system.System.{System}
+use Rattle.direction_reader.specs.declared.event.Event.{Event}
+use Rattle.direction_reader.specs.declared.event.Event.TheVariants.{Word, Refused, Lost}
+use Rattle.direction_reader.specs.declared.candidates.Candidates.{Candidates}
+use Rattle.direction_reader.specs.declared.firm_event.FirmEvent.{FirmEvent}
+use Rattle.direction_reader.specs.declared.firm_event.FirmEvent.TheVariants.{Told, Alone}
+use Rattle.direction_reader.specs.declared.firm_event.FirmEvents.{FirmEvents}
+use Rattle.direction_reader.specs.declared.latest_bits.LatestBits.{LatestBits}
+use Rattle.direction_reader.specs.declared.latest_bits.LatestBits.TheVariants as latest
+use Rattle.direction_reader.specs.declared.waiting.Waiting.{Waiting}
+use Rattle.direction_reader.specs.declared.waiting.Heard.{Heard}
+use Rattle.direction_reader.specs.Brings.{IsWordAt, greatest_cell}
+use Rattle.direction_reader.specs.Candidate.{candidate_in, Bears}
+use Rattle.direction_reader.specs.Events.{listed}
+use Rattle.direction_reader.specs.Firm.{judged}
+
+-- nothing is told
+abbrev pub nothing_told : FirmEvents
+nothing_told = record { first = None; second = None; third = None }
+
+-- an event that may be there, as a list
+abbrev pub firm_listed : Option FirmEvent → List FirmEvent
+firm_listed None = []
+firm_listed (Some event) = event ∷ []
+
+-- what one interval brought, as a list in order
+abbrev pub firm_list : FirmEvents → List FirmEvent
+firm_list events = firm_listed events.first ++ firm_listed events.second ++ firm_listed events.third
+
+-- the candidates of a window, one in each direction
+pub record AreCandidatesOf (system : System) (bits end length : ℕ) (found : Candidates) : Type 0 where
+  pub forward : listed found.forward ≡ candidate_in system Forward bits end length
+  pub backward : listed found.backward ≡ candidate_in system Backward (reversed_bits bits) end length
+  pub forward_bears : IfSome found.forward (Bears end length)
+  pub backward_bears : IfSome found.backward (Bears end length)
+
+-- each of them ends at a tick, a word with the length of 80 cells
+pub record FindsAt (end : ℕ) (found : Candidates) : Type 0 where
+  pub forward : IfSome found.forward (IsWordAt end)
+  pub backward : IfSome found.backward (IsWordAt end)
+
+-- no candidate
+abbrev pub no_candidates : Candidates
+no_candidates = record { forward = None; backward = None }
+
+-- the candidates of the latest window, which ends at a tick: none before it is full
+abbrev pub AreWindowCandidates : System → LatestBits → List ℕ → ℕ → Candidates → Type 0
+AreWindowCandidates system (latest.Full bits) boundaries end found =
+    AreCandidatesOf system bits end (end - slice_index boundaries 0) found
+AreWindowCandidates system (latest.Filling _) boundaries end found = found ≡ no_candidates
+
+-- a word that is read backward waits; a candidate at fault is told
+abbrev pub began : Option FirmEvent → Option FirmEvent → Option Event → Heard
+began first second None = record { waiting = None; told = record { first = first; second = second; third = None } }
+began first second (Some (Word d w t n)) = record {
+  waiting = Some (record { word = Word d w t n; age = 0; behind = None });
+  told = record { first = first; second = second; third = None };
+}
+began first second (Some event) =
+    record { waiting = None; told = record { first = first; second = second; third = Some (Told event) } }
+
+-- what stands behind, or else what comes
+abbrev pub or_else : Option FirmEvent → Option FirmEvent → Option FirmEvent
+or_else (Some event) other = Some event
+or_else None other = other
+
+-- one cell more, which ends a window with a forward candidate, as it is judged, or a backward one. Where it is the
+-- sixteenth behind a word that waits, `sync` says whether they are the sync word
+abbrev pub heard : Option Waiting → Bool → Option FirmEvent → Option Event → Heard
+heard None sync forward backward = began None forward backward
+heard (Some w) sync forward backward =
+    if nat_lt w.age 15 then record {
+      waiting = Some (record { word = w.word; age = w.age + 1; behind = or_else w.behind forward });
+      told = nothing_told;
+    } else began (Some (judged sync w.word)) (or_else w.behind forward) backward
+
+-- what is told where the stretch ends: a word that waits stands at its edge
+abbrev pub ended : Option Waiting → FirmEvents
+ended None = nothing_told
+ended (Some w) = record { first = Some (Told w.word); second = w.behind; third = None }
+
+-- an event of a window that ended by a tick, a word with the length of 80 cells
+abbrev pub IsWithin : ℕ → Event → Type 0
+IsWithin tick (Word direction word end length) = (end ≤ tick) × (80 ≤ length) × (length ≤ 80 * greatest_cell)
+IsWithin tick (Refused direction fault end) = end ≤ tick
+IsWithin tick (Lost interval end) = ⊥
+
+-- as it is told
+abbrev pub IsToldWithin : ℕ → FirmEvent → Type 0
+IsToldWithin tick (Told event) = IsWithin tick event
+IsToldWithin tick (Alone direction end) = end ≤ tick
+
+-- a word that waits, and what stands behind it
+pub record IsWaitingWithin (tick : ℕ) (w : Waiting) : Type 0 where
+  pub word : IsWithin tick w.word
+  pub behind : IfSome w.behind (IsToldWithin tick)
+
+abbrev pub WaitsWithin : ℕ → Option Waiting → Type 0
+WaitsWithin tick waits = IfSome waits (IsWaitingWithin tick)
+
+-- what is told of windows that ended by a tick
+pub record TellsWithin (tick : ℕ) (told : FirmEvents) : Type 0 where
+  pub first : IfSome told.first (IsToldWithin tick)
+  pub second : IfSome told.second (IsToldWithin tick)
+  pub third : IfSome told.third (IsToldWithin tick)

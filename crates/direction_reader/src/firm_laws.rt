@@ -1,0 +1,118 @@
+//! What follows from the definition of a witness alone.
+ghost use Rattle.std.specs.Prelude.{◌≡◌, ℕ, ◌<◌, ◌+◌, ◌*◌, ◌^◌, List, [], ◌∷◌, true, false, All, length, map, reverse, take, drop};
+ghost use Rattle.std.specs.List.{AllZip};
+ghost use Rattle.biphase.specs.declared.cell.Cell.{Cell};
+ghost use Rattle.biphase.specs.declared.profile.Profile.{Profile};
+ghost use Rattle.biphase.specs.Chain.{bits, flat, IsChain};
+ghost use Rattle.cell_tracker.specs.Recording.{cells_of};
+ghost use Rattle.direction_reader.specs.declared.event.Event.{Event};
+ghost use Rattle.direction_reader.specs.declared.firm_event.FirmEvent.{FirmEvent};
+ghost use Rattle.direction_reader.specs.declared.firm_event.FirmEvent.TheVariants.{Told, Alone};
+ghost use Rattle.direction_reader.specs.Firm.{AreFirmEvents, candidate_at, firm_candidate_at, firm_events_of_cells};
+ghost use Rattle.direction_reader.specs.Firm.{is_firm, sync_in_time};
+ghost use Rattle.direction_reader.specs.FirmTape.{AreOneWay, FirmTellsTheTape, HasWitness, IsJudged, IsTold};
+ghost use Rattle.direction_reader.specs.ListEvents.{AreEvents, duration};
+ghost use Rattle.direction_reader.specs.Played.{Played, AreSpelled, bits_of_words, events_of_words, low_bits};
+ghost use Rattle.tc_address.specs.declared.direction.Direction.{Direction};
+ghost use Rattle.tc_address.specs.declared.direction.Direction.TheVariants.{Forward, Backward};
+ghost use Rattle.tc_address.specs.declared.system.System.{System};
+ghost use Rattle.tc_address.specs.declared.system.System.TheVariants.{F25};
+
+use crate::laws::events_are_those_that_are_spelled;
+use biphase::laws::kinds_are_as_the_cells_say;
+use cell_tracker::laws::{
+    a_list_has_one_list_of_stretches, a_recording_within_the_tolerance_is_one_stretch,
+};
+use ltc_word::laws::{reversed_twice_is_the_same, twelve_ones_are_the_sync_word};
+
+/// The sync word of either direction is that of the other from its end.
+pub fn the_sync_words_are_each_others_reverse()
+    ensures forward { sync_in_time Forward ≡ 0xbffc }
+    ensures backward { low_bits 16 (sync_in_time Backward) ≡ reverse (low_bits 16 (sync_in_time Forward)) }
+{}
+
+/// A list of intervals has one list of events under witnesses, however it is cut.
+pub fn a_list_has_one_list_of_firm_events()
+    ensures some { (system : System) (profile : Profile) (intervals : List ℕ)
+        → (events : List FirmEvent) × AreFirmEvents system profile intervals events }
+    ensures one { (system : System) (profile : Profile) (intervals : List ℕ) (events others : List FirmEvent)
+        → AreFirmEvents system profile intervals events
+        → AreFirmEvents system profile intervals others → events ≡ others }
+{
+    a_list_has_one_list_of_stretches();
+}
+
+/// A reading that asks for witnesses has an event for each event of one that asks for none, in the same
+/// order: a word without a witness is alone, and all else is the same. So what is true of the one, of
+/// damage and of the mirror, is true of the other, but for words that are refused.
+pub fn a_witness_changes_words_alone()
+    ensures { (system : System) (profile : Profile) (intervals : List ℕ) (events : List Event)
+        (told : List FirmEvent) → AreEvents system profile intervals events
+        → AreFirmEvents system profile intervals told → AllZip IsJudged events told }
+{
+    a_list_has_one_list_of_stretches();
+}
+
+/// Each word that is told of the cells of a stretch has its witness, or stands at the edge.
+pub fn each_word_that_is_told_has_its_witness()
+    ensures { (system : System) (tick : ℕ) (cells : List Cell)
+        → All (HasWitness tick cells) (firm_events_of_cells system tick cells) }
+{}
+
+/// A candidate that stands beside another word's sync word, or at the edge of its stretch, is told as it
+/// is read without witnesses. A word that is played forward stands at the edge where fewer than 16
+/// cells come before it, and one that is played backward where fewer than 16 come behind it.
+pub fn a_word_beside_another_is_told()
+    ensures told { (system : System) (tick k : ℕ) (cells : List Cell) (direction : Direction)
+        → is_firm direction cells k ≡ true
+        → firm_candidate_at system tick cells k direction
+        ≡ map (λ event. Told event) (candidate_at system tick cells k direction) }
+    ensures first { (cells : List Cell) (k : ℕ) → k < 16 → is_firm Forward cells k ≡ true }
+    ensures last { (cells : List Cell) (k : ℕ) → length cells < k + 96 → is_firm Backward cells k ≡ true }
+{}
+
+/// Where a chain begins with the bits 0 and 1, and then has the bits of words that are played one after
+/// another in one direction, a witness changes nothing: each of the words is told, and nothing else.
+/// (Where the tape turns, the word at the turn has another word's data beside it, and is alone.)
+pub fn words_that_are_played_one_way_are_told()
+    ensures { (system : System) (profile : Profile) (direction : Direction) (cells : List Cell)
+        (words : List Played) → IsChain profile cells → bits cells ≡ false ∷ true ∷ bits_of_words words
+        → AreSpelled system words → AreOneWay direction words
+        → AreFirmEvents system profile (flat cells)
+        (map (λ event. Told event) (events_of_words (duration (take 2 cells)) (drop 2 cells) words)) }
+{
+    events_are_those_that_are_spelled();
+    kinds_are_as_the_cells_say();
+    reversed_twice_is_the_same();
+    twelve_ones_are_the_sync_word();
+}
+
+/// Truth of the reading: the events of a recording within the tolerance are those of the tape's own
+/// windows from the first unequal pair on.
+pub fn firm_events_tell_the_tape()
+    ensures { (system : System) (profile : Profile) (intervals : List ℕ) (events : List FirmEvent)
+        → AreFirmEvents system profile intervals events
+        → FirmTellsTheTape system profile intervals events }
+{
+    a_list_has_one_list_of_stretches();
+    a_recording_within_the_tolerance_is_one_stretch();
+}
+
+/// The word of 00:00:00:00 at 25 frames, in cells of 24 ticks. It is alone behind 16 zeros, and played
+/// backward before 16 zeros; and 64 bits between a sync word that is played backward and one that is
+/// played forward are two words, each of them alone.
+pub fn some_words_are_alone()
+    ensures forward { firm_events_of_cells F25 0 (cells_of 96 (0xbffc0800000000000000 * 2 ^ 16)) ≡ Alone Forward 2304 ∷ [] }
+    ensures backward { firm_events_of_cells F25 0 (cells_of 96 0x103ffd) ≡ Alone Backward 1920 ∷ [] }
+    ensures turned { firm_events_of_cells F25 0 (cells_of 96 (0xbffc0800000000000000 * 2 ^ 16 + 0x3ffd))
+        ≡ Alone Backward 1920 ∷ Alone Forward 2304 ∷ [] }
+{}
+
+/// The same word is told behind 15 zeros, and behind a sync word; and played backward, before 15 zeros
+/// and before a sync word in its direction. `IsTold` says it of cells that have one event.
+pub fn other_words_are_told()
+    ensures first { IsTold F25 (cells_of 95 (0xbffc0800000000000000 * 2 ^ 15)) }
+    ensures behind { IsTold F25 (cells_of 96 (0xbffc0800000000000000 * 2 ^ 16 + 0xbffc)) }
+    ensures last { IsTold F25 (cells_of 95 0x103ffd) }
+    ensures before { IsTold F25 (cells_of 96 (0x3ffd * 2 ^ 80 + 0x103ffd)) }
+{}

@@ -1,0 +1,120 @@
+//! A word that waits for its witness. Next: `firm_event`.
+ghost use Rattle.std.specs.Prelude.{◌≡◌, ◌≤◌, IfSome};
+ghost use Rattle.std.specs.Option.{option_map};
+ghost use Rattle.direction_reader.specs.Firm.{judged};
+ghost use Rattle.direction_reader.specs.FirmStep.{began, ended, heard, or_else};
+
+use crate::event::Event;
+use crate::firm_event::{FirmEvent, FirmEvents};
+
+/// The cells in which a witness stands.
+const WITNESS_CELLS: u32 = 16;
+
+/// A word that is read backward: its witness comes behind it. At most one waits, since sync words
+/// in one direction stand at least 16 cells apart; and so there is at most one forward candidate in
+/// the meantime, which waits behind it.
+#[derive(Clone, Copy)]
+pub struct Waiting {
+    pub word: Event,
+    /// How many cells have come since, up to 15.
+    pub age: u32,
+    pub behind: Option<FirmEvent>,
+}
+
+/// What waits and what is told after a cell.
+#[derive(Clone, Copy)]
+pub struct Heard {
+    pub waiting: Option<Waiting>,
+    pub told: FirmEvents,
+}
+
+/// What becomes of the event of a candidate.
+fn judge(firm: bool, event: Event) -> FirmEvent
+    ensures { result ≡ judged firm event }
+{
+    match event {
+        Event::Word {
+            direction,
+            tick,
+            ..
+        } if !firm => FirmEvent::Alone { direction, tick },
+        told => FirmEvent::Told(told),
+    }
+}
+
+/// What becomes of a candidate that may be there.
+pub fn judge_found(firm: bool, found: Option<Event>) -> Option<FirmEvent>
+    ensures { result ≡ option_map (judged firm) found }
+{
+    match found {
+        Some(event) => Some(judge(firm, event)),
+        None => None,
+    }
+}
+
+/// What a cell does to a word that waits. `sync` says whether the latest 16 cells are the sync word of
+/// a word that is played backward; the candidates are those of the window that ends with the cell.
+pub fn hear(
+    waiting: Option<Waiting>,
+    sync: bool,
+    forward: Option<FirmEvent>,
+    backward: Option<Event>,
+) -> Heard
+    requires { IfSome waiting (λ w. w.age ≤ 15) }
+    ensures { result ≡ heard waiting sync forward backward }
+{
+    match waiting {
+        None => begin(None, forward, backward),
+        Some(w) if w.age + 1 < WITNESS_CELLS => Heard {
+            waiting: Some(Waiting {
+                word: w.word,
+                age: w.age + 1,
+                behind: w.behind.or(forward),
+            }),
+            told: FirmEvents::none(),
+        },
+        Some(w) => begin(Some(judge(sync, w.word)), w.behind.or(forward), backward),
+    }
+}
+
+/// A word that is read backward waits, and all else is told.
+fn begin(first: Option<FirmEvent>, second: Option<FirmEvent>, backward: Option<Event>) -> Heard
+    ensures { result ≡ began first second backward }
+{
+    match backward {
+        Some(word @ Event::Word { .. }) => Heard {
+            waiting: Some(Waiting {
+                word,
+                age: 0,
+                behind: None,
+            }),
+            told: FirmEvents {
+                first,
+                second,
+                third: None,
+            },
+        },
+        other => Heard {
+            waiting: None,
+            told: FirmEvents {
+                first,
+                second,
+                third: other.map(FirmEvent::Told),
+            },
+        },
+    }
+}
+
+/// What is told of a word that waits where its stretch ends.
+pub fn end(waiting: Option<Waiting>) -> FirmEvents
+    ensures { result ≡ ended waiting }
+{
+    match waiting {
+        None => FirmEvents::none(),
+        Some(w) => FirmEvents {
+            first: Some(FirmEvent::Told(w.word)),
+            second: w.behind,
+            third: None,
+        },
+    }
+}
