@@ -1,18 +1,23 @@
 //! The numbers that code and definitions share, as the standards give them; and what follows from the
 //! definitions alone.
-ghost use Rattle.std.specs.Prelude.{◌≡◌, ◌^◌, ℕ, ℤ, List, [], ◌∷◌, ◌++◌};
+ghost use Rattle.std.specs.Prelude.{◌≡◌, ◌-◌, ◌^◌, ℕ, ℤ, true, false, List, [], ◌∷◌, ◌++◌, codes};
 ghost use Rattle.byteorder.specs.Endian.{big_number};
 ghost use Rattle.wave_file.specs.declared.chunk.TheConstants as chunk;
+ghost use Rattle.wave_file.specs.declared.format.TheConstants.{MAX_RATE, MAX_TRACKS};
+ghost use Rattle.wave_file.specs.declared.names.TheConstants as names;
 ghost use Rattle.wave_file.specs.declared.stage.TheConstants.{MAX_BYTES, MAX_SAMPLES};
+ghost use Rattle.wave_file.specs.Chunk.{is_open_size};
 ghost use Rattle.wave_file.specs.GoesOn.{GoesOn, IsWithin};
 ghost use Rattle.wave_file.specs.StandsFor.{Decoding, StandsFor, IsDecoding, IsTold, format_in_decoding};
 ghost use Rattle.wave_file.specs.Wave.{reading_of};
 ghost use Rattle.tc_io.specs.Verdict.{good};
 
-/// 2 to the 40th samples, and 2 to the 62nd bytes.
+/// 2 to the 40th samples, and 2 to the 62nd bytes; 64 tracks, and 6,250,000 samples a second.
 pub fn the_limits_are_these()
     ensures samples { MAX_SAMPLES ≡ 2 ^ 40 }
     ensures bytes { MAX_BYTES ≡ 2 ^ 62 }
+    ensures tracks { MAX_TRACKS ≡ 64 }
+    ensures rate { MAX_RATE ≡ 6250000 }
 {}
 
 /// The letters of the file and of its chunks, in ASCII: `RIFF`, `RF64`, `BW64`, `WAVE`, `fmt `, `ds64`
@@ -25,6 +30,28 @@ pub fn the_letters_are_these()
     ensures fmt { chunk.FORMAT ≡ big_number 4 (102 ∷ 109 ∷ 116 ∷ 32 ∷ []) }
     ensures ds64 { chunk.SIZES ≡ big_number 4 (100 ∷ 115 ∷ 54 ∷ 52 ∷ []) }
     ensures samples { chunk.DATA ≡ big_number 4 (100 ∷ 97 ∷ 116 ∷ 97 ∷ []) }
+{}
+
+/// In RIFF these sizes of data tell no length: the greatest number, and those from 2,147,479,296 to
+/// 2,147,483,647. Their neighbours do.
+pub fn these_sizes_tell_no_length()
+    ensures greatest { chunk.NO_SIZE ≡ 2 ^ 32 - 1 }
+    ensures open { is_open_size (2 ^ 32 - 1) ≡ true }
+    ensures below_greatest { is_open_size (2 ^ 32 - 2) ≡ false }
+    ensures least { is_open_size 2147479296 ≡ true }
+    ensures below { is_open_size 2147479295 ≡ false }
+    ensures most { is_open_size 2147483647 ≡ true }
+    ensures above { is_open_size 2147483648 ≡ false }
+{}
+
+/// The faults of a sound file have these names in notes.
+pub fn each_fault_has_its_name()
+    ensures riff { names.RIFF_NAME.now ≡ codes "riff" }
+    ensures wave { names.WAVE_NAME.now ≡ codes "wave" }
+    ensures ds64 { names.DS64_NAME.now ≡ codes "ds64" }
+    ensures format { names.FORMAT_NAME.now ≡ codes "format" }
+    ensures track { names.TRACK_NAME.now ≡ codes "track" }
+    ensures truncated { names.TRUNCATED_NAME.now ≡ codes "truncated" }
 {}
 
 /// Bytes that a decoder took are good; its format is theirs, and the samples that it gave are theirs.
