@@ -47,11 +47,11 @@ at_30 = refl
 
 -- one word alone has no speed
 one_word : mean_speed 48_000 F25 (record {
-      first = mark_at (address C25 0 0 0 0) Forward 1_920;
-      last = mark_at (address C25 0 0 0 0) Forward 1_920;
-      heard = 1;
-      bridged = 0;
-    }) ≡ 0
+  first = mark_at (address C25 0 0 0 0) Forward 1_920;
+  last = mark_at (address C25 0 0 0 0) Forward 1_920;
+  heard = 1;
+  bridged = 0;
+}) ≡ 0
 one_word = refl
 
 -- ---- how labels stand to each other
