@@ -18,7 +18,12 @@ use Rattle.tape_spans.specs.Spans.{bridged_in, frames_of_spans, mark_at, spans}
 use Rattle.tape_spans.specs.SpanTexts.{gap_line, lines_behind, mean_speed, spans_end_line}
 
 heard : Address → Direction → ℕ → ℕ → Span
-heard label direction first last = record { first = mark_at label direction first; last = mark_at label direction last; heard = 2; bridged = 1 }
+heard label direction first last = record {
+  first = mark_at label direction first;
+  last = mark_at label direction last;
+  heard = 2;
+  bridged = 1;
+}
 
 -- ---- the mean speed: so many frames behind the first, in so many ticks
 
@@ -60,7 +65,8 @@ mark : Address → Direction → Mark
 mark label direction = mark_at label direction 100
 
 -- labels of one count in one direction are told by a step
-a_step : (last next : Address) → relation_of (mark (record last { count = C25 }) Forward) (mark (record next { count = C25 }) Forward)
+a_step : (last next : Address) → relation_of (mark (record last { count = C25 }) Forward)
+    (mark (record next { count = C25 }) Forward)
     ≡ Step (step_between (mark (record last { count = C25 }) Forward) (mark (record next { count = C25 }) Forward))
 unfolding mark
 a_step last next = refl
@@ -95,7 +101,8 @@ back_where_it_runs_backward : as_it_runs Backward (pos 1) ≡ neg_ℤ (pos 1)
 back_where_it_runs_backward = refl
 
 -- by the direction behind the gap
-runs_behind : (last next : Address) → step_between (mark last Forward) (mark next Backward) ≡ neg_ℤ (way_between (mark last Forward) (mark next Backward))
+runs_behind : (last next : Address) → step_between (mark last Forward) (mark next Backward)
+    ≡ neg_ℤ (way_between (mark last Forward) (mark next Backward))
 unfolding mark
 runs_behind last next = refl
 
@@ -108,13 +115,15 @@ another_count : relation_of (mark (address C25 10 0 0 0) Forward) (mark (address
 unfolding mark
 another_count = refl
 
-another_count_and_a_turn : relation_of (mark (address C25 10 0 0 0) Forward) (mark (address C24 10 0 0 1) Backward) ≡ Count
+another_count_and_a_turn : relation_of (mark (address C25 10 0 0 0) Forward) (mark (address C24 10 0 0 1) Backward)
+    ≡ Count
 unfolding mark
 another_count_and_a_turn = refl
 
 -- ---- the lines
 
--- of a frame that was invented between two that were heard, and of one behind the last one heard; then another count, and a turn
+-- of a frame that was invented between two that were heard, and of one behind the last one heard; then another count,
+-- and a turn
 three_spans : lines_behind 48_000 F25 None (spans (
     Heard (address C25 10 0 0 0) Forward false 1_920 ∷ Invented (address C25 10 0 0 1) Forward 1 3_840 ∷
     Heard (address C25 10 0 0 2) Forward true 5_760 ∷ Invented (address C25 10 0 0 3) Forward 1 7_680 ∷ Gone 9_600 ∷
@@ -136,7 +145,8 @@ unfolding digits
 a_step_on = refl
 
 -- the ticks from the one to the other
-from_tick_to_tick : gap_line (gap_between (mark_at (address C25 10 0 0 0) Forward 7) (mark_at (address C24 10 0 0 0) Forward 20))
+from_tick_to_tick : gap_line (gap_between (mark_at (address C25 10 0 0 0) Forward 7)
+    (mark_at (address C24 10 0 0 0) Forward 20))
     ≡ codes "gap ticks 13 count\n"
 unfolding digits
 from_tick_to_tick = refl
