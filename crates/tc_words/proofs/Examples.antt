@@ -109,7 +109,8 @@ live_alone : pcm_ltc (codes "25" ∷ codes "48000" ∷ codes "9" ∷ codes "live
 unfolding pcm_ltc sliced system_in between number_spelled fineness_in following_in
 live_alone = refl
 
-live_behind_all : pcm_ltc (codes "25" ∷ codes "48000" ∷ codes "9" ∷ codes "2" ∷ codes "deep" ∷ codes "3" ∷ codes "live" ∷ [])
+live_behind_all : pcm_ltc (codes "25" ∷ codes "48000" ∷ codes "9" ∷ codes "2" ∷ codes "deep" ∷ codes "3" ∷ codes "live"
+    ∷ [])
     ≡ Ok (PcmLtc (slicing_of F25 48_000 (Deep 27) 2 3 true))
 unfolding pcm_ltc sliced system_in between number_spelled fineness_in following_in
 live_behind_all = refl

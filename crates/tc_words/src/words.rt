@@ -33,7 +33,8 @@ use tc_job::{
 
 /// The task of the words, or their first fault. Word 0 is the command.
 pub fn read_words(alloc: Global, words: &[String]) -> Result<Task, WordsFault>
-    ensures answer { (result ≡ answer_to (map string_bytes words.now)) ⊎ (result ≡ Err (WordsFault.Memory alloc_error)) }
+    ensures answer { (result ≡ answer_to (map string_bytes words.now))
+        ⊎ (result ≡ Err (WordsFault.Memory alloc_error)) }
     ensures at_once { IsRefusedAtOnce (map string_bytes words.now) → result ≡ answer_to (map string_bytes words.now) }
 {
     match first_dash(words) {
