@@ -19,6 +19,7 @@ ghost use Rattle.made_commands.specs.MadeLines.{made_lines, made_words};
 ghost use Rattle.signal_commands.specs.VitcRead.{field_report};
 ghost use Rattle.tc_top.specs.CleanCopy.{CleansTheInput};
 ghost use Rattle.tc_top.specs.declared.exit.NoArguments.{NoArguments};
+ghost use Rattle.tc_top.specs.declared.exit.TheConstants.{NO_ARGUMENTS};
 ghost use Rattle.tc_top.specs.Exit.{exit_number};
 ghost use Rattle.tc_top.specs.Commands.{HasOwnLimit, meaning_of};
 ghost use Rattle.tc_top.specs.Promises.{IsPinned, Promise};
@@ -49,6 +50,7 @@ pub fn exit_numbers_are_these()
     ensures memory { (exit_number (Ok Status.Memory) ≡ 6) × (exit_number (Err NoArguments.Memory) ≡ 6) }
     ensures limit { exit_number (Ok Status.Limit) ≡ 7 }
     ensures no_arguments { exit_number (Err NoArguments.Other) ≡ 8 }
+    ensures eight { NO_ARGUMENTS ≡ 8 }
 {}
 
 /// What holds of every command holds of each job: what it writes of some bytes comes first, whatever bytes
