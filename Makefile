@@ -1,5 +1,5 @@
 # make               proves and builds bin/tc
-# make check         the quick checks, in two minutes: doors, documents, trail, made pages, exit numbers, examples and tapes on bin/tc
+# make check         the quick checks, in two minutes: doors, documents, trail, made pages, constants, exit numbers, examples and tapes on bin/tc
 # make gate          the gate (rt ci): proves every crate, tries the must-fail edits, runs tests and program
 # make dist          tc-VERSION.tar.gz of the last commit, which builds, tests and installs by itself
 # make install       program, manual pages, completions, documents and examples, under PREFIX (and DESTDIR, for packagers)
@@ -58,6 +58,7 @@ check:
 	tools/list_calls --check
 	tools/make_formats_page --check
 	tools/trusted --check
+	tools/check_constants
 	@[ -x bin/tc ] || { echo "bin/tc is not built: run make first" >&2; exit 1; }
 	tools/try_status
 	tools/run_examples

@@ -63,7 +63,9 @@ def read_wave(data, track):
         if letters == b"data":
             announced = size
             if not is_long:
-                if size == UNKNOWN or 2_147_479_296 <= size <= 2_147_483_647:
+                if size == UNKNOWN or 0x7FFF_0000 <= size <= 0x8000_0000:
+                    announced = None
+                elif size == 0 and little(data[4:8]) <= at:
                     announced = None
             elif size == UNKNOWN:
                 if long_size is None:

@@ -6,6 +6,7 @@ ghost use Rattle.biphase.specs.declared.cell.Cell.{Cell};
 ghost use Rattle.biphase.specs.declared.cell.TheConstants.{MAX_INTERVAL};
 ghost use Rattle.biphase.specs.declared.pair.PairKind.{PairKind};
 ghost use Rattle.biphase.specs.declared.profile.Profile.{Profile};
+ghost use Rattle.biphase.specs.declared.profile.TheConstants.{NORMAL, WORN, ROUGH};
 ghost use Rattle.biphase.specs.Latest.{Latest};
 ghost use Rattle.biphase.specs.declared.profile.Profile.TheVariants.{Normal, Worn, Rough};
 ghost use Rattle.biphase.specs.Tolerance.{kept_at_lock, kept_next, latest_with, sum_of, LooksAtLast};
@@ -22,6 +23,34 @@ ghost use Rattle.biphase.specs.Shape.{Shape, IsShape, shaped};
 /// The greatest length of an interval, in ticks: 24 bits.
 pub fn the_greatest_interval_is_this()
     ensures { MAX_INTERVAL ≡ 2 ^ 24 - 1 }
+{}
+
+/// The numbers of the three tolerances.
+pub fn the_profiles_have_these_numbers()
+    ensures normal { NORMAL ≡ record {
+      cell = 8;
+      half = 16;
+      equal = record { part = 2; whole = 3 };
+      unequal = record { part = 2; whole = 5 };
+      least_half = record { part = 3; whole = 8 };
+      greatest_half = record { part = 5; whole = 8 };
+    } }
+    ensures worn { WORN ≡ record {
+      cell = 6;
+      half = 12;
+      equal = record { part = 2; whole = 3 };
+      unequal = record { part = 3; whole = 8 };
+      least_half = record { part = 3; whole = 8 };
+      greatest_half = record { part = 2; whole = 3 };
+    } }
+    ensures rough { ROUGH ≡ record {
+      least_cell = record { part = 3; whole = 16 };
+      greatest_cell = record { part = 5; whole = 16 };
+      least_half = record { part = 3; whole = 40 };
+      greatest_half = record { part = 7; whole = 40 };
+      equal = record { part = 2; whole = 3 };
+      unequal = record { part = 1; whole = 3 };
+    } }
 {}
 
 /// The tests of the normal tolerance in numbers: cells within an eighth, halves within a sixteenth.

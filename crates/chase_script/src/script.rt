@@ -6,7 +6,7 @@ ghost use Rattle.chase_script.specs.Answer.{AreRowsFor, IsRefusal};
 
 use crate::fault::{RowFault, ScriptFault};
 use crate::row::{ScriptRow, row_in};
-use csv::{ByteRecord, ReaderBuilder};
+use csv::{ByteRecord, ErrorKind, ReaderBuilder};
 use std::alloc::{AllocError, Global};
 use tc_address::Count;
 
@@ -27,8 +27,17 @@ pub fn script_rows(alloc: Global, bytes: &[u8], count: Count) -> Result<Script, 
     let mut rows = Vec::new(alloc);
     let mut fields = ByteRecord::new(alloc);
     'records: for _record in 0..u64::MAX {
-        let Ok(found) = reader.read_byte_record(&mut fields) else {
-            return Err(ScriptFault::Memory(AllocError));
+        // Records of any length are asked for, as bytes, and from memory: only memory can be wanting.
+        let found = match reader.read_byte_record(&mut fields) {
+            Ok(found) => found,
+            Err(error) => match error.kind() {
+                ErrorKind::Io(_) | ErrorKind::OutOfMemory => {
+                    return Err(ScriptFault::Memory(AllocError));
+                }
+                ErrorKind::UnequalLengths { .. } => unreachable!(),
+                ErrorKind::Utf8 { .. } => unreachable!(),
+                ErrorKind::Serialize(_) | ErrorKind::Deserialize { .. } => unreachable!(),
+            },
         };
         if !found {
             return Ok(rows);

@@ -179,6 +179,21 @@ fn memory_is_had_whatever_the_length(rt: HostRuntime) -> Result<(), Fail> {
     Ok(())
 }
 
+#[test]
+fn memory_is_had_for_a_long_input(rt: HostRuntime) -> Result<(), Fail> {
+    let bytes = vec![in rt.alloc(); 7; 2_000_000]?;
+    let mut buf = [0; 4_096];
+    for len in [99_999, 100_000, 100_001, 1_048_577, 2_000_000] {
+        let mut source = MemorySource::new(rt.alloc(), &bytes[..len], &[len], &[len as u64])?;
+        assert_eq!(rt; source.pull(&mut buf), Ok(4_096), "{len} bytes");
+        let mut steady = SteadySource::new(rt.alloc(), &bytes[..len])?;
+        assert_eq!(rt; steady.pull(&mut buf), Ok(4_096), "{len} bytes");
+        let mut sink = MemorySink::new(rt.alloc(), len, &[len as u64])?;
+        assert_eq!(rt; push_all(&mut sink, &bytes[..len]), Ok(()), "{len} bytes");
+    }
+    Ok(())
+}
+
 /// What a pull makes of an answer of the reader.
 fn pulled(answer: Answer, len: usize) -> Result<usize, Failed> {
     match answer {

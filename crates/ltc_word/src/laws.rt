@@ -6,6 +6,7 @@ ghost use Rattle.tc_address.specs.declared.system.System.{System};
 ghost use Rattle.tc_address.specs.declared.system.System.TheVariants.{F24, F25, F30};
 ghost use Rattle.tc_address.specs.declared.count.Count.TheVariants.{C24, C25, C30, Drop30};
 ghost use Rattle.tc_bits.specs.declared.fault.FieldFault.{FieldFault};
+ghost use Rattle.ltc_word.specs.declared.places.TheConstants as places;
 ghost use Rattle.ltc_word.specs.declared.word.LtcWord.{LtcWord};
 ghost use Rattle.ltc_word.specs.declared.word.WordFault.TheVariants.{Field};
 ghost use Rattle.tc_address.specs.Count.{system_with};
@@ -18,6 +19,38 @@ ghost use Rattle.ltc_word.specs.Fault.{first_fault};
 ghost use Rattle.ltc_word.specs.Reversal.{EndsInSync, reversed_bits, HasTwelveOnes};
 
 use tc_bits::laws::{a_row_is_its_sum, digits_are_exact, fields_are_exact};
+
+/// Where each field stands in a word: its first bit, as the table of the standard has it, and the sync word.
+pub fn the_places_are_these()
+    ensures table { places.TABLE ≡ record {
+      frame_units = 0;
+      user_one = 4;
+      frame_tens = 8;
+      drop_frame = 10;
+      colour_frame = 11;
+      user_two = 12;
+      second_units = 16;
+      user_three = 20;
+      second_tens = 24;
+      user_four = 28;
+      minute_units = 32;
+      user_five = 36;
+      minute_tens = 40;
+      group_flag_zero = 43;
+      user_six = 44;
+      hour_units = 48;
+      user_seven = 52;
+      hour_tens = 56;
+      group_flag_one = 58;
+      group_flag_two = 59;
+      user_eight = 60;
+    } }
+    ensures twenty_seven { places.BIT_27 ≡ 27 }
+    ensures forty_three { places.BIT_43 ≡ 43 }
+    ensures fifty_nine { places.BIT_59 ≡ 59 }
+    ensures sync { places.SYNC ≡ record { first = 64; width = 16 } }
+    ensures pattern { places.SYNC_PATTERN ≡ 0xbffc }
+{}
 
 /// Each of the 80 bits belongs to exactly one place, in each system.
 pub fn each_bit_has_one_place()

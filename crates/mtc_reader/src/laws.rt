@@ -3,6 +3,7 @@ ghost use Rattle.std.specs.Prelude.{◌≡◌, ◌<◌, ◌++◌, ℕ, List, [],
 ghost use Rattle.tc_address.specs.declared.direction.Direction.TheVariants.{Forward, Backward};
 ghost use Rattle.tc_address.specs.declared.label.LabelFault.{LabelFault};
 ghost use Rattle.tc_address.specs.Label.{Address, IsFirstFault, IsLabel, is_label};
+ghost use Rattle.mtc_reader.specs.declared.eight.TheConstants.{NO_QUARTER};
 ghost use Rattle.mtc_reader.specs.declared.event.MtcEvent.{MtcEvent};
 ghost use Rattle.mtc_reader.specs.declared.event.MtcEvent.TheVariants.{Full, Quarter};
 ghost use Rattle.mtc_reader.specs.Events.{events_in, fault_of};
@@ -20,6 +21,11 @@ ghost use Rattle.mtc_reader.specs.Laws.{
   AreRealTime,
 };
 ghost use Rattle.mtc_reader.specs.Messages.{without_real_time};
+
+/// What stands for a quarter frame that did not come: a byte that no quarter frame has behind its status.
+pub fn no_quarter_frame_is_this()
+    ensures { NO_QUARTER ≡ 255 }
+{}
 
 /// System real-time bytes, wherever they are put in, change the places of events and nothing else of
 /// them. So two lists of bytes that differ in such bytes alone have the same events but for the places.

@@ -7,6 +7,7 @@ use Rattle.pcm_front.specs.declared.level.Level.{Level}
 use Rattle.pcm_front.specs.declared.side.Side.{Side}
 use Rattle.pcm_front.specs.declared.start.Start.{Start}
 use Rattle.pcm_front.specs.declared.start.Start.TheVariants.{Crossing, Tick}
+use Rattle.pcm_front.specs.declared.threshold.TheConstants.{MAX_THRESHOLD}
 use Rattle.pcm_front.specs.declared.threshold.Threshold.{Threshold}
 use Rattle.pcm_front.specs.declared.threshold.Threshold.TheVariants.{Fixed, Follow, Deep}
 use Rattle.pcm_front.specs.Level.{silent, next_level, threshold_by, HasSixteenBits, IsInRange, IsSum}
@@ -50,9 +51,9 @@ fresh fineness threshold start = state_of fineness threshold start 0 (pos 0) sil
 
 -- the numbers that a threshold may be: up to the sum of 16 that are 32,767
 abbrev pub IsThreshold : Threshold → Type 0
-IsThreshold (Fixed threshold) = (1 ≤ threshold) × (threshold ≤ 524_272)
-IsThreshold (Follow least) = (1 ≤ least) × (least ≤ 524_272)
-IsThreshold (Deep least) = (1 ≤ least) × (least ≤ 524_272)
+IsThreshold (Fixed threshold) = (1 ≤ threshold) × (threshold ≤ MAX_THRESHOLD)
+IsThreshold (Follow least) = (1 ≤ least) × (least ≤ MAX_THRESHOLD)
+IsThreshold (Deep least) = (1 ≤ least) × (least ≤ MAX_THRESHOLD)
 
 -- what is kept is in its range
 pub record IsKept (state : FinderState) : Type 0 where

@@ -9,6 +9,8 @@ ghost use Rattle.pcm_front.specs.declared.pace.Pace.{Pace};
 ghost use Rattle.pcm_front.specs.declared.side.Side.{Side};
 ghost use Rattle.pcm_front.specs.declared.threshold.Threshold.{Threshold};
 ghost use Rattle.pcm_front.specs.declared.threshold.Threshold.TheVariants.{Fixed, Follow, Deep};
+ghost use Rattle.pcm_front.specs.declared.threshold.TheConstants.{MAX_THRESHOLD};
+ghost use Rattle.pcm_front.specs.declared.window.TheConstants.{MAX_SMOOTH};
 ghost use Rattle.pcm_front.specs.Level.{level_of};
 ghost use Rattle.pcm_front.specs.Crossing.{apart, crossings, is_crossing, moments, tick_at, tick_in_step};
 ghost use Rattle.pcm_front.specs.Distance.{distances, distances_by, distances_from_start, gaps, intervals};
@@ -23,6 +25,12 @@ ghost use Rattle.pcm_front.specs.Sums.{sums};
 /// The greatest length of an interval, in ticks: 24 bits.
 pub fn the_greatest_interval_is_this()
     ensures { MAX_INTERVAL ≡ 2 ^ 24 - 1 }
+{}
+
+/// A sum has 16 samples at most, and a threshold is at most the sum of 16 samples that are 32,767.
+pub fn sums_and_thresholds_have_these_limits()
+    ensures sum { MAX_SMOOTH ≡ 16 }
+    ensures threshold { MAX_THRESHOLD ≡ 16 * 32767 }
 {}
 
 /// Where a sample below the threshold is followed by one that is not, the tick of the crossing is the

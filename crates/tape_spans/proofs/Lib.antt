@@ -1,6 +1,7 @@
 pub mod BridgedFrames
 pub mod Digits
 pub mod EvenDays
+mod Examples
 pub mod FinalLines
 pub mod SharedOut
 pub mod SpansGoOn

@@ -3,13 +3,24 @@
 //! `tc_top/src/top_call.rt`.
 #![tactic(auto)]
 
+ghost use Rattle.std.specs.Prelude.{◌≡◌};
+ghost use Rattle.std.specs.Process.{exit_status};
+ghost use Rattle.tc_top.specs.Exit.{exit_number};
+
 use std::process::ExitCode;
 use std::{env, io};
 use tc_io::{ReadSource, WriteSink};
 use tc_top::{NoArguments, Status, exit_number, run};
 
 fn main(rt: HostRuntime) -> ExitCode {
-    ExitCode::from(exit_number(work(&rt)))
+    exit_code(work(&rt))
+}
+
+/// The exit code that tells how the program ended.
+fn exit_code(ended: Result<Status, NoArguments>) -> ExitCode
+    ensures { exit_status result ≡ exit_number ended }
+{
+    ExitCode::from(exit_number(ended))
 }
 
 /// Runs the arguments over the standard streams.

@@ -1,10 +1,13 @@
-//! The limits that code and definitions share.
-ghost use Rattle.std.specs.Prelude.{◌≡◌, ◌-◌, ◌^◌};
+//! The limits that code and definitions share, how each command is typed, and a quarter of a frame.
+ghost use Rattle.std.specs.Prelude.{◌≡◌, ℕ, ◌-◌, ◌^◌, List, [], ◌∷◌, codes, map};
+ghost use Rattle.tc_address.specs.declared.system.System.TheVariants.{F24, F25, F30};
 ghost use Rattle.tc_job.specs.declared.chase_run.TheConstants.{MAX_SLIP};
 ghost use Rattle.tc_job.specs.declared.load_run.TheConstants.{MAX_WORDS};
 ghost use Rattle.tc_job.specs.declared.slicing.TheConstants.{MAX_FINENESS, MAX_LEVEL};
 ghost use Rattle.tc_job.specs.declared.stripe.TheConstants.{MAX_FRAMES, MAX_TICK_RATE};
+ghost use Rattle.tc_job.specs.declared.usages.TheConstants.{USAGES};
 ghost use Rattle.tc_job.specs.declared.wave_slicing.TheConstants.{MAX_TRACKS};
+ghost use Rattle.tc_job.specs.Pace.{quarter_frame};
 
 /// A run makes a million frames at most, in ticks of a clock of a hundred million a second at most; a
 /// load run reads a hundred thousand words at most. A sample has 64 ticks at most, and a size of 15 bits. A
@@ -17,4 +20,42 @@ pub fn the_limits_are_these()
     ensures tracks { MAX_TRACKS ≡ 64 }
     ensures words { MAX_WORDS ≡ 100000 }
     ensures slip { MAX_SLIP ≡ 1000 }
+{}
+
+/// The words of each command in its line of help.
+pub fn each_command_is_typed_so()
+    ensures { map {B = List ℕ × List ℕ} (λ row. (row.0.now, row.1.now)) USAGES
+        ≡ (codes "ltc-read", codes "")
+        ∷ (codes "ltc-worn", codes "")
+        ∷ (codes "ltc-rough", codes "")
+        ∷ (codes "ltc-fly", codes " LIMIT [worn|rough]")
+        ∷ (codes "ltc-spans", codes " LIMIT [worn|rough]")
+        ∷ (codes "ltc-mtc", codes " LIMIT [worn|rough]")
+        ∷ (codes "ltc-jam", codes " LIMIT CELL TICK-RATE [worn|rough]")
+        ∷ (codes "ltc-convert", codes " VERSION")
+        ∷ (codes "pcm-ltc", codes " SYSTEM RATE THRESHOLD [FINENESS [follow|deep [SMOOTH]]] [live]")
+        ∷ (codes "wav-ltc", codes " SYSTEM TRACK THRESHOLD [SMOOTH [deep]] [live]")
+        ∷ (codes "ltc-pcm", codes " LEVEL")
+        ∷ (codes "ltc-make", codes " COUNT DIRECTION LABEL FRAMES CELL TICK-RATE [TO-CELL STEP]")
+        ∷ (codes "ltc-load", codes " SEED WORDS")
+        ∷ (codes "mtc-read", codes "")
+        ∷ (codes "chase", codes " COUNT LABEL")
+        ∷ (codes "ltc-chase", codes " COUNT LABEL LIMIT SEED BOUND [worn|rough]")
+        ∷ (codes "vitc-read", codes "")
+        ∷ (codes "vitc-make", codes " COUNT LABEL FRAMES LENGTH")
+        ∷ (codes "number", codes " COUNT LABEL")
+        ∷ (codes "label", codes " COUNT NUMBER")
+        ∷ (codes "help", codes "")
+        ∷ (codes "version", codes "")
+        ∷ [] }
+{}
+
+/// A quarter of a frame at 48,000 ticks a second; where it is less than a tick or longer than an interval, it is the
+/// least or the greatest interval.
+pub fn a_quarter_of_a_frame_is_this()
+    ensures at_24 { quarter_frame F24 48000 ≡ 500 }
+    ensures at_25 { quarter_frame F25 48000 ≡ 480 }
+    ensures at_30 { quarter_frame F30 48000 ≡ 400 }
+    ensures least { quarter_frame F25 99 ≡ 1 }
+    ensures rounded { quarter_frame F25 48099 ≡ 480 }
 {}

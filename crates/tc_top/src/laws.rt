@@ -14,6 +14,7 @@ ghost use Rattle.made_commands.specs.Made.{made, made_cells, made_events, made_h
 ghost use Rattle.made_commands.specs.MadeLines.{made_lines, made_words};
 ghost use Rattle.signal_commands.specs.VitcRead.{field_report};
 ghost use Rattle.tc_top.specs.declared.exit.NoArguments.{NoArguments};
+ghost use Rattle.tc_top.specs.declared.exit.TheConstants.{NO_ARGUMENTS};
 ghost use Rattle.tc_top.specs.Exit.{exit_number};
 ghost use Rattle.tc_top.specs.Commands.{meaning_of, told_of};
 
@@ -31,6 +32,7 @@ pub fn exit_numbers_are_these()
     ensures memory { (exit_number (Ok Status.Memory) ≡ 6) × (exit_number (Err NoArguments.Memory) ≡ 6) }
     ensures limit { exit_number (Ok Status.Limit) ≡ 7 }
     ensures no_arguments { exit_number (Err NoArguments.Other) ≡ 8 }
+    ensures eight { NO_ARGUMENTS ≡ 8 }
 {}
 
 /// An input leaves a job one status where no call fails. A limit of the command's own comes first, and

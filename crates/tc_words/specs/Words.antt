@@ -1,5 +1,5 @@
 -- The task of a list of words, or their first fault.
-use Rattle.std.specs.Prelude.{List, [], ◌∷◌, Some, None, Result, Ok, Err, if◌then◌else◌}
+use Rattle.std.specs.Prelude.{◌≡◌, ◌⊎◌, IsSome, List, [], ◌∷◌, Some, None, Result, Ok, Err, if◌then◌else◌}
 use Rattle.std.specs.Prelude.{◌||◌, codes, length, nat_eq, nat_lt, position, slice_get}
 use Rattle.std.specs.Str.{bytes_eq}
 use Rattle.biphase.specs.declared.profile.Profile.TheVariants.{Normal}
@@ -159,3 +159,7 @@ without_dashes (command ∷ values) = task_of command values
 -- a dash in any word is the first fault, then the command, then the count of words, then the values
 abbrev pub answer_to : List Word → Result Task WordsFault
 answer_to words = elim (position begins_with_dash words) [ Some place ↦ Err (Dash place) | None ↦ without_dashes words ]
+
+-- words that are refused without any memory: none, or some of which one begins with a dash
+abbrev pub IsRefusedAtOnce : List Word → Type 0
+IsRefusedAtOnce words = (words ≡ []) ⊎ IsSome (position begins_with_dash words)

@@ -4,12 +4,12 @@
 //! The words that may follow are matched behind those that always stand, so that each word is read
 //! once, and a value that is missing ends the reading by `let .. else`, which proves faster than
 //! `ok_or(..)?`.
-ghost use Rattle.std.specs.Prelude.{◌≡◌, ◌⊎◌, map, position, string_bytes, alloc_error};
+ghost use Rattle.std.specs.Prelude.{◌≡◌, ◌⊎◌, length, map, position, string_bytes, alloc_error};
 ghost use Rattle.command_words.specs.CommandLine.{begins_with_dash};
 ghost use Rattle.tc_job.specs.declared.job.Job.TheVariants as jobs;
 ghost use Rattle.tc_words.specs.Flight.{flight_in};
 ghost use Rattle.tc_words.specs.Values.{map_ok};
-ghost use Rattle.tc_words.specs.Words.{answer_to, without_dashes, job_of, no_values};
+ghost use Rattle.tc_words.specs.Words.{answer_to, without_dashes, IsRefusedAtOnce, job_of, no_values};
 ghost use Rattle.tc_words.specs.Words.{ltc_jam, ltc_chase, number, label_of, ltc_make};
 ghost use Rattle.tc_words.specs.Words.{ltc_convert, pcm_ltc, wav_ltc, ltc_pcm, task_of, chase, ltc_load, vitc_make};
 
@@ -33,7 +33,9 @@ use tc_job::{
 
 /// The task of the words, or their first fault. Word 0 is the command.
 pub fn read_words(alloc: Global, words: &[String]) -> Result<Task, WordsFault>
-    ensures { (result ≡ answer_to (map string_bytes words.now)) ⊎ (result ≡ Err (WordsFault.Memory alloc_error)) }
+    ensures answer { (result ≡ answer_to (map string_bytes words.now))
+        ⊎ (result ≡ Err (WordsFault.Memory alloc_error)) }
+    ensures at_once { IsRefusedAtOnce (map string_bytes words.now) → result ≡ answer_to (map string_bytes words.now) }
 {
     match first_dash(words) {
         Some(place) => Err(WordsFault::Dash(place)),
@@ -45,7 +47,9 @@ pub fn read_words(alloc: Global, words: &[String]) -> Result<Task, WordsFault>
 #[tactic(auto, using(crate::proofs::FirstDash::no_dashes))]
 fn without_dashes(alloc: Global, words: &[String]) -> Result<Task, WordsFault>
     requires { position begins_with_dash (map string_bytes words.now) ≡ None }
-    ensures { (result ≡ without_dashes (map string_bytes words.now)) ⊎ (result ≡ Err (WordsFault.Memory alloc_error)) }
+    ensures answer { (result ≡ without_dashes (map string_bytes words.now))
+        ⊎ (result ≡ Err (WordsFault.Memory alloc_error)) }
+    ensures none { length words.now ≡ 0 → result ≡ Err WordsFault.Command }
 {
     if words.is_empty() {
         return Err(WordsFault::Command);

@@ -6,6 +6,7 @@ ghost use Rattle.tc_address.specs.declared.system.System.TheVariants.{F25, F30};
 ghost use Rattle.tc_address.specs.declared.count.Count.TheVariants.{C25, C30, Drop30};
 ghost use Rattle.tc_address.specs.Count.{system_with};
 ghost use Rattle.tc_bits.specs.Fields.{IsFields};
+ghost use Rattle.vitc_line.specs.declared.places.TheConstants as places;
 ghost use Rattle.vitc_line.specs.declared.word.LineFault.{LineFault};
 ghost use Rattle.vitc_line.specs.declared.word.VitcWord.{VitcWord};
 ghost use Rattle.vitc_line.specs.Places.{are_shared_out, places_of};
@@ -14,6 +15,38 @@ ghost use Rattle.vitc_line.specs.Spelling.{Spells, word_with, flags};
 ghost use Rattle.vitc_line.specs.Fault.{first_fault};
 
 use tc_bits::laws::{a_row_is_its_sum, digits_are_exact, fields_are_exact};
+
+/// Where each field stands in a line: its first bit, as the table of the standard has it; the check, and a sync pair.
+pub fn the_places_are_these()
+    ensures table { places.TABLE ≡ record {
+      frame_units = 2;
+      user_one = 6;
+      frame_tens = 12;
+      drop_frame = 14;
+      colour_frame = 15;
+      user_two = 16;
+      second_units = 22;
+      user_three = 26;
+      second_tens = 32;
+      user_four = 36;
+      minute_units = 42;
+      user_five = 46;
+      minute_tens = 52;
+      group_flag_zero = 55;
+      user_six = 56;
+      hour_units = 62;
+      user_seven = 66;
+      hour_tens = 72;
+      group_flag_one = 74;
+      group_flag_two = 75;
+      user_eight = 76;
+    } }
+    ensures thirty_five { places.BIT_35 ≡ 35 }
+    ensures fifty_five { places.BIT_55 ≡ 55 }
+    ensures seventy_five { places.BIT_75 ≡ 75 }
+    ensures check { places.CHECK ≡ record { first = 82; width = 8 } }
+    ensures pair { places.SYNC_PAIR ≡ 1 }
+{}
 
 /// Each of the 90 bits belongs to exactly one place, in each system.
 pub fn each_bit_has_one_place()

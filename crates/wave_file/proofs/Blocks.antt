@@ -22,7 +22,7 @@ use Rattle.tc_io.specs.Verdict.{Verdict, good, past_limit}
 use Rattle.wave_file.proofs.Pieces.{nat_le_same}
 use Rattle.wave_file.specs.declared.fault.WaveFault.{WaveFault}
 
-same_reading : (f : Option WaveFormat) (s t : List ℤ) (v w : Verdict WaveFault) (m n : Bool) → s ≡ t → v ≡ w → m ≡ n
+pub same_reading : (f : Option WaveFormat) (s t : List ℤ) (v w : Verdict WaveFault) (m n : Bool) → s ≡ t → v ≡ w → m ≡ n
     → let a : Reading = record { format = f; samples = s; verdict = v; may_end = m } in
     let b : Reading = record { format = f; samples = t; verdict = w; may_end = n } in a ≡ b
 same_reading f s t v w m n p q r = rw (p, q, r) refl

@@ -190,7 +190,7 @@ unfolding samples_at
 waiting track notes place Riff part is less = none_yet track notes place Riff part refl refl
     (short 4 (λ letters rest. behind_form track (form_of (big_number 4 letters)) rest) part less)
 waiting track notes place (Wave l) part is less = none_yet track notes place (Wave l) part refl refl
-    (short 8 (λ wave rest. if big_number 4 (drop 4 wave) == WAVE then chunks_at track 0 (no_notes l) 12 rest else bad (fault.Wave 8)) part less)
+    (short 8 (λ wave rest. if big_number 4 (drop 4 wave) == WAVE then chunks_at track 0 (no_notes l (little_number 4 wave)) 12 rest else bad (fault.Wave 8)) part less)
 waiting track notes place (Chunk skip) part is less = none_yet track notes place (Chunk skip) part refl refl (short_head track notes place skip part less)
 waiting track notes place (Format size) part is less = none_yet track notes place (Format size) part refl refl
     (short (judged_width size)

@@ -172,17 +172,18 @@ file_goes_on track bytes more =
     let brings = λ (letters rest : List ℕ). behind_form track (form_of (big_number 4 letters)) rest in
     piece_goes_on 4 brings brings bytes more (λ letters rest. by_form (form_of (big_number 4 letters)) rest)
   where
-    by_letters : (b is_long : Bool) (rest : List ℕ) → GoesOn (if b then chunks_at track 0 (no_notes is_long) 12 rest else bad (fault.Wave 8))
-        (if b then chunks_at track 0 (no_notes is_long) 12 (rest ++ more) else bad (fault.Wave 8))
-    by_letters true is_long rest = chunks_go_on track 0 (no_notes is_long) 12 rest more
-    by_letters false is_long rest = same_goes_on _
+    by_letters : (b is_long : Bool) (size : ℕ) (rest : List ℕ) → GoesOn (if b then chunks_at track 0 (no_notes is_long size) 12 rest else bad (fault.Wave 8))
+        (if b then chunks_at track 0 (no_notes is_long size) 12 (rest ++ more) else bad (fault.Wave 8))
+    by_letters true is_long size rest = chunks_go_on track 0 (no_notes is_long size) 12 rest more
+    by_letters false is_long size rest = same_goes_on _
 
     by_form : (form : Option Bool) (rest : List ℕ) → GoesOn (behind_form track form rest) (behind_form track form (rest ++ more))
     by_form None rest = same_goes_on _
     by_form (Some is_long) rest =
-        let brings = λ (wave rest : List ℕ). if big_number 4 (drop 4 wave) == WAVE then chunks_at track 0 (no_notes is_long) 12 rest
+        let brings = λ (wave rest : List ℕ). if big_number 4 (drop 4 wave) == WAVE
+        then chunks_at track 0 (no_notes is_long (little_number 4 wave)) 12 rest
         else bad (fault.Wave 8) in
-        piece_goes_on 8 brings brings rest more (λ wave rest. by_letters (big_number 4 (drop 4 wave) == WAVE) is_long rest)
+        piece_goes_on 8 brings brings rest more (λ wave rest. by_letters (big_number 4 (drop 4 wave) == WAVE) is_long (little_number 4 wave) rest)
 
 -- past the greatest number of bytes nothing that was shown changes
 cut_goes_on : (r s : Reading) → GoesOn r s → GoesOn r (record s { verdict = and_more s.verdict; may_end = false })
@@ -269,16 +270,17 @@ few_in_file : (track : ℕ) (bytes : List ℕ) → IsWithin (file_at track bytes
 few_in_file track bytes =
     few_in_piece 4 (λ letters rest. behind_form track (form_of (big_number 4 letters)) rest) bytes (λ letters rest. by_form (form_of (big_number 4 letters)) rest)
   where
-    by_letters : (b is_long : Bool) (rest : List ℕ) → IsWithin (if b then chunks_at track 0 (no_notes is_long) 12 rest else bad (fault.Wave 8))
-    by_letters true is_long rest = few_in_chunks track 0 (no_notes is_long) 12 rest
-    by_letters false is_long rest = few_bad (fault.Wave 8)
+    by_letters : (b is_long : Bool) (size : ℕ) (rest : List ℕ) → IsWithin (if b then chunks_at track 0 (no_notes is_long size) 12 rest else bad (fault.Wave 8))
+    by_letters true is_long size rest = few_in_chunks track 0 (no_notes is_long size) 12 rest
+    by_letters false is_long size rest = few_bad (fault.Wave 8)
 
     by_form : (form : Option Bool) (rest : List ℕ) → IsWithin (behind_form track form rest)
     by_form None rest = few_bad (fault.Riff 0)
     by_form (Some is_long) rest =
-        let brings = λ (wave rest : List ℕ). if big_number 4 (drop 4 wave) == WAVE then chunks_at track 0 (no_notes is_long) 12 rest
+        let brings = λ (wave rest : List ℕ). if big_number 4 (drop 4 wave) == WAVE
+        then chunks_at track 0 (no_notes is_long (little_number 4 wave)) 12 rest
         else bad (fault.Wave 8) in
-        few_in_piece 8 brings rest (λ wave rest. by_letters (big_number 4 (drop 4 wave) == WAVE) is_long rest)
+        few_in_piece 8 brings rest (λ wave rest. by_letters (big_number 4 (drop 4 wave) == WAVE) is_long (little_number 4 wave) rest)
 
 pub few_samples : (track : ℕ) (bytes : List ℕ) → IsWithin (reading_of track bytes)
 few_samples track bytes = by_test (nat_le (length bytes) MAX_BYTES)

@@ -11,6 +11,7 @@ use Rattle.wave_file.specs.declared.chunk.Extent.{Extent}
 use Rattle.wave_file.specs.declared.chunk.Extent.TheVariants as extent
 use Rattle.wave_file.specs.declared.chunk.Notes.{Notes}
 use Rattle.wave_file.specs.declared.chunk.TheConstants.{RIFF, RF64, BW64, FORMAT, SIZES, DATA, NO_SIZE}
+use Rattle.wave_file.specs.declared.chunk.TheConstants.{LEAST_OPEN_SIZE, GREATEST_OPEN_SIZE}
 
 -- the first four letters: RF64 and BW64 have their sizes in 64 bits
 abbrev pub form_of : ℕ → Option Bool
@@ -20,14 +21,19 @@ form_of letters =
     else if letters == BW64 then Some true
     else None
 
--- no chunk yet
-abbrev pub no_notes : Bool → Notes
-no_notes is_long = record { is_long = is_long; format = None; data_size = None }
+-- no chunk yet: the form, and the size behind its letters
+abbrev pub no_notes : Bool → ℕ → Notes
+no_notes is_long file_size = record { is_long = is_long; file_size = file_size; format = None; data_size = None }
 
--- the sizes that programs write in RIFF where they do not know the length: ffmpeg the greatest one, sox and ALSA one a
--- little below 2 to the 31st
+-- the great sizes that programs write in RIFF where they do not know the length: ffmpeg the greatest one, sox, ALSA and
+-- GStreamer one about 2 to the 31st
 abbrev pub is_open_size : ℕ → Bool
-is_open_size size = (size == NO_SIZE) || (nat_le 2_147_479_296 size && nat_le size 2_147_483_647)
+is_open_size size = (size == NO_SIZE) || (nat_le LEAST_OPEN_SIZE size && nat_le size GREATEST_OPEN_SIZE)
+
+-- or they write no size, as flac and mpg123 do: 0, where the size of the file, which counts what stands behind its
+-- first eight bytes, is 0 too, or that of the bytes up to the head of the data at this place
+abbrev pub is_open : Notes → ℕ → ℕ → Bool
+is_open notes place size = is_open_size size || ((size == 0) && nat_le notes.file_size place)
 
 -- how far data go whose size stands in ds64: 0 there says that the length was not known
 abbrev pub long_extent : Option ℕ → Option Extent
@@ -35,10 +41,10 @@ long_extent None = None
 long_extent (Some zero) = Some extent.Open
 long_extent (Some (suc n)) = Some (extent.Announced (suc n))
 
--- how far data of this size go, where that is said
-abbrev pub extent_of : Notes → ℕ → Option Extent
-extent_of notes size =
-    if not notes.is_long then (if is_open_size size then Some extent.Open else Some (extent.Announced size))
+-- how far data of this size at a place go, where that is said
+abbrev pub extent_of : Notes → ℕ → ℕ → Option Extent
+extent_of notes place size =
+    if not notes.is_long then (if is_open notes place size then Some extent.Open else Some (extent.Announced size))
     else if not (size == NO_SIZE) then Some (extent.Announced size)
     else long_extent notes.data_size
 
@@ -49,7 +55,7 @@ data_with place (Some extent) None = Err (fault.Format place)
 data_with place (Some extent) (Some format) = Ok (chunk.Data format extent)
 
 abbrev pub data_in : Notes → ℕ → ℕ → Result Chunk WaveFault
-data_in notes place size = data_with place (extent_of notes size) notes.format
+data_in notes place size = data_with place (extent_of notes place size) notes.format
 
 -- the chunk that letters and a size begin at a place, behind other chunks; or their fault
 abbrev pub chunk_of : Notes → ℕ → ℕ → ℕ → Result Chunk WaveFault

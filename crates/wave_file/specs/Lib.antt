@@ -2,6 +2,7 @@ pub mod Chunk
 pub mod Fault
 pub mod Format
 pub mod GoesOn
+pub mod Grammar
 pub mod Stage
 pub mod StandsFor
 pub mod Step

@@ -32,7 +32,7 @@ decoding_of track notes place stage part =
 
 -- of no bytes
 abbrev pub no_decoding : ℕ → Decoding
-no_decoding track = decoding_of track (no_notes false) 0 Riff []
+no_decoding track = decoding_of track (no_notes false 0) 0 Riff []
 
 -- how many bytes were taken
 abbrev pub bytes_taken : Decoding → ℕ

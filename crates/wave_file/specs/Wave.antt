@@ -106,11 +106,11 @@ chunks_at track skip notes place bytes = unfinished
 
 -- ---- the file
 
--- a size that is not looked at, the letters WAVE, and the chunks
+-- the size of what follows it, the letters WAVE, and the chunks
 abbrev pub wave_at : ℕ → Bool → List ℕ → Reading
 wave_at track is_long bytes =
-    piece 8 (λ wave rest. if big_number 4 (drop 4 wave) == WAVE then chunks_at track 0 (no_notes is_long) 12 rest
-    else bad (fault.Wave 8)) bytes
+    piece 8 (λ wave rest. if big_number 4 (drop 4 wave) == WAVE
+    then chunks_at track 0 (no_notes is_long (little_number 4 wave)) 12 rest else bad (fault.Wave 8)) bytes
 
 abbrev pub behind_form : ℕ → Option Bool → List ℕ → Reading
 behind_form track None bytes = bad (fault.Riff 0)

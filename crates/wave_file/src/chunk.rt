@@ -1,6 +1,7 @@
 //! What the letters and the size of a chunk begin. Next: `stage`.
 ghost use Rattle.std.specs.Prelude.{◌≡◌, ℕ, IfOk};
-ghost use Rattle.wave_file.specs.Chunk.{chunk_of, data_in, extent_of, form_of, is_open_size, IsChunkFor, IsNoted};
+ghost use Rattle.wave_file.specs.Chunk.{chunk_of, data_in, extent_of, form_of, is_open, is_open_size};
+ghost use Rattle.wave_file.specs.Chunk.{IsChunkFor, IsNoted};
 
 use crate::fault::WaveFault;
 use crate::format::{MIN_FORMAT_LENGTH, WaveFormat};
@@ -32,11 +33,19 @@ pub const SIZES_LENGTH: u32 = 16;
 /// A size that stands in `ds64`, or that is not known.
 pub const NO_SIZE: u32 = 0xffff_ffff;
 
+/// The least of the sizes about 2 to the 31st by which programs say that they do not know the length.
+pub const LEAST_OPEN_SIZE: u32 = 0x7fff_0000;
+
+/// The greatest of them.
+pub const GREATEST_OPEN_SIZE: u32 = 0x8000_0000;
+
 /// What the chunks so far say.
 #[derive(Clone, Copy)]
 pub struct Notes {
     /// The file is RF64 or BW64, so the size of its data may have 64 bits.
     pub is_long: bool,
+    /// The size behind the first letters: how many bytes follow it.
+    pub file_size: u32,
     /// The last format.
     pub format: Option<WaveFormat>,
     /// The last size of the data of 64 bits.
@@ -72,19 +81,26 @@ pub(crate) fn form_of(letters: u32) -> Option<bool>
     }
 }
 
-/// Whether a writer that did not know the length wrote this size in a `RIFF` file.
+/// Whether a size about 2 to the 31st, or the greatest one, says that the length is not known.
 fn is_open_size(size: u32) -> bool
     ensures { result ≡ is_open_size size }
 {
-    size == NO_SIZE || (2_147_479_296 <= size && size <= 2_147_483_647)
+    size == NO_SIZE || (LEAST_OPEN_SIZE <= size && size <= GREATEST_OPEN_SIZE)
 }
 
-/// How far data of this size go, where that is said.
-fn extent_of(notes: &Notes, size: u32) -> Option<Extent>
-    ensures { result ≡ extent_of notes.now size }
+/// Whether a writer that did not know the length wrote this size of data at a place in a `RIFF` file.
+fn is_open(notes: &Notes, place: u64, size: u32) -> bool
+    ensures { result ≡ is_open notes.now place size }
+{
+    is_open_size(size) || (size == 0 && u64::from(notes.file_size) <= place)
+}
+
+/// How far data of this size at a place go, where that is said.
+fn extent_of(notes: &Notes, place: u64, size: u32) -> Option<Extent>
+    ensures { result ≡ extent_of notes.now place size }
 {
     if !notes.is_long {
-        if is_open_size(size) {
+        if is_open(notes, place, size) {
             Some(Extent::Open)
         } else {
             Some(Extent::Announced(u64::from(size)))
@@ -105,7 +121,7 @@ fn data_in(notes: &Notes, place: u64, size: u32) -> Result<Chunk, WaveFault>
     ensures value { result ≡ data_in notes.now place size }
     ensures chunk { (track : ℕ) → IsNoted track notes.now → IfOk result (λ chunk. IsChunkFor track chunk) }
 {
-    match extent_of(notes, size) {
+    match extent_of(notes, place, size) {
         None => Err(WaveFault::Ds64(place)),
         Some(extent) => match notes.format {
             None => Err(WaveFault::Format(place)),

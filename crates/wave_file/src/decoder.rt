@@ -72,6 +72,7 @@ impl WaveDecoder {
             track,
             notes: Notes {
                 is_long: false,
+                file_size: 0,
                 format: None,
                 data_size: None,
             },

@@ -1,18 +1,27 @@
 //! The numbers that code and definitions share, as the standards give them; and what follows from the
 //! definitions alone.
-ghost use Rattle.std.specs.Prelude.{◌≡◌, ◌^◌, ℕ, ℤ, List, [], ◌∷◌, ◌++◌};
+ghost use Rattle.std.specs.Prelude.{◌≡◌, ◌⊎◌, ◌≤◌, ◌<◌, ◌+◌, ◌-◌, ◌^◌, ℕ, ℤ, true, false, List, [], ◌∷◌, ◌++◌};
+ghost use Rattle.std.specs.Prelude.{codes, length};
 ghost use Rattle.byteorder.specs.Endian.{big_number};
 ghost use Rattle.wave_file.specs.declared.chunk.TheConstants as chunk;
+ghost use Rattle.wave_file.specs.declared.format.TheConstants.{MAX_RATE, MAX_TRACKS};
+ghost use Rattle.wave_file.specs.declared.names.TheConstants as names;
 ghost use Rattle.wave_file.specs.declared.stage.TheConstants.{MAX_BYTES, MAX_SAMPLES};
+ghost use Rattle.wave_file.specs.Chunk.{is_open, is_open_size, no_notes};
+ghost use Rattle.wave_file.specs.declared.format.WaveFormat.{WaveFormat};
 ghost use Rattle.wave_file.specs.GoesOn.{GoesOn, IsWithin};
+ghost use Rattle.wave_file.specs.Grammar.{AreParts, OtherChunk, Sample, data_text, file_of, long_file_of};
+ghost use Rattle.wave_file.specs.Grammar.{others_text, read_whole, track_of};
 ghost use Rattle.wave_file.specs.StandsFor.{Decoding, StandsFor, IsDecoding, IsTold, format_in_decoding};
 ghost use Rattle.wave_file.specs.Wave.{reading_of};
 ghost use Rattle.tc_io.specs.Verdict.{good};
 
-/// 2 to the 40th samples, and 2 to the 62nd bytes.
+/// 2 to the 40th samples, and 2 to the 62nd bytes; 64 tracks, and 6,250,000 samples a second.
 pub fn the_limits_are_these()
     ensures samples { MAX_SAMPLES ≡ 2 ^ 40 }
     ensures bytes { MAX_BYTES ≡ 2 ^ 62 }
+    ensures tracks { MAX_TRACKS ≡ 64 }
+    ensures rate { MAX_RATE ≡ 6250000 }
 {}
 
 /// The letters of the file and of its chunks, in ASCII: `RIFF`, `RF64`, `BW64`, `WAVE`, `fmt `, `ds64`
@@ -25,6 +34,34 @@ pub fn the_letters_are_these()
     ensures fmt { chunk.FORMAT ≡ big_number 4 (102 ∷ 109 ∷ 116 ∷ 32 ∷ []) }
     ensures ds64 { chunk.SIZES ≡ big_number 4 (100 ∷ 115 ∷ 54 ∷ 52 ∷ []) }
     ensures samples { chunk.DATA ≡ big_number 4 (100 ∷ 97 ∷ 116 ∷ 97 ∷ []) }
+{}
+
+/// In RIFF these sizes of data tell no length: the greatest number, those from 2,147,418,112 to
+/// 2,147,483,648, and at byte 36 that of 0 where the file tells a size of at most 36. Their neighbours do.
+pub fn these_sizes_tell_no_length()
+    ensures greatest { chunk.NO_SIZE ≡ 2 ^ 32 - 1 }
+    ensures least { chunk.LEAST_OPEN_SIZE ≡ 2 ^ 31 - 2 ^ 16 }
+    ensures most { chunk.GREATEST_OPEN_SIZE ≡ 2 ^ 31 }
+    ensures open { is_open_size (2 ^ 32 - 1) ≡ true }
+    ensures below_greatest { is_open_size (2 ^ 32 - 2) ≡ false }
+    ensures from { is_open_size 2147418112 ≡ true }
+    ensures below { is_open_size 2147418111 ≡ false }
+    ensures to { is_open_size 2147483648 ≡ true }
+    ensures above { is_open_size 2147483649 ≡ false }
+    ensures none { is_open (no_notes false 0) 36 0 ≡ true }
+    ensures header { is_open (no_notes false 36) 36 0 ≡ true }
+    ensures more { is_open (no_notes false 37) 36 0 ≡ false }
+    ensures some { is_open (no_notes false 36) 36 1 ≡ false }
+{}
+
+/// The faults of a sound file have these names in notes.
+pub fn each_fault_has_its_name()
+    ensures riff { names.RIFF_NAME.now ≡ codes "riff" }
+    ensures wave { names.WAVE_NAME.now ≡ codes "wave" }
+    ensures ds64 { names.DS64_NAME.now ≡ codes "ds64" }
+    ensures format { names.FORMAT_NAME.now ≡ codes "format" }
+    ensures track { names.TRACK_NAME.now ≡ codes "track" }
+    ensures truncated { names.TRUNCATED_NAME.now ≡ codes "truncated" }
 {}
 
 /// Bytes that a decoder took are good; its format is theirs, and the samples that it gave are theirs.
@@ -43,4 +80,25 @@ pub fn what_a_sound_file_shows_stays()
 /// input may not end.
 pub fn samples_are_few_and_behind_a_format()
     ensures { (track : ℕ) (bytes : List ℕ) → IsWithin (reading_of track bytes) }
+{}
+
+/// A file that was made of blocks is read as its format and the samples of a track, whatever stands before its
+/// format and behind its data, and the input may end there: in RIFF where the size of its data stands in it, and
+/// where it tells no length and nothing follows the data; in RF64 and BW64 where the size stands in `ds64`.
+pub fn a_file_is_read_as_it_was_written()
+    ensures told { (track file_size : ℕ) (before : List OtherChunk) (format : WaveFormat) (blocks : List (List Sample))
+        (tail : List ℕ) → let size = length (data_text blocks) in
+        let file = file_of file_size before format size blocks tail in
+        AreParts track before format blocks → 1 ≤ length blocks → file_size < 2 ^ 32 → size < 2 ^ 31 - 2 ^ 16
+        → length file ≤ MAX_BYTES → reading_of track file ≡ read_whole format (track_of track blocks) }
+    ensures streamed { (track file_size size : ℕ) (before : List OtherChunk) (format : WaveFormat)
+        (blocks : List (List Sample)) → let file = file_of file_size before format size blocks [] in
+        AreParts track before format blocks → file_size < 2 ^ 32 → size < 2 ^ 32
+        → is_open (no_notes false file_size) (36 + length (others_text before)) size ≡ true
+        → length file ≤ MAX_BYTES → reading_of track file ≡ read_whole format (track_of track blocks) }
+    ensures long { (track form file_size : ℕ) (before : List OtherChunk) (format : WaveFormat)
+        (blocks : List (List Sample)) (tail : List ℕ) → let size = length (data_text blocks) in
+        let file = long_file_of form file_size size before format blocks tail in
+        AreParts track before format blocks → 1 ≤ length blocks → (form ≡ chunk.RF64) ⊎ (form ≡ chunk.BW64)
+        → size < 2 ^ 64 → length file ≤ MAX_BYTES → reading_of track file ≡ read_whole format (track_of track blocks) }
 {}

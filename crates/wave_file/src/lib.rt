@@ -15,9 +15,11 @@
 //!   A fault and the limit are told for all bytes that begin with these.
 //! - Bytes that a decoder took are good, and their format and samples are those that it gave
 //!   (`WaveDecoder::format`, clause `told`; `laws`).
+//! - A file that was made of samples is read as these, whatever other chunks it has, in each size of samples
+//!   (`specs/Grammar.antt`, `file_of` and `long_file_of`; `laws::a_file_is_read_as_it_was_written`).
 //!
-//! Read `fault`, `format`, `sample`, `chunk`, `stage` and `decoder`, in this order, and `specs/Wave.antt`
-//! beside them. Nothing here allocates.
+//! Read `fault`, `format`, `sample`, `chunk`, `stage` and `decoder`, in this order, and `specs/Grammar.antt`
+//! and `Wave.antt` beside them. Nothing here allocates.
 #![tactic(auto)]
 
 mod chunk;

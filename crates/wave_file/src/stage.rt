@@ -180,7 +180,7 @@ fn behind_form(piece: &[u8]) -> Step
     match form_of(BigEndian::read_u32(piece)) {
         None => Step::Fault(WaveFault::Riff(0)),
         Some(is_long) => Step::Next {
-            notes: no_notes(is_long),
+            notes: no_notes(is_long, 0),
             stage: Stage::Wave { is_long },
         },
     }
@@ -193,7 +193,7 @@ fn behind_wave(is_long: bool, piece: &[u8]) -> Step
 {
     if BigEndian::read_u32(&piece[4..]) == WAVE {
         Step::Next {
-            notes: no_notes(is_long),
+            notes: no_notes(is_long, LittleEndian::read_u32(piece)),
             stage: Stage::Chunk { skip: 0 },
         }
     } else {
@@ -241,6 +241,7 @@ fn behind_format(track: u32, notes: &Notes, place: u64, size: u32, piece: &[u8])
         Ok(format) => Step::Next {
             notes: Notes {
                 is_long: notes.is_long,
+                file_size: notes.file_size,
                 format: Some(format),
                 data_size: notes.data_size,
             },
@@ -260,6 +261,7 @@ fn behind_sizes(notes: &Notes, size: u32, piece: &[u8]) -> Step
     Step::Next {
         notes: Notes {
             is_long: notes.is_long,
+            file_size: notes.file_size,
             format: notes.format,
             data_size: Some(long_size_in(piece)),
         },
@@ -322,11 +324,12 @@ fn padded(size: u32) -> u64
 }
 
 /// Of no chunks.
-fn no_notes(is_long: bool) -> Notes
-    ensures { result ≡ no_notes is_long }
+fn no_notes(is_long: bool, file_size: u32) -> Notes
+    ensures { result ≡ no_notes is_long file_size }
 {
     Notes {
         is_long,
+        file_size,
         format: None,
         data_size: None,
     }

@@ -20,6 +20,7 @@ records-init c =
       trim = rw (f, e) at fr.trim ∙ c.new.ensures.trim;
       ready = inr (inr (rw (f, e) at fr.has_headers, fr.headers));
       config = rw (f, e) at fr.config ∙ c.new.ensures.config;
+      flexible = rw f at fr.flexible;
       fit = tt;
       left = strip_bom c.args.bytes.now;
       source = fr.source;
@@ -27,18 +28,18 @@ records-init c =
     })
 
 -- the record that was read is refused
-pub returns-in-Err-clause-refuses : goal.returns-in-Err-clause-refuses
+pub returns-in-Err-row_in-clause-refuses : goal.returns-in-Err-row_in-clause-refuses
 unfolding Reached
-returns-in-Err-clause-refuses c =
+returns-in-Err-row_in-clause-refuses c =
     let inv = c.records.invariant in
     let read = rw c.if-not-found.false at c.in-Ok.ensures.reads inv.trim inv.ready in
     let m = rows-more (λ (s : Bor (List ℕ)). Some s.now) c.records.reader c.read_byte_record.new.self (fields_of c.read_byte_record.new.row)
     default_config c.records.reader.state inv.left inv.left [] inv.config inv.source (refl, refl) read in
     let refused = a_row_refused c.args.count c.args.bytes.now c.records.rows.items c.records.reader.state
-    c.read_byte_record.new.self.state inv.left m.0 (fields_of c.read_byte_record.new.row) c.in-Err.column inv.are m.2
-    (sym c.row_in.ensures.value ∙ c.in-Err.is) in
+    c.read_byte_record.new.self.state inv.left m.0 (fields_of c.read_byte_record.new.row) c.in-Err-row_in.column inv.are m.2
+    (sym c.row_in.ensures.value ∙ c.in-Err-row_in.is) in
     let place : 1 + length c.records.rows.items ≡ c.len.result + 1 = omega (arith, c.len.ensures) in
-    let at = λ (n : ℕ). let fault : RowFault = record { row = n; column = c.in-Err.column } in fault in
+    let at = λ (n : ℕ). let fault : RowFault = record { row = n; column = c.in-Err-row_in.column } in fault in
     refused ∙ ap (λ (n : ℕ). Err (at n)) place
 
 -- it is a row
@@ -58,6 +59,7 @@ records-preserved c =
       trim = read.3 ∙ inv.trim;
       ready = inl (c.in-Ok.ensures.ready inv.trim);
       config = read.2 ∙ inv.config;
+      flexible = c.in-Ok.ensures.flexible ∙ inv.flexible;
       fit = rw items (one_row_more c.args.count c.records.rows.items c.in-Ok-row_in.row inv.fit c.in-Ok-row_in.ensures.fits);
       left = m.0;
       source = m.1;

@@ -1,4 +1,4 @@
-use Rattle.std.proofs.Common.{◌≡◌, ℕ, List, Some}
+use Rattle.std.proofs.Common.{◌≡◌, ℕ, List, Some, true}
 use Rattle.csv.specs.Reading.{Ready, default_config, source_of}
 use Rattle.csv.specs.declared.reader.Trim.TheVariants as trim
 use Rattle.chase_script.specs.Answer.{AreRowsFor}
@@ -11,6 +11,7 @@ invariant-records l = record {
   trim : l.reader.trim ≡ trim.None;
   ready : Ready l.reader;
   config : l.reader.config ≡ default_config;
+  flexible : l.reader.flexible ≡ true;
   fit : AreRowsFor l.fn.count l.rows.items;
   left : List ℕ;
   source : source_of (λ s. Some s.now) l.reader ≡ Some left;

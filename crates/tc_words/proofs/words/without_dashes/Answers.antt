@@ -3,7 +3,7 @@ use Rattle.tc_words.specs.Words.{task_of, without_dashes}
 use Rattle.tc_words.proofs.words.without_dashes.Goals as goal
 
 -- the words are the command and the values that were read
-pub returns-in-Ok : goal.returns-in-Ok
-returns-in-Ok c =
+pub returns-in-Ok-clause-answer : goal.returns-in-Ok-clause-answer
+returns-in-Ok-clause-answer c =
     let read = c.task_of.ensures ∙ ap₂ task_of c.command.ensures c.values.ensures in
     inl (read ∙ ap without_dashes c.in-Ok.ensures)

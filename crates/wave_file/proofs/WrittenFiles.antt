@@ -1,0 +1,391 @@
+-- What a writer makes is read as it was written: each part is a whole piece, judged by itself, and the data are their
+-- blocks.
+use Rattle.std.proofs.Common.{true, false, ◌≡◌, ◌≢◌, ◌⊎◌, inl, inr, ℕ, zero, suc, ◌+◌, ◌-◌, ◌*◌, ◌/◌, ◌%◌, ◌<◌, ◌≤◌}
+use Rattle.std.proofs.Common.{◌^◌, min, Bool, ℤ, List, [], ◌∷◌, ◌++◌, Option, Some, None}
+use Rattle.std.proofs.Common.{length, take, drop, replicate, refl, ap, ap₂, ◌∙◌, arith, sym, append_assoc}
+use Rattle.std.specs.Prelude.{◌==◌, ◌&&◌, nat_le, nat_lt, Result, Ok, Err, if◌then◌else◌}
+use Rattle.std.specs.List.{AllByRecursion}
+use Rattle.std.proofs.lemmas.Bool.{eq-eqb, le-leb, le-ltb, lt-leb, ne_eqb}
+use Rattle.std.proofs.lemmas.Nat.{mul-le}
+use Rattle.std.proofs.Math.Nat.{mod-eq_of_lt, mul_left_comm}
+use Rattle.std.proofs.lemmas.List.{append-nil, length-append, length-replicate}
+use Rattle.byteorder.specs.Endian.{big_bytes, big_number, little_bytes, little_number}
+use Rattle.byteorder.specs.Numbers.{big_number-reads_back, length-bytes_high_first, length-bytes_low_first}
+use Rattle.byteorder.specs.Numbers.{little_number-reads_back}
+use Rattle.wave_file.specs.declared.chunk.Chunk.{Chunk}
+use Rattle.wave_file.specs.declared.chunk.Chunk.TheVariants as chunk
+use Rattle.wave_file.specs.declared.chunk.Extent.{Extent}
+use Rattle.wave_file.specs.declared.chunk.Extent.TheVariants.{Announced, Open}
+use Rattle.wave_file.specs.declared.chunk.Notes.{Notes}
+use Rattle.wave_file.specs.declared.chunk.TheConstants.{RIFF, RF64, BW64, WAVE, FORMAT, SIZES, DATA, NO_SIZE}
+use Rattle.wave_file.specs.declared.chunk.TheConstants.{LEAST_OPEN_SIZE}
+use Rattle.wave_file.specs.declared.fault.WaveFault.{WaveFault}
+use Rattle.wave_file.specs.declared.fault.WaveFault.TheVariants as fault
+use Rattle.wave_file.specs.declared.format.WaveFormat.{WaveFormat}
+use Rattle.wave_file.specs.declared.stage.TheConstants.{MAX_BYTES, MAX_SAMPLES}
+use Rattle.wave_file.specs.Chunk.{chunk_of, extent_of, form_of, is_open, long_extent, no_notes}
+use Rattle.wave_file.specs.Format.{field_fault, format_in, format_of, is_pcm, is_rate, is_sample_size, is_track_count}
+use Rattle.wave_file.specs.Format.{samples_at, unless, IsTakenFor}
+use Rattle.wave_file.specs.Grammar.{Sample, OtherChunk, IsBlock, IsOther, AreParts, behind_head, chunk_text, data_text}
+use Rattle.wave_file.specs.Grammar.{format_text, head_text}
+use Rattle.wave_file.specs.Grammar.{file_of, long_file_of, others_text, read_whole, sizes_text, track_of}
+use Rattle.wave_file.specs.Stage.{extent_behind, HasBytes}
+use Rattle.wave_file.specs.Step.{with_samples}
+use Rattle.wave_file.specs.Wave.{Reading, bad, behind_form, bytes_inside, chunk_at, chunks_at, data_at, file_at}
+use Rattle.wave_file.specs.Wave.{may_end_at, padded, taken, wave_at}
+use Rattle.tc_io.specs.Verdict.{good, past_limit}
+use Rattle.wave_file.proofs.Blocks.{blocks_more, none_inside, same_reading}
+use Rattle.wave_file.proofs.Pieces.{chunks_skip, format_brings, head_brings, piece_whole, sizes_bring}
+use Rattle.wave_file.proofs.WrittenSamples.{data_length, samples_read}
+
+-- ---- data
+
+-- nothing of the data is left
+nothing_left : (track : ℕ) (format : WaveFormat) (extent : Extent) (room : ℕ) (tail : List ℕ) → 1 ≤ format.block
+    → bytes_inside extent tail ≡ 0 → may_end_at format.block extent tail ≡ true
+    → data_at track format extent room tail ≡ read_whole format []
+unfolding samples_at
+nothing_left track format extent room tail some inside ends =
+    let none : bytes_inside extent tail / format.block ≡ 0 =
+    ap (λ (n : ℕ). n / format.block) inside ∙ (let n = none_inside 0 format.block 1 (omega (arith, some)) in omega
+    (arith, n)) in
+    let all : min room (bytes_inside extent tail / format.block) ≡ 0 = omega (arith, none) in
+    same_reading (Some format) _ _ _ _ _ _ (ap (λ (n : ℕ). samples_at format track n tail) all)
+    (ap (λ (b : Bool). if b then good else past_limit) (le-leb (bytes_inside extent tail / format.block) room
+    (omega (arith, none)))) ends
+
+-- the extent is that of so many bytes, whatever follows them, or nothing follows
+abbrev pub Covers : Extent → ℕ → List ℕ → Type 0
+Covers (Announced n) count tail = n ≡ count
+Covers Open count tail = tail ≡ []
+
+at_end : (n : ℕ) → 1 ≤ n → (0 % n == 0) ≡ true
+at_end n some = let less : 0 < n = omega (arith, some) in ap (λ (m : ℕ). m == 0) (mod-eq_of_lt less)
+
+pub data_read : (track : ℕ) (format : WaveFormat) (extent : Extent) (blocks : List (List Sample)) (tail : List ℕ)
+    → IsTakenFor track format → AllByRecursion (IsBlock format) blocks → length blocks ≤ MAX_SAMPLES
+    → Covers extent (length (data_text blocks)) tail
+    → data_at track format extent MAX_SAMPLES (data_text blocks ++ tail) ≡ read_whole format (track_of track blocks)
+data_read track format extent blocks tail fits whole few covers =
+    let count = length blocks in
+    let size = data_length format track blocks fits whole in
+    blocks_more track format count extent MAX_SAMPLES (data_text blocks) tail size fits.some
+    (has extent size covers) few
+    ∙ ap (with_samples (samples_at format track count (data_text blocks))) (left extent size covers)
+    ∙ same_reading (Some format) _ _ _ _ _ _
+    (append-nil (samples_at format track count (data_text blocks))
+    ∙ samples_read format track blocks fits whole) refl refl
+  where
+    has : (extent : Extent) → length (data_text blocks) ≡ length blocks * format.block
+        → Covers extent (length (data_text blocks)) tail
+        → HasBytes (length blocks * format.block) extent
+    has (Announced n) size covers = omega (arith, size, covers)
+    has Open size covers = tt
+
+    left : (extent : Extent) → length (data_text blocks) ≡ length blocks * format.block
+        → Covers extent (length (data_text blocks)) tail
+        → data_at track format (extent_behind extent (length blocks * format.block)) (MAX_SAMPLES - length blocks) tail
+        ≡ read_whole format []
+    left (Announced n) size covers =
+        let none : n - length blocks * format.block ≡ 0 = omega (arith, size, covers) in
+        ap (λ (n : ℕ). data_at track format (Announced n) (MAX_SAMPLES - length blocks) tail) none
+        ∙ nothing_left track format (Announced 0) (MAX_SAMPLES - length blocks) tail fits.some (omega arith)
+        (le-leb 0 (length tail) (omega arith))
+    left Open size covers =
+        ap (λ (l : List ℕ). data_at track format Open (MAX_SAMPLES - length blocks) l) covers
+        ∙ nothing_left track format Open (MAX_SAMPLES - length blocks) [] fits.some refl (at_end format.block fits.some)
+
+-- ---- the head of a chunk
+
+record Head (letters size : ℕ) : Type 0 where
+  letters_are : big_number 4 (head_text letters size) ≡ letters
+  size_is : little_number 4 (drop 4 (head_text letters size)) ≡ size
+  long : length (head_text letters size) ≡ 8
+
+head_read : (letters size : ℕ) → letters < 2 ^ 32 → size < 2 ^ 32 → Head letters size
+head_read letters size a b = record {
+  letters_are = big_number-reads_back 4 letters (little_bytes 4 size) (omega (arith, a));
+  size_is = little_number-reads_back 4 size [] (omega (arith, b));
+  long = refl;
+}
+
+-- what a head brings, by the chunk that it begins
+begun : (track : ℕ) (notes : Notes) (place letters size : ℕ) (more : List ℕ) (r : Result Chunk WaveFault)
+    → letters < 2 ^ 32 → size < 2 ^ 32
+    → chunk_of notes place letters size ≡ r
+    → chunks_at track 0 notes place (head_text letters size ++ more) ≡ taken r
+    (λ chunk. chunk_at track notes (place + 8) chunk (λ size notes. chunks_at track (padded size) notes
+    (place + 8) more) more)
+begun track notes place letters size more r a b is =
+    let h = head_read letters size a b in
+    head_brings track notes place (head_text letters size) more r h.long (rw (h.letters_are, h.size_is) is)
+
+-- ---- chunks that are passed over
+
+is_other : (notes : Notes) (place letters size : ℕ) → letters ≢ DATA → letters ≢ FORMAT → letters ≢ SIZES
+    → chunk_of notes place letters size ≡ Ok (chunk.Other size)
+is_other notes place letters size a b c = rw (ne_eqb letters DATA a, ne_eqb letters FORMAT b, ne_eqb letters SIZES c)
+    refl
+
+-- the bytes of a chunk with its padding
+body_length : (body : List ℕ) → length (body ++ replicate (length body % 2) 0) ≡ padded (length body)
+body_length body =
+    let sum = length-append body (replicate (length body % 2) 0) in
+    let more = length-replicate {A = ℕ} (length body % 2) 0 in omega (arith, sum, more)
+
+other_read : (track : ℕ) (notes : Notes) (place : ℕ) (c : OtherChunk) (more : List ℕ) → IsOther c
+    → chunks_at track 0 notes place (chunk_text c.letters c.body ++ more)
+    ≡ chunks_at track 0 notes (place + length (chunk_text c.letters c.body)) more
+other_read track notes place c more other =
+    let size = length c.body in
+    let head = head_text c.letters size in
+    let body = c.body ++ replicate (size % 2) 0 in
+    let sum = length-append head body in
+    let bytes = body_length c.body in
+    ap (λ (l : List ℕ). chunks_at track 0 notes place l) (append_assoc head body more)
+    ∙ begun track notes place c.letters size (body ++ more) (Ok (chunk.Other size)) other.letters other.size
+    (is_other notes place c.letters size other.no_data other.no_format other.no_sizes)
+    ∙ chunks_skip track notes body more (padded size) 0 (place + 8) (omega (arith, bytes))
+    ∙ ap (λ (n : ℕ). chunks_at track 0 notes n more) (let e : place + 8 + length body ≡ place + length (head
+    ++ body) = omega (arith, sum) in e)
+
+others_read : (track : ℕ) (notes : Notes) (place : ℕ) (chunks : List OtherChunk) (more : List ℕ)
+    → AllByRecursion IsOther chunks
+    → chunks_at track 0 notes place (others_text chunks ++ more)
+    ≡ chunks_at track 0 notes (place + length (others_text chunks)) more
+others_read track notes place [] more all =
+    let none : place + 0 ≡ place = omega arith in ap (λ (n : ℕ). chunks_at track 0 notes n more) (sym none)
+others_read track notes place (c ∷ chunks) more all =
+    let first = chunk_text c.letters c.body in
+    let rest = others_text chunks in
+    let sum = length-append first rest in
+    ap (λ (l : List ℕ). chunks_at track 0 notes place l) (append_assoc first rest more)
+    ∙ other_read track notes place c (rest ++ more) all.0
+    ∙ others_read track notes (place + length first) chunks more all.1
+    ∙ ap (λ (n : ℕ). chunks_at track 0 notes n more) (let e : place + length first + length rest
+    ≡ place + length (first ++ rest) = omega (arith, sum) in e)
+
+-- ---- the format
+
+same_format : (a b c d e f g h : ℕ) → a ≡ e → b ≡ f → c ≡ g → d ≡ h
+    → let one : WaveFormat = record { tracks = a; rate = b; block = c; bits = d } in
+    let other : WaveFormat = record { tracks = e; rate = f; block = g; bits = h } in one ≡ other
+same_format a b c d e f g h p q r s = rw (p, q, r, s) refl
+
+format_back : (track : ℕ) (f : WaveFormat) → IsTakenFor track f → format_of (format_text f) ≡ f
+format_back track f fits =
+    let most = fits.most in
+    let rate = fits.rate_most in
+    let room = fits.room in
+    let bits = fits.bits_most in
+    let behind_rate = little_bytes 4 (f.rate * f.block) ++ (little_bytes 2 f.block ++ little_bytes 2 f.bits) in
+    same_format _ _ _ _ f.tracks f.rate f.block f.bits
+    (little_number-reads_back 2 f.tracks (little_bytes 4 f.rate ++ behind_rate) (omega (arith, most)))
+    (little_number-reads_back 4 f.rate behind_rate (omega (arith, rate)))
+    (little_number-reads_back 2 f.block (little_bytes 2 f.bits) (omega (arith, room)))
+    (little_number-reads_back 2 f.bits [] (omega (arith, bits)))
+
+is_size : (bits : ℕ) → 8 ≤ bits → bits ≤ 32 → bits ≡ 8 * (bits / 8) → is_sample_size bits ≡ true
+is_size bits least most whole = go (bits / 8) whole
+  where
+    go : (q : ℕ) → bits ≡ 8 * q → is_sample_size bits ≡ true
+    go zero e = absurd (omega (arith, e, least))
+    go (suc zero) e = rw e refl
+    go (suc (suc zero)) e = rw e refl
+    go (suc (suc (suc zero))) e = rw e refl
+    go (suc (suc (suc (suc zero)))) e = rw e refl
+    go (suc (suc (suc (suc (suc q))))) e = absurd (omega (arith, e, most))
+
+no_fault : (track place : ℕ) (f : WaveFormat) → IsTakenFor track f → field_fault track place true f ≡ None
+no_fault track place f fits =
+    let tracks : is_track_count f.tracks ≡ true =
+    both (nat_le 1 f.tracks) (nat_le f.tracks 64) (le-leb 1 f.tracks (some fits.first fits.among))
+    (le-leb f.tracks 64 fits.most) in
+    let rate : is_rate f.rate ≡ true = both (nat_le 1 f.rate) (nat_le f.rate 6_250_000)
+    (le-leb 1 f.rate fits.rate_least) (le-leb f.rate 6_250_000 fits.rate_most) in
+    let block : (8 * f.block == f.tracks * f.bits) ≡ true = eq-eqb (8 * f.block) (f.tracks * f.bits)
+    (ap (λ (n : ℕ). 8 * n) fits.block ∙ mul_left_comm 8 f.tracks (f.bits / 8)
+    ∙ ap (λ (n : ℕ). f.tracks * n) (sym fits.whole)) in
+    let bits = is_size f.bits fits.bits_least fits.bits_most fits.whole in
+    let among : nat_lt f.tracks track ≡ false = le-ltb f.tracks track fits.among in
+    rw (tracks, rate, block, bits, among) refl
+  where
+    both : (a b : Bool) → a ≡ true → b ≡ true → (a && b) ≡ true
+    both a b p q = rw (p, q) refl
+
+    some : 1 ≤ track → track ≤ f.tracks → 1 ≤ f.tracks
+    some a b = omega (arith, a, b)
+
+format_read : (track place : ℕ) (f : WaveFormat) → IsTakenFor track f → format_in track place (format_text f) ≡ Ok f
+format_read track place f fits =
+    let body = format_text f in
+    let back = format_back track f fits in
+    let pcm : is_pcm body ≡ true = refl in
+    let none : field_fault track place (is_pcm body) (format_of body) ≡ None =
+    ap₂ (λ (pcm : Bool) (g : WaveFormat). field_fault track place pcm g) pcm back ∙ no_fault track place f fits in
+    ap₂ (λ (fault : Option WaveFault) (g : WaveFormat). unless fault g) none back
+
+-- the chunk of the format, whose place is that behind its head
+format_chunk : (track : ℕ) (notes : Notes) (place : ℕ) (f : WaveFormat) (more : List ℕ) → IsTakenFor track f
+    → chunks_at track 0 notes place (chunk_text FORMAT (format_text f) ++ more)
+    ≡ chunks_at track 0 (record notes { format = Some f }) (place + 24) more
+format_chunk track notes place f more fits =
+    let head = head_text FORMAT 16 in
+    let body = format_text f in
+    begun track notes place FORMAT 16 (body ++ more) (Ok (chunk.Format 16)) (omega arith) (omega arith) refl
+    ∙ format_brings track notes (place + 8) 16 body more f refl (format_read track (place + 8) f fits)
+    ∙ ap (λ (n : ℕ). chunks_at track 0 (record notes { format = Some f }) n more) (let e : place + 8 + 16
+    ≡ place + 24 = omega arith in e)
+
+-- ---- long sizes
+
+sizes_chunk : (track : ℕ) (place file_size size data_size : ℕ) (more : List ℕ) → data_size < 2 ^ 64
+    → chunks_at track 0 (no_notes true size) place (chunk_text SIZES (sizes_text file_size data_size) ++ more)
+    ≡ chunks_at track 0 (record (no_notes true size) { data_size = Some data_size }) (place + 36) more
+sizes_chunk track place file_size size data_size more below =
+    let notes = no_notes true size in
+    let front = little_bytes 8 file_size ++ little_bytes 8 data_size in
+    let rest = little_bytes 8 0 ++ little_bytes 4 0 in
+    let is : little_number 8 (drop 8 front) ≡ data_size = little_number-reads_back 8 data_size []
+    (omega (arith, below)) in
+    begun track notes place SIZES 28 (front ++ (rest ++ more)) (Ok (chunk.Sizes 28)) (omega arith) (omega arith) refl
+    ∙ sizes_bring track notes (place + 8) 28 front (rest ++ more) refl (omega arith)
+    ∙ ap (λ (k : ℕ). chunks_at track 12 (record notes { data_size = Some (little_number 8 (drop 8 front)) }) k (rest
+    ++ more))
+    (let e : place + 8 + length front ≡ place + 24 = omega arith in e)
+    ∙ ap (λ (n : ℕ). chunks_at track 12 (record notes { data_size = Some n }) (place + 24) (rest ++ more)) is
+    ∙ chunks_skip track (record notes { data_size = Some data_size }) rest more 12 0 (place + 24) refl
+    ∙ ap (λ (n : ℕ). chunks_at track 0 (record notes { data_size = Some data_size }) n more) (let e : place + 24 + 12
+    ≡ place + 36 = omega arith in e)
+
+-- ---- behind the form
+
+-- the notes that the data find
+abbrev noted : Notes → WaveFormat → Notes
+noted notes format = record notes { format = Some format }
+
+pub behind_read : (track : ℕ) (notes : Notes) (place : ℕ) (before : List OtherChunk) (format : WaveFormat) (size : ℕ)
+    (blocks : List (List Sample)) (tail : List ℕ) (extent : Extent) → AreParts track before format blocks
+    → size < 2 ^ 32
+    → extent_of (noted notes format) (place + length (others_text before) + 24) size ≡ Some extent
+    → Covers extent (length (data_text blocks)) tail
+    → chunks_at track 0 notes place (behind_head before format size blocks tail)
+    ≡ read_whole format (track_of track blocks)
+behind_read track notes place before format size blocks tail extent parts below is covers =
+    let there = place + length (others_text before) in
+    let bytes = data_text blocks ++ tail in
+    let extent_is : chunk_of (noted notes format) (there + 24) DATA size ≡ Ok (chunk.Data format extent) = rw is refl in
+    others_read track notes place before (chunk_text FORMAT (format_text format)
+    ++ (head_text DATA size ++ bytes)) parts.others
+    ∙ format_chunk track notes there format (head_text DATA size ++ bytes) parts.taken
+    ∙ begun track (noted notes format) (there + 24) DATA size bytes (Ok (chunk.Data format extent))
+    (omega arith) below extent_is
+    ∙ data_read track format extent blocks tail parts.taken parts.whole parts.few covers
+
+-- the form, the size behind it, and the letters WAVE
+pub form_read : (track form size : ℕ) (is_long : Bool) (rest : List ℕ) → form < 2 ^ 32 → size < 2 ^ 32
+    → form_of form ≡ Some is_long
+    → file_at track (head_text form size ++ (big_bytes 4 WAVE
+    ++ rest)) ≡ chunks_at track 0 (no_notes is_long size) 12 rest
+form_read track form size is_long rest a b is =
+    let letters = big_bytes 4 form in
+    let wave = little_bytes 4 size ++ big_bytes 4 WAVE in
+    let letters_are : big_number 4 letters ≡ form = big_number-reads_back 4 form [] (omega (arith, a)) in
+    let size_is : little_number 4 wave ≡ size = little_number-reads_back 4 size (big_bytes 4 WAVE) (omega (arith, b)) in
+    piece_whole 4 (λ (letters rest : List ℕ). behind_form track (form_of (big_number 4 letters)) rest) letters (wave
+    ++ rest) refl
+    ∙ ap (λ (form : Option Bool). behind_form track form (wave ++ rest)) (ap form_of letters_are ∙ is)
+    ∙ piece_whole 8 (λ (wave rest : List ℕ). if big_number 4 (drop 4 wave) == WAVE
+    then chunks_at track 0 (no_notes is_long (little_number 4 wave)) 12 rest else bad (fault.Wave 8)) wave rest refl
+    ∙ ap (λ (n : ℕ). chunks_at track 0 (no_notes is_long n) 12 rest) size_is
+
+-- ---- whole files
+
+behind_others : (before : List OtherChunk) → 12 + length (others_text before) + 24 ≡ 36 + length (others_text before)
+behind_others before = omega arith
+
+pub file_read : (track file_size : ℕ) (before : List OtherChunk) (format : WaveFormat) (size : ℕ)
+    (blocks : List (List Sample))
+    (tail : List ℕ) (extent : Extent) → AreParts track before format blocks → file_size < 2 ^ 32 → size < 2 ^ 32
+    → extent_of (noted (no_notes false file_size) format) (36 + length (others_text before)) size ≡ Some extent
+    → Covers extent (length (data_text blocks)) tail
+    → file_at track (file_of file_size before format size blocks tail) ≡ read_whole format (track_of track blocks)
+file_read track file_size before format size blocks tail extent parts a b is covers =
+    form_read track RIFF file_size false (behind_head before format size blocks tail) (omega arith) a refl
+    ∙ behind_read track (no_notes false file_size) 12 before format size blocks tail extent parts b
+    (ap (λ (n : ℕ). extent_of (noted (no_notes false file_size) format) n size) (behind_others before) ∙ is) covers
+
+pub long_file_read : (track form file_size data_size : ℕ) (before : List OtherChunk) (format : WaveFormat)
+    (blocks : List (List Sample))
+    (tail : List ℕ) (extent : Extent) → AreParts track before format blocks → form < 2 ^ 32 → form_of form ≡ Some true
+    → data_size < 2 ^ 64
+    → long_extent (Some data_size) ≡ Some extent
+    → Covers extent (length (data_text blocks)) tail
+    → file_at track (long_file_of form file_size data_size before format blocks tail)
+    ≡ read_whole format (track_of track blocks)
+long_file_read track form file_size data_size before format blocks tail extent parts a is b told covers =
+    let rest = behind_head before format NO_SIZE blocks tail in
+    form_read track form NO_SIZE true (chunk_text SIZES (sizes_text file_size data_size) ++ rest) a (omega arith) is
+    ∙ sizes_chunk track 12 file_size NO_SIZE data_size rest b
+    ∙ behind_read track (record (no_notes true NO_SIZE) { data_size = Some data_size }) 48 before format NO_SIZE blocks
+    tail extent parts
+    (omega arith) told covers
+
+-- ---- how far the data go
+
+-- a size that is none of those that tell no length
+told_size : (file_size place size : ℕ) (format : WaveFormat) → 1 ≤ size → size < 2 ^ 31 - 2 ^ 16
+    → extent_of (noted (no_notes false file_size) format) place size ≡ Some (Announced size)
+told_size file_size place size format some less =
+    let greatest = ne_eqb size NO_SIZE (λ e. omega (arith, e, less)) in
+    let great = lt-leb LEAST_OPEN_SIZE size (omega (arith, less)) in
+    let none = ne_eqb size 0 (λ e. omega (arith, e, some)) in
+    rw (greatest, great, none) refl
+
+pub told_file : (track file_size : ℕ) (before : List OtherChunk) (format : WaveFormat) (blocks : List (List Sample))
+    (tail : List ℕ)
+    → AreParts track before format blocks → 1 ≤ length blocks → file_size < 2 ^ 32
+    → length (data_text blocks) < 2 ^ 31 - 2 ^ 16
+    → file_at track (file_of file_size before format (length (data_text blocks)) blocks tail)
+    ≡ read_whole format (track_of track blocks)
+told_file track file_size before format blocks tail parts some a less =
+    let size = data_length format track blocks parts.taken parts.whole in
+    let bytes = mul-le 1 1 (length blocks) format.block some parts.taken.some in
+    file_read track file_size before format (length (data_text blocks)) blocks tail
+    (Announced (length (data_text blocks))) parts a
+    (omega (arith, less)) (told_size file_size _ (length (data_text blocks)) format
+    (omega (arith, size, bytes)) less) refl
+
+pub streamed_file : (track file_size size : ℕ) (before : List OtherChunk) (format : WaveFormat)
+    (blocks : List (List Sample))
+    → AreParts track before format blocks → file_size < 2 ^ 32 → size < 2 ^ 32
+    → is_open (no_notes false file_size) (36 + length (others_text before)) size ≡ true
+    → file_at track (file_of file_size before format size blocks []) ≡ read_whole format (track_of track blocks)
+streamed_file track file_size size before format blocks parts a b untold =
+    file_read track file_size before format size blocks [] Open parts a b (rw untold refl) refl
+
+pub long_told_file : (track form file_size : ℕ) (before : List OtherChunk) (format : WaveFormat)
+    (blocks : List (List Sample)) (tail : List ℕ)
+    → AreParts track before format blocks → 1 ≤ length blocks → (form ≡ RF64) ⊎ (form ≡ BW64)
+    → length (data_text blocks) < 2 ^ 64
+    → file_at track (long_file_of form file_size (length (data_text blocks)) before format blocks tail)
+    ≡ read_whole format (track_of track blocks)
+long_told_file track form file_size before format blocks tail parts some is less =
+    let size = data_length format track blocks parts.taken parts.whole in
+    let bytes = mul-le 1 1 (length blocks) format.block some parts.taken.some in
+    let all = length (data_text blocks) in
+    long_file_read track form file_size all before format blocks tail (Announced all) parts (below form is)
+    (long form is) less
+    (announced all (omega (arith, size, bytes))) refl
+  where
+    below : (form : ℕ) → (form ≡ RF64) ⊎ (form ≡ BW64) → form < 2 ^ 32
+    below form (inl e) = rw e (omega arith)
+    below form (inr e) = rw e (omega arith)
+
+    long : (form : ℕ) → (form ≡ RF64) ⊎ (form ≡ BW64) → form_of form ≡ Some true
+    long form (inl e) = rw e refl
+    long form (inr e) = rw e refl
+
+    announced : (n : ℕ) → 1 ≤ n → long_extent (Some n) ≡ Some (Announced n)
+    announced zero some = absurd (omega (arith, some))
+    announced (suc n) some = refl
