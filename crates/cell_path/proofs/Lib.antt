@@ -1,0 +1,13 @@
+pub mod BestBeginning
+pub mod BestEnd
+pub mod BestOfAll
+pub mod EndOfSteps
+pub mod LengthsOfCells
+pub mod NextStep
+pub mod NumbersAgo
+pub mod OneBest
+pub mod OneMoreLength
+pub mod Order
+pub mod Rings
+pub mod SoundOfBits
+pub mod StartOfCells

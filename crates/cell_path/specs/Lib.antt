@@ -1,0 +1,9 @@
+pub mod Best
+pub mod Kept
+pub mod Lengths
+pub mod Number
+pub mod Path
+pub mod Scores
+pub mod StandsFor
+pub mod Trying
+pub mod Within

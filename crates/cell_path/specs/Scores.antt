@@ -1,0 +1,20 @@
+-- What is kept of a sound stands for its steps so far.
+use Rattle.std.specs.Prelude.{◌^◌, ◌≤◌, List}
+use Rattle.cell_path.specs.declared.cell.Step.{Step}
+use Rattle.cell_path.specs.Kept.{RowsState, SumsState}
+use Rattle.cell_path.specs.StandsFor.{RowsStandFor, SumsStandFor}
+use Rattle.cell_path.specs.Within.{IsWithin}
+
+-- a step of a sound of 16 bits, also with half of its mean size added
+pub record IsStep (step : Step) : Type 0 where
+  pub sound : IsWithin (2 ^ 16) step.sound
+  pub level : step.level ≤ 2 ^ 15
+
+pub record ScoresState : Type 0 where
+  pub sums : SumsState
+  pub rows : RowsState
+
+-- the sums and the numbers are those of these steps, the latest first
+pub record StandsFor (scores : ScoresState) (steps : List Step) : Type 0 where
+  pub sums : SumsStandFor scores.sums steps
+  pub rows : RowsStandFor scores.rows steps
