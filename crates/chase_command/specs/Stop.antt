@@ -1,6 +1,5 @@
 -- How a chase that stopped ends: its status and its note.
 use Rattle.std.specs.Prelude.{ℕ, List, ◌++◌, codes, decimal}
-use Rattle.chase_script.specs.declared.fault.RowFault.{RowFault}
 use Rattle.chase_script.specs.Column.{number_of_column}
 use Rattle.tc_command.specs.declared.status.Status.{Status}
 use Rattle.tc_command.specs.declared.status.Status.TheVariants as status

@@ -4,7 +4,7 @@ ghost use Rattle.std.specs.Prelude.{◌≡◌};
 ghost use Rattle.chase_command.specs.Stop.{note_of, status_of};
 
 use chase_script::RowFault;
-use line_text::{Text, push_bytes, push_any_number};
+use line_text::{Text, push_any_number, push_bytes};
 use tc_command::Status;
 
 /// Why a chase stopped before its end.

@@ -1,11 +1,11 @@
 -- What is written of an input is a clean recording: the frames of its words have labels of its system, so each of them is read back.
-use Rattle.std.proofs.Common.{◌≡◌, ℕ, ◌≤◌, Bool, true, false, List, [], ◌∷◌, ◌++◌, length, ◌∙◌, ap, Some, None, refl, sym, subst, append-nil}
+use Rattle.std.proofs.Common.{◌≡◌, ℕ, ◌≤◌, Bool, true, false, List, [], ◌∷◌, ◌∙◌, Some, None, refl, sym, subst, append-nil}
 use Rattle.std.proofs.Common.{arith}
 use Rattle.std.specs.Prelude.{sum}
 use Rattle.std.specs.declared.option.Option.{Option}
 use Rattle.std.specs.List.{All}
 use Rattle.biphase.specs.declared.cell.Cell.{Cell}
-use Rattle.biphase.specs.declared.cell.TheConstants.{MAX_INTERVAL, MAX_INTERVALS}
+use Rattle.biphase.specs.declared.cell.TheConstants.{MAX_INTERVAL}
 use Rattle.biphase.specs.declared.profile.Profile.{Profile}
 use Rattle.biphase.specs.declared.profile.Profile.TheVariants.{Normal}
 use Rattle.biphase.specs.Chain.{flat}
@@ -22,10 +22,8 @@ use Rattle.ltc_jam.specs.Cells.{clean_cells, clean_events, steady_cells, words_o
 use Rattle.ltc_jam.specs.Labels.{AreEventsOf, AreFramesOf, AreHeardOf}
 use Rattle.interval_file.specs.declared.header.IntervalHeader.{IntervalHeader}
 use Rattle.interval_file.specs.Grammar.{AreIntervals, IsFile}
-use Rattle.interval_file.specs.Recording.{Recording, end_fault_of, recording_of}
-use Rattle.tc_io.specs.Verdict.{good}
+use Rattle.interval_file.specs.Recording.{Recording, recording_of}
 use Rattle.tc_job.specs.Jam.{IsJamming, Jamming}
-use Rattle.interval_engine.specs.Along.{IsWholeOf}
 use Rattle.interval_engine.specs.KeptBehind.{IsWholeBehind}
 use Rattle.frame_commands.specs.LtcJam.{CleansTheInput, IsClean, clean_file, clean_header, clean_intervals, clean_recording}
 use Rattle.frame_commands.specs.OfFrames.{frames_of, words_heard}

@@ -1,5 +1,5 @@
 -- What is told of the commands along frames holds.
-use Rattle.std.proofs.Common.{◌≡◌, ℕ, List}
+use Rattle.std.proofs.Common.{ℕ, List}
 use Rattle.flywheel.specs.declared.frame.Frame.{Frame}
 use Rattle.interval_file.specs.Recording.{recording_of}
 use Rattle.tc_job.specs.ChaseRun.{Chasing}

@@ -1,10 +1,9 @@
 -- `ltc-fly`: a line of each frame of a recording.
-use Rattle.std.specs.Prelude.{◌≡◌, ℕ, Bool, true, false, List, ◌++◌, length, count_by, sum, map, Some, None}
+use Rattle.std.specs.Prelude.{◌≡◌, ℕ, true, false, List, ◌++◌, length, count_by, sum, map, Some, None}
 use Rattle.std.specs.List.{flat_map}
 use Rattle.direction_reader.specs.declared.event.Event.{Event}
 use Rattle.direction_reader.specs.ListEvents.{AreEvents}
 use Rattle.flywheel.specs.declared.frame.Frame.{Frame}
-use Rattle.flywheel.specs.declared.frame.Frame.TheVariants.{Heard, Invented, Gone}
 use Rattle.flywheel.specs.Marked.{AreMarked, word_of, words_in}
 use Rattle.report_text.specs.FrameTexts.{frame_line, fly_end_line}
 use Rattle.interval_file.specs.declared.header.IntervalHeader.{IntervalHeader}

@@ -1,23 +1,20 @@
 //! What `ltc-jam` makes of frames: a clean recording. Next: `ltc_jam/src/cells.rt`, and then
 //! `tc_command/src/pushing.rt`.
-ghost use Rattle.std.specs.Prelude.{◌≡◌, ◌≤◌, ◌+◌, ◌*◌, ◌++◌, length, OnOk, IfErr};
+ghost use Rattle.std.specs.Prelude.{◌≡◌, ◌≤◌, ◌+◌, ◌*◌, ◌++◌, length};
 ghost use Rattle.arrayvec.specs.ArrayVec.{array_vec_len};
 ghost use Rattle.interval_file.specs.declared.header.FileVersion.TheVariants.{One};
 ghost use Rattle.interval_file.specs.Grammar.{intervals_bytes};
-ghost use Rattle.tc_command.specs.Causes.{HasOutCause, HasSourceCause};
-ghost use Rattle.tc_command.specs.Ends.{SeesOneEnd};
-ghost use Rattle.tc_command.specs.Ran.{CameToItsEnd, StoppedBefore};
-ghost use Rattle.interval_engine.specs.Along.{along_intervals};
-ghost use Rattle.frame_commands.specs.LtcJam.{clean_recording};
 ghost use Rattle.tc_command.specs.Told.{IsTold, WorksAsTold};
 ghost use Rattle.frame_commands.specs.LtcJam.{told_ltc_jam};
 
-use crate::laws::{each_sink_of_frames_adds_in_order, what_is_jammed_is_read, what_is_made_of_frames_is_in_order};
-use interval_engine::laws::recordings_grow;
-use direction_reader::laws::a_list_has_one_list_of_events;
 use crate::flight::{FlightTo, FrameReader};
 use crate::frame_sink::FrameSink;
+use crate::laws::{
+    each_sink_of_frames_adds_in_order, what_is_jammed_is_read, what_is_made_of_frames_is_in_order,
+};
+use direction_reader::laws::a_list_has_one_list_of_events;
 use flywheel::Frame;
+use interval_engine::laws::recordings_grow;
 use interval_engine::work_along;
 use interval_file::{FileVersion, IntervalHeader, interval_header};
 use ltc_jam::laws::a_clean_recording_is_written_frame_by_frame;

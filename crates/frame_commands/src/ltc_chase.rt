@@ -1,26 +1,24 @@
 //! What `ltc-chase` makes of frames: the steps of a chase that follows them. Next:
 //! `code_chase/src/master.rt`, and then `chase_script/src/texts.rt` for the lines.
-ghost use Rattle.std.specs.Prelude.{◌≡◌, ◌<◌, ◌+◌, OnOk, IfErr};
+ghost use Rattle.std.specs.Prelude.{◌≡◌, ◌<◌, ◌+◌};
 ghost use Rattle.chase_script.specs.TraceText.{step_line};
 ghost use Rattle.code_chase.specs.CodeTrace.{next_line};
 ghost use Rattle.frame_commands.specs.KeptSteps.{stepped};
-ghost use Rattle.tc_command.specs.Causes.{HasOutCause, HasSourceCause};
-ghost use Rattle.tc_command.specs.Ends.{SeesOneEnd};
-ghost use Rattle.tc_command.specs.Ran.{CameToItsEnd, StoppedBefore};
-ghost use Rattle.interval_engine.specs.Along.{along_intervals};
-ghost use Rattle.frame_commands.specs.LtcChase.{chased_recording};
 ghost use Rattle.tc_command.specs.Told.{IsTold, WorksAsTold};
 ghost use Rattle.frame_commands.specs.LtcChase.{told_ltc_chase};
 
-use crate::laws::{each_sink_of_frames_adds_in_order, what_is_chased_follows_the_code, what_is_made_of_frames_is_in_order};
-use interval_engine::laws::recordings_grow;
-use direction_reader::laws::a_list_has_one_list_of_events;
 use crate::flight::{FlightTo, FrameReader};
 use crate::frame_sink::FrameSink;
+use crate::laws::{
+    each_sink_of_frames_adds_in_order, what_is_chased_follows_the_code,
+    what_is_made_of_frames_is_in_order,
+};
 use chase_script::{step_end_text, step_text};
 use code_chase::CodeChase;
 use code_chase::laws::a_frame_adds_a_line;
+use direction_reader::laws::a_list_has_one_list_of_events;
 use flywheel::Frame;
+use interval_engine::laws::recordings_grow;
 use interval_engine::work_along;
 use interval_file::IntervalHeader;
 use line_text::Text;

@@ -1,21 +1,15 @@
 //! What `ltc-fly` makes of frames: a line of each. Next: `report_text/src/frame.rt`.
-ghost use Rattle.std.specs.Prelude.{OnOk, IfErr};
-ghost use Rattle.tc_command.specs.Causes.{HasOutCause, HasSourceCause};
-ghost use Rattle.tc_command.specs.Ends.{SeesOneEnd};
-ghost use Rattle.tc_command.specs.Ran.{CameToItsEnd, StoppedBefore};
-ghost use Rattle.interval_engine.specs.Along.{along_intervals};
-ghost use Rattle.frame_commands.specs.LtcFly.{flown_recording};
 ghost use Rattle.tc_command.specs.Told.{IsTold, WorksAsTold};
 ghost use Rattle.frame_commands.specs.LtcFly.{told_ltc_fly};
 ghost use Rattle.tc_job.specs.declared.flight.Flight.{Flight};
 
-use crate::laws::{each_sink_of_frames_adds_in_order, what_is_made_of_frames_is_in_order};
-use interval_engine::laws::recordings_grow;
-use direction_reader::laws::a_list_has_one_list_of_events;
-use flywheel::laws::invention_is_bounded_and_marked;
 use crate::flight::{FlightTo, FrameReader};
 use crate::frame_sink::FrameSink;
+use crate::laws::{each_sink_of_frames_adds_in_order, what_is_made_of_frames_is_in_order};
+use direction_reader::laws::a_list_has_one_list_of_events;
 use flywheel::Frame;
+use flywheel::laws::invention_is_bounded_and_marked;
+use interval_engine::laws::recordings_grow;
 use interval_engine::work_along;
 use interval_file::IntervalHeader;
 use report_text::frame_text;

@@ -1,20 +1,14 @@
 //! What `ltc-mtc` makes of frames: MIDI Time Code. Next: `quarter_frame/src/writer.rt`.
-ghost use Rattle.std.specs.Prelude.{OnOk, IfErr};
-ghost use Rattle.tc_command.specs.Causes.{HasOutCause, HasSourceCause};
-ghost use Rattle.tc_command.specs.Ends.{SeesOneEnd};
-ghost use Rattle.tc_command.specs.Ran.{CameToItsEnd, StoppedBefore};
-ghost use Rattle.interval_engine.specs.Along.{along_intervals};
-ghost use Rattle.frame_commands.specs.LtcMtc.{time_code};
 ghost use Rattle.tc_command.specs.Told.{IsTold, WorksAsTold};
 ghost use Rattle.frame_commands.specs.LtcMtc.{told_ltc_mtc};
 ghost use Rattle.tc_job.specs.declared.flight.Flight.{Flight};
 
-use crate::laws::{each_sink_of_frames_adds_in_order, what_is_made_of_frames_is_in_order};
-use interval_engine::laws::recordings_grow;
-use direction_reader::laws::a_list_has_one_list_of_events;
 use crate::flight::{FlightTo, FrameReader};
 use crate::frame_sink::FrameSink;
+use crate::laws::{each_sink_of_frames_adds_in_order, what_is_made_of_frames_is_in_order};
+use direction_reader::laws::a_list_has_one_list_of_events;
 use flywheel::Frame;
+use interval_engine::laws::recordings_grow;
 use interval_engine::work_along;
 use interval_file::IntervalHeader;
 use quarter_frame::QuarterWriter;

@@ -5,26 +5,23 @@ ghost use Rattle.std.specs.Io.KnownBytes.{Appends};
 ghost use Rattle.tape_spans.specs.StandsFor.{cut_lines, ended_lines, gap_lines};
 ghost use Rattle.tape_spans.specs.Tape.{FitsCut, FitsSpan};
 ghost use Rattle.tc_io.specs.Sink.{AppendsFront};
-ghost use Rattle.tc_command.specs.Causes.{HasOutCause, HasSourceCause};
-ghost use Rattle.tc_command.specs.Ends.{SeesOneEnd};
-ghost use Rattle.tc_command.specs.Ran.{CameToItsEnd, StoppedBefore};
-ghost use Rattle.interval_engine.specs.Along.{along_intervals};
-ghost use Rattle.frame_commands.specs.LtcSpans.{spanned_recording};
+ghost use Rattle.tc_command.specs.Causes.{HasOutCause};
 ghost use Rattle.tc_command.specs.Told.{IsTold, WorksAsTold};
 ghost use Rattle.frame_commands.specs.LtcSpans.{told_ltc_spans};
 ghost use Rattle.tc_job.specs.declared.flight.Flight.{Flight};
 
-use crate::laws::{each_sink_of_frames_adds_in_order, what_is_made_of_frames_is_in_order};
-use interval_engine::laws::recordings_grow;
-use direction_reader::laws::a_list_has_one_list_of_events;
-use flywheel::laws::{a_frame_that_goes_on_is_the_next, invention_is_bounded_and_marked};
-use tape_spans::laws::{spans_share_the_frames_out, the_open_span_has_the_last_line};
 use crate::flight::{FlightTo, FrameReader};
 use crate::frame_sink::FrameSink;
+use crate::laws::{each_sink_of_frames_adds_in_order, what_is_made_of_frames_is_in_order};
+use direction_reader::laws::a_list_has_one_list_of_events;
 use flywheel::Frame;
+use flywheel::laws::{a_frame_that_goes_on_is_the_next, invention_is_bounded_and_marked};
+use interval_engine::laws::recordings_grow;
 use interval_engine::work_along;
 use interval_file::IntervalHeader;
-use tape_spans::laws::final_lines_come_first;
+use tape_spans::laws::{
+    final_lines_come_first, spans_share_the_frames_out, the_open_span_has_the_last_line,
+};
 use tape_spans::{Cut, Gap, Span, SpanText, TapeSpans, gap_text, span_text};
 use tc_address::System;
 use tc_command::{Stop, push_line, push_piece};

@@ -1,10 +1,5 @@
 //! The engine of `ltc-convert`: each interval is spelled in the asked version. Next:
 //! `interval_file/src/piece.rt`, and then `tc_command/src/gathered.rt`.
-ghost use Rattle.std.specs.Prelude.{OnOk, IfErr};
-ghost use Rattle.tc_command.specs.Causes.{HasOutCause, HasSourceCause};
-ghost use Rattle.tc_command.specs.Ends.{SeesOneEnd};
-ghost use Rattle.tc_command.specs.Ran.{CameToItsEnd, StoppedBefore};
-ghost use Rattle.interval_engine.specs.Along.{along_intervals};
 ghost use Rattle.interval_commands.specs.LtcConvert.{conversion};
 ghost use Rattle.tc_command.specs.Told.{IsTold, WorksAsTold};
 ghost use Rattle.interval_commands.specs.LtcConvert.{told_ltc_convert};
@@ -12,8 +7,8 @@ ghost use Rattle.interval_file.specs.declared.header.FileVersion.{FileVersion};
 
 use crate::laws::{converting_keeps_the_recording, what_is_printed_is_in_order};
 use interval_engine::laws::recordings_grow;
-use interval_file::laws::a_file_is_read_as_it_was_written;
 use interval_engine::{Behind, work_along};
+use interval_file::laws::a_file_is_read_as_it_was_written;
 use interval_file::{FileVersion, IntervalHeader, interval_bytes, interval_header};
 use tc_command::{Gathered, Stop};
 use tc_io::{Sink, Source};

@@ -13,10 +13,7 @@ ghost use Rattle.interval_file.specs.IntervalHeader.{IsTickRate};
 ghost use Rattle.report_text.specs.Texts.{event_line, read_end_line, FitsLine};
 ghost use Rattle.tc_io.specs.Sink.{AppendsFront};
 ghost use Rattle.tc_io.specs.Source.{Rose};
-ghost use Rattle.interval_engine.specs.Along.{Printing, along_intervals};
-ghost use Rattle.tc_command.specs.Causes.{HasOutCause, HasSourceCause};
-ghost use Rattle.tc_command.specs.Ends.{SeesOneEnd};
-ghost use Rattle.tc_command.specs.Ran.{CameToItsEnd, StoppedBefore};
+ghost use Rattle.tc_command.specs.Causes.{HasOutCause};
 ghost use Rattle.interval_commands.specs.LtcRead.{lines, report};
 ghost use Rattle.interval_commands.specs.KeptReport.{counted, all_counted, Feeds, FitLines, FitsReport, Prints, Stands};
 ghost use Rattle.tc_command.specs.Told.{IsTold, WorksAsTold};
@@ -26,8 +23,8 @@ ghost use Rattle.biphase.specs.declared.profile.Profile.{Profile};
 use crate::laws::what_is_printed_is_in_order;
 use biphase::{MAX_INTERVAL, MAX_INTERVALS, Profile};
 use direction_reader::laws::{
-    a_list_has_one_list_of_events, a_reader_gives_the_events_of_its_list, events_find_the_tape_again,
-    events_mirror_the_tape, events_tell_the_tape,
+    a_list_has_one_list_of_events, a_reader_gives_the_events_of_its_list,
+    events_find_the_tape_again, events_mirror_the_tape, events_tell_the_tape,
 };
 use direction_reader::{Brought, DirectionReader, Event, Events};
 use interval_engine::laws::recordings_grow;

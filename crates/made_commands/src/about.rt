@@ -1,11 +1,9 @@
 //! The commands that tell of the program itself: `help` and `version`.
 //! Next: `tc_command/src/making.rt`.
-ghost use Rattle.std.specs.Prelude.{◌≡◌, ◌+◌, ◌≤◌, ◌++◌, length, map, OnOk, IfErr};
+ghost use Rattle.std.specs.Prelude.{◌≡◌, ◌+◌, ◌≤◌, ◌++◌, length, map};
 ghost use Rattle.arrayvec.specs.ArrayVec.{array_vec_len};
 ghost use Rattle.made_commands.specs.About.{help_text, usage_line, usage_lines, version_line};
 ghost use Rattle.made_commands.specs.KeptLine.{rest_of};
-ghost use Rattle.tc_command.specs.Causes.{HasOutCause};
-ghost use Rattle.tc_command.specs.Meaning.{writes};
 ghost use Rattle.tc_command.specs.Told.{WorksAsTold};
 ghost use Rattle.made_commands.specs.About.{told_help, told_version};
 

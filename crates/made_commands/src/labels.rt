@@ -1,18 +1,16 @@
 //! The commands that write one line: those that turn labels into numbers and back, and the load run.
 //! Next: `tc_command/src/making.rt`.
-ghost use Rattle.std.specs.Prelude.{◌≡◌, OnOk, IfErr};
+ghost use Rattle.std.specs.Prelude.{◌≡◌};
 ghost use Rattle.tc_address.specs.Numbering.{number_of};
 ghost use Rattle.made_commands.specs.KeptLine.{rest_of};
 ghost use Rattle.made_commands.specs.Labels.{number_line, label_line};
 ghost use Rattle.made_commands.specs.Load.{load_text};
-ghost use Rattle.tc_command.specs.Causes.{HasOutCause};
-ghost use Rattle.tc_command.specs.Meaning.{writes};
 ghost use Rattle.tc_command.specs.Told.{WorksAsTold};
 ghost use Rattle.made_commands.specs.Labels.{told_label, told_number};
 ghost use Rattle.made_commands.specs.Load.{told_ltc_load};
 
 use crate::ltc_load::{a_load_is_told, load_text};
-use line_text::{Text, push_bytes, push_any_number};
+use line_text::{Text, push_any_number, push_bytes};
 use tc_address::{Label, number, text};
 use tc_command::{Maker, Piece, Stop, make};
 use tc_io::{Sink, Source};

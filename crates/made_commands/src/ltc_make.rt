@@ -1,6 +1,5 @@
 //! `ltc-make`: a recording made of labels. Next: `tc_command/src/making.rt`.
 ghost use Rattle.std.specs.Prelude.{◌≡◌, ◌+◌, ◌^◌, ◌<◌, ◌≤◌, Bool, false, true, List, [], ◌∷◌, ◌++◌, length, None};
-ghost use Rattle.std.specs.Prelude.{OnOk, IfErr};
 ghost use Rattle.arrayvec.specs.ArrayVec.{array_vec_len};
 ghost use Rattle.biphase.specs.Chain.{intervals_of};
 ghost use Rattle.direction_reader.specs.Played.{low_bits};
@@ -10,8 +9,6 @@ ghost use Rattle.interval_file.specs.Grammar.{intervals_bytes};
 ghost use Rattle.ltc_word.specs.Spelled.{spelling_of};
 ghost use Rattle.made_commands.specs.KeptStriping.{cell_bytes, rest_of};
 ghost use Rattle.made_commands.specs.Made.{made};
-ghost use Rattle.tc_command.specs.Causes.{HasOutCause};
-ghost use Rattle.tc_command.specs.Meaning.{writes};
 ghost use Rattle.tc_command.specs.Told.{IsTold, WorksAsTold};
 ghost use Rattle.made_commands.specs.Made.{told_ltc_make};
 

@@ -1,5 +1,5 @@
 //! `vitc-make`: a line file made of labels. Next: `tc_command/src/making.rt`.
-ghost use Rattle.std.specs.Prelude.{◌≡◌, ◌+◌, ◌*◌, ◌<◌, ◌≤◌, ◌++◌, length, None, OnOk, IfErr};
+ghost use Rattle.std.specs.Prelude.{◌≡◌, ◌+◌, ◌*◌, ◌<◌, ◌≤◌, ◌++◌, length, None};
 ghost use Rattle.std.specs.List.{flat_map};
 ghost use Rattle.arrayvec.specs.ArrayVec.{array_vec_len};
 ghost use Rattle.byteorder.specs.Endian.{big_bytes};
@@ -12,8 +12,6 @@ ghost use Rattle.vitc_line.specs.Places.{HasLines};
 ghost use Rattle.vitc_line.specs.Spelled.{line_of};
 ghost use Rattle.vitc_reader.specs.Runs.{IsLineLength};
 ghost use Rattle.vitc_reader.specs.Written.{runs_in};
-ghost use Rattle.tc_command.specs.Causes.{HasOutCause};
-ghost use Rattle.tc_command.specs.Meaning.{writes};
 ghost use Rattle.tc_command.specs.Told.{IsTold, WorksAsTold};
 ghost use Rattle.made_commands.specs.MadeLines.{told_vitc_make};
 

@@ -1,5 +1,5 @@
 -- Bytes that are an input of `wav-ltc` have a format, since they may end only behind one.
-use Rattle.std.proofs.Common.{◌≡◌, ℕ, ℤ, Bool, true, false, List, Option, Some, None, refl, sym, ◌∙◌, ap}
+use Rattle.std.proofs.Common.{◌≡◌, ℕ, Bool, true, false, List, Option, Some, None, refl, sym, ◌∙◌, ap}
 use Rattle.std.specs.Prelude.{if◌then◌else◌}
 use Rattle.std.specs.Option.{option_map}
 use Rattle.tc_command.specs.declared.input_fault.InputFault.TheVariants.{Sound}
@@ -43,7 +43,7 @@ one_track w bytes a b p q =
     let r = reading_of w.track bytes in
     p.are
     ∙ ap (λ (f : WaveFormat). file_of (track_header w f) (intervals_at (track_pace w f) (track_settings w) r.samples))
-      (one_format r p.format q.format p.begins q.begins)
+    (one_format r p.format q.format p.begins q.begins)
     ∙ sym q.are
 
 pub track_is_told : ((w : SlicesWave) → IsCommand (along_sound_file w))

@@ -3,9 +3,7 @@
 ghost use Rattle.std.specs.Prelude.{◌≡◌, ◌+◌, ◌*◌, ◌≤◌, ◌++◌, ℕ, List, [], length, take, OnOk, IfOk, IfErr, Err};
 ghost use Rattle.std.specs.Io.KnownBytes.{Appends};
 ghost use Rattle.pcm_front.specs.Pace.{IsPace};
-ghost use Rattle.tc_command.specs.Causes.{HasOutCause, HasSourceCause};
-ghost use Rattle.tc_command.specs.Ends.{SeesOneEnd};
-ghost use Rattle.tc_command.specs.Ran.{CameToItsEnd, StoppedBefore};
+ghost use Rattle.tc_command.specs.Causes.{HasOutCause};
 ghost use Rattle.signal_commands.specs.KeptSlices.{IsGoing, Slices, Stands};
 ghost use Rattle.signal_commands.specs.PcmLtc.{along_samples, pace_for};
 ghost use Rattle.tc_command.specs.Stops.{Stops};

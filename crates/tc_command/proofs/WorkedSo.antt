@@ -1,5 +1,5 @@
 -- A command is worked as its way along the input, or to the output, went.
-use Rattle.std.proofs.Common.{◌≡◌, ℕ, List, [], true, ◌++◌, refl, inr, ap}
+use Rattle.std.proofs.Common.{◌≡◌, ℕ, List, [], true, refl, inr}
 use Rattle.std.proofs.lemmas.Bool.{false≢true}
 use Rattle.std.proofs.KnownBytes.{Consumes-nil}
 use Rattle.std.specs.Prelude.{OnOk, OnErr, IfErr, Ok, Err}
@@ -9,11 +9,10 @@ use Rattle.std.specs.declared.result.Result.{Result}
 use Rattle.tc_io.specs.Sink.{AppendsFront}
 use Rattle.tc_command.specs.declared.stop.Stop.{Stop}
 use Rattle.tc_command.specs.declared.stop.Stop.TheVariants.{WriteFault}
-use Rattle.tc_command.specs.Causes.{HasSourceCause, HasOutCause, SourceCause}
+use Rattle.tc_command.specs.Causes.{HasSourceCause, HasOutCause}
 use Rattle.tc_command.specs.Ends.{SeesOneEnd}
 use Rattle.tc_command.specs.Meaning.{Meaning, writes}
 use Rattle.tc_command.specs.Ran.{CameToItsEnd, StoppedBefore}
-use Rattle.tc_command.specs.Status.{status_of}
 use Rattle.tc_command.specs.Worked.{IsWorked}
 
 -- one that reads
@@ -47,8 +46,14 @@ no_read count (Err stop) why = rw why refl
 text_ends : (text : List ℕ) (left old new : Option (List ℕ)) (result : Result (Unit {0}) Stop)
     → OnOk result (Appends old new text) → OnOk result (CameToItsEnd (writes text) left left old new)
 text_ends text left old new (Ok done) all = (
-  [], text, Consumes-nil _, all, tt, (λ reads. absurd (false≢true reads)),
-  record { verdict = refl; unspent = λ spent. spent; end = refl }, (refl, refl),
+  [],
+  text,
+  Consumes-nil _,
+  all,
+  tt,
+  (λ reads. absurd (false≢true reads)),
+  record { verdict = refl; unspent = λ spent. spent; end = refl },
+  (refl, refl),
 )
 text_ends text left old new (Err stop) all = tt
 
@@ -57,7 +62,10 @@ text_stops : (text : List ℕ) (left old new : Option (List ℕ)) (result : Resu
     → IfErr result (λ stop. StoppedBefore (writes text) stop left left old new)
 text_stops text left old new (Ok done) why front = tt
 text_stops text left old new (Err stop) why front = (
-  [], front.0, Consumes-nil _, front.2,
+  [],
+  front.0,
+  Consumes-nil _,
+  front.2,
   rw why (inr (
     (λ reads. absurd (false≢true reads)),
     (record { verdict = refl; unspent = λ spent. spent; end = refl }, (_, (refl, refl), front.1)),

@@ -7,7 +7,7 @@ ghost use Rattle.tc_command.specs.Notes.{usage_note, stop_note};
 
 use crate::input_fault::InputFault;
 use crate::stop::Stop;
-use line_text::{Text, push_bytes, push_any_number};
+use line_text::{Text, push_any_number, push_bytes};
 use tc_io::{Sink, push_all};
 use tc_job::WordsFault;
 
