@@ -2,6 +2,7 @@ pub mod BestBeginning
 pub mod BestEnd
 pub mod BestOfAll
 pub mod EndOfSteps
+pub mod Examples
 pub mod FollowedBack
 pub mod GoesBack
 pub mod LengthsOfCells
