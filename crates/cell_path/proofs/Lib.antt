@@ -2,7 +2,11 @@ pub mod BestBeginning
 pub mod BestEnd
 pub mod BestOfAll
 pub mod EndOfSteps
+pub mod Examples
+pub mod FollowedBack
+pub mod GoesBack
 pub mod LengthsOfCells
+pub mod MarkedSoFar
 pub mod NextStep
 pub mod NumbersAgo
 pub mod OneBest

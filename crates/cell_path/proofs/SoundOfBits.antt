@@ -29,7 +29,7 @@ drop-nil : (n : ℕ) → drop {A = Step} n [] ≡ []
 drop-nil zero = refl
 drop-nil (suc n) = refl
 
-drop-drop : (m n : ℕ) (steps : List Step) → drop m (drop n steps) ≡ drop (n + m) steps
+pub drop-drop : (m n : ℕ) (steps : List Step) → drop m (drop n steps) ≡ drop (n + m) steps
 drop-drop m zero steps = ap (λ k. drop k steps) (omega arith)
 drop-drop m (suc n) [] = drop-nil m ∙ sym (drop-nil (suc n + m))
 drop-drop m (suc n) (step ∷ steps) =

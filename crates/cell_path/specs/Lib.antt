@@ -1,8 +1,11 @@
 pub mod Best
 pub mod Kept
+pub mod KeptMarks
 pub mod Lengths
+pub mod Marks
 pub mod Number
 pub mod Path
+pub mod Paths
 pub mod Scores
 pub mod StandsFor
 pub mod Trying

@@ -14,7 +14,7 @@ pub const LENGTHS: [usize; 45] = [
 /// than a cell can be worth in a sound that is all at its mean size.
 pub const JUMP: usize = 3;
 
-/// What it costs to begin before the sound does: more than any path can gain by it.
+/// What it costs to begin before the sound does: some forty times what the longest cell can be worth.
 pub const EARLY: i64 = 268_435_456;
 
 /// The length in a place of the list.

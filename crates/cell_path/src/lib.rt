@@ -11,18 +11,21 @@
 //!   and sign (`Scores::feed`, clauses `ends`, `best`, `starts`; `specs/Best.antt`, `IsBest`: no other
 //!   path that ends so has a greater score, and of equal ones the best is the first in one order). The
 //!   definition speaks of all lists of cells (`specs/Path.antt`, `IsPath`, `score`), and of no machine.
-//! - With them come the latest bit of each, and of each cell that may begin there the way in which its
-//!   best path comes to it: by these two a best path can be followed back.
+//! - A best path is followed back from point to point: each `Paths::back` gives its latest cell, and
+//!   where the cell before it ends (`specs/KeptMarks.antt`, `GoesBack`), as long as the points lie within
+//!   4,000 steps. A mark of one byte for each step and length keeps the bits and the ways
+//!   (`specs/Marks.antt`).
 //! - No score overflows in 2^40 steps, since a step adds 2^22 in the mean at most (`specs/Kept.antt`,
 //!   `limit`).
 //! - A sound has one best path for each end, and what stands before the latest cell of a best path is a
 //!   best path itself (`laws`).
 //!
 //! Read `lengths` and `cell` with `specs/Path.antt` and `specs/Best.antt`, then `scores` with
-//! `specs/Number.antt` and `specs/StandsFor.antt`; below it stand `end`, `best` and `start`, which try
-//! one length each. Lists of steps and of cells begin with the latest.
-//! Nothing here allocates or refuses. What makes the steps of samples, what follows paths back and
-//! decides, and what tells cells from noise does not stand here yet.
+//! `specs/Number.antt` and `specs/StandsFor.antt`, and `paths` with `specs/KeptMarks.antt`; below them
+//! stand `end`, `best` and `start`, which try one length each. Lists of steps and of cells begin with
+//! the latest.
+//! Nothing here allocates or refuses. What makes the steps of samples, what decides which cells stay,
+//! and what tells cells from noise does not stand here yet.
 #![tactic(auto)]
 
 mod best;
@@ -31,7 +34,11 @@ mod end;
 mod ends;
 pub mod laws;
 mod lengths;
+mod mark;
+mod marks;
 mod numbers;
+mod paths;
+mod point;
 mod rows;
 mod scores;
 mod start;
@@ -42,6 +49,10 @@ pub use best::Best;
 pub use cell::{Bit, Cell, Sign, Step, Way};
 pub use ends::{Bits, Ends};
 pub use lengths::{EARLY, JUMP, LENGTHS};
+pub use mark::StepMarks;
+pub use marks::KEPT;
 pub use numbers::{Numbers, PLACES};
+pub use paths::Paths;
+pub use point::{Back, Point};
 pub use scores::{Heard, Scores};
 pub use starts::{Starts, Ways};
