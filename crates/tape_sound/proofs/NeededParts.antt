@@ -1,14 +1,12 @@
 -- Three sounds that lack one part of a margin each, and cross too soon, too often or too late.
-use Rattle.std.proofs.Common.{◌≡◌, ℕ, zero, suc, ◌+◌, ◌<◌, ◌≤◌, Bool, true, false, ℤ, pos, neg_ℤ, ◌≤ℤ◌, List, [], ◌∷◌}
-use Rattle.std.proofs.Common.{length}
+use Rattle.std.proofs.Common.{ℕ, zero, suc, ◌<◌, ◌≤◌, ℤ, pos, neg_ℤ, List, [], ◌∷◌}
 use Rattle.std.proofs.Common.{refl, arith}
-use Rattle.std.specs.Prelude.{◌+ℤ◌}
 use Rattle.std.proofs.lemmas.Int.{ints}
 use Rattle.pcm_front.specs.declared.side.Side.TheVariants.{Low}
 use Rattle.pcm_front.specs.declared.threshold.Threshold.TheVariants.{Fixed}
 use Rattle.pcm_front.specs.Crossing.{apart, moments}
-use Rattle.pcm_front.specs.Side.{other_side, sample_at}
-use Rattle.tape_sound.specs.Margin.{reaches, turns, ComeBehind, ComeWithin, GoesOverAt, IsNoisy, StaysBetween}
+use Rattle.pcm_front.specs.Side.{sample_at}
+use Rattle.tape_sound.specs.Margin.{turns, ComeBehind, ComeWithin, GoesOverAt, IsNoisy, StaysBetween}
 
 -- a number below another, as it goes over
 abbrev minus : ℕ → ℤ

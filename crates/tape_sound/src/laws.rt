@@ -1,6 +1,6 @@
 //! What follows from the definitions alone: from a tape that is found late to the words of a sound.
-ghost use Rattle.std.specs.Prelude.{◌≡◌, ℕ, ◌+◌, ◌*◌, ◌/◌, ◌≤◌, max, List, [], ◌∷◌, map, count_by, true, false, take};
-ghost use Rattle.std.specs.Prelude.{drop, ℤ, pos, neg_ℤ, ◌+ℤ◌, ◌-ℤ◌, unsigned_abs, length};
+ghost use Rattle.std.specs.Prelude.{◌≡◌, ℕ, ◌+◌, ◌*◌, ◌/◌, ◌<◌, ◌≤◌, max, List, [], ◌∷◌, map, count_by, true, false};
+ghost use Rattle.std.specs.Prelude.{take, drop, ℤ, pos, neg_ℤ, ◌+ℤ◌, ◌-ℤ◌, unsigned_abs, length};
 ghost use Rattle.std.specs.List.{AllByRecursion};
 ghost use Rattle.biphase.specs.declared.cell.Cell.{Cell};
 ghost use Rattle.biphase.specs.declared.cell.Cell.TheVariants.{One};
@@ -24,7 +24,7 @@ ghost use Rattle.pcm_front.specs.Level.{least_of};
 ghost use Rattle.pcm_front.specs.Sound.{sound};
 ghost use Rattle.tc_address.specs.declared.system.System.{System};
 ghost use Rattle.tape_sound.specs.Heard.{AreHeard, BeginsLate, FitsAFile, FitsBehindASilence, HasMargin};
-ghost use Rattle.tape_sound.specs.Late.{delays_of, AreFoundAs, IsSteady, IsWithinAHundredth};
+ghost use Rattle.tape_sound.specs.Late.{delays_of, drift_from, AreFoundAs, IsSteady, IsWithinAHundredth};
 ghost use Rattle.tape_sound.specs.Made.{scaled};
 ghost use Rattle.tape_sound.specs.Margin.{turns, ComeBehind, ComeWithin, GoesOverAt, IsNoisy, StaysBetween};
 ghost use Rattle.tape_sound.specs.OnTime.{told, untimed, AreOnTime};
@@ -65,6 +65,20 @@ pub fn fewer_delays_are_refused()
         × AreFoundAs 50 0 (One 682 669 ∷ []) (One 732 619 ∷ []) × ¬ IsChain Worn (One 732 619 ∷ []) }
     ensures rough { IsWithinAHundredth 10 10 (One 51 50 ∷ [])
         × AreFoundAs 10 0 (One 51 50 ∷ []) (One 61 40 ∷ []) × ¬ IsChain Rough (One 61 40 ∷ []) }
+{}
+
+/// Nor would fewer drifts or delays do. A one whose halves differ by 3 ticks breaks the normal tolerance
+/// though it outlasts 15 drifts, and the worn one though it outlasts 11; one of equal halves, whose middle is
+/// found 10 ticks late, breaks the three of them though it outlasts 31, 23 and 9 delays.
+pub fn the_numbers_of_steadiness_are_the_least()
+    ensures normal_drifts { (15 * drift_from 47 (One 25 22) < 47) × ¬ IsChain Normal (One 25 22 ∷ []) }
+    ensures worn_drifts { (11 * drift_from 35 (One 19 16) < 35) × ¬ IsChain Worn (One 19 16 ∷ []) }
+    ensures normal_delays { (16 * drift_from 316 (One 158 158) + 31 * 10 < 316)
+        × AreFoundAs 10 0 (One 158 158 ∷ []) (One 168 148 ∷ []) × ¬ IsChain Normal (One 168 148 ∷ []) }
+    ensures worn_delays { (12 * drift_from 236 (One 118 118) + 23 * 10 < 236)
+        × AreFoundAs 10 0 (One 118 118 ∷ []) (One 128 108 ∷ []) × ¬ IsChain Worn (One 128 108 ∷ []) }
+    ensures rough_delays { (8 * drift_from 96 (One 48 48) + 9 * 10 < 96)
+        × AreFoundAs 10 0 (One 48 48 ∷ []) (One 58 38 ∷ []) × ¬ IsChain Rough (One 58 38 ∷ []) }
 {}
 
 /// Noise moves no crossing past the delay. Where a clean sound goes over once at each of some moments,
