@@ -1,10 +1,13 @@
-"""What stands between the spans of a reading: code that is missing, labels that jump, turns, and changes of the count."""
+"""What stands between the spans of a reading: code that is missing, labels that jump, turns, and changes of the
+count.
+"""
 from dataclasses import dataclass, replace
 from fractions import Fraction
 
 from .spans import Reading, Span
 
-# Labels go on in time where they are as many as frames fit into the gap, to one, and to what a tape's speed may drift.
+# Labels go on in time where they are as many as frames fit into the gap, to one, and to what a tape's speed may
+# drift.
 ONE_FRAME, DRIFT = 1, Fraction(1, 250)
 # Between words that follow one another there is one frame: with more, some are missing.
 MISSING = 1.5

@@ -1,4 +1,5 @@
-"""The time code of a sound: each track and each system is tried, and other front ends where little is heard; the best is
+"""The time code of a sound: each track and each system is tried, and other front ends where little is heard; the best
+is
 chosen, with how sure that is."""
 from collections.abc import Sequence
 from dataclasses import dataclass, field
@@ -74,7 +75,8 @@ class Choice:
         if rival is None:
             return "the system was given"
         if mine.heard < mine.system:
-            return f"not sure: less than a second of code, and {rival.system} frames a second read {rival.heard} frames of it"
+            fewer = f"{rival.system} frames a second read {rival.heard} frames of it"
+            return f"not sure: less than a second of code, and {fewer}"
         if rival.heard < mine.heard or rival.refused > mine.refused:
             return f"sure: as {rival.system} frames a second {rival.refused} words are refused"
         if len(rival.spans) > len(mine.spans):
@@ -108,10 +110,12 @@ def intervals_a_frame(reading: Reading) -> float:
 
 
 def hears_little(reading: Reading) -> bool:
-    """There are many more intervals than the frames that were heard have."""
+    """There are many more intervals than the frames that were heard have, and time for more frames."""
     if reading.intervals < FEW_INTERVALS:
         return False
     frames = reading.intervals / intervals_a_frame(reading)
+    if reading.frame:
+        frames = min(frames, float(reading.ticks / reading.frame))
     return reading.heard < WELL * frames - SYSTEMS[0] / 2
 
 
@@ -139,7 +143,7 @@ def choose(sound: Sound, wanted: Wanted, room: str, progress: Progress | None = 
 
 
 def front_ends_for(sound: Sound, mine: Reading) -> list[FrontEnd]:
-    """What is worth a try on a track: all of them where more code is seen than heard; on a quiet one a low threshold."""
+    """What is worth a try on a track: all where more code is seen than heard; on a quiet one a low threshold."""
     if hears_little(mine):
         return front_ends.others(mine.rate)
     if mine.intervals < FEW_INTERVALS and levels.level_of(sound, mine.track).is_quiet:

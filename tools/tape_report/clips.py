@@ -1,4 +1,5 @@
-"""The spans of a folder's tapes as clips, for editing systems: what was heard of a tape, from a label to the one behind the
+"""The spans of a folder's tapes as clips, for editing systems: what was heard of a tape, from a label to the one
+behind the
 last."""
 import re
 from collections.abc import Iterable

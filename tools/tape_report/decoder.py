@@ -86,7 +86,7 @@ class Decoder:
 
 def streams_of(path: str) -> tuple[list[dict[str, Any]], dict[str, Any]]:
     """The sounds of a file, and what is said of the whole."""
-    entries = "stream=codec_type,codec_name,channels,sample_rate,start_time:format=duration,format_name"
+    entries = "stream=codec_type,codec_name,channels,sample_rate,start_time,duration:format=duration,format_name"
     said = probed(path, entries)
     sounds = [it for it in said.get("streams", []) if it.get("codec_type") == "audio"]
     sounds = [it for it in sounds if number_in(it, "channels") > 0 and number_in(it, "sample_rate") > 0]

@@ -1,4 +1,6 @@
-"""Edit decision lists of the form CMX 3600: the spans of all tapes, one behind another, each with the tape's labels as source."""
+"""Edit decision lists of the form CMX 3600: the spans of all tapes, one behind another, each with the tape's labels
+as source.
+"""
 from collections.abc import Iterator
 
 from .clips import Clip, by_form, clips_of

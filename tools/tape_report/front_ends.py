@@ -1,4 +1,6 @@
-"""The ways in which a track is made into intervals: a row each. What hears little by the first is tried by the others."""
+"""The ways in which a track is made into intervals: a row each. What hears little by the first is tried by the
+others.
+"""
 import shutil
 from dataclasses import dataclass
 

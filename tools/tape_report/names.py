@@ -7,7 +7,9 @@ LIKE_AN_ESCAPE = re.compile(r"\\(?=x[0-9a-f]{2})")
 
 
 def shown(name: str) -> str:
-    """The name, with `\\xHH` for each byte that is no UTF-8 or moves the line, and for a backslash before such letters."""
+    """The name, with `\\xHH` for each byte that is no UTF-8 or moves the line, and for a backslash before such
+    letters.
+    """
     text = LIKE_AN_ESCAPE.sub(r"\\x5c", name)
     return "".join(letter if is_plain(letter) else escaped(letter) for letter in text)
 

@@ -1,4 +1,5 @@
-"""Where a file lies in the day: one number, the whole samples since midnight of its first sample, with all that makes it
+"""Where a file lies in the day: one number, the whole samples since midnight of its first sample, with all that makes
+it
 doubtful. The report's label, its count and both kinds of stamp come from this number."""
 import itertools
 from dataclasses import dataclass
@@ -84,7 +85,7 @@ def rate_of(reading: Reading, given: Fraction | None) -> tuple[Fraction, str | N
 
 
 def first_words(reading: Reading, count: str) -> list[tuple[int, int]]:
-    """The words of the first two seconds of the first span: how many frames each lies behind the first, and its tick."""
+    """The words of the first span's first two seconds: how many frames each lies behind the first, and its tick."""
     span = reading.spans[0]
     # Slow code needs more time for as many labels.
     most = SECONDS_OF_CODE * FRAMES[count]

@@ -41,7 +41,9 @@ def is_other(path: str) -> bool:
 
 @functools.cache
 def program() -> str:
-    """The path of `tc`: that of TC, the one it was installed with, or the first of the shell's that is no other program."""
+    """The path of `tc`: that of TC, the one it was installed with, or the first of the shell's that is no other
+    program.
+    """
     named = os.environ.get("TC")
     if named:
         if not is_program(named):

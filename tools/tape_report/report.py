@@ -23,12 +23,6 @@ def clock(seconds: float) -> str:
     return f"{minutes // 60}:{minutes % 60:02}:{rest // 1000:02}.{rest % 1000:03}"
 
 
-def short_clock(seconds: float) -> str:
-    """Minutes and seconds, or hours too."""
-    minutes, rest = divmod(int(seconds), 60)
-    return f"{minutes // 60}:{minutes % 60:02}:{rest:02}" if minutes >= 60 else f"{minutes}:{rest:02}"
-
-
 def span_rows(name: str, reading: Reading) -> Iterator[list[object]]:
     for number, span in enumerate(reading.spans, 1):
         begins, ends = (f"{reading.seconds_at(tick):.4f}" for tick in (span.begin, span.end))
@@ -70,17 +64,6 @@ def early(sound: Sound) -> str:
     return " in the first ten minutes" if sound.seconds is None or sound.seconds > LEVEL_SECONDS else ""
 
 
-def read_to_note(reading: Reading, sound: Sound) -> str:
-    """How far a sound was read whose decoder ended early."""
-    if reading.read_to is None:
-        return ""
-    return f"read to {short_clock(reading.read_to)} of {short_clock(sound.seconds or 0)}"
-
-
-def notes_of(reading: Reading, sound: Sound) -> list[str]:
-    return [note for note in (read_to_note(reading, sound), reading.note) if note]
-
-
 def rate_line(choice: Choice, place: Place | None, is_given: bool) -> Iterator[str]:
     """Said where the words do not decide the rate."""
     mine = choice.reading
@@ -105,7 +88,8 @@ def tracks_lines(choice: Choice) -> Iterator[str]:
     for it in tracks:
         if it.track != mine.track and has_own_code(it, mine):
             first, last = it.spans[0].first, it.spans[-1].last
-            yield f"track {it.track:<7} {it.system} frames a second, {first} to {last}, heard {it.heard} in {len(it.spans)} spans"
+            heard = f"heard {it.heard} in {len(it.spans)} span{'s' * (len(it.spans) != 1)}"
+            yield f"track {it.track:<7} {it.system} frames a second, {first} to {last}, {heard}"
 
 
 def has_own_code(other: Reading, mine: Reading) -> bool:
@@ -136,7 +120,8 @@ def code_lines(choice: Choice, place: Place | None, level: Level, sound: Sound, 
     if choice.tried:
         yield f"front end     {mine.front}; tried {', '.join(choice.tried)}"
     yield f"peak          {level.decibels}{early(sound)}"
-    yield f"heard         {mine.heard} frames, {mine.bridged} bridged; {mine.refused} words refused, {mine.lost} times lost"
+    missed = f"{mine.refused} words refused, {mine.lost} times lost"
+    yield f"heard         {mine.heard} frames, {mine.bridged} bridged; {missed}"
     yield f"breaks        {breaks_of(mine).told()}"
 
 
@@ -170,7 +155,7 @@ def found_report(name: str, sound: Sound, choice: Choice, place: Place | None, l
         "spans",
     ]
     lines += span_lines(choice.reading)
-    lines += [f"note          {note}" for note in notes_of(choice.reading, sound)]
+    lines += [f"note          {choice.reading.note}"] if choice.reading.note else []
     return "\n".join(lines) + "\n"
 
 
@@ -197,5 +182,5 @@ def empty_report(name: str, sound: Sound, choice: Choice, levels: dict[int, Leve
     for track, level in levels.items():
         told = f"peak {level.decibels}, {level.crossings:.0f} crossings a second{early(sound)}"
         lines.append(f"track {track:<7} {told}; {advice(level, bool(choice.tried))}")
-    lines += [f"note          {note}" for note in notes_of(choice.reading, sound)]
+    lines += [f"note          {choice.reading.note}"] if choice.reading.note else []
     return "\n".join(lines) + "\n"

@@ -7,7 +7,6 @@ from .breaks import breaks_of
 from .choice import Choice
 from .labels import name_of
 from .place import Place, count_of, rate_of
-from .report import notes_of
 from .sound import Sound
 from .spans import Reading
 
@@ -74,7 +73,7 @@ def row_of(name: str, sound: Sound, choice: Choice, place: Place | None) -> Row:
     """The row of a tape that was read."""
     mine = choice.reading
     row = Row(name, NONE, seconds=None if sound.seconds is None else round(sound.seconds, 3))
-    row.note = "; ".join(notes_of(mine, sound))
+    row.note = mine.note
     if not choice.is_found:
         return row
     row.status, row.track, row.system = CODE, mine.track, mine.system

@@ -92,8 +92,8 @@ class Slicing:
         self.slicer.wait()
         self.input.close()
 
-    def ended(self, is_empty: bool) -> tuple[str, float | None]:
-        """What is to be noted, and how far the sound was read where that is less than all. Raises where nothing was read."""
+    def ended(self, is_empty: bool) -> str:
+        """What is to be noted of how it went. Raises where nothing was read."""
         status = self.slicer.wait()
         self.notes.seek(0)
         note = self.notes.read(65_536).decode("utf-8", "replace").strip().replace("\n", "; ")
@@ -101,20 +101,27 @@ class Slicing:
             return self.decoder_ended(self.input.decoder, note, is_empty)
         if status != 0 and (is_empty or "refused" not in note and "limit" not in note):
             raise NoSound(note or f"tc ended with status {status}")
-        return note, None
+        return note
 
-    def decoder_ended(self, decoder: Decoder, note: str, is_empty: bool) -> tuple[str, float | None]:
+    def decoder_ended(self, decoder: Decoder, note: str, is_empty: bool) -> str:
         # It has no reader any more, where `tc` gave up.
         self.input.output.close()
-        status, seconds, whole = decoder.wait(), decoder.seconds() or 0.0, self.sound.seconds
-        said = decoder.note()
+        status, seconds, said = decoder.wait(), decoder.seconds() or 0.0, decoder.note()
+        has_failed = status != 0 or said != ""
+        told = f"ffmpeg: {said or f'it ended with status {status}'}" if has_failed else ""
         if is_empty or status != 0 and seconds == 0:
-            raise NoSound(f"ffmpeg: {said or 'no sound came'}" if status or said else note or "no sound came")
+            raise NoSound(told or note or "no sound came")
+        # The length of the whole may be that of a picture: it counts where the decoder failed.
+        whole = self.stream.seconds or (self.sound.seconds if has_failed else None)
         is_early = whole is not None and seconds < whole - EARLY_SECONDS
-        if status == 0 and not is_early:
-            return note, None
-        told = f"ffmpeg: {said or f'it ended with status {status}'}" if status or said else ""
-        return "; ".join(it for it in (note, told) if it), seconds
+        read_to = f"read to {minutes(seconds)} of {minutes(whole)}" if is_early and whole else ""
+        return "; ".join(it for it in (read_to, note, told) if it)
+
+
+def minutes(seconds: float) -> str:
+    """Minutes and seconds, or hours too."""
+    whole, rest = divmod(int(seconds), 60)
+    return f"{whole // 60}:{whole % 60:02}:{rest:02}" if whole >= 60 else f"{whole}:{rest:02}"
 
 
 def read_track(
@@ -137,7 +144,7 @@ def read_track(
                 # The system stands in byte 5 of the header, and nothing else depends on it.
                 reader.take(data[:5] + bytes([reader.system]) + data[6:] if is_empty else data)
             is_empty = False
-        note, read_to = slicing.ended(is_empty)
+        note = slicing.ended(is_empty)
     except BrokenPipeError:
         raise NoProgram("tc did not read the intervals that it made") from None
     finally:
@@ -145,10 +152,10 @@ def read_track(
         slicing.close()
     if not are_whole and not is_empty:
         raise NoProgram("tc did not read the intervals that it made")
-    return [told(reader, track, slicing.stream.rate, front, note, read_to) for reader in readers]
+    return [told(reader, track, slicing.stream.rate, front, note) for reader in readers]
 
 
-def told(reader: Reader, track: int, rate: int, front: FrontEnd, note: str, read_to: float | None) -> Reading:
+def told(reader: Reader, track: int, rate: int, front: FrontEnd, note: str) -> Reading:
     """What a reader told."""
     spans, ticks = spans_in(reader.lines(0))
     reading = Reading(
@@ -162,7 +169,6 @@ def told(reader: Reader, track: int, rate: int, front: FrontEnd, note: str, read
         ticks=ticks,
         path=reader.outputs[1],
         note=note,
-        read_to=read_to,
     )
     for line in reader.lines(1, last=1):
         words = line.split()

@@ -14,6 +14,10 @@ from .source import Source
 from .wave import NO_SIZE, Wave, is_wave, wave_of
 
 
+# Forms whose header has no length: ffprobe estimates it.
+ESTIMATED = ("mp3", "aac", "ac3", "eac3")
+
+
 @dataclass(frozen=True)
 class Stream:
     """Tracks that are decoded together: those of a sound file, or of one sound of a video file."""
@@ -24,6 +28,8 @@ class Stream:
     number: int = 0
     # When its first sample is played, in seconds of the file's clock.
     begins: float = 0.0
+    # How long it is by its own header; None where that is not known.
+    seconds: float | None = None
 
 
 @dataclass
@@ -109,17 +115,21 @@ def wave_sound(source: Source, form: Wave) -> Sound:
     return Sound(source, kind, [Stream(max(1, tracks), rate)], form.seconds, form)
 
 
+def stream_of(said: dict[str, Any], number: int, is_known: bool) -> Stream:
+    """A sound as ffprobe tells it."""
+    seconds = number_in(said, "duration") if is_known else 0.0
+    tracks, rate = int(said["channels"]), int(said["sample_rate"])
+    return Stream(tracks, rate, number, number_in(said, "start_time"), seconds or None)
+
+
 def decoded_sound(source: Source, form: Wave | None) -> Sound:
     """Any other sound, as ffmpeg sees it."""
     if not programs.has_ffmpeg():
         what = "its samples are of a form that tc does not take" if form else "it is no WAV file"
         raise NoSound(f"{what}, and ffmpeg, which reads others, is not installed")
     sounds, whole = streams_of(source.path)
-    streams = [
-        Stream(int(it["channels"]), int(it["sample_rate"]), number, number_in(it, "start_time"))
-        for number, it in enumerate(sounds)
-    ]
     kind, coded = str(whole.get("format_name", "sound")).split(",")[0], str(sounds[0].get("codec_name", "unknown"))
+    streams = [stream_of(it, number, kind not in ESTIMATED) for number, it in enumerate(sounds)]
     seconds = number_in(whole, "duration") or None
     return Sound(source, kind if kind == coded else f"{kind} ({coded})", streams, seconds, form, is_decoded=True)
 

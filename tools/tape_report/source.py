@@ -1,4 +1,6 @@
-"""A file as it was named, as one that can be read again and again: what comes by a pipe is kept in a file without a name."""
+"""A file as it was named, as one that can be read again and again: what comes by a pipe is kept in a file without a
+name.
+"""
 import contextlib
 import os
 import shutil

@@ -9,7 +9,9 @@ FINENESS = 16
 
 @dataclass(frozen=True)
 class Span:
-    """A line of `ltc-spans`: labels that go on, from a first heard frame to a last one, and the ticks at which these end."""
+    """A line of `ltc-spans`: labels that go on, from a first heard frame to a last one, and the ticks at which these
+    end.
+    """
 
     direction: str
     first: str
@@ -68,8 +70,6 @@ class Reading:
     # The file of the lines of its words, and what `tc` or the decoder noted.
     path: str = ""
     note: str = ""
-    # How far the sound was read, where a decoder ended early.
-    read_to: float | None = None
 
     @property
     def heard(self) -> int:

@@ -1,4 +1,5 @@
-"""A copy of a sound file whose chunk `bext` says where it begins (EBU Tech 3285), read back before it gets its name."""
+"""A copy of a sound file whose chunk `bext` says where it begins (EBU Tech 3285), read back before it gets its name.
+"""
 import struct
 from collections.abc import Iterator
 from typing import IO
@@ -55,7 +56,8 @@ def rate_of_whole(form: Wave) -> int:
 
 
 def stamp_wave(path: str, form: Wave, reference: int, out: IO[bytes]) -> None:
-    """Writes the copy: each chunk as it was, but `bext` and iXML with the reference, and `bext` before `data` where there
+    """Writes the copy: each chunk as it was, but `bext` and iXML with the reference, and `bext` before `data` where
+    there
     was none."""
     rate = rate_of_whole(form)
     has_bext = form.first(b"bext") is not None
@@ -109,7 +111,9 @@ def add_at(out: IO[bytes], place: int, form: str, more: int) -> None:
 
 
 def check_wave(path: str, form: Wave, copy: str, reference: int) -> None:
-    """Reads the copy back: its samples and its other chunks are the file's, and all that says where it begins is meant."""
+    """Reads the copy back: its samples and its other chunks are the file's, and all that says where it begins is
+    meant.
+    """
     made = wave_of(copy)
     with open(path, "rb") as file, open(copy, "rb") as other:
         theirs = [chunk for chunk in made.chunks if chunk.name != b"bext"]

@@ -1,4 +1,5 @@
-"""The output of an archive: whose it is, and what stands of each tape. A tape's row is written last, so with it the tape
+"""The output of an archive: whose it is, and what stands of each tape. A tape's row is written last, so with it the
+tape
 is done."""
 import contextlib
 import json

@@ -1,4 +1,6 @@
-"""The tables of an archive, of what stands of each tape: the same folder gives the same, whatever the order of the jobs."""
+"""The tables of an archive, of what stands of each tape: the same folder gives the same, whatever the order of the
+jobs.
+"""
 import csv
 import io
 import os

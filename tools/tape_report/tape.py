@@ -1,4 +1,5 @@
-"""The tool for tapes: each file is told, and the page, picture and copy of one are written where they are asked for."""
+"""The tool for tapes: each file is told, and the page, picture and copy of one are written where they are asked for.
+"""
 import argparse
 import os
 import subprocess

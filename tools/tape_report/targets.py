@@ -43,7 +43,9 @@ def identity(path: str | int) -> Identity:
 
 
 def refuse(path: str, force: bool, tapes: Iterable[Identity] = ()) -> None:
-    """Raises where a file of this name must not be written: a tape itself and a folder never, and what exists by force alone."""
+    """Raises where a file of this name must not be written: a tape itself and a folder never, and what exists by
+    force alone.
+    """
     if not os.path.lexists(path):
         if not os.path.isdir(os.path.dirname(path) or "."):
             raise NoTarget(f"{shown(path)}: its folder is not there")
@@ -112,7 +114,9 @@ def write_text(path: str, text: str, force: bool = False, tapes: Iterable[Identi
 
 
 def beginning_of(path: str) -> str:
-    """How the names of half-written files of this target begin. The target's own name may be as long as a name can be."""
+    """How the names of half-written files of this target begin. The target's own name may be as long as a name can
+    be.
+    """
     return f".tc-part-{hashlib.sha256(os.fsencode(os.path.basename(path))).hexdigest()[:16]}-"
 
 

@@ -122,7 +122,9 @@ def try_whose_output(room):
 
 
 def try_changed(room):
-    """--resume reads again what changed, in size or in time, or failed, and takes away what belonged to the tape before."""
+    """--resume reads again what changed, in size or in time, or failed, and takes away what belonged to the tape
+    before.
+    """
     want("parallel")
     folder, out = archive_of(room), os.path.join(room, "out")
     assert run(ARCHIVE, folder, out)[0] == 0

@@ -153,7 +153,7 @@ def try_full_disk(room):
 def long_tape(room):
     """Code, and then so much silence that its copy takes a while; the file has no such blocks on the disk."""
     path = wav(os.path.join(room, "long.wav"), 48_000, [code(48_000, intervals("25", "10:00:00:00", 60))])
-    more = 200 << 20
+    more = 32 << 20
     with open(path, "r+b") as file:
         size = os.path.getsize(path)
         file.truncate(size + more)
@@ -189,7 +189,9 @@ def try_ends(room):
 
 
 def try_dead_and_living(room):
-    """The next run takes away the half of a dead run of the same target: not that of a living one, nor of another target."""
+    """The next run takes away the half of a dead run of the same target: not that of a living one, nor of another
+    target.
+    """
     path, _ = plain(room)
     copy = os.path.join(room, "copy.wav")
     dead, living = (targets.beginning_of(copy) + 16 * digit for digit in "ab")

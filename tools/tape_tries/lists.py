@@ -90,8 +90,8 @@ def try_edl(room):
             record = out_of
     with open(os.path.join(out, "archive-25.edl"), encoding="ascii") as file:
         text = file.read()
-    has(text, "001  REEL1    AA    C        10:00:00:00 10:00:02:24", "002  REEL12   AA    C        11:00:00:0")
-    has(text, "M2   REEL12         -025.0                11:00:00:0", "* FROM CLIP NAME: reel-1.wav")
+    has(text, "001  REEL1    AA    C        10:00:00:00 10:00:0", "002  REEL12   AA    C        10:59:57:0")
+    has(text, "M2   REEL12         -025.0                10:59:57:0", "* FROM CLIP NAME: reel-1.wav")
 
 
 def try_ale(room):
@@ -135,7 +135,8 @@ def try_index(room):
 
 # The page sorts and filters as a click and a word typed would.
 CLICKED = """<script>
-const told = document.createElement("pre"), files = () => [...document.querySelectorAll("td.file")].map(it => it.textContent).join("|");
+const told = document.createElement("pre");
+const files = () => [...document.querySelectorAll("td.file")].map(it => it.textContent).join("|");
 told.textContent += "at first " + files() + "\\n";
 const heads = [...document.querySelectorAll("#heads button")];
 heads[0].click(); told.textContent += "by file " + files() + "\\n";

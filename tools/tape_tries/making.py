@@ -18,7 +18,9 @@ def intervals(count, label, frames, direction="forward", rate=None):
 
 
 def code(rate, ticks, lead=0, size=9000):
-    """The samples of code behind so many samples of silence: a sample in which the code changes sides lies between them."""
+    """The samples of code behind so many samples of silence: a sample in which the code changes sides lies between
+    them.
+    """
     samples, side, tick, done = [0] * lead, 1, 0, 0
     for interval in ticks:
         tick += interval
