@@ -3,7 +3,7 @@ import argparse
 import os
 from collections.abc import Sequence
 
-from . import jobs, store, table
+from . import jobs, store
 from . import options as words
 from .endings import FAILED, FOUND, say
 from .faults import Fault, reason_of
@@ -50,19 +50,23 @@ def work(options: argparse.Namespace) -> int:
             if not (options.resume and store.is_done(run, name)):
                 jobs.work_one(run, name)
         return FOUND
+    # A job, of which there are many, has no need of the tables.
+    from . import table
+
     numbers = [number for number, name in enumerate(names) if not (options.resume and store.is_done(run, name))]
     jobs.put_list(run, names)
     jobs.work_all(run, numbers, options.jobs, options.hosts)
-    return tell(table.collect(run, names, options.edl, options.ale), options.json)
+    told = table.collect(run, names, options.edl, options.ale)
+    return tell(told, table.counts([it.row for it in told]), options.json)
 
 
-def tell(tapes: list[Told], is_json: bool) -> int:
+def tell(tapes: list[Told], counted: str, is_json: bool) -> int:
     """The summary, with each tape that was not read; or an object a tape."""
     rows = [told.row for told in tapes]
     if is_json:
         print("".join(told.as_json() + "\n" for told in tapes), end="")
     else:
-        print(table.counts(rows))
+        print(counted)
         for row in rows:
             if row.status in (FAILED_ROW, MISSING):
                 print(f"{row.status}: {row.file}: {row.note or 'not read'}")

@@ -13,6 +13,8 @@ from .spans import Reading, words_in
 SYSTEMS = (24, 25, 30)
 # Of so few intervals nothing is concluded: they are clicks.
 FEW_INTERVALS = 400
+# Hum has so many intervals a second at most.
+HUM_INTERVALS = 500
 # A tape is heard well where so much of the code that is seen is heard.
 WELL = 0.9
 # Labels that go on over so many frames are code, and no chance.
@@ -143,12 +145,16 @@ def choose(sound: Sound, wanted: Wanted, room: str, progress: Progress | None = 
 
 
 def front_ends_for(sound: Sound, mine: Reading) -> list[FrontEnd]:
-    """What is worth a try on a track: all where more code is seen than heard; on a quiet one a low threshold."""
+    """What is worth a try on a track: all where more code is seen than heard; where nothing is heard of few intervals,
+    a low threshold on a quiet one, and a filter where a hum may cover the code."""
     if hears_little(mine):
         return front_ends.others(mine.rate)
-    if mine.intervals < FEW_INTERVALS and levels.level_of(sound, mine.track).is_quiet:
+    if mine.heard or mine.intervals / max(1.0, sound.seconds or 1.0) > HUM_INTERVALS:
+        return []
+    level = levels.level_of(sound, mine.track)
+    if level.is_quiet:
         return [front_ends.QUIET]
-    return []
+    return [] if level.is_silent else [front for front in front_ends.others(mine.rate) if front.high_pass]
 
 
 def tried_by_others(

@@ -4,7 +4,6 @@ doubtful. The report's label, its count and both kinds of stamp come from this n
 import itertools
 from dataclasses import dataclass
 from fractions import Fraction
-from statistics import median
 
 from .breaks import goes_on
 from .choice import Choice
@@ -110,7 +109,7 @@ def begin_of(reading: Reading, count: str, rate: Fraction) -> tuple[Fraction, Fr
     if len(words) > 1 and words[-1][0] > 0:
         length = Fraction(words[-1][1] - words[0][1], words[-1][0] - words[0][0])
     ends = [tick - steps * length for steps, tick in words] or [Fraction(reading.spans[0].begin)]
-    return median(ends) - length, length
+    return sorted(ends)[len(ends) // 2] - length, length
 
 
 def frames_that_go_on(reading: Reading) -> int:

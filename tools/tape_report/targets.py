@@ -7,13 +7,12 @@ writes the same target.
 import contextlib
 import errno
 import fcntl
-import hashlib
 import os
 import re
-import secrets
 import shutil
 import stat
 import tempfile
+import zlib
 from collections.abc import Iterable, Iterator
 from dataclasses import dataclass
 from typing import IO
@@ -117,14 +116,14 @@ def beginning_of(path: str) -> str:
     """How the names of half-written files of this target begin. The target's own name may be as long as a name can
     be.
     """
-    return f".tc-part-{hashlib.sha256(os.fsencode(os.path.basename(path))).hexdigest()[:16]}-"
+    return f".tc-part-{zlib.crc32(os.fsencode(os.path.basename(path))):08x}-"
 
 
 def new_part(path: str) -> tuple[IO[bytes], str]:
     """A new file beside the target, locked as long as it is open, and its name."""
     folder = os.path.dirname(path) or "."
     while True:
-        name = os.path.join(folder, beginning_of(path) + secrets.token_hex(8))
+        name = os.path.join(folder, beginning_of(path) + os.urandom(8).hex())
         handle = os.open(name, os.O_RDWR | os.O_CREAT | os.O_EXCL | os.O_CLOEXEC, 0o666)
         with contextlib.suppress(OSError):
             fcntl.flock(handle, fcntl.LOCK_EX)

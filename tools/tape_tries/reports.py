@@ -99,9 +99,9 @@ def try_front_ends(room):
         out, _ = tape(path)
         assert re.search(rf"\nfront end     ({taken}).*; tried sums of 3", out), out
     # A loud hum, which only a filter takes away.
-    made = code(48_000, intervals("25", "10:00:00:00", 100), size=1500)
+    made = code(48_000, intervals("25", "10:00:00:00", 100), size=3000)
     loud = [
-        round(sample + 15_000 * math.sin(2 * math.pi * 50 * number / 48_000)) for number, sample in enumerate(made)
+        round(sample + 12_000 * math.sin(2 * math.pi * 50 * number / 48_000)) for number, sample in enumerate(made)
     ]
     path = wav(os.path.join(room, "loud.wav"), 48_000, [loud])
     want("ffmpeg")
