@@ -4,6 +4,7 @@ count.
 from dataclasses import dataclass, replace
 from fractions import Fraction
 
+from .labels import LABELS_A_DAY, number_of
 from .spans import Reading, Span
 
 # Labels go on in time where they are as many as frames fit into the gap, to one, and to what a tape's speed may
@@ -43,13 +44,12 @@ def goes_on(span: Span, frame: Fraction | None) -> bool:
     return fits(span.gap, steps_of(span), frame)
 
 
-def without_misread(spans: list[Span], frame: Fraction | None) -> list[Span]:
+def without_misread(spans: list[Span], system: int, frame: Fraction | None) -> list[Span]:
     """The spans without single frames whose label fits neither neighbour, while these two fit each other."""
     kept: list[Span] = []
     for span in spans:
-        lone = kept[-1] if len(kept) > 1 else None
-        if lone is not None and lone.frames == 1 and not goes_on(lone, frame):
-            joined = joined_over(lone, span)
+        if len(kept) > 1 and kept[-1].frames == 1 and not goes_on(kept[-1], frame):
+            joined = joined_to(kept[-2], kept[-1], span, system)
             if goes_on(joined, frame):
                 kept.pop()
                 span = joined
@@ -57,18 +57,20 @@ def without_misread(spans: list[Span], frame: Fraction | None) -> list[Span]:
     return kept
 
 
-def joined_over(lone: Span, span: Span) -> Span:
-    """A span as it stands to the one before a single frame."""
-    steps = (steps_of(lone), steps_of(span))
-    if None in steps or lone.gap is None or span.gap is None:
+def joined_to(before: Span, lone: Span, span: Span, system: int) -> Span:
+    """A span as it stands to the one before a single frame, where both run the same way in the same count."""
+    if (before.direction, before.is_drop) != (span.direction, span.is_drop) or lone.gap is None or span.gap is None:
         return span
-    return replace(span, gap=lone.gap + span.gap, relation=f"step {sum(it for it in steps if it is not None)}")
+    count = "30d" if span.is_drop else str(system)
+    way = -1 if span.direction == "backward" else 1
+    steps = way * (number_of(count, span.first) - number_of(count, before.last)) % LABELS_A_DAY[count]
+    return replace(span, gap=lone.gap + span.gap, relation=f"step {steps}")
 
 
 def breaks_of(reading: Reading) -> Breaks:
     """The breaks of a reading. Where neither span has a length of its own, the frame is that of the whole reading."""
     found = Breaks()
-    spans = without_misread(reading.spans, reading.frame)
+    spans = without_misread(reading.spans, reading.system, reading.frame)
     for before, span in zip(spans, spans[1:]):
         frame = before.frame or span.frame or reading.frame
         if span.relation == "turn":

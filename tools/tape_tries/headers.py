@@ -9,7 +9,7 @@ from .running import ARCHIVE, TAPE, has, run
 
 # Bytes at the edges of what a field can hold.
 EDGES = (0, 1, 127, 128, 254, 255)
-FUZZED, FUZZED_LONG = 60, 2_000
+FUZZED, FUZZED_LONG = 40, 2_000
 
 
 def header_by_chance(base, chance):

@@ -7,8 +7,13 @@ import re
 import shutil
 import sys
 
-from .making import TC, code, intervals, tone, wav
+from .making import TC, TOP, code, intervals, tone, wav
 from .running import ARCHIVE, TAPE, has, run, tape, want
+
+sys.path.insert(0, os.path.join(TOP, "tools"))
+from tape_report.breaks import breaks_of
+from tape_report.labels import label_of
+from tape_report.spans import Reading, spans_in
 
 
 def try_right_track(room):
@@ -124,6 +129,39 @@ def try_tracks(room):
     out, _ = tape(wav(os.path.join(room, "two.wav"), 48_000, [one, two, one]))
     has(out, "track 2       25 frames a second, 20:00:00:00 to 20:00:02:0", "track 1, 25 frames")
     assert "\ntrack 3 " not in out, out
+
+
+def try_misread_frames(_room):
+    """Two spans of one frame side by side that fit the time, and a frame whose label was misread, are no jumps; a cut is."""
+    frame = 30_720
+
+    def breaks(*frames):
+        """The breaks of spans of one frame each, between two long ones: at so many frames, these labels."""
+        lines, at, before = [], 100, 100
+        for place, label in ((100, 100), *frames, (110, 110)):
+            text = label_of("25", label)
+            if lines:
+                lines.append(f"gap ticks {(place - at) * frame} step {label - before}")
+            lines.append(f"span forward {text} {text} heard 1 bridged 0 tick {place * frame} {place * frame} speed 0")
+            at, before = place, label
+        first = f"span forward {label_of('25', 0)} {label_of('25', 99)} heard 100 bridged 0 tick 0 {99 * frame} speed 1000"
+        lines = [
+            first,
+            f"gap ticks {frame} step 1",
+            *lines,
+            f"end intervals 1 spans 9 heard 1 bridged 0 ticks {120 * frame}",
+        ]
+        spans, ticks = spans_in(lines)
+        return breaks_of(Reading(1, 25, 48_000, "plain", spans=spans, ticks=ticks))
+
+    for frames, dropouts, jumps in (
+        (((101, 101), (102, 102)), 1, 0),
+        (((105, 2000),), 1, 0),
+        (((105, 105), (106, 106), (108, 50)), 2, 0),
+        (((105, 205), (106, 206)), 0, 2),
+    ):
+        found = breaks(*frames)
+        assert (found.dropouts, found.jumps) == (dropouts, jumps), f"{frames}: {found}"
 
 
 def try_false_jumps(room):
