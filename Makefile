@@ -1,5 +1,5 @@
 # make               proves and builds bin/tc
-# make check         the quick checks, in two minutes: doors, documents, trail, made pages, constants, exit numbers, examples and tapes on bin/tc
+# make check         the quick checks, in a few minutes: doors, documents, trail, made pages, constants, exit numbers, examples and tapes on bin/tc
 # make gate          the gate (rt ci): proves every crate, tries the must-fail edits, runs tests and program
 # make dist          tc-VERSION.tar.gz of the last commit, which builds, tests and installs by itself
 # make install       program, manual pages, completions, documents and examples, under PREFIX (and DESTDIR, for packagers)
@@ -98,6 +98,7 @@ install:
 	install -m 755 $(TOOLS) "$(DESTDIR)$(DOCDIR)/examples/tools"
 	install -m 755 tools/tape tools/archive tools/draw_report "$(DESTDIR)$(LIBDIR)"
 	install -m 644 $(wildcard tools/tape_report/*.*) "$(DESTDIR)$(LIBDIR)/tape_report"
+	install -m 644 VERSION "$(DESTDIR)$(LIBDIR)"
 	ln -sf ../lib/$(PROGRAM)/tape "$(DESTDIR)$(BINDIR)/$(PROGRAM)-tape"
 	ln -sf ../lib/$(PROGRAM)/archive "$(DESTDIR)$(BINDIR)/$(PROGRAM)-archive"
 	$(RENAME_MAN) man/tc-tape.1 > "$(DESTDIR)$(MANDIR)/man1/$(PROGRAM)-tape.1"

@@ -1,14 +1,15 @@
 # bash completion of tc-tape and tc-archive: options, and files.
 _tc_tape() {
     local word=${COMP_WORDS[COMP_CWORD]} before=${COMP_WORDS[COMP_CWORD - 1]}
-    local options="--track --system --limit --threshold --smooth --deep"
+    local options="--track --system --rate --limit --threshold --smooth --deep --json --force --version"
     case ${COMP_WORDS[0]##*/} in
-        *-archive) options+=" --jobs --hosts --resume --part" ;;
+        *-archive) options+=" --jobs --hosts --resume --part --edl --ale" ;;
         *) options+=" --csv --picture --page --stamp" ;;
     esac
     case $before in
         --system) mapfile -t COMPREPLY < <(compgen -W "24 25 30" -- "$word") ;;
-        --track | --limit | --threshold | --smooth | --jobs | --part) COMPREPLY=() ;;
+        --rate) mapfile -t COMPREPLY < <(compgen -W "23.976 24 25 29.97 30" -- "$word") ;;
+        --track | --limit | --threshold | --smooth | --jobs | -j | --part) COMPREPLY=() ;;
         *)
             if [[ $word == -* ]]; then
                 mapfile -t COMPREPLY < <(compgen -W "$options" -- "$word")

@@ -1,149 +1,186 @@
 """The report of a tape, for people, and a row a span, for a spreadsheet."""
 import csv
-import math
-from dataclasses import dataclass
+from collections.abc import Iterator
+from fractions import Fraction
+from typing import TextIO
 
-from .code import FINENESS, Choice, Reading
-from .labels import FirstSample, frames_a_second
-from .sound import LEVEL_SECONDS, Level, Sound
+from .breaks import breaks_of
+from .choice import Choice
+from .labels import NTSC, name_of, number_of
+from .levels import LEVEL_SECONDS, Level
+from .place import Place, count_of, played_rate, rate_of
+from .sound import Sound
+from .spans import Reading
 
-ROW = ["file", "track", "system", "span", "direction", "first", "last", "heard", "bridged", "begins", "ends", "speed", "gap", "relation"]
-
-
-@dataclass
-class Breaks:
-    """What stands between spans: code that is missing while its labels go on in time, labels that jump, turns, and changes of the count."""
-
-    dropouts: int = 0
-    jumps: int = 0
-    turns: int = 0
-    counts: int = 0
+SPAN_ROW = "file track system span direction first last heard bridged begins ends speed gap relation".split()
+# Code has two to four crossings a cell of a frame's 80 bits; at 25 frames a second there are so many cells.
+CELLS_A_SECOND = 80 * 25
 
 
-def breaks_of(reading: Reading):
-    """The breaks of a reading. Labels go on in time where they are as many as frames fit into the gap, to one."""
-    found = Breaks()
-    for before, span in zip(reading.spans, reading.spans[1:]):
-        if span.relation == "turn":
-            found.turns += 1
-        elif span.relation == "count":
-            found.counts += 1
-        else:
-            frame = before.frame or span.frame
-            fits = frame is not None and abs(span.gap / frame - abs(int(span.relation.split()[1]))) < 1
-            if fits and span.gap > 1.5 * frame:
-                found.dropouts += 1
-            else:
-                found.jumps += 1
-    return found
-
-
-def clock(seconds):
+def clock(seconds: float) -> str:
     """Hours, minutes, seconds and thousandths."""
-    thousandths = round(1000 * seconds)
-    minutes, rest = divmod(thousandths, 60_000)
+    minutes, rest = divmod(round(1000 * seconds), 60_000)
     return f"{minutes // 60}:{minutes % 60:02}:{rest // 1000:02}.{rest % 1000:03}"
 
 
-def decibels(peak):
-    # To a tenth, and no zero with a sign.
-    return f"{round(20 * math.log10(peak / 32_768), 1) + 0.0} dB" if peak else "silence"
-
-
-def seconds_at(reading: Reading, tick):
-    return tick / FINENESS / reading.rate
-
-
-def span_rows(path, reading: Reading):
-    """A row a span."""
+def span_rows(name: str, reading: Reading) -> Iterator[list[object]]:
     for number, span in enumerate(reading.spans, 1):
-        begins, ends = (f"{seconds_at(reading, tick):.4f}" for tick in (span.begin, span.end))
-        gap = "" if span.gap is None else f"{seconds_at(reading, span.gap):.4f}"
-        yield [path, reading.track, reading.system, number, span.direction, span.first, span.last, span.heard, span.bridged] + [
-            begins, ends, f"{span.speed / 1000:.3f}", gap, span.relation or ""]
+        begins, ends = (f"{reading.seconds_at(tick):.4f}" for tick in (span.begin, span.end))
+        gap = "" if span.gap is None else f"{reading.seconds_at(span.gap):.4f}"
+        yield [
+            name,
+            reading.track,
+            reading.system,
+            number,
+            span.direction,
+            span.first,
+            span.last,
+            span.heard,
+            span.bridged,
+            begins,
+            ends,
+            f"{span.speed / 1000:.3f}",
+            gap,
+            span.relation or "",
+        ]
 
 
-def write_csv(path, reading: Reading, out):
+def write_csv(name: str, reading: Reading | None, out: TextIO, has_head: bool) -> None:
     rows = csv.writer(out)
-    rows.writerow(ROW)
-    rows.writerows(span_rows(path, reading))
+    if has_head:
+        rows.writerow(SPAN_ROW)
+    if reading is not None:
+        rows.writerows(span_rows(name, reading))
 
 
-def sound_lines(sound: Sound):
-    first = sound.streams[0]
+def sound_line(sound: Sound) -> str:
     length = "of unknown length" if sound.seconds is None else clock(sound.seconds)
     tracks = "1 track" if sound.tracks == 1 else f"{sound.tracks} tracks"
-    return [f"sound         {sound.kind}, {first.rate} samples a second, {tracks}, {length}"]
+    return f"sound         {sound.kind}, {sound.streams[0].rate} samples a second, {tracks}, {length}"
 
 
-def is_long(sound: Sound):
-    """The level is that of the first minutes alone."""
-    return sound.seconds is None or sound.seconds > LEVEL_SECONDS
+def early(sound: Sound) -> str:
+    """Said where a level is that of the first minutes alone."""
+    return " in the first ten minutes" if sound.seconds is None or sound.seconds > LEVEL_SECONDS else ""
 
 
-def code_lines(choice: Choice, level: Level, sound: Sound):
+def rate_line(choice: Choice, place: Place | None, is_given: bool) -> Iterator[str]:
+    """Said where the words do not decide the rate."""
     mine = choice.reading
-    frame = frames_a_second(mine.spans[0], mine.system, mine.rate)
+    played = played_rate(mine, mine.spans[0])
+    if played is None or mine.system == 25 and not is_given:
+        return
+    if is_given and place is not None:
+        yield f"rate          {name_of(place.rate)} as given; the tape plays {float(played):.3f} frames a second"
+    elif not mine.spans[0].is_drop:
+        taken, _ = rate_of(mine, None)
+        whole = Fraction(mine.system)
+        other = whole if taken != whole else whole * NTSC
+        yield f"rate          {name_of(taken)} by its speed alone; --rate {name_of(other)} says otherwise"
+
+
+def tracks_lines(choice: Choice) -> Iterator[str]:
+    """The tracks, and the code of those that have their own."""
+    mine, tracks = choice.reading, choice.best_of_tracks
+    if len(tracks) < 2:
+        return
+    yield "tracks        " + ", ".join(f"{it.track}: {it.heard} frames heard" for it in tracks)
+    for it in tracks:
+        if it.track != mine.track and has_own_code(it, mine):
+            first, last = it.spans[0].first, it.spans[-1].last
+            heard = f"heard {it.heard} in {len(it.spans)} span{'s' * (len(it.spans) != 1)}"
+            yield f"track {it.track:<7} {it.system} frames a second, {first} to {last}, {heard}"
+
+
+def has_own_code(other: Reading, mine: Reading) -> bool:
+    """Another track's labels are not those of the chosen one at the same time."""
+    if other.heard < other.system:
+        return False
+    spans = other.spans[0], mine.spans[0]
+    if other.system != mine.system or len({(span.is_drop, span.direction) for span in spans}) > 1:
+        return True
+    return abs(label_at_begin(other) - label_at_begin(mine)) > 1
+
+
+def label_at_begin(reading: Reading) -> float:
+    """The number of the label where the sound begins, if its code had gone on before its first span."""
+    span = reading.spans[0]
+    way = -1 if span.direction == "backward" else 1
+    frame = span.frame or reading.frame or 1
+    return number_of(count_of(span, reading.system), span.first) - way * float(span.begin / frame)
+
+
+def code_lines(choice: Choice, place: Place | None, level: Level, sound: Sound, is_given: bool) -> Iterator[str]:
+    mine = choice.reading
+    rate = place.rate if place else rate_of(mine, None)[0]
     form = ", drop-frame" if mine.spans[0].is_drop else ""
-    rate = f"{float(frame):.2f}".rstrip("0").rstrip(".")
-    found = breaks_of(mine)
-    yield f"code          track {mine.track}, {rate} frames a second{form}; {choice.sureness}"
-    others = sorted({(other.track, max(it.heard for it in choice.others if it.track == other.track)) for other in choice.others})
-    if len(others) > 1:
-        yield "tracks        " + ", ".join(f"{track}: {heard} frames heard" for track, heard in others)
-    yield f"peak          {decibels(level.peak)}" + (" in the first ten minutes" if is_long(sound) else "")
-    yield f"heard         {mine.heard} frames, {mine.bridged} bridged; {mine.refused} words refused, {mine.lost} times lost"
-    yield f"breaks        drop-outs {found.dropouts}, jumps {found.jumps}, turns {found.turns}, changes of count {found.counts}"
+    yield f"code          track {mine.track}, {name_of(rate)} frames a second{form}; {choice.sureness}"
+    yield from rate_line(choice, place, is_given)
+    yield from tracks_lines(choice)
+    if choice.tried:
+        yield f"front end     {mine.front}; tried {', '.join(choice.tried)}"
+    yield f"peak          {level.decibels}{early(sound)}"
+    missed = f"{mine.refused} words refused, {mine.lost} times lost"
+    yield f"heard         {mine.heard} frames, {mine.bridged} bridged; {missed}"
+    yield f"breaks        {breaks_of(mine).told()}"
 
 
-def span_lines(reading: Reading):
+def span_lines(reading: Reading) -> Iterator[str]:
     for span in reading.spans:
         if span.gap is not None:
-            yield f"    gap of {seconds_at(reading, span.gap):.3f} s: {span.relation}"
-        yield (
-            f"    {span.direction:8} {span.first} to {span.last}  {clock(seconds_at(reading, span.begin))}"
-            f" to {clock(seconds_at(reading, span.end))}  heard {span.heard} bridged {span.bridged} speed {span.speed / 1000:.3f}"
-        )
+            yield f"    gap of {reading.seconds_at(span.gap):.3f} s: {span.relation}"
+        begins, ends = clock(reading.seconds_at(span.begin)), clock(reading.seconds_at(span.end))
+        heard = f"heard {span.heard} bridged {span.bridged} speed {span.speed / 1000:.3f}"
+        yield f"    {span.direction:8} {span.first} to {span.last}  {begins} to {ends}  {heard}"
 
 
-def first_line(first: FirstSample | None):
-    if first is None:
-        return "first sample  not known: the tape runs backward where its code begins"
-    samples = f"{abs(first.rest)} sample" + ("s" if abs(first.rest) != 1 else "")
-    where = f" and {samples}" if first.rest > 0 else f" less {samples}" if first.rest < 0 else ""
-    return f"first sample  {first.label}{where}, {first.reference} samples since midnight"
+def first_lines(place: Place | None) -> Iterator[str]:
+    if place is None:
+        yield "first sample  not known: the tape runs backward where its code begins"
+        return
+    samples = f"{abs(place.rest)} sample" + ("s" if abs(place.rest) != 1 else "")
+    where = f" and {samples}" if place.rest > 0 else f" less {samples}" if place.rest < 0 else ""
+    yield f"first sample  {place.label}{where}, {place.reference} samples since midnight"
+    if place.doubts:
+        yield f"not sure      {'; '.join(place.doubts)}"
 
 
-def found_report(name, sound: Sound, choice: Choice, first: FirstSample | None, level: Level):
+def found_report(name: str, sound: Sound, choice: Choice, place: Place | None, level: Level, is_given: bool) -> str:
     """The report of a tape with code."""
-    lines = [name, *sound_lines(sound), *code_lines(choice, level, sound), first_line(first), "spans"]
+    lines = [
+        name,
+        sound_line(sound),
+        *code_lines(choice, place, level, sound, is_given),
+        *first_lines(place),
+        "spans",
+    ]
     lines += span_lines(choice.reading)
-    return "\n".join(lines + ([f"note          {choice.note}"] if choice.note else [])) + "\n"
+    lines += [f"note          {choice.reading.note}"] if choice.reading.note else []
+    return "\n".join(lines) + "\n"
 
 
-def advice(level: Level):
-    """What to try where nothing is heard."""
+def advice(level: Level, was_tried: bool) -> str:
+    """What a track without code sounds like, and what to try that was not tried."""
     if level.is_silent:
         return "silence: is it the right file, or the right track?"
-    if level.peak < 500:
-        return "very quiet: try --threshold 20"
-    # Code has two to four crossings a cell of a frame's 80 bits.
-    cells = 80 * 25
-    if level.crossings > 6 * cells:
-        return "far more crossings than code has: hiss, or sound that is no code; try --smooth 3"
-    if level.crossings < cells / 4:
+    if level.is_quiet:
+        return "very quiet" + ("" if was_tried else ": try --threshold 20")
+    if level.crossings > 6 * CELLS_A_SECOND:
+        return "far more crossings than code has: hiss, or sound that is no code" + (
+            "" if was_tried else "; try --smooth 3"
+        )
+    if level.crossings < CELLS_A_SECOND / 4:
         return "far fewer crossings than code has: speech or music, or code played slowly"
-    return (
-        "as many crossings as code may have, and music: if it is code, try --threshold, --smooth 3, or a filter"
-        " (docs/reference/sound.md)"
-    )
+    return "as many crossings as code may have, and music: if it is code, try --threshold, --smooth 5, or a filter"
 
 
-def empty_report(name, sound: Sound, levels: dict[int, Level], notes: list[str]):
+def empty_report(name: str, sound: Sound, choice: Choice, levels: dict[int, Level]) -> str:
     """The report of a tape without code: what it sounds like."""
-    lines = [name, *sound_lines(sound), "code          none found"]
-    early = " in the first ten minutes" if is_long(sound) else ""
+    lines = [name, sound_line(sound), "code          none found"]
+    if choice.tried:
+        lines.append(f"front ends    tried {', '.join(choice.tried)}")
     for track, level in levels.items():
-        told = f"peak {decibels(level.peak)}, {level.crossings:.0f} crossings a second{early}"
-        lines.append(f"track {track:<7} {told}; {advice(level)}")
-    return "\n".join(lines + [f"note          {note}" for note in notes if note]) + "\n"
+        told = f"peak {level.decibels}, {level.crossings:.0f} crossings a second{early(sound)}"
+        lines.append(f"track {track:<7} {told}; {advice(level, bool(choice.tried))}")
+    lines += [f"note          {choice.reading.note}"] if choice.reading.note else []
+    return "\n".join(lines) + "\n"

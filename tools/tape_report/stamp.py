@@ -1,144 +1,66 @@
-"""A copy of a file with the timecode of its first sample: BWF's TimeReference for a sound file, the timecode of the container else."""
+"""A copy of a file with the timecode of its first sample; only where that is sure, and only what was read back."""
 import os
-import shutil
-import struct
-import subprocess
-from fractions import Fraction
+from collections.abc import Iterable
 
-from .labels import FirstSample
-from .sound import NO_SIZE, NoSound, Sound, probed
+from . import targets
+from .faults import NoStamp, NoTarget
+from .place import Place
+from .sound import Sound
+from .stamp_container import CONTAINERS, check_container, label_of_picture, stamp_container
+from .stamp_wave import check_wave, stamp_wave
 
-# Where the reference stands in `bext` (EBU Tech 3285): behind description, originator, its reference, date and time.
-REFERENCE_AT = 256 + 32 + 32 + 10 + 8
-BEXT_SIZE = 602
-PIECE = 1 << 20
-
-# Endings of files that have a timecode beside their picture, and what ffmpeg calls them.
-CONTAINERS = {".mov": "mov", ".mp4": "mp4", ".m4v": "mp4", ".mxf": "mxf"}
-
-
-def bext_of(reference):
-    """A chunk `bext`, version 1, that says only where the file begins."""
-    body = bytearray(BEXT_SIZE)
-    struct.pack_into("<QH", body, REFERENCE_AT, reference, 1)
-    return b"bext" + struct.pack("<I", BEXT_SIZE) + bytes(body)
+BACKWARD = "no stamp: the tape runs backward where its code begins"
+SOUND_TO_SOUND = "the copy of a sound file is a sound file: give it a name that ends in .wav"
+ONLY_CONTAINERS = "the copy of a video file is to end in .mov, .mp4 or .mxf"
+# Sound files that have no place for a stamp of the kind that is written here.
+NO_PLACE = "{} has no chunk bext and no timecode; a WAV file can be stamped: ffmpeg -i FILE FILE.wav"
+WITHOUT_A_PLACE = ("aiff", "w64", "flac", "mp3", "ogg", "caf", "au", "wv", "ape", "aac", "asf")
 
 
-def copy_bytes(source, target, count=None):
-    """Copies so many bytes, or all that are left."""
-    while count is None or count > 0:
-        data = source.read(PIECE if count is None else min(PIECE, count))
-        if not data:
-            return
-        target.write(data)
-        if count is not None:
-            count -= len(data)
-
-
-def stamp_sound(sound: Sound, reference: int, target):
-    """Writes the copy of a sound file."""
-    have = next((chunk for chunk in sound.chunks if chunk.name == b"bext"), None)
-    if have is not None and have.size < REFERENCE_AT + 8:
-        raise NoSound("its chunk bext is too short for a reference")
-    data = next(chunk for chunk in sound.chunks if chunk.name == b"data")
-    with open(sound.path, "rb") as source:
-        if have is not None:
-            copy_bytes(source, target, have.place + REFERENCE_AT)
-            target.write(struct.pack("<Q", reference))
-            source.seek(8, os.SEEK_CUR)
-            copy_bytes(source, target)
-            return
-        head = bytearray(source.read(data.place - 8))
-        chunk = bext_of(reference)
-        lengthen(head, sound, len(chunk))
-        target.write(head + chunk)
-        copy_bytes(source, target)
-
-
-def lengthen(head, sound: Sound, more):
-    """Says in the head of a file that it is so many bytes longer, where it says its length."""
-    size = struct.unpack_from("<I", head, 4)[0]
-    sizes = next((chunk for chunk in sound.chunks if chunk.name == b"ds64"), None)
-    if size == NO_SIZE and head[:4] != b"RIFF" and sizes is not None:
-        long_size = struct.unpack_from("<Q", head, sizes.place)[0]
-        struct.pack_into("<Q", head, sizes.place, long_size + more if long_size else 0)
-    elif 0 < size < NO_SIZE:
-        if size + more >= NO_SIZE:
-            raise NoSound("it is too long for one chunk more; as RF64 it could be stamped")
-        struct.pack_into("<I", head, 4, size + more)
-
-
-def stamp(sound: Sound, track: int, first: FirstSample, out: str):
-    """Writes the copy under another name first, so that a copy that stands is whole. No file is changed in place."""
-    if os.path.exists(out) and os.path.samefile(sound.path, out):
-        raise NoSound("the copy would be the file itself")
-    half = out + ".part"
+def stamp(
+    sound: Sound, track: int, place: Place | None, out: str, force: bool, tapes: Iterable[targets.Identity]
+) -> None:
+    """Writes the copy. No file is changed in place."""
+    if place is None:
+        raise NoStamp(BACKWARD)
+    if place.doubts:
+        raise NoStamp("no stamp, since it is not sure: " + "; ".join(place.doubts))
     form = CONTAINERS.get(os.path.splitext(out)[1].lower())
-    try:
-        if sound.streams[0].number is None:
-            if form is not None:
-                raise NoSound("the copy of a sound file is a sound file: give it a name that ends in .wav")
-            with open(half, "wb") as target:
-                stamp_sound(sound, first.reference, target)
-        else:
-            if form is None:
-                raise NoSound("the copy of a video file is to end in .mov, .mp4 or .mxf")
-            stamp_container(sound, sound.place_of(track)[0].begins, first, half, form)
-        os.replace(half, out)
-    finally:
-        if os.path.exists(half):
-            os.remove(half)
+    refuse_form(sound, form)
+    with targets.written(out, force, tapes) as part:
+        if sound.wave is not None:
+            stamp_wave(sound.source.path, sound.wave, place.reference, part.file)
+            part.file.flush()
+            check_wave(sound.source.path, sound.wave, name_of(part), place.reference)
+        elif form is not None:
+            label = label_of_picture(place, sound.place_of(track)[0].begins, sound.source.path)
+            stamp_container(sound.source.path, form, label, name_of(part))
+            check_container(sound.source.path, name_of(part), label)
+        if sound.source.name == sound.source.path:
+            keep_mode_and_time(sound.source.path, part)
 
 
-def picture_of(path):
-    """The frames a second of the picture, by which ffmpeg reads a timecode, and when its first frame is shown.
-
-    A cover is no picture.
-    """
-    said = probed(path, "stream=codec_type,avg_frame_rate,start_time:stream_disposition=attached_pic")
-    for stream in said.get("streams", []):
-        if stream.get("codec_type") == "video" and not stream.get("disposition", {}).get("attached_pic"):
-            frames, seconds = map(int, stream["avg_frame_rate"].split("/"))
-            if frames and seconds:
-                return Fraction(frames, seconds), float(stream.get("start_time", 0))
-    raise NoSound(
-        "it has no picture, and a container keeps its timecode beside one;"
-        " a WAV file can be stamped: ffmpeg -i FILE FILE.wav"
-    )
+def refuse_form(sound: Sound, form: str | None) -> None:
+    """The copy has the form of its file."""
+    if sound.wave is not None:
+        if form is not None:
+            raise NoStamp(SOUND_TO_SOUND)
+        return
+    kind = sound.kind.split()[0]
+    if kind in WITHOUT_A_PLACE:
+        raise NoStamp(NO_PLACE.format(kind.upper()))
+    if form is None:
+        raise NoStamp(ONLY_CONTAINERS)
 
 
-def label_of_picture(first: FirstSample, sound_begins, path):
-    """The label of the first frame of the picture, in its frames, of which a frame of the code may have two or four."""
-    rate, begins = picture_of(path)
-    times = round(rate / first.rate)
-    if times not in (1, 2, 4) or abs(rate / first.rate - times) > Fraction(times, 500):
-        code, picture = (f"{float(each):.2f}".rstrip("0").rstrip(".") for each in (first.rate, rate))
-        raise NoSound(f"the code has {code} frames a second and the picture {picture}: its labels do not fit")
-    return first.label_at(Fraction(begins - sound_begins) * first.rate, times)
+def name_of(part: targets.Part) -> str:
+    if part.name is None:
+        raise NoTarget("a copy is read back, so it can't go into a fifo or a device")
+    return part.name
 
 
-def timecode_in(path):
-    """The timecode of a container, as ffprobe sees it, or none."""
-    said = probed(path, "stream_tags=timecode:format_tags=timecode")
-    for part in (said.get("format", {}), *said.get("streams", [])):
-        if "timecode" in part.get("tags", {}):
-            return part["tags"]["timecode"]
-    return None
-
-
-def stamp_container(sound: Sound, sound_begins: float, first: FirstSample, half: str, form: str):
-    """MOV, MP4 and MXF, by ffmpeg, whose copy is asked whether it has the timecode."""
-    if not shutil.which("ffmpeg"):
-        raise NoSound("ffmpeg is not installed")
-    label = label_of_picture(first, sound_begins, sound.path)
-    ran = subprocess.run(
-        ["ffmpeg", "-v", "error", "-nostdin", "-y", "-i", sound.path, "-map", "0", "-map", "-0:d", "-c", "copy"]
-        + ["-timecode", label, "-f", form, half],
-        stderr=subprocess.PIPE,
-        check=False,
-    )
-    if ran.returncode != 0:
-        raise NoSound("ffmpeg: " + ran.stderr.decode("utf-8", "replace").strip())
-    told = timecode_in(half)
-    if told is None or told.replace(";", ":") != label.replace(";", ":"):
-        raise NoSound(f"ffmpeg wrote {told or 'no timecode'} into the copy, and not {label}")
+def keep_mode_and_time(path: str, part: targets.Part) -> None:
+    there = os.stat(path)
+    part.file.flush()
+    os.fchmod(part.file.fileno(), there.st_mode & 0o777)
+    os.utime(part.file.fileno(), ns=(there.st_atime_ns, there.st_mtime_ns))

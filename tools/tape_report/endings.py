@@ -1,0 +1,53 @@
+"""How the tools end: a line and a status in place of a traceback, and nothing left by a signal that can be caught."""
+import io
+import os
+import signal
+import sys
+from collections.abc import Callable, Sequence
+from types import FrameType
+
+FOUND, NONE_FOUND, WRONG_WORDS, FAILED = 0, 1, 2, 3
+# A shell adds this to the number of a signal.
+BY_SIGNAL = 128
+CAUGHT = (
+    signal.SIGTERM,
+    signal.SIGHUP,
+    signal.SIGINT,
+    signal.SIGQUIT,
+    signal.SIGUSR1,
+    signal.SIGUSR2,
+    signal.SIGALRM,
+)
+
+
+def end_by(number: int, _frame: FrameType | None) -> None:
+    """Ends in order, so that half-written files are taken away."""
+    for caught in CAUGHT:
+        signal.signal(caught, signal.SIG_IGN)
+    raise SystemExit(BY_SIGNAL + number)
+
+
+def run(main: Callable[[Sequence[str]], int]) -> int:
+    """Runs a tool on the words of its call."""
+    for caught in CAUGHT:
+        signal.signal(caught, end_by)
+    for stream in (sys.stdout, sys.stderr):
+        if isinstance(stream, io.TextIOWrapper):
+            stream.reconfigure(encoding="utf-8", errors="backslashreplace")
+    try:
+        status = main(sys.argv[1:])
+        sys.stdout.flush()
+        return status
+    except BrokenPipeError:
+        # Who read the output went away. What is left of it is for nobody.
+        os.dup2(os.open(os.devnull, os.O_WRONLY), sys.stdout.fileno())
+        return BY_SIGNAL + signal.SIGPIPE
+    except OSError as fault:
+        say(fault.strerror.lower() if fault.strerror else str(fault))
+        os.dup2(os.open(os.devnull, os.O_WRONLY), sys.stdout.fileno())
+        return FAILED
+
+
+def say(text: str) -> None:
+    """A line on standard error, under the name that was typed."""
+    print(f"{os.path.basename(sys.argv[0])}: {text}", file=sys.stderr)

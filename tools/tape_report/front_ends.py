@@ -1,0 +1,56 @@
+"""The ways in which a track is made into intervals: a row each. What hears little by the first is tried by the
+others.
+"""
+import shutil
+from dataclasses import dataclass
+
+THRESHOLD = 250
+LOW_THRESHOLD, LOWEST_THRESHOLD = 50, 20
+# Sums take so many samples at this rate: at 48,000 three.
+RATE_OF_A_SUM = 16_000
+MOST_SUMS = 16
+# Hum and its harmonics lie below, code above.
+HIGH_PASS_HERTZ = 300
+
+
+@dataclass(frozen=True)
+class FrontEnd:
+    """The words of `wav-ltc`, and a filter before it."""
+
+    name: str
+    threshold: int = THRESHOLD
+    sums: int = 1
+    is_deep: bool = False
+    high_pass: int | None = None
+
+    def words(self) -> list[str]:
+        """What stands behind the track."""
+        more = [str(self.sums), "deep"] if self.is_deep else [str(self.sums)] if self.sums > 1 else []
+        return [str(self.threshold), *more]
+
+    @property
+    def filters(self) -> tuple[str, ...]:
+        """The filter, as a word of ffmpeg."""
+        return () if self.high_pass is None else ("-af", f"highpass=f={self.high_pass}")
+
+    @property
+    def can_run(self) -> bool:
+        return self.high_pass is None or shutil.which("ffmpeg") is not None
+
+
+PLAIN = FrontEnd("plain")
+QUIET = FrontEnd(f"threshold {LOWEST_THRESHOLD}", threshold=LOWEST_THRESHOLD)
+
+
+def others(rate: int) -> list[FrontEnd]:
+    """What is tried where the plain front end hears little, at this rate. A further one is one row more."""
+    sums = max(2, min(MOST_SUMS, rate // RATE_OF_A_SUM))
+    table = [
+        FrontEnd(f"sums of {sums}", sums=sums),
+        FrontEnd("deep", is_deep=True),
+        FrontEnd(f"deep, sums of {sums}", sums=sums, is_deep=True),
+        FrontEnd(f"threshold {LOW_THRESHOLD}", threshold=LOW_THRESHOLD),
+        FrontEnd(f"high-pass at {HIGH_PASS_HERTZ} Hz", high_pass=HIGH_PASS_HERTZ),
+        FrontEnd(f"high-pass at {HIGH_PASS_HERTZ} Hz, sums of {sums}", sums=sums, high_pass=HIGH_PASS_HERTZ),
+    ]
+    return [front for front in table if front.can_run]

@@ -1,0 +1,75 @@
+"""The tapes of a folder, worked by GNU parallel: each job is this tool on one of them, by its number in a list."""
+import os
+import shlex
+import shutil
+import subprocess
+import sys
+
+from . import store
+from .faults import Fault, NoProgram, reason_of
+from .names import shown
+from .options import wanted_of
+from .row import FAILED, Row, Told
+from .source import opened
+from .store import Run
+from .targets import write_text, written
+from .work import tape_read
+
+# The word with which a job begins.
+JOB = "--job"
+# Above this status parallel itself failed, and not its jobs.
+MOST_FAILED_JOBS = 101
+
+
+def put_list(run: Run, names: list[str]) -> None:
+    """The names of the tapes, in a file, each with a NUL behind it."""
+    with written(os.path.join(run.out, store.LIST), force=True) as part:
+        part.file.write(b"".join(os.fsencode(name) + b"\0" for name in names))
+
+
+def name_at(run: Run, number: int) -> str:
+    with open(os.path.join(run.out, store.LIST), "rb") as file:
+        return os.fsdecode(file.read().split(b"\0")[number])
+
+
+def work_all(run: Run, numbers: list[int], jobs: int, hosts: str | None) -> None:
+    """Works these tapes of the list. Whole commands go to parallel, so that it has nothing to replace in them."""
+    if shutil.which("parallel") is None:
+        raise NoProgram("GNU parallel is not installed (Debian: parallel)")
+    words = ["parallel", "--null", "--jobs", str(jobs), "--joblog", store.LOG]
+    if hosts:
+        words += ["--sshloginfile", os.path.abspath(hosts), "--workdir", "/"]
+    if sys.stderr.isatty():
+        words.append("--bar")
+    tool = [os.path.abspath(sys.argv[0]), JOB, run.out]
+    commands = b"".join(os.fsencode(shlex.join([*tool, str(number)])) + b"\0" for number in numbers)
+    there = {**os.environ, "PARALLEL_SHELL": "/bin/sh"}
+    ran = subprocess.run(words, input=commands, cwd=run.out, env=there, check=False)
+    if ran.returncode > MOST_FAILED_JOBS:
+        raise NoProgram(f"parallel ended with status {ran.returncode}")
+
+
+def work_one(run: Run, name: str) -> None:
+    """A tape: its report and its page, and then its row."""
+    os.makedirs(run.room(name), exist_ok=True)
+    store.take_away(run, name)
+    state = None
+    try:
+        state = store.state_of(run, name)
+        told, text = read_one(run, name)
+    except Exception as fault:
+        # Whatever it is, the others go on, and this one has its row.
+        reason = reason_of(fault) if isinstance(fault, (Fault, OSError)) else f"a fault of this tool: {fault!r}"
+        told, text = Told(Row(shown(name), FAILED, note=reason)), f"{shown(name)}\nfailed        {reason}\n"
+    write_text(os.path.join(run.room(name), store.REPORT), text, force=True)
+    store.put_row(run, name, state, told)
+
+
+def read_one(run: Run, name: str) -> tuple[Told, str]:
+    wanted, rate = wanted_of(run.reading)
+    with opened(run.path(name)) as source, tape_read(source, name, wanted, rate) as tape:
+        text, told = tape.report(), tape.told()
+        if tape.choice.is_found:
+            path = os.path.join(run.room(name), store.PAGE)
+            write_text(path, tape.page(text), force=True, tapes=[source.tape])
+        return told, text

@@ -1,0 +1,118 @@
+"""What a track sounds like, from its samples: its peak, and how often it crosses zero."""
+import array
+import math
+import sys
+from dataclasses import dataclass
+from typing import IO
+
+from .sound import Sound
+
+# The level is that of so many seconds.
+LEVEL_SECONDS = 600
+PIECE_BLOCKS = 65_536
+DECODED_BITS = 24
+# Of the upper byte of a sample: 1 below zero.
+SIGNS = bytes(128) + b"\1" * 128
+# Below these peaks, of 32,768, there is nothing, and little.
+SILENCE, QUIET = 16, 500
+
+
+@dataclass(frozen=True)
+class Level:
+    """The peak, of 32,768, and the crossings of zero in a second."""
+
+    peak: int = 0
+    crossings: float = 0.0
+
+    @property
+    def is_silent(self) -> bool:
+        return self.peak < SILENCE
+
+    @property
+    def is_quiet(self) -> bool:
+        return SILENCE <= self.peak < QUIET
+
+    @property
+    def decibels(self) -> str:
+        # To a tenth, and no zero with a sign.
+        return f"{round(20 * math.log10(self.peak / 32_768), 1) + 0.0} dB" if self.peak else "silence"
+
+
+def words_of(data: bytes, bits: int, tracks: int, track: int) -> array.array:
+    """The upper 16 bits of the samples of a track, of whole blocks."""
+    width = bits // 8
+    block = width * tracks
+    data = data[: len(data) // block * block]
+    first = width * (track - 1)
+    if width == 1:
+        return array.array("h", [256 * (value - 128) for value in data[first::block]])
+    low, high = data[first + width - 2 :: block], data[first + width - 1 :: block]
+    both = bytearray(2 * len(low))
+    both[0::2], both[1::2] = low, high
+    words = array.array("h")
+    words.frombytes(bytes(both))
+    if sys.byteorder == "big":
+        words.byteswap()
+    return words
+
+
+def crossings_in(words: array.array) -> int:
+    """How often neighbouring samples lie on different sides of zero."""
+    upper = words.tobytes()[1 if sys.byteorder == "little" else 0 :: 2]
+    signs = upper.translate(SIGNS)
+    return signs.count(b"\0\1") + signs.count(b"\1\0")
+
+
+def skip_to_samples(file: IO[bytes]) -> None:
+    """Reads a decoder's WAV file up to its first sample. Before it may stand chunks that say who wrote the file."""
+    file.read(12)
+    while len(head := file.read(8)) == 8:
+        size = int.from_bytes(head[4:], "little")
+        if head[:4] == b"data":
+            return
+        file.read(size + size % 2)
+
+
+def level_of(sound: Sound, track: int, seconds: int = LEVEL_SECONDS) -> Level:
+    """The level of a track, of its first minutes; it is found once."""
+    if track not in sound.levels:
+        sound.levels[track] = (
+            decoded_level(sound, track, seconds) if sound.is_decoded else level_there(sound, track, seconds)
+        )
+    return sound.levels[track]
+
+
+def decoded_level(sound: Sound, track: int, seconds: int) -> Level:
+    stream, number = sound.place_of(track)
+    source = sound.open(stream)
+    try:
+        skip_to_samples(source.output)
+        return level_in(source.output, DECODED_BITS, stream.tracks, number, stream.rate, stream.rate * seconds)
+    finally:
+        source.close()
+
+
+def level_there(sound: Sound, track: int, seconds: int) -> Level:
+    """The level of a track of a file that `tc` reads itself."""
+    form = sound.wave.form if sound.wave else None
+    data = sound.wave.data if sound.wave else None
+    if data is None or form is None or not form.is_whole:
+        return Level()
+    with open(sound.source.path, "rb") as file:
+        file.seek(data.place)
+        blocks = min(form.rate * seconds, data.there // form.block)
+        return level_in(file, form.bits, form.tracks, track, form.rate, blocks)
+
+
+def level_in(file: IO[bytes], bits: int, tracks: int, track: int, rate: int, left: int) -> Level:
+    """The level of so many blocks at most."""
+    peak, crossings, count = 0, 0, 0
+    while left > 0:
+        words = words_of(file.read(bits // 8 * tracks * min(PIECE_BLOCKS, left)), bits, tracks, track)
+        if not words:
+            break
+        peak = max(peak, max(words), -min(words))
+        crossings += crossings_in(words)
+        count += len(words)
+        left -= len(words)
+    return Level(peak, crossings * rate / count if count else 0.0)

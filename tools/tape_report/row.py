@@ -1,0 +1,121 @@
+"""What a table says of a tape: a row of the archive's table, and the JSON object of a tape."""
+import json
+from dataclasses import asdict, dataclass, field, fields
+from typing import Any
+
+from .breaks import breaks_of
+from .choice import Choice
+from .labels import name_of
+from .place import Place, count_of, rate_of
+from .sound import Sound
+from .spans import Reading
+
+# The version of the JSON objects: it grows where a field changes its meaning or goes.
+JSON_VERSION = 1
+CODE, NONE, FAILED, MISSING = "code", "none", "failed", "missing"
+STATES = {CODE: "with code", NONE: "without", FAILED: "failed", MISSING: "not read"}
+
+
+@dataclass
+class Row:
+    """What the table says of a tape. Where a field is not known it is empty."""
+
+    file: str
+    status: str = MISSING
+    track: int | None = None
+    system: int | None = None
+    # Frames a second, by name, and whether labels are dropped.
+    rate: str = ""
+    drop: str = ""
+    # The length of the sound.
+    seconds: float | None = None
+    # Whether the system is sure, and the front end that was taken.
+    sure: str = ""
+    front_end: str = ""
+    spans: int = 0
+    first: str = ""
+    last: str = ""
+    heard: int = 0
+    bridged: int = 0
+    dropouts: int = 0
+    jumps: int = 0
+    turns: int = 0
+    counts: int = 0
+    # The label of the first sample, its samples since midnight, and whether a stamp may be made of it.
+    start: str = ""
+    reference: int | None = None
+    stamp: str = ""
+    note: str = ""
+
+    def cells(self) -> list[object]:
+        return ["" if value is None else value for value in asdict(self).values()]
+
+
+COLUMNS = [each.name for each in fields(Row)]
+
+
+@dataclass
+class Told:
+    """A row with what stands behind it: the spans of the tape, and those of its other tracks."""
+
+    row: Row
+    rate_of_samples: int = 0
+    spans: list[dict[str, Any]] = field(default_factory=list)
+    tracks: list[dict[str, Any]] = field(default_factory=list)
+
+    def as_json(self) -> str:
+        """One line."""
+        object_of = {"version": JSON_VERSION, **asdict(self.row), "rate_of_samples": self.rate_of_samples}
+        return json.dumps({**object_of, "spans": self.spans, "tracks": self.tracks}, sort_keys=False)
+
+
+def row_of(name: str, sound: Sound, choice: Choice, place: Place | None) -> Row:
+    """The row of a tape that was read."""
+    mine = choice.reading
+    row = Row(name, NONE, seconds=None if sound.seconds is None else round(sound.seconds, 3))
+    row.note = mine.note
+    if not choice.is_found:
+        return row
+    row.status, row.track, row.system = CODE, mine.track, mine.system
+    row.rate, row.drop = name_of(place.rate if place else rate_of(mine, None)[0]), yes(mine.spans[0].is_drop)
+    row.sure, row.front_end = yes(choice.is_sure), mine.front
+    row.spans, row.first, row.last = len(mine.spans), mine.spans[0].first, mine.spans[-1].last
+    row.heard, row.bridged = mine.heard, mine.bridged
+    breaks = breaks_of(mine)
+    row.dropouts, row.jumps, row.turns, row.counts = breaks.dropouts, breaks.jumps, breaks.turns, breaks.counts
+    row.stamp = "no: the tape runs backward where its code begins"
+    if place is not None:
+        row.start, row.reference = place.label, place.reference
+        row.stamp = "no: " + "; ".join(place.doubts) if place.doubts else "yes"
+    return row
+
+
+def yes(is_so: bool) -> str:
+    return "yes" if is_so else "no"
+
+
+def told_of(name: str, sound: Sound, choice: Choice, place: Place | None) -> Told:
+    row = row_of(name, sound, choice, place)
+    tracks = [
+        {"track": it.track, "system": it.system, "heard": it.heard, "front_end": it.front, "spans": spans_of(it)}
+        for it in choice.best_of_tracks
+    ]
+    return Told(row, sound.streams[0].rate, spans_of(choice.reading), tracks)
+
+
+def spans_of(reading: Reading) -> list[dict[str, Any]]:
+    return [
+        {
+            "direction": span.direction,
+            "count": count_of(span, reading.system),
+            "first": span.first,
+            "last": span.last,
+            "heard": span.heard,
+            "bridged": span.bridged,
+            "begins": round(reading.seconds_at(span.begin), 4),
+            "ends": round(reading.seconds_at(span.end), 4),
+            "speed": span.speed / 1000,
+            "relation": span.relation,
+        }
+        for span in reading.spans
+    ]

@@ -1,0 +1,205 @@
+"""A track read by `tc`: its intervals are made once, and go to a reader of each system."""
+import contextlib
+import os
+import subprocess
+import sys
+import tempfile
+from collections import deque
+from collections.abc import Callable, Iterator, Sequence
+from typing import IO
+
+
+from .decoder import Decoder
+from .faults import NoProgram, NoSound
+from .front_ends import FrontEnd
+from .programs import program
+from .sound import Input, Sound
+from .spans import Reading, spans_in
+
+# Under this tolerance sound is read: the command that prints its words, and the last word of `ltc-spans`.
+READ, TOLERANCE = "ltc-rough", "rough"
+PIECE = 1 << 20
+# A decoder that ends so many seconds before the length that was said has ended early.
+EARLY_SECONDS = 0.5
+Progress = Callable[[Input], None]
+
+
+class Reader:
+    """`tc` reading intervals, as one system: its spans and its words."""
+
+    def __init__(self, room: str, begin: str, system: int, limit: int) -> None:
+        self.system = system
+        self.outputs: list[str] = []
+        self.readers: list[subprocess.Popen[bytes]] = []
+        for words in (["ltc-spans", str(limit), TOLERANCE], [READ]):
+            path = os.path.join(room, f"{begin}-{system}-{words[0]}")
+            with open(path, "wb") as output:
+                self.readers.append(started(words, output))
+            self.outputs.append(path)
+
+    def inputs(self) -> list[IO[bytes]]:
+        return [reader.stdin for reader in self.readers if reader.stdin]
+
+    def take(self, data: bytes) -> None:
+        for pipe in self.inputs():
+            pipe.write(data)
+
+    def close(self) -> bool:
+        """Whether both came to their end."""
+        for pipe in self.inputs():
+            with contextlib.suppress(OSError):
+                pipe.close()
+        return all([reader.wait() == 0 for reader in self.readers])
+
+    def lines(self, number: int, last: int | None = None) -> list[str]:
+        """The lines of an output, or so many of the last ones."""
+        with open(self.outputs[number], encoding="ascii") as lines:
+            return [line.rstrip("\n") for line in (lines if last is None else deque(lines, last))]
+
+    def forget(self) -> None:
+        for path in self.outputs:
+            os.unlink(path)
+
+
+def started(words: list[str], output: IO[bytes]) -> "subprocess.Popen[bytes]":
+    """A reader of intervals. What it notes of a file that gave none is nothing new."""
+    return subprocess.Popen([program(), *words], stdin=subprocess.PIPE, stdout=output, stderr=subprocess.DEVNULL)
+
+
+class Slicing:
+    """`tc wav-ltc` of a track: the bytes of its interval file, and then how it and the decoder ended."""
+
+    def __init__(self, sound: Sound, track: int, front: FrontEnd) -> None:
+        self.sound = sound
+        self.stream, number = sound.place_of(track)
+        self.input = sound.open(self.stream, front.filters)
+        self.notes = tempfile.TemporaryFile()
+        words = [program(), "wav-ltc", "25", str(number), *front.words()]
+        self.slicer = subprocess.Popen(words, stdin=self.input.output, stdout=subprocess.PIPE, stderr=self.notes)
+        if self.slicer.stdout is None:
+            raise NoProgram("tc has no output")
+        self.output = self.slicer.stdout
+
+    def pieces(self, progress: Progress | None) -> Iterator[bytes]:
+        while data := self.output.read(PIECE):
+            if progress:
+                progress(self.input)
+            yield data
+
+    def close(self) -> None:
+        self.output.close()
+        self.slicer.kill()
+        self.slicer.wait()
+        self.input.close()
+
+    def ended(self, is_empty: bool) -> str:
+        """What is to be noted of how it went. Raises where nothing was read."""
+        status = self.slicer.wait()
+        self.notes.seek(0)
+        note = self.notes.read(65_536).decode("utf-8", "replace").strip().replace("\n", "; ")
+        if self.input.decoder is not None:
+            return self.decoder_ended(self.input.decoder, note, is_empty)
+        if status != 0 and (is_empty or "refused" not in note and "limit" not in note):
+            raise NoSound(note or f"tc ended with status {status}")
+        return note
+
+    def decoder_ended(self, decoder: Decoder, note: str, is_empty: bool) -> str:
+        # It has no reader any more, where `tc` gave up.
+        self.input.output.close()
+        status, seconds, said = decoder.wait(), decoder.seconds() or 0.0, decoder.note()
+        has_failed = status != 0 or said != ""
+        told = f"ffmpeg: {said or f'it ended with status {status}'}" if has_failed else ""
+        if is_empty or status != 0 and seconds == 0:
+            raise NoSound(told or note or "no sound came")
+        # The length of the whole may be that of a picture: it counts where the decoder failed.
+        whole = self.stream.seconds or (self.sound.seconds if has_failed else None)
+        is_early = whole is not None and seconds < whole - EARLY_SECONDS
+        read_to = f"read to {minutes(seconds)} of {minutes(whole)}" if is_early and whole else ""
+        return "; ".join(it for it in (read_to, note, told) if it)
+
+
+def minutes(seconds: float) -> str:
+    """Minutes and seconds, or hours too."""
+    whole, rest = divmod(int(seconds), 60)
+    return f"{whole // 60}:{whole % 60:02}:{rest:02}" if whole >= 60 else f"{whole}:{rest:02}"
+
+
+def read_track(
+    sound: Sound,
+    track: int,
+    systems: Sequence[int],
+    front: FrontEnd,
+    limit: int,
+    room: str,
+    progress: Progress | None = None,
+) -> list[Reading]:
+    """A track read as each of the systems, by a front end. The lines of the words stay in the room."""
+    slicing = Slicing(sound, track, front)
+    begin = f"{track}-{front.name}".replace(" ", "-")
+    readers = [Reader(room, begin, system, limit) for system in systems]
+    is_empty = True
+    try:
+        for data in slicing.pieces(progress):
+            for reader in readers:
+                # The system stands in byte 5 of the header, and nothing else depends on it.
+                reader.take(data[:5] + bytes([reader.system]) + data[6:] if is_empty else data)
+            is_empty = False
+        note = slicing.ended(is_empty)
+    except BrokenPipeError:
+        raise NoProgram("tc did not read the intervals that it made") from None
+    finally:
+        are_whole = all([reader.close() for reader in readers])
+        slicing.close()
+    if not are_whole and not is_empty:
+        raise NoProgram("tc did not read the intervals that it made")
+    return [told(reader, track, slicing.stream.rate, front, note) for reader in readers]
+
+
+def told(reader: Reader, track: int, rate: int, front: FrontEnd, note: str) -> Reading:
+    """What a reader told."""
+    spans, ticks = spans_in(reader.lines(0))
+    reading = Reading(
+        track,
+        reader.system,
+        rate,
+        front.name,
+        front.sums,
+        front.high_pass is not None,
+        spans,
+        ticks=ticks,
+        path=reader.outputs[1],
+        note=note,
+    )
+    for line in reader.lines(1, last=1):
+        words = line.split()
+        if words and words[0] == "end":
+            reading.intervals, reading.words, reading.refused, reading.lost = (int(words[n]) for n in (2, 4, 6, 8))
+    return reading
+
+
+def progress_shown(sound: Sound, name: str) -> Progress | None:
+    """A line on a terminal that says how far a track is read, where standard error is one."""
+    if not sys.stderr.isatty() or not sound.seconds:
+        return None
+
+    def show(source: Input) -> None:
+        part = part_read(sound, source)
+        sys.stderr.write(f"\r{name}: {100 * min(1.0, part):3.0f} %")
+        sys.stderr.flush()
+
+    return show
+
+
+def part_read(sound: Sound, source: Input) -> float:
+    """How much of a sound is read. The place in a file is that of `tc` too, which has it from here."""
+    if source.decoder is not None:
+        return (source.decoder.seconds() or 0.0) / (sound.seconds or 1.0)
+    try:
+        return os.lseek(source.output.fileno(), 0, os.SEEK_CUR) / (sound.wave.length if sound.wave else 1)
+    except OSError:
+        return 0.0
+
+
+def end_progress() -> None:
+    if sys.stderr.isatty():
+        sys.stderr.write("\r\x1b[K")

@@ -1,0 +1,133 @@
+"""What `tc` says of a track: the spans of its labels, the gaps between them, and its words."""
+from collections.abc import Iterable
+from dataclasses import dataclass, field
+from fractions import Fraction
+
+# Ticks a sample in the recordings of `wav-ltc`.
+FINENESS = 16
+
+
+@dataclass(frozen=True)
+class Span:
+    """A line of `ltc-spans`: labels that go on, from a first heard frame to a last one, and the ticks at which these
+    end.
+    """
+
+    direction: str
+    first: str
+    last: str
+    heard: int
+    bridged: int
+    begin: int
+    end: int
+    speed: int
+    # What stands between the span before and this one: ticks, and `count`, `turn` or `step K`.
+    gap: int | None = None
+    relation: str | None = None
+
+    @property
+    def is_drop(self) -> bool:
+        return ";" in self.first
+
+    @property
+    def frames(self) -> int:
+        return self.heard + self.bridged
+
+    @property
+    def frame(self) -> Fraction | None:
+        """The mean length of a frame in ticks, as the tape plays it. One frame alone has none."""
+        return Fraction(self.end - self.begin, self.frames - 1) if self.frames > 1 else None
+
+
+@dataclass(frozen=True)
+class Word:
+    """A line `word` of `ltc-rough`, and the tick at which the word ends."""
+
+    direction: str
+    label: str
+    user: str
+    flags: str
+    tick: int
+    speed: int
+
+
+@dataclass
+class Reading:
+    """A track read as a system, by a front end."""
+
+    track: int
+    system: int
+    rate: int
+    front: str
+    sums: int = 1
+    is_filtered: bool = False
+    spans: list[Span] = field(default_factory=list)
+    intervals: int = 0
+    ticks: int = 0
+    words: int = 0
+    refused: int = 0
+    lost: int = 0
+    # The file of the lines of its words, and what `tc` or the decoder noted.
+    path: str = ""
+    note: str = ""
+
+    @property
+    def heard(self) -> int:
+        return sum(span.heard for span in self.spans)
+
+    @property
+    def bridged(self) -> int:
+        return sum(span.bridged for span in self.spans)
+
+    @property
+    def frame(self) -> Fraction | None:
+        """The mean length of a frame in ticks, over all spans of more than one."""
+        steps = sum(span.frames - 1 for span in self.spans)
+        return Fraction(sum(span.end - span.begin for span in self.spans), steps) if steps else None
+
+    @property
+    def speed(self) -> float:
+        """The mean speed in thousandths, over the frames of all spans."""
+        frames = sum(span.frames for span in self.spans)
+        return sum(span.speed * span.frames for span in self.spans) / frames if frames else 0.0
+
+    def merit(self) -> tuple[float, ...]:
+        """More frames, fewer refused words, fewer spans, and a speed near the nominal one."""
+        return self.heard, -self.refused, -len(self.spans), -abs(self.speed - 1000)
+
+    def seconds_at(self, tick: int) -> float:
+        return tick / FINENESS / self.rate
+
+
+def spans_in(lines: Iterable[str]) -> tuple[list[Span], int]:
+    """The spans of the lines of `ltc-spans`, and the ticks of the whole."""
+    spans: list[Span] = []
+    gap: int | None = None
+    relation: str | None = None
+    ticks = 0
+    for line in lines:
+        words = line.split()
+        if words[0] == "span":
+            _, direction, first, last, _, heard, _, bridged, _, begin, end, _, speed = words
+            place, counted = (int(begin), int(end)), (int(heard), int(bridged))
+            spans.append(Span(direction, first, last, *counted, *place, int(speed), gap, relation))
+            gap, relation = None, None
+        elif words[0] == "gap":
+            gap, relation = int(words[2]), " ".join(words[3:])
+        elif words[0] == "end":
+            ticks = int(words[-1])
+    return spans, ticks
+
+
+def word_of(line: str) -> Word | None:
+    """The word of a line, where it is one."""
+    parts = line.split()
+    if not parts or parts[0] != "word":
+        return None
+    return Word(parts[1], parts[2], parts[4], parts[6], int(parts[10]), int(parts[14]))
+
+
+def words_in(path: str) -> Iterable[Word]:
+    """The words of a report, one after another."""
+    with open(path, encoding="ascii") as lines:
+        yield from filter(None, map(word_of, lines))

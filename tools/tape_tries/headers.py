@@ -1,0 +1,104 @@
+"""No traceback from any input: headers by chance, names of all kinds."""
+import os
+import random
+import subprocess
+
+from . import running
+from .making import bext, code, intervals, ixml, wav
+from .running import ARCHIVE, TAPE, has, run
+
+# Bytes at the edges of what a field can hold.
+EDGES = (0, 1, 127, 128, 254, 255)
+FUZZED, FUZZED_LONG = 40, 2_000
+
+
+def header_by_chance(base, chance):
+    """A file with some bytes of its header changed, and sometimes cut."""
+    data = bytearray(base)
+    for _ in range(chance.randrange(1, 12)):
+        data[chance.randrange(0, 80 if chance.random() < 0.7 else 1200)] = chance.choice(
+            [*EDGES, chance.randrange(256)]
+        )
+    return bytes(data[: chance.randrange(1, 1200)] if chance.random() < 0.3 else data)
+
+
+def try_headers(room):
+    """Files whose headers are fuzzed: each ends with a status of its own, and a line where it fails."""
+    made = code(48_000, intervals("25", "10:00:00:00", 60), lead=480)
+    path = wav(os.path.join(room, "whole.wav"), 48_000, [made, made], 16, bext(), behind=ixml())
+    with open(path, "rb") as file:
+        base = file.read()
+    chance, states = random.Random(59), {0: 0, 1: 0, 3: 0}
+    fuzzed, copy = os.path.join(room, "fuzzed.wav"), os.path.join(room, "copy.wav")
+    count = FUZZED_LONG if running.is_long else FUZZED
+    for number in range(count):
+        data = header_by_chance(base, chance)
+        with open(fuzzed, "wb") as out:
+            out.write(data)
+        ended, out, notes = run(TAPE, fuzzed, "--stamp", copy, "--force")
+        assert (
+            ended in states and "Traceback" not in notes and "fault of this tool" not in notes
+        ), f"{number}: {ended}\n{notes}"
+        assert ended != 3 or notes.strip(), f"{number}: no reason"
+        states[ended] += 1
+    left = sorted(os.listdir(room))
+    assert left in (["copy.wav", "fuzzed.wav", "whole.wav"], ["fuzzed.wav", "whole.wav"]), left
+    return f"{count} headers: {states[0]} with code, {states[1]} without, {states[3]} refused"
+
+
+def try_short_headers(room):
+    """A header that ends early is a line with its reason, at each length."""
+    path = wav(os.path.join(room, "whole.wav"), 48_000, [[0] * 100])
+    with open(path, "rb") as file:
+        base = file.read()
+    short = os.path.join(room, "short.wav")
+    for length in range(0, 46):
+        with open(short, "wb") as out:
+            out.write(base[:length])
+        ended, _, notes = run(TAPE, short)
+        assert "Traceback" not in notes and ended == (1 if length >= 44 else 3), f"{length} bytes: {ended} {notes}"
+        assert ended == 1 or "short.wav: " in notes, f"{length} bytes: {notes}"
+
+
+def try_names(room):
+    """Names with bytes that are no UTF-8, with newlines and blanks: in the output they are valid UTF-8, on one line."""
+    made = code(48_000, intervals("25", "10:00:00:00", 60), lead=480)
+    plain = wav(os.path.join(room, "plain.wav"), 48_000, [made])
+    for name, shown in (
+        (b"\xff\xfe.wav", "\\xff\\xfe.wav"),
+        (b"new\nline.wav", "new\\x0aline.wav"),
+        (b"{} {1} $x `y`.wav", "{} {1} $x `y`.wav"),
+        (b"a\\xff.wav", "a\\x5cxff.wav"),
+        ("Bänder \u2028.wav".encode(), "Bänder \\xe2\\x80\\xa8.wav"),
+    ):
+        os.link(os.fsencode(plain), os.path.join(os.fsencode(room), name))
+        for words in ([], ["--csv"], ["--json"]):
+            ran = subprocess.run([TAPE, name, *words], capture_output=True, cwd=room, check=False)
+            assert ran.returncode == 0, ran.stderr
+            has(
+                ran.stdout.decode("utf-8"),
+                shown.replace("\\", "\\\\").replace("ä", "\\u00e4") if "--json" in words else shown,
+            )
+        ran = subprocess.run([TAPE, b"no" + name], capture_output=True, cwd=room, check=False)
+        assert ran.returncode == 3 and b"Traceback" not in ran.stderr, ran.stderr
+        has(ran.stderr.decode("utf-8"), shown)
+
+
+def try_early_ends(room):
+    """Output that nobody reads, and a full one, end without a traceback."""
+    plain = wav(os.path.join(room, "plain.wav"), 48_000, [code(48_000, intervals("25", "10:00:00:00", 60))])
+    for tool in (f"'{TAPE}' '{plain}'", f"'{TAPE}' --json '{plain}'", f"'{TAPE}' '{plain}' '{plain}' '{plain}'"):
+        _, _, notes = run("sh", "-c", f"{tool} | true")
+        assert "Traceback" not in notes, notes
+        ended, _, notes = run("sh", "-c", f"{tool} > /dev/full")
+        assert ended == 3 and "Traceback" not in notes, notes
+        has(notes, "no space left")
+
+
+def try_bad_words(room):
+    for words in ([], ["--jobs", "0", "a", "b"], ["--part", "3/3", "a", "b"], ["--part", "x", "a", "b"], ["a"]):
+        ended, _, notes = run(ARCHIVE, *words)
+        assert ended == 2 and "Traceback" not in notes, notes
+    for words in (["--rate", "26", "x"], ["--csv", "--json", "x"], ["--page", "p", "x", "y"], ["--track", "0", "x"]):
+        ended, _, notes = run(TAPE, *words)
+        assert ended == 2 and "Traceback" not in notes, notes
