@@ -1,6 +1,7 @@
 mod ByAProduct
 mod CountedLabels
 mod Digits
+mod Examples
 mod LoadInPieces
 mod LoadIsRead
 mod MadeInPieces

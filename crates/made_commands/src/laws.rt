@@ -5,8 +5,12 @@ ghost use Rattle.interval_file.specs.Recording.{end_fault_of, recording_of};
 ghost use Rattle.tc_io.specs.Verdict.{good};
 ghost use Rattle.tc_job.specs.LineStripe.{IsLineStripe, LineStriping};
 ghost use Rattle.tc_job.specs.Stripe.{IsStripe, Striping};
+ghost use Rattle.tc_address.specs.declared.count.Count.TheVariants.{C25};
+ghost use Rattle.tc_address.specs.Label.{address};
+ghost use Rattle.made_commands.specs.declared.about.TheConstants.{MANUAL, VERSION};
 ghost use Rattle.made_commands.specs.declared.chance.TheConstants as chance;
 ghost use Rattle.made_commands.specs.About.{usage_line, version_line};
+ghost use Rattle.made_commands.specs.Labels.{label_line};
 ghost use Rattle.made_commands.specs.Made.{made, made_cells, made_header, IsReadBack};
 ghost use Rattle.made_commands.specs.MadeLines.{made_lines, AreReadBack};
 
@@ -28,10 +32,14 @@ pub fn the_lengths_of_a_load_run_are_these()
     ensures greatest { chance.GREATEST_LENGTH ≡ 4096 }
 {}
 
-/// The line of `version`, and a line of `help` with its values, letter by letter.
+/// The line of `version`, a line of `help` with its values and its last line, and a line of `label`, letter by
+/// letter.
 pub fn what_the_program_tells_is_this()
+    ensures number_of_version { VERSION.now ≡ codes "1.0.0" }
     ensures version { version_line ≡ codes "tc 1.0.0\n" }
     ensures usage { usage_line (codes "ltc-fly", codes " LIMIT") ≡ codes "ltc-fly LIMIT\n" }
+    ensures manual { MANUAL.now ≡ codes "The manual: man 1 tc, and of files and lines man 5 tc-formats." }
+    ensures label { label_line (address C25 1 2 3 4) ≡ codes "01:02:03:04\n" }
 {}
 
 /// What `ltc-make` makes is within the limit of a reading, and is read as its header and its intervals,

@@ -1,5 +1,5 @@
 -- Each line of the reports once, as the tables of the formats write it, each field with a value of its own.
-use Rattle.std.proofs.Common.{◌≡◌, ℕ, Bool, true, false, refl}
+use Rattle.std.proofs.Common.{◌≡◌, Bool, true, false, refl}
 use Rattle.std.specs.Prelude.{codes}
 use Rattle.std.specs.Fmt.{digits}
 use Rattle.tc_address.specs.declared.count.Count.TheVariants.{C25, Drop30}

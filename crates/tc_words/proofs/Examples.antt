@@ -1,7 +1,7 @@
 -- The first fault where words have several, the edges of a number, and words that are like others.
 use Rattle.std.proofs.Common.{◌≡◌, [], ◌∷◌, true, false, Some, None, Ok, Err, refl, codes}
 use Rattle.pcm_front.specs.declared.threshold.Threshold.TheVariants.{Fixed, Follow, Deep}
-use Rattle.tc_address.specs.declared.count.Count.TheVariants.{C24, C25, C30, Drop30}
+use Rattle.tc_address.specs.declared.count.Count.TheVariants.{C30, Drop30}
 use Rattle.tc_address.specs.declared.system.System.TheVariants.{F25, F30}
 use Rattle.tc_job.specs.declared.job.Job.TheVariants.{LtcRead, PcmLtc, WavLtc}
 use Rattle.tc_job.specs.declared.job.Task.TheVariants.{Stream}

@@ -1,5 +1,5 @@
 -- Sound files worked byte by byte, from the tables of EBU Tech 3285 and ITU-R BS.2088.
-use Rattle.std.proofs.Common.{◌≡◌, ℕ, ◌*◌, ◌/◌, ◌%◌, ℤ, pos, neg_ℤ, List, [], ◌∷◌, ◌++◌, refl}
+use Rattle.std.proofs.Common.{◌≡◌, ℕ, ◌*◌, ◌/◌, ◌%◌, pos, neg_ℤ, List, [], ◌∷◌, ◌++◌, refl}
 use Rattle.wave_file.specs.declared.fault.WaveFault.TheVariants as fault
 use Rattle.wave_file.specs.declared.format.WaveFormat.{WaveFormat}
 use Rattle.wave_file.specs.Format.{samples_at}

@@ -1,16 +1,16 @@
 -- What a writer makes is read as it was written: each part is a whole piece, judged by itself, and the data are their
 -- blocks.
 use Rattle.std.proofs.Common.{true, false, ◌≡◌, ◌≢◌, ◌⊎◌, inl, inr, ℕ, zero, suc, ◌+◌, ◌-◌, ◌*◌, ◌/◌, ◌%◌, ◌<◌, ◌≤◌}
-use Rattle.std.proofs.Common.{◌^◌, min, Bool, ℤ, List, [], ◌∷◌, ◌++◌, Option, Some, None}
-use Rattle.std.proofs.Common.{length, take, drop, replicate, refl, ap, ap₂, ◌∙◌, arith, sym, append_assoc}
-use Rattle.std.specs.Prelude.{◌==◌, ◌&&◌, nat_le, nat_lt, Result, Ok, Err, if◌then◌else◌}
+use Rattle.std.proofs.Common.{◌^◌, min, Bool, List, [], ◌∷◌, ◌++◌, Option, Some, None}
+use Rattle.std.proofs.Common.{length, drop, replicate, refl, ap, ap₂, ◌∙◌, arith, sym, append_assoc}
+use Rattle.std.specs.Prelude.{◌==◌, ◌&&◌, nat_le, nat_lt, Result, Ok, if◌then◌else◌}
 use Rattle.std.specs.List.{AllByRecursion}
 use Rattle.std.proofs.lemmas.Bool.{eq-eqb, le-leb, le-ltb, lt-leb, ne_eqb}
 use Rattle.std.proofs.lemmas.Nat.{mul-le}
 use Rattle.std.proofs.Math.Nat.{mod-eq_of_lt, mul_left_comm}
 use Rattle.std.proofs.lemmas.List.{append-nil, length-append, length-replicate}
 use Rattle.byteorder.specs.Endian.{big_bytes, big_number, little_bytes, little_number}
-use Rattle.byteorder.specs.Numbers.{big_number-reads_back, length-bytes_high_first, length-bytes_low_first}
+use Rattle.byteorder.specs.Numbers.{big_number-reads_back}
 use Rattle.byteorder.specs.Numbers.{little_number-reads_back}
 use Rattle.wave_file.specs.declared.chunk.Chunk.{Chunk}
 use Rattle.wave_file.specs.declared.chunk.Chunk.TheVariants as chunk
@@ -22,7 +22,7 @@ use Rattle.wave_file.specs.declared.chunk.TheConstants.{LEAST_OPEN_SIZE}
 use Rattle.wave_file.specs.declared.fault.WaveFault.{WaveFault}
 use Rattle.wave_file.specs.declared.fault.WaveFault.TheVariants as fault
 use Rattle.wave_file.specs.declared.format.WaveFormat.{WaveFormat}
-use Rattle.wave_file.specs.declared.stage.TheConstants.{MAX_BYTES, MAX_SAMPLES}
+use Rattle.wave_file.specs.declared.stage.TheConstants.{MAX_SAMPLES}
 use Rattle.wave_file.specs.Chunk.{chunk_of, extent_of, form_of, is_open, long_extent, no_notes}
 use Rattle.wave_file.specs.Format.{field_fault, format_in, format_of, is_pcm, is_rate, is_sample_size, is_track_count}
 use Rattle.wave_file.specs.Format.{samples_at, unless, IsTakenFor}
@@ -31,8 +31,8 @@ use Rattle.wave_file.specs.Grammar.{format_text, head_text}
 use Rattle.wave_file.specs.Grammar.{file_of, long_file_of, others_text, read_whole, sizes_text, track_of}
 use Rattle.wave_file.specs.Stage.{extent_behind, HasBytes}
 use Rattle.wave_file.specs.Step.{with_samples}
-use Rattle.wave_file.specs.Wave.{Reading, bad, behind_form, bytes_inside, chunk_at, chunks_at, data_at, file_at}
-use Rattle.wave_file.specs.Wave.{may_end_at, padded, taken, wave_at}
+use Rattle.wave_file.specs.Wave.{bad, behind_form, bytes_inside, chunk_at, chunks_at, data_at, file_at}
+use Rattle.wave_file.specs.Wave.{may_end_at, padded, taken}
 use Rattle.tc_io.specs.Verdict.{good, past_limit}
 use Rattle.wave_file.proofs.Blocks.{blocks_more, none_inside, same_reading}
 use Rattle.wave_file.proofs.Pieces.{chunks_skip, format_brings, head_brings, piece_whole, sizes_bring}

@@ -1,6 +1,6 @@
 -- The bytes of a block are those of its samples one behind another, each of the same width, so a track is found where
 -- it stands.
-use Rattle.std.proofs.Common.{true, false, ◌≡◌, ℕ, zero, suc, ◌+◌, ◌-◌, ◌*◌, ◌/◌, ◌<◌, ◌≤◌, ◌^◌, ℤ, pos, List, [], ◌∷◌}
+use Rattle.std.proofs.Common.{◌≡◌, ℕ, zero, suc, ◌+◌, ◌-◌, ◌*◌, ◌<◌, ◌≤◌, ◌^◌, ℤ, pos, List, [], ◌∷◌}
 use Rattle.std.proofs.Common.{◌++◌, length, take, drop, get_or}
 use Rattle.std.proofs.Common.{refl, ap, ap₂, ◌∙◌, arith, subst, sym, append_assoc}
 use Rattle.std.specs.Prelude.{◌==◌, ◌-ℤ◌, negsuc, slice_index, FitsSigned}
