@@ -27,7 +27,7 @@ use Rattle.direction_reader.specs.declared.event.Event.{Event}
 use Rattle.direction_reader.specs.declared.event.Event.TheVariants.{Word, Refused, Lost}
 use Rattle.direction_reader.specs.declared.event.Events.{Events}
 use Rattle.direction_reader.specs.Candidate.{IsEventOf, AreEventsOf}
-use Rattle.direction_reader.specs.Events.{listed, event_list}
+use Rattle.direction_reader.specs.Events.{listed, event_list, tick_of}
 use Rattle.direction_reader.specs.Gathered.{AreEventsOfWindows}
 use Rattle.direction_reader.specs.Windows.{CellWindow, window_at, windows}
 use Rattle.direction_reader.specs.ListEvents.{duration, AreEvents, events_of_cells}
@@ -38,7 +38,7 @@ use Rattle.direction_reader.proofs.OneList.{IsExact, in_sync_or_not}
 use Rattle.direction_reader.proofs.OneListOfEvents.{HasOneList}
 use Rattle.direction_reader.proofs.TellsTheTape.{IsOneStretch, words_told}
 use Rattle.direction_reader.proofs.FrontsFirst.{windows_split}
-use Rattle.direction_reader.proofs.LaterEvents.{IsFrom, EndsFrom, windows_from, both_windows}
+use Rattle.direction_reader.proofs.LaterEvents.{EndsFrom, Positive, all_later_than, both_windows, front_lasts_longer, positive_chain, windows_from}
 use Rattle.direction_reader.proofs.MirroredWindows.{mirror_window, mirrored_windows, sum_reverse}
 use Rattle.direction_reader.proofs.WindowsFromCells.{duration_of, windows_cons, front_longer, front_within}
 use Rattle.direction_reader.proofs.WindowsGrow.{few}
@@ -232,9 +232,9 @@ AreTheSame = (profile : Profile) → LooksAtLast profile → (intervals : List �
     → BeginMirrored (cells_from cells cut intervals first) (cells_from others place (reverse intervals) last) first last (length intervals)
 
 -- the windows of cells that do not stand in a front of them end behind it
-behind_front : (tick : ℕ) (middle more : List Cell)
+behind_front : (tick : ℕ) (middle more : List Cell) → Positive (flat (middle ++ more))
     → All (EndsFrom (tick + duration middle)) (drop (length middle - 79) (windows tick (middle ++ more)))
-behind_front tick middle more i d within =
+behind_front tick middle more lasts i d within =
     let cells = middle ++ more in
     let k = length middle - 79 in
     let count = length cells - 79 in
@@ -245,7 +245,7 @@ behind_front tick middle more i d within =
     let window : get_or (drop k all) i d ≡ at (k + i) =
     get_or-drop k all i d ∙ get_or-map-range_with_len at 0 count (k + i) (k + i) d inside (omega arith) in
     let whole : duration (take (length middle) cells) ≡ duration middle = ap duration (take-append_seam middle more) in
-    rw window (omega (arith, whole, front_longer cells (length middle) (k + i + 80) (omega arith)))
+    rw window (omega (arith, whole, front_lasts_longer cells (length middle) (k + i + 80) lasts (omega arith) (omega arith)))
 
 -- the events of the windows of a front of cells, and what comes behind it
 record FrontEvents (system : System) (tick : ℕ) (middle : List Cell) (events : List Event) : Type 0 where
@@ -253,11 +253,11 @@ record FrontEvents (system : System) (tick : ℕ) (middle : List Cell) (events :
   more : List Event
   are : events ≡ mine ++ more
   mine_are : AreEventsOfWindows system (windows tick middle) mine
-  late : All (IsFrom (tick + duration middle)) more
+  late : All (λ event. tick + duration middle < tick_of event) more
 
-events_of_front : (system : System) (tick : ℕ) (cells middle more : List Cell) (es : List Event) → cells ≡ middle ++ more
+events_of_front : (system : System) (tick : ℕ) (cells middle more : List Cell) (es : List Event) → Positive (flat cells) → cells ≡ middle ++ more
     → AreEventsOfWindows system (windows tick cells) es → FrontEvents system tick middle es
-events_of_front system tick cells middle more es same are =
+events_of_front system tick cells middle more es lasts same are =
     let others = drop (length middle - 79) (windows tick (middle ++ more)) in
     let split : windows tick cells ≡ windows tick middle ++ others = ap (windows tick) same ∙ windows_split tick middle more in
     let both = both_windows system (windows tick middle) others es
@@ -267,7 +267,8 @@ events_of_front system tick cells middle more es same are =
       more = both.two;
       are = both.are;
       mine_are = both.ones;
-      late = windows_from system (tick + duration middle) others both.two (behind_front tick middle more) both.twos;
+      late = all_later_than (tick + duration middle) both.two (λ m. windows_from system m (tick + duration middle) others both.two
+          (behind_front tick middle more (subst (λ (cs : List Cell). Positive (flat cs)) same lasts)) both.twos);
     }
 
 -- the sums before, in and behind the middle
@@ -302,8 +303,10 @@ mirrors_the_tape lists exact back law stretch one system profile l es fs are too
     let own_too = lists.gathered system profile (reverse l) fs too in
     let told = words_told one stretch system profile l es own.0 own.1 own.2 tape cut first piece lock in
     let told_too = words_told one stretch system profile (reverse l) fs own_too.0 own_too.1 own_too.2 other place last turned_piece last_lock in
-    let mine = events_of_front system tick (cells_from tape cut l first) middle m.more es m.cells_are told in
-    let theirs = events_of_front system other_tick (cells_from other place (reverse l) last) (mirrored middle) m.others_more fs m.others_are
+    let lasts = positive_chain profile (cells_from tape cut l first) (stretch profile l tape cut first piece lock).1.chain.chain in
+    let lasts_too = positive_chain profile (cells_from other place (reverse l) last) (stretch profile (reverse l) other place last turned_piece last_lock).1.chain.chain in
+    let mine = events_of_front system tick (cells_from tape cut l first) middle m.more es lasts m.cells_are told in
+    let theirs = events_of_front system other_tick (cells_from other place (reverse l) last) (mirrored middle) m.others_more fs lasts_too m.others_are
     told_too in
     let front = (stretch profile l tape cut first piece lock).1.chain.front in
     let there : drop first l ≡ flat middle ++ (flat m.more ++ front.0) =

@@ -1,5 +1,5 @@
 -- The same tape from its other end: what a recording and its intervals in the other order of time have in common.
-use Rattle.std.specs.Prelude.{◌≡◌, ℕ, ◌+◌, ◌≤◌, List, ◌++◌, length, reverse, take, sum, All}
+use Rattle.std.specs.Prelude.{◌≡◌, ℕ, ◌+◌, ◌<◌, List, ◌++◌, length, reverse, take, sum, All}
 use Rattle.std.specs.List.{AllZip}
 use Rattle.biphase.specs.declared.cell.Cell.{Cell}
 use Rattle.biphase.specs.declared.profile.Profile.{Profile}
@@ -31,10 +31,10 @@ IsMirrorOf total (Refused direction fault tick) (Refused other same there) =
     (other ≡ turned direction) × (same ≡ fault) × ((length : ℕ) × (there + tick ≡ total + length))
 IsMirrorOf total event other = ⊥
 
--- the events begin with those of cells that begin at a tick, and further ones come at the end of these or later
+-- the events begin with those of cells that begin at a tick, and further ones come when these have ended
 abbrev pub TellFirst : System → ℕ → List Cell → List Event → Type 0
 TellFirst system tick cells events = (more : List Event) × (events ≡ events_of_cells system tick cells ++ more)
-    × All (λ event. tick + duration cells ≤ tick_of event) more
+    × All (λ event. tick + duration cells < tick_of event) more
 
 -- the cells stand from place `first` of the intervals on, and the others from place `last` on in the other order of
 -- time. The cells `between` these places begin the cells, and in the other order of time they begin the others. So the
