@@ -38,7 +38,8 @@ spans system tick cells place count = flat_map (firm_events_at system tick cells
 -- a window is no candidate of a word that is played backward, or one at fault: a witness changes nothing
 abbrev pub NeedsNone : System → ℕ → List Cell → ℕ → Type 0
 NeedsNone system tick cells k = (one two : Bool)
-    → map (judged one) (candidate_at system tick cells k Backward) ≡ map (judged two) (candidate_at system tick cells k Backward)
+    → map (judged one) (candidate_at system tick cells k Backward)
+    ≡ map (judged two) (candidate_at system tick cells k Backward)
 
 -- no word waits: all events are told, and none of the latest windows, behind which fewer than 16 cells came, is a word
 -- that is played backward
@@ -47,7 +48,8 @@ pub record NoneWaits (system : System) (tick : ℕ) (cells : List Cell) (told : 
   pub none : (k : ℕ) → k + 80 ≤ length cells → length cells < k + 96 → NeedsNone system tick cells k
 
 -- a word waits: that of the window from a place on. What came before it is told, and what came behind it stands there
-pub record OneWaits (w : Waiting) (system : System) (tick : ℕ) (cells : List Cell) (told : List FirmEvent) : Type 0 where
+pub record OneWaits (w : Waiting) (system : System) (tick : ℕ) (cells : List Cell) (told : List FirmEvent)
+    : Type 0 where
   pub place : ℕ
   pub age : place + 80 + w.age ≡ length cells
   pub young : w.age < 16

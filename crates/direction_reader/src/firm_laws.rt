@@ -1,5 +1,6 @@
 //! What follows from the definition of a witness alone.
-ghost use Rattle.std.specs.Prelude.{◌≡◌, ℕ, ◌<◌, ◌+◌, ◌*◌, ◌^◌, List, [], ◌∷◌, true, false, All, length, map, reverse, take, drop};
+ghost use Rattle.std.specs.Prelude.{◌≡◌, ℕ, ◌<◌, ◌+◌, ◌*◌, ◌^◌, List, [], ◌∷◌, true, false};
+ghost use Rattle.std.specs.Prelude.{All, length, map, reverse, take, drop};
 ghost use Rattle.std.specs.List.{AllZip};
 ghost use Rattle.biphase.specs.declared.cell.Cell.{Cell};
 ghost use Rattle.biphase.specs.declared.profile.Profile.{Profile};
@@ -102,7 +103,8 @@ pub fn firm_events_tell_the_tape()
 /// backward before 16 zeros; and 64 bits between a sync word that is played backward and one that is
 /// played forward are two words, each of them alone.
 pub fn some_words_are_alone()
-    ensures forward { firm_events_of_cells F25 0 (cells_of 96 (0xbffc0800000000000000 * 2 ^ 16)) ≡ Alone Forward 2304 ∷ [] }
+    ensures forward { firm_events_of_cells F25 0 (cells_of 96 (0xbffc0800000000000000 * 2 ^ 16))
+        ≡ Alone Forward 2304 ∷ [] }
     ensures backward { firm_events_of_cells F25 0 (cells_of 96 0x103ffd) ≡ Alone Backward 1920 ∷ [] }
     ensures turned { firm_events_of_cells F25 0 (cells_of 96 (0xbffc0800000000000000 * 2 ^ 16 + 0x3ffd))
         ≡ Alone Backward 1920 ∷ Alone Forward 2304 ∷ [] }
