@@ -62,7 +62,7 @@ pub no_backward : (system : System) (tick : ℕ) (cells : List Cell) (k : ℕ) �
 no_backward system tick cells k none = rw (sync_false (reversed_bits (number_at cells k)) none) refl
 
 -- a window with a backward candidate is one
-some_backward : (system : System) (tick : ℕ) (cells : List Cell) (k : ℕ) (event : Event) (more : List Event)
+pub some_backward : (system : System) (tick : ℕ) (cells : List Cell) (k : ℕ) (event : Event) (more : List Event)
     → candidate_at system tick cells k Backward ≡ event ∷ more → IsBackward cells k
 some_backward system tick cells k event more is = elim (in_sync_or_not (reversed_bits (number_at cells k))) [
   | inl sync ↦ sync
@@ -70,7 +70,7 @@ some_backward system tick cells k event more is = elim (in_sync_or_not (reversed
       ∙ is in absurd cc)
 ]
 
-apart : WordLaws → (cells : List Cell) (j k : ℕ) → j < k → k < j + 16 → IsBackward cells j → IsBackward cells k → ⊥
+pub apart : WordLaws → (cells : List Cell) (j k : ℕ) → j < k → k < j + 16 → IsBackward cells j → IsBackward cells k → ⊥
 apart laws cells j k low high one two =
     backwards_apart laws (bits cells) j k low high (rw (number_is cells j) at one) (rw (number_is cells k) at two)
 
@@ -178,6 +178,7 @@ began_stands system tick cells k told first second (Some (Word d w t n)) count f
       age = omega arith;
       young = omega arith;
       word = sym found;
+      is = refl;
       before = end ∙ ready;
       behind = refl;
     }
@@ -342,6 +343,7 @@ one_heard laws system tick cells cell w told sync forward backward found sync_is
             age = omega arith;
             young = omega arith;
             word = word;
+            is = waits.is;
             before = append-nil told ∙ before;
             behind = joined ∙ sym one_more;
           } in

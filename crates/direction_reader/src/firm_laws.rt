@@ -11,6 +11,9 @@ ghost use Rattle.direction_reader.specs.declared.firm_event.FirmEvent.{FirmEvent
 ghost use Rattle.direction_reader.specs.declared.firm_event.FirmEvent.TheVariants.{Told, Alone};
 ghost use Rattle.direction_reader.specs.Firm.{AreFirmEvents, candidate_at, firm_candidate_at, firm_events_of_cells};
 ghost use Rattle.direction_reader.specs.Firm.{is_firm, sync_in_time};
+ghost use Rattle.direction_reader.specs.FirmReader.{FirmState, FirmStandsFor};
+ghost use Rattle.direction_reader.specs.FirmTold.{AreTold};
+ghost use Rattle.direction_reader.specs.Tracker.{profile_of};
 ghost use Rattle.direction_reader.specs.FirmTape.{AreOneWay, FirmTellsTheTape, HasWitness, IsJudged, IsTold};
 ghost use Rattle.direction_reader.specs.ListEvents.{AreEvents, duration};
 ghost use Rattle.direction_reader.specs.Played.{Played, AreSpelled, bits_of_words, events_of_words, low_bits};
@@ -97,6 +100,24 @@ pub fn firm_events_tell_the_tape()
 {
     a_list_has_one_list_of_stretches();
     a_recording_within_the_tolerance_is_one_stretch();
+}
+
+/// What a reader has told is what is told of its list while more may follow.
+pub fn a_reader_has_told_what_no_further_interval_changes()
+    ensures { (reader : FirmState) (intervals : List ℕ) (told : List FirmEvent)
+        → FirmStandsFor reader intervals told
+        → AreTold reader.system (profile_of reader.tracker) intervals told }
+{}
+
+/// A list of intervals has one list of events that are told while more may follow: at most one word
+/// waits.
+pub fn a_list_has_one_list_of_told_events()
+    ensures { (system : System) (profile : Profile) (intervals : List ℕ) (told others : List FirmEvent)
+        → AreTold system profile intervals told → AreTold system profile intervals others → told ≡ others }
+{
+    a_list_has_one_list_of_stretches();
+    reversed_twice_is_the_same();
+    twelve_ones_are_the_sync_word();
 }
 
 /// The word of 00:00:00:00 at 25 frames, in cells of 24 ticks. It is alone behind 16 zeros, and played
