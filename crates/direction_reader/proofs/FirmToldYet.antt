@@ -1,7 +1,8 @@
 -- What a reader has told is what is told of its list while more may follow. At most one word waits, so a list has one
 -- such list of events.
 use Rattle.std.proofs.Common.{◌≡◌, ◌<◌, ◌≤◌, ℕ, ◌+◌, List, [], ◌∷◌, ◌++◌, length, Some, None, Option, ap, ap₂, sym, ◌∙◌}
-use Rattle.std.proofs.Common.{arith, refl, subst, append-nil, inl, inr, ◌⊎◌, All, Bool, true, false, map, take, get_or, length-append}
+use Rattle.std.proofs.Common.{arith, refl, subst, append-nil, inl, inr, ◌⊎◌, All, Bool, true, false, map, take, get_or}
+use Rattle.std.proofs.Common.{length-append}
 use Rattle.std.specs.List.{flat_map}
 use Rattle.std.proofs.lemmas.Bool.{cases_lt}
 use Rattle.std.proofs.Math.Seq.{take-append_seam}
@@ -32,7 +33,8 @@ use Rattle.direction_reader.proofs.OneListOfEvents.{HasOneList}
 use Rattle.direction_reader.proofs.SyncInTime.{WordLaws}
 
 -- a word is told otherwise without a witness
-no_need : (word : Event) (es : List Event) → es ≡ word ∷ [] → is_word word ≡ true → map (judged true) es ≡ map (judged false) es → ⊥
+no_need : (word : Event) (es : List Event) → es ≡ word ∷ [] → is_word word ≡ true
+    → map (judged true) es ≡ map (judged false) es → ⊥
 no_need (Word d w t n) es there is same =
     let both : Told (Word d w t n) ∷ [] ≡ Alone d t ∷ [] = rw there at same in absurd cc
 no_need (Refused d f t) es there is same = absurd cc
@@ -54,7 +56,8 @@ told_of_cells system tick cells (Some w) told one =
       one.before,
     )
 
-told_of_list : (r : FirmState) (t : Tracking) (l : List ℕ) (told latest : List FirmEvent) (earlier : List Stretch) (o : Option Stretch)
+told_of_list : (r : FirmState) (t : Tracking) (l : List ℕ) (told latest : List FirmEvent) (earlier : List Stretch) (o :
+    Option Stretch)
     → TrackerStandsFor t l earlier o → FirmLatest r l o latest
     → told ≡ flat_map (firm_events_of_stretch r.system l) earlier ++ latest → AreTold r.system (profile_of t) l told
 told_of_list r (AtCell a) l told latest earlier None is latest_are all = absurd is
@@ -98,7 +101,8 @@ told_of_list r (Hunting h) l told latest earlier (Some s) is latest_are all = ab
 
 pub reader_told : (r : FirmState) (l : List ℕ) (told : List FirmEvent) → FirmStandsFor r l told
     → AreTold r.system (profile_of r.tracker) l told
-reader_told r l told is = told_of_list r r.tracker l told is.latest is.earlier is.open_yet is.tracker is.latest_are is.all
+reader_told r l told is = told_of_list r r.tracker l told is.latest is.earlier is.open_yet is.tracker is.latest_are
+    is.all
 
 -- ---- one list
 
@@ -119,7 +123,8 @@ one_waiting laws system tick cells j k one two =
       ]
     ]
 
-one_of_cells : WordLaws → (system : System) (tick : ℕ) (cells : List Cell) (es fs : List FirmEvent) → AreToldOfCells system tick cells es
+one_of_cells : WordLaws → (system : System) (tick : ℕ) (cells : List Cell) (es fs : List FirmEvent)
+    → AreToldOfCells system tick cells es
     → AreToldOfCells system tick cells fs → es ≡ fs
 one_of_cells laws system tick cells es fs (inl one) (inl two) = one.1 ∙ sym two.1
 one_of_cells laws system tick cells es fs (inl one) (inr two) = absurd (one.0 two.0 two.1)
@@ -158,7 +163,8 @@ abbrev AreToldOf : System → List ℕ → List Stretch → List FirmEvent → T
 AreToldOf system l ss told =
     (All IsBroken ss × (told ≡ flat_map (firm_events_of_stretch system l) ss)) ⊎ AreToldOfOpen system l ss told
 
-one_of_stretches : WordLaws → (system : System) (l : List ℕ) (ss : List Stretch) (es fs : List FirmEvent) → AreToldOf system l ss es
+one_of_stretches : WordLaws → (system : System) (l : List ℕ) (ss : List Stretch) (es fs : List FirmEvent)
+    → AreToldOf system l ss es
     → AreToldOf system l ss fs → es ≡ fs
 one_of_stretches laws system l ss es fs (inl a) (inl b) = a.1 ∙ sym b.1
 one_of_stretches laws system l ss es fs (inl a) (inr b) = absurd (not_open system l ss fs a.0 b)
@@ -169,7 +175,8 @@ one_of_stretches laws system l ss es fs (inr a) (inr b) =
     let last = same_last a.earlier b.earlier a.last b.last join in
     let there = subst (λ (s : Stretch). AreToldOfCells system (begin_of l s) s.cells a.own) last a.own_are in
     let own = one_of_cells laws system (begin_of l b.last) b.last.cells a.own b.own there b.own_are in
-    a.all ∙ ap₂ (λ (us : List Stretch) (e : List FirmEvent). flat_map (firm_events_of_stretch system l) us ++ e) front own ∙ sym b.all
+    a.all ∙ ap₂ (λ (us : List Stretch) (e : List FirmEvent). flat_map (firm_events_of_stretch system l) us ++ e) front
+    own ∙ sym b.all
 
 pub one_told : HasOneList → WordLaws → (system : System) (profile : Profile) (l : List ℕ) (es fs : List FirmEvent)
     → AreTold system profile l es → AreTold system profile l fs → es ≡ fs

@@ -1,4 +1,5 @@
--- Two sync words in one direction stand at least sixteen cells apart: laid over each other at any less, a one of the one
+-- Two sync words in one direction stand at least sixteen cells apart: laid over each other at any less, a one of the
+-- one
 -- falls on a zero of the other. So behind a word that is played backward at most one window is a candidate in each
 -- direction, until its witness is there.
 use Rattle.std.proofs.Common.{◌≡◌, ℕ, ◌+◌, ◌-◌, ◌%◌, ◌/◌, ◌^◌, ◌<◌, ◌≤◌, Bool, true, false, List, sym, ap, ◌∙◌, arith}
