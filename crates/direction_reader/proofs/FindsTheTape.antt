@@ -25,13 +25,13 @@ use Rattle.direction_reader.specs.declared.event.Event.{Event}
 use Rattle.direction_reader.specs.declared.event.Event.TheVariants.{Word, Refused, Lost}
 use Rattle.direction_reader.specs.declared.event.Events.{Events}
 use Rattle.direction_reader.specs.Candidate.{IsEventOf, AreEventsOf}
-use Rattle.direction_reader.specs.Events.{listed, event_list, tick_of}
+use Rattle.direction_reader.specs.Events.{listed, event_list}
 use Rattle.direction_reader.specs.Gathered.{AreEventsOfWindows, AreEventsOfStretch, AreEventsOfStretches}
 use Rattle.direction_reader.specs.Gathered.{begin_of}
 use Rattle.direction_reader.specs.Windows.{CellWindow, windows}
 use Rattle.direction_reader.specs.ListEvents.{duration, break_events}
 use Rattle.direction_reader.specs.ListEvents.{AreEvents}
-use Rattle.direction_reader.specs.Tape.{ComesBy, FindsTheTape}
+use Rattle.direction_reader.specs.Tape.{ComesBehind, ComesBy, FindsTheTape}
 use Rattle.direction_reader.proofs.AsLists.{AreListed}
 use Rattle.direction_reader.proofs.OneList.{in_sync_or_not}
 use Rattle.direction_reader.proofs.WindowsGrow.{few}
@@ -368,9 +368,9 @@ abbrev pub IsFrontFirst : Type 0
 IsFrontFirst = (system : System) (profile : Profile) (front more : List ℕ) (events all : List Event) → AreEvents system profile front events
     → AreEvents system profile (front ++ more) all → (rest : List Event) × (all ≡ events ++ rest)
 
-abbrev pub IsLater : Type 0
-IsLater = (system : System) (profile : Profile) (front more : List ℕ) (events rest : List Event) → AreEvents system profile front events
-    → AreEvents system profile (front ++ more) (events ++ rest) → All (λ event. sum front ≤ tick_of event) rest
+abbrev pub IsBehind : Type 0
+IsBehind = (system : System) (profile : Profile) (front more : List ℕ) (events rest : List Event) → AreEvents system profile front events
+    → AreEvents system profile (front ++ more) (events ++ rest) → All (ComesBehind front) rest
 
 abbrev pub EventsExist : Type 0
 EventsExist = (system : System) (profile : Profile) (intervals : List ℕ) → (events : List Event) × AreEvents system profile intervals events
@@ -378,7 +378,7 @@ EventsExist = (system : System) (profile : Profile) (intervals : List ℕ) → (
 pub record Fronts : Type 0 where
   pub exist : EventsExist
   pub first : IsFrontFirst
-  pub later : IsLater
+  pub behind : IsBehind
 
 pub finds_the_tape : AreListed → IsFoundAgain → Fronts → (system : System) (profile : Profile) (l : List ℕ)
     (es : List Event) → AreEvents system profile l es → FindsTheTape system profile l es
@@ -387,7 +387,7 @@ finds_the_tape lists law fronts system profile l es are = λ looks before kept b
     let whole = subst (λ (xs : List ℕ). AreEvents system profile xs es) same are in
     let mine = fronts.exist system profile front in
     let rest = fronts.first system profile front behind mine.0 es mine.1 whole in
-    let late = fronts.later system profile front behind mine.0 rest.0 mine.1
+    let late = fronts.behind system profile front behind mine.0 rest.0 mine.1
     (subst (λ (e : List Event). AreEvents system profile (front ++ behind) e) rest.1 whole) in
     let own = lists.gathered system profile front mine.0 mine.1 in
     let from = length before + second in

@@ -1,6 +1,7 @@
 -- What is kept of some cells, with a word that waits, becomes what is kept of one cell more; and the numbers of what is
 -- told lie within those of the cells.
-use Rattle.std.proofs.Common.{◌≡◌, ◌<◌, ◌≤◌, ℕ, ◌+◌, ◌-◌, Bool, true, false, List, [], ◌∷◌, ◌++◌, length, Option, Some, None, IfSome}
+use Rattle.std.proofs.Common.{◌≡◌, ◌<◌, ◌≤◌, ℕ, ◌+◌, ◌-◌, Bool, true, false, List, [], ◌∷◌, ◌++◌, length, Option, Some}
+use Rattle.std.proofs.Common.{None, IfSome}
 use Rattle.std.proofs.Common.{ap, sym, ◌∙◌, arith, refl, subst, length-append, append-nil, inl, inr}
 use Rattle.std.specs.Prelude.{nat_lt}
 use Rattle.std.specs.Option.{option_map}
@@ -22,7 +23,8 @@ use Rattle.direction_reader.specs.Beside.{BesideBits, none_beside, beside_with, 
 use Rattle.direction_reader.specs.Brings.{IsWordAt}
 use Rattle.direction_reader.specs.Firm.{judged, firm_events_of_cells}
 use Rattle.direction_reader.specs.FirmStandsFor.{KeptFirm, FirmCellsStandFor, WaitsFor, beside_of}
-use Rattle.direction_reader.specs.FirmStep.{FindsAt, AreWindowCandidates, heard, began, or_else, ended, firm_list, IsWithin, IsToldWithin}
+use Rattle.direction_reader.specs.FirmStep.{FindsAt, AreWindowCandidates, heard, began, or_else, ended, firm_list}
+use Rattle.direction_reader.specs.FirmStep.{IsWithin, IsToldWithin}
 use Rattle.direction_reader.specs.FirmStep.{IsWaitingWithin, WaitsWithin, TellsWithin}
 use Rattle.direction_reader.specs.LatestBits.{after_bit}
 use Rattle.direction_reader.specs.LatestCells.{with_boundary}
@@ -63,16 +65,22 @@ later_told : (before tick : ℕ) (event : FirmEvent) → before ≤ tick → IsT
 later_told before tick (Told event) late is = later_event before tick event late is
 later_told before tick (Alone d t) late is = omega (arith, is)
 
-later_option : (before tick : ℕ) (o : Option FirmEvent) → before ≤ tick → IfSome o (IsToldWithin before) → IfSome o (IsToldWithin tick)
+later_option : (before tick : ℕ) (o : Option FirmEvent) → before ≤ tick → IfSome o (IsToldWithin before)
+    → IfSome o (IsToldWithin tick)
 later_option before tick None late is = tt
 later_option before tick (Some event) late is = later_told before tick event late is
 
 pub later_waits : (before tick : ℕ) (o : Option Waiting) → before ≤ tick → WaitsWithin before o → WaitsWithin tick o
 later_waits before tick None late is = tt
 later_waits before tick (Some w) late is =
-    record { word = later_event before tick w.word late is.word; behind = later_option before tick w.behind late is.behind }
+    record {
+      word = later_event before tick w.word late is.word;
+      behind = later_option before tick w.behind late
+          is.behind;
+    }
 
-or_within : (tick : ℕ) (a b : Option FirmEvent) → IfSome a (IsToldWithin tick) → IfSome b (IsToldWithin tick) → IfSome (or_else a b) (IsToldWithin tick)
+or_within : (tick : ℕ) (a b : Option FirmEvent) → IfSome a (IsToldWithin tick) → IfSome b (IsToldWithin tick)
+    → IfSome (or_else a b) (IsToldWithin tick)
 or_within tick None b one two = two
 or_within tick (Some e) b one two = one
 
@@ -82,12 +90,22 @@ began_within : (tick : ℕ) (first second : Option FirmEvent) (backward : Option
 began_within tick first second None one two back = (tt, record { first = one; second = two; third = tt })
 began_within tick first second (Some (Word d w t n)) one two back =
     (record { word = back; behind = tt }, record { first = one; second = two; third = tt })
-began_within tick first second (Some (Refused d f t)) one two back = (tt, record { first = one; second = two; third = back })
+began_within tick first second (Some (Refused d f t)) one two back = (
+  tt,
+  record {
+    first = one;
+    second = two;
+    third =
+        back;
+  },
+)
 began_within tick first second (Some (Lost p t)) one two back = absurd back
 
-heard_within : (tick : ℕ) (waits : Option Waiting) (sync : Bool) (forward : Option FirmEvent) (backward : Option Event) → WaitsWithin tick waits
+heard_within : (tick : ℕ) (waits : Option Waiting) (sync : Bool) (forward : Option FirmEvent) (backward : Option Event)
+    → WaitsWithin tick waits
     → IfSome forward (IsToldWithin tick) → IfSome backward (IsWithin tick)
-    → WaitsWithin tick (heard waits sync forward backward).waiting × TellsWithin tick (heard waits sync forward backward).told
+    → WaitsWithin tick (heard waits sync forward backward).waiting × TellsWithin tick (heard waits sync forward
+    backward).told
 heard_within tick None sync forward backward waits one back = began_within tick None forward backward tt one back
 heard_within tick (Some w) sync forward backward waits one back =
     let behind = or_within tick w.behind forward waits.behind one in
@@ -97,49 +115,61 @@ heard_within tick (Some w) sync forward backward waits one back =
           rw test (record { word = waits.word; behind = behind }, record { first = tt; second = tt; third = tt }))
       | inr last ↦ (
           let test : nat_lt w.age 15 ≡ false = grind (arith, common_steps) in
-          let is = began_within tick (Some (judged sync w.word)) (or_else w.behind forward) backward (judged_within tick sync w.word waits.word) behind back in
+          let is = began_within tick (Some (judged sync w.word)) (or_else w.behind forward) backward (judged_within
+          tick sync w.word waits.word) behind back in
           rw test is)
     ]
 
 -- what one cell tells
-pub add_within : (before tick : ℕ) (waits : Option Waiting) (firm sync : Bool) (found : Candidates) → before ≤ tick → WaitsWithin before waits
+pub add_within : (before tick : ℕ) (waits : Option Waiting) (firm sync : Bool) (found : Candidates) → before ≤ tick
+    → WaitsWithin before waits
     → FindsAt tick found
     → WaitsWithin tick (heard waits sync (option_map (judged firm) found.forward) found.backward).waiting
     × TellsWithin tick (heard waits sync (option_map (judged firm) found.forward) found.backward).told
 add_within before tick waits firm sync found late within at =
-    heard_within tick waits sync (option_map (judged firm) found.forward) found.backward (later_waits before tick waits late within)
-    (all_judged_within tick firm found.forward (found_within tick found.forward at.forward)) (found_within tick found.backward at.backward)
+    heard_within tick waits sync (option_map (judged firm) found.forward) found.backward (later_waits before tick waits
+    late within)
+    (all_judged_within tick firm found.forward (found_within tick found.forward at.forward)) (found_within tick
+    found.backward at.backward)
 
 -- ---- what is kept
 
-pub add_stands : WordLaws → (old new : KeptFirm) (system : System) (begin tick : ℕ) (bit : Bool) (found : Candidates) (cells : List Cell)
+pub add_stands : WordLaws → (old new : KeptFirm) (system : System) (begin tick : ℕ) (bit : Bool) (found : Candidates)
+    (cells : List Cell)
     (cell : Cell) (told : List FirmEvent)
     → new.cells.bits ≡ after_bit old.cells.bits bit → new.cells.boundaries ≡ with_boundary old.cells.boundaries tick
     → new.beside ≡ beside_with old.beside bit
     → AreWindowCandidates system new.cells.bits new.cells.boundaries tick found
-    → (let h = heard old.waits (is_sync_behind new.beside) (option_map (judged (is_firm_before new.beside)) found.forward) found.backward in
+    → (let h = heard old.waits (is_sync_behind new.beside) (option_map (judged (is_firm_before new.beside))
+    found.forward) found.backward in
     new.waits ≡ h.waiting → FirmCellsStandFor old system begin cells told → bit_of cell ≡ bit
     → tick ≡ begin + duration cells + length_of cell
     → FirmCellsStandFor new system begin (cells ++ cell ∷ []) (told ++ firm_list h.told))
-add_stands laws old new system begin tick bit found cells cell told is_bits is_boundaries is_beside are waits stands same ends =
+add_stands laws old new system begin tick bit found cells cell told is_bits is_boundaries is_beside are waits stands
+    same ends =
     let all = cells ++ cell ∷ [] in
     let bits_too : new.cells.bits ≡ after_bit old.cells.bits (bit_of cell) = rw same is_bits in
     let latest = cell_more old.cells new.cells begin tick cells cell stands.latest ends bits_too is_boundaries in
     let more = duration_more cells cell in
     let ends_all : tick ≡ begin + duration all = omega (arith, ends, more) in
-    let bits_all : bits all ≡ bits cells ++ bit ∷ [] = map-append bit_of cells (cell ∷ []) ∙ ap (λ (b : Bool). bits cells ++ b ∷ []) same in
+    let bits_all : bits all ≡ bits cells ++ bit ∷ [] = map-append bit_of cells (cell ∷ [])
+    ∙ ap (λ (b : Bool). bits cells ++ b ∷ []) same in
     let beside : new.beside ≡ beside_of none_beside (bits all) =
-    is_beside ∙ ap (λ (b : BesideBits). beside_with b bit) stands.beside ∙ sym (beside_more none_beside (bits cells) bit)
+    is_beside ∙ ap (λ (b : BesideBits). beside_with b bit) stands.beside
+    ∙ sym (beside_more none_beside (bits cells) bit)
     ∙ ap (λ (l : List Bool). beside_of none_beside l) (sym bits_all) in
     let count = length-append cells (cell ∷ []) in
-    let firm : 79 ≤ length cells → is_firm_before new.beside ≡ Rattle.direction_reader.specs.Firm.is_firm Rattle.tc_address.specs.declared.direction.Direction.TheVariants.Forward all (length cells - 79) =
+    let firm : 79 ≤ length cells → is_firm_before new.beside ≡ Rattle.direction_reader.specs.Firm.is_firm
+    Rattle.tc_address.specs.declared.direction.Direction.TheVariants.Forward all (length cells - 79) =
     λ enough. (
     let place : length all - 80 ≡ length cells - 79 = omega arith in
     ap is_firm_before beside ∙ rw place at (firm_before all (omega arith))) in
-    let found_all = all_found system new.cells begin tick cells cell found (is_firm_before new.beside) latest ends_all are firm in
+    let found_all = all_found system new.cells begin tick cells cell found (is_firm_before new.beside) latest ends_all
+    are firm in
     let heard_now = heard_stands laws system begin cells cell old.waits told (is_sync_behind new.beside)
     (option_map (judged (is_firm_before new.beside)) found.forward) found.backward found_all
-    (λ enough. ap is_sync_behind beside ∙ sync_behind all (length cells - 15) (omega arith) (omega arith)) stands.waits in
+    (λ enough. ap is_sync_behind beside ∙ sync_behind all (length cells - 15) (omega arith) (omega arith)) stands.waits
+    in
     record {
       latest = latest;
       beside = beside;

@@ -1,5 +1,6 @@
 -- Each window has the same candidates with and without witnesses, and each of them is judged by itself.
-use Rattle.std.proofs.Common.{◌≡◌, ◌<◌, ◌≤◌, ℕ, zero, suc, ◌+◌, ◌-◌, Bool, true, false, List, [], ◌∷◌, ◌++◌, length, take, drop, map, sum}
+use Rattle.std.proofs.Common.{◌≡◌, ◌<◌, ◌≤◌, ℕ, zero, suc, ◌+◌, ◌-◌, Bool, true, false, List, [], ◌∷◌, ◌++◌, length}
+use Rattle.std.proofs.Common.{take, drop, map, sum}
 use Rattle.std.proofs.Common.{ap, ap₂, sym, ◌∙◌, arith, refl, subst, append-nil, inl, inr, Some, None, Option, All}
 use Rattle.std.specs.Prelude.{nat_lt, ◌==◌, ◌||◌}
 use Rattle.std.specs.List.{flat_map, range_with_len, AllZip}
@@ -21,17 +22,20 @@ use Rattle.direction_reader.specs.declared.event.Event.TheVariants.{Word, Refuse
 use Rattle.direction_reader.specs.declared.firm_event.FirmEvent.{FirmEvent}
 use Rattle.direction_reader.specs.declared.firm_event.FirmEvent.TheVariants.{Told, Alone}
 use Rattle.direction_reader.specs.Candidate.{event_of, candidate_in}
-use Rattle.direction_reader.specs.Firm.{AreFirmEvents, is_firm, judged, candidate_at, firm_candidate_at, firm_events_at, firm_events_of_cells}
+use Rattle.direction_reader.specs.Firm.{AreFirmEvents, is_firm, judged, candidate_at, firm_candidate_at, firm_events_at}
+use Rattle.direction_reader.specs.Firm.{firm_events_of_cells}
 use Rattle.direction_reader.specs.Firm.{firm_events_of_stretch}
 use Rattle.direction_reader.specs.FirmTape.{IsJudged, HasWitness, FirmTellsTheTape}
-use Rattle.direction_reader.specs.ListEvents.{AreEvents, bits_in, break_events, duration, events_at, events_of_cells, events_of_stretch, events_of_window}
+use Rattle.direction_reader.specs.ListEvents.{AreEvents, bits_in, break_events, duration, events_at, events_of_cells}
+use Rattle.direction_reader.specs.ListEvents.{events_of_stretch, events_of_window}
 use Rattle.direction_reader.proofs.AsLists.{by_fault}
 use Rattle.direction_reader.proofs.OneListOfEvents.{HasOneList}
 use Rattle.direction_reader.proofs.TellsTheTape.{IsOneStretch}
 
 -- ---- one event for each
 
-AllZip-append : {A B : Type 0} (R : A → B → Type 0) (xs xs' : List A) (ys ys' : List B) → AllZip R xs ys → AllZip R xs' ys'
+AllZip-append : {A B : Type 0} (R : A → B → Type 0) (xs xs' : List A) (ys ys' : List B) → AllZip R xs ys
+    → AllZip R xs' ys'
     → AllZip R (xs ++ xs') (ys ++ ys')
 AllZip-append R [] xs' [] ys' one two = two
 AllZip-append R [] xs' (y ∷ ys) ys' one two = absurd one
@@ -51,7 +55,8 @@ pub all_firm : (es : List Event) → map (judged true) es ≡ map (λ event. Tol
 all_firm [] = refl
 all_firm (e ∷ es) = ap₂ (λ (a : FirmEvent) (b : List FirmEvent). a ∷ b) (judged_firm e) (all_firm es)
 
-window_judged : (system : System) (tick : ℕ) (cells : List Cell) (k : ℕ) → AllZip IsJudged (events_at system tick cells k) (firm_events_at system tick cells k)
+window_judged : (system : System) (tick : ℕ) (cells : List Cell) (k : ℕ)
+    → AllZip IsJudged (events_at system tick cells k) (firm_events_at system tick cells k)
 unfolding events_of_window firm_events_at
 window_judged system tick cells k =
     AllZip-append IsJudged (candidate_at system tick cells k Forward) (candidate_at system tick cells k Backward)
@@ -63,30 +68,37 @@ windows_judged : (system : System) (tick : ℕ) (cells : List Cell) (ks : List �
     → AllZip IsJudged (flat_map (events_at system tick cells) ks) (flat_map (firm_events_at system tick cells) ks)
 windows_judged system tick cells [] = tt
 windows_judged system tick cells (k ∷ ks) =
-    AllZip-append IsJudged (events_at system tick cells k) (flat_map (events_at system tick cells) ks) (firm_events_at system tick cells k)
-    (flat_map (firm_events_at system tick cells) ks) (window_judged system tick cells k) (windows_judged system tick cells ks)
+    AllZip-append IsJudged (events_at system tick cells k) (flat_map (events_at system tick cells) ks) (firm_events_at
+    system tick cells k)
+    (flat_map (firm_events_at system tick cells) ks) (window_judged system tick cells k) (windows_judged system tick
+    cells ks)
 
-stretch_judged : (system : System) (l : List ℕ) (s : Stretch) → AllZip IsJudged (events_of_stretch system l s) (firm_events_of_stretch system l s)
+stretch_judged : (system : System) (l : List ℕ) (s : Stretch)
+    → AllZip IsJudged (events_of_stretch system l s) (firm_events_of_stretch system l s)
 stretch_judged system l s =
     let tick = sum (take s.lock l) in
     let broken = break_events l s.broken_at in
     let lost : AllZip IsJudged broken (map (λ (e : Event). Told e) broken) =
     subst (λ (fs : List FirmEvent). AllZip IsJudged broken fs) (all_firm broken) (all_judged true broken) in
     AllZip-append IsJudged (events_of_cells system tick s.cells) broken (firm_events_of_cells system tick s.cells)
-    (map (λ (e : Event). Told e) broken) (windows_judged system tick s.cells (range_with_len 0 (length s.cells - 79))) lost
+    (map (λ (e : Event). Told e) broken) (windows_judged system tick s.cells (range_with_len 0 (length s.cells - 79)))
+    lost
 
 stretches_judged : (system : System) (l : List ℕ) (ss : List Stretch)
     → AllZip IsJudged (flat_map (events_of_stretch system l) ss) (flat_map (firm_events_of_stretch system l) ss)
 stretches_judged system l [] = tt
 stretches_judged system l (s ∷ ss) =
-    AllZip-append IsJudged (events_of_stretch system l s) (flat_map (events_of_stretch system l) ss) (firm_events_of_stretch system l s)
+    AllZip-append IsJudged (events_of_stretch system l s) (flat_map (events_of_stretch system l) ss)
+    (firm_events_of_stretch system l s)
     (flat_map (firm_events_of_stretch system l) ss) (stretch_judged system l s) (stretches_judged system l ss)
 
-pub list_judged : HasOneList → (system : System) (profile : Profile) (l : List ℕ) (es : List Event) (fs : List FirmEvent)
+pub list_judged : HasOneList → (system : System) (profile : Profile) (l : List ℕ) (es : List Event) (fs : List
+    FirmEvent)
     → AreEvents system profile l es → AreFirmEvents system profile l fs → AllZip IsJudged es fs
 list_judged one system profile l es fs (ss, stretches, are) (ts, others, too) =
     let same : ts ≡ ss = one profile l ts ss others stretches in
-    let is : fs ≡ flat_map (firm_events_of_stretch system l) ss = too ∙ ap (λ (us : List Stretch). flat_map (firm_events_of_stretch system l) us) same in
+    let is : fs ≡ flat_map (firm_events_of_stretch system l) ss = too
+    ∙ ap (λ (us : List Stretch). flat_map (firm_events_of_stretch system l) us) same in
     rw (are, is) (stretches_judged system l ss)
 
 -- ---- one list
@@ -94,7 +106,8 @@ list_judged one system profile l es fs (ss, stretches, are) (ts, others, too) =
 pub one_firm_list : HasOneList → (system : System) (profile : Profile) (l : List ℕ) (es fs : List FirmEvent)
     → AreFirmEvents system profile l es → AreFirmEvents system profile l fs → es ≡ fs
 one_firm_list one system profile l es fs (ss, stretches, are) (ts, others, too) =
-    are ∙ ap (λ (us : List Stretch). flat_map (firm_events_of_stretch system l) us) (one profile l ss ts stretches others) ∙ sym too
+    are ∙ ap (λ (us : List Stretch). flat_map (firm_events_of_stretch system l) us) (one profile l ss ts stretches
+    others) ∙ sym too
 
 -- ---- each word has its witness
 
@@ -102,7 +115,8 @@ one_firm_list one system profile l es fs (ss, stretches, are) (ts, others, too) 
 abbrev event_by : System → Direction → ℕ → ℕ → ℕ → Option FieldFault → Event
 event_by system d bits end n o = elim o [ None ↦ Word d (word_in system bits) end n | Some fault ↦ Refused d fault end ]
 
-witness_by : (system : System) (tick : ℕ) (cells : List Cell) (k : ℕ) (d : Direction) (bits end n : ℕ) (o : Option FieldFault) (b : Bool)
+witness_by : (system : System) (tick : ℕ) (cells : List Cell) (k : ℕ) (d : Direction) (bits end n : ℕ) (o : Option
+    FieldFault) (b : Bool)
     → k + 80 ≤ length cells → end ≡ tick + duration (take (k + 80) cells) → is_firm d cells k ≡ b
     → All (HasWitness tick cells) (map (judged b) (event_by system d bits end n o ∷ []))
 witness_by system tick cells k d bits end n None true within at firm =
@@ -133,8 +147,10 @@ window_witness : (system : System) (tick : ℕ) (cells : List Cell) (k : ℕ) �
 unfolding firm_events_at
 window_witness system tick cells k within =
     let window = take 80 (drop k cells) in
-    All-append (HasWitness tick cells) (firm_candidate_at system tick cells k Forward) (firm_candidate_at system tick cells k Backward)
-    (found_witness system tick cells k Forward (bits_in window) _ (duration window) (ends_in_sync (bits_in window)) within refl refl)
+    All-append (HasWitness tick cells) (firm_candidate_at system tick cells k Forward) (firm_candidate_at system tick
+    cells k Backward)
+    (found_witness system tick cells k Forward (bits_in window) _ (duration window) (ends_in_sync (bits_in window))
+    within refl refl)
     (found_witness system tick cells k Backward (reversed_bits (bits_in window)) _ (duration window)
     (ends_in_sync (reversed_bits (bits_in window))) within refl refl)
 
@@ -143,7 +159,8 @@ windows_witness : (system : System) (tick : ℕ) (cells : List Cell) (a n : ℕ)
 windows_witness system tick cells a zero within = All-nil (HasWitness tick cells)
 windows_witness system tick cells a (suc n) within =
     All-append (HasWitness tick cells) (firm_events_at system tick cells a)
-    (flat_map (firm_events_at system tick cells) (range_with_len (a + 1) n)) (window_witness system tick cells a (omega arith))
+    (flat_map (firm_events_at system tick cells) (range_with_len (a + 1) n)) (window_witness system tick cells a (omega
+    arith))
     (windows_witness system tick cells (a + 1) n (omega arith))
 
 cells_witness : (system : System) (tick : ℕ) (cells : List Cell) (n : ℕ) → n ≡ length cells - 79
@@ -151,12 +168,14 @@ cells_witness : (system : System) (tick : ℕ) (cells : List Cell) (n : ℕ) →
 cells_witness system tick cells zero is = All-nil (HasWitness tick cells)
 cells_witness system tick cells (suc n) is = windows_witness system tick cells 0 (suc n) (omega arith)
 
-pub all_witness : (system : System) (tick : ℕ) (cells : List Cell) → All (HasWitness tick cells) (firm_events_of_cells system tick cells)
+pub all_witness : (system : System) (tick : ℕ) (cells : List Cell)
+    → All (HasWitness tick cells) (firm_events_of_cells system tick cells)
 all_witness system tick cells = cells_witness system tick cells (length cells - 79) refl
 
 -- ---- the tape
 
-no_lock : (system : System) (profile : Profile) (l : List ℕ) (fs : List FirmEvent) (ss : List Stretch) → AreStretches profile l ss
+no_lock : (system : System) (profile : Profile) (l : List ℕ) (fs : List FirmEvent) (ss : List Stretch)
+    → AreStretches profile l ss
     → fs ≡ flat_map (firm_events_of_stretch system l) ss → HasNoLock profile l 0 → fs ≡ []
 no_lock system profile l fs [] stretches are none = are
 no_lock system profile l fs (s ∷ ss) stretches are none =

@@ -1,13 +1,16 @@
 -- The register of 96 bits holds the latest 96 cells, so it tells what stands beside the latest window. And what is kept
 -- of the latest cells tells the candidates of that window.
-use Rattle.std.proofs.Common.{◌≡◌, ◌<◌, ◌≤◌, ℕ, zero, suc, ◌+◌, ◌-◌, ◌*◌, ◌/◌, ◌%◌, ◌^◌, Bool, true, false, List, [], ◌∷◌, ◌++◌, length, take, drop, map}
-use Rattle.std.proofs.Common.{ap, ap₂, sym, ◌∙◌, arith, refl, subst, append_assoc, append-nil, length-append, inl, inr, Option, Some, None, IfSome, replicate, min, mul_assoc}
+use Rattle.std.proofs.Common.{◌≡◌, ◌<◌, ◌≤◌, ℕ, zero, suc, ◌+◌, ◌-◌, ◌*◌, ◌/◌, ◌%◌, ◌^◌, Bool, true, false, List, []}
+use Rattle.std.proofs.Common.{◌∷◌, ◌++◌, length, take, drop, map}
+use Rattle.std.proofs.Common.{ap, ap₂, sym, ◌∙◌, arith, refl, subst, append_assoc, append-nil, length-append, inl, inr}
+use Rattle.std.proofs.Common.{Option, Some, None, IfSome, replicate, min, mul_assoc}
 use Rattle.std.specs.Prelude.{nat_lt, ◌==◌, ◌||◌, slice_index}
 use Rattle.std.specs.Option.{option_map}
 use Rattle.std.proofs.lemmas.Bool.{cases_lt}
 use Rattle.std.proofs.lemmas.Grind.{common_steps}
 use Rattle.std.proofs.lemmas.Nat.{pow-add}
-use Rattle.std.proofs.lemmas.List.{take-append-drop, take_all, length-take, length-drop, length-map, map-append, drop-drop, take-map, drop-map}
+use Rattle.std.proofs.lemmas.List.{take-append-drop, take_all, length-take, length-drop, length-map, map-append}
+use Rattle.std.proofs.lemmas.List.{drop-drop, take-map, drop-map}
 use Rattle.biphase.specs.declared.cell.Cell.{Cell}
 use Rattle.biphase.specs.Chain.{bit_of, bits}
 use Rattle.biphase.specs.Tolerance.{length_of}
@@ -42,7 +45,8 @@ number_join (x ∷ a) b =
     let more = number_join a b in
     let one_more : length (x ∷ a) ≡ 1 + length a = omega arith in
     let two : 2 ^ length (x ∷ a) ≡ 2 * 2 ^ length a = rw one_more (pow-add 2 1 (length a)) in
-    let assoc : 2 * 2 ^ length a * number_of b ≡ 2 * (2 ^ length a * number_of b) = mul_assoc 2 (2 ^ length a) (number_of b) in
+    let assoc : 2 * 2 ^ length a * number_of b ≡ 2 * (2 ^ length a * number_of b) = mul_assoc 2 (2 ^ length a)
+    (number_of b) in
     let whole : number_of ((x ∷ a) ++ b) ≡ bit_value x + 2 * number_of (a ++ b) = refl in
     let part : number_of (x ∷ a) ≡ bit_value x + 2 * number_of a = refl in
     rw two (omega (arith, more, assoc, whole, part))
@@ -100,7 +104,8 @@ counts b (bit ∷ more) most =
     next ∙ (grind (arith, common_steps))
 
 -- one bit more
-pub beside_more : (b : BesideBits) (bs : List Bool) (bit : Bool) → beside_of b (bs ++ bit ∷ []) ≡ beside_with (beside_of b bs) bit
+pub beside_more : (b : BesideBits) (bs : List Bool) (bit : Bool)
+    → beside_of b (bs ++ bit ∷ []) ≡ beside_with (beside_of b bs) bit
 beside_more b [] bit = refl
 beside_more b (x ∷ bs) bit = beside_more (beside_with b x) bs bit
 
@@ -126,7 +131,8 @@ latest_bits bs enough =
     ∙ ap number_of (drop_behind pad bs (length bs) (length bs - 96) (omega (arith, long)))
 
 -- cells as bits
-pub cells_number : (cells : List Cell) (n m : ℕ) → bits_in (take n (drop m cells)) ≡ number_of (take n (drop m (bits cells)))
+pub cells_number : (cells : List Cell) (n m : ℕ)
+    → bits_in (take n (drop m cells)) ≡ number_of (take n (drop m (bits cells)))
 cells_number cells n m =
     sym (bits_are (take n (drop m cells))) ∙ ap number_of (sym (take-map bit_of n (drop m cells)))
     ∙ ap (λ (l : List Bool). number_of (take n l)) (sym (drop-map bit_of m cells))
@@ -160,7 +166,8 @@ firm_before cells many =
 
 -- and the latest sixteen cells
 pub sync_behind : (cells : List Cell) (start : ℕ) → start + 16 ≡ length cells → 96 ≤ length cells
-    → is_sync_behind (beside_of none_beside (bits cells)) ≡ (bits_in (take 16 (drop start cells)) == sync_in_time Backward)
+    → is_sync_behind (beside_of none_beside (bits cells)) ≡ (bits_in (take 16 (drop start cells)) == sync_in_time
+    Backward)
 sync_behind cells start ends many =
     let bs = bits cells in
     let long : length bs ≡ length cells = length-map cells bit_of in
@@ -168,7 +175,11 @@ sync_behind cells start ends many =
     let value = latest_bits bs (omega (arith, long)) in
     let place : first + 80 ≡ start = omega (arith, long) in
     let there : drop 80 (drop first bs) ≡ drop start bs = drop-drop 80 first bs ∙ ap (λ (n : ℕ). drop n bs) place in
-    let sixteen : take 16 (drop start bs) ≡ drop start bs = take_all 16 (drop start bs) (omega (arith, long, length-drop start bs)) in
+    let sixteen : take 16 (drop start bs) ≡ drop start bs = take_all 16 (drop start bs) (omega (
+      arith,
+      long,
+      length-drop start bs,
+    )) in
     let all : (beside_of none_beside bs).bits / 2 ^ 80 ≡ bits_in (take 16 (drop start cells)) =
     ap (λ (n : ℕ). n / 2 ^ 80) value ∙ behind_eighty (drop first bs) (omega (arith, long, length-drop first bs))
     ∙ ap number_of (there ∙ sym sixteen) ∙ sym (cells_number cells 16 start) in
@@ -188,18 +199,28 @@ latest_window : (kept : Cells) (n tick end : ℕ) (cells : List Cell) → CellsS
 latest_window kept n tick end cells stands full ends =
     let is = subst (λ (b : LatestBits). BitsStandFor b stands.older stands.newest) full stands.bits_are in
     let same = stands.are in
-    let count : length cells ≡ length stands.older + 80 = ap length same ∙ length-append stands.older stands.newest ∙ ap (λ m. length stands.older + m) is.0 in
+    let count : length cells ≡ length stands.older + 80 = ap length same ∙ length-append stands.older stands.newest
+    ∙ ap (λ m. length stands.older + m) is.0 in
     let k = length cells - 80 in
     let place : k ≡ length stands.older = omega arith in
     let window : window_at tick cells k
-    ≡ record { bits = number_of (bits stands.newest); end = tick + duration (stands.older ++ stands.newest); length = duration stands.newest } =
+    ≡ record {
+      bits = number_of (bits stands.newest);
+      end = tick + duration (stands.older ++ stands.newest);
+      length =
+          duration stands.newest;
+    } =
     rw place (rw same (last_window tick stands.older stands.newest is.0)) in
-    let first : slice_index kept.boundaries 0 ≡ tick + duration stands.older = ap (λ l. slice_index l 0) stands.boundaries_are ∙ oldest _ stands.newest in
+    let first : slice_index kept.boundaries 0 ≡ tick + duration stands.older = ap (λ l. slice_index l 0)
+    stands.boundaries_are ∙ oldest _ stands.newest in
     let whole = duration-append stands.older stands.newest in
     let long : end - slice_index kept.boundaries 0 ≡ duration stands.newest = omega (arith, ap duration same) in
-    let number : number_of (bits (take 80 (drop k cells))) ≡ number_of (bits stands.newest) = ap (λ (w : CellWindow). w.bits) window in
-    let finish : tick + duration (take (k + 80) cells) ≡ tick + duration (stands.older ++ stands.newest) = ap (λ (w : CellWindow). w.end) window in
-    let length_is : duration (take 80 (drop k cells)) ≡ duration stands.newest = ap (λ (w : CellWindow). w.length) window in
+    let number : number_of (bits (take 80 (drop k cells))) ≡ number_of (bits stands.newest) = ap (λ (w : CellWindow).
+    w.bits) window in
+    let finish : tick + duration (take (k + 80) cells) ≡ tick + duration (stands.older ++ stands.newest) = ap (λ (w :
+    CellWindow). w.end) window in
+    let length_is : duration (take 80 (drop k cells)) ≡ duration stands.newest = ap (λ (w : CellWindow). w.length)
+    window in
     record {
       many = omega arith;
       bits_are = is.1 ∙ sym number ∙ bits_are (take 80 (drop k cells));
@@ -207,20 +228,23 @@ latest_window kept n tick end cells stands full ends =
       long = long ∙ sym length_is;
     }
 
-forward_there : (system : System) (kept : Cells) (n tick end : ℕ) (cells : List Cell) (found : Candidates) → IsLatestWindow kept n tick end cells
+forward_there : (system : System) (kept : Cells) (n tick end : ℕ) (cells : List Cell) (found : Candidates)
+    → IsLatestWindow kept n tick end cells
     → AreCandidatesOf system n end (end - slice_index kept.boundaries 0) found
     → listed found.forward ≡ candidate_at system tick cells (length cells - 80) Forward
 forward_there system kept n tick end cells found is are =
     are.forward ∙ (let a = is.bits_are in let b = is.ends in let c = is.long in rw (← a, ← b, ← c) refl)
 
-backward_there : (system : System) (kept : Cells) (n tick end : ℕ) (cells : List Cell) (found : Candidates) → IsLatestWindow kept n tick end cells
+backward_there : (system : System) (kept : Cells) (n tick end : ℕ) (cells : List Cell) (found : Candidates)
+    → IsLatestWindow kept n tick end cells
     → AreCandidatesOf system n end (end - slice_index kept.boundaries 0) found
     → listed found.backward ≡ candidate_at system tick cells (length cells - 80) Backward
 backward_there system kept n tick end cells found is are =
     are.backward ∙ (let a = is.bits_are in let b = is.ends in let c = is.long in rw (← a, ← b, ← c) refl)
 
 -- what is found of the window that ends with a cell
-found_by : (system : System) (kept : Cells) (b : LatestBits) (tick end : ℕ) (cells : List Cell) (cell : Cell) (found : Candidates) (firm : Bool)
+found_by : (system : System) (kept : Cells) (b : LatestBits) (tick end : ℕ) (cells : List Cell) (cell : Cell) (found :
+    Candidates) (firm : Bool)
     → kept.bits ≡ b → CellsStandFor kept tick (cells ++ cell ∷ []) → end ≡ tick + duration (cells ++ cell ∷ [])
     → AreWindowCandidates system kept.bits kept.boundaries end found
     → (79 ≤ length cells → firm ≡ is_firm Forward (cells ++ cell ∷ []) (length cells - 79))
@@ -243,7 +267,8 @@ found_by system kept (latest.Full n) tick end cells cell found firm full stands 
     }
 found_by system kept (latest.Filling f) tick end cells cell found firm filling stands ends are firm_is =
     let is = subst (λ (b : LatestBits). BitsStandFor b stands.older stands.newest) filling stands.bits_are in
-    let none : found ≡ no_candidates = subst (λ (b : LatestBits). AreWindowCandidates system b kept.boundaries end found) filling are in
+    let none : found ≡ no_candidates = subst (λ (b : LatestBits). AreWindowCandidates system b kept.boundaries end
+    found) filling are in
     let alone : stands.older ++ stands.newest ≡ stands.newest = rw is.0 refl in
     let room = is.2.1 in
     let count : length (cells ++ cell ∷ []) ≡ length stands.newest = ap length stands.are ∙ ap length alone in
@@ -255,7 +280,8 @@ found_by system kept (latest.Filling f) tick end cells cell found firm filling s
       no_backward_yet = λ few. rw none refl;
     }
 
-pub all_found : (system : System) (kept : Cells) (tick end : ℕ) (cells : List Cell) (cell : Cell) (found : Candidates) (firm : Bool)
+pub all_found : (system : System) (kept : Cells) (tick end : ℕ) (cells : List Cell) (cell : Cell) (found : Candidates)
+    (firm : Bool)
     → CellsStandFor kept tick (cells ++ cell ∷ []) → end ≡ tick + duration (cells ++ cell ∷ [])
     → AreWindowCandidates system kept.bits kept.boundaries end found
     → (79 ≤ length cells → firm ≡ is_firm Forward (cells ++ cell ∷ []) (length cells - 79))

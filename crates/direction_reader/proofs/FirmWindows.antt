@@ -1,7 +1,9 @@
 -- One cell more makes one window more, and decides of one window alone whether it has its witness: the one that ended
 -- sixteen cells before. So what was told stays.
-use Rattle.std.proofs.Common.{◌≡◌, ◌<◌, ◌≤◌, ℕ, zero, suc, ◌+◌, ◌-◌, Bool, true, false, List, [], ◌∷◌, ◌++◌, length, take, drop, map}
-use Rattle.std.proofs.Common.{ap, ap₂, sym, ◌∙◌, arith, refl, subst, append_assoc, append-nil, length-append, inl, inr, ◌⊎◌, ◌≢◌}
+use Rattle.std.proofs.Common.{◌≡◌, ◌<◌, ◌≤◌, ℕ, zero, suc, ◌+◌, ◌-◌, Bool, true, false, List, [], ◌∷◌, ◌++◌, length}
+use Rattle.std.proofs.Common.{take, drop, map}
+use Rattle.std.proofs.Common.{ap, ap₂, sym, ◌∙◌, arith, refl, subst, append_assoc, append-nil, length-append, inl, inr}
+use Rattle.std.proofs.Common.{◌⊎◌, ◌≢◌}
 use Rattle.std.specs.Prelude.{nat_lt, ◌==◌, ◌||◌}
 use Rattle.std.specs.List.{flat_map, range_with_len}
 use Rattle.std.proofs.lemmas.Bool.{cases_lt}
@@ -31,14 +33,16 @@ spans_join system tick cells a (suc n) m =
     rw (e, f) (ap (λ (es : List FirmEvent). here ++ es) more
     ∙ sym (append_assoc here (spans system tick cells (a + 1) n) (spans system tick cells (a + 1 + n) m)))
 
-pub span_one : (system : System) (tick : ℕ) (cells : List Cell) (a : ℕ) → spans system tick cells a 1 ≡ firm_events_at system tick cells a
+pub span_one : (system : System) (tick : ℕ) (cells : List Cell) (a : ℕ)
+    → spans system tick cells a 1 ≡ firm_events_at system tick cells a
 span_one system tick cells a = append-nil (firm_events_at system tick cells a)
 
 -- one window more at the end
 pub spans_more : (system : System) (tick : ℕ) (cells : List Cell) (a n : ℕ)
     → spans system tick cells a (n + 1) ≡ spans system tick cells a n ++ firm_events_at system tick cells (a + n)
 spans_more system tick cells a n =
-    spans_join system tick cells a n 1 ∙ ap (λ (es : List FirmEvent). spans system tick cells a n ++ es) (span_one system tick cells (a + n))
+    spans_join system tick cells a n 1 ∙ ap (λ (es : List FirmEvent). spans system tick cells a n ++ es) (span_one
+    system tick cells (a + n))
 
 -- windows that agree
 pub spans_same : (system : System) (tick : ℕ) (cells others : List Cell) (a n : ℕ)
@@ -59,12 +63,14 @@ spans_none system tick cells a (suc n) none =
 
 -- ---- a window that was there
 
-taken_stays : (n k : ℕ) (cells more : List Cell) → k + n ≤ length cells → take n (drop k (cells ++ more)) ≡ take n (drop k cells)
+taken_stays : (n k : ℕ) (cells more : List Cell) → k + n ≤ length cells
+    → take n (drop k (cells ++ more)) ≡ take n (drop k cells)
 taken_stays n k cells more within =
     ap (λ (l : List Cell). take n l) (drop-append-le k cells more (omega arith))
     ∙ take-append-le n (drop k cells) more (omega (arith, length-drop k cells))
 
-pub candidate_stays : (system : System) (tick : ℕ) (cells more : List Cell) (k : ℕ) (d : Direction) → k + 80 ≤ length cells
+pub candidate_stays : (system : System) (tick : ℕ) (cells more : List Cell) (k : ℕ) (d : Direction)
+    → k + 80 ≤ length cells
     → candidate_at system tick (cells ++ more) k d ≡ candidate_at system tick cells k d
 candidate_stays system tick cells more k Forward within =
     let same = taken_stays 80 k cells more within in
@@ -91,7 +97,8 @@ forward_stays system tick cells more k within =
     (candidate_stays system tick cells more k Forward within)
 
 -- the 16 cells behind it, where they are there already, and where they are not there yet
-behind_stays : (cells more : List Cell) (k : ℕ) → k + 96 ≤ length cells → is_firm Backward (cells ++ more) k ≡ is_firm Backward cells k
+behind_stays : (cells more : List Cell) (k : ℕ) → k + 96 ≤ length cells
+    → is_firm Backward (cells ++ more) k ≡ is_firm Backward cells k
 behind_stays cells more k within =
     let long = length-append cells more in
     let one : nat_lt (length (cells ++ more)) (k + 96) ≡ false = grind (arith, common_steps) in
@@ -109,10 +116,11 @@ More cells cell = cells ++ cell ∷ []
 backward_firm_stays : (cells : List Cell) (cell : Cell) (k : ℕ) → (k + 96 ≡ length cells + 1 → ⊥)
     → is_firm Backward (More cells cell) k ≡ is_firm Backward cells k
 backward_firm_stays cells cell k other = elim (cases_lt (length cells) (k + 96)) [
-  | inl few ↦ not_yet (More cells cell) k (let long = length-append cells (cell ∷ []) in elim (cases_lt (length cells + 1) (k + 96)) [
-    | inl fewer ↦ omega arith
-    | inr all ↦ absurd (other (omega arith))
-  ]) ∙ sym (not_yet cells k few)
+  | inl few ↦ not_yet (More cells cell) k (let long = length-append cells (cell ∷ []) in
+      elim (cases_lt (length cells + 1) (k + 96)) [
+        | inl fewer ↦ omega arith
+        | inr all ↦ absurd (other (omega arith))
+      ]) ∙ sym (not_yet cells k few)
   | inr all ↦ behind_stays cells (cell ∷ []) k all
 ]
 
@@ -124,7 +132,8 @@ unfolding firm_events_at
 events_stay system tick cells cell k within needs =
     let forward = forward_stays system tick cells (cell ∷ []) k within in
     let same = candidate_stays system tick cells (cell ∷ []) k Backward within in
-    let backward : firm_candidate_at system tick (More cells cell) k Backward ≡ firm_candidate_at system tick cells k Backward =
+    let backward : firm_candidate_at system tick (More cells cell) k Backward ≡ firm_candidate_at system tick cells k
+    Backward =
     ap (λ (es : List Event). map (judged (is_firm Backward (More cells cell) k)) es) same
     ∙ elim (cases_lt (k + 96) (length cells + 1)) [
       | inl less ↦ ap (λ (b : Bool). map (judged b) (candidate_at system tick cells k Backward))

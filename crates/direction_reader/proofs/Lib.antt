@@ -13,6 +13,7 @@ pub mod FirmJudges
 pub mod FirmKept
 pub mod FirmPlayed
 pub mod FirmSteps
+pub mod FirmToldYet
 pub mod FirmWindows
 pub mod FrontsFirst
 pub mod InSync

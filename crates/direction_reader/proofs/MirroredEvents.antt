@@ -1,6 +1,6 @@
 -- A window read forward and the window in the other order read backward are one candidate. So the events of windows and of those in the other
 -- order are the same, each met from its other end.
-use Rattle.std.proofs.Common.{◌≡◌, ◌<◌, ◌≤◌, ℕ, ◌+◌, ◌-◌, ◌^◌, List, [], ◌∷◌, ◌++◌, length, take, drop, map, reverse}
+use Rattle.std.proofs.Common.{◌≡◌, ◌<◌, ◌≤◌, ℕ, ◌+◌, ◌-◌, ◌^◌, zero, suc, List, [], ◌∷◌, ◌++◌, length, take, drop, map, reverse}
 use Rattle.std.proofs.Common.{sum, get_or, Option, Some, None, IsSomeAnd}
 use Rattle.std.proofs.Common.{ap, arith, append_assoc, append-nil, length-append, inl, inr, refl, subst, sym, ◌∙◌, All}
 use Rattle.std.specs.List.{AllZip, range_with_len}
@@ -27,18 +27,18 @@ use Rattle.direction_reader.specs.declared.event.Event.{Event}
 use Rattle.direction_reader.specs.declared.event.Event.TheVariants.{Word, Refused, Lost}
 use Rattle.direction_reader.specs.declared.event.Events.{Events}
 use Rattle.direction_reader.specs.Candidate.{IsEventOf, AreEventsOf}
-use Rattle.direction_reader.specs.Events.{listed, event_list}
+use Rattle.direction_reader.specs.Events.{listed, event_list, tick_of}
 use Rattle.direction_reader.specs.Gathered.{AreEventsOfWindows}
 use Rattle.direction_reader.specs.Windows.{CellWindow, window_at, windows}
 use Rattle.direction_reader.specs.ListEvents.{duration, AreEvents, events_of_cells}
-use Rattle.direction_reader.specs.Mirror.{turned, IsMirrorOf, MirrorsTheTape}
+use Rattle.direction_reader.specs.Mirror.{turned, IsMirrorOf, IsWindowOf, MirrorsTheTape}
 use Rattle.direction_reader.proofs.AsLists.{AreListed}
 use Rattle.direction_reader.proofs.EventsExist.{window_below}
 use Rattle.direction_reader.proofs.OneList.{IsExact, in_sync_or_not}
 use Rattle.direction_reader.proofs.OneListOfEvents.{HasOneList}
 use Rattle.direction_reader.proofs.TellsTheTape.{IsOneStretch, words_told}
 use Rattle.direction_reader.proofs.FrontsFirst.{windows_split}
-use Rattle.direction_reader.proofs.LaterEvents.{IsFrom, EndsFrom, windows_from, both_windows}
+use Rattle.direction_reader.proofs.LaterEvents.{EndsFrom, Positive, all_later_than, both_windows, front_lasts_longer, positive_chain, windows_from}
 use Rattle.direction_reader.proofs.MirroredWindows.{mirror_window, mirrored_windows, sum_reverse}
 use Rattle.direction_reader.proofs.WindowsFromCells.{duration_of, windows_cons, front_longer, front_within}
 use Rattle.direction_reader.proofs.WindowsGrow.{few}
@@ -49,40 +49,40 @@ TurnsBack = (bits : ℕ) → bits < 2 ^ 80 → reversed_bits (reversed_bits bits
 
 -- ---- lists that fit each other
 
-zip_append : (total : ℕ) (one two other more : List Event) → AllZip (IsMirrorOf total) one two → AllZip (IsMirrorOf total) other more
-    → AllZip (IsMirrorOf total) (one ++ other) (two ++ more)
-zip_append total [] [] other more ones others = others
-zip_append total [] (e ∷ two) other more ones others = absurd ones
-zip_append total (e ∷ one) [] other more ones others = absurd ones
-zip_append total (e ∷ one) (f ∷ two) other more ones others = (ones.0, zip_append total one two other more ones.1 others)
+zip_append : (total begin : ℕ) (cells : List Cell) (one two other more : List Event) → AllZip (IsMirrorOf total begin cells) one two → AllZip (IsMirrorOf total begin cells) other more
+    → AllZip (IsMirrorOf total begin cells) (one ++ other) (two ++ more)
+zip_append total begin cells [] [] other more ones others = others
+zip_append total begin cells [] (e ∷ two) other more ones others = absurd ones
+zip_append total begin cells (e ∷ one) [] other more ones others = absurd ones
+zip_append total begin cells (e ∷ one) (f ∷ two) other more ones others = (ones.0, zip_append total begin cells one two other more ones.1 others)
 
 -- ---- one window
 
-one_mirrors : IsExact → (system : System) (d : Direction) (bits end there length total : ℕ) (e f : Event) → there + end ≡ total + length
-    → IsEventOf system d bits end length e → IsEventOf system (turned d) bits there length f → IsMirrorOf total e f
-one_mirrors exact system d bits end there length total (Word a w t n) (Word a' w' t' n') place is too =
+one_mirrors : IsExact → (system : System) (d : Direction) (bits end there length total begin : ℕ) (cells : List Cell) (e f : Event) → IsWindowOf begin cells end length → there + end ≡ total + length
+    → IsEventOf system d bits end length e → IsEventOf system (turned d) bits there length f → IsMirrorOf total begin cells e f
+one_mirrors exact system d bits end there length total begin cells (Word a w t n) (Word a' w' t' n') at place is too =
     let direction : a' ≡ turned a = too.0 ∙ ap turned (sym is.0) in
     let word : w' ≡ w = sym (exact.one_word system w w' bits is.1 too.1) in
-    (direction, word, omega (arith, is.2, is.3, too.2), too.3 ∙ sym is.3)
-one_mirrors exact system d bits end there length total (Word a w t n) (Refused a' g t') place is too =
+    (direction, word, rw (is.2, is.3) at, omega (arith, is.2, is.3, too.2), too.3 ∙ sym is.3)
+one_mirrors exact system d bits end there length total begin cells (Word a w t n) (Refused a' g t') at place is too =
     let none = exact.no_fault system w bits is.1 in let some = too.1 in absurd cc
-one_mirrors exact system d bits end there length total (Word a w t n) (Lost p t') place is too = absurd too
-one_mirrors exact system d bits end there length total (Refused a g t) (Word a' w t' n) place is too =
+one_mirrors exact system d bits end there length total begin cells (Word a w t n) (Lost p t') at place is too = absurd too
+one_mirrors exact system d bits end there length total begin cells (Refused a g t) (Word a' w t' n) at place is too =
     let none = exact.no_fault system w bits too.1 in let some = is.1 in absurd cc
-one_mirrors exact system d bits end there length total (Refused a g t) (Refused a' g' t') place is too =
+one_mirrors exact system d bits end there length total begin cells (Refused a g t) (Refused a' g' t') at place is too =
     let direction : a' ≡ turned a = too.0 ∙ ap turned (sym is.0) in
     let fault : g' ≡ g = let one = is.1 in let other = too.1 in cc in
-    (direction, fault, (length, omega (arith, is.2, too.2)))
-one_mirrors exact system d bits end there length total (Refused a g t) (Lost p t') place is too = absurd too
-one_mirrors exact system d bits end there length total (Lost p t) f place is too = absurd is
+    (direction, fault, (length, rw is.2 at, omega (arith, is.2, too.2)))
+one_mirrors exact system d bits end there length total begin cells (Refused a g t) (Lost p t') at place is too = absurd too
+one_mirrors exact system d bits end there length total begin cells (Lost p t) f at place is too = absurd is
 
-some_mirrors : IsExact → (system : System) (d : Direction) (bits end there length total : ℕ) (e f : Option Event)
-    → there + end ≡ total + length → IsSomeAnd e (IsEventOf system d bits end length)
-    → IsSomeAnd f (IsEventOf system (turned d) bits there length) → AllZip (IsMirrorOf total) (listed e) (listed f)
-some_mirrors exact system d bits end there length total None f place is too = absurd is
-some_mirrors exact system d bits end there length total (Some e) None place is too = absurd too
-some_mirrors exact system d bits end there length total (Some e) (Some f) place is too =
-    (one_mirrors exact system d bits end there length total e f place is too, tt)
+some_mirrors : IsExact → (system : System) (d : Direction) (bits end there length total begin : ℕ) (cells : List Cell) (e f : Option Event)
+    → IsWindowOf begin cells end length → there + end ≡ total + length → IsSomeAnd e (IsEventOf system d bits end length)
+    → IsSomeAnd f (IsEventOf system (turned d) bits there length) → AllZip (IsMirrorOf total begin cells) (listed e) (listed f)
+some_mirrors exact system d bits end there length total begin cells None f at place is too = absurd is
+some_mirrors exact system d bits end there length total begin cells (Some e) None at place is too = absurd too
+some_mirrors exact system d bits end there length total begin cells (Some e) (Some f) at place is too =
+    (one_mirrors exact system d bits end there length total begin cells e f at place is too, tt)
 
 -- the events of a window as a list, from the last one to the first one
 list_reverse : (first second : Option Event) → reverse (listed first ++ listed second) ≡ listed second ++ listed first
@@ -95,36 +95,36 @@ none_listed : (o : Option Event) → o ≡ None → listed o ≡ []
 none_listed o none = rw none refl
 
 -- two and two events that mirror each other
-two_mirror : (total : ℕ) (own other : Events) → AllZip (IsMirrorOf total) (listed own.first) (listed other.second)
-    → AllZip (IsMirrorOf total) (listed own.second) (listed other.first)
-    → AllZip (IsMirrorOf total) (event_list own) (reverse (event_list other))
-two_mirror total own other first second =
-    subst (λ (es : List Event). AllZip (IsMirrorOf total) (event_list own) es) (sym (list_reverse other.first other.second))
-    (zip_append total (listed own.first) (listed other.second) (listed own.second) (listed other.first) first second)
+two_mirror : (total begin : ℕ) (cells : List Cell) (own other : Events) → AllZip (IsMirrorOf total begin cells) (listed own.first) (listed other.second)
+    → AllZip (IsMirrorOf total begin cells) (listed own.second) (listed other.first)
+    → AllZip (IsMirrorOf total begin cells) (event_list own) (reverse (event_list other))
+two_mirror total begin cells own other first second =
+    subst (λ (es : List Event). AllZip (IsMirrorOf total begin cells) (event_list own) es) (sym (list_reverse other.first other.second))
+    (zip_append total begin cells (listed own.first) (listed other.second) (listed own.second) (listed other.first) first second)
 
 -- and one alone
-one_mirror : (total : ℕ) (own other : Events) → AllZip (IsMirrorOf total) (listed own.first) (listed other.first) → own.second ≡ None
-    → other.second ≡ None → AllZip (IsMirrorOf total) (event_list own) (reverse (event_list other))
-one_mirror total own other first none none_too =
+one_mirror : (total begin : ℕ) (cells : List Cell) (own other : Events) → AllZip (IsMirrorOf total begin cells) (listed own.first) (listed other.first) → own.second ≡ None
+    → other.second ≡ None → AllZip (IsMirrorOf total begin cells) (event_list own) (reverse (event_list other))
+one_mirror total begin cells own other first none none_too =
     let mine : event_list own ≡ listed own.first =
     ap (λ (es : List Event). listed own.first ++ es) (none_listed own.second none) ∙ append-nil (listed own.first) in
     let theirs : reverse (event_list other) ≡ listed other.first =
     list_reverse other.first other.second ∙ ap (λ (es : List Event). es ++ listed other.first) (none_listed other.second none_too) in
-    subst (λ (es : List Event). AllZip (IsMirrorOf total) es (reverse (event_list other))) (sym mine)
-    (subst (λ (es : List Event). AllZip (IsMirrorOf total) (listed own.first) es) (sym theirs) first)
+    subst (λ (es : List Event). AllZip (IsMirrorOf total begin cells) es (reverse (event_list other))) (sym mine)
+    (subst (λ (es : List Event). AllZip (IsMirrorOf total begin cells) (listed own.first) es) (sym theirs) first)
 
-none_mirror : (total : ℕ) (own other : Events) → (own.first ≡ None) × (own.second ≡ None) → (other.first ≡ None) × (other.second ≡ None)
-    → AllZip (IsMirrorOf total) (event_list own) (reverse (event_list other))
-none_mirror total own other none none_too =
+none_mirror : (total begin : ℕ) (cells : List Cell) (own other : Events) → (own.first ≡ None) × (own.second ≡ None) → (other.first ≡ None) × (other.second ≡ None)
+    → AllZip (IsMirrorOf total begin cells) (event_list own) (reverse (event_list other))
+none_mirror total begin cells own other none none_too =
     let mine : event_list own ≡ [] = rw (none.0, none.1) refl in
     let theirs : reverse (event_list other) ≡ [] = rw (none_too.0, none_too.1) refl in
-    subst (λ (es : List Event). AllZip (IsMirrorOf total) es (reverse (event_list other))) (sym mine)
-    (subst (λ (es : List Event). AllZip (IsMirrorOf total) [] es) (sym theirs) tt)
+    subst (λ (es : List Event). AllZip (IsMirrorOf total begin cells) es (reverse (event_list other))) (sym mine)
+    (subst (λ (es : List Event). AllZip (IsMirrorOf total begin cells) [] es) (sym theirs) tt)
 
-window_mirrors : IsExact → TurnsBack → (system : System) (bits end there length total : ℕ) (own other : Events) → bits < 2 ^ 80
-    → there + end ≡ total + length → AreEventsOf system bits end length own → AreEventsOf system (reversed_bits bits) there length other
-    → AllZip (IsMirrorOf total) (event_list own) (reverse (event_list other))
-window_mirrors exact back system bits end there length total own other below place are too =
+window_mirrors : IsExact → TurnsBack → (system : System) (bits end there length total begin : ℕ) (cells : List Cell) (own other : Events) → bits < 2 ^ 80
+    → IsWindowOf begin cells end length → there + end ≡ total + length → AreEventsOf system bits end length own → AreEventsOf system (reversed_bits bits) there length other
+    → AllZip (IsMirrorOf total begin cells) (event_list own) (reverse (event_list other))
+window_mirrors exact back system bits end there length total begin cells own other below at place are too =
     let turn = reversed_bits bits in
     let twice : reversed_bits turn ≡ bits = back bits below in
     let sync = λ (is : EndsInSync bits). subst EndsInSync (sym twice) is in
@@ -133,45 +133,48 @@ window_mirrors exact back system bits end there length total own other below pla
     subst (λ b. IsSomeAnd o (IsEventOf system Backward b there length)) twice is in
     elim (in_sync_or_not bits) [
       | inl forward ↦ elim (in_sync_or_not turn) [
-        | inl backward ↦ two_mirror total own other
-            (some_mirrors exact system Forward bits end there length total own.first other.second place (are.forward forward)
+        | inl backward ↦ two_mirror total begin cells own other
+            (some_mirrors exact system Forward bits end there length total begin cells own.first other.second at place (are.forward forward)
             (as_backward other.second (too.both backward (sync forward))))
-            (some_mirrors exact system Backward turn end there length total own.second other.first place (are.both forward backward)
+            (some_mirrors exact system Backward turn end there length total begin cells own.second other.first at place (are.both forward backward)
             (too.forward backward))
         | inr not_back ↦ (
             let theirs = too.backward (sync forward) not_back in
-            one_mirror total own other
-            (some_mirrors exact system Forward bits end there length total own.first other.first place (are.forward forward)
+            one_mirror total begin cells own other
+            (some_mirrors exact system Forward bits end there length total begin cells own.first other.first at place (are.forward forward)
             (as_backward other.first theirs.0)) (are.one forward not_back) theirs.1)
       ]
       | inr not_forward ↦ elim (in_sync_or_not turn) [
         | inl backward ↦ (
             let mine = are.backward backward not_forward in
-            one_mirror total own other
-            (some_mirrors exact system Backward turn end there length total own.first other.first place mine.0 (too.forward backward))
+            one_mirror total begin cells own other
+            (some_mirrors exact system Backward turn end there length total begin cells own.first other.first at place mine.0 (too.forward backward))
             mine.1 (too.one backward (no_sync not_forward)))
-        | inr not_back ↦ none_mirror total own other (are.none not_forward not_back) (too.none not_back (no_sync not_forward))
+        | inr not_back ↦ none_mirror total begin cells own other (are.none not_forward not_back) (too.none not_back (no_sync not_forward))
       ]
     ]
 
 -- ---- all windows
 
--- windows of 80 bits that end within a sum
-abbrev Fit : ℕ → List CellWindow → Type 0
-Fit total [] = Unit {0}
-Fit total (w ∷ ws) = (w.end ≤ total) × (w.bits < 2 ^ 80) × Fit total ws
+-- windows of 80 bits of these cells, that end within a sum
+abbrev Fit : ℕ → ℕ → List Cell → List CellWindow → Type 0
+Fit total begin cells [] = Unit {0}
+Fit total begin cells (w ∷ ws) =
+    (w.end ≤ total) × (w.bits < 2 ^ 80) × IsWindowOf begin cells w.end w.length × Fit total begin cells ws
 
-windows_fit : (total tick : ℕ) (cells : List Cell) → tick + duration cells ≤ total → Fit total (windows tick cells)
-windows_fit total tick [] within = tt
-windows_fit total tick (cell ∷ cells) within =
-    elim (cases_lt (length (cell ∷ cells)) 80) [
-      | inl fewer ↦ subst (Fit total) (sym (few tick (cell ∷ cells) fewer)) tt
-      | inr many ↦ subst (Fit total) (sym (windows_cons tick cell cells (omega arith))) (
-        omega (arith, front_within 80 (cell ∷ cells)),
-        window_below tick (cell ∷ cells) 0,
-        windows_fit total (tick + duration (cell ∷ [])) cells (omega (arith, duration_of cell cells)),
-      )
-    ]
+range_fits : (total tick : ℕ) (cells : List Cell) (a n : ℕ) → tick + duration cells ≤ total → (0 < n → a + n + 79 ≤ length cells)
+    → Fit total tick cells (map (window_at tick cells) (range_with_len a n))
+range_fits total tick cells a zero within many = tt
+range_fits total tick cells a (suc n) within many =
+    let here = many (omega arith) in (
+      omega (arith, front_within (a + 80) cells),
+      window_below tick cells a,
+      (a, omega arith, refl, refl),
+      range_fits total tick cells (a + 1) n within (λ some. omega arith),
+    )
+
+windows_fit : (total tick : ℕ) (cells : List Cell) → tick + duration cells ≤ total → Fit total tick cells (windows tick cells)
+windows_fit total tick cells within = range_fits total tick cells 0 (length cells - 79) within (λ some. omega arith)
 
 -- the events of windows and one more
 record LastSplit (system : System) (ws : List CellWindow) (w : CellWindow) (events : List Event) : Type 0 where
@@ -201,27 +204,27 @@ last_split system (v ∷ ws) w es (own, rest, is, others, join) =
           ∙ sym (append_assoc (event_list own) more.front (event_list more.own));
     }
 
-all_mirror : IsExact → TurnsBack → (system : System) (total : ℕ) (ws : List CellWindow) (es fs : List Event) → Fit total ws
+all_mirror : IsExact → TurnsBack → (system : System) (total begin : ℕ) (cells : List Cell) (ws : List CellWindow) (es fs : List Event) → Fit total begin cells ws
     → AreEventsOfWindows system ws es → AreEventsOfWindows system (reverse (map (mirror_window total) ws)) fs
-    → AllZip (IsMirrorOf total) es (reverse fs)
-all_mirror exact back system total [] es fs fit are too =
+    → AllZip (IsMirrorOf total begin cells) es (reverse fs)
+all_mirror exact back system total begin cells [] es fs fit are too =
     let mine : es ≡ [] = are in
     let theirs : reverse fs ≡ [] = ap (λ (e : List Event). reverse e) too in
-    subst (λ (e : List Event). AllZip (IsMirrorOf total) e (reverse fs)) (sym mine)
-    (subst (λ (e : List Event). AllZip (IsMirrorOf total) [] e) (sym theirs) tt)
-all_mirror exact back system total (w ∷ ws) es fs fit (own, rest, is, others, join) too =
+    subst (λ (e : List Event). AllZip (IsMirrorOf total begin cells) e (reverse fs)) (sym mine)
+    (subst (λ (e : List Event). AllZip (IsMirrorOf total begin cells) [] e) (sym theirs) tt)
+all_mirror exact back system total begin cells (w ∷ ws) es fs fit (own, rest, is, others, join) too =
     let turn = map (mirror_window total) ws in
     let pushed : AreEventsOfWindows system (reverse turn ++ mirror_window total w ∷ []) fs =
     subst (λ (vs : List CellWindow). AreEventsOfWindows system vs fs) (reverse_onto turn (mirror_window total w) []) too in
     let last = last_split system (reverse turn) (mirror_window total w) fs pushed in
     let place : total - w.end + w.length + w.end ≡ total + w.length = omega (arith, fit.0) in
-    let first = window_mirrors exact back system w.bits w.end (total - w.end + w.length) w.length total own last.own fit.1 place is last.own_are in
-    let more = all_mirror exact back system total ws rest last.front fit.2 others last.front_are in
+    let first = window_mirrors exact back system w.bits w.end (total - w.end + w.length) w.length total begin cells own last.own fit.1 fit.2 place is last.own_are in
+    let more = all_mirror exact back system total begin cells ws rest last.front fit.3 others last.front_are in
     let turned_all : reverse fs ≡ reverse (event_list last.own) ++ reverse last.front =
     ap (λ (e : List Event). reverse e) last.are ∙ reverse-append last.front (event_list last.own) in
-    subst (λ (e : List Event). AllZip (IsMirrorOf total) e (reverse fs)) (sym join)
-    (subst (λ (e : List Event). AllZip (IsMirrorOf total) (event_list own ++ rest) e) (sym turned_all)
-    (zip_append total (event_list own) (reverse (event_list last.own)) rest (reverse last.front) first more))
+    subst (λ (e : List Event). AllZip (IsMirrorOf total begin cells) e (reverse fs)) (sym join)
+    (subst (λ (e : List Event). AllZip (IsMirrorOf total begin cells) (event_list own ++ rest) e) (sym turned_all)
+    (zip_append total begin cells (event_list own) (reverse (event_list last.own)) rest (reverse last.front) first more))
 
 -- ---- the tape
 
@@ -232,9 +235,9 @@ AreTheSame = (profile : Profile) → LooksAtLast profile → (intervals : List �
     → BeginMirrored (cells_from cells cut intervals first) (cells_from others place (reverse intervals) last) first last (length intervals)
 
 -- the windows of cells that do not stand in a front of them end behind it
-behind_front : (tick : ℕ) (middle more : List Cell)
+behind_front : (tick : ℕ) (middle more : List Cell) → Positive (flat (middle ++ more))
     → All (EndsFrom (tick + duration middle)) (drop (length middle - 79) (windows tick (middle ++ more)))
-behind_front tick middle more i d within =
+behind_front tick middle more lasts i d within =
     let cells = middle ++ more in
     let k = length middle - 79 in
     let count = length cells - 79 in
@@ -245,7 +248,7 @@ behind_front tick middle more i d within =
     let window : get_or (drop k all) i d ≡ at (k + i) =
     get_or-drop k all i d ∙ get_or-map-range_with_len at 0 count (k + i) (k + i) d inside (omega arith) in
     let whole : duration (take (length middle) cells) ≡ duration middle = ap duration (take-append_seam middle more) in
-    rw window (omega (arith, whole, front_longer cells (length middle) (k + i + 80) (omega arith)))
+    rw window (omega (arith, whole, front_lasts_longer cells (length middle) (k + i + 80) lasts (omega arith) (omega arith)))
 
 -- the events of the windows of a front of cells, and what comes behind it
 record FrontEvents (system : System) (tick : ℕ) (middle : List Cell) (events : List Event) : Type 0 where
@@ -253,11 +256,11 @@ record FrontEvents (system : System) (tick : ℕ) (middle : List Cell) (events :
   more : List Event
   are : events ≡ mine ++ more
   mine_are : AreEventsOfWindows system (windows tick middle) mine
-  late : All (IsFrom (tick + duration middle)) more
+  late : All (λ event. tick + duration middle < tick_of event) more
 
-events_of_front : (system : System) (tick : ℕ) (cells middle more : List Cell) (es : List Event) → cells ≡ middle ++ more
+events_of_front : (system : System) (tick : ℕ) (cells middle more : List Cell) (es : List Event) → Positive (flat cells) → cells ≡ middle ++ more
     → AreEventsOfWindows system (windows tick cells) es → FrontEvents system tick middle es
-events_of_front system tick cells middle more es same are =
+events_of_front system tick cells middle more es lasts same are =
     let others = drop (length middle - 79) (windows tick (middle ++ more)) in
     let split : windows tick cells ≡ windows tick middle ++ others = ap (windows tick) same ∙ windows_split tick middle more in
     let both = both_windows system (windows tick middle) others es
@@ -267,7 +270,8 @@ events_of_front system tick cells middle more es same are =
       more = both.two;
       are = both.are;
       mine_are = both.ones;
-      late = windows_from system (tick + duration middle) others both.two (behind_front tick middle more) both.twos;
+      late = all_later_than (tick + duration middle) both.two (λ m. windows_from system m (tick + duration middle) others both.two
+          (behind_front tick middle more (subst (λ (cs : List Cell). Positive (flat cs)) same lasts)) both.twos);
     }
 
 -- the sums before, in and behind the middle
@@ -302,8 +306,10 @@ mirrors_the_tape lists exact back law stretch one system profile l es fs are too
     let own_too = lists.gathered system profile (reverse l) fs too in
     let told = words_told one stretch system profile l es own.0 own.1 own.2 tape cut first piece lock in
     let told_too = words_told one stretch system profile (reverse l) fs own_too.0 own_too.1 own_too.2 other place last turned_piece last_lock in
-    let mine = events_of_front system tick (cells_from tape cut l first) middle m.more es m.cells_are told in
-    let theirs = events_of_front system other_tick (cells_from other place (reverse l) last) (mirrored middle) m.others_more fs m.others_are
+    let lasts = positive_chain profile (cells_from tape cut l first) (stretch profile l tape cut first piece lock).1.chain.chain in
+    let lasts_too = positive_chain profile (cells_from other place (reverse l) last) (stretch profile (reverse l) other place last turned_piece last_lock).1.chain.chain in
+    let mine = events_of_front system tick (cells_from tape cut l first) middle m.more es lasts m.cells_are told in
+    let theirs = events_of_front system other_tick (cells_from other place (reverse l) last) (mirrored middle) m.others_more fs lasts_too m.others_are
     told_too in
     let front = (stretch profile l tape cut first piece lock).1.chain.front in
     let there : drop first l ≡ flat middle ++ (flat m.more ++ front.0) =
@@ -318,7 +324,7 @@ mirrors_the_tape lists exact back law stretch one system profile l es fs are too
     subst (λ (ws : List CellWindow). AreEventsOfWindows system ws theirs.mine) same theirs.mine_are in
     let mine_is = lists.cells system tick middle mine.mine mine.mine_are in
     let theirs_is = lists.cells system other_tick (mirrored middle) theirs.mine theirs.mine_are in
-    let all = all_mirror exact back system (sum l) (windows tick middle) mine.mine theirs.mine
+    let all = all_mirror exact back system (sum l) tick middle (windows tick middle) mine.mine theirs.mine
     (windows_fit (sum l) tick middle (omega (arith, total))) mine.mine_are theirs_are in
     record {
       between = middle;
@@ -327,6 +333,6 @@ mirrors_the_tape lists exact back law stretch one system profile l es fs are too
       many = m.many;
       told = (mine.more, mine.are ∙ ap (λ (e : List Event). e ++ mine.more) mine_is, mine.late);
       told_mirrored = (theirs.more, theirs.are ∙ ap (λ (e : List Event). e ++ theirs.more) theirs_is, theirs.late);
-      same = subst (λ (e : List Event). AllZip (IsMirrorOf (sum l)) e (reverse (events_of_cells system other_tick (mirrored middle))))
-          mine_is (subst (λ (e : List Event). AllZip (IsMirrorOf (sum l)) mine.mine (reverse e)) theirs_is all);
+      same = subst (λ (e : List Event). AllZip (IsMirrorOf (sum l) tick middle) e (reverse (events_of_cells system other_tick (mirrored middle))))
+          mine_is (subst (λ (e : List Event). AllZip (IsMirrorOf (sum l) tick middle) mine.mine (reverse e)) theirs_is all);
     }

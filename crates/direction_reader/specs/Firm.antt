@@ -44,7 +44,8 @@ abbrev pub candidate_at : System → ℕ → List Cell → ℕ → Direction →
 candidate_at system tick cells k Forward = let window = take 80 (drop k cells) in
     candidate_in system Forward (bits_in window) (tick + duration (take (k + 80) cells)) (duration window)
 candidate_at system tick cells k Backward = let window = take 80 (drop k cells) in
-    candidate_in system Backward (reversed_bits (bits_in window)) (tick + duration (take (k + 80) cells)) (duration window)
+    candidate_in system Backward (reversed_bits (bits_in window)) (tick + duration (take (k + 80) cells))
+    (duration window)
 
 -- and what becomes of it
 abbrev pub firm_candidate_at : System → ℕ → List Cell → ℕ → Direction → List FirmEvent

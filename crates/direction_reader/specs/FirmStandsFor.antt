@@ -1,6 +1,6 @@
 -- Which cells a reader stands for that asks each word for a witness. What it has told and what still waits are together
 -- the events of the cells so far.
-use Rattle.std.specs.Prelude.{◌≡◌, ℕ, ◌+◌, ◌<◌, ◌≤◌, List, [], ◌∷◌, ◌++◌, length, map, Option, Some, None, Bool}
+use Rattle.std.specs.Prelude.{◌≡◌, ℕ, ◌+◌, ◌<◌, ◌≤◌, List, [], ◌∷◌, ◌++◌, length, map, Option, Some, None, Bool, true}
 use Rattle.std.specs.List.{flat_map, range_with_len}
 use Rattle.biphase.specs.declared.cell.Cell.{Cell}
 use Rattle.biphase.specs.Chain.{bits}
@@ -11,6 +11,7 @@ use Rattle.direction_reader.specs.declared.firm_event.FirmEvent.{FirmEvent}
 use Rattle.direction_reader.specs.declared.firm_event.FirmEvent.TheVariants.{Told}
 use Rattle.direction_reader.specs.declared.waiting.Waiting.{Waiting}
 use Rattle.direction_reader.specs.Beside.{BesideBits, none_beside, beside_with}
+use Rattle.direction_reader.specs.Events.{is_word}
 use Rattle.direction_reader.specs.Firm.{judged, candidate_at, firm_candidate_at, firm_events_at, firm_events_of_cells}
 use Rattle.direction_reader.specs.FirmStep.{firm_listed}
 use Rattle.direction_reader.specs.LatestCells.{Cells, no_cells}
@@ -38,7 +39,8 @@ spans system tick cells place count = flat_map (firm_events_at system tick cells
 -- a window is no candidate of a word that is played backward, or one at fault: a witness changes nothing
 abbrev pub NeedsNone : System → ℕ → List Cell → ℕ → Type 0
 NeedsNone system tick cells k = (one two : Bool)
-    → map (judged one) (candidate_at system tick cells k Backward) ≡ map (judged two) (candidate_at system tick cells k Backward)
+    → map (judged one) (candidate_at system tick cells k Backward)
+    ≡ map (judged two) (candidate_at system tick cells k Backward)
 
 -- no word waits: all events are told, and none of the latest windows, behind which fewer than 16 cells came, is a word
 -- that is played backward
@@ -47,11 +49,13 @@ pub record NoneWaits (system : System) (tick : ℕ) (cells : List Cell) (told : 
   pub none : (k : ℕ) → k + 80 ≤ length cells → length cells < k + 96 → NeedsNone system tick cells k
 
 -- a word waits: that of the window from a place on. What came before it is told, and what came behind it stands there
-pub record OneWaits (w : Waiting) (system : System) (tick : ℕ) (cells : List Cell) (told : List FirmEvent) : Type 0 where
+pub record OneWaits (w : Waiting) (system : System) (tick : ℕ) (cells : List Cell) (told : List FirmEvent)
+    : Type 0 where
   pub place : ℕ
   pub age : place + 80 + w.age ≡ length cells
   pub young : w.age < 16
   pub word : candidate_at system tick cells place Backward ≡ w.word ∷ []
+  pub is : is_word w.word ≡ true
   pub before : told ≡ spans system tick cells 0 place ++ firm_candidate_at system tick cells place Forward
   pub behind : firm_listed w.behind ≡ spans system tick cells (place + 1) w.age
 

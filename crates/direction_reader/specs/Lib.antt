@@ -10,6 +10,7 @@ pub mod FirmReader
 pub mod FirmStandsFor
 pub mod FirmStep
 pub mod FirmTape
+pub mod FirmTold
 pub mod Gathered
 pub mod Hissy
 pub mod HoldsBits

@@ -1,5 +1,5 @@
 -- The same tape from its other end: what a recording and its intervals in the other order of time have in common.
-use Rattle.std.specs.Prelude.{◌≡◌, ℕ, ◌+◌, ◌≤◌, List, ◌++◌, length, reverse, take, sum, All}
+use Rattle.std.specs.Prelude.{◌≡◌, ℕ, ◌+◌, ◌<◌, ◌≤◌, List, ◌++◌, length, reverse, take, drop, sum, All}
 use Rattle.std.specs.List.{AllZip}
 use Rattle.biphase.specs.declared.cell.Cell.{Cell}
 use Rattle.biphase.specs.declared.profile.Profile.{Profile}
@@ -21,20 +21,27 @@ abbrev pub turned : Direction → Direction
 turned Forward = Backward
 turned Backward = Forward
 
--- the one event is the other, met from the other end: the same word or fault in the opposite direction, at the tick of
--- its other end. That tick and the event's own make up the sum of the intervals and the length of the window, which a
--- refused candidate does not tell
-abbrev pub IsMirrorOf : ℕ → Event → Event → Type 0
-IsMirrorOf total (Word direction word tick length) (Word other same there n) =
-    (other ≡ turned direction) × (same ≡ word) × (there + tick ≡ total + length) × (n ≡ length)
-IsMirrorOf total (Refused direction fault tick) (Refused other same there) =
-    (other ≡ turned direction) × (same ≡ fault) × ((length : ℕ) × (there + tick ≡ total + length))
-IsMirrorOf total event other = ⊥
+-- of cells that begin at a tick, a window that ends at the tick `end` has this length: the sum of its intervals
+abbrev pub IsWindowOf : ℕ → List Cell → ℕ → ℕ → Type 0
+IsWindowOf tick cells end length_of_window = (k : ℕ) × (k + 80 ≤ length cells)
+    × (end ≡ tick + duration (take (k + 80) cells)) × (length_of_window ≡ duration (take 80 (drop k cells)))
 
--- the events begin with those of cells that begin at a tick, and further ones come at the end of these or later
+-- the one event, of a window of cells that begin at a tick, is the other, met from the other end: the same word or
+-- fault in the opposite direction, at the tick of its other end. That tick and the event's own make up the sum of the
+-- intervals and the length of the window
+abbrev pub IsMirrorOf : ℕ → ℕ → List Cell → Event → Event → Type 0
+IsMirrorOf total begin cells (Word direction word tick length) (Word other same there n) =
+    (other ≡ turned direction) × (same ≡ word) × IsWindowOf begin cells tick length
+    × (there + tick ≡ total + length) × (n ≡ length)
+IsMirrorOf total begin cells (Refused direction fault tick) (Refused other same there) =
+    (other ≡ turned direction) × (same ≡ fault)
+    × ((length : ℕ) × IsWindowOf begin cells tick length × (there + tick ≡ total + length))
+IsMirrorOf total begin cells event other = ⊥
+
+-- the events begin with those of cells that begin at a tick, and further ones come when these have ended
 abbrev pub TellFirst : System → ℕ → List Cell → List Event → Type 0
 TellFirst system tick cells events = (more : List Event) × (events ≡ events_of_cells system tick cells ++ more)
-    × All (λ event. tick + duration cells ≤ tick_of event) more
+    × All (λ event. tick + duration cells < tick_of event) more
 
 -- the cells stand from place `first` of the intervals on, and the others from place `last` on in the other order of
 -- time. The cells `between` these places begin the cells, and in the other order of time they begin the others. So the
@@ -48,7 +55,8 @@ pub record TellMirrored (system : System) (intervals : List ℕ) (first last : �
   pub many : first + length (flat between) + last ≡ length intervals
   pub told : TellFirst system (sum (take first intervals)) between events
   pub told_mirrored : TellFirst system (sum (take last (reverse intervals))) (mirrored between) mirrored_events
-  pub same : AllZip (IsMirrorOf (sum intervals)) (events_of_cells system (sum (take first intervals)) between)
+  pub same : AllZip (IsMirrorOf (sum intervals) (sum (take first intervals)) between)
+      (events_of_cells system (sum (take first intervals)) between)
       (reverse (events_of_cells system (sum (take last (reverse intervals))) (mirrored between)))
 
 -- where a cell is compared with the one before it alone, the events of a recording and of its mirror, both within the

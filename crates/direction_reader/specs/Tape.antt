@@ -1,5 +1,5 @@
 -- The truth of a reading: what the events of a recording within the tolerance say of the tape.
-use Rattle.std.specs.Prelude.{◌≡◌, ℕ, ◌+◌, ◌≤◌, List, [], ◌++◌, length, take, sum, count_by, All}
+use Rattle.std.specs.Prelude.{◌≡◌, ℕ, ◌+◌, ◌<◌, ◌≤◌, List, [], ◌++◌, length, take, sum, count_by, All}
 use Rattle.biphase.specs.declared.cell.Cell.{Cell}
 use Rattle.biphase.specs.declared.profile.Profile.{Profile}
 use Rattle.biphase.specs.Tolerance.{LooksAtLast}
@@ -27,17 +27,21 @@ abbrev pub ComesBy : ℕ → ℕ → Event → Type 0
 ComesBy end from (Lost interval tick) = interval ≤ from
 ComesBy end from event = tick_of event ≤ end
 
+-- behind the intervals `front`: a word, good or refused, ends after them, and a break stands behind the last of them
+abbrev pub ComesBehind : List ℕ → Event → Type 0
+ComesBehind front (Lost interval tick) = length front ≤ interval
+ComesBehind front event = sum front < tick_of event
+
 -- in the intervals `front` and what comes behind them, the events are from the place `from` to the end of `front` those
 -- of the windows of these cells and nothing else. Before them come words that began before this place, so that they end
--- with its 79th cell at the latest, and breaks at this place at the latest; and behind them what comes at the end of
--- `front` or later
+-- with its 79th cell at the latest, and breaks at this place at the latest; and behind them what comes behind `front`
 pub record TellFrom (system : System) (front : List ℕ) (from : ℕ) (cells : List Cell) (events : List Event)
     : Type 0 where
   pub past : List Event
   pub behind : List Event
   pub are : events ≡ past ++ events_of_cells system (sum (take from front)) cells ++ behind
   pub no_others : All (ComesBy (sum (take from front) + duration (take 79 cells)) from) past
-  pub none_before_the_end : All (λ event. sum front ≤ tick_of event) behind
+  pub none_before_the_end : All (ComesBehind front) behind
 
 -- where a cell is compared with the one before it alone, the events find the tape again, whatever stands before it and
 -- whatever comes behind: where a part of the recording is a piece of the tape, they are from the greater interval of

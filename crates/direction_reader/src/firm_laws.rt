@@ -1,5 +1,6 @@
 //! What follows from the definition of a witness alone.
-ghost use Rattle.std.specs.Prelude.{◌≡◌, ℕ, ◌<◌, ◌+◌, ◌*◌, ◌^◌, List, [], ◌∷◌, true, false, All, length, map, reverse, take, drop};
+ghost use Rattle.std.specs.Prelude.{◌≡◌, ℕ, ◌<◌, ◌+◌, ◌*◌, ◌^◌, List, [], ◌∷◌, true, false};
+ghost use Rattle.std.specs.Prelude.{All, length, map, reverse, take, drop};
 ghost use Rattle.std.specs.List.{AllZip};
 ghost use Rattle.biphase.specs.declared.cell.Cell.{Cell};
 ghost use Rattle.biphase.specs.declared.profile.Profile.{Profile};
@@ -10,6 +11,9 @@ ghost use Rattle.direction_reader.specs.declared.firm_event.FirmEvent.{FirmEvent
 ghost use Rattle.direction_reader.specs.declared.firm_event.FirmEvent.TheVariants.{Told, Alone};
 ghost use Rattle.direction_reader.specs.Firm.{AreFirmEvents, candidate_at, firm_candidate_at, firm_events_of_cells};
 ghost use Rattle.direction_reader.specs.Firm.{is_firm, sync_in_time};
+ghost use Rattle.direction_reader.specs.FirmReader.{FirmState, FirmStandsFor};
+ghost use Rattle.direction_reader.specs.FirmTold.{AreTold};
+ghost use Rattle.direction_reader.specs.Tracker.{profile_of};
 ghost use Rattle.direction_reader.specs.FirmTape.{AreOneWay, FirmTellsTheTape, HasWitness, IsJudged, IsTold};
 ghost use Rattle.direction_reader.specs.ListEvents.{AreEvents, duration};
 ghost use Rattle.direction_reader.specs.Played.{Played, AreSpelled, bits_of_words, events_of_words, low_bits};
@@ -98,11 +102,30 @@ pub fn firm_events_tell_the_tape()
     a_recording_within_the_tolerance_is_one_stretch();
 }
 
+/// What a reader has told is what is told of its list while more may follow.
+pub fn a_reader_has_told_what_no_further_interval_changes()
+    ensures { (reader : FirmState) (intervals : List ℕ) (told : List FirmEvent)
+        → FirmStandsFor reader intervals told
+        → AreTold reader.system (profile_of reader.tracker) intervals told }
+{}
+
+/// A list of intervals has one list of events that are told while more may follow: at most one word
+/// waits.
+pub fn a_list_has_one_list_of_told_events()
+    ensures { (system : System) (profile : Profile) (intervals : List ℕ) (told others : List FirmEvent)
+        → AreTold system profile intervals told → AreTold system profile intervals others → told ≡ others }
+{
+    a_list_has_one_list_of_stretches();
+    reversed_twice_is_the_same();
+    twelve_ones_are_the_sync_word();
+}
+
 /// The word of 00:00:00:00 at 25 frames, in cells of 24 ticks. It is alone behind 16 zeros, and played
 /// backward before 16 zeros; and 64 bits between a sync word that is played backward and one that is
 /// played forward are two words, each of them alone.
 pub fn some_words_are_alone()
-    ensures forward { firm_events_of_cells F25 0 (cells_of 96 (0xbffc0800000000000000 * 2 ^ 16)) ≡ Alone Forward 2304 ∷ [] }
+    ensures forward { firm_events_of_cells F25 0 (cells_of 96 (0xbffc0800000000000000 * 2 ^ 16))
+        ≡ Alone Forward 2304 ∷ [] }
     ensures backward { firm_events_of_cells F25 0 (cells_of 96 0x103ffd) ≡ Alone Backward 1920 ∷ [] }
     ensures turned { firm_events_of_cells F25 0 (cells_of 96 (0xbffc0800000000000000 * 2 ^ 16 + 0x3ffd))
         ≡ Alone Backward 1920 ∷ Alone Forward 2304 ∷ [] }

@@ -22,7 +22,7 @@ ghost use Rattle.direction_reader.specs.ListEvents.{duration, events_of_cells, A
 ghost use Rattle.direction_reader.specs.Played.{Played, AreSpelled, bits_of_words, events_of_words};
 ghost use Rattle.direction_reader.specs.Reader.{ReaderState};
 ghost use Rattle.direction_reader.specs.StandsFor.{StandsFor};
-ghost use Rattle.direction_reader.specs.Tape.{TellsTheTape, FindsTheTape};
+ghost use Rattle.direction_reader.specs.Tape.{ComesBehind, TellsTheTape, FindsTheTape};
 ghost use Rattle.direction_reader.specs.Tracker.{profile_of};
 ghost use Rattle.ltc_word.specs.Spelling.{word_with, flags};
 ghost use Rattle.tc_address.specs.declared.count.Count.TheVariants.{C25};
@@ -102,8 +102,8 @@ pub fn a_list_has_one_list_of_events()
     a_list_has_one_list_of_stretches();
 }
 
-/// Where more intervals follow, the events that were there come first, and those that follow have
-/// later ticks, or the tick at which the first intervals end.
+/// Where more intervals follow, the events that were there come first. Those that follow come behind the
+/// first intervals: words end after them, and breaks stand behind the last of them.
 pub fn events_of_a_front_come_first()
     ensures first { (system : System) (profile : Profile) (front more : List ℕ)
         (events all : List Event) → AreEvents system profile front events
@@ -113,6 +113,9 @@ pub fn events_of_a_front_come_first()
         (events rest : List Event) → AreEvents system profile front events
         → AreEvents system profile (front ++ more) (events ++ rest)
         → All (λ event. sum front ≤ tick_of event) rest }
+    ensures behind { (system : System) (profile : Profile) (front more : List ℕ)
+        (events rest : List Event) → AreEvents system profile front events
+        → AreEvents system profile (front ++ more) (events ++ rest) → All (ComesBehind front) rest }
 {
     events_are_those_that_are_spelled();
     spelling_is_exact();

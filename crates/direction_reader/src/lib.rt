@@ -20,8 +20,9 @@
 //!   order (`specs/Mirror.antt`): clauses `truth`, `damage` and `mirror` of `feed`.
 //! - `FirmReader` asks each word for a witness beside it: another word's sync word on the side away from its
 //!   own, or the edge of its stretch (`specs/Firm.antt`, `AreFirmEvents`). It stands for the intervals
-//!   that it was fed and for what it has told of them (`specs/FirmReader.antt`), and `finish` tells what
-//!   still waits (clause `all`). At most one word waits, and one candidate behind it.
+//!   that it was fed and for what it has told of them (`specs/FirmReader.antt`, and of the list alone
+//!   `specs/FirmTold.antt`, `AreTold`), and `finish` tells what still waits (clause `all`). At most one
+//!   word waits, and one candidate behind it. What a witness changes and what not is in `firm_laws`.
 //! - A window holds the latest of the bits that it was given (`specs/HoldsBits.antt`).
 //! - `window_events` gives the candidates of one window, the forward one first
 //!   (`specs/Candidate.antt`).
@@ -30,7 +31,8 @@
 //! Read `reader`, `tracker`, `state`, `latest_cells`, `latest_bits`, `window`, `boundaries`, `brought`,
 //! `candidates` and `event`, in this order: the way of an interval. Then `firm_reader`, `firm_cells`,
 //! `beside`, `waiting` and `firm_event`, the way of one that is asked for witnesses, over the same tracker
-//! and cells. `specs/Invariants.antt` is what the code keeps. `report_text` prints the events. Nothing here allocates.
+//! and cells. `specs/Invariants.antt` is what the code keeps. `report_text` prints the events. Nothing
+//! here allocates.
 #![tactic(auto)]
 
 mod beside;

@@ -8,6 +8,10 @@ use Rattle.direction_reader.proofs.candidates.found_backward.Goals as goal
 -- the window in the other order of time ends in the sync word, so its candidate is the one
 pub returns-then-begins_in_reversed_sync-clause-event : goal.returns-then-begins_in_reversed_sync-clause-event
 returns-then-begins_in_reversed_sync-clause-event c =
-    some_listed (record { word = c.what_stands_in_bits_is_what_they_spell.ensures.word; fault = c.what_stands_in_bits_is_what_they_spell.ensures.fault })
+    some_listed (record {
+      word = c.what_stands_in_bits_is_what_they_spell.ensures.word;
+      fault =
+          c.what_stands_in_bits_is_what_they_spell.ensures.fault;
+    })
     c.args.system Backward (reversed_bits c.args.bits) c.args.tick c.args.length (Some c.backward_candidate.result)
     (sync_true _ (c.if-begins_in_reversed_sync.ensures.0 refl)) c.backward_candidate.ensures.event

@@ -9,5 +9,5 @@ returns c = finds_the_tape (record {
 }) c.a_recording_is_found_again_behind_anything.ensures (record {
   exist = c.each_list_has_events.ensures;
   first = c.events_of_a_front_come_first.ensures.first;
-  later = c.events_of_a_front_come_first.ensures.later;
+  behind = c.events_of_a_front_come_first.ensures.behind;
 })

@@ -29,7 +29,13 @@ returns-clause-stands c = λ begin cells cell told stands same ends.
     let now = heard c.self.inside.waits (is_sync_behind c.push.new.self)
     (option_map (judged (is_firm_before c.push.new.self)) found.forward) found.backward in
     let kept : KeptFirm = record { cells = c.find-found.new.self; beside = c.push.new.self; waits = now.waiting } in
-    let old : KeptFirm = record { cells = c.self.inside.cells; beside = c.self.inside.beside; waits = c.self.inside.waits } in
+    let old : KeptFirm = record {
+      cells = c.self.inside.cells;
+      beside = c.self.inside.beside;
+      waits =
+          c.self.inside.waits;
+    } in
     rw (c.hear-heard.ensures, c.judge_found-forward.ensures, c.is_firm_before.ensures, c.is_sync_behind-sync.ensures)
     (add_stands laws old kept c.args.system begin c.args.tick c.args.bit found cells cell told
-    c.find-found.ensures.bits c.find-found.ensures.boundaries c.push.ensures c.find-found.ensures.candidates refl is same ends)
+    c.find-found.ensures.bits c.find-found.ensures.boundaries c.push.ensures c.find-found.ensures.candidates refl is
+    same ends)

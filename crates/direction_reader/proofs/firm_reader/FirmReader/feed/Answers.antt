@@ -8,7 +8,8 @@ use Rattle.direction_reader.proofs.firm_reader.FirmReader.feed.Goals as goal
 pub add-requires : goal.add-requires
 add-requires c =
     let steps = rw c.in-Cell.is at c.step.ensures.steps in
-    rw c.from.ensures (cell_ended _ _ c.args.x c.self.inside.tick c.in-Cell.bit _ c.self.invariant.reading.fits c.requires.least c.requires.most steps)
+    rw c.from.ensures (cell_ended _ _ c.args.x c.self.inside.tick c.in-Cell.bit _ c.self.invariant.reading.fits
+    c.requires.least c.requires.most steps)
 
 -- what is kept fits the cell's end
 pub invariant_of-self : goal.invariant_of-self
@@ -22,7 +23,8 @@ invariant_of-self c =
       reading = record {
         count = omega arith;
         sum = omega arith;
-        fits = cell_fits _ _ _ _ _ _ _ _ c.self.invariant.reading.fits c.requires.least c.requires.most steps (omega arith) c.add.ensures.boundaries;
+        fits = cell_fits _ _ _ _ _ _ _ _ c.self.invariant.reading.fits c.requires.least c.requires.most steps (omega
+            arith) c.add.ensures.boundaries;
       };
       waits = (c.add.ensures.within c.self.inside.tick (omega arith) c.self.invariant.waits).0;
     }
@@ -32,7 +34,13 @@ pub returns-in-Cell-clause-stands : goal.returns-in-Cell-clause-stands
 returns-in-Cell-clause-stands c = λ l told stands.
     let is = subst (λ (r : FirmState). FirmStandsFor r l told) (sym c.self.view_is) stands in
     cell_told _ _ c.args.x l c.in-Cell.bit told _
-    (record { system = refl; profile = c.step.ensures.profile; intervals = refl; tick = ap (λ m. c.self.inside.tick + m) c.from.ensures })
+    (record {
+      system = refl;
+      profile = c.step.ensures.profile;
+      intervals = refl;
+      tick = ap (λ m. c.self.inside.tick +
+          m) c.from.ensures;
+    })
     c.add.ensures.stands is (c.in-Cell.ensures.stands l is.earlier is.open_yet is.tracker)
 
 -- no cell ended
@@ -40,7 +48,13 @@ pub returns-in-Nothing-clause-stands : goal.returns-in-Nothing-clause-stands
 returns-in-Nothing-clause-stands c = λ l told stands.
     let is = subst (λ (r : FirmState). FirmStandsFor r l told) (sym c.self.view_is) stands in
     rw c.none.ensures (nothing_ended _ _ c.args.x l told
-    (record { system = refl; profile = c.step.ensures.profile; intervals = refl; tick = ap (λ m. c.self.inside.tick + m) c.from.ensures })
+    (record {
+      system = refl;
+      profile = c.step.ensures.profile;
+      intervals = refl;
+      tick = ap (λ m. c.self.inside.tick +
+          m) c.from.ensures;
+    })
     refl is (c.in-Nothing.ensures.stands l is.earlier is.open_yet is.tracker))
 
 -- the interval is the first zero of a stretch
@@ -48,7 +62,13 @@ pub returns-in-FirstZero-clause-stands : goal.returns-in-FirstZero-clause-stands
 returns-in-FirstZero-clause-stands c = λ l told stands.
     let is = subst (λ (r : FirmState). FirmStandsFor r l told) (sym c.self.view_is) stands in
     begins_now _ _ c.args.x l told _
-    (record { system = refl; profile = c.step.ensures.profile; intervals = refl; tick = ap (λ m. c.self.inside.tick + m) c.from.ensures })
+    (record {
+      system = refl;
+      profile = c.step.ensures.profile;
+      intervals = refl;
+      tick = ap (λ m. c.self.inside.tick +
+          m) c.from.ensures;
+    })
     (rw c.begin.ensures at c.add-in-FirstZero.ensures.stands)
     is (c.in-FirstZero.ensures.stands l is.earlier is.open_yet is.tracker)
 
@@ -57,7 +77,13 @@ pub returns-in-ZeroBefore-clause-stands : goal.returns-in-ZeroBefore-clause-stan
 returns-in-ZeroBefore-clause-stands c = λ l told stands.
     let is = subst (λ (r : FirmState). FirmStandsFor r l told) (sym c.self.view_is) stands in
     begins_before _ _ c.args.x c.in-ZeroBefore.zero _ l told _
-    (record { system = refl; profile = c.step.ensures.profile; intervals = refl; tick = ap (λ m. c.self.inside.tick + m) c.from.ensures })
+    (record {
+      system = refl;
+      profile = c.step.ensures.profile;
+      intervals = refl;
+      tick = ap (λ m. c.self.inside.tick +
+          m) c.from.ensures;
+    })
     (ap (λ m. c.self.inside.tick - m) c.from-in-ZeroBefore.ensures)
     (rw c.begin-in-ZeroBefore.ensures at c.add-in-ZeroBefore.ensures.stands)
     is (c.in-ZeroBefore.ensures.stands l is.earlier is.open_yet is.tracker)
@@ -67,5 +93,11 @@ pub returns-in-Break-clause-stands : goal.returns-in-Break-clause-stands
 returns-in-Break-clause-stands c = λ l told stands.
     let is = subst (λ (r : FirmState). FirmStandsFor r l told) (sym c.self.view_is) stands in
     rw c.end-told.ensures.value (broken _ _ c.args.x l told
-    (record { system = refl; profile = c.step.ensures.profile; intervals = refl; tick = ap (λ m. c.self.inside.tick + m) c.from.ensures })
+    (record {
+      system = refl;
+      profile = c.step.ensures.profile;
+      intervals = refl;
+      tick = ap (λ m. c.self.inside.tick +
+          m) c.from.ensures;
+    })
     (rw c.begin-in-Break.ensures refl) is (c.in-Break.ensures.stands l is.earlier is.open_yet is.tracker))

@@ -17,5 +17,6 @@ returns-clause-all c = λ intervals told stands.
       cells = c.self.inside.cells;
     } in
     let is = subst (λ (k : FirmState). FirmStandsFor k intervals told) (sym c.self.view_is) stands in
-    subst (λ (k : FirmState). AreFirmEvents k.system (profile_of k.tracker) intervals (told ++ firm_list c.end.result)) c.self.view_is
+    subst (λ (k : FirmState). AreFirmEvents k.system (profile_of k.tracker) intervals (told ++ firm_list c.end.result))
+    c.self.view_is
     (rw c.end.ensures.value (finished r intervals told is))
