@@ -26,13 +26,15 @@ def main(arguments: Sequence[str]) -> int:
         return FAILED
 
 
-def job(out: str, number: str) -> int:
-    """One tape, by its number in the list."""
+def job(out: str, *numbers: str) -> int:
+    """A few tapes, by their numbers in the list."""
     run = store.run_in(out)
     if run is None:
         say(f"{shown(out)}: {store.RUN} is not there")
         return FAILED
-    jobs.work_one(run, jobs.name_at(run, int(number)))
+    names = jobs.names_of(run)
+    for number in numbers:
+        jobs.work_one(run, names[int(number)])
     return FOUND
 
 

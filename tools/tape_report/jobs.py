@@ -1,4 +1,4 @@
-"""The tapes of a folder, worked by GNU parallel: each job is this tool on one of them, by its number in a list."""
+"""The tapes of a folder, worked by GNU parallel: each job is this tool on a few, by their numbers in a list."""
 import os
 import shlex
 import shutil
@@ -17,6 +17,8 @@ from .work import tape_read
 
 # The word with which a job begins.
 JOB = "--job"
+# A job has so many tapes at most, and each place for jobs has so many of them one after another at least.
+MOST_OF_A_JOB, JOBS_EACH = 8, 8
 # Above this status parallel itself failed, and not its jobs.
 MOST_FAILED_JOBS = 101
 
@@ -27,9 +29,9 @@ def put_list(run: Run, names: list[str]) -> None:
         part.file.write(b"".join(os.fsencode(name) + b"\0" for name in names))
 
 
-def name_at(run: Run, number: int) -> str:
+def names_of(run: Run) -> list[str]:
     with open(os.path.join(run.out, store.LIST), "rb") as file:
-        return os.fsdecode(file.read().split(b"\0")[number])
+        return [os.fsdecode(name) for name in file.read().split(b"\0")[:-1]]
 
 
 def work_all(run: Run, numbers: list[int], jobs: int, hosts: str | None) -> None:
@@ -42,11 +44,18 @@ def work_all(run: Run, numbers: list[int], jobs: int, hosts: str | None) -> None
     if sys.stderr.isatty():
         words.append("--bar")
     tool = [os.path.abspath(sys.argv[0]), JOB, run.out]
-    commands = b"".join(os.fsencode(shlex.join([*tool, str(number)])) + b"\0" for number in numbers)
+    commands = b"".join(os.fsencode(shlex.join([*tool, *group])) + b"\0" for group in groups_of(numbers, jobs))
     there = {**os.environ, "PARALLEL_SHELL": "/bin/sh"}
     ran = subprocess.run(words, input=commands, cwd=run.out, env=there, check=False)
     if ran.returncode > MOST_FAILED_JOBS:
         raise NoProgram(f"parallel ended with status {ran.returncode}")
+
+
+def groups_of(numbers: list[int], jobs: int) -> list[list[str]]:
+    """The tapes of each job: a few, since a job starts as long as a short tape takes to read; and jobs for all places."""
+    size = max(1, min(MOST_OF_A_JOB, len(numbers) // (JOBS_EACH * jobs)))
+    words = [str(number) for number in numbers]
+    return [words[at : at + size] for at in range(0, len(words), size)]
 
 
 def work_one(run: Run, name: str) -> None:
