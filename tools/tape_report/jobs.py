@@ -52,7 +52,7 @@ def work_all(run: Run, numbers: list[int], jobs: int, hosts: str | None) -> None
 
 
 def groups_of(numbers: list[int], jobs: int) -> list[list[str]]:
-    """The tapes of each job: a few, since a job starts as long as a short tape takes to read; and jobs for all places."""
+    """The tapes of each job: a few, since a start takes as long as a short tape, and enough jobs for all places."""
     size = max(1, min(MOST_OF_A_JOB, len(numbers) // (JOBS_EACH * jobs)))
     words = [str(number) for number in numbers]
     return [words[at : at + size] for at in range(0, len(words), size)]
