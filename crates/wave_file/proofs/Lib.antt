@@ -1,5 +1,6 @@
 pub mod Blocks
 pub mod Decoding
+pub mod JudgedRate
 pub mod Pieces
 pub mod TakenFormat
 pub mod WhatStays

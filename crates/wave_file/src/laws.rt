@@ -1,8 +1,9 @@
 //! The numbers that code and definitions share, as the standards give them; and what follows from the
 //! definitions alone.
-ghost use Rattle.std.specs.Prelude.{◌≡◌, ◌^◌, ℕ, ℤ, List, [], ◌∷◌, ◌++◌};
+ghost use Rattle.std.specs.Prelude.{◌≡◌, ◌^◌, ◌≤◌, ℕ, ℤ, List, [], ◌∷◌, ◌++◌, Some};
 ghost use Rattle.byteorder.specs.Endian.{big_number};
 ghost use Rattle.wave_file.specs.declared.chunk.TheConstants as chunk;
+ghost use Rattle.wave_file.specs.declared.format.WaveFormat.{WaveFormat};
 ghost use Rattle.wave_file.specs.declared.stage.TheConstants.{MAX_BYTES, MAX_SAMPLES};
 ghost use Rattle.wave_file.specs.GoesOn.{GoesOn, IsWithin};
 ghost use Rattle.wave_file.specs.StandsFor.{Decoding, StandsFor, IsDecoding, IsTold, format_in_decoding};
@@ -43,4 +44,10 @@ pub fn what_a_sound_file_shows_stays()
 /// input may not end.
 pub fn samples_are_few_and_behind_a_format()
     ensures { (track : ℕ) (bytes : List ℕ) → IsWithin (reading_of track bytes) }
+{}
+
+/// A format was judged before its data: its rate is from 1 to 6,250,000.
+pub fn the_rate_of_a_format_is_judged()
+    ensures { (track : ℕ) (bytes : List ℕ) (format : WaveFormat) → (reading_of track bytes).format ≡ Some format
+        → (1 ≤ format.rate) × (format.rate ≤ 6_250_000) }
 {}
