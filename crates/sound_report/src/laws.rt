@@ -7,7 +7,6 @@ ghost use Rattle.direction_reader.specs.ListEvents.{duration};
 ghost use Rattle.direction_reader.specs.Played.{Played, AreSpelled, bits_of_words};
 ghost use Rattle.interval_commands.specs.LtcRead.{report};
 ghost use Rattle.interval_engine.specs.Along.{along_intervals};
-ghost use Rattle.interval_file.specs.IntervalHeader.{IsTickRate};
 ghost use Rattle.pcm_front.specs.Distance.{distances, distances_from_start};
 ghost use Rattle.pcm_front.specs.Samples.{samples_of};
 ghost use Rattle.pcm_front.specs.Sums.{sums};
@@ -27,6 +26,7 @@ use pcm_front::laws::short_distances_are_whole;
 use tape_sound::laws::{
     a_silence_before_the_tape_costs_no_word, noise_below_the_margin_costs_no_word,
 };
+use wave_file::laws::the_rate_of_a_format_is_judged;
 
 /// `pcm-ltc` and then a report: of a sound whose sums have a margin for a tape, the report under the
 /// tolerance of that margin has a line for each word of the tape, and none beside. Its ticks run from the
@@ -52,7 +52,7 @@ pub fn what_is_sliced_of_a_margin_is_reported()
 /// beside. Its ticks run from the first sample.
 pub fn what_is_sliced_of_a_track_is_reported()
     ensures { (profile : Profile) (w : SlicesWave) (format : WaveFormat) (tape : List Cell) (words : List Played)
-        (file written text : List ℕ) → (reading_of w.track file).format ≡ Some format → IsTickRate (16 * format.rate)
+        (file written text : List ℕ) → (reading_of w.track file).format ≡ Some format
         → (margin : HasMargin profile 16 w.threshold tape (sums w.smooth (reading_of w.track file).samples))
         → BeginsLate margin.delay margin.start tape → FitsBehindASilence margin.delay margin.start tape
         → AreWhole w.live w.system (16 * format.rate) (track_settings w) (reading_of w.track file).samples
@@ -65,4 +65,5 @@ pub fn what_is_sliced_of_a_track_is_reported()
     a_file_is_read_as_it_was_written();
     a_silence_before_the_tape_costs_no_word();
     short_distances_are_whole();
+    the_rate_of_a_format_is_judged();
 }

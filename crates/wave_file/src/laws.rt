@@ -1,9 +1,10 @@
 //! The numbers that code and definitions share, as the standards give them; and what follows from the
 //! definitions alone.
 ghost use Rattle.std.specs.Prelude.{◌≡◌, ◌⊎◌, ◌≤◌, ◌<◌, ◌+◌, ◌-◌, ◌^◌, ℕ, ℤ, true, false, List, [], ◌∷◌, ◌++◌};
-ghost use Rattle.std.specs.Prelude.{codes, length};
+ghost use Rattle.std.specs.Prelude.{codes, length, Some};
 ghost use Rattle.byteorder.specs.Endian.{big_number};
 ghost use Rattle.wave_file.specs.declared.chunk.TheConstants as chunk;
+ghost use Rattle.wave_file.specs.declared.format.WaveFormat.{WaveFormat};
 ghost use Rattle.wave_file.specs.declared.format.TheConstants.{MAX_RATE, MAX_TRACKS};
 ghost use Rattle.wave_file.specs.declared.names.TheConstants as names;
 ghost use Rattle.wave_file.specs.declared.stage.TheConstants.{MAX_BYTES, MAX_SAMPLES};
@@ -101,4 +102,10 @@ pub fn a_file_is_read_as_it_was_written()
         let file = long_file_of form file_size size before format blocks tail in
         AreParts track before format blocks → 1 ≤ length blocks → (form ≡ chunk.RF64) ⊎ (form ≡ chunk.BW64)
         → size < 2 ^ 64 → length file ≤ MAX_BYTES → reading_of track file ≡ read_whole format (track_of track blocks) }
+{}
+
+/// A format was judged before its data: its rate is from 1 to 6,250,000.
+pub fn the_rate_of_a_format_is_judged()
+    ensures { (track : ℕ) (bytes : List ℕ) (format : WaveFormat) → (reading_of track bytes).format ≡ Some format
+        → (1 ≤ format.rate) × (format.rate ≤ 6_250_000) }
 {}

@@ -10,21 +10,19 @@ use Rattle.sound_report.proofs.WholeDistances.{written_whole, PaceLaws}
 use Rattle.sound_report.proofs.laws.what_is_sliced_of_a_track_is_reported.Goals as goal
 
 pub returns : goal.returns
-returns c = λ profile w format tape words file written text begins rate margin late fits whole are spelled output read.
+returns c = λ profile w format tape words file written text begins margin late fits whole are spelled output read.
     let samples = (reading_of w.track file).samples in
     let heard = sums w.smooth samples in
     let fit = c.a_silence_before_the_tape_costs_no_word.ensures.fit profile 16 w.threshold tape heard (omega arith)
-    margin
-    late fits in
+    margin late fits in
+    let rate = c.the_rate_of_a_format_is_judged.ensures w.track file format begins in
     let paces : PaceLaws =
     record { ended = c.short_distances_are_whole.ensures.ended; short = c.short_distances_are_whole.ensures.short } in
     reported c.a_file_is_read_as_it_was_written.ensures.read profile (track_header w format) margin.delay
-    (margin.start + duration (take 2 tape)) tape words (distances_from_start 16 w.threshold heard) written text rate
-    fit.0
-    fit.1
+    (margin.start + duration (take 2 tape)) tape words (distances_from_start 16 w.threshold heard) written text
+    (omega (arith, rate.0), omega (arith, rate.1)) fit.0 fit.1
     (output ∙ ap (λ f. track_file w f samples) begins ∙ ap (file_of (track_header w format))
     (written_whole paces w.live w.system (16 * format.rate) (track_settings w) samples (omega arith) whole fit.0))
     (λ events own. c.a_silence_before_the_tape_costs_no_word.ensures.on_time w.system profile 16 w.threshold tape words
-    heard
-    events (omega arith) margin late are spelled own)
+    heard events (omega arith) margin late are spelled own)
     read
