@@ -9,7 +9,6 @@ ghost use Rattle.wave_file.specs.declared.format.TheConstants.{MAX_RATE, MAX_TRA
 ghost use Rattle.wave_file.specs.declared.names.TheConstants as names;
 ghost use Rattle.wave_file.specs.declared.stage.TheConstants.{MAX_BYTES, MAX_SAMPLES};
 ghost use Rattle.wave_file.specs.Chunk.{is_open, is_open_size, no_notes};
-ghost use Rattle.wave_file.specs.declared.format.WaveFormat.{WaveFormat};
 ghost use Rattle.wave_file.specs.GoesOn.{GoesOn, IsWithin};
 ghost use Rattle.wave_file.specs.Grammar.{AreParts, OtherChunk, Sample, data_text, file_of, long_file_of};
 ghost use Rattle.wave_file.specs.Grammar.{others_text, read_whole, track_of};
