@@ -1,6 +1,7 @@
--- What is kept of the latest steps: the sums of the sound up to each, and the numbers of each. So many steps ago they stand
--- so many places back in a ring.
-use Rattle.std.specs.Prelude.{◌≡◌, ℕ, ◌+◌, ◌-◌, ◌*◌, ◌%◌, ◌^◌, ◌<◌, ◌≤◌, ℤ, pos, ◌-ℤ◌, List, [], length, get_or, replicate}
+-- What is kept of the latest steps: the sums of the sound up to each, and the numbers of each. So many steps ago they
+-- stand so many places back in a ring.
+use Rattle.std.specs.Prelude.{◌≡◌, ℕ, ◌+◌, ◌-◌, ◌*◌, ◌%◌, ◌^◌, ◌<◌, ◌≤◌, ℤ, pos, ◌-ℤ◌}
+use Rattle.std.specs.Prelude.{List, [], length, get_or, replicate}
 use Rattle.cell_path.specs.declared.cell.Sign.{Sign}
 use Rattle.cell_path.specs.declared.cell.Sign.TheVariants.{Plus, Minus}
 use Rattle.cell_path.specs.declared.numbers.Numbers.{Numbers}
@@ -45,7 +46,8 @@ pub record RowsState : Type 0 where
 
 -- the number of the step so long ago
 abbrev pub number_ago : RowsState → ℕ → ℕ → Sign → ℤ
-number_ago rows ago place sign = number_at (get_or rows.ring (place_ago rows.count ago) (record { plus = []; minus = [] })) place sign
+number_ago rows ago place sign =
+    number_at (get_or rows.ring (place_ago rows.count ago) (record { plus = []; minus = [] })) place sign
 
 -- no number of the step so long ago is greater, after so many steps: a step can add 2^22 in the mean
 abbrev pub limit : ℕ → ℕ → ℕ
@@ -55,4 +57,5 @@ limit count ago = (count + 128 - ago) * 2 ^ 22 + 2 ^ 28
 pub record AreRows (rows : RowsState) : Type 0 where
   pub long : length rows.ring ≡ 128
   pub count : rows.count ≤ 2 ^ 40
-  pub size : (ago place : ℕ) (sign : Sign) → ago ≤ 96 → place < 45 → IsWithin (limit rows.count ago) (number_ago rows ago place sign)
+  pub size : (ago place : ℕ) (sign : Sign) → ago ≤ 96 → place < 45
+      → IsWithin (limit rows.count ago) (number_ago rows ago place sign)

@@ -1,5 +1,6 @@
 -- What is kept of the latest steps to follow paths back, and where a path is followed to.
-use Rattle.std.specs.Prelude.{◌≡◌, ℕ, ◌+◌, ◌-◌, ◌%◌, ◌^◌, ◌<◌, ◌≤◌, min, List, [], ◌∷◌, length, drop, get_or, Option, Some, None}
+use Rattle.std.specs.Prelude.{◌≡◌, ℕ, ◌+◌, ◌-◌, ◌%◌, ◌^◌, ◌<◌, ◌≤◌, min}
+use Rattle.std.specs.Prelude.{List, [], ◌∷◌, length, drop, get_or, Option, Some, None}
 use Rattle.cell_path.specs.declared.cell.Cell.{Cell}
 use Rattle.cell_path.specs.declared.cell.Sign.{Sign}
 use Rattle.cell_path.specs.declared.cell.Sign.TheVariants.{Plus}
@@ -44,7 +45,8 @@ point_before Jump ago place sign there = record { ago = ago; place = there.best_
 -- what is left of the path is the best that ends in the point, or nothing
 abbrev pub LeadsTo : List Step → List Cell → Option Point → Type 0
 LeadsTo steps rest None = rest ≡ []
-LeadsTo steps rest (Some point) = (point.ago < length steps) × IsBest LENGTHS (drop point.ago steps) point.place point.sign rest
+LeadsTo steps rest (Some point) =
+    (point.ago < length steps) × IsBest LENGTHS (drop point.ago steps) point.place point.sign rest
 
 -- the cell is the latest of the path, and the point leads to what stands before it
 pub record GoesBack (steps : List Step) (path : List Cell) (back : Back) : Type 0 where

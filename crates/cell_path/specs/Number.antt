@@ -32,7 +32,8 @@ pub record IsBeginning (lengths : List ℕ) (steps : List Step) (ago place : ℕ
   pub begins : Begins lengths steps ago place sign way before
   pub number_is : number ≡ score_before lengths steps ago place way before
   pub wins : (other : Way) (others : List Cell) → Begins lengths steps ago place sign other others
-      → WinsBy number (rank_of_way way) before (score_before lengths steps ago place other others) (rank_of_way other) others
+      → WinsBy number (rank_of_way way) before (score_before lengths steps ago place other others) (rank_of_way other)
+      others
 
 -- the path's latest cell is of this bit
 abbrev pub HasBit : Bit → List Cell → Type 0
@@ -40,7 +41,8 @@ HasBit bit [] = ⊥
 HasBit bit (cell ∷ before) = cell.bit ≡ bit
 
 -- the number is the score of the best path that ends so, and this is its latest bit
-pub record IsEnd (lengths : List ℕ) (steps : List Step) (place : ℕ) (sign : Sign) (number : ℤ) (bit : Bit) : Type 0 where
+pub record IsEnd (lengths : List ℕ) (steps : List Step) (place : ℕ) (sign : Sign) (number : ℤ) (bit : Bit)
+    : Type 0 where
   pub path : List Cell
   pub is_best : IsBest lengths steps place sign path
   pub number_is : number ≡ score lengths steps path

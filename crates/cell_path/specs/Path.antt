@@ -43,7 +43,8 @@ abbrev pub level_at : List Step → ℕ
 level_at [] = 0
 level_at (step ∷ steps) = step.level
 
--- a cell, whose length stands in this place, may follow these in this way, where the one before has to end with this sign
+-- a cell, whose length stands in this place, may follow these in this way, where the one before has to end with this
+-- sign
 abbrev pub Follows : Way → ℕ → Sign → List Cell → Type 0
 Follows way place sign [] = way ≡ Jump
 Follows Same place sign (before ∷ more) = (before.place ≡ place) × (before.sign ≡ sign)
@@ -61,7 +62,8 @@ times_for lengths Jump place before = JUMP * length_in lengths place
 -- what it costs to begin a cell so many steps ago: the first one begins with the sound for nothing
 abbrev pub cost : List ℕ → List Step → ℕ → ℕ → Way → List Cell → ℤ
 cost lengths steps ago place way [] = cond (length steps == ago) (pos 0) EARLY
-cost lengths steps ago place way (before ∷ more) = pos (times_for lengths way place before.place * level_at (drop ago steps))
+cost lengths steps ago place way (before ∷ more) =
+    pos (times_for lengths way place before.place * level_at (drop ago steps))
 
 -- the score of a path: the sound times its signs, less the costs
 abbrev pub score : List ℕ → List Step → List Cell → ℤ

@@ -39,7 +39,8 @@ pub record HasEnd (lengths : List ℕ) (steps : List Step) (place : ℕ) (sign :
 
 -- each number is the score of the best path that ends in its length and sign
 abbrev pub NumbersEnd : Numbers → List Step → Type 0
-NumbersEnd numbers steps = (place : ℕ) (sign : Sign) → place < 45 → HasEnd LENGTHS steps place sign (number_at numbers place sign)
+NumbersEnd numbers steps = (place : ℕ) (sign : Sign) → place < 45
+    → HasEnd LENGTHS steps place sign (number_at numbers place sign)
 
 -- the latest bit that stands for a length and a sign
 abbrev pub bit_at : Bits → ℕ → Sign → Bit
@@ -56,11 +57,13 @@ abbrev pub AreEnds : ℕ → Ends → List Step → Type 0
 AreEnds most ends steps = (place : ℕ) (sign : Sign) → place < most
     → IsEnd LENGTHS steps place sign (number_at ends.numbers place sign) (bit_at ends.bits place sign)
 
--- of the first so many lengths, each number is the score of the best beginning behind the latest step, and each way its own
+-- of the first so many lengths, each number is the score of the best beginning behind the latest step, and each way
+-- its own
 abbrev pub AreStarts : ℕ → Starts → List Step → Type 0
 AreStarts most starts steps = (place : ℕ) (sign : Sign) → place < most
     → IsBeginning LENGTHS steps 0 place sign (number_at starts.numbers place sign) (way_at starts.ways place sign)
 
 -- of the first so many lengths, each number is between this one and its opposite
 abbrev pub AreWithinTo : ℕ → ℕ → Numbers → Type 0
-AreWithinTo most bound numbers = (place : ℕ) (sign : Sign) → place < most → IsWithin bound (number_at numbers place sign)
+AreWithinTo most bound numbers = (place : ℕ) (sign : Sign) → place < most
+    → IsWithin bound (number_at numbers place sign)

@@ -28,16 +28,20 @@ pub record IsBestBelow (lengths : List ℕ) (steps : List Step) (most place : �
       → Wins (score lengths steps path) path (score lengths steps other) other
 
 -- the best of the first so many ways to begin at the latest step
-pub record IsBestBefore (lengths : List ℕ) (steps : List Step) (most place : ℕ) (sign : Sign) (number : ℤ) (way : Way) : Type 0 where
+pub record IsBestBefore (lengths : List ℕ) (steps : List Step) (most place : ℕ) (sign : Sign) (number : ℤ) (way : Way)
+    : Type 0 where
   pub before : List Cell
   pub begins : Begins lengths steps 0 place sign way before
   pub low : rank_of_way way < most
   pub number_is : number ≡ score_before lengths steps 0 place way before
-  pub wins : (other : Way) (others : List Cell) → rank_of_way other < most → Begins lengths steps 0 place sign other others
-      → WinsBy number (rank_of_way way) before (score_before lengths steps 0 place other others) (rank_of_way other) others
+  pub wins : (other : Way) (others : List Cell) → rank_of_way other < most
+      → Begins lengths steps 0 place sign other others
+      → WinsBy number (rank_of_way way) before (score_before lengths steps 0 place other others) (rank_of_way other)
+      others
 
 -- the best of one way
-pub record IsBestOfWay (lengths : List ℕ) (steps : List Step) (place : ℕ) (sign : Sign) (way : Way) (number : ℤ) : Type 0 where
+pub record IsBestOfWay (lengths : List ℕ) (steps : List Step) (place : ℕ) (sign : Sign) (way : Way) (number : ℤ)
+    : Type 0 where
   pub before : List Cell
   pub begins : Begins lengths steps 0 place sign way before
   pub number_is : number ≡ score_before lengths steps 0 place way before

@@ -56,7 +56,8 @@ impl Marks {
     pub(crate) fn push(&mut self, marks: StepMarks)
         requires room { self.old.count < 2 ^ 40 }
         requires place { marks.best_place < 45 }
-        ensures stands { (step : Step) (steps : List Step) → MarksStandFor self.old steps → IsMarked marks (step ∷ steps)
+        ensures stands { (step : Step) (steps : List Step) → MarksStandFor self.old steps
+            → IsMarked marks (step ∷ steps)
             → MarksStandFor self.new (step ∷ steps) }
         ensures count { self.new.count ≡ self.old.count + 1 }
     {

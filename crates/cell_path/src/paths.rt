@@ -43,7 +43,8 @@ impl Model for Paths {
 fn marks_of(heard: &Heard) -> StepMarks
     requires { heard.now.best.place < 45 }
     ensures marked { (steps : List Step) → AreEnds 45 heard.now.ends steps → AreStarts 45 heard.now.starts steps
-        → IsBestEnd LENGTHS steps heard.now.best.place heard.now.best.sign heard.now.best.number → IsMarked result steps }
+        → IsBestEnd LENGTHS steps heard.now.best.place heard.now.best.sign heard.now.best.number
+        → IsMarked result steps }
     ensures place { result.best_place < 45 }
 {
     let mut marks = [0; PLACES];

@@ -91,8 +91,8 @@ impl Start {
         requires place { place < 45 }
         requires best { IsWithin (2 ^ 62 + 2 ^ 40) best }
         requires level { level ≤ 2 ^ 15 }
-        ensures next { (step : Step) (before : List Step) (sign sign_of_best : Sign) (place_of_best : ℕ) → step.level ≡ level
-            → IsBestEnd LENGTHS (step ∷ before) place_of_best sign_of_best best
+        ensures next { (step : Step) (before : List Step) (sign sign_of_best : Sign) (place_of_best : ℕ)
+            → step.level ≡ level → IsBestEnd LENGTHS (step ∷ before) place_of_best sign_of_best best
             → IsBestBefore LENGTHS (step ∷ before) 3 place sign self.number self.way
             → IsBestBefore LENGTHS (step ∷ before) 4 place sign result.number result.way }
         ensures size { (most : ℕ) → IsWithin most best → IsWithin (most + 3 * 2 ^ 22) self.number
@@ -115,7 +115,8 @@ pub(crate) fn best_start(ends: &Numbers, best: i64, level: u32, place: usize, si
         → NumbersEnd ends.now (step ∷ before)
         → IsBestEnd LENGTHS (step ∷ before) place_of_best sign_of_best best
         → IsBeginning LENGTHS (step ∷ before) 0 place sign result.number result.way }
-    ensures size { (most : ℕ) → AreWithin most ends.now → IsWithin most best → IsWithin (most + 3 * 2 ^ 22) result.number }
+    ensures size { (most : ℕ) → AreWithin most ends.now → IsWithin most best
+        → IsWithin (most + 3 * 2 ^ 22) result.number }
 {
     let same = Start {
         number: ends.at(place, sign),
