@@ -110,7 +110,7 @@ chunk_of_rated : (notes : Notes) (place letters size : ℕ) (own : Chunk) → Ar
 chunk_of_rated notes place letters size own noted is =
     chunk_rated (letters == DATA) (letters == FORMAT) ((letters == SIZES) && notes.is_long) (nat_lt size 16)
     (nat_lt size 16) place size (data_in notes place size) own
-    (data_rated place (extent_of notes size) notes.format own noted) is
+    (data_rated place (extent_of notes place size) notes.format own noted) is
 
 -- a format that is noted
 some_rated : (format : WaveFormat) → IsRated format → (other : WaveFormat) → Some format ≡ Some other → IsRated other
@@ -147,15 +147,16 @@ chunks_have track skip notes place bytes noted = nothing_has unfinished refl
 wave_has : (track : ℕ) (is_long : Bool) (bytes : List ℕ) → HasRate (wave_at track is_long bytes)
 wave_has track is_long bytes =
     piece_has 8
-    (λ wave rest. if big_number 4 (drop 4 wave) == WAVE then chunks_at track 0 (no_notes is_long) 12 rest
+    (λ wave rest. if big_number 4 (drop 4 wave) == WAVE
+    then chunks_at track 0 (no_notes is_long (little_number 4 wave)) 12 rest
     else bad (fault.Wave 8)) bytes
-    (λ wave rest. by_letters (big_number 4 (drop 4 wave) == WAVE) rest)
+    (λ wave rest. by_letters (big_number 4 (drop 4 wave) == WAVE) (little_number 4 wave) rest)
   where
-    by_letters : (is_wave : Bool) (rest : List ℕ)
-        → HasRate (if is_wave then chunks_at track 0 (no_notes is_long) 12 rest else bad (fault.Wave 8))
-    by_letters true rest =
-        chunks_have track 0 (no_notes is_long) 12 rest (λ format is. let no : None ≡ Some format = is in absurd cc)
-    by_letters false rest = nothing_has (bad (fault.Wave 8)) refl
+    by_letters : (is_wave : Bool) (size : ℕ) (rest : List ℕ)
+        → HasRate (if is_wave then chunks_at track 0 (no_notes is_long size) 12 rest else bad (fault.Wave 8))
+    by_letters true size rest =
+        chunks_have track 0 (no_notes is_long size) 12 rest (λ format is. let no : None ≡ Some format = is in absurd cc)
+    by_letters false size rest = nothing_has (bad (fault.Wave 8)) refl
 
 form_has : (track : ℕ) (form : Option Bool) (bytes : List ℕ) → HasRate (behind_form track form bytes)
 form_has track None bytes = nothing_has (bad (fault.Riff 0)) refl
