@@ -1,5 +1,7 @@
--- Two paths that win over each other are the same, and a winner's front wins over each other front that its latest cell may follow.
-use Rattle.std.proofs.Common.{◌≡◌, ℕ, ◌*◌, ℤ, pos, ◌+ℤ◌, ◌-ℤ◌, inl, inr, List, [], ◌∷◌, drop, refl, ap, ap₂, subst, sym, ◌∙◌, arith}
+-- Two paths that win over each other are the same, and a winner's front wins over each other front that its latest
+-- cell may follow.
+use Rattle.std.proofs.Common.{◌≡◌, ℕ, ◌*◌, ℤ, pos, ◌+ℤ◌, ◌-ℤ◌, inl, inr, List, [], ◌∷◌, drop, refl, ap, ap₂, subst}
+use Rattle.std.proofs.Common.{sym, ◌∙◌, arith}
 use Rattle.std.proofs.lemmas.Int.{ints}
 use Rattle.cell_path.specs.declared.cell.Bit.{Bit}
 use Rattle.cell_path.specs.declared.cell.Bit.TheVariants.{Zero, One}

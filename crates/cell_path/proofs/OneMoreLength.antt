@@ -13,7 +13,8 @@ use Rattle.cell_path.specs.declared.start.Start.{Start}
 use Rattle.cell_path.specs.declared.starts.Starts.{Starts}
 use Rattle.cell_path.specs.Kept.{limit, number_at, AreWithin, RowsState, SumsState}
 use Rattle.cell_path.specs.Number.{IsBeginning, IsBestEnd, IsEnd}
-use Rattle.cell_path.specs.StandsFor.{bit_at, way_at, AreEnds, AreStarts, AreWithinTo, NumbersEnd, RowsStandFor, SumsStandFor}
+use Rattle.cell_path.specs.StandsFor.{bit_at, way_at, AreEnds, AreStarts, AreWithinTo, NumbersEnd, RowsStandFor}
+use Rattle.cell_path.specs.StandsFor.{SumsStandFor}
 use Rattle.cell_path.specs.Within.{IsWithin}
 
 -- a fact of the first n lengths and signs, of each one more

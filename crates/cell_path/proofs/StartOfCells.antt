@@ -1,5 +1,6 @@
 -- Of the best so far and the best in one more way the better is the best of both.
-use Rattle.std.proofs.Common.{◌≡◌, ℕ, ◌+◌, ◌*◌, ◌≤◌, ◌^◌, ℤ, pos, ◌-ℤ◌, ◌≤ℤ◌, ◌<ℤ◌, ◌⊎◌, inl, inr, List, subst, sym, mul-le-mul, arith}
+use Rattle.std.proofs.Common.{◌≡◌, ℕ, ◌+◌, ◌*◌, ◌≤◌, ◌^◌, ℤ, pos, ◌-ℤ◌, ◌≤ℤ◌, ◌<ℤ◌, ◌⊎◌, inl, inr, List, subst, sym}
+use Rattle.std.proofs.Common.{mul-le-mul, arith}
 use Rattle.std.proofs.lemmas.Int.{ints}
 use Rattle.cell_path.specs.declared.cell.Sign.{Sign}
 use Rattle.cell_path.specs.declared.cell.Step.{Step}
