@@ -42,7 +42,8 @@ same_score lengths step steps ago place way before =
 
 -- a beginning is a step further back, and nothing else changes
 pub older : (lengths : List ℕ) (step : Step) (steps : List Step) (ago place : ℕ) (sign : Sign) (number : ℤ) (way : Way)
-    → IsBeginning lengths steps ago place sign number way → IsBeginning lengths (step ∷ steps) (ago + 1) place sign number way
+    → IsBeginning lengths steps ago place sign number way
+    → IsBeginning lengths (step ∷ steps) (ago + 1) place sign number way
 older lengths step steps ago place sign number way is = record {
   before = is.before;
   begins = record {
@@ -67,7 +68,8 @@ end_of number bit = record { number = number; bit = bit }
 -- the better of two bits, each behind the best that can stand before it
 pub better_ends : (step : Step) (before : List Step) (ago place : ℕ) (sign : Sign) (low high x y : ℤ) (result : End)
     → length_in LENGTHS place ≡ ago + 1 → place < 45
-    → HasBeginning LENGTHS before ago place (sign_before Zero sign) low → HasBeginning LENGTHS before ago place (sign_before One sign) high
+    → HasBeginning LENGTHS before ago place (sign_before Zero sign) low
+    → HasBeginning LENGTHS before ago place (sign_before One sign) high
     → x ≡ signed sign (sound_in Zero (length_in LENGTHS place) (step ∷ before)) +ℤ low
     → y ≡ signed sign (sound_in One (length_in LENGTHS place) (step ∷ before)) +ℤ high
     → (y ≤ℤ x → result ≡ end_of x Zero) → (x <ℤ y → result ≡ end_of y One)

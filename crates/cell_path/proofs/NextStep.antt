@@ -69,7 +69,8 @@ only_jump Shorter place sign is = is
 only_jump Longer place sign is = is
 only_jump Jump place sign is = is
 
-empty_wins : (ago place : ℕ) (sign : Sign) (number : ℤ) (other : Way) (others : List Cell) → number ≡ score_before LENGTHS [] ago place Jump []
+empty_wins : (ago place : ℕ) (sign : Sign) (number : ℤ) (other : Way) (others : List Cell)
+    → number ≡ score_before LENGTHS [] ago place Jump []
     → Follows other place sign others → IsPath LENGTHS (drop ago []) others
     → WinsBy number 3 [] (score_before LENGTHS [] ago place other others) (rank_of_way other) others
 empty_wins ago place sign number other [] is follows path =

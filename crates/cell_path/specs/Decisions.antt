@@ -13,8 +13,8 @@ pub record DecisionsState : Type 0 where
   pub waiting : List Placed
   pub last : Option Placed
 
--- after the latest decision nothing is left open that is older than 919 steps: the latest cell that was old enough ended
--- 895 steps before it or later, and what was decided ends there, or a quarter of a cell before
+-- after the latest decision nothing is left open that is older than 919 steps: the latest cell that was old enough
+-- ended 895 steps before it or later, and what was decided ends there, or a quarter of a cell before
 pub record AreDecisions (state : DecisionsState) : Type 0 where
   pub count_is : state.count ≡ state.paths.scores.sums.count
   pub behind : state.done ≤ state.count
