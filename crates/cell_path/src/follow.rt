@@ -41,7 +41,7 @@ pub(crate) fn decided_now(paths: &Paths, best: Best, count: u64, done: u64) -> W
     let mut waiting = Waiting::new();
     let mut at = Some(Point {
         ago: 0,
-        place: best.place,
+        place: usize::from(best.place),
         sign: best.sign,
     });
     'cells: while let Some(point) = at {

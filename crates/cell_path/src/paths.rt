@@ -60,7 +60,7 @@ fn marks_of(heard: &Heard) -> StepMarks
     }
     StepMarks {
         marks,
-        best_place: heard.best.place as u8,
+        best_place: heard.best.place,
         best_sign: heard.best.sign,
     }
 }
