@@ -7,7 +7,7 @@ ghost use Rattle.cell_path.specs.Decisions.{placed_of, DecisionsStandFor, Gives}
 ghost use Rattle.cell_path.specs.Scores.{IsStep};
 
 use crate::cell::Step;
-use crate::follow::{EVERY, FIRST, decided_now};
+use crate::follow::{EVERY, FIRST, decide};
 use crate::paths::Paths;
 use crate::placed::{Decided, Placed, jumps};
 use crate::waiting::Waiting;
@@ -73,8 +73,13 @@ impl Decisions {
         let best = self.paths.feed(step);
         self.count += 1;
         if FIRST <= self.count && self.count % EVERY == 0 {
-            self.waiting = decided_now(&self.paths, best, self.count, self.done);
-            self.done = self.waiting.end_behind(self.done);
+            decide(
+                &self.paths,
+                best,
+                self.count,
+                &mut self.done,
+                &mut self.waiting,
+            );
         }
     }
 

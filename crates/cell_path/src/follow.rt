@@ -60,3 +60,25 @@ pub(crate) fn decided_now(paths: &Paths, best: Best, count: u64, done: u64) -> W
     }
     waiting
 }
+
+/// Takes the decision that falls due, when all that was decided before has been given.
+// Out of line, since the room for a list is cleared on entry, which a step does not have to pay.
+#[cold]
+#[inline(never)]
+pub(crate) fn decide(paths: &Paths, best: Best, count: u64, done: &mut u64, waiting: &mut Waiting)
+    requires count { count ≡ paths.now.scores.sums.count }
+    requires first { 2_048 ≤ count }
+    requires room { count ≤ 2 ^ 40 }
+    requires behind { done.old ≤ count }
+    requires near { count ≤ done.old + 2_048 }
+    requires place { best.place < 45 }
+    ensures decided { (steps : List Step) (path : List Cell) → PathsStandFor paths.now steps
+        → IsBestOfAll LENGTHS steps path → EndsIn best.place best.sign path
+        → waiting.new ≡ newly count done.old path }
+    ensures done { done.new ≡ end_behind done.old waiting.new }
+    ensures near { count ≤ done.new + 919 }
+    ensures behind { done.new ≤ count }
+{
+    *waiting = decided_now(paths, best, count, *done);
+    *done = waiting.end_behind(*done);
+}

@@ -24,10 +24,10 @@ returns-then-self-eq0-clause-stands c = λ steps given stand_now.
     record {
       paths = paths;
       count = long;
-      decided = due_adds c.args.step steps given c.decided_now-self-inside.result (inside.count + 1) inside.done
+      decided = due_adds c.args.step steps given c.decide.new.waiting (inside.count + 1) inside.done
           c.feed-best.result.place c.feed-best.result.sign c.feed-best.result.number decided long done
           c.if-self-ge-FIRST.true c.if-self-eq0.true (c.feed-best.ensures.best steps stand.paths)
-          (λ path best ends. c.decided_now-self-inside.ensures.decided (c.args.step ∷ steps) path paths best ends);
-      done = c.end_behind-self-inside.ensures ∙ end_of_all inside.done c.decided_now-self-inside.result given done;
+          (λ path best ends. c.decide.ensures.decided (c.args.step ∷ steps) path paths best ends);
+      done = c.decide.ensures.done ∙ end_of_all inside.done c.decide.new.waiting given done;
       last = stand.last;
     }
