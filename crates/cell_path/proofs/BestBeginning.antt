@@ -1,6 +1,8 @@
--- The best beginning is the first of the best in each way, tried one after another: behind the best path that ends as long,
+-- The best beginning is the first of the best in each way, tried one after another: behind the best path that ends
+-- as long,
 -- shorter, longer, or behind the best of all in a jump.
-use Rattle.std.proofs.Common.{◌≡◌, ℕ, ◌+◌, ◌-◌, ◌*◌, ◌<◌, ℤ, pos, ◌-ℤ◌, ◌<ℤ◌, ◌≤ℤ◌, ◌⊎◌, inl, inr, List, [], ◌∷◌, length, refl, ap, subst, sym, ◌∙◌, arith}
+use Rattle.std.proofs.Common.{◌≡◌, ℕ, ◌+◌, ◌-◌, ◌*◌, ◌<◌, ℤ, pos, ◌-ℤ◌, ◌<ℤ◌, ◌≤ℤ◌, ◌⊎◌, inl, inr, List, [], ◌∷◌}
+use Rattle.std.proofs.Common.{length, refl, ap, subst, sym, ◌∙◌, arith}
 use Rattle.std.proofs.lemmas.Int.{ints}
 use Rattle.cell_path.specs.declared.cell.Bit.{Bit}
 use Rattle.cell_path.specs.declared.cell.Cell.{Cell}
@@ -42,21 +44,25 @@ with_rank s rank p t q (inr same) = inr (same.0, inr (omega arith, same.1))
 of_way : (lengths : List ℕ) (steps : List Step) (place : ℕ) (sign : Sign) (way : Way) (number : ℤ)
     (best : IsBestOfWay lengths steps place sign way number) (other : Way) (others : List Cell) → way ≡ other
     → Begins lengths steps 0 place sign other others
-    → WinsBy number (rank_of_way way) best.before (score_before lengths steps 0 place other others) (rank_of_way other) others
+    → WinsBy number (rank_of_way way) best.before (score_before lengths steps 0 place other others)
+    (rank_of_way other) others
 of_way lengths steps place sign way number best other others is begins =
     let P : Way → Type 0 = λ w. Begins lengths steps 0 place sign w others
-    → WinsBy number (rank_of_way way) best.before (score_before lengths steps 0 place w others) (rank_of_way w) others in
+    → WinsBy number (rank_of_way way) best.before (score_before lengths steps 0 place w others)
+    (rank_of_way w) others in
     let here : P way = λ b. with_rank number (rank_of_way way) best.before (score_before lengths steps 0 place way others) others (best.wins others b) in
     subst P is here begins
 
-low_or_here : (way other : Way) → rank_of_way other < rank_of_way way + 1 → (rank_of_way other < rank_of_way way) ⊎ (way ≡ other)
+low_or_here : (way other : Way) → rank_of_way other < rank_of_way way + 1
+    → (rank_of_way other < rank_of_way way) ⊎ (way ≡ other)
 low_or_here way other low =
     let cases : (rank_of_way other < rank_of_way way) ⊎ (rank_of_way way ≡ rank_of_way other) = grind arith in
     elim cases [ inl less ↦ inl less | inr same ↦ inr (same_way way other same) ]
 
 -- with one more way: what was best stays, where it is not below the new one
 pub way_stays : (lengths : List ℕ) (steps : List Step) (place : ℕ) (sign : Sign) (number : ℤ) (way more : Way) (new : ℤ)
-    → IsBestBefore lengths steps (rank_of_way more) place sign number way → IsBestOfWay lengths steps place sign more new → new ≤ℤ number
+    → IsBestBefore lengths steps (rank_of_way more) place sign number way
+    → IsBestOfWay lengths steps place sign more new → new ≤ℤ number
     → IsBestBefore lengths steps (rank_of_way more + 1) place sign number way
 way_stays lengths steps place sign number way more new best comes above =
     let over : WinsBy number (rank_of_way way) best.before new (rank_of_way more) comes.before =
@@ -76,7 +82,8 @@ way_stays lengths steps place sign number way more new best comes above =
 
 -- and else the new one is the best
 pub way_comes : (lengths : List ℕ) (steps : List Step) (place : ℕ) (sign : Sign) (number : ℤ) (way more : Way) (new : ℤ)
-    → IsBestBefore lengths steps (rank_of_way more) place sign number way → IsBestOfWay lengths steps place sign more new → number <ℤ new
+    → IsBestBefore lengths steps (rank_of_way more) place sign number way
+    → IsBestOfWay lengths steps place sign more new → number <ℤ new
     → IsBestBefore lengths steps (rank_of_way more + 1) place sign new more
 way_comes lengths steps place sign number way more new best comes above =
     let over : WinsBy new (rank_of_way more) comes.before number (rank_of_way way) best.before = inl above in
@@ -111,7 +118,8 @@ way_fails lengths steps place sign number way more best fails = record {
 -- ---- the best in each way
 
 -- what a beginning behind cells that end in a place costs
-costs : (lengths : List ℕ) (steps : List Step) (place : ℕ) (way : Way) (from : ℕ) (sign : Sign) (path : List Cell) → EndsIn from sign path
+costs : (lengths : List ℕ) (steps : List Step) (place : ℕ) (way : Way) (from : ℕ) (sign : Sign) (path : List Cell)
+    → EndsIn from sign path
     → cost lengths steps 0 place way path ≡ pos (times_for lengths way place from * level_at steps)
 costs lengths steps place way from sign [] ends = absurd ends
 costs lengths steps place way from sign (cell ∷ path) ends = ap (λ n. pos (times_for lengths way place n * level_at steps)) ends.0
@@ -142,11 +150,13 @@ behind_same : (place : ℕ) (sign : Sign) (path : List Cell) → EndsIn place si
 behind_same place sign [] ends = absurd ends
 behind_same place sign (cell ∷ path) ends = ends
 
-behind_shorter : (place from : ℕ) (sign : Sign) (path : List Cell) → from + 1 ≡ place → EndsIn from sign path → Follows Shorter place sign path
+behind_shorter : (place from : ℕ) (sign : Sign) (path : List Cell) → from + 1 ≡ place → EndsIn from sign path
+    → Follows Shorter place sign path
 behind_shorter place from sign [] next ends = absurd ends
 behind_shorter place from sign (cell ∷ path) next ends = (omega (arith, ends.0), ends.1)
 
-behind_longer : (place from : ℕ) (sign : Sign) (path : List Cell) → from ≡ place + 1 → EndsIn from sign path → Follows Longer place sign path
+behind_longer : (place from : ℕ) (sign : Sign) (path : List Cell) → from ≡ place + 1 → EndsIn from sign path
+    → Follows Longer place sign path
 behind_longer place from sign [] next ends = absurd ends
 behind_longer place from sign (cell ∷ path) next ends = (omega (arith, ends.0), ends.1)
 
@@ -159,12 +169,14 @@ same_behind : (lengths : List ℕ) (steps : List Step) (place : ℕ) (sign : Sig
 same_behind lengths steps place sign [] some is follows = absurd (omega arith)
 same_behind lengths steps place sign (cell ∷ path) some is follows = follows
 
-shorter_behind : (lengths : List ℕ) (steps : List Step) (place from : ℕ) (sign : Sign) (path : List Cell) → from + 1 ≡ place → 0 < length steps
+shorter_behind : (lengths : List ℕ) (steps : List Step) (place from : ℕ) (sign : Sign) (path : List Cell)
+    → from + 1 ≡ place → 0 < length steps
     → IsPath lengths steps path → Follows Shorter place sign path → EndsIn from sign path
 shorter_behind lengths steps place from sign [] next some is follows = absurd (omega arith)
 shorter_behind lengths steps place from sign (cell ∷ path) next some is follows = (omega (arith, follows.0), follows.1)
 
-longer_behind : (lengths : List ℕ) (steps : List Step) (place from : ℕ) (sign : Sign) (path : List Cell) → from ≡ place + 1 → 0 < length steps
+longer_behind : (lengths : List ℕ) (steps : List Step) (place from : ℕ) (sign : Sign) (path : List Cell)
+    → from ≡ place + 1 → 0 < length steps
     → IsPath lengths steps path → Follows Longer place sign path → EndsIn from sign path
 longer_behind lengths steps place from sign [] next some is follows = absurd (omega arith)
 longer_behind lengths steps place from sign (cell ∷ path) next some is follows = (omega (arith, follows.0), follows.1)
@@ -190,21 +202,24 @@ same_best lengths steps place sign e bit some end =
           ]);
     }
 
-pub shorter_best : (lengths : List ℕ) (steps : List Step) (place from : ℕ) (sign : Sign) (e : ℤ) (bit : Bit) → from + 1 ≡ place → 0 < length steps
+pub shorter_best : (lengths : List ℕ) (steps : List Step) (place from : ℕ) (sign : Sign) (e : ℤ) (bit : Bit)
+    → from + 1 ≡ place → 0 < length steps
     → IsEnd lengths steps from sign e bit
     → IsBestOfWay lengths steps place sign Shorter (e -ℤ pos ((length_in lengths place - length_in lengths from) * level_at steps))
 shorter_best lengths steps place from sign e bit next some end =
     behind_end lengths steps place from sign Shorter e bit end (behind_shorter place from sign end.path next end.is_best.ends)
     (λ others begins. shorter_behind lengths steps place from sign others next some begins.is_path begins.follows)
 
-pub longer_best : (lengths : List ℕ) (steps : List Step) (place from : ℕ) (sign : Sign) (e : ℤ) (bit : Bit) → from ≡ place + 1 → 0 < length steps
+pub longer_best : (lengths : List ℕ) (steps : List Step) (place from : ℕ) (sign : Sign) (e : ℤ) (bit : Bit)
+    → from ≡ place + 1 → 0 < length steps
     → IsEnd lengths steps from sign e bit
     → IsBestOfWay lengths steps place sign Longer (e -ℤ pos ((length_in lengths from - length_in lengths place) * level_at steps))
 longer_best lengths steps place from sign e bit next some end =
     behind_end lengths steps place from sign Longer e bit end (behind_longer place from sign end.path next end.is_best.ends)
     (λ others begins. longer_behind lengths steps place from sign others next some begins.is_path begins.follows)
 
-jump_costs : (lengths : List ℕ) (steps : List Step) (place : ℕ) (path : List Cell) → 0 < length steps → IsPath lengths steps path
+jump_costs : (lengths : List ℕ) (steps : List Step) (place : ℕ) (path : List Cell) → 0 < length steps
+    → IsPath lengths steps path
     → cost lengths steps 0 place Jump path ≡ pos (JUMP * length_in lengths place * level_at steps)
 jump_costs lengths steps place [] some is = absurd (omega arith)
 jump_costs lengths steps place (cell ∷ path) some is = refl
@@ -234,11 +249,13 @@ pub none_shorter : (lengths : List ℕ) (steps : List Step) (sign : Sign) → 0 
 none_shorter lengths steps sign some [] begins = let is = begins.is_path in omega arith
 none_shorter lengths steps sign some (cell ∷ others) begins = let is = begins.follows in omega (arith, is.0)
 
-in_list : (lengths : List ℕ) (steps : List Step) (cell : Cell) (path : List Cell) → IsPath lengths steps (cell ∷ path) → cell.place < length lengths
+in_list : (lengths : List ℕ) (steps : List Step) (cell : Cell) (path : List Cell) → IsPath lengths steps (cell ∷ path)
+    → cell.place < length lengths
 in_list lengths steps cell path is = is.1
 
 -- and the longest no longer one
-pub none_longer : (lengths : List ℕ) (steps : List Step) (place : ℕ) (sign : Sign) → 0 < length steps → place + 1 ≡ length lengths
+pub none_longer : (lengths : List ℕ) (steps : List Step) (place : ℕ) (sign : Sign) → 0 < length steps
+    → place + 1 ≡ length lengths
     → (others : List Cell) → Begins lengths steps 0 place sign Longer others → ⊥
 none_longer lengths steps place sign some last [] begins = let is = begins.is_path in omega arith
 none_longer lengths steps place sign some last (cell ∷ others) begins =

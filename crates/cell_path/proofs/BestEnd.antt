@@ -1,5 +1,6 @@
 -- The better of two best paths, one of each bit, is the best that ends so: each other ends in one of the two bits.
-use Rattle.std.proofs.Common.{◌≡◌, ℕ, ◌+◌, ◌*◌, ◌<◌, ℤ, ◌+ℤ◌, ◌<ℤ◌, ◌≤ℤ◌, inl, inr, List, [], ◌∷◌, length, refl, ap, subst, sym, ◌∙◌, arith}
+use Rattle.std.proofs.Common.{◌≡◌, ℕ, ◌+◌, ◌*◌, ◌<◌, ℤ, ◌+ℤ◌, ◌<ℤ◌, ◌≤ℤ◌, inl, inr, List, [], ◌∷◌, length, refl, ap}
+use Rattle.std.proofs.Common.{subst, sym, ◌∙◌, arith}
 use Rattle.cell_path.specs.declared.cell.Bit.{Bit}
 use Rattle.cell_path.specs.declared.cell.Bit.TheVariants.{Zero, One}
 use Rattle.cell_path.specs.declared.cell.Cell.{Cell}
@@ -31,11 +32,13 @@ sound_of lengths steps place bit sign = signed sign (sound_in bit (length_in len
 beats_bit : (lengths : List ℕ) (steps : List Step) (place : ℕ) (bit : Bit) (sign : Sign) (number : ℤ) (way : Way)
     (b : IsBeginning lengths steps (length_in lengths place) place (sign_before bit sign) number way)
     (other : List Cell) → IsPath lengths steps other → EndsIn place sign other → HasBit bit other
-    → Wins (sound_of lengths steps place bit sign +ℤ number) (cell_of place bit sign way ∷ b.before) (score lengths steps other) other
+    → Wins (sound_of lengths steps place bit sign +ℤ number) (cell_of place bit sign way ∷ b.before)
+    (score lengths steps other) other
 beats_bit lengths steps place bit sign number way b [] is ends has = absurd ends
 beats_bit lengths steps place bit sign number way b (cell ∷ others) is ends has =
     let P : Cell → Type 0 = λ c. IsPath lengths steps (c ∷ others)
-    → Wins (sound_of lengths steps place bit sign +ℤ number) (cell_of place bit sign way ∷ b.before) (score lengths steps (c ∷ others)) (c ∷ others) in
+    → Wins (sound_of lengths steps place bit sign +ℤ number) (cell_of place bit sign way ∷ b.before)
+    (score lengths steps (c ∷ others)) (c ∷ others) in
     let here : P (cell_of place bit sign cell.way) = λ path.
     wins_by-more (sound_of lengths steps place bit sign) number (16 * place + 8 * rank_of_sign sign + 4 * rank_of_bit bit)
     (rank_of_way way) b.before (score_before lengths steps (length_in lengths place) place cell.way others)
@@ -61,7 +64,8 @@ way_is_low Longer = omega arith
 way_is_low Jump = omega arith
 
 -- the winner of the two bits wins over each path that ends so
-either_wins : (lengths : List ℕ) (steps : List Step) (place : ℕ) (sign : Sign) (low high : ℤ) (way other_way : Way) (s : ℤ) (path : List Cell)
+either_wins : (lengths : List ℕ) (steps : List Step) (place : ℕ) (sign : Sign) (low high : ℤ) (way other_way : Way)
+    (s : ℤ) (path : List Cell)
     (zero : IsBeginning lengths steps (length_in lengths place) place (sign_before Zero sign) low way)
     (one : IsBeginning lengths steps (length_in lengths place) place (sign_before One sign) high other_way)
     → Wins s path (sound_of lengths steps place Zero sign +ℤ low) (cell_of place Zero sign way ∷ zero.before)

@@ -1,5 +1,6 @@
 -- The best of all paths is the first of the best that end in each length and sign, tried one after another.
-use Rattle.std.proofs.Common.{◌≡◌, ℕ, ◌+◌, ◌*◌, ◌<◌, ℤ, ◌<ℤ◌, ◌≤ℤ◌, ◌⊎◌, inl, inr, List, [], ◌∷◌, length, refl, ap, subst, sym, arith}
+use Rattle.std.proofs.Common.{◌≡◌, ℕ, ◌+◌, ◌*◌, ◌<◌, ℤ, ◌<ℤ◌, ◌≤ℤ◌, ◌⊎◌, inl, inr, List, [], ◌∷◌, length, refl, ap}
+use Rattle.std.proofs.Common.{subst, sym, arith}
 use Rattle.std.proofs.lemmas.Int.{ints}
 use Rattle.cell_path.specs.declared.cell.Bit.{Bit}
 use Rattle.cell_path.specs.declared.cell.Bit.TheVariants.{Zero, One}
@@ -57,8 +58,10 @@ ends_in_number place sign (cell ∷ before) below =
     ]
 
 -- of paths that end in different numbers the lower stands first
-lower_wins : (place : ℕ) (sign : Sign) (path : List Cell) (s : ℤ) (other_place : ℕ) (other_sign : Sign) (other : List Cell) (t : ℤ)
-    → EndsIn place sign path → EndsIn other_place other_sign other → end_number place sign < end_number other_place other_sign → t ≤ℤ s
+lower_wins : (place : ℕ) (sign : Sign) (path : List Cell) (s : ℤ) (other_place : ℕ) (other_sign : Sign)
+    (other : List Cell) (t : ℤ)
+    → EndsIn place sign path → EndsIn other_place other_sign other
+    → end_number place sign < end_number other_place other_sign → t ≤ℤ s
     → Wins s path t other
 lower_wins place sign [] s other_place other_sign other t ends other_ends first above = absurd ends
 lower_wins place sign (cell ∷ path) s other_place other_sign [] t ends other_ends first above = absurd other_ends
@@ -69,8 +72,10 @@ lower_wins place sign (cell ∷ path) s other_place other_sign (d ∷ other) t e
     wins_by-rank s (rank cell) path t (rank d) other above (omega (arith, ends.0, other_ends.0))
 
 -- with one more end: what was best stays, where it is not below the new end
-pub best_stays : (lengths : List ℕ) (steps : List Step) (place : ℕ) (sign : Sign) (number : ℤ) (more : ℕ) (end : Sign) (new : ℤ) (bit : Bit)
-    → IsBestBelow lengths steps (end_number more end) place sign number → IsEnd lengths steps more end new bit → new ≤ℤ number
+pub best_stays : (lengths : List ℕ) (steps : List Step) (place : ℕ) (sign : Sign) (number : ℤ) (more : ℕ)
+    (end : Sign) (new : ℤ) (bit : Bit)
+    → IsBestBelow lengths steps (end_number more end) place sign number → IsEnd lengths steps more end new bit
+    → new ≤ℤ number
     → IsBestBelow lengths steps (end_number more end + 1) place sign number
 best_stays lengths steps place sign number more end new bit best comes above =
     let s = score lengths steps best.path in
@@ -90,8 +95,10 @@ best_stays lengths steps place sign number more end new bit best comes above =
     }
 
 -- and else the new one is the best
-pub best_comes : (lengths : List ℕ) (steps : List Step) (place : ℕ) (sign : Sign) (number : ℤ) (more : ℕ) (end : Sign) (new : ℤ) (bit : Bit)
-    → IsBestBelow lengths steps (end_number more end) place sign number → IsEnd lengths steps more end new bit → number <ℤ new
+pub best_comes : (lengths : List ℕ) (steps : List Step) (place : ℕ) (sign : Sign) (number : ℤ) (more : ℕ)
+    (end : Sign) (new : ℤ) (bit : Bit)
+    → IsBestBelow lengths steps (end_number more end) place sign number → IsEnd lengths steps more end new bit
+    → number <ℤ new
     → IsBestBelow lengths steps (end_number more end + 1) more end new
 best_comes lengths steps place sign number more end new bit best comes above =
     let s = score lengths steps best.path in
@@ -117,7 +124,8 @@ below_first : (path : List Cell) → EndsBelow 1 path → EndsIn 0 Plus path
 below_first path ends = elim (ends_in_number 0 Plus path ends) [ inl none ↦ absurd (none_below path none) | inr here ↦ here ]
 
 -- the first end alone
-pub first_is_best : (lengths : List ℕ) (steps : List Step) (number : ℤ) (bit : Bit) → IsEnd lengths steps 0 Plus number bit
+pub first_is_best : (lengths : List ℕ) (steps : List Step) (number : ℤ) (bit : Bit)
+    → IsEnd lengths steps 0 Plus number bit
     → IsBestBelow lengths steps 1 0 Plus number
 first_is_best lengths steps number bit e = record {
   path = e.path;
@@ -156,7 +164,8 @@ abbrev pub best_at : ℤ → ℕ → Sign → Best
 best_at number place sign = record { number = number; place = place; sign = sign }
 
 -- the better of the best so far and one more end
-pub or_end : (ends : Numbers) (steps : List Step) (so_far : Best) (place : ℕ) (sign : Sign) (new : ℤ) (result : Best) → place < 45
+pub or_end : (ends : Numbers) (steps : List Step) (so_far : Best) (place : ℕ) (sign : Sign) (new : ℤ) (result : Best)
+    → place < 45
     → new ≡ number_at ends place sign
     → (new ≤ℤ so_far.number → result ≡ so_far) → (so_far.number <ℤ new → result ≡ best_at new place sign)
     → NumbersEnd ends steps → IsBestBelow LENGTHS steps (end_number place sign) so_far.place so_far.sign so_far.number
@@ -172,11 +181,13 @@ or_end ends steps so_far place sign new result within new_is stays comes ends_ar
 
 -- so many ends are tried, by another way to count them
 pub counted : (ends : Numbers) (steps : List Step) (m n : ℕ) (best : Best) → m ≡ n
-    → IsBestBelow LENGTHS steps m best.place best.sign best.number → IsBestBelow LENGTHS steps n best.place best.sign best.number
+    → IsBestBelow LENGTHS steps m best.place best.sign best.number
+    → IsBestBelow LENGTHS steps n best.place best.sign best.number
 counted ends steps m n best same is = subst (λ k. IsBestBelow LENGTHS steps k best.place best.sign best.number) same is
 
 -- the first end alone
-pub first_best : (ends : Numbers) (steps : List Step) (number : ℤ) → number ≡ number_at ends 0 Plus → NumbersEnd ends steps
+pub first_best : (ends : Numbers) (steps : List Step) (number : ℤ) → number ≡ number_at ends 0 Plus
+    → NumbersEnd ends steps
     → IsBestBelow LENGTHS steps 1 0 Plus number
 first_best ends steps number is ends_are =
     let end = ends_are 0 Plus (omega arith) in

@@ -1,5 +1,6 @@
 -- A cell that began before the latest step is a step longer now, and the better of its two bits ends best.
-use Rattle.std.proofs.Common.{◌≡◌, ℕ, suc, ◌+◌, ◌*◌, ◌<◌, ◌==◌, Bool, cond, ℤ, pos, ◌+ℤ◌, ◌-ℤ◌, ◌≤ℤ◌, ◌<ℤ◌, ◌⊎◌, inl, inr, List, [], ◌∷◌, length, drop, ap, ap₂, subst, sym, ◌∙◌, arith}
+use Rattle.std.proofs.Common.{◌≡◌, ℕ, suc, ◌+◌, ◌*◌, ◌<◌, ◌==◌, Bool, cond, ℤ, pos, ◌+ℤ◌, ◌-ℤ◌, ◌≤ℤ◌, ◌<ℤ◌, ◌⊎◌, inl}
+use Rattle.std.proofs.Common.{inr, List, [], ◌∷◌, length, drop, ap, ap₂, subst, sym, ◌∙◌, arith}
 use Rattle.std.proofs.lemmas.Int.{ints}
 use Rattle.std.proofs.lemmas.Bool.Decides.{nat_tests}
 use Rattle.cell_path.specs.declared.cell.Bit.{Bit}
@@ -41,7 +42,8 @@ same_score lengths step steps ago place way before =
 
 -- a beginning is a step further back, and nothing else changes
 pub older : (lengths : List ℕ) (step : Step) (steps : List Step) (ago place : ℕ) (sign : Sign) (number : ℤ) (way : Way)
-    → IsBeginning lengths steps ago place sign number way → IsBeginning lengths (step ∷ steps) (ago + 1) place sign number way
+    → IsBeginning lengths steps ago place sign number way
+    → IsBeginning lengths (step ∷ steps) (ago + 1) place sign number way
 older lengths step steps ago place sign number way is = record {
   before = is.before;
   begins = record {
@@ -66,7 +68,8 @@ end_of number bit = record { number = number; bit = bit }
 -- the better of two bits, each behind the best that can stand before it
 pub better_ends : (step : Step) (before : List Step) (ago place : ℕ) (sign : Sign) (low high x y : ℤ) (result : End)
     → length_in LENGTHS place ≡ ago + 1 → place < 45
-    → HasBeginning LENGTHS before ago place (sign_before Zero sign) low → HasBeginning LENGTHS before ago place (sign_before One sign) high
+    → HasBeginning LENGTHS before ago place (sign_before Zero sign) low
+    → HasBeginning LENGTHS before ago place (sign_before One sign) high
     → x ≡ signed sign (sound_in Zero (length_in LENGTHS place) (step ∷ before)) +ℤ low
     → y ≡ signed sign (sound_in One (length_in LENGTHS place) (step ∷ before)) +ℤ high
     → (y ≤ℤ x → result ≡ end_of x Zero) → (x <ℤ y → result ≡ end_of y One)

@@ -1,5 +1,6 @@
--- A score by hand: four steps of the sound 5, 5, -3, -3, with the mean size 1, in cells of two steps. All paths have two cells.
-use Rattle.std.proofs.Common.{◌≡◌, ℕ, ℤ, pos, negsuc, List, [], ◌∷◌, map, refl}
+-- A score by hand: four steps of the sound 5, 5, -3, -3, with the mean size 1, in cells of two steps. All paths have
+-- two cells.
+use Rattle.std.proofs.Common.{◌≡◌, ℕ, ℤ, pos, negsuc, List, [], ◌∷◌, map, true, false, refl}
 use Rattle.cell_path.specs.declared.cell.Bit.{Bit}
 use Rattle.cell_path.specs.declared.cell.Bit.TheVariants.{Zero, One}
 use Rattle.cell_path.specs.declared.cell.Cell.{Cell}
@@ -8,6 +9,8 @@ use Rattle.cell_path.specs.declared.cell.Sign.TheVariants.{Plus, Minus}
 use Rattle.cell_path.specs.declared.cell.Step.{Step}
 use Rattle.cell_path.specs.declared.cell.Way.{Way}
 use Rattle.cell_path.specs.declared.cell.Way.TheVariants.{Same, Jump}
+use Rattle.cell_path.specs.declared.placed.Placed.{Placed}
+use Rattle.cell_path.specs.Decided.{in_time, joined}
 use Rattle.cell_path.specs.Path.{score, total}
 
 abbrev step : ℤ → Step
@@ -60,3 +63,18 @@ scores_by_hand : map (score (2 ∷ []) steps) all_paths ≡
     ∷ negsuc 9 ∷ pos 0 ∷ pos 4 ∷ negsuc 15 ∷ negsuc 5 ∷ negsuc 5 ∷ []
 unfolding total
 scores_by_hand = refl
+
+-- ---- jumps by hand, in cells of 20 steps, which stand in place 16: a quarter of them is 5 steps
+
+abbrev zero_at : ℕ → Sign → Way → Placed
+zero_at end sign way = record { end = end; cell = record { place = 16; bit = Zero; sign = sign; way = way } }
+
+-- the first cell jumps; one that begins where it ended, or 5 steps earlier or later, does not, and 6 steps are too
+-- many; nor may a zero have the sign of the zero before it, or stand behind a jump of its path
+jumps_by_hand : map (λ cell. cell.jumps)
+    (in_time (zero_at 180 Minus Same ∷ zero_at 160 Plus Jump ∷ zero_at 140 Minus Same ∷ zero_at 120 Minus Same
+    ∷ zero_at 106 Plus Same ∷ zero_at 80 Minus Same ∷ zero_at 65 Plus Same ∷ zero_at 40 Minus Same
+    ∷ zero_at 20 Plus Jump ∷ []))
+    ≡ true ∷ false ∷ false ∷ false ∷ true ∷ true ∷ true ∷ true ∷ false ∷ []
+unfolding joined
+jumps_by_hand = refl

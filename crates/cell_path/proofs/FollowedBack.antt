@@ -1,5 +1,7 @@
--- The marks of a step lead back along its best path: its latest bit, the way its latest cell began, and where the path before it ends.
-use Rattle.std.proofs.Common.{◌≡◌, ℕ, ◌+◌, ◌*◌, ◌<◌, ℤ, ◌+ℤ◌, ◌-ℤ◌, ◌⊎◌, inl, inr, List, [], ◌∷◌, length, drop, refl, ap, subst, sym, ◌∙◌, arith}
+-- The marks of a step lead back along its best path: its latest bit, the way its latest cell began, and where the
+-- path before it ends.
+use Rattle.std.proofs.Common.{◌≡◌, ℕ, ◌+◌, ◌*◌, ◌<◌, ℤ, ◌+ℤ◌, ◌-ℤ◌, ◌⊎◌, inl, inr, List, [], ◌∷◌, length, drop, refl}
+use Rattle.std.proofs.Common.{ap, subst, sym, ◌∙◌, arith}
 use Rattle.std.proofs.lemmas.Int.{ints}
 use Rattle.cell_path.specs.declared.cell.Bit.{Bit}
 use Rattle.cell_path.specs.declared.cell.Cell.{Cell}
@@ -18,7 +20,8 @@ use Rattle.cell_path.proofs.OneBest.{one_best, same_path, same_winner}
 -- ---- the bit
 
 -- the latest bit of a best path is that of the best end
-pub bit_of_best : (lengths : List ℕ) (steps : List Step) (place : ℕ) (sign : Sign) (number : ℤ) (bit : Bit) (path : List Cell)
+pub bit_of_best : (lengths : List ℕ) (steps : List Step) (place : ℕ) (sign : Sign) (number : ℤ) (bit : Bit)
+    (path : List Cell)
     → IsEnd lengths steps place sign number bit → IsBest lengths steps place sign path → HasBit bit path
 bit_of_best lengths steps place sign number bit path end best =
     subst (HasBit bit) (one_best lengths steps place sign end.path path end.is_best best) end.bit_is
@@ -46,14 +49,16 @@ wins_by-less x s base m p t n q (inr same) =
     inr (omega (arith, ints, same.0), elim same.1 [ inl first ↦ inl (omega arith) | inr like ↦ inr (omega (arith, like.0), like.1) ])
 
 -- behind steps, a beginning at the latest of them is one at the end of what is dropped
-dropped_score : (lengths : List ℕ) (steps : List Step) (ago place : ℕ) (way : Way) (before : List Cell) → 0 < length (drop ago steps)
+dropped_score : (lengths : List ℕ) (steps : List Step) (ago place : ℕ) (way : Way) (before : List Cell)
+    → 0 < length (drop ago steps)
     → IsPath lengths (drop ago steps) before
     → score_before lengths (drop ago steps) 0 place way before ≡ score_before lengths steps ago place way before
 dropped_score lengths steps ago place way [] some is = absurd (omega arith)
 dropped_score lengths steps ago place way (cell ∷ before) some is = refl
 
 -- the latest cell of a best path begins in the best way, and behind what is best there
-pub way_of_best : (lengths : List ℕ) (steps : List Step) (place : ℕ) (sign : Sign) (cell : Cell) (rest : List Cell) (number : ℤ) (way : Way)
+pub way_of_best : (lengths : List ℕ) (steps : List Step) (place : ℕ) (sign : Sign) (cell : Cell) (rest : List Cell)
+    (number : ℤ) (way : Way)
     → IsBest lengths steps place sign (cell ∷ rest) → 0 < length (drop (length_in lengths cell.place) steps)
     → (b : IsBeginning lengths (drop (length_in lengths cell.place) steps) 0 cell.place (sign_before cell.bit cell.sign) number way)
     → (way ≡ cell.way) × (b.before ≡ rest)
@@ -81,7 +86,8 @@ way_of_best lengths steps place sign cell rest number way best some b =
 
 -- ---- the end before
 
-end_of_all : (lengths : List ℕ) (steps : List Step) (from : ℕ) (end : Sign) (number : ℤ) → IsBestEnd lengths steps from end number
+end_of_all : (lengths : List ℕ) (steps : List Step) (from : ℕ) (end : Sign) (number : ℤ)
+    → IsBestEnd lengths steps from end number
     → (path : List Cell) → IsBestOfAll lengths steps path → EndsIn from end path
 end_of_all lengths steps from end number e path best =
     subst (EndsIn from end) (same_winner (score lengths steps e.path) (score lengths steps path) e.path path
@@ -98,14 +104,17 @@ behind_jump : (place : ℕ) (sign : Sign) (path : List Cell) → Follows Jump pl
 behind_jump place sign [] = refl
 behind_jump place sign (cell ∷ path) = tt
 
-front_wins : (x s t k : ℤ) (cell : Cell) (p q : List Cell) → Wins (x +ℤ (s -ℤ k)) (cell ∷ p) (x +ℤ (t -ℤ k)) (cell ∷ q) → Wins s p t q
+front_wins : (x s t k : ℤ) (cell : Cell) (p q : List Cell)
+    → Wins (x +ℤ (s -ℤ k)) (cell ∷ p) (x +ℤ (t -ℤ k)) (cell ∷ q) → Wins s p t q
 front_wins x s t k cell p q (inl less) = inl (omega (arith, ints))
 front_wins x s t k cell p q (inr same) =
     inr (omega (arith, ints, same.0), elim same.1 [ inl first ↦ absurd (omega arith) | inr like ↦ like.1 ])
 
 -- behind a jump stands the best path of all
-pub jumped_from : (lengths : List ℕ) (steps : List Step) (place : ℕ) (sign : Sign) (cell : Cell) (rest : List Cell) (from : ℕ) (end : Sign) (number : ℤ)
-    → IsBest lengths steps place sign (cell ∷ rest) → cell.way ≡ Jump → 0 < length (drop (length_in lengths cell.place) steps)
+pub jumped_from : (lengths : List ℕ) (steps : List Step) (place : ℕ) (sign : Sign) (cell : Cell) (rest : List Cell)
+    (from : ℕ) (end : Sign) (number : ℤ)
+    → IsBest lengths steps place sign (cell ∷ rest) → cell.way ≡ Jump
+    → 0 < length (drop (length_in lengths cell.place) steps)
     → IsBestEnd lengths (drop (length_in lengths cell.place) steps) from end number → EndsIn from end rest
 jumped_from lengths steps place sign cell rest from end number best jump some e =
     let n = length_in lengths cell.place in

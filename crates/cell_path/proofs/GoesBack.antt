@@ -1,7 +1,9 @@
 -- A best path goes back by the marks of its latest step and those where its latest cell began.
-use Rattle.std.proofs.Common.{◌≡◌, ℕ, zero, suc, ◌+◌, ◌-◌, ◌%◌, ◌<◌, ◌≤◌, ◌^◌, Some, None, List, [], ◌∷◌, length, drop, get_or, replicate, refl, ap, ap₂, subst, sym, ◌∙◌, arith}
+use Rattle.std.proofs.Common.{◌≡◌, ℕ, zero, suc, ◌+◌, ◌-◌, ◌%◌, ◌<◌, ◌≤◌, ◌^◌, Some, None, List, [], ◌∷◌, length}
+use Rattle.std.proofs.Common.{drop, get_or, replicate, refl, ap, ap₂, subst, sym, ◌∙◌, arith}
 use Rattle.std.specs.Prelude.{set}
-use Rattle.std.proofs.lemmas.List.{get_or-replicate, get_or-set_same, get_or-set_other, length-set, length-drop, length-replicate}
+use Rattle.std.proofs.lemmas.List.{get_or-replicate, get_or-set_same, get_or-set_other, length-set, length-drop}
+use Rattle.std.proofs.lemmas.List.{length-replicate}
 use Rattle.cell_path.specs.declared.cell.Bit.{Bit}
 use Rattle.cell_path.specs.declared.cell.Cell.{Cell}
 use Rattle.cell_path.specs.declared.cell.Sign.{Sign}
@@ -36,7 +38,8 @@ parts place sign bit (cell ∷ rest) ends has = (
 )
 
 -- where the rest ends, by the way
-ends_before : (steps : List Step) (ago place : ℕ) (sign : Sign) (way : Way) (there : StepMarks) (rest : List Cell) → 0 < length steps
+ends_before : (steps : List Step) (ago place : ℕ) (sign : Sign) (way : Way) (there : StepMarks) (rest : List Cell)
+    → 0 < length steps
     → IsPath LENGTHS steps rest → Follows way place sign rest
     → (way ≡ Jump → EndsIn there.best_place there.best_sign rest)
     → EndsIn (point_before way ago place sign there).place (point_before way ago place sign there).sign rest
@@ -46,7 +49,8 @@ ends_before steps ago place sign Shorter there (cell ∷ rest) some is follows j
 ends_before steps ago place sign Longer there (cell ∷ rest) some is follows jumps = let within = is.1 in (omega (arith, follows.0, within), follows.1)
 ends_before steps ago place sign Jump there (cell ∷ rest) some is follows jumps = jumps refl
 
-point_ago : (way : Way) (ago place : ℕ) (sign : Sign) (there : StepMarks) → (point_before way ago place sign there).ago ≡ ago
+point_ago : (way : Way) (ago place : ℕ) (sign : Sign) (there : StepMarks)
+    → (point_before way ago place sign there).ago ≡ ago
 point_ago Same ago place sign there = refl
 point_ago Shorter ago place sign there = refl
 point_ago Longer ago place sign there = refl
@@ -69,9 +73,11 @@ goes_to_first steps ago place sign bit path here marked within bit_is best none 
     record { rest = []; path_is = p.2 ∙ ap₂ (λ w r. cell_of place bit sign w ∷ r) first.0 first.1; leads = refl }
 
 -- with steps left before it
-pub goes_to_point : (steps : List Step) (ago place : ℕ) (sign : Sign) (bit : Bit) (way : Way) (path : List Cell) (here there : StepMarks)
+pub goes_to_point : (steps : List Step) (ago place : ℕ) (sign : Sign) (bit : Bit) (way : Way) (path : List Cell)
+    (here there : StepMarks)
     → IsMarked here (drop ago steps) → IsMarked there (drop (ago + length_in LENGTHS place) steps) → place < 45
-    → bit ≡ marked_bit (get_or here.marks place 0) sign → way ≡ marked_way (get_or there.marks place 0) (sign_before bit sign)
+    → bit ≡ marked_bit (get_or here.marks place 0) sign
+    → way ≡ marked_way (get_or there.marks place 0) (sign_before bit sign)
     → IsBest LENGTHS (drop ago steps) place sign path → ago + length_in LENGTHS place < length steps
     → GoesBack steps path (record {
       cell = cell_of place bit sign way;
@@ -124,7 +130,8 @@ mark_latest marks new long =
     ap (λ n. get_or (set marks.ring ((marks.count + 1) % 4_096) new) n no_marks) same
     ∙ get_or-set_same marks.ring ((marks.count + 1) % 4_096) new no_marks (omega arith)
 
-mark_others : (marks : MarksState) (new : StepMarks) (ago : ℕ) → ago < 4_095 → marks_ago (pushed marks new) (ago + 1) ≡ marks_ago marks ago
+mark_others : (marks : MarksState) (new : StepMarks) (ago : ℕ) → ago < 4_095
+    → marks_ago (pushed marks new) (ago + 1) ≡ marks_ago marks ago
 mark_others marks new ago near =
     let same : (marks.count + 1 + 4_096 - (ago + 1)) % 4_096 ≡ (marks.count + 4_096 - ago) % 4_096 = omega arith in
     let other : (marks.count + 4_096 - ago) % 4_096 ≡ (marks.count + 1) % 4_096 → ⊥ = λ e. omega arith in
@@ -139,14 +146,16 @@ places-by marks new (suc ago) are comes near =
     subst (λ n. (marks_ago (pushed marks new) n).best_place < 45) next
     (subst (λ (m : StepMarks). m.best_place < 45) (sym (mark_others marks new ago (omega arith))) (are.places ago (omega arith)))
 
-pub still_marks : (marks : MarksState) (new : StepMarks) → AreMarks marks → new.best_place < 45 → marks.count < 2 ^ 40 → AreMarks (pushed marks new)
+pub still_marks : (marks : MarksState) (new : StepMarks) → AreMarks marks → new.best_place < 45 → marks.count < 2 ^ 40
+    → AreMarks (pushed marks new)
 still_marks marks new are comes room = record {
   long = length-set marks.ring ((marks.count + 1) % 4_096) new ∙ are.long;
   count = omega arith;
   places = λ ago near. places-by marks new ago are comes near;
 }
 
-marked-by : (marks : MarksState) (new : StepMarks) (step : Step) (steps : List Step) (ago : ℕ) → length marks.ring ≡ 4_096
+marked-by : (marks : MarksState) (new : StepMarks) (step : Step) (steps : List Step) (ago : ℕ)
+    → length marks.ring ≡ 4_096
     → MarksStandFor marks steps → IsMarked new (step ∷ steps) → ago < 4_096 → ago < length (step ∷ steps)
     → IsMarked (marks_ago (pushed marks new) ago) (drop ago (step ∷ steps))
 marked-by marks new step steps zero long stand comes near within =

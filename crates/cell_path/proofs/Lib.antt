@@ -1,8 +1,10 @@
 pub mod BestBeginning
 pub mod BestEnd
 pub mod BestOfAll
+pub mod DecidesNext
 pub mod EndOfSteps
 pub mod Examples
+pub mod Followed
 pub mod FollowedBack
 pub mod GoesBack
 pub mod LengthsOfCells
@@ -10,6 +12,7 @@ pub mod MarkedSoFar
 pub mod NextStep
 pub mod NumbersAgo
 pub mod OneBest
+pub mod OneDecision
 pub mod OneMoreLength
 pub mod Order
 pub mod Rings

@@ -1,5 +1,6 @@
 -- With the next step the sums and numbers of the steps so far are those of one step more.
-use Rattle.std.proofs.Common.{◌≡◌, ℕ, zero, suc, ◌+◌, ◌<◌, ◌≤◌, ◌==◌, Bool, false, cond, inr, ℤ, pos, neg_ℤ, ◌+ℤ◌, ◌-ℤ◌, List, [], ◌∷◌, length, drop, refl, ap, subst, sym, ◌∙◌, arith}
+use Rattle.std.proofs.Common.{◌≡◌, ℕ, zero, suc, ◌+◌, ◌<◌, ◌≤◌, ◌==◌, Bool, false, cond, inr, ℤ, pos, neg_ℤ, ◌+ℤ◌}
+use Rattle.std.proofs.Common.{◌-ℤ◌, List, [], ◌∷◌, length, drop, refl, ap, subst, sym, ◌∙◌, arith}
 use Rattle.std.proofs.lemmas.Int.{ints}
 use Rattle.std.proofs.lemmas.Bool.Decides.{nat_tests}
 use Rattle.cell_path.specs.declared.cell.Cell.{Cell}
@@ -14,7 +15,8 @@ use Rattle.cell_path.specs.Best.{rank_of_way}
 use Rattle.cell_path.specs.Kept.{number_ago, number_at, sum_ago, RowsState, SumsState}
 use Rattle.cell_path.specs.Number.{score_before, IsBeginning, WinsBy}
 use Rattle.cell_path.specs.Path.{total, Follows, IsPath}
-use Rattle.cell_path.specs.StandsFor.{bit_at, way_at, AreEnds, AreStarts, HasBeginning, NumbersEnd, RowsStandFor, SumsStandFor}
+use Rattle.cell_path.specs.StandsFor.{bit_at, way_at, AreEnds, AreStarts, HasBeginning, NumbersEnd, RowsStandFor}
+use Rattle.cell_path.specs.StandsFor.{SumsStandFor}
 use Rattle.cell_path.specs.Within.{IsWithin}
 use Rattle.cell_path.proofs.EndOfSteps.{older}
 use Rattle.cell_path.proofs.SoundOfBits.{total-cons, total-nil}
@@ -67,7 +69,8 @@ only_jump Shorter place sign is = is
 only_jump Longer place sign is = is
 only_jump Jump place sign is = is
 
-empty_wins : (ago place : ℕ) (sign : Sign) (number : ℤ) (other : Way) (others : List Cell) → number ≡ score_before LENGTHS [] ago place Jump []
+empty_wins : (ago place : ℕ) (sign : Sign) (number : ℤ) (other : Way) (others : List Cell)
+    → number ≡ score_before LENGTHS [] ago place Jump []
     → Follows other place sign others → IsPath LENGTHS (drop ago []) others
     → WinsBy number 3 [] (score_before LENGTHS [] ago place other others) (rank_of_way other) others
 empty_wins ago place sign number other [] is follows path =

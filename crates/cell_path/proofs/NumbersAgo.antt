@@ -1,5 +1,7 @@
--- What comes into the ring of numbers stands there as the latest, within its limit, and everything else is one step older.
-use Rattle.std.proofs.Common.{◌≡◌, ℕ, zero, suc, ◌+◌, ◌%◌, ◌^◌, ◌<◌, ◌≤◌, ℤ, pos, neg_ℤ, [], length, replicate, ap, subst, sym, ◌∙◌, arith}
+-- What comes into the ring of numbers stands there as the latest, within its limit, and everything else is one step
+-- older.
+use Rattle.std.proofs.Common.{◌≡◌, ℕ, zero, suc, ◌+◌, ◌%◌, ◌^◌, ◌<◌, ◌≤◌, ℤ, pos, neg_ℤ, [], length, replicate, ap}
+use Rattle.std.proofs.Common.{subst, sym, ◌∙◌, arith}
 use Rattle.std.specs.Prelude.{set}
 use Rattle.std.proofs.lemmas.Int.{ints}
 use Rattle.std.proofs.lemmas.List.{get_or-replicate, get_or-set_other, length-set, length-replicate}
@@ -61,7 +63,8 @@ at_same number place Minus within = get_or-replicate 45 place number (pos 0) wit
 pub fresh_here : (place : ℕ) (sign : Sign) → place < 45 → number_ago fresh 0 place sign ≡ pos 0
 fresh_here place sign within = at_same (pos 0) place sign within
 
-pub fresh_early : (ago place : ℕ) (sign : Sign) → 0 < ago → ago ≤ 96 → place < 45 → number_ago fresh ago place sign ≡ neg_ℤ EARLY
+pub fresh_early : (ago place : ℕ) (sign : Sign) → 0 < ago → ago ≤ 96 → place < 45
+    → number_ago fresh ago place sign ≡ neg_ℤ EARLY
 fresh_early ago place sign some near within =
     let other : place_ago 0 ago ≡ 0 → ⊥ = λ e. omega arith in
     ap (λ n. number_at n place sign)
@@ -69,7 +72,8 @@ fresh_early ago place sign some near within =
     ∙ get_or-replicate 128 (place_ago 0 ago) (same_numbers (neg_ℤ EARLY)) none (omega arith))
     ∙ at_same (neg_ℤ EARLY) place sign within
 
-fresh_size : (ago place : ℕ) (sign : Sign) → ago ≤ 96 → place < 45 → IsWithin (limit 0 ago) (number_ago fresh ago place sign)
+fresh_size : (ago place : ℕ) (sign : Sign) → ago ≤ 96 → place < 45
+    → IsWithin (limit 0 ago) (number_ago fresh ago place sign)
 fresh_size zero place sign near within = let e = fresh_here place sign within in
     record { above = omega (arith, ints, e); below = omega (arith, ints, e) }
 fresh_size (suc ago) place sign near within = let e = fresh_early (suc ago) place sign (omega arith) near within in

@@ -1,5 +1,7 @@
--- Two paths that win over each other are the same, and a winner's front wins over each other front that its latest cell may follow.
-use Rattle.std.proofs.Common.{◌≡◌, ℕ, ◌*◌, ℤ, pos, ◌+ℤ◌, ◌-ℤ◌, inl, inr, List, [], ◌∷◌, drop, refl, ap, ap₂, subst, sym, ◌∙◌, arith}
+-- Two paths that win over each other are the same, and a winner's front wins over each other front that its latest
+-- cell may follow.
+use Rattle.std.proofs.Common.{◌≡◌, ℕ, ◌*◌, ℤ, pos, ◌+ℤ◌, ◌-ℤ◌, inl, inr, List, [], ◌∷◌, drop, refl, ap, ap₂, subst}
+use Rattle.std.proofs.Common.{sym, ◌∙◌, arith}
 use Rattle.std.proofs.lemmas.Int.{ints}
 use Rattle.cell_path.specs.declared.cell.Bit.{Bit}
 use Rattle.cell_path.specs.declared.cell.Bit.TheVariants.{Zero, One}
@@ -72,19 +74,23 @@ follows_like Longer place sign from end (c ∷ p) (d ∷ q) follows ends like =
 follows_like Jump place sign from end (c ∷ p) (d ∷ q) follows ends like = tt
 
 -- and for the same costs
-cost_like : (lengths : List ℕ) (steps : List Step) (ago place : ℕ) (way : Way) (from : ℕ) (end : Sign) (path other : List Cell)
-    → EndsIn from end path → EndsIn from end other → cost lengths steps ago place way path ≡ cost lengths steps ago place way other
+cost_like : (lengths : List ℕ) (steps : List Step) (ago place : ℕ) (way : Way) (from : ℕ) (end : Sign)
+    (path other : List Cell)
+    → EndsIn from end path → EndsIn from end other
+    → cost lengths steps ago place way path ≡ cost lengths steps ago place way other
 cost_like lengths steps ago place way from end [] other ends like = absurd ends
 cost_like lengths steps ago place way from end (c ∷ p) [] ends like = absurd like
 cost_like lengths steps ago place way from end (c ∷ p) (d ∷ q) ends like =
     ap (λ n. pos (times_for lengths way place n * level_at (drop ago steps))) (ends.0 ∙ sym like.0)
 
-front_wins : (x s t k : ℤ) (cell : Cell) (p q : List Cell) → Wins (x +ℤ (s -ℤ k)) (cell ∷ p) (x +ℤ (t -ℤ k)) (cell ∷ q) → Wins s p t q
+front_wins : (x s t k : ℤ) (cell : Cell) (p q : List Cell)
+    → Wins (x +ℤ (s -ℤ k)) (cell ∷ p) (x +ℤ (t -ℤ k)) (cell ∷ q) → Wins s p t q
 front_wins x s t k cell p q (inl less) = inl (omega (arith, ints))
 front_wins x s t k cell p q (inr same) =
     inr (omega (arith, ints, same.0), elim same.1 [ inl first ↦ absurd (omega arith) | inr like ↦ like.1 ])
 
-pub before_is_best : (lengths : List ℕ) (steps : List Step) (place from : ℕ) (sign end : Sign) (cell : Cell) (before : List Cell)
+pub before_is_best : (lengths : List ℕ) (steps : List Step) (place from : ℕ) (sign end : Sign) (cell : Cell)
+    (before : List Cell)
     → IsBest lengths steps place sign (cell ∷ before) → EndsIn from end before
     → IsBest lengths (drop (length_in lengths cell.place) steps) from end before
 before_is_best lengths steps place from sign end cell before best ends =

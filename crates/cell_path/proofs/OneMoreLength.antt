@@ -13,11 +13,13 @@ use Rattle.cell_path.specs.declared.start.Start.{Start}
 use Rattle.cell_path.specs.declared.starts.Starts.{Starts}
 use Rattle.cell_path.specs.Kept.{limit, number_at, AreWithin, RowsState, SumsState}
 use Rattle.cell_path.specs.Number.{IsBeginning, IsBestEnd, IsEnd}
-use Rattle.cell_path.specs.StandsFor.{bit_at, way_at, AreEnds, AreStarts, AreWithinTo, NumbersEnd, RowsStandFor, SumsStandFor}
+use Rattle.cell_path.specs.StandsFor.{bit_at, way_at, AreEnds, AreStarts, AreWithinTo, NumbersEnd, RowsStandFor}
+use Rattle.cell_path.specs.StandsFor.{SumsStandFor}
 use Rattle.cell_path.specs.Within.{IsWithin}
 
 -- a fact of the first n lengths and signs, of each one more
-pub one_more_length : (P : ℕ → Sign → Type 0) (n : ℕ) → ((place : ℕ) (sign : Sign) → place < n → P place sign) → P n Plus → P n Minus
+pub one_more_length : (P : ℕ → Sign → Type 0) (n : ℕ) → ((place : ℕ) (sign : Sign) → place < n → P place sign)
+    → P n Plus → P n Minus
     → (place : ℕ) (sign : Sign) → place < n + 1 → P place sign
 one_more_length P n before plus minus place sign within =
     let here : (s : Sign) → P n s = λ s. elim s as (λ s. P n s) [ Plus ↦ plus | Minus ↦ minus ] in
@@ -44,7 +46,8 @@ pub record IsBestOfEnds (sums : SumsState) (rows : RowsState) (place : ℕ) (sig
   pub size : IsWithin (limit rows.count 2) end.number
 
 -- a length more of ends
-pub one_more_end : (sums : SumsState) (rows : RowsState) (n : ℕ) (old new : Ends) (plus minus : End) → EndsSoFar sums rows n old
+pub one_more_end : (sums : SumsState) (rows : RowsState) (n : ℕ) (old new : Ends) (plus minus : End)
+    → EndsSoFar sums rows n old
     → number_at new.numbers n Plus ≡ plus.number → bit_at new.bits n Plus ≡ plus.bit
     → number_at new.numbers n Minus ≡ minus.number → bit_at new.bits n Minus ≡ minus.bit
     → ((other : ℕ) (sign : Sign) → other ≢ n → number_at new.numbers other sign ≡ number_at old.numbers other sign)
@@ -83,7 +86,8 @@ pub record IsBestStart (ends : Numbers) (best : ℤ) (level place : ℕ) (sign :
   pub size : (most : ℕ) → AreWithin most ends → IsWithin most best → IsWithin (most + 3 * 2 ^ 22) start.number
 
 -- a length more of starts
-pub one_more_start : (ends : Numbers) (best : ℤ) (level n : ℕ) (old new : Starts) (plus minus : Start) → StartsSoFar ends best level n old
+pub one_more_start : (ends : Numbers) (best : ℤ) (level n : ℕ) (old new : Starts) (plus minus : Start)
+    → StartsSoFar ends best level n old
     → number_at new.numbers n Plus ≡ plus.number → way_at new.ways n Plus ≡ plus.way
     → number_at new.numbers n Minus ≡ minus.number → way_at new.ways n Minus ≡ minus.way
     → ((other : ℕ) (sign : Sign) → other ≢ n → number_at new.numbers other sign ≡ number_at old.numbers other sign)

@@ -1,5 +1,6 @@
 -- What comes into a ring stands there as the latest, and everything else is one step older.
-use Rattle.std.proofs.Common.{◌≡◌, ℕ, zero, suc, ◌+◌, ◌-◌, ◌*◌, ◌%◌, ◌^◌, ◌<◌, ◌≤◌, ℤ, pos, ◌+ℤ◌, ◌-ℤ◌, FitsSigned, List, length, get_or, replicate, refl, ap, subst, sym, ◌∙◌, arith}
+use Rattle.std.proofs.Common.{◌≡◌, ℕ, zero, suc, ◌+◌, ◌-◌, ◌*◌, ◌%◌, ◌^◌, ◌<◌, ◌≤◌, ℤ, pos, ◌+ℤ◌, ◌-ℤ◌, FitsSigned}
+use Rattle.std.proofs.Common.{List, length, get_or, replicate, refl, ap, subst, sym, ◌∙◌, arith}
 use Rattle.std.specs.Int.{w64}
 use Rattle.std.specs.Prelude.{set}
 use Rattle.std.proofs.lemmas.Int.{ints, fits_signed_from_abs}
@@ -31,7 +32,8 @@ pushed sums sum = record { ring = set sums.ring ((sums.count + 1) % 128) sum; co
 pub sum_latest : (sums : SumsState) (sum : ℤ) → AreSums sums → sum_ago (pushed sums sum) 0 ≡ sum
 sum_latest sums sum are = ring_latest sums.ring sums.count sum (pos 0) are.long
 
-pub sum_others : (sums : SumsState) (sum : ℤ) (ago : ℕ) → ago < 127 → sum_ago (pushed sums sum) (ago + 1) ≡ sum_ago sums ago
+pub sum_others : (sums : SumsState) (sum : ℤ) (ago : ℕ) → ago < 127
+    → sum_ago (pushed sums sum) (ago + 1) ≡ sum_ago sums ago
 sum_others sums sum ago near = ring_others sums.ring sums.count ago sum (pos 0) near
 
 -- sums stay within their bounds, where the next step is within its own
@@ -46,7 +48,8 @@ size-by sums sound (suc ago) are sounds near =
     subst (λ n. IsWithin ((sums.count + 1) * 2 ^ 16) (sum_ago (pushed sums (sum_ago sums 0 +ℤ sound)) n)) (sym next)
     (record { above = omega (arith, ints, e, s.above); below = omega (arith, ints, e, s.below) })
 
-spread-by : (sums : SumsState) (sound : ℤ) (later ago : ℕ) → AreSums sums → IsWithin (2 ^ 16) sound → later ≤ ago → ago ≤ 96
+spread-by : (sums : SumsState) (sound : ℤ) (later ago : ℕ) → AreSums sums → IsWithin (2 ^ 16) sound → later ≤ ago
+    → ago ≤ 96
     → IsWithin ((ago - later) * 2 ^ 16)
     (sum_ago (pushed sums (sum_ago sums 0 +ℤ sound)) later -ℤ sum_ago (pushed sums (sum_ago sums 0 +ℤ sound)) ago)
 spread-by sums sound zero zero are sounds order near = record { above = omega (arith, ints); below = omega (arith, ints) }

@@ -1,5 +1,6 @@
 -- Of the best so far and the best in one more way the better is the best of both.
-use Rattle.std.proofs.Common.{◌≡◌, ℕ, ◌+◌, ◌*◌, ◌≤◌, ◌^◌, ℤ, pos, ◌-ℤ◌, ◌≤ℤ◌, ◌<ℤ◌, ◌⊎◌, inl, inr, List, subst, sym, mul-le-mul, arith}
+use Rattle.std.proofs.Common.{◌≡◌, ℕ, ◌+◌, ◌*◌, ◌≤◌, ◌^◌, ℤ, pos, ◌-ℤ◌, ◌≤ℤ◌, ◌<ℤ◌, ◌⊎◌, inl, inr, List, subst, sym}
+use Rattle.std.proofs.Common.{mul-le-mul, arith}
 use Rattle.std.proofs.lemmas.Int.{ints}
 use Rattle.cell_path.specs.declared.cell.Sign.{Sign}
 use Rattle.cell_path.specs.declared.cell.Step.{Step}
@@ -16,9 +17,11 @@ start_of number way = record { number = number; way = way }
 below_or_above : (a b : ℤ) → (b ≤ℤ a) ⊎ (a <ℤ b)
 below_or_above a b = grind (arith, ints)
 
-pub or_way : (lengths : List ℕ) (steps : List Step) (place : ℕ) (sign : Sign) (so_far : Start) (new : ℤ) (more : Way) (result : Start)
+pub or_way : (lengths : List ℕ) (steps : List Step) (place : ℕ) (sign : Sign) (so_far : Start) (new : ℤ) (more : Way)
+    (result : Start)
     → (new ≤ℤ so_far.number → result ≡ so_far) → (so_far.number <ℤ new → result ≡ start_of new more)
-    → IsBestBefore lengths steps (rank_of_way more) place sign so_far.number so_far.way → IsBestOfWay lengths steps place sign more new
+    → IsBestBefore lengths steps (rank_of_way more) place sign so_far.number so_far.way
+    → IsBestOfWay lengths steps place sign more new
     → IsBestBefore lengths steps (rank_of_way more + 1) place sign result.number result.way
 or_way lengths steps place sign so_far new more result stays comes best way =
     let P : Start → Type 0 = λ s. IsBestBefore lengths steps (rank_of_way more + 1) place sign s.number s.way in

@@ -1,4 +1,6 @@
 pub mod Best
+pub mod Decided
+pub mod Decisions
 pub mod Kept
 pub mod KeptMarks
 pub mod Lengths

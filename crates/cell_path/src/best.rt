@@ -15,13 +15,14 @@ use crate::numbers::{Numbers, PLACES};
 #[derive(Clone, Copy, Debug, PartialEq, Eq)]
 pub struct Best {
     pub number: i64,
-    pub place: usize,
+    /// The place of the length in the list. Of one byte, so that no seven bytes of padding are copied.
+    pub place: u8,
     pub sign: Sign,
 }
 
 impl Best {
     /// The better of two. Of equal ones it is the first.
-    fn or(self, number: i64, place: usize, sign: Sign) -> Best
+    fn or(self, number: i64, place: u8, sign: Sign) -> Best
         ensures stays { number ≤ℤ self.number → result ≡ self }
         ensures comes { self.number <ℤ number → result ≡ record { number = number; place = place; sign = sign } }
     {
@@ -46,7 +47,7 @@ impl Best {
         ensures size { (most : ℕ) → AreWithin most ends.now → IsWithin most self.number → IsWithin most result.number }
         ensures end { result.place < 45 }
     {
-        self.or(ends.at(place, sign), place, sign)
+        self.or(ends.at(place, sign), place as u8, sign)
     }
 }
 

@@ -1,11 +1,15 @@
 //! What follows from the definitions alone.
-ghost use Rattle.std.specs.Prelude.{◌≡◌, ℕ, ◌+◌, ◌*◌, ◌^◌, ◌<◌, List, [], ◌∷◌, pos, drop, length};
+ghost use Rattle.std.specs.Prelude.{◌≡◌, ℕ, ◌+◌, ◌-◌, ◌*◌, ◌^◌, ◌<◌, List, [], ◌∷◌, ◌++◌, pos, drop, length, reverse};
 ghost use Rattle.cell_path.specs.declared.cell.Cell.{Cell};
 ghost use Rattle.cell_path.specs.declared.cell.Sign.{Sign};
 ghost use Rattle.cell_path.specs.declared.cell.Step.{Step};
+ghost use Rattle.cell_path.specs.declared.follow.TheConstants.{DELAY, EVERY, FIRST};
 ghost use Rattle.cell_path.specs.declared.lengths.TheConstants.{EARLY, JUMP, LENGTHS};
 ghost use Rattle.cell_path.specs.declared.numbers.TheConstants.{PLACES};
+ghost use Rattle.cell_path.specs.declared.placed.Placed.{Placed};
+ghost use Rattle.cell_path.specs.declared.waiting.TheConstants.{ROOM};
 ghost use Rattle.cell_path.specs.Best.{EndsIn, IsBest};
+ghost use Rattle.cell_path.specs.Decided.{in_time, joined, latest_of, AreDecided};
 ghost use Rattle.cell_path.specs.Lengths.{length_in, spelled};
 
 /// The lengths: from 4 to 24 each, from 26 to 48 each second, from 52 to 96 each fourth.
@@ -27,4 +31,36 @@ pub fn what_stands_before_is_best()
     ensures { (lengths : List ℕ) (steps : List Step) (place before_place : ℕ) (sign before_sign : Sign) (cell : Cell)
         (before : List Cell) → IsBest lengths steps place sign (cell ∷ before) → EndsIn before_place before_sign before
         → IsBest lengths (drop (length_in lengths cell.place) steps) before_place before_sign before }
+{}
+
+/// When a decision falls due, what it leaves open, and how many cells it can decide.
+pub fn the_decisions_are_these()
+    ensures delay { DELAY ≡ 800 }
+    ensures every { EVERY ≡ 1_024 }
+    ensures first { FIRST ≡ 2 * EVERY }
+    ensures room { 4 * ROOM ≡ FIRST - DELAY }
+{}
+
+/// The steps of a sound decide one list of cells, however they come.
+pub fn one_list_is_decided()
+    ensures { (steps : List Step) (all others : List Placed) → AreDecided steps all → AreDecided steps others
+        → all ≡ others }
+{}
+
+/// A sound of fewer steps than the first decision wants decides nothing, whatever paths it has: with
+/// fewer than four steps all of them begin before it does.
+pub fn a_short_sound_decides_nothing()
+    ensures { (steps : List Step) (all : List Placed) → length steps < FIRST → AreDecided steps all → all ≡ [] }
+{}
+
+/// What is decided stays: one step more decides more cells in front of it, or none.
+pub fn what_is_decided_stays()
+    ensures { (step : Step) (steps : List Step) (all : List Placed) → AreDecided (step ∷ steps) all
+        → (before new : List Placed) × AreDecided steps before × (all ≡ new ++ before) }
+{}
+
+/// In the order of time, what is decided later stands behind what was decided before.
+pub fn what_is_decided_comes_in_time()
+    ensures { (new before : List Placed)
+        → in_time (new ++ before) ≡ in_time before ++ joined (latest_of before) (reverse new) }
 {}

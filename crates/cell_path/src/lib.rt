@@ -15,44 +15,58 @@
 //!   where the cell before it ends (`specs/KeptMarks.antt`, `GoesBack`), as long as the points lie within
 //!   4,000 steps. A mark of one byte for each step and length keeps the bits and the ways
 //!   (`specs/Marks.antt`).
+//! - While the sound goes on, its cells are decided: every 1,024 steps the best path is followed back, and
+//!   those of its cells that ended 800 steps ago or earlier, behind what was decided before, are given one
+//!   by one in the order of time (`Decisions::feed`, `Decisions::give`; `specs/Decided.antt`, `AreDecided`:
+//!   what is decided depends on the steps alone, not on when it is asked for). A cell jumps where it does
+//!   not meet the one before it within a quarter of its length and with its sign. At most 312 are decided
+//!   at once, so nothing is allocated.
 //! - No score overflows in 2^40 steps, since a step adds 2^22 in the mean at most (`specs/Kept.antt`,
 //!   `limit`).
 //! - A sound has one best path for each end, and what stands before the latest cell of a best path is a
-//!   best path itself (`laws`).
+//!   best path itself; what is decided stays, and what is decided later stands behind it (`laws`).
 //!
 //! Read `lengths` and `cell` with `specs/Path.antt` and `specs/Best.antt`, then `scores` with
-//! `specs/Number.antt` and `specs/StandsFor.antt`, and `paths` with `specs/KeptMarks.antt`; below them
-//! stand `end`, `best` and `start`, which try one length each. Lists of steps and of cells begin with
-//! the latest.
-//! Nothing here allocates or refuses. What makes the steps of samples, what decides which cells stay,
-//! and what tells cells from noise does not stand here yet.
+//! `specs/Number.antt` and `specs/StandsFor.antt`, `paths` with `specs/KeptMarks.antt`, and `decisions`
+//! with `specs/Decided.antt`; below them stand `end`, `best` and `start`, which try one length each, and
+//! `follow`. Lists of steps and of cells begin with the latest.
+//! Nothing here allocates or refuses. What makes the steps of samples, what is decided when the sound
+//! ends, and what tells cells from noise does not stand here yet.
 #![tactic(auto)]
 
 mod best;
 mod cell;
+mod decisions;
 mod end;
 mod ends;
+mod follow;
 pub mod laws;
 mod lengths;
 mod mark;
 mod marks;
 mod numbers;
 mod paths;
+mod placed;
 mod point;
 mod rows;
 mod scores;
 mod start;
 mod starts;
 mod sums;
+mod waiting;
 
 pub use best::Best;
 pub use cell::{Bit, Cell, Sign, Step, Way};
+pub use decisions::Decisions;
 pub use ends::{Bits, Ends};
+pub use follow::{DELAY, EVERY, FIRST};
 pub use lengths::{EARLY, JUMP, LENGTHS};
 pub use mark::StepMarks;
 pub use marks::KEPT;
 pub use numbers::{Numbers, PLACES};
 pub use paths::Paths;
+pub use placed::{Decided, Placed};
 pub use point::{Back, Point};
 pub use scores::{Heard, Scores};
 pub use starts::{Starts, Ways};
+pub use waiting::ROOM;

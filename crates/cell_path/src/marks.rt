@@ -1,5 +1,5 @@
 //! The marks of the latest steps, and following a best path back by them. Next: `paths`.
-ghost use Rattle.std.specs.Prelude.{◌≡◌, ℕ, ◌+◌, ◌^◌, ◌<◌, ◌≤◌, IfSome, List, [], ◌∷◌, drop, length};
+ghost use Rattle.std.specs.Prelude.{◌≡◌, ℕ, ◌+◌, ◌^◌, ◌<◌, ◌≤◌, IfSome, None, List, [], ◌∷◌, drop, length};
 ghost use Rattle.cell_path.specs.declared.cell.Cell.{Cell};
 ghost use Rattle.cell_path.specs.declared.cell.Step.{Step};
 ghost use Rattle.cell_path.specs.declared.lengths.TheConstants.{LENGTHS};
@@ -80,8 +80,10 @@ impl Marks {
         requires ago { at.ago < 4_000 }
         ensures back { (steps : List Step) (path : List Cell) → MarksStandFor self.now steps → at.ago < length steps
             → IsBest LENGTHS (drop at.ago steps) at.place at.sign path → GoesBack steps path result }
+        ensures cell { result.cell.place ≡ at.place }
         ensures point { IfSome result.before (λ before. (before.place < 45)
-            × (before.ago ≡ at.ago + length_in LENGTHS at.place)) }
+            × (before.ago ≡ at.ago + length_in LENGTHS at.place) × (before.ago < self.now.count)) }
+        ensures first { result.before ≡ None → self.now.count ≤ at.ago + length_in LENGTHS at.place }
     {
         let bit = bit_of(self.ago(at.ago).marks[at.place], at.sign);
         let ago = at.ago + length_at(at.place);

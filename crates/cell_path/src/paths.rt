@@ -1,5 +1,5 @@
 //! The best paths through the sound so far, which can be followed back. Next: `laws`.
-ghost use Rattle.std.specs.Prelude.{◌≡◌, ℕ, ◌+◌, ◌^◌, ◌<◌, IfSome, List, [], ◌∷◌, drop, length};
+ghost use Rattle.std.specs.Prelude.{◌≡◌, ℕ, ◌+◌, ◌^◌, ◌<◌, ◌≤◌, IfSome, None, List, [], ◌∷◌, drop, length};
 ghost use Rattle.cell_path.specs.declared.cell.Cell.{Cell};
 ghost use Rattle.cell_path.specs.declared.cell.Step.{Step};
 ghost use Rattle.cell_path.specs.declared.lengths.TheConstants.{LENGTHS};
@@ -60,7 +60,7 @@ fn marks_of(heard: &Heard) -> StepMarks
     }
     StepMarks {
         marks,
-        best_place: heard.best.place as u8,
+        best_place: heard.best.place,
         best_sign: heard.best.sign,
     }
 }
@@ -99,8 +99,11 @@ impl Paths {
         requires ago { at.ago < 4_000 }
         ensures back { (steps : List Step) (path : List Cell) → PathsStandFor self.now steps → at.ago < length steps
             → IsBest LENGTHS (drop at.ago steps) at.place at.sign path → GoesBack steps path result }
+        ensures cell { result.cell.place ≡ at.place }
         ensures point { IfSome result.before (λ before. (before.place < 45)
-            × (before.ago ≡ at.ago + length_in LENGTHS at.place)) }
+            × (before.ago ≡ at.ago + length_in LENGTHS at.place) × (before.ago < self.now.scores.sums.count)) }
+        ensures first { result.before ≡ None
+            → self.now.scores.sums.count ≤ at.ago + length_in LENGTHS at.place }
     {
         self.marks.back(at)
     }

@@ -1,4 +1,5 @@
-use Rattle.std.proofs.Common.{rules, ◌≡◌, ◌+◌, ◌*◌, ◌^◌, ◌≤◌, ◌≤ℤ◌, ◌<ℤ◌, ◌-ℤ◌, pos, FitsSigned, to_z-of_z, arith, ap, subst, sym, ◌∙◌, ◌∷◌}
+use Rattle.std.proofs.Common.{rules, ◌≡◌, ◌+◌, ◌*◌, ◌^◌, ◌≤◌, ◌≤ℤ◌, ◌<ℤ◌, ◌-ℤ◌, pos, FitsSigned, to_z-of_z, arith}
+use Rattle.std.proofs.Common.{ap, subst, sym, ◌∙◌, ◌∷◌}
 use Rattle.std.specs.Int.{w64}
 use Rattle.cell_path.specs.declared.cell.Way.TheVariants.{Jump}
 use Rattle.cell_path.specs.declared.lengths.TheConstants.{JUMP, LENGTHS}

@@ -1,0 +1,33 @@
+use Rattle.std.proofs.Common.{◌≡◌, ◌+◌, [], ◌∷◌, ◌++◌, length, ap, subst, sym, ◌∙◌, arith}
+use Rattle.cell_path.specs.Decided.{end_behind, AreDecided}
+use Rattle.cell_path.specs.Decisions.{DecisionsStandFor, DecisionsState}
+use Rattle.cell_path.proofs.DecidesNext.{due_adds, end_of_all}
+use Rattle.cell_path.proofs.decisions.Decisions.feed.Goals as goal
+
+pub returns-then-self-eq0-clause-stands : goal.returns-then-self-eq0-clause-stands
+returns-then-self-eq0-clause-stands c = λ steps given stand_now.
+    let inside = c.self.inside in
+    let state : DecisionsState = record {
+      paths = inside.paths;
+      count = inside.count;
+      done = inside.done;
+      waiting = inside.waiting;
+      last = inside.last;
+    } in
+    let stand : DecisionsStandFor state steps given =
+    subst (λ s. DecisionsStandFor s steps given) (sym c.self.view_is) stand_now in
+    let none : inside.waiting ≡ [] = ap (λ (s : DecisionsState). s.waiting) c.self.view_is ∙ c.requires.given in
+    let decided : AreDecided steps given = subst (λ l. AreDecided steps (l ++ given)) none stand.decided in
+    let done : inside.done ≡ end_behind 0 given = stand.done ∙ ap (λ l. end_behind 0 (l ++ given)) none in
+    let paths = c.feed-best.ensures.stands steps stand.paths in
+    let long : inside.count + 1 ≡ length (c.args.step ∷ steps) = omega (arith, stand.count) in
+    record {
+      paths = paths;
+      count = long;
+      decided = due_adds c.args.step steps given c.decide.new.waiting (inside.count + 1) inside.done
+          c.feed-best.result.place c.feed-best.result.sign c.feed-best.result.number decided long done
+          c.if-self-ge-FIRST.true c.if-self-eq0.true (c.feed-best.ensures.best steps stand.paths)
+          (λ path best ends. c.decide.ensures.decided (c.args.step ∷ steps) path paths best ends);
+      done = c.decide.ensures.done ∙ end_of_all inside.done c.decide.new.waiting given done;
+      last = stand.last;
+    }

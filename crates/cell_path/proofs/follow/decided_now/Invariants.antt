@@ -1,0 +1,15 @@
+use Rattle.std.proofs.Common.{◌+◌, ◌-◌, ◌<◌, ◌≤◌, length}
+use Rattle.cell_path.specs.Decided.{end_behind}
+use Rattle.cell_path.proofs.Followed.{ago_of, IsGathered, IsHere}
+use Rattle.cell_path.proofs.follow.decided_now.Given as goal
+
+abbrev pub invariant-cells : goal.invariant-cells
+invariant-cells l = record {
+  here : IsHere l.count (length l.waiting) l.at;
+  near : 0 < length l.waiting → l.count ≤ end_behind l.done l.waiting + 895;
+  behind : end_behind l.done l.waiting ≤ l.count;
+  gathered : IsGathered l.count l.done l.paths l.fn.best.place l.fn.best.sign l.at l.waiting;
+}
+
+abbrev pub decreases-cells : goal.decreases-cells
+decreases-cells l = l.count - ago_of l.count l.at

@@ -1,0 +1,96 @@
+-- Which cells are decided while the sound goes on. Lists of steps and of cells begin with the latest, but for those in
+-- the order of time.
+use Rattle.std.specs.Prelude.{◌≡◌, ℕ, ◌+◌, ◌-◌, ◌/◌, ◌%◌, ◌==◌, Bool, true, false, not, ◌&&◌, ◌||◌, leb, ltb}
+use Rattle.std.specs.Prelude.{List, [], ◌∷◌, ◌++◌, length, reverse, Option, Some, None}
+use Rattle.std.specs.List.{filter}
+use Rattle.cell_path.specs.declared.cell.Cell.{Cell}
+use Rattle.cell_path.specs.declared.cell.Sign.{Sign}
+use Rattle.cell_path.specs.declared.cell.Sign.TheVariants.{Plus, Minus}
+use Rattle.cell_path.specs.declared.cell.Step.{Step}
+use Rattle.cell_path.specs.declared.cell.Way.{Way}
+use Rattle.cell_path.specs.declared.cell.Way.TheVariants.{Same, Shorter, Longer, Jump}
+use Rattle.cell_path.specs.declared.follow.TheConstants.{DELAY, EVERY, FIRST}
+use Rattle.cell_path.specs.declared.lengths.TheConstants.{LENGTHS}
+use Rattle.cell_path.specs.declared.placed.Decided.{Decided}
+use Rattle.cell_path.specs.declared.placed.Placed.{Placed}
+use Rattle.cell_path.specs.Best.{IsBestOfAll}
+use Rattle.cell_path.specs.Lengths.{length_in}
+use Rattle.cell_path.specs.Path.{sign_before}
+
+-- the cells of a path that ends after so many steps, each with its end
+unfoldable pub placed : ℕ → List Cell → List Placed
+placed end [] = []
+placed end (cell ∷ before) =
+    record { end = end; cell = cell } ∷ placed (end - length_in LENGTHS cell.place) before
+
+-- the end of the latest, or of those before them
+abbrev pub end_behind : ℕ → List Placed → ℕ
+end_behind done [] = done
+end_behind done (latest ∷ before) = latest.end
+
+-- after so many steps it ended long enough ago, and more than a quarter of its length behind what was decided before
+abbrev pub is_decided : ℕ → ℕ → Placed → Bool
+is_decided count done cell =
+    leb (cell.end + DELAY) count && ltb (done + length_in LENGTHS cell.cell.place / 4) cell.end
+
+-- those cells of a path through so many steps that are decided behind what was decided before
+abbrev pub newly : ℕ → ℕ → List Cell → List Placed
+newly count done path = filter (is_decided count done) (placed count path)
+
+-- a decision falls due after so many steps
+abbrev pub is_due : ℕ → Bool
+is_due count = leb FIRST count && (count % EVERY == 0)
+
+-- the latest step adds what it decides on the best path of all, and nothing where no decision falls due
+pub record Adds (steps : List Step) (before all : List Placed) : Type 0 where
+  pub due : is_due (length steps) ≡ true → (path : List Cell) × IsBestOfAll LENGTHS steps path
+      × (all ≡ newly (length steps) (end_behind 0 before) path ++ before)
+  pub idle : is_due (length steps) ≡ false → all ≡ before
+
+-- these cells are decided after these steps, and no others
+abbrev pub AreDecided : List Step → List Placed → Type 0
+AreDecided [] all = all ≡ []
+AreDecided (step ∷ steps) all = (before : List Placed) × AreDecided steps before × Adds (step ∷ steps) before all
+
+abbrev pub same_sign : Sign → Sign → Bool
+same_sign Plus Plus = true
+same_sign Plus Minus = false
+same_sign Minus Plus = false
+same_sign Minus Minus = true
+
+abbrev pub is_jump : Way → Bool
+is_jump Same = false
+is_jump Shorter = false
+is_jump Longer = false
+is_jump Jump = true
+
+-- how far apart two places are
+abbrev pub apart : ℕ → ℕ → ℕ
+apart place other = (place - other) + (other - place)
+
+-- the cell does not begin within a quarter of its length where the one before ended, and with its sign: the first does
+-- not, and none behind a jump of its path
+abbrev pub jumps : Option Placed → Placed → Bool
+jumps None cell = true
+jumps (Some before) cell =
+    let n = length_in LENGTHS cell.cell.place in
+    is_jump cell.cell.way || (ltb (n / 4) (apart (cell.end - n) before.end)
+    || not (same_sign before.cell.sign (sign_before cell.cell.bit cell.cell.sign)))
+
+-- cells in the order of time, behind one: each with whether it jumps
+unfoldable pub joined : Option Placed → List Placed → List Decided
+joined before [] = []
+joined before (cell ∷ more) = record { placed = cell; jumps = jumps before cell } ∷ joined (Some cell) more
+
+abbrev pub latest_of : List Placed → Option Placed
+latest_of [] = None
+latest_of (latest ∷ before) = Some latest
+
+-- what is decided, in the order of time
+abbrev pub in_time : List Placed → List Decided
+in_time all = joined None (reverse all)
+
+-- the earliest of what was waiting is given
+abbrev pub TakesEarliest : List Placed → List Placed → Option Placed → Type 0
+TakesEarliest old new None = (old ≡ []) × (new ≡ [])
+TakesEarliest old new (Some cell) = old ≡ new ++ cell ∷ []

@@ -1,0 +1,39 @@
+-- What is kept to decide the cells of a sound stands for its steps so far, and for what has been given.
+use Rattle.std.specs.Prelude.{◌≡◌, ℕ, ◌+◌, ◌-◌, ◌%◌, ◌≤◌, List, ◌∷◌, length, ◌++◌, Option, Some, None}
+use Rattle.cell_path.specs.declared.cell.Step.{Step}
+use Rattle.cell_path.specs.declared.placed.Decided.{Decided}
+use Rattle.cell_path.specs.declared.placed.Placed.{Placed}
+use Rattle.cell_path.specs.Decided.{end_behind, jumps, latest_of, AreDecided}
+use Rattle.cell_path.specs.Paths.{PathsState, PathsStandFor}
+
+pub record DecisionsState : Type 0 where
+  pub paths : PathsState
+  pub count : ℕ
+  pub done : ℕ
+  pub waiting : List Placed
+  pub last : Option Placed
+
+-- after the latest decision nothing is left open that is older than 919 steps: the latest cell that was old enough
+-- ended 895 steps before it or later, and what was decided ends there, or a quarter of a cell before
+pub record AreDecisions (state : DecisionsState) : Type 0 where
+  pub count_is : state.count ≡ state.paths.scores.sums.count
+  pub behind : state.done ≤ state.count
+  pub near : 2_048 ≤ state.count → state.count - state.count % 1_024 ≤ state.done + 919
+
+-- what was given and what waits is what is decided after these steps
+pub record DecisionsStandFor (state : DecisionsState) (steps : List Step) (given : List Placed) : Type 0 where
+  pub paths : PathsStandFor state.paths steps
+  pub count : state.count ≡ length steps
+  pub decided : AreDecided steps (state.waiting ++ given)
+  pub done : state.done ≡ end_behind 0 (state.waiting ++ given)
+  pub last : state.last ≡ latest_of given
+
+abbrev pub placed_of : Option Decided → Option Placed
+placed_of None = None
+placed_of (Some cell) = Some cell.placed
+
+-- the next cell in the order of time is given, and none where all are given
+abbrev pub Gives : DecisionsState → List Step → List Placed → Option Decided → Type 0
+Gives new steps given None = AreDecided steps given × DecisionsStandFor new steps given
+Gives new steps given (Some cell) =
+    (cell.jumps ≡ jumps (latest_of given) cell.placed) × DecisionsStandFor new steps (cell.placed ∷ given)

@@ -1,0 +1,98 @@
+//! The cells of a sound, decided while it goes on. Next: `laws`.
+ghost use Rattle.std.specs.Prelude.{◌≡◌, ℕ, ◌+◌, ◌^◌, ◌<◌, List, [], ◌∷◌};
+ghost use Rattle.cell_path.specs.declared.cell.Step.{Step};
+ghost use Rattle.cell_path.specs.declared.placed.Placed.{Placed};
+ghost use Rattle.cell_path.specs.Decided.{TakesEarliest};
+ghost use Rattle.cell_path.specs.Decisions.{placed_of, DecisionsStandFor, Gives};
+ghost use Rattle.cell_path.specs.Scores.{IsStep};
+
+use crate::cell::Step;
+use crate::follow::{EVERY, FIRST, decide};
+use crate::paths::Paths;
+use crate::placed::{Decided, Placed, jumps};
+use crate::waiting::Waiting;
+use std::marker::Model;
+
+/// The cells of a sound, decided while it goes on, in fixed memory: about 310 KiB.
+#[derive(Drop)]
+pub struct Decisions {
+    paths: Paths,
+    count: u64,
+    done: u64,
+    waiting: Waiting,
+    last: Option<Placed>,
+}
+
+impl Model for Decisions {
+    ghost use Rattle.cell_path.specs.Decisions.{AreDecisions, DecisionsState};
+
+    ghost Value = { DecisionsState };
+
+    ghost view = { λ s. record {
+      paths = s.paths;
+      count = s.count;
+      done = s.done;
+      waiting = s.waiting;
+      last = s.last;
+    } };
+
+    ghost invariant = { λ s. AreDecisions (record {
+      paths = s.paths;
+      count = s.count;
+      done = s.done;
+      waiting = s.waiting;
+      last = s.last;
+    }) };
+}
+
+impl Decisions {
+    /// Before the first step.
+    pub fn new() -> Decisions
+        ensures stands { DecisionsStandFor result [] [] }
+        ensures waiting { result.waiting ≡ [] }
+        ensures count { result.count ≡ 0 }
+    {
+        Decisions {
+            paths: Paths::new(),
+            count: 0,
+            done: 0,
+            waiting: Waiting::new(),
+            last: None,
+        }
+    }
+
+    /// Takes the next step, when all that was decided has been given.
+    pub fn feed(&mut self, step: Step)
+        requires step { IsStep step }
+        requires room { self.old.count < 2 ^ 40 }
+        requires given { self.old.waiting ≡ [] }
+        ensures stands { (steps : List Step) (given : List Placed) → DecisionsStandFor self.old steps given
+            → DecisionsStandFor self.new (step ∷ steps) given }
+        ensures count { self.new.count ≡ self.old.count + 1 }
+    {
+        let best = self.paths.feed(step);
+        self.count += 1;
+        if FIRST <= self.count && self.count % EVERY == 0 {
+            decide(
+                &self.paths,
+                best,
+                self.count,
+                &mut self.done,
+                &mut self.waiting,
+            );
+        }
+    }
+
+    /// The next cell that is decided, the earliest first.
+    pub fn give(&mut self) -> Option<Decided>
+        ensures gives { (steps : List Step) (given : List Placed) → DecisionsStandFor self.old steps given
+            → Gives self.new steps given result }
+        ensures waiting { TakesEarliest self.old.waiting self.new.waiting (placed_of result) }
+        ensures count { self.new.count ≡ self.old.count }
+    {
+        let placed = self.waiting.pop()?;
+        let jumps = jumps(self.last, placed);
+        self.last = Some(placed);
+        Some(Decided { placed, jumps })
+    }
+}

@@ -1,0 +1,84 @@
+//! Following the best path back to what was decided before. Next: `decisions`.
+ghost use Rattle.std.specs.Prelude.{◌≡◌, ℕ, ◌+◌, ◌-◌, ◌^◌, ◌<◌, ◌≤◌, List};
+ghost use Rattle.cell_path.specs.declared.cell.Cell.{Cell};
+ghost use Rattle.cell_path.specs.declared.cell.Step.{Step};
+ghost use Rattle.cell_path.specs.declared.lengths.TheConstants.{LENGTHS};
+ghost use Rattle.cell_path.specs.Best.{EndsIn, IsBestOfAll};
+ghost use Rattle.cell_path.specs.Decided.{end_behind, newly};
+ghost use Rattle.cell_path.specs.Paths.{PathsStandFor};
+
+use crate::best::Best;
+use crate::lengths::length_at;
+use crate::paths::Paths;
+use crate::placed::Placed;
+use crate::point::Point;
+use crate::waiting::Waiting;
+
+/// A cell is decided so many steps behind its end: 30 to 57 cells at play speed, where paths that end
+/// differently have long met.
+pub const DELAY: u64 = 800;
+
+/// So many steps lie between two decisions: the path is followed back over some 1,900 steps, so that
+/// a step pays for less than two.
+pub const EVERY: u64 = 1_024;
+
+/// The first decision falls due after so many steps: after 1,024 it would decide 224 only.
+pub const FIRST: u64 = 2_048;
+
+/// The cells that are decided after so many steps, behind what was decided before, which ended there.
+pub(crate) fn decided_now(paths: &Paths, best: Best, count: u64, done: u64) -> Waiting
+    requires count { count ≡ paths.now.scores.sums.count }
+    requires first { 2_048 ≤ count }
+    requires room { count ≤ 2 ^ 40 }
+    requires behind { done ≤ count }
+    requires near { count ≤ done + 2_048 }
+    requires place { best.place < 45 }
+    ensures decided { (steps : List Step) (path : List Cell) → PathsStandFor paths.now steps
+        → IsBestOfAll LENGTHS steps path → EndsIn best.place best.sign path → result ≡ newly count done path }
+    ensures near { count ≤ end_behind done result + 919 }
+    ensures behind { end_behind done result ≤ count }
+{
+    let mut waiting = Waiting::new();
+    let mut at = Some(Point {
+        ago: 0,
+        place: usize::from(best.place),
+        sign: best.sign,
+    });
+    'cells: while let Some(point) = at {
+        let end = count - point.ago as u64;
+        if end <= done + length_at(point.place) as u64 / 4 {
+            break;
+        }
+        let back = paths.back(point);
+        if end + DELAY <= count {
+            waiting.push(Placed {
+                end,
+                cell: back.cell,
+            });
+        }
+        at = back.before;
+    }
+    waiting
+}
+
+/// Takes the decision that falls due, when all that was decided before has been given.
+// Out of line, since the room for a list is cleared on entry, which a step does not have to pay.
+#[cold]
+#[inline(never)]
+pub(crate) fn decide(paths: &Paths, best: Best, count: u64, done: &mut u64, waiting: &mut Waiting)
+    requires count { count ≡ paths.now.scores.sums.count }
+    requires first { 2_048 ≤ count }
+    requires room { count ≤ 2 ^ 40 }
+    requires behind { done.old ≤ count }
+    requires near { count ≤ done.old + 2_048 }
+    requires place { best.place < 45 }
+    ensures decided { (steps : List Step) (path : List Cell) → PathsStandFor paths.now steps
+        → IsBestOfAll LENGTHS steps path → EndsIn best.place best.sign path
+        → waiting.new ≡ newly count done.old path }
+    ensures done { done.new ≡ end_behind done.old waiting.new }
+    ensures near { count ≤ done.new + 919 }
+    ensures behind { done.new ≤ count }
+{
+    *waiting = decided_now(paths, best, count, *done);
+    *done = waiting.end_behind(*done);
+}
