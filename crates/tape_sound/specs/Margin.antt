@@ -1,6 +1,5 @@
 -- A sound and a clean one: how far its samples lie from those of the clean one, between which bounds its threshold
--- stays,
--- and when the clean one goes over from side to side. The rules are this project's own.
+-- stays, and when the clean one goes over from side to side. The rules are this project's own.
 use Rattle.std.specs.Prelude.{◌≡◌, ℕ, zero, suc, ◌+◌, ◌-◌, ◌*◌, ◌<◌, ◌≤◌, Bool, true, false, cond, List, [], ◌∷◌}
 use Rattle.std.specs.Prelude.{length, map}
 use Rattle.std.specs.Prelude.{ℤ, pos, ◌+ℤ◌, ◌≤ℤ◌, int_le}
@@ -75,10 +74,9 @@ ComeWithin delay (from ∷ others) (moment ∷ moments) =
 ComeWithin delay others moments = ⊥
 
 -- a clean sound goes over at these moments. Up to a first place it does not reach the other side, and there it stands
--- on
--- its side at the high bound. From there on it goes over at the low bound no sooner than at these moments, and at the
--- high
--- bound within the delay behind each. So it goes over once at each of them, all the way, and does not come back
+-- on its side at the high bound. From there on it goes over at the low bound no sooner than at these moments, and at
+-- the high bound within the delay behind each. So it goes over once at each of them, all the way, and does not come
+-- back
 pub record GoesOverAt (fineness : ℕ) (low high : ℕ → ℤ) (delay : ℕ) (from : List ℕ) (clean : List ℤ) : Type 0 where
   pub side : Side
   pub first : ℕ
