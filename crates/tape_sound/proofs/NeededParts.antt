@@ -1,6 +1,7 @@
 -- Three sounds that lack one part of a margin each, and cross too soon, too often or too late.
-use Rattle.std.proofs.Common.{ℕ, zero, suc, ◌<◌, ◌≤◌, ℤ, pos, neg_ℤ, List, [], ◌∷◌}
+use Rattle.std.proofs.Common.{ℕ, zero, suc, ◌<◌, ◌≤◌, ℤ, pos, neg_ℤ, ◌≤ℤ◌, List, [], ◌∷◌}
 use Rattle.std.proofs.Common.{refl, arith}
+use Rattle.std.specs.Prelude.{◌+ℤ◌}
 use Rattle.std.proofs.lemmas.Int.{ints}
 use Rattle.pcm_front.specs.declared.side.Side.TheVariants.{Low}
 use Rattle.pcm_front.specs.declared.threshold.Threshold.TheVariants.{Fixed}
@@ -25,7 +26,7 @@ dips_near (suc zero) there = omega arith
 dips_near (suc (suc zero)) there = omega arith
 dips_near (suc (suc (suc place))) there = absurd (omega (arith, there))
 
-pub dips : IsNoisy 6 dips_clean dips_sound × GoesOverAt 1 (λ place. pos 1) (λ place. pos 10) 1 (2 ∷ []) dips_clean
+pub dips : IsNoisy (λ place. 6) dips_clean dips_sound × GoesOverAt 1 (λ place. pos 1) (λ place. pos 10) 1 (2 ∷ []) dips_clean
     × ¬ ComeWithin 1 (2 ∷ []) (moments 1 (Fixed 4) dips_sound)
 dips = (
   record { long = refl; near = dips_near },
@@ -55,11 +56,14 @@ back_near (suc (suc zero)) there = omega arith
 back_near (suc (suc (suc zero))) there = omega arith
 back_near (suc (suc (suc (suc place)))) there = absurd (omega (arith, there))
 
-has_room : (sound : List ℤ) → StaysBetween (λ place. pos 1) (λ place. pos 7) 3 (Fixed 4) sound
-has_room sound place there = record { some = omega arith; above = grind (arith, ints); below = grind (arith, ints) }
+has_room : (sound : List ℤ) → StaysBetween (λ place. pos 1) (λ place. pos 7) (λ place. 3) (Fixed 4) sound
+has_room sound place there =
+    let above : (pos 1 +ℤ pos 3) ≤ℤ pos 4 = grind (arith, ints) in
+    let below : (pos 4 +ℤ pos 3) ≤ℤ pos 7 = grind (arith, ints) in
+    record { some = omega arith; above = above; below = below }
 
-pub comes_back : IsNoisy 3 back_clean back_sound
-    × StaysBetween (λ place. pos 1) (λ place. pos 7) 3 (Fixed 4) back_sound
+pub comes_back : IsNoisy (λ place. 3) back_clean back_sound
+    × StaysBetween (λ place. pos 1) (λ place. pos 7) (λ place. 3) (Fixed 4) back_sound
     × ComeWithin 1 (1 ∷ []) (turns 1 (λ place. pos 7) back_clean Low 1 3)
     × ¬ ComeWithin 1 (1 ∷ []) (moments 1 (Fixed 4) back_sound)
 comes_back = (
@@ -82,8 +86,8 @@ slow_near (suc zero) there = omega arith
 slow_near (suc (suc zero)) there = omega arith
 slow_near (suc (suc (suc place))) there = absurd (omega (arith, there))
 
-pub reaches_too_late : IsNoisy 3 slow_clean slow_sound
-    × StaysBetween (λ place. pos 1) (λ place. pos 7) 3 (Fixed 4) slow_sound
+pub reaches_too_late : IsNoisy (λ place. 3) slow_clean slow_sound
+    × StaysBetween (λ place. pos 1) (λ place. pos 7) (λ place. 3) (Fixed 4) slow_sound
     × ComeBehind (turns 1 (λ place. pos 1) slow_clean Low 1 2) (1 ∷ [])
     × ¬ ComeWithin 0 (1 ∷ []) (moments 1 (Fixed 4) slow_sound)
 reaches_too_late = (

@@ -38,7 +38,7 @@ pub record HasMargin (profile : Profile) (fineness : ℕ) (threshold : Threshold
     : Type 0 where
   pub delay : ℕ
   pub start : ℕ
-  pub noise : ℕ
+  pub noise : ℕ → ℕ
   pub low : ℕ → ℤ
   pub high : ℕ → ℤ
   pub clean : List ℤ

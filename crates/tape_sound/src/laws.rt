@@ -26,7 +26,7 @@ ghost use Rattle.tc_address.specs.declared.system.System.{System};
 ghost use Rattle.tape_sound.specs.Heard.{AreHeard, BeginsLate, FitsAFile, FitsBehindASilence, HasMargin};
 ghost use Rattle.tape_sound.specs.Late.{delays_of, drift_from, AreFoundAs, IsSteady, IsWithinAHundredth};
 ghost use Rattle.tape_sound.specs.Made.{scaled};
-ghost use Rattle.tape_sound.specs.Margin.{turns, ComeBehind, ComeWithin, GoesOverAt, IsNoisy, StaysBetween};
+ghost use Rattle.tape_sound.specs.Margin.{noise_in_step, turns, ComeBehind, ComeWithin, GoesOverAt, IsNoisy, StaysBetween};
 ghost use Rattle.tape_sound.specs.OnTime.{told, untimed, AreOnTime};
 ghost use Rattle.tape_sound.specs.Part.{FindThePart, PartHasMargin};
 
@@ -85,7 +85,7 @@ pub fn the_numbers_of_steadiness_are_the_least()
 /// all the way from the low bound to the high one within the delay, so does the sound with noise: each
 /// of its crossings comes within the delay, and there are no others.
 pub fn noise_keeps_crossings_within_the_delay()
-    ensures { (fineness noise : ℕ) (low high : ℕ → ℤ) (delay : ℕ) (threshold : Threshold) (from : List ℕ)
+    ensures { (fineness : ℕ) (noise : ℕ → ℕ) (low high : ℕ → ℤ) (delay : ℕ) (threshold : Threshold) (from : List ℕ)
         (clean sound : List ℤ) → 1 ≤ fineness → IsNoisy noise clean sound
         → StaysBetween low high noise threshold sound → GoesOverAt fineness low high delay from clean
         → ComeWithin delay from (moments fineness threshold sound) }
@@ -97,26 +97,26 @@ pub fn noise_keeps_crossings_within_the_delay()
 pub fn each_part_of_a_margin_is_needed()
     ensures dips { let clean = neg_ℤ (pos 20) ∷ neg_ℤ (pos 1) ∷ pos 20 ∷ [] in
         let sound = neg_ℤ (pos 20) ∷ pos 5 ∷ pos 20 ∷ [] in
-        IsNoisy 6 clean sound × GoesOverAt 1 (λ place. pos 1) (λ place. pos 10) 1 (2 ∷ []) clean
+        IsNoisy (λ place. 6) clean sound × GoesOverAt 1 (λ place. pos 1) (λ place. pos 10) 1 (2 ∷ []) clean
         × ¬ ComeWithin 1 (2 ∷ []) (moments 1 (Fixed 4) sound) }
     ensures comes_back { let clean = neg_ℤ (pos 20) ∷ pos 20 ∷ neg_ℤ (pos 2) ∷ pos 20 ∷ [] in
         let sound = neg_ℤ (pos 20) ∷ pos 20 ∷ neg_ℤ (pos 5) ∷ pos 20 ∷ [] in
-        IsNoisy 3 clean sound × StaysBetween (λ place. pos 1) (λ place. pos 7) 3 (Fixed 4) sound
+        IsNoisy (λ place. 3) clean sound × StaysBetween (λ place. pos 1) (λ place. pos 7) (λ place. 3) (Fixed 4) sound
         × ComeWithin 1 (1 ∷ []) (turns 1 (λ place. pos 7) clean Low 1 3)
         × ¬ ComeWithin 1 (1 ∷ []) (moments 1 (Fixed 4) sound) }
     ensures slow { let clean = neg_ℤ (pos 20) ∷ pos 5 ∷ pos 20 ∷ [] in
         let sound = neg_ℤ (pos 20) ∷ pos 3 ∷ pos 20 ∷ [] in
-        IsNoisy 3 clean sound × StaysBetween (λ place. pos 1) (λ place. pos 7) 3 (Fixed 4) sound
+        IsNoisy (λ place. 3) clean sound × StaysBetween (λ place. pos 1) (λ place. pos 7) (λ place. 3) (Fixed 4) sound
         × ComeBehind (turns 1 (λ place. pos 1) clean Low 1 2) (1 ∷ [])
         × ¬ ComeWithin 0 (1 ∷ []) (moments 1 (Fixed 4) sound) }
 {}
 
 /// Whatever the sound, its threshold stays between its least and half of the greatest sample.
 pub fn a_threshold_stays_within_the_level()
-    ensures { (threshold : Threshold) (most noise : ℕ) (sound : List ℤ) → 1 ≤ least_of threshold
+    ensures { (threshold : Threshold) (most : ℕ) (noise : ℕ → ℕ) (sound : List ℤ) → 1 ≤ least_of threshold
         → AllByRecursion (λ sample. unsigned_abs sample ≤ most) sound
-        → StaysBetween (λ place. pos (least_of threshold) -ℤ pos noise)
-        (λ place. pos (max (least_of threshold) (most / 2)) +ℤ pos noise) noise threshold sound }
+        → StaysBetween (λ place. pos (least_of threshold) -ℤ pos (noise_in_step noise place))
+        (λ place. pos (max (least_of threshold) (most / 2)) +ℤ pos (noise_in_step noise place)) noise threshold sound }
 {
     levels_are_bounded();
 }
@@ -208,11 +208,11 @@ pub fn a_part_with_a_margin_is_found()
 /// samples, and those that are found in ticks: it is steady for a delay of one sample.
 pub fn a_made_sound_has_a_margin()
     ensures fixed { (profile : Profile) (fineness size noise threshold : ℕ) (tape : List Cell) (noisy : List ℤ)
-        → 1 ≤ fineness → 1 ≤ threshold → threshold + noise ≤ size → IsNoisy noise (sound size (flat tape)) noisy
-        → IsSteady profile 1 tape → HasMargin profile fineness (Fixed threshold) (scaled fineness tape) noisy }
+        → 1 ≤ fineness → 1 ≤ threshold → threshold + noise ≤ size
+        → IsNoisy (λ place. noise) (sound size (flat tape)) noisy → IsSteady profile 1 tape → HasMargin profile fineness (Fixed threshold) (scaled fineness tape) noisy }
     ensures followed { (profile : Profile) (fineness size noise : ℕ) (threshold : Threshold) (tape : List Cell)
         (noisy : List ℤ) → 1 ≤ fineness → 1 ≤ least_of threshold → least_of threshold + noise ≤ size
-        → 3 * noise ≤ size → IsNoisy noise (sound size (flat tape)) noisy → IsSteady profile 1 tape
+        → 3 * noise ≤ size → IsNoisy (λ place. noise) (sound size (flat tape)) noisy → IsSteady profile 1 tape
         → HasMargin profile fineness threshold (scaled fineness tape) noisy }
     ensures bits { (times : ℕ) (tape : List Cell) → bits (scaled times tape) ≡ bits tape }
 {
