@@ -16,12 +16,18 @@ front_keeps P zero xs all = tt
 front_keeps P (suc n) [] all = tt
 front_keeps P (suc n) (x ∷ xs) all = (all.0, front_keeps P n xs all.1)
 
-pub by_level : (threshold : Threshold) (most : ℕ) (level : Level) → level.peak ≤ most
+by_level : (threshold : Threshold) (most : ℕ) (level : Level) → level.peak ≤ most
     → (least_of threshold ≤ threshold_by threshold level)
     × (threshold_by threshold level ≤ max (least_of threshold) (most / 2))
 by_level (Fixed t) most level within = (omega arith, omega arith)
 by_level (Follow t) most level within = (omega arith, omega (arith, within))
 by_level (Deep t) most level within = (omega arith, omega (arith, within))
+
+-- it is its least at each sample
+pub at_least : (threshold : Threshold) (sound : List ℤ) (place : ℕ)
+    → least_of threshold ≤ threshold_at threshold sound place
+at_least threshold sound place =
+    let level : Level = level_of (take (place + 1) sound) in (by_level threshold level.peak level (omega arith)).0
 
 pub above_by : (least noise t : ℕ) → least ≤ t → ((pos least -ℤ pos noise) +ℤ pos noise) ≤ℤ pos t
 above_by least noise t less = grind (arith, ints)
