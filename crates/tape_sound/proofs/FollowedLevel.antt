@@ -53,6 +53,6 @@ stays_between peaks threshold most noise sound some sizes place there =
       above =
           above_by (least_of threshold) (noise_in_step noise place) (threshold_at threshold sound place) between.0;
       below =
-          below_by (max (least_of threshold) (most / 2)) (noise_in_step noise place) (threshold_at threshold sound place)
-          between.1;
+          below_by (max (least_of threshold) (most / 2)) (noise_in_step noise place)
+          (threshold_at threshold sound place) between.1;
     }

@@ -26,7 +26,8 @@ dips_near (suc zero) there = omega arith
 dips_near (suc (suc zero)) there = omega arith
 dips_near (suc (suc (suc place))) there = absurd (omega (arith, there))
 
-pub dips : IsNoisy (λ place. 6) dips_clean dips_sound × GoesOverAt 1 (λ place. pos 1) (λ place. pos 10) 1 (2 ∷ []) dips_clean
+pub dips : IsNoisy (λ place. 6) dips_clean dips_sound
+    × GoesOverAt 1 (λ place. pos 1) (λ place. pos 10) 1 (2 ∷ []) dips_clean
     × ¬ ComeWithin 1 (2 ∷ []) (moments 1 (Fixed 4) dips_sound)
 dips = (
   record { long = refl; near = dips_near },

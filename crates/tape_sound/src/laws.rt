@@ -26,7 +26,8 @@ ghost use Rattle.tc_address.specs.declared.system.System.{System};
 ghost use Rattle.tape_sound.specs.Heard.{AreHeard, BeginsLate, FitsAFile, FitsBehindASilence, HasMargin};
 ghost use Rattle.tape_sound.specs.Late.{delays_of, drift_from, AreFoundAs, IsSteady, IsWithinAHundredth};
 ghost use Rattle.tape_sound.specs.Made.{scaled};
-ghost use Rattle.tape_sound.specs.Margin.{noise_in_step, turns, ComeBehind, ComeWithin, GoesOverAt, HasRoom, IsNoisy, StaysBetween};
+ghost use Rattle.tape_sound.specs.Margin.{noise_in_step, turns, ComeBehind, ComeWithin, GoesOverAt, HasRoom};
+ghost use Rattle.tape_sound.specs.Margin.{IsNoisy, StaysBetween};
 ghost use Rattle.tape_sound.specs.OnTime.{told, untimed, AreOnTime};
 ghost use Rattle.tape_sound.specs.Part.{FindThePart, PartHasMargin};
 ghost use Rattle.tape_sound.specs.Ramps.{high_along, low_along, noise_along, AreRamps, MovesOneWay, Ramp};
@@ -246,7 +247,8 @@ pub fn a_part_with_a_margin_is_found()
 pub fn a_made_sound_has_a_margin()
     ensures fixed { (profile : Profile) (fineness size noise threshold : ℕ) (tape : List Cell) (noisy : List ℤ)
         → 1 ≤ fineness → 1 ≤ threshold → threshold + noise ≤ size
-        → IsNoisy (λ place. noise) (sound size (flat tape)) noisy → IsSteady profile 1 tape → HasMargin profile fineness (Fixed threshold) (scaled fineness tape) noisy }
+        → IsNoisy (λ place. noise) (sound size (flat tape)) noisy → IsSteady profile 1 tape
+        → HasMargin profile fineness (Fixed threshold) (scaled fineness tape) noisy }
     ensures followed { (profile : Profile) (fineness size noise : ℕ) (threshold : Threshold) (tape : List Cell)
         (noisy : List ℤ) → 1 ≤ fineness → 1 ≤ least_of threshold → least_of threshold + noise ≤ size
         → 3 * noise ≤ size → IsNoisy (λ place. noise) (sound size (flat tape)) noisy → IsSteady profile 1 tape
