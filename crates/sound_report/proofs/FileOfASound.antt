@@ -26,7 +26,7 @@ use Rattle.sound_report.proofs.CountsTheWords.{counts}
 
 -- ---- the file
 
-in_range : (distances : List ℕ) → AllByRecursion IsInterval distances → AreIntervals distances
+pub in_range : (distances : List ℕ) → AllByRecursion IsInterval distances → AreIntervals distances
 in_range [] are = tt
 in_range (distance ∷ distances) are = (are.0.0, are.0.1, in_range distances are.1)
 

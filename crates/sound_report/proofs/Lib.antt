@@ -1,3 +1,4 @@
 pub mod CountsTheWords
 pub mod FileOfASound
+pub mod SpansOfASound
 pub mod WholeDistances

@@ -9,9 +9,8 @@ use Rattle.report_text.specs.Texts.{read_end_line}
 use Rattle.tape_sound.specs.OnTime.{AreOnTime}
 
 -- the text is the report of these words, which are played from the tape's third cell on, and begin at a tick: a line
--- for
--- each of them, in order, with a tick and a length that are those of the tape, but for the delay. The last line counts
--- the intervals and their ticks, the words, and nothing refused or lost
+-- for each of them, in order, with a tick and a length that are those of the tape, but for the delay. The last line
+-- counts the intervals and their ticks, the words, and nothing refused or lost
 pub record ReportsWords (header : IntervalHeader) (delay tick : ℕ) (tape : List Cell) (words : List Played)
     (intervals text : List ℕ) : Type 0 where
   pub events : List Event

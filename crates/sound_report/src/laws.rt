@@ -5,6 +5,7 @@ ghost use Rattle.biphase.specs.declared.profile.Profile.{Profile};
 ghost use Rattle.biphase.specs.Chain.{bits};
 ghost use Rattle.direction_reader.specs.ListEvents.{duration};
 ghost use Rattle.direction_reader.specs.Played.{Played, AreSpelled, bits_of_words};
+ghost use Rattle.frame_commands.specs.LtcSpans.{spanned_recording};
 ghost use Rattle.interval_commands.specs.LtcRead.{report};
 ghost use Rattle.interval_engine.specs.Along.{along_intervals};
 ghost use Rattle.pcm_front.specs.Distance.{distances, distances_from_start};
@@ -14,8 +15,10 @@ ghost use Rattle.signal_commands.specs.PcmLtc.{along_samples, settings_for, slic
 ghost use Rattle.signal_commands.specs.WavLtc.{along_sound_file, track_header, track_settings};
 ghost use Rattle.sound_report.specs.Whole.{AreWhole};
 ghost use Rattle.sound_report.specs.WordsReport.{ReportsWords};
+ghost use Rattle.sound_report.specs.WordsSpans.{TellsSpans};
 ghost use Rattle.tape_sound.specs.Heard.{BeginsLate, FitsAFile, FitsBehindASilence, HasMargin};
 ghost use Rattle.tc_command.specs.Meaning.{Meaning};
+ghost use Rattle.tc_job.specs.declared.flight.Flight.{Flight};
 ghost use Rattle.tc_job.specs.Slicing.{Slices, IsSlicing};
 ghost use Rattle.tc_job.specs.WaveSlicing.{SlicesWave};
 ghost use Rattle.wave_file.specs.declared.format.WaveFormat.{WaveFormat};
@@ -26,6 +29,7 @@ use pcm_front::laws::short_distances_are_whole;
 use tape_sound::laws::{
     a_silence_before_the_tape_costs_no_word, noise_below_the_margin_costs_no_word,
 };
+use tape_spans::laws::the_open_span_has_the_last_line;
 use wave_file::laws::the_rate_of_a_format_is_judged;
 
 /// `pcm-ltc` and then a report: of a sound whose sums have a margin for a tape, the report under the
@@ -65,5 +69,45 @@ pub fn what_is_sliced_of_a_track_is_reported()
     a_file_is_read_as_it_was_written();
     a_silence_before_the_tape_costs_no_word();
     short_distances_are_whole();
+    the_rate_of_a_format_is_judged();
+}
+
+/// `pcm-ltc` and then `ltc-spans`: of a sound whose sums have a margin for a tape, the spans are those of
+/// the words of the tape, each on time.
+pub fn the_spans_of_a_margin_are_told()
+    ensures { (flight : Flight) (s : Slices) (tape : List Cell) (words : List Played) (sound written text : List ℕ)
+        → IsSlicing s
+        → (margin : HasMargin flight.profile s.fineness s.threshold tape (sums s.smooth (samples_of sound)))
+        → FitsAFile margin.delay tape
+        → AreWhole s.live s.system (s.rate * s.fineness) (settings_for s) (samples_of sound)
+        → bits tape ≡ false ∷ true ∷ bits_of_words words → AreSpelled s.system words
+        → Meaning.output (along_samples s) sound written
+        → Meaning.output (along_intervals (spanned_recording flight)) written text
+        → TellsSpans (sliced_header s) flight margin.delay (duration (take 2 tape)) tape words
+        (distances s.fineness s.threshold (sums s.smooth (samples_of sound))) text }
+{
+    a_file_is_read_as_it_was_written();
+    noise_below_the_margin_costs_no_word();
+    short_distances_are_whole();
+    the_open_span_has_the_last_line();
+}
+
+/// `wav-ltc` and then `ltc-spans`: the same of a track, whose tape begins behind a silence.
+pub fn the_spans_of_a_track_are_told()
+    ensures { (flight : Flight) (w : SlicesWave) (format : WaveFormat) (tape : List Cell) (words : List Played)
+        (file written text : List ℕ) → (reading_of w.track file).format ≡ Some format
+        → (margin : HasMargin flight.profile 16 w.threshold tape (sums w.smooth (reading_of w.track file).samples))
+        → BeginsLate margin.delay margin.start tape → FitsBehindASilence margin.delay margin.start tape
+        → AreWhole w.live w.system (16 * format.rate) (track_settings w) (reading_of w.track file).samples
+        → bits tape ≡ false ∷ true ∷ bits_of_words words → AreSpelled w.system words
+        → Meaning.output (along_sound_file w) file written
+        → Meaning.output (along_intervals (spanned_recording flight)) written text
+        → TellsSpans (track_header w format) flight margin.delay (margin.start + duration (take 2 tape)) tape words
+        (distances_from_start 16 w.threshold (sums w.smooth (reading_of w.track file).samples)) text }
+{
+    a_file_is_read_as_it_was_written();
+    a_silence_before_the_tape_costs_no_word();
+    short_distances_are_whole();
+    the_open_span_has_the_last_line();
     the_rate_of_a_format_is_judged();
 }

@@ -8,10 +8,12 @@
 //! What this crate promises, all of it by laws:
 //! - `what_is_sliced_of_a_margin_is_reported` and `what_is_sliced_of_a_track_is_reported`, over
 //!   `specs/WordsReport.antt`, `ReportsWords`, for each tolerance: `ltc-read`, `ltc-worn` and `ltc-rough`.
+//! - `the_spans_of_a_margin_are_told` and `the_spans_of_a_track_are_told`, over `specs/WordsSpans.antt`,
+//!   `TellsSpans`: `ltc-spans` tells the spans of these words. How many these are no law says.
 //! - It is the same where the sound is sliced live, as long as nothing lasts a quarter of a frame
 //!   (`specs/Whole.antt`, `AreWhole`).
 //!
-//! Read `specs/WordsReport.antt`, `specs/Whole.antt` and `laws`. Nothing here runs, and the program does not
+//! Read `specs/WordsReport.antt`, `WordsSpans` and `Whole`, and `laws`. Nothing here runs, and the program does not
 //! stand on it.
 #![tactic(auto)]
 

@@ -1,6 +1,6 @@
 -- Noise moves no crossing past those of the clean sound: where the sound lies on a side, the clean sound has reached it
 -- at the low bound, and where that reaches it at the high bound, the sound lies there.
-use Rattle.std.proofs.Common.{◌≡◌, ℕ, suc, ◌+◌, ◌-◌, ◌*◌, ◌<◌, ◌≤◌, true, ℤ, pos, ◌≤ℤ◌, Option, Some}
+use Rattle.std.proofs.Common.{◌≡◌, ℕ, suc, ◌+◌, ◌-◌, ◌*◌, ◌<◌, ◌≤◌, max, true, ℤ, pos, ◌≤ℤ◌, Option, Some}
 use Rattle.std.proofs.Common.{List, [], ◌∷◌, map, ap, subst, sym, ◌∙◌, add-one, mul-suc, arith}
 use Rattle.std.specs.List.{filter, range_with_len}
 use Rattle.std.specs.Option.{option_or}
@@ -9,7 +9,7 @@ use Rattle.pcm_front.specs.declared.threshold.Threshold.{Threshold}
 use Rattle.pcm_front.specs.Level.{threshold_at}
 use Rattle.pcm_front.specs.Side.{sample_at, side_at, side_after, upward}
 use Rattle.pcm_front.specs.Crossing.{apart, is_crossing, tick_to, moment}
-use Rattle.tape_sound.specs.Margin.{reach_moment, reaches, tick_to_bound, turns, turns_by}
+use Rattle.tape_sound.specs.Margin.{noise_in_step, reach_moment, reaches, tick_to_bound, turns, turns_by}
 use Rattle.tape_sound.specs.Margin.{ComeBehind, ComeWithin, HasRoom}
 use Rattle.tape_sound.proofs.CrossingsAreTurns.{crossings_are_turns, is_on, is_on_itself, lies_on, lies_there}
 use Rattle.tape_sound.proofs.CrossingsAreTurns.{moment_to, on_is}
@@ -41,9 +41,18 @@ squeezed delay (c ∷ from) (l ∷ lows) (m ∷ ms) (h ∷ highs) low own high w
 
 -- ---- a clean sound and noise
 
-module _ (f noise : ℕ) (low high : ℕ → ℤ) (threshold : Threshold) (clean sound : List ℤ) (some : 1 ≤ f) (first end : ℕ)
-    (near : (i : ℕ) → first ≤ i → i < end → apart (sample_at sound i) (sample_at clean i) ≤ noise)
-    (stays : (i : ℕ) → first ≤ i → i < end → HasRoom (low i) (high i) noise (threshold_at threshold sound i)) where
+-- what is no more than one of two is no more than the greater
+no_more : (a before here : ℕ) → a ≤ here → a ≤ max before here
+no_more a before here less = omega (arith, less)
+
+no_more_before : (a before here : ℕ) → a ≤ before → a ≤ max before here
+no_more_before a before here less = omega (arith, less)
+
+module _ (f : ℕ) (noise : ℕ → ℕ) (low high : ℕ → ℤ) (threshold : Threshold) (clean sound : List ℤ) (some : 1 ≤ f)
+    (first end : ℕ)
+    (near : (i : ℕ) → first ≤ i → i < end → apart (sample_at sound i) (sample_at clean i) ≤ noise i)
+    (stays : (i : ℕ) → first ≤ i → i < end
+    → HasRoom (low i) (high i) (noise_in_step noise i) (threshold_at threshold sound i)) where
   abbrev th : ℕ → ℕ
   th i = threshold_at threshold sound i
 
@@ -53,11 +62,25 @@ module _ (f noise : ℕ) (low high : ℕ → ℤ) (threshold : Threshold) (clean
   abbrev c : ℕ → Side → ℤ
   c i side = upward side (sample_at clean i)
 
-  near_at : (i : ℕ) (side : Side) → first ≤ i → i < end → apart (x i side) (c i side) ≤ noise
-  near_at i side g h = near_upward noise (sample_at sound i) (sample_at clean i) side (near i g h)
+  abbrev n : ℕ → ℕ
+  n i = noise_in_step noise i
 
-  near_back : (i : ℕ) (side : Side) → first ≤ i → i < end → apart (c i side) (x i side) ≤ noise
-  near_back i side g h = other_way noise (x i side) (c i side) (near_at i side g h)
+  near_at : (i : ℕ) (side : Side) → first ≤ i → i < end → apart (x i side) (c i side) ≤ noise i
+  near_at i side g h = near_upward (noise i) (sample_at sound i) (sample_at clean i) side (near i g h)
+
+  -- in the step to a sample, both of its samples are as near as the noise of the step says
+  near_here : (i : ℕ) (side : Side) → first ≤ i → i < end → apart (x i side) (c i side) ≤ n i
+  near_here i side g h = no_more (apart (x i side) (c i side)) (noise (i - 1)) (noise i) (near_at i side g h)
+
+  near_before : (i : ℕ) (side : Side) → first ≤ i - 1 → i - 1 < end → apart (x (i - 1) side) (c (i - 1) side) ≤ n i
+  near_before i side g h =
+      no_more_before (apart (x (i - 1) side) (c (i - 1) side)) (noise (i - 1)) (noise i) (near_at (i - 1) side g h)
+
+  back_here : (i : ℕ) (side : Side) → first ≤ i → i < end → apart (c i side) (x i side) ≤ n i
+  back_here i side g h = other_way (n i) (x i side) (c i side) (near_here i side g h)
+
+  back_before : (i : ℕ) (side : Side) → first ≤ i - 1 → i - 1 < end → apart (c (i - 1) side) (x (i - 1) side) ≤ n i
+  back_before i side g h = other_way (n i) (x (i - 1) side) (c (i - 1) side) (near_before i side g h)
 
   above_at : (i : ℕ) (side : Side) → lies_on threshold sound i side ≡ true → pos (th i) ≤ℤ x i side
   above_at i side is = side_above (th i) (sample_at sound i) side (on_is side (side_at threshold sound i) is)
@@ -72,7 +95,7 @@ module _ (f noise : ℕ) (low high : ℕ → ℤ) (threshold : Threshold) (clean
   pub low_reached : (i : ℕ) → first ≤ i → i < end → (side : Side) → lies_on threshold sound i side ≡ true
       → low i ≤ℤ c i side
   low_reached i g h side is =
-      lower_reached (pos (th i)) (low i) noise (x i side) (c i side) (stays i g h).above (near_at i side g h)
+      lower_reached (pos (th i)) (low i) (n i) (x i side) (c i side) (stays i g h).above (near_here i side g h)
       (above_at i side is)
 
   low_leads : Leads f (first + 1) end (lies_on threshold sound)
@@ -82,9 +105,9 @@ module _ (f noise : ℕ) (low high : ℕ → ℤ) (threshold : Threshold) (clean
     too = λ i g h side is. reach (low i) (c i side) (low_reached i (omega (arith, g)) h side is);
     later = λ i g h side is.
         let g_too : first ≤ i = omega (arith, g) in
-        let less = tick_less f (pos (th i)) (low i) noise (x (i - 1) side) (x i side) (c (i - 1) side) (c i side) some
+        let less = tick_less f (pos (th i)) (low i) (n i) (x (i - 1) side) (x i side) (c (i - 1) side) (c i side) some
         (stays i g_too h).above
-        (near_at (i - 1) side (omega (arith, g)) (omega (arith, h))) (near_at i side g_too h) (above_at i side is)
+        (near_before i side (omega (arith, g)) (omega (arith, h))) (near_here i side g_too h) (above_at i side is)
         (low_reached i g_too h side is) in
         let same = moment_is i side is in omega (arith, same, less);
     least = λ i g h side is. let same = moment_is i side is in omega (arith, same);
@@ -96,7 +119,7 @@ module _ (f noise : ℕ) (low high : ℕ → ℤ) (threshold : Threshold) (clean
   high_reached : (i : ℕ) → first ≤ i → i < end → (side : Side) → reaches (high i) side (sample_at clean i) ≡ true
       → pos (th i) ≤ℤ x i side
   high_reached i g h side is =
-      lower_reached (high i) (pos (th i)) noise (c i side) (x i side) (stays i g h).below (near_back i side g h)
+      lower_reached (high i) (pos (th i)) (n i) (c i side) (x i side) (stays i g h).below (back_here i side g h)
       (reached (high i) (c i side) is)
 
   pub high_on : (i : ℕ) → first ≤ i → i < end → (side : Side) → reaches (high i) side (sample_at clean i) ≡ true
@@ -113,9 +136,9 @@ module _ (f noise : ℕ) (low high : ℕ → ℤ) (threshold : Threshold) (clean
     later = λ i g h side is.
         let g_too : first ≤ i = omega (arith, g) in
         let on = high_on i g_too h side is in
-        let less = tick_less f (high i) (pos (th i)) noise (c (i - 1) side) (c i side) (x (i - 1) side) (x i side) some
+        let less = tick_less f (high i) (pos (th i)) (n i) (c (i - 1) side) (c i side) (x (i - 1) side) (x i side) some
         (stays i g_too h).below
-        (near_back (i - 1) side (omega (arith, g)) (omega (arith, h))) (near_back i side g_too h)
+        (back_before i side (omega (arith, g)) (omega (arith, h))) (back_here i side g_too h)
         (reached (high i) (c i side) is) (high_reached i g_too h side is) in
         let same = moment_is i side on in omega (arith, same, less);
     least = λ i g h side is. omega arith;

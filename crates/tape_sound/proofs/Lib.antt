@@ -1,3 +1,4 @@
+pub mod AlongRamps
 pub mod BehindSilence
 pub mod BetweenTheBounds
 pub mod CrossingsAreTurns
@@ -29,3 +30,4 @@ pub mod UntimedEvents
 pub mod WithinTheDelay
 pub mod WordsOnTime
 pub mod WordsRead
+pub mod WorkedRamps

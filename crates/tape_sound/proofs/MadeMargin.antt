@@ -96,13 +96,13 @@ steady_some profile (One a b ∷ tape) steady =
 
 made_margin : (profile : Profile) (f size noise : ℕ) (low high : ℤ) (threshold : Threshold) (tape : List Cell)
     (noisy : List ℤ) → 1 ≤ f → IsWithinSize size low → IsWithinSize size high
-    → IsNoisy noise (sound size (flat tape)) noisy
-    → StaysBetween (λ place. low) (λ place. high) noise threshold noisy → IsSteady profile 1 tape
+    → IsNoisy (λ place. noise) (sound size (flat tape)) noisy
+    → StaysBetween (λ place. low) (λ place. high) (λ place. noise) threshold noisy → IsSteady profile 1 tape
     → HasMargin profile f threshold (scaled f tape) noisy
 made_margin profile f size noise low high threshold tape noisy some low_is high_is near stays steady = record {
   delay = f;
   start = 0;
-  noise = noise;
+  noise = λ place. noise;
   low = λ place. low;
   high = λ place. high;
   clean = sound size (flat tape);
@@ -129,12 +129,14 @@ below_high : (t noise : ℕ) → (pos t +ℤ pos noise) ≤ℤ (pos t +ℤ pos n
 below_high t noise = grind (arith, ints)
 
 pub fixed_margin : (profile : Profile) (f size noise t : ℕ) (tape : List Cell) (noisy : List ℤ) → 1 ≤ f → 1 ≤ t
-    → t + noise ≤ size → IsNoisy noise (sound size (flat tape)) noisy → IsSteady profile 1 tape
+    → t + noise ≤ size → IsNoisy (λ place. noise) (sound size (flat tape)) noisy → IsSteady profile 1 tape
     → HasMargin profile f (Fixed t) (scaled f tape) noisy
 fixed_margin profile f size noise t tape noisy some least room near steady =
-    made_margin profile f size noise (pos t -ℤ pos noise) (pos t +ℤ pos noise) (Fixed t) tape noisy some
-    (low_within size t noise least room) (high_within size t noise least room) near
-    (λ place there. record { some = least; above = above_low t noise; below = below_high t noise }) steady
+    let most : ℕ = max noise noise in
+    let room_too : t + most ≤ size = omega (arith, room) in
+    made_margin profile f size noise (pos t -ℤ pos most) (pos t +ℤ pos most) (Fixed t) tape noisy some
+    (low_within size t most least room_too) (high_within size t most least room_too) near
+    (λ place there. record { some = least; above = above_low t most; below = below_high t most }) steady
 
 -- ---- a threshold that follows
 
@@ -158,7 +160,7 @@ runs_sized size side (interval ∷ more) =
 noisy_size : (size noise : ℕ) (x y : ℤ) → unsigned_abs x ≤ size → apart y x ≤ noise → unsigned_abs y ≤ size + noise
 noisy_size size noise x y small near = grind (arith, ints)
 
-noisy_sizes : (size noise : ℕ) (clean noisy : List ℤ) → IsNoisy noise clean noisy
+noisy_sizes : (size noise : ℕ) (clean noisy : List ℤ) → IsNoisy (λ place. noise) clean noisy
     → AllByRecursion (λ sample. unsigned_abs sample ≤ size) clean
     → AllByRecursion (λ sample. unsigned_abs sample ≤ size + noise) noisy
 noisy_sizes size noise clean [] near sizes = tt
@@ -176,14 +178,15 @@ noisy_sizes size noise (x ∷ clean) (y ∷ noisy) near sizes = (
 
 pub followed_margin : PeakLaw → (profile : Profile) (f size noise : ℕ) (threshold : Threshold) (tape : List Cell)
     (noisy : List ℤ) → 1 ≤ f → 1 ≤ least_of threshold → least_of threshold + noise ≤ size → 3 * noise ≤ size
-    → IsNoisy noise (sound size (flat tape)) noisy → IsSteady profile 1 tape
+    → IsNoisy (λ place. noise) (sound size (flat tape)) noisy → IsSteady profile 1 tape
     → HasMargin profile f threshold (scaled f tape) noisy
 followed_margin peaks profile f size noise threshold tape noisy some least room third near steady =
     let most : ℕ = max (least_of threshold) ((size + noise) / 2) in
     let sizes = noisy_sizes size noise (sound size (flat tape)) noisy near
     (size_of size Low, runs_sized size High (flat tape)) in
-    made_margin profile f size noise (pos (least_of threshold) -ℤ pos noise) (pos most +ℤ pos noise) threshold tape
+    let step : ℕ = max noise noise in
+    made_margin profile f size noise (pos (least_of threshold) -ℤ pos step) (pos most +ℤ pos step) threshold tape
     noisy
-    some (low_within size (least_of threshold) noise least room)
-    (high_within size most noise (omega (arith, least)) (omega (arith, room, third))) near
-    (stays_between peaks threshold (size + noise) noise noisy least sizes) steady
+    some (low_within size (least_of threshold) step least (omega (arith, room)))
+    (high_within size most step (omega (arith, least)) (omega (arith, room, third))) near
+    (stays_between peaks threshold (size + noise) (λ place. noise) noisy least sizes) steady

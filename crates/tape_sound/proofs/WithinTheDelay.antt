@@ -11,8 +11,9 @@ use Rattle.tape_sound.proofs.NoLater.{reach}
 use Rattle.tape_sound.proofs.NoneBefore.{none_up_to}
 use Rattle.tape_sound.proofs.ThreeParts.{parts}
 
-module _ (f noise : ℕ) (low high : ℕ → ℤ) (delay : ℕ) (threshold : Threshold) (from : List ℕ) (clean sound : List ℤ)
-    (some : 1 ≤ f) (noisy : IsNoisy noise clean sound) (stays : StaysBetween low high noise threshold sound)
+module _ (f : ℕ) (noise : ℕ → ℕ) (low high : ℕ → ℤ) (delay : ℕ) (threshold : Threshold) (from : List ℕ)
+    (clean sound : List ℤ) (some : 1 ≤ f) (noisy : IsNoisy noise clean sound)
+    (stays : StaysBetween low high noise threshold sound)
     (at : GoesOverAt f low high delay from clean) where
   -- up to the place where the clean sound stands on its side
   none : moments_in f threshold sound 0 (at.first + 1) ≡ []

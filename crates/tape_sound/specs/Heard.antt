@@ -33,13 +33,12 @@ pub record AreHeard (profile : Profile) (delay : ℕ) (tape : List Cell) (cut : 
 
 -- a sound has a margin for a tape: it is a clean sound and some noise, its threshold stays between two bounds with room
 -- for the noise, and the clean sound goes over at each transition of the tape within the delay. The tape runs steadily
--- for
--- this delay
+-- for this delay
 pub record HasMargin (profile : Profile) (fineness : ℕ) (threshold : Threshold) (tape : List Cell) (sound : List ℤ)
     : Type 0 where
   pub delay : ℕ
   pub start : ℕ
-  pub noise : ℕ
+  pub noise : ℕ → ℕ
   pub low : ℕ → ℤ
   pub high : ℕ → ℤ
   pub clean : List ℤ

@@ -1,8 +1,6 @@
 -- A tape that runs steadily, and its cells as they are found where each transition is found some ticks late. The delay
--- is
--- the most by which one is: it is found at its moment on the tape or later, and by no more than so many ticks. The
--- rules
--- are this project's own.
+-- is the most by which one is: it is found at its moment on the tape or later, and by no more than so many ticks. The
+-- rules are this project's own.
 use Rattle.std.specs.Prelude.{◌≡◌, ℕ, ◌+◌, ◌*◌, ◌<◌, ◌≤◌, max, List, [], ◌∷◌}
 use Rattle.std.specs.Int.{abs_diff}
 use Rattle.biphase.specs.declared.cell.Cell.{Cell}
@@ -24,8 +22,7 @@ drift_from before cell = max (abs_diff (length_of cell) before) (uneven cell)
 
 -- what a tolerance asks of a cell: that it lasts longer than so many drifts and so many delays together. The more
 -- steadily a tape runs, the later its transitions may be found. The rough tolerance asks two things, of the halves and
--- of
--- the cells
+-- of the cells
 abbrev pub Outlasts : Profile → ℕ → ℕ → ℕ → Type 0
 Outlasts Normal delay drift length = 16 * drift + 32 * delay < length
 Outlasts Worn delay drift length = 12 * drift + 24 * delay < length

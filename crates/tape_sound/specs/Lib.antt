@@ -4,3 +4,4 @@ pub mod Made
 pub mod Margin
 pub mod OnTime
 pub mod Part
+pub mod Ramps

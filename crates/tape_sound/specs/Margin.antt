@@ -1,8 +1,7 @@
 -- A sound and a clean one: how far its samples lie from those of the clean one, between which bounds its threshold
--- stays,
--- and when the clean one goes over from side to side. The rules are this project's own.
+-- stays, and when the clean one goes over from side to side. The rules are this project's own.
 use Rattle.std.specs.Prelude.{◌≡◌, ℕ, zero, suc, ◌+◌, ◌-◌, ◌*◌, ◌<◌, ◌≤◌, Bool, true, false, cond, List, [], ◌∷◌}
-use Rattle.std.specs.Prelude.{length, map}
+use Rattle.std.specs.Prelude.{length, map, max}
 use Rattle.std.specs.Prelude.{ℤ, pos, ◌+ℤ◌, ◌≤ℤ◌, int_le}
 use Rattle.std.specs.List.{filter, range_with_len}
 use Rattle.std.specs.Int.{div_ceil}
@@ -13,10 +12,14 @@ use Rattle.pcm_front.specs.Level.{threshold_at}
 use Rattle.pcm_front.specs.Side.{other_side, sample_at, upward}
 
 -- a sound is a clean one and some noise: it has as many samples, and none of them is further from the clean one's than
--- the noise is loud
-pub record IsNoisy (noise : ℕ) (clean sound : List ℤ) : Type 0 where
+-- the noise is loud in its place
+pub record IsNoisy (noise : ℕ → ℕ) (clean sound : List ℤ) : Type 0 where
   pub long : length sound ≡ length clean
-  pub near : (place : ℕ) → place < length sound → apart (sample_at sound place) (sample_at clean place) ≤ noise
+  pub near : (place : ℕ) → place < length sound → apart (sample_at sound place) (sample_at clean place) ≤ noise place
+
+-- how loud the noise is in the step to a sample: there, or at the sample before, whichever is more
+abbrev pub noise_in_step : (ℕ → ℕ) → ℕ → ℕ
+noise_in_step noise place = max (noise (place - 1)) (noise place)
 
 -- the threshold at a sample is 1 or more, and lies between two bounds, with room for the noise on both sides. The low
 -- bound may lie below zero: then the noise is louder than the threshold
@@ -25,10 +28,11 @@ pub record HasRoom (low high : ℤ) (noise threshold : ℕ) : Type 0 where
   pub above : (low +ℤ pos noise) ≤ℤ pos threshold
   pub below : (pos threshold +ℤ pos noise) ≤ℤ high
 
--- so it is at each sample of the sound, with the bounds there
-abbrev pub StaysBetween : (ℕ → ℤ) → (ℕ → ℤ) → ℕ → Threshold → List ℤ → Type 0
+-- so it is at each sample of the sound, with the bounds there and the noise in the step to it
+abbrev pub StaysBetween : (ℕ → ℤ) → (ℕ → ℤ) → (ℕ → ℕ) → Threshold → List ℤ → Type 0
 StaysBetween low high noise threshold sound =
-    (place : ℕ) → place < length sound → HasRoom (low place) (high place) noise (threshold_at threshold sound place)
+    (place : ℕ) → place < length sound
+    → HasRoom (low place) (high place) (noise_in_step noise place) (threshold_at threshold sound place)
 
 -- a sample reaches a side at a bound: seen so that the side lies above, it is the bound or more
 abbrev pub reaches : ℤ → Side → ℤ → Bool
@@ -75,10 +79,9 @@ ComeWithin delay (from ∷ others) (moment ∷ moments) =
 ComeWithin delay others moments = ⊥
 
 -- a clean sound goes over at these moments. Up to a first place it does not reach the other side, and there it stands
--- on
--- its side at the high bound. From there on it goes over at the low bound no sooner than at these moments, and at the
--- high
--- bound within the delay behind each. So it goes over once at each of them, all the way, and does not come back
+-- on its side at the high bound. From there on it goes over at the low bound no sooner than at these moments, and at
+-- the high bound within the delay behind each. So it goes over once at each of them, all the way, and does not come
+-- back
 pub record GoesOverAt (fineness : ℕ) (low high : ℕ → ℤ) (delay : ℕ) (from : List ℕ) (clean : List ℤ) : Type 0 where
   pub side : Side
   pub first : ℕ

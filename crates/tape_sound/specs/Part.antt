@@ -16,12 +16,11 @@ use Rattle.pcm_front.specs.Side.{sample_at}
 use Rattle.tc_address.specs.declared.system.System.{System}
 use Rattle.tape_sound.specs.Heard.{transitions}
 use Rattle.tape_sound.specs.Late.{IsSteady}
-use Rattle.tape_sound.specs.Margin.{moments_in, reaches, turns, ComeBehind, ComeWithin, HasRoom}
+use Rattle.tape_sound.specs.Margin.{moments_in, noise_in_step, reaches, turns, ComeBehind, ComeWithin, HasRoom}
 
 -- a part of a sound has a margin for a part of a tape. From a place on, at which the clean sound stands on a side at
--- the
--- high bound, so many samples are those of the clean sound and some noise, and in them it goes over at each of these
--- neighbouring transitions of the tape. What stands before and behind may be anything
+-- the high bound, so many samples are those of the clean sound and some noise, and in them it goes over at each of
+-- these neighbouring transitions of the tape. What stands before and behind may be anything
 pub record PartHasMargin (profile : Profile) (fineness : ℕ) (threshold : Threshold) (tape : List Cell) (cut : ℕ)
     (sound : List ℤ) (first count : ℕ) : Type 0 where
   -- the tape, and the transitions of the part
@@ -34,15 +33,15 @@ pub record PartHasMargin (profile : Profile) (fineness : ℕ) (threshold : Thres
   pub place : length before ≡ cut
   pub steady : IsSteady profile delay tape
   -- the sound, and the bounds of its threshold
-  pub noise : ℕ
+  pub noise : ℕ → ℕ
   pub low : ℕ → ℤ
   pub high : ℕ → ℤ
   pub clean : List ℤ
   pub room : (first + 1) + count ≤ length sound
   pub near : (place : ℕ) → first ≤ place → place < (first + 1) + count
-      → apart (sample_at sound place) (sample_at clean place) ≤ noise
+      → apart (sample_at sound place) (sample_at clean place) ≤ noise place
   pub stays : (place : ℕ) → first ≤ place → place < (first + 1) + count
-      → HasRoom (low place) (high place) noise (threshold_at threshold sound place)
+      → HasRoom (low place) (high place) (noise_in_step noise place) (threshold_at threshold sound place)
   -- how the clean sound goes over
   pub side : Side
   pub stands : reaches (high first) side (sample_at clean first) ≡ true

@@ -1,6 +1,6 @@
 //! What follows from the definitions alone: from a tape that is found late to the words of a sound.
 ghost use Rattle.std.specs.Prelude.{◌≡◌, ℕ, ◌+◌, ◌*◌, ◌/◌, ◌<◌, ◌≤◌, max, List, [], ◌∷◌, map, count_by, true, false};
-ghost use Rattle.std.specs.Prelude.{take, drop, ℤ, pos, neg_ℤ, ◌+ℤ◌, ◌-ℤ◌, unsigned_abs, length};
+ghost use Rattle.std.specs.Prelude.{◌-◌, take, drop, ℤ, pos, neg_ℤ, ◌+ℤ◌, ◌-ℤ◌, unsigned_abs, length};
 ghost use Rattle.std.specs.List.{AllByRecursion};
 ghost use Rattle.biphase.specs.declared.cell.Cell.{Cell};
 ghost use Rattle.biphase.specs.declared.cell.Cell.TheVariants.{One};
@@ -17,18 +17,20 @@ ghost use Rattle.direction_reader.specs.ListEvents.{duration, events_of_cells, A
 ghost use Rattle.direction_reader.specs.Played.{Played, AreSpelled, bits_of_words, events_of_words};
 ghost use Rattle.pcm_front.specs.declared.side.Side.TheVariants.{Low};
 ghost use Rattle.pcm_front.specs.declared.threshold.Threshold.{Threshold};
-ghost use Rattle.pcm_front.specs.declared.threshold.Threshold.TheVariants.{Fixed};
+ghost use Rattle.pcm_front.specs.declared.threshold.Threshold.TheVariants.{Fixed, Follow};
 ghost use Rattle.pcm_front.specs.Crossing.{moments};
 ghost use Rattle.pcm_front.specs.Distance.{distances, distances_from_start, gaps, IsInterval};
-ghost use Rattle.pcm_front.specs.Level.{least_of};
+ghost use Rattle.pcm_front.specs.Level.{least_of, threshold_at};
 ghost use Rattle.pcm_front.specs.Sound.{sound};
 ghost use Rattle.tc_address.specs.declared.system.System.{System};
 ghost use Rattle.tape_sound.specs.Heard.{AreHeard, BeginsLate, FitsAFile, FitsBehindASilence, HasMargin};
 ghost use Rattle.tape_sound.specs.Late.{delays_of, drift_from, AreFoundAs, IsSteady, IsWithinAHundredth};
 ghost use Rattle.tape_sound.specs.Made.{scaled};
-ghost use Rattle.tape_sound.specs.Margin.{turns, ComeBehind, ComeWithin, GoesOverAt, IsNoisy, StaysBetween};
+ghost use Rattle.tape_sound.specs.Margin.{noise_in_step, turns, ComeBehind, ComeWithin, GoesOverAt, HasRoom};
+ghost use Rattle.tape_sound.specs.Margin.{IsNoisy, StaysBetween};
 ghost use Rattle.tape_sound.specs.OnTime.{told, untimed, AreOnTime};
 ghost use Rattle.tape_sound.specs.Part.{FindThePart, PartHasMargin};
+ghost use Rattle.tape_sound.specs.Ramps.{high_along, low_along, noise_along, AreRamps, MovesOneWay, Ramp};
 
 use cell_tracker::laws::a_recording_within_the_tolerance_is_one_stretch;
 use direction_reader::laws::{
@@ -85,7 +87,7 @@ pub fn the_numbers_of_steadiness_are_the_least()
 /// all the way from the low bound to the high one within the delay, so does the sound with noise: each
 /// of its crossings comes within the delay, and there are no others.
 pub fn noise_keeps_crossings_within_the_delay()
-    ensures { (fineness noise : ℕ) (low high : ℕ → ℤ) (delay : ℕ) (threshold : Threshold) (from : List ℕ)
+    ensures { (fineness : ℕ) (noise : ℕ → ℕ) (low high : ℕ → ℤ) (delay : ℕ) (threshold : Threshold) (from : List ℕ)
         (clean sound : List ℤ) → 1 ≤ fineness → IsNoisy noise clean sound
         → StaysBetween low high noise threshold sound → GoesOverAt fineness low high delay from clean
         → ComeWithin delay from (moments fineness threshold sound) }
@@ -93,33 +95,69 @@ pub fn noise_keeps_crossings_within_the_delay()
 
 /// Each part of this is needed. Where noise of 6 meets a low bound that leaves room for 3, the sound crosses
 /// too soon; where the clean sound comes back over the low bound, though not over the high one, it
-/// crosses too often; and where the clean sound is slow to reach the high bound, too late.
+/// crosses too often; and where the clean sound is slow to reach the high bound, too late. It crosses
+/// too soon also where the noise at a sample has room, and the louder one at the sample before has not.
 pub fn each_part_of_a_margin_is_needed()
     ensures dips { let clean = neg_ℤ (pos 20) ∷ neg_ℤ (pos 1) ∷ pos 20 ∷ [] in
         let sound = neg_ℤ (pos 20) ∷ pos 5 ∷ pos 20 ∷ [] in
-        IsNoisy 6 clean sound × GoesOverAt 1 (λ place. pos 1) (λ place. pos 10) 1 (2 ∷ []) clean
+        IsNoisy (λ place. 6) clean sound × GoesOverAt 1 (λ place. pos 1) (λ place. pos 10) 1 (2 ∷ []) clean
         × ¬ ComeWithin 1 (2 ∷ []) (moments 1 (Fixed 4) sound) }
     ensures comes_back { let clean = neg_ℤ (pos 20) ∷ pos 20 ∷ neg_ℤ (pos 2) ∷ pos 20 ∷ [] in
         let sound = neg_ℤ (pos 20) ∷ pos 20 ∷ neg_ℤ (pos 5) ∷ pos 20 ∷ [] in
-        IsNoisy 3 clean sound × StaysBetween (λ place. pos 1) (λ place. pos 7) 3 (Fixed 4) sound
+        IsNoisy (λ place. 3) clean sound × StaysBetween (λ place. pos 1) (λ place. pos 7) (λ place. 3) (Fixed 4) sound
         × ComeWithin 1 (1 ∷ []) (turns 1 (λ place. pos 7) clean Low 1 3)
         × ¬ ComeWithin 1 (1 ∷ []) (moments 1 (Fixed 4) sound) }
     ensures slow { let clean = neg_ℤ (pos 20) ∷ pos 5 ∷ pos 20 ∷ [] in
         let sound = neg_ℤ (pos 20) ∷ pos 3 ∷ pos 20 ∷ [] in
-        IsNoisy 3 clean sound × StaysBetween (λ place. pos 1) (λ place. pos 7) 3 (Fixed 4) sound
+        IsNoisy (λ place. 3) clean sound × StaysBetween (λ place. pos 1) (λ place. pos 7) (λ place. 3) (Fixed 4) sound
         × ComeBehind (turns 1 (λ place. pos 1) clean Low 1 2) (1 ∷ [])
         × ¬ ComeWithin 0 (1 ∷ []) (moments 1 (Fixed 4) sound) }
+    ensures louder_before { let clean = neg_ℤ (pos 20) ∷ pos 20 ∷ [] in
+        let sound = neg_ℤ (pos 10) ∷ pos 20 ∷ [] in
+        let noise : ℕ → ℕ = λ place. 10 - 10 * place in
+        let low : ℕ → ℤ = λ place. pos 4 -ℤ pos (10 - 10 * place) in
+        let high : ℕ → ℤ = λ place. pos 4 +ℤ pos (10 - 10 * place) in
+        IsNoisy noise clean sound
+        × ((place : ℕ) → place < 2 → HasRoom (low place) (high place) (noise place) 4)
+        × GoesOverAt 40 low high 0 (24 ∷ []) clean
+        × ¬ ComeWithin 0 (24 ∷ []) (moments 40 (Fixed 4) sound) }
 {}
 
 /// Whatever the sound, its threshold stays between its least and half of the greatest sample.
 pub fn a_threshold_stays_within_the_level()
-    ensures { (threshold : Threshold) (most noise : ℕ) (sound : List ℤ) → 1 ≤ least_of threshold
+    ensures { (threshold : Threshold) (most : ℕ) (noise : ℕ → ℕ) (sound : List ℤ) → 1 ≤ least_of threshold
         → AllByRecursion (λ sample. unsigned_abs sample ≤ most) sound
-        → StaysBetween (λ place. pos (least_of threshold) -ℤ pos noise)
-        (λ place. pos (max (least_of threshold) (most / 2)) +ℤ pos noise) noise threshold sound }
+        → StaysBetween (λ place. pos (least_of threshold) -ℤ pos (noise_in_step noise place))
+        (λ place. pos (max (least_of threshold) (most / 2)) +ℤ pos (noise_in_step noise place)) noise threshold sound }
 {
     levels_are_bounded();
 }
+
+/// Part by part. Where over each part of a sound the threshold rises, or falls, from a value to another,
+/// but for a ripple, and the noise is at most so loud, the threshold stays between the bounds that these
+/// numbers give. A plateau is a part that begins and ends with one threshold. Where it never falls from a
+/// sample to the next, it rises without a ripple; so it is with falling.
+pub fn a_threshold_of_ramps_stays_between_them()
+    ensures between { (threshold : Threshold) (ramps : List Ramp) (sound : List ℤ) → 1 ≤ least_of threshold
+        → AreRamps threshold sound 0 ramps
+        → StaysBetween (low_along ramps) (high_along ramps) (noise_along ramps) threshold sound }
+    ensures rising { (threshold : Threshold) (sound : List ℤ) (first count : ℕ)
+        → ((place : ℕ) → first ≤ place → place + 1 < first + count
+        → threshold_at threshold sound place ≤ threshold_at threshold sound (place + 1))
+        → MovesOneWay true 0 threshold sound first count }
+    ensures falling { (threshold : Threshold) (sound : List ℤ) (first count : ℕ)
+        → ((place : ℕ) → first ≤ place → place + 1 < first + count
+        → threshold_at threshold sound (place + 1) ≤ threshold_at threshold sound place)
+        → MovesOneWay false 0 threshold sound first count }
+    ensures worked { let sound = pos 8 ∷ pos 8 ∷ neg_ℤ (pos 8) ∷ neg_ℤ (pos 8) ∷ pos 8 ∷ pos 8
+        ∷ pos 0 ∷ pos 0 ∷ pos 0 ∷ pos 0 ∷ [] in
+        let ramps : List Ramp = record { long = 6; begins = 1; ends = 4; ripple = 0; noise = 2 }
+        ∷ record { long = 4; begins = 3; ends = 2; ripple = 0; noise = 0 } ∷ [] in
+        AreRamps (Follow 1) sound 0 ramps
+        × (low_along ramps 5 ≡ neg_ℤ (pos 1)) × (high_along ramps 5 ≡ pos 6)
+        × (low_along ramps 6 ≡ pos 0) × (high_along ramps 6 ≡ pos 5)
+        × (low_along ramps 7 ≡ pos 2) × (high_along ramps 7 ≡ pos 3) }
+{}
 
 /// What is read of a tape that is heard: its words, good or refused, from the first unequal pair on, and
 /// no break.
@@ -208,11 +246,12 @@ pub fn a_part_with_a_margin_is_found()
 /// samples, and those that are found in ticks: it is steady for a delay of one sample.
 pub fn a_made_sound_has_a_margin()
     ensures fixed { (profile : Profile) (fineness size noise threshold : ℕ) (tape : List Cell) (noisy : List ℤ)
-        → 1 ≤ fineness → 1 ≤ threshold → threshold + noise ≤ size → IsNoisy noise (sound size (flat tape)) noisy
-        → IsSteady profile 1 tape → HasMargin profile fineness (Fixed threshold) (scaled fineness tape) noisy }
+        → 1 ≤ fineness → 1 ≤ threshold → threshold + noise ≤ size
+        → IsNoisy (λ place. noise) (sound size (flat tape)) noisy → IsSteady profile 1 tape
+        → HasMargin profile fineness (Fixed threshold) (scaled fineness tape) noisy }
     ensures followed { (profile : Profile) (fineness size noise : ℕ) (threshold : Threshold) (tape : List Cell)
         (noisy : List ℤ) → 1 ≤ fineness → 1 ≤ least_of threshold → least_of threshold + noise ≤ size
-        → 3 * noise ≤ size → IsNoisy noise (sound size (flat tape)) noisy → IsSteady profile 1 tape
+        → 3 * noise ≤ size → IsNoisy (λ place. noise) (sound size (flat tape)) noisy → IsSteady profile 1 tape
         → HasMargin profile fineness threshold (scaled fineness tape) noisy }
     ensures bits { (times : ℕ) (tape : List Cell) → bits (scaled times tape) ≡ bits tape }
 {

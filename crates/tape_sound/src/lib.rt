@@ -15,15 +15,15 @@
 //!   and 11 under the rough one; 38, 27 and 10 are not.
 //! - Of a sound with noise each crossing comes within the delay of its own moment, and there are no
 //!   others (`specs/Margin.antt`, `GoesOverAt` and `ComeWithin`), at a threshold that is fixed or follows
-//!   the level, at each fineness.
+//!   the level, at each fineness. Threshold and noise may be told part by part (`specs/Ramps.antt`).
 //! - Of a sound with a margin (`specs/Heard.antt`, `HasMargin`) the events are the words of the tape, each
 //!   on time (`specs/OnTime.antt`, `told` and `AreOnTime`), also behind a silence; and a part of a sound
 //!   between damage is found (`specs/Part.antt`, `FindThePart`).
 //! - Sound that is made of a steady tape has a margin (`specs/Made.antt`).
 //!
-//! Read `specs/Late.antt`, `Margin`, `Heard`, `OnTime`, `Part` and `Made`, in this order, and `laws` beside
-//! them. `sound_report` stands on this crate, and says the same of what the commands write. Nothing here
-//! runs, and no law says how much noise a recording has.
+//! Read `specs/Late.antt`, `Margin`, `Ramps`, `Heard`, `OnTime`, `Part` and `Made`, in this order, and
+//! `laws` beside them. `sound_report` stands on this crate, and says the same of what the commands write.
+//! Nothing here runs, and no law says how much noise a recording has.
 #![tactic(auto)]
 
 pub mod laws;
