@@ -13,7 +13,7 @@ def video(room, name, made, rate="25", coded=("mpeg4", "pcm_s16le"), offset="0")
     one = wav(os.path.join(room, "one.wav"), 48_000, [tone(len(made), 48_000)])
     two = wav(os.path.join(room, "two.wav"), 48_000, [made])
     path = os.path.join(room, name)
-    words = ["ffmpeg", "-v", "error", "-y", "-f", "lavfi", "-i", f"color=s=720x576:r={rate}:d=4", "-i", one]
+    words = ["ffmpeg", "-v", "error", "-y", "-f", "lavfi", "-i", f"color=s=176x144:r={rate}:d=4", "-i", one]
     words += ["-itsoffset", offset, "-i", two, "-map", "0:v", "-map", "1:a", "-map", "2:a"]
     subprocess.run([*words, "-c:v", coded[0], "-c:a", coded[1], path], check=True)
     return path

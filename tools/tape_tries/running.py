@@ -2,8 +2,15 @@
 import os
 import shutil
 import subprocess
+import sys
+import tempfile
+import traceback
 
 from .making import TOP
+
+sys.path.insert(0, os.path.join(TOP, "tools"))
+from tape_report import endings
+from tape_report import tape as tape_tool
 
 # Whether more is tried than in a few minutes can be.
 is_long = False
@@ -25,6 +32,35 @@ def tape(*words, status=0):
     ended, out, notes = run(TAPE, *words)
     assert ended == status, f"status {ended} for {status}\n{out}{notes}"
     return out, notes
+
+
+def forked(*words):
+    """The status of `tools/tape`, and its notes, by a child that has it loaded: a start costs more than a header."""
+    with tempfile.TemporaryFile() as notes:
+        child = os.fork()
+        if child == 0:
+            os._exit(loaded_tape(words, notes.fileno()))
+        _, how = os.waitpid(child, 0)
+        notes.seek(0)
+        return os.waitstatus_to_exitcode(how), notes.read().decode("utf-8", "replace")
+
+
+def loaded_tape(words, notes):
+    """The tool in this process, which ends with it."""
+    os.dup2(os.open(os.devnull, os.O_RDWR), 0)
+    os.dup2(0, 1)
+    os.dup2(notes, 2)
+    sys.argv = [TAPE, *words]
+    try:
+        return endings.run(tape_tool.main)
+    except SystemExit as end:
+        return end.code if isinstance(end.code, int) else 1
+    except BaseException:
+        traceback.print_exc()
+        return 1
+    finally:
+        sys.stdout.flush()
+        sys.stderr.flush()
 
 
 class NotTried(Exception):
