@@ -20,8 +20,9 @@ one_of : (kind : Frame → Bool) (frame : Frame) → count_by kind (frame ∷ []
 one_of kind frame = omega (arith, sum_by-cons (λ (f : Frame). cond (kind f) 1 0) frame [])
 
 -- a frame that is counted
-pub one_counted : (before mid after : FrameReader) (frame : Frame) → mid.heard ≡ before.heard → mid.invented ≡ before.invented → mid.gone ≡ before.gone
-    → after ≡ counted frame mid → Counts before after (frame ∷ [])
+pub one_counted : (before mid after : FrameReader) (frame : Frame) → mid.heard ≡ before.heard
+    → mid.invented ≡ before.invented → mid.gone ≡ before.gone → after ≡ counted frame mid
+    → Counts before after (frame ∷ [])
 one_counted before mid after (Heard l d j t) h i g e =
     rw e (record {
       heard = omega (arith, h, one_of is_heard (Heard l d j t));
@@ -44,21 +45,44 @@ one_counted before mid after (Gone t) h i g e =
 pub none_counted : (f : FrameReader) → Counts f f []
 none_counted f = record { heard = omega arith; invented = omega arith; gone = omega arith }
 
-count_of_more : (kind : Frame → Bool) (fs more : List Frame) → count_by kind (fs ++ more) ≡ count_by kind fs + count_by kind more
+count_of_more : (kind : Frame → Bool) (fs more : List Frame)
+    → count_by kind (fs ++ more) ≡ count_by kind fs + count_by kind more
 count_of_more kind fs more = sum_by-append (λ (f : Frame). cond (kind f) 1 0) fs more
 
 -- one frame is counted once
 pub one_more : (before after : FrameReader) (frame : Frame) → Counts before after (frame ∷ [])
     → frames_counted after ≡ frames_counted before + 1
-one_more before after (Heard l d j t) c = omega (arith, c.heard, c.invented, c.gone,
-    one_of is_heard (Heard l d j t), one_of is_invented (Heard l d j t), one_of is_gone (Heard l d j t))
-one_more before after (Invented l d s t) c = omega (arith, c.heard, c.invented, c.gone,
-    one_of is_heard (Invented l d s t), one_of is_invented (Invented l d s t), one_of is_gone (Invented l d s t))
-one_more before after (Gone t) c = omega (arith, c.heard, c.invented, c.gone,
-    one_of is_heard (Gone t), one_of is_invented (Gone t), one_of is_gone (Gone t))
+one_more before after (Heard l d j t) c = omega (
+  arith,
+  c.heard,
+  c.invented,
+  c.gone,
+  one_of is_heard (Heard l d j t),
+  one_of is_invented (Heard l d j t),
+  one_of is_gone (Heard l d j t),
+)
+one_more before after (Invented l d s t) c = omega (
+  arith,
+  c.heard,
+  c.invented,
+  c.gone,
+  one_of is_heard (Invented l d s t),
+  one_of is_invented (Invented l d s t),
+  one_of is_gone (Invented l d s t),
+)
+one_more before after (Gone t) c = omega (
+  arith,
+  c.heard,
+  c.invented,
+  c.gone,
+  one_of is_heard (Gone t),
+  one_of is_invented (Gone t),
+  one_of is_gone (Gone t),
+)
 
 -- some frames and then more
-pub both_counted : (a b c : FrameReader) (fs more : List Frame) → Counts a b fs → Counts b c more → Counts a c (fs ++ more)
+pub both_counted : (a b c : FrameReader) (fs more : List Frame)
+    → Counts a b fs → Counts b c more → Counts a c (fs ++ more)
 both_counted a b c fs more first second = record {
   heard = omega (arith, first.heard, second.heard, count_of_more is_heard fs more);
   invented = omega (arith, first.invented, second.invented, count_of_more is_invented fs more);
@@ -72,15 +96,22 @@ abbrev pub Given : (S C : Type 0) → Type 1
 Given S C = S → C → IntervalHeader → List Frame → Type 0
 
 -- nothing is sent of no frame
-pub sends_none : {S C : Type 0} (made : C → FrameText) (given : Given S C) (sink : S) (out : Option (List ℕ)) → Sends made given sink sink out out []
+pub sends_none : {S C : Type 0} (made : C → FrameText) (given : Given S C) (sink : S) (out : Option (List ℕ))
+    → Sends made given sink sink out out []
 sends_none made given sink out = λ choice header frames was. (
   subst (λ (fs : List Frame). given sink choice header fs) (sym (append-nil frames)) was,
-  ([], ap ((made choice).text header) (append-nil frames) ∙ sym (append-nil ((made choice).text header frames)), Appends-nil out),
+  (
+    [],
+    ap ((made choice).text header) (append-nil frames) ∙ sym (append-nil ((made choice).text header frames)),
+    Appends-nil out,
+  ),
 )
 
 -- some frames, and then more
-pub sends_both : {S C : Type 0} (made : C → FrameText) (given : Given S C) (a b c : S) (one two three : Option (List ℕ)) (fs more : List Frame)
-    → Sends made given a b one two fs → Sends made given b c two three more → Sends made given a c one three (fs ++ more)
+pub sends_both : {S C : Type 0} (made : C → FrameText) (given : Given S C) (a b c : S)
+    (one two three : Option (List ℕ)) (fs more : List Frame)
+    → Sends made given a b one two fs → Sends made given b c two three more
+    → Sends made given a c one three (fs ++ more)
 sends_both made given a b c one two three fs more first second = λ choice header frames was.
     let f = first choice header frames was in
     let s = second choice header (frames ++ fs) f.0 in
@@ -95,8 +126,10 @@ sends_both made given a b c one two three fs more first second = λ choice heade
     )
 
 -- some frames, and then a front of more
-pub sends_then_front : {S C : Type 0} (made : C → FrameText) (given : Given S C) (a b : S) (one two three : Option (List ℕ)) (fs more : List Frame)
-    → Sends made given a b one two fs → SendsFront made given b two three more → SendsFront made given a one three (fs ++ more)
+pub sends_then_front : {S C : Type 0} (made : C → FrameText) (given : Given S C) (a b : S)
+    (one two three : Option (List ℕ)) (fs more : List Frame)
+    → Sends made given a b one two fs → SendsFront made given b two three more
+    → SendsFront made given a one three (fs ++ more)
 sends_then_front made given a b one two three fs more first second = λ choice header frames rest was.
     let f = first choice header frames was in
     let s = second choice header (frames ++ fs) rest f.0 in
@@ -112,7 +145,8 @@ sends_then_front made given a b one two three fs more first second = λ choice h
 
 -- a frame that is given where one is due is none that was heard
 pub not_heard : (frame : Frame) (tick : ℕ) (f : FrameReader) → IsPast frame tick
-    → ((counted frame f).heard ≡ f.heard) × ((counted frame f).invented + (counted frame f).gone ≡ f.invented + f.gone + 1)
+    → ((counted frame f).heard ≡ f.heard)
+    × ((counted frame f).invented + (counted frame f).gone ≡ f.invented + f.gone + 1)
 not_heard (Heard l d j t) tick f past = absurd past
 not_heard (Invented l d s t) tick f past = (refl, omega arith)
 not_heard (Gone t) tick f past = (refl, omega arith)

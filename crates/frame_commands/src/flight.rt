@@ -220,7 +220,8 @@ impl<T: FrameSink> Behind for FlightTo<T> {
 
     ghost fits = { λ s count. FitsSink s.frames (T.taken s.sink) count };
 
-    ghost stands = { λ s choice header intervals written. Stands T.flight T.made T.given s.frames s.sink choice header intervals written };
+    ghost stands = { λ s choice header intervals written.
+        Stands T.flight T.made T.given s.frames s.sink choice header intervals written };
 
     ghost is_settled = { λ _. ⊤ };
 

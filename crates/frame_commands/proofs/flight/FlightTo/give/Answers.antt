@@ -110,7 +110,8 @@ returns g c =
         m.4,
         (λ words earlier given stands before.
             let all = words ++ words_heard (event_list m.0) in
-            subst (λ (t : ℕ). flies.HasGivenAll next.wheel all t (given ++ m.1)) (ap (λ (r : ReaderState). r.tick) reader)
+            subst (λ (t : ℕ). flies.HasGivenAll next.wheel all t (given ++ m.1))
+            (ap (λ (r : ReaderState). r.tick) reader)
             (n.gives all (given ++ m.1) (m.5 words earlier given stands before))),
       );
       front = tt;

@@ -5,7 +5,8 @@ use Rattle.direction_reader.specs.StandsFor.{Tells}
 use Rattle.flywheel.specs.declared.frame.Frame.{Frame}
 use Rattle.flywheel.specs.declared.heard.HeardWord.{HeardWord}
 use Rattle.flywheel.specs.StandsFor as flies
-use Rattle.frame_commands.specs.KeptFlight.{Counts, frames_counted, frames_to_come, HasGiven, IsGiving, KeepsReading, Sends}
+use Rattle.frame_commands.specs.KeptFlight.{Counts, frames_counted, frames_to_come, HasGiven, IsGiving}
+use Rattle.frame_commands.specs.KeptFlight.{KeepsReading, Sends}
 use Rattle.frame_commands.specs.OfFrames.{words_heard}
 use Rattle.frame_commands.proofs.flight.FlightTo.give.Given as goal
 

@@ -67,8 +67,9 @@ returns-in_err-word-clause-gives c = λ words given has.
     let same : words ≡ has.heard =
     has.are ∙ ap (λ (ws : List HeardWord). has.heard ++ ws) none ∙ append-nil has.heard in
     let all = c.in_default.ensures.stands has.heard has.earlier given has.wheel (rw now has.before) in
-    rw c.from_residual.ensures (subst (λ (ws : List HeardWord). flies.HasGivenAll wheel ws c.args.self.now.reader.tick given)
-    (sym same) (subst (λ (t : ℕ). flies.HasGivenAll wheel has.heard t given) now all))
+    let tick = c.args.self.now.reader.tick in
+    rw c.from_residual.ensures (subst (λ (ws : List HeardWord). flies.HasGivenAll wheel ws tick given) (sym same)
+    (subst (λ (t : ℕ). flies.HasGivenAll wheel has.heard t given) now all))
 
 -- the frame of the next word
 pub returns : goal.returns
