@@ -23,7 +23,7 @@ use Rattle.interval_file.specs.declared.header.IntervalHeader.{IntervalHeader}
 use Rattle.std.specs.Io.KnownBytes.{Appends}
 use Rattle.tc_job.specs.declared.flight.Flight.{Flight}
 use Rattle.frame_commands.specs.declared.flight.FrameReader.{FrameReader}
-use Rattle.frame_commands.specs.KeptFlight.{Comes, Counts, CountsAll, GivesDue, GivesDueAll, GivesDueAllFirst, Sends, SendsFront, Stands}
+use Rattle.frame_commands.specs.KeptFlight.{Counts, CountsAll, GivesAll, GivesDue, GivesFirst, Sends, SendsFront, Stands}
 use Rattle.frame_commands.specs.OfFrames.{FrameText, IsFlightPart, IsFlightWhole, frames_of, heard_in, words_heard}
 use Rattle.frame_commands.proofs.FramesInOrder.{Given}
 use Rattle.flywheel.specs.Kinds.{is_gone, is_heard, is_invented}
@@ -39,7 +39,7 @@ Reads before after x own = (intervals : List ℕ) (events : List Event) → read
     → reads.StandsFor after (intervals ++ x ∷ []) (events ++ event_list own)
 
 -- an interval after which no word comes
-pub due_alone : (a b : Wheel) (tick : ℕ) (due : List Frame) → GivesDue a b tick due → GivesDueAll a b tick [] due
+pub due_alone : (a b : Wheel) (tick : ℕ) (due : List Frame) → GivesDue a b tick due → GivesAll a b tick [] due
 due_alone a b tick due gives = λ words earlier given stands before.
     subst (λ (ws : List HeardWord). flies.HasGivenAll b ws tick (given ++ due)) (sym (append-nil words)) (gives words earlier given stands before)
 
@@ -68,7 +68,7 @@ count_of_more kind fs more = sum_by-append (λ (f : Frame). cond (kind f) 1 0) f
 pub flown : {S C : Type 0} (flight : C → Flight) (made : C → FrameText) (has : Given S C) (f next : FrameReader) (sink after : S) (choice : C) (header : IntervalHeader)
     (intervals written : List ℕ) (x : ℕ) (own : Events) (more : List Frame) (old new : Option (List ℕ))
     → Stands flight made has f sink choice header intervals written → Takes f.reader x next.reader → Reads f.reader next.reader x own → TheEvents
-    → next.wheel.limit ≡ f.wheel.limit → GivesDueAll f.wheel next.wheel next.reader.tick (words_heard (event_list own)) more
+    → next.wheel.limit ≡ f.wheel.limit → GivesAll f.wheel next.wheel next.reader.tick (words_heard (event_list own)) more
     → Counts f next more
     → Sends made has sink after old new more
     → (bytes : List ℕ) × Appends old new bytes × Stands flight made has next after choice header (intervals ++ x ∷ []) (written ++ bytes)
@@ -103,7 +103,7 @@ flown flight made has f next sink after choice header intervals written x own mo
 pub flown_part : {S C : Type 0} (flight : C → Flight) (made : C → FrameText) (has : Given S C) (f : FrameReader) (next : ReaderState) (sink : S) (choice : C)
     (header : IntervalHeader) (intervals written : List ℕ) (x : ℕ) (own : Events) (more : List Frame) (old new : Option (List ℕ))
     → Stands flight made has f sink choice header intervals written → Takes f.reader x next → Reads f.reader next x own → TheEvents
-    → GivesDueAllFirst f.wheel next.tick (words_heard (event_list own)) more → SendsFront made has sink old new more
+    → GivesFirst f.wheel next.tick (words_heard (event_list own)) more → SendsFront made has sink old new more
     → (part : List ℕ) × IsFlightPart (flight choice) (made choice) header (intervals ++ x ∷ []) (written ++ part) × AppendsFront old new part
 flown_part flight made has f next sink choice header intervals written x own more old new s takes grows law gives sends =
     let reader = grows intervals s.events s.reader in

@@ -8,6 +8,7 @@ mod FramesInOrder
 mod LinesOfFrames
 mod MadeInOrder
 mod MarkedLines
+mod NextFrame
 mod OneText
 mod SpansOfFrames
 mod SpansOfTheTape

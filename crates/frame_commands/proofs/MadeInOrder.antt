@@ -1,5 +1,5 @@
 -- What a command along frames prints is in order: the frames of some intervals come first, and its sink only adds to what it wrote.
-use Rattle.std.proofs.Common.{◌≡◌, ℕ, List, ◌++◌, refl, sym, ◌∙◌, ap, subst}
+use Rattle.std.proofs.Common.{List, ◌++◌, refl, sym, ◌∙◌, ap, subst}
 use Rattle.direction_reader.specs.declared.event.Event.{Event}
 use Rattle.tc_job.specs.declared.flight.Flight.{Flight}
 use Rattle.tc_io.specs.Sink.{IsFront}

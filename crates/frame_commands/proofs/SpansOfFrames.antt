@@ -1,13 +1,12 @@
 -- The lines of spans are those of the header's tick rate and system, and the last line counts what was read.
-use Rattle.std.proofs.Common.{◌≡◌, ℕ, ◌<◌, ◌^◌, List, [], ◌∷◌, ◌++◌, length, refl, sym, ◌∙◌, ap, ap₂, append_assoc}
-use Rattle.std.specs.Prelude.{sum}
+use Rattle.std.proofs.Common.{◌≡◌, ℕ, List, [], ◌∷◌, ◌++◌, refl, sym, ◌∙◌, ap, ap₂, append_assoc}
 use Rattle.tc_address.specs.declared.system.System.{System}
 use Rattle.flywheel.specs.declared.frame.Frame.{Frame}
 use Rattle.flywheel.specs.declared.frame.Frame.TheVariants.{Heard, Invented, Gone}
 use Rattle.tape_spans.specs.declared.place.Cut.{Cut}
 use Rattle.tape_spans.specs.Spans.{frames_of_spans, spans}
 use Rattle.tape_spans.specs.SpanTexts.{final_behind, final_lines, last_spans_line, open_line}
-use Rattle.tape_spans.specs.StandsFor.{StandsFor, cut_lines}
+use Rattle.tape_spans.specs.StandsFor.{cut_lines}
 use Rattle.tape_spans.specs.Tape.{FitsTick, Tape}
 use Rattle.interval_file.specs.declared.header.IntervalHeader.{IntervalHeader}
 use Rattle.report_text.specs.FrameTexts.{FitsFrameLine}

@@ -1,5 +1,6 @@
 -- What a command along the frames of a recording keeps. No promise speaks of it.
-use Rattle.std.specs.Prelude.{◌≡◌, ℕ, ◌+◌, ◌*◌, ◌^◌, ◌<◌, ◌≤◌, List, [], ◌++◌, count_by, length, IfSome, sum, Option}
+use Rattle.std.specs.Prelude.{◌≡◌, ℕ, ◌+◌, ◌*◌, ◌^◌, ◌<◌, ◌≤◌, List, [], ◌∷◌, ◌++◌, count_by, length, sum}
+use Rattle.std.specs.Prelude.{All, IfSome, None, Option, Some}
 use Rattle.std.specs.Io.KnownBytes.{Appends}
 use Rattle.std.proofs.Common.{sym, ◌∙◌, ap}
 use Rattle.direction_reader.specs.declared.event.Event.{Event}
@@ -12,7 +13,7 @@ use Rattle.flywheel.specs.declared.frame.Frame.TheVariants.{Heard, Invented, Gon
 use Rattle.flywheel.specs.declared.heard.HeardWord.{HeardWord}
 use Rattle.flywheel.specs.Frames.{frames}
 use Rattle.flywheel.specs.StandsFor as flies
-use Rattle.flywheel.specs.Wheel.{Wheel, frames_left}
+use Rattle.flywheel.specs.Wheel.{Wheel, frames_left, IsInRange}
 use Rattle.interval_file.specs.declared.header.IntervalHeader.{IntervalHeader}
 use Rattle.frame_commands.specs.declared.flight.FrameReader.{FrameReader}
 use Rattle.tc_job.specs.declared.flight.Flight.{Flight}
@@ -57,41 +58,53 @@ pub record FitsSink (f : FrameReader) (own count : ℕ) : Type 0 where
   pub flight : FitsFlight f count
   pub taken : own ≤ frames_counted f
 
--- at a tick, the flywheel has heard its last word, and the counts have room for the frames of more words; of these at
--- most so many were heard. A sink has counted no more frames than it was given
-pub record IsReady (f : FrameReader) (taken tick most : ℕ) : Type 0 where
-  pub below : tick < 2 ^ 60
-  pub heard_by : HeardBy tick f.wheel
+-- an interval was read: the flywheel has heard its last word before, and the counts have room for the frames of two
+-- words more
+pub record IsReady (f : FrameReader) : Type 0 where
+  pub within : f.reader.intervals ≤ MAX_INTERVALS
+  pub below : f.reader.tick < 2 ^ 60
+  pub heard_by : HeardBy f.reader.tick f.wheel
   pub fits : FitsFrames f
-  pub few : f.heard ≤ most
-  pub room : taken ≤ frames_counted f
+  pub few : f.heard + 2 ≤ 2 * f.reader.intervals
 
--- it is left so
-pub record StaysReady (f : FrameReader) (tick : ℕ) : Type 0 where
-  pub heard_by : HeardBy tick f.wheel
+-- a word was heard at the tick
+abbrev pub IsHeardAt : ℕ → HeardWord → Type 0
+IsHeardAt tick word = (word.tick ≡ tick) × IsInRange word
+
+-- the frames of that interval are given: its words that wait were heard at its tick, and the counts have room for them
+pub record IsGiving (f : FrameReader) : Type 0 where
+  pub within : f.reader.intervals ≤ MAX_INTERVALS
+  pub heard_by : HeardBy f.reader.tick f.wheel
   pub fits : FitsFrames f
+  pub few : f.heard + length f.words ≤ 2 * f.reader.intervals
+  pub waiting : All (IsHeardAt f.reader.tick) f.words
+
+-- so many frames may still be given of that interval
+abbrev pub frames_to_come : FrameReader → ℕ
+frames_to_come f = 257 * length f.words + frames_left f.wheel
 
 -- frames were given, and no interval was read
-pub record KeepsReading (before after : FrameReader) (taken : ℕ) : Type 0 where
+pub record KeepsReading (before after : FrameReader) : Type 0 where
   pub reader : after.reader ≡ before.reader
   pub limit : after.wheel.limit ≡ before.wheel.limit
-  pub room : taken ≤ frames_counted after
 
 -- these frames come first among those of the words up to the tick
 abbrev pub Comes : ℕ → List HeardWord → ℕ → List Frame → Type 0
 Comes limit words tick front = (rest : List Frame) × (frames limit words tick ≡ front ++ rest)
 
--- with these frames more, all of the words so far and these words were given up to the tick
-abbrev pub GivesAll : Wheel → Wheel → ℕ → List HeardWord → List Frame → Type 0
-GivesAll before after tick more_words more =
-    (words : List HeardWord) (given : List Frame) → flies.HasGivenAll before words tick given
-    → flies.HasGivenAll after (words ++ more_words) tick (given ++ more)
+-- these frames were given of these words up to the tick, and the last of the words wait to be heard
+pub record HasGiven (f : FrameReader) (words : List HeardWord) (given : List Frame) : Type 0 where
+  pub heard : List HeardWord
+  pub are : words ≡ heard ++ f.words
+  pub earlier : ℕ
+  pub before : earlier ≤ f.reader.tick
+  pub wheel : flies.StandsFor f.wheel heard earlier given
 
--- they come first among those of the words so far and these
-abbrev pub GivesFirst : Wheel → ℕ → List HeardWord → List Frame → Type 0
-GivesFirst before tick more_words more =
-    (words : List HeardWord) (given : List Frame) → flies.HasGivenAll before words tick given
-    → Comes before.limit (words ++ more_words) tick (given ++ more)
+-- the next frame is the first of those still to come, and there is none where all were given
+abbrev pub GivesNext : FrameReader → List HeardWord → List Frame → Option Frame → Type 0
+GivesNext f words given None = flies.HasGivenAll f.wheel words f.reader.tick given
+GivesNext f words given (Some frame) =
+    HasGiven f words (given ++ frame ∷ []) × Comes f.wheel.limit words f.reader.tick (given ++ frame ∷ [])
 
 -- with these frames more, all that were due up to a later tick were given
 abbrev pub GivesDue : Wheel → Wheel → ℕ → List Frame → Type 0
@@ -99,21 +112,15 @@ GivesDue before after tick more =
     (words : List HeardWord) (earlier : ℕ) (given : List Frame) → flies.StandsFor before words earlier given
     → earlier ≤ tick → flies.HasGivenAll after words tick (given ++ more)
 
--- they come first
-abbrev pub GivesDueFirst : Wheel → ℕ → List Frame → Type 0
-GivesDueFirst before tick more =
-    (words : List HeardWord) (earlier : ℕ) (given : List Frame) → flies.StandsFor before words earlier given
-    → earlier ≤ tick → Comes before.limit words tick (given ++ more)
-
 -- with these frames more, all that were due and those of these words were given up to a later tick
-abbrev pub GivesDueAll : Wheel → Wheel → ℕ → List HeardWord → List Frame → Type 0
-GivesDueAll before after tick more_words more =
+abbrev pub GivesAll : Wheel → Wheel → ℕ → List HeardWord → List Frame → Type 0
+GivesAll before after tick more_words more =
     (words : List HeardWord) (earlier : ℕ) (given : List Frame) → flies.StandsFor before words earlier given
     → earlier ≤ tick → flies.HasGivenAll after (words ++ more_words) tick (given ++ more)
 
 -- they come first
-abbrev pub GivesDueAllFirst : Wheel → ℕ → List HeardWord → List Frame → Type 0
-GivesDueAllFirst before tick more_words more =
+abbrev pub GivesFirst : Wheel → ℕ → List HeardWord → List Frame → Type 0
+GivesFirst before tick more_words more =
     (words : List HeardWord) (earlier : ℕ) (given : List Frame) → flies.StandsFor before words earlier given
     → earlier ≤ tick → Comes before.limit (words ++ more_words) tick (given ++ more)
 

@@ -1,52 +1,45 @@
 //! The way along the frames of a recording, the same for each command that makes something of them: words
-//! become frames, and a flywheel invents those that are missing. Next: `flywheel/src/heard.rt`, and with
-//! the frames `frame_sink`.
-ghost use Rattle.std.specs.Prelude.{◌≡◌, ◌≤◌, ◌<◌, ◌+◌, ◌-◌, ◌*◌, ◌^◌, List, ◌∷◌, ◌++◌, [], ℕ, false, IsTrue, OnOk};
-ghost use Rattle.std.specs.Prelude.{OnErr, IfOk, IfErr, IfSome};
-ghost use Rattle.std.specs.Io.KnownBytes.{Appends};
-ghost use Rattle.biphase.specs.declared.cell.TheConstants.{MAX_INTERVAL, MAX_INTERVALS};
-ghost use Rattle.direction_reader.specs.declared.event.Event.{Event};
+//! become frames, and a flywheel invents those that are missing. Next: `words`, and with the frames
+//! `frame_sink`.
+ghost use Rattle.std.specs.Prelude.{◌≡◌, ◌≤◌, ◌<◌, ◌^◌, List, [], ℕ, IsTrue, OnOk, OnErr, IfSome};
+ghost use Rattle.std.specs.Option.{option_to_list};
 ghost use Rattle.direction_reader.specs.declared.event.Events.{Events};
-ghost use Rattle.direction_reader.specs.Brings.{IsLatest, Brings};
-ghost use Rattle.direction_reader.specs.Events.{event_list, listed};
+ghost use Rattle.direction_reader.specs.Events.{event_list};
 ghost use Rattle.direction_reader.specs.StandsFor.{MayTell, Tells};
 ghost use Rattle.flywheel.specs.declared.frame.Frame.{Frame};
 ghost use Rattle.flywheel.specs.declared.heard.HeardWord.{HeardWord};
-ghost use Rattle.flywheel.specs.Wheel.{frames_left, has_frame_due, IsInRange};
 ghost use Rattle.report_text.specs.FrameTexts.{fly_end_line, FitsFrameLine};
-ghost use Rattle.tc_io.specs.Sink.{AppendsFront};
 ghost use Rattle.tc_io.specs.Source.{Rose};
-ghost use Rattle.tc_command.specs.Causes.{HasOutCause};
 ghost use Rattle.frame_commands.specs.OfFrames.{words_heard};
 ghost use Rattle.frame_commands.specs.KeptFlight.{
   BeginsFlight,
   counted,
   frames_counted,
+  frames_to_come,
   Counts,
   FitsFlight,
-  FitsFrames,
+  FitsSink,
   GivesAll,
   GivesDue,
-  GivesDueAll,
-  GivesDueAllFirst,
-  GivesDueFirst,
   GivesFirst,
+  GivesNext,
+  HasGiven,
   HeardBy,
+  IsGiving,
   IsReady,
   KeepsReading,
   Sends,
   SendsFront,
-  StaysReady,
 };
 
 use crate::frame_sink::FrameSink;
-use biphase::{MAX_INTERVAL, MAX_INTERVALS};
+use crate::words::Words;
 use direction_reader::laws::{
     a_list_has_one_list_of_events, a_reader_gives_the_events_of_its_list,
 };
-use direction_reader::{Brought, DirectionReader, Event, Events};
-use flywheel::laws::frames_come_in_order;
-use flywheel::{Flywheel, Frame, HeardWord};
+use direction_reader::{Brought, DirectionReader};
+use flywheel::laws::{frames_come_in_order, frames_of_a_front_come_first};
+use flywheel::{Flywheel, Frame};
 use interval_engine::Behind;
 use interval_file::IntervalHeader;
 use line_text::Text;
@@ -63,6 +56,8 @@ pub(crate) struct FrameReader {
     heard: u64,
     invented: u64,
     gone: u64,
+    /// The words of the latest interval that are still to be heard.
+    words: Words,
 }
 
 impl FrameReader {
@@ -76,220 +71,58 @@ impl FrameReader {
             heard: 0,
             invented: 0,
             gone: 0,
+            words: Words::new(),
         }
     }
 
-    /// Counts a frame, and gives it.
-    fn push<T: FrameSink, K: Sink>(
-        &mut self,
-        frame: &Frame,
-        sink: &mut T,
-        out: &mut K,
-    ) -> Result<(), Stop>
-        requires line { FitsFrameLine frame.now }
-        requires few { frames_counted self.old < 2 ^ 40 - 1 }
-        requires room { T.taken sink.old ≤ frames_counted self.old }
+    /// Takes the words of what the latest interval brought.
+    fn hear(&mut self, brought: Brought)
+        requires ready { IsReady self.old }
+        requires may { MayTell self.old.reader brought }
+        ensures ready { IsGiving self.new }
+        ensures hears { (own : Events) × Tells self.old.reader brought own
+            × (self.new ≡ record self.old { words = words_heard (event_list own) }) }
+    {
+        self.words = Words::of(self.reader.events(brought));
+    }
+
+    /// The next frame that the latest interval brings: one that is due, or else that of its next word.
+    fn next(&mut self) -> Option<Frame>
+        requires { IsGiving self.old }
+        ensures ready { IsGiving self.new }
+        ensures keeps { KeepsReading self.old self.new }
+        ensures line { IfSome result FitsFrameLine }
+        ensures counted { Counts self.old self.new (option_to_list result) }
+        ensures fewer { IfSome result (λ _. frames_to_come self.new < frames_to_come self.old) }
+        ensures gives { (words : List HeardWord) (given : List Frame) → HasGiven self.old words given
+            → GivesNext self.new words given result }
+    {
+        frames_come_in_order();
+        frames_of_a_front_come_first();
+        let tick = self.reader.tick();
+        if let Some(frame) = self.wheel.passed(tick) {
+            self.count(&frame);
+            return Some(frame);
+        }
+        let word = self.words.next()?;
+        let frame = self.wheel.heard(&word);
+        self.count(&frame);
+        Some(frame)
+    }
+
+    /// Counts a frame.
+    fn count(&mut self, frame: &Frame)
+        requires { frames_counted self.old < 2 ^ 40 }
         ensures counted { self.new ≡ counted frame.now self.old }
-        ensures room { T.taken sink.new ≤ frames_counted self.new }
         ensures reader { self.new.reader ≡ self.old.reader }
         ensures wheel { self.new.wheel ≡ self.old.wheel }
-        ensures sends { OnOk result (Sends T.made T.given sink.old sink.new (K.written out.old) (K.written out.new) (frame.now ∷ [])) }
-        ensures front { OnErr result (SendsFront T.made T.given sink.old (K.written out.old) (K.written out.new) (frame.now ∷ [])) }
-        ensures why { IfErr result (λ stop. stop ≡ Stop.WriteFault) }
-        ensures cause { HasOutCause (K.faults out.old) (K.faults out.new) result }
+        ensures words { self.new.words ≡ self.old.words }
     {
         match frame {
             Frame::Heard { .. } => self.heard += 1,
             Frame::Invented { .. } => self.invented += 1,
             Frame::Gone { .. } => self.gone += 1,
         }
-        sink.frame(frame, out)
-    }
-
-    /// Gives the frames that are due at the tick.
-    fn pass<T: FrameSink, K: Sink>(
-        &mut self,
-        tick: u64,
-        sink: &mut T,
-        out: &mut K,
-    ) -> Result<(), Stop>
-        requires ready { IsReady self.old (T.taken sink.old) tick (2 * MAX_INTERVALS) }
-        ensures keeps { KeepsReading self.old self.new (T.taken sink.new) }
-        ensures heard { self.new.heard ≡ self.old.heard }
-        ensures ready { OnOk result (StaysReady self.new tick) }
-        ensures none_due { OnOk result (has_frame_due self.new.wheel tick ≡ false) }
-        ensures gives { OnOk result ((more : List Frame) × Counts self.old self.new more
-            × Sends T.made T.given sink.old sink.new (K.written out.old) (K.written out.new) more
-            × GivesDue self.old.wheel self.new.wheel tick more) }
-        ensures front { OnErr result ((more : List Frame)
-            × SendsFront T.made T.given sink.old (K.written out.old) (K.written out.new) more
-            × GivesDueFirst self.old.wheel tick more) }
-        ensures why { IfErr result (λ stop. stop ≡ Stop.WriteFault) }
-        ensures cause { HasOutCause (K.faults out.old) (K.faults out.new) result }
-    {
-        frames_come_in_order();
-        'due: loop {
-            let Some(frame) = self.wheel.passed(tick) else {
-                return Ok(());
-            };
-            self.push(&frame, sink, out)?;
-        }
-    }
-
-    /// Hears the word of an event, if it is one, and gives its frame.
-    fn hear<T: FrameSink, K: Sink>(
-        &mut self,
-        event: Option<Event>,
-        tick: u64,
-        sink: &mut T,
-        out: &mut K,
-    ) -> Result<(), Stop>
-        requires ready { IsReady self.old (T.taken sink.old) tick (2 * MAX_INTERVALS + 1) }
-        requires latest { IfSome event (IsLatest self.old.reader.intervals tick) }
-        requires none_due { has_frame_due self.old.wheel tick ≡ false }
-        ensures keeps { KeepsReading self.old self.new (T.taken sink.new) }
-        ensures heard { self.new.heard ≤ self.old.heard + 1 }
-        ensures ready { StaysReady self.new tick }
-        ensures none_due { has_frame_due self.new.wheel tick ≡ false }
-        ensures gives { (more : List Frame) × Counts self.old self.new more
-            × GivesAll self.old.wheel self.new.wheel tick (words_heard (listed event)) more
-            × OnOk result (Sends T.made T.given sink.old sink.new (K.written out.old) (K.written out.new) more)
-            × OnErr result (SendsFront T.made T.given sink.old (K.written out.old) (K.written out.new) more) }
-        ensures why { IfErr result (λ stop. stop ≡ Stop.WriteFault) }
-        ensures cause { HasOutCause (K.faults out.old) (K.faults out.new) result }
-    {
-        match event {
-            Some(
-                Event::Word {
-                    direction,
-                    word,
-                    tick,
-                    length,
-                },
-            ) => {
-                let word = HeardWord {
-                    label: word.fields.label(),
-                    direction,
-                    tick,
-                    length,
-                };
-                self.hear_word(&word, sink, out)
-            }
-            Some(Event::Refused { .. }) => Ok(()),
-            Some(Event::Lost { .. }) => Ok(()),
-            None => Ok(()),
-        }
-    }
-
-    /// Hears a word, at whose tick nothing is due any more, and gives its frame.
-    fn hear_word<T: FrameSink, K: Sink>(
-        &mut self,
-        word: &HeardWord,
-        sink: &mut T,
-        out: &mut K,
-    ) -> Result<(), Stop>
-        requires ready { IsReady self.old (T.taken sink.old) word.now.tick (2 * MAX_INTERVALS + 1) }
-        requires range { IsInRange word.now }
-        requires none_due { has_frame_due self.old.wheel word.now.tick ≡ false }
-        ensures keeps { KeepsReading self.old self.new (T.taken sink.new) }
-        ensures heard { self.new.heard ≡ self.old.heard + 1 }
-        ensures ready { StaysReady self.new word.now.tick }
-        ensures none_due { has_frame_due self.new.wheel word.now.tick ≡ false }
-        ensures gives { (frame : Frame) × Counts self.old self.new (frame ∷ [])
-            × GivesAll self.old.wheel self.new.wheel word.now.tick (word.now ∷ []) (frame ∷ [])
-            × OnOk result (Sends T.made T.given sink.old sink.new (K.written out.old) (K.written out.new) (frame ∷ []))
-            × OnErr result (SendsFront T.made T.given sink.old (K.written out.old) (K.written out.new) (frame ∷ [])) }
-        ensures why { IfErr result (λ stop. stop ≡ Stop.WriteFault) }
-        ensures cause { HasOutCause (K.faults out.old) (K.faults out.new) result }
-    {
-        let frame = self.wheel.heard(word);
-        self.push(&frame, sink, out)
-    }
-
-    /// Hears the words of the events of an interval, and gives their frames.
-    fn hear_both<T: FrameSink, K: Sink>(
-        &mut self,
-        events: Events,
-        tick: u64,
-        sink: &mut T,
-        out: &mut K,
-    ) -> Result<(), Stop>
-        requires ready { IsReady self.old (T.taken sink.old) tick (2 * MAX_INTERVALS) }
-        requires brings { Brings self.old.reader.intervals tick events }
-        requires none_due { has_frame_due self.old.wheel tick ≡ false }
-        ensures keeps { KeepsReading self.old self.new (T.taken sink.new) }
-        ensures heard { OnOk result (self.new.heard ≤ self.old.heard + 2) }
-        ensures ready { OnOk result (StaysReady self.new tick) }
-        ensures gives { OnOk result ((more : List Frame) × Counts self.old self.new more
-            × Sends T.made T.given sink.old sink.new (K.written out.old) (K.written out.new) more
-            × GivesAll self.old.wheel self.new.wheel tick (words_heard (event_list events)) more) }
-        ensures front { OnErr result ((more : List Frame)
-            × SendsFront T.made T.given sink.old (K.written out.old) (K.written out.new) more
-            × GivesFirst self.old.wheel tick (words_heard (event_list events)) more) }
-        ensures why { IfErr result (λ stop. stop ≡ Stop.WriteFault) }
-        ensures cause { HasOutCause (K.faults out.old) (K.faults out.new) result }
-    {
-        frames_come_in_order();
-        self.hear(events.first, tick, sink, out)?;
-        self.hear(events.second, tick, sink, out)
-    }
-
-    /// Gives the frames that are due at the tick, mostly none.
-    fn give_due<T: FrameSink, K: Sink>(
-        &mut self,
-        tick: u64,
-        sink: &mut T,
-        out: &mut K,
-    ) -> Result<(), Stop>
-        requires ready { IsReady self.old (T.taken sink.old) tick (2 * MAX_INTERVALS) }
-        ensures keeps { KeepsReading self.old self.new (T.taken sink.new) }
-        ensures heard { self.new.heard ≡ self.old.heard }
-        ensures ready { OnOk result (StaysReady self.new tick) }
-        ensures none_due { OnOk result (has_frame_due self.new.wheel tick ≡ false) }
-        ensures gives { OnOk result ((more : List Frame) × Counts self.old self.new more
-            × Sends T.made T.given sink.old sink.new (K.written out.old) (K.written out.new) more
-            × GivesDue self.old.wheel self.new.wheel tick more) }
-        ensures front { OnErr result ((more : List Frame)
-            × SendsFront T.made T.given sink.old (K.written out.old) (K.written out.new) more
-            × GivesDueFirst self.old.wheel tick more) }
-        ensures why { IfErr result (λ stop. stop ≡ Stop.WriteFault) }
-        ensures cause { HasOutCause (K.faults out.old) (K.faults out.new) result }
-    {
-        if self.wheel.due(tick) {
-            self.pass(tick, sink, out)
-        } else {
-            Ok(())
-        }
-    }
-
-    /// Gives the frames that are due, and then those of the words of what an interval brought.
-    fn hear_all<T: FrameSink, K: Sink>(
-        &mut self,
-        brought: Brought,
-        sink: &mut T,
-        out: &mut K,
-    ) -> Result<(), Stop>
-        requires ready { IsReady self.old (T.taken sink.old) self.old.reader.tick (2 * MAX_INTERVALS) }
-        requires taken { 1 ≤ self.old.reader.intervals }
-        requires may { MayTell self.old.reader brought }
-        ensures keeps { KeepsReading self.old self.new (T.taken sink.new) }
-        ensures heard { OnOk result (self.new.heard ≤ self.old.heard + 2) }
-        ensures ready { OnOk result (StaysReady self.new self.old.reader.tick) }
-        ensures gives { OnOk result ((own : Events) × (more : List Frame) × Tells self.old.reader brought own
-            × Counts self.old self.new more
-            × Sends T.made T.given sink.old sink.new (K.written out.old) (K.written out.new) more
-            × GivesDueAll self.old.wheel self.new.wheel self.old.reader.tick (words_heard (event_list own)) more) }
-        ensures front { OnErr result ((own : Events) × (more : List Frame) × Tells self.old.reader brought own
-            × SendsFront T.made T.given sink.old (K.written out.old) (K.written out.new) more
-            × GivesDueAllFirst self.old.wheel self.old.reader.tick (words_heard (event_list own)) more) }
-        ensures why { IfErr result (λ stop. stop ≡ Stop.WriteFault) }
-        ensures cause { HasOutCause (K.faults out.old) (K.faults out.new) result }
-    {
-        frames_come_in_order();
-        let tick = self.reader.tick();
-        let events = self.reader.events(brought);
-        self.give_due(tick, sink, out)?;
-        self.hear_both(events, tick, sink, out)
     }
 
     /// Whether the latest interval brings no frame: nothing was told of it, and none is due.
@@ -302,38 +135,6 @@ impl FrameReader {
         match brought {
             Brought::Nothing => !self.wheel.due(self.reader.tick()),
             Brought::Candidate | Brought::Break => false,
-        }
-    }
-
-    /// Gives what `hear_all` does. Nearly every interval brings nothing, and a small answer costs those
-    /// nothing.
-    #[cold]
-    #[inline(never)]
-    fn give<T: FrameSink, K: Sink>(
-        &mut self,
-        brought: Brought,
-        sink: &mut T,
-        out: &mut K,
-    ) -> Result<(), Failed>
-        requires ready { IsReady self.old (T.taken sink.old) self.old.reader.tick (2 * MAX_INTERVALS) }
-        requires taken { 1 ≤ self.old.reader.intervals }
-        requires may { MayTell self.old.reader brought }
-        ensures keeps { KeepsReading self.old self.new (T.taken sink.new) }
-        ensures heard { OnOk result (self.new.heard ≤ self.old.heard + 2) }
-        ensures ready { OnOk result (StaysReady self.new self.old.reader.tick) }
-        ensures gives { OnOk result ((own : Events) × (more : List Frame) × Tells self.old.reader brought own
-            × Counts self.old self.new more
-            × Sends T.made T.given sink.old sink.new (K.written out.old) (K.written out.new) more
-            × GivesDueAll self.old.wheel self.new.wheel self.old.reader.tick (words_heard (event_list own)) more) }
-        ensures front { OnErr result ((own : Events) × (more : List Frame) × Tells self.old.reader brought own
-            × SendsFront T.made T.given sink.old (K.written out.old) (K.written out.new) more
-            × GivesDueAllFirst self.old.wheel self.old.reader.tick (words_heard (event_list own)) more) }
-        ensures same { OnOk result (K.faults out.new ≡ K.faults out.old) }
-        ensures rose { OnErr result (Rose (K.faults out.old) (K.faults out.new)) }
-    {
-        match self.hear_all(brought, sink, out) {
-            Ok(()) => Ok(()),
-            Err(_) => Err(Failed),
         }
     }
 
@@ -376,6 +177,38 @@ pub(crate) struct FlightTo<T: FrameSink> {
     sink: T,
 }
 
+impl<T: FrameSink> FlightTo<T> {
+    /// Gives the sink the frames that the latest interval brings. Nearly every interval brings none, and a
+    /// small answer costs those nothing.
+    #[cold]
+    #[inline(never)]
+    fn give<K: Sink>(&mut self, brought: Brought, out: &mut K) -> Result<(), Failed>
+        requires ready { IsReady self.old.frames }
+        requires room { T.taken self.old.sink ≤ frames_counted self.old.frames }
+        requires may { MayTell self.old.frames.reader brought }
+        ensures keeps { OnOk result (KeepsReading self.old.frames self.new.frames) }
+        ensures fits { OnOk result (FitsSink self.new.frames (T.taken self.new.sink) self.old.frames.reader.intervals) }
+        ensures gives { OnOk result ((own : Events) × (more : List Frame) × Tells self.old.frames.reader brought own
+            × Counts self.old.frames self.new.frames more
+            × Sends T.made T.given self.old.sink self.new.sink (K.written out.old) (K.written out.new) more
+            × GivesAll self.old.frames.wheel self.new.frames.wheel self.old.frames.reader.tick
+            (words_heard (event_list own)) more) }
+        ensures front { OnErr result ((own : Events) × (more : List Frame) × Tells self.old.frames.reader brought own
+            × SendsFront T.made T.given self.old.sink (K.written out.old) (K.written out.new) more
+            × GivesFirst self.old.frames.wheel self.old.frames.reader.tick (words_heard (event_list own)) more) }
+        ensures same { OnOk result (K.faults out.new ≡ K.faults out.old) }
+        ensures rose { OnErr result (Rose (K.faults out.old) (K.faults out.new)) }
+    {
+        self.frames.hear(brought);
+        while let Some(frame) = self.frames.next() {
+            if let Err(_) = self.sink.frame(&frame, out) {
+                return Err(Failed);
+            }
+        }
+        Ok(())
+    }
+}
+
 impl<T: FrameSink> Behind for FlightTo<T> {
     ghost use Rattle.std.specs.Prelude.{⊤};
     ghost use Rattle.frame_commands.specs.KeptFlight.{FitsSink, Stands, stands_well};
@@ -387,7 +220,8 @@ impl<T: FrameSink> Behind for FlightTo<T> {
 
     ghost fits = { λ s count. FitsSink s.frames (T.taken s.sink) count };
 
-    ghost stands = { λ s choice header intervals written. Stands T.flight T.made T.given s.frames s.sink choice header intervals written };
+    ghost stands = { λ s choice header intervals written.
+        Stands T.flight T.made T.given s.frames s.sink choice header intervals written };
 
     ghost is_settled = { λ _. ⊤ };
 
@@ -408,12 +242,11 @@ impl<T: FrameSink> Behind for FlightTo<T> {
     #[inline(always)]
     fn interval<K: Sink>(&mut self, x: u32, out: &mut K) -> Result<(), Stop> {
         a_reader_gives_the_events_of_its_list();
-        frames_come_in_order();
         let brought = self.frames.reader.step(x);
         if self.frames.is_quiet(brought) {
             return Ok(());
         }
-        match self.frames.give(brought, &mut self.sink, out) {
+        match self.give(brought, out) {
             Ok(()) => Ok(()),
             Err(Failed) => Err(Stop::WriteFault),
         }

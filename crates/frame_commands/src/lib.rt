@@ -10,7 +10,7 @@
 //!   `ltc-chase` each loss has its cause (`specs/LtcChase.antt`).
 //! - What they make of frames comes first, whatever frames follow (`laws`).
 //!
-//! Read `frame_sink`, `flight`, and then `ltc_fly`, `ltc_spans`, `ltc_mtc`, `jam` and `ltc_chase`.
+//! Read `frame_sink`, `flight`, `words`, and then `ltc_fly`, `ltc_spans`, `ltc_mtc`, `jam` and `ltc_chase`.
 #![tactic(auto)]
 
 mod flight;
@@ -21,6 +21,7 @@ mod ltc_chase;
 mod ltc_fly;
 mod ltc_mtc;
 mod ltc_spans;
+mod words;
 
 pub use jam::jam_sync;
 pub use ltc_chase::{MAX_FRAMES, chase_code};

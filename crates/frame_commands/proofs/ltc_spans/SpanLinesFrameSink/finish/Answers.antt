@@ -1,4 +1,4 @@
-use Rattle.std.proofs.Common.{◌++◌, ◌∙◌, ap₂, ℕ, List, refl, subst, sym, append-nil}
+use Rattle.std.proofs.Common.{◌++◌, ap₂, ℕ, List, refl, subst, sym, append-nil}
 use Rattle.std.specs.Io.KnownBytes.{Appends}
 use Rattle.std.proofs.KnownBytes.{Appends-trans}
 use Rattle.tape_spans.specs.StandsFor.{ended_lines}
