@@ -1,6 +1,5 @@
 """The time code of a sound: each track and each system is tried, and other front ends where little is heard; the best
-is
-chosen, with how sure that is."""
+is chosen, with how sure that is."""
 from collections.abc import Sequence
 from dataclasses import dataclass, field
 
@@ -23,6 +22,8 @@ FRAMES_OF_CODE = 3
 CELLS, SYNC_ONES, COMMON_INTERVALS = 80, 13, 105
 # So many words tell how many intervals a frame has.
 WORDS_ASKED = 50
+# Of a sound of many tracks so many are tried by other front ends: those of which most is heard by the plain one.
+MOST_TRACKS_TRIED = 8
 
 
 @dataclass(frozen=True)
@@ -133,7 +134,8 @@ def choose(sound: Sound, wanted: Wanted, room: str, progress: Progress | None = 
     found = {track: read_track(sound, track, wanted.systems, first, wanted.limit, room, progress) for track in tracks}
     is_well = any(is_code(it) and not hears_little(it) for it in map(best, found.values()))
     tried: dict[int, list[str]] = {}
-    for track, readings in found.items():
+    for track in sorted(found, key=lambda it: best(found[it]).merit(), reverse=True)[:MOST_TRACKS_TRIED]:
+        readings = found[track]
         mine = best(readings)
         # Where another track is heard well, one without any code is programme.
         if wanted.front is None and (mine.heard or not is_well):
