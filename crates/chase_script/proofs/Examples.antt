@@ -3,11 +3,12 @@ use Rattle.std.proofs.Common.{◌≡◌, ℕ, ◌*◌, ◌+◌, ◌≤◌, pos, 
 use Rattle.std.specs.Prelude.{codes}
 use Rattle.tc_address.specs.declared.count.Count.TheVariants.{C25}
 use Rattle.tc_address.specs.declared.direction.Direction.TheVariants.{Forward}
-use Rattle.tc_address.specs.Label.{Address, address}
+use Rattle.tc_address.specs.Label.{Address, address, addresses, hour_of, labels, minute_of, second_of}
+use Rattle.tc_address.specs.Numbering.{number_of}
 use Rattle.chase_core.specs.declared.command.Command.{Command}
 use Rattle.chase_core.specs.declared.command.Command.TheVariants.{Play}
 use Rattle.chase_core.specs.declared.command.Master.{Master}
-use Rattle.chase_core.specs.Trace.{row_with}
+use Rattle.chase_core.specs.Trace.{after_rows, row_with}
 use Rattle.chase_script.specs.declared.row.ScriptRow.{ScriptRow}
 use Rattle.chase_script.specs.Lock.{IsPulledAt, error_at}
 use Rattle.chase_script.specs.declared.column.Column.TheVariants.{Slip}
@@ -43,10 +44,11 @@ far_ahead : List ScriptRow
 far_ahead = pulled_row (Some Play) 48 ∷ pulled_row None 49 ∷ pulled_row None 50 ∷ []
 
 begins_pulling : IsPulledAt (address C25 0 0 0 0) far_ahead 0 (row_with (Some Play) (Some (master_at 48)) (pos 0)) (master_at 48)
-unfolding far_ahead pulled_row master_at
+unfolding far_ahead pulled_row master_at after_rows
 begins_pulling = record { is = refl; reads = refl; pulls = refl }
 
 -- and is so far from it that it is locked within three rows
 within_three_rows : error_at (address C25 0 0 0 0) far_ahead 0 (master_at 48) ≤ 40 + 1_272 * 3
-unfolding far_ahead pulled_row master_at
-within_three_rows = omega arith
+unfolding far_ahead pulled_row master_at after_rows number_of labels addresses hour_of minute_of second_of
+within_three_rows =
+    let error : error_at (address C25 0 0 0 0) far_ahead 0 (master_at 48) ≡ 48 * 80 = refl in omega (arith, error)
