@@ -1,6 +1,6 @@
 # make               proves and builds bin/tc
 # make check         the quick checks, in a few minutes: doors, documents, trail, made pages, constants, exit numbers, examples and tapes on bin/tc
-# make gate          the gate (rt ci): proves every crate, tries the must-fail edits, runs tests and program
+# make gate          the gate (tools/check_sources, then rt ci): looks through the documents, proves every crate, tries the must-fail edits, runs tests and program
 # make dist          tc-VERSION.tar.gz of the last commit, which builds, tests and installs by itself
 # make install       program, manual pages, completions, documents and examples, under PREFIX (and DESTDIR, for packagers)
 # make install-strip the same, with the program stripped of its symbols
@@ -52,13 +52,7 @@ all:
 	./build
 
 check:
-	./doors
-	tools/check_docs
-	tools/trail
-	tools/list_calls --check
-	tools/make_formats_page --check
-	tools/trusted --check
-	tools/check_constants
+	tools/check_sources
 	@[ -x bin/tc ] || { echo "bin/tc is not built: run make first" >&2; exit 1; }
 	tools/try_status
 	tools/run_examples
