@@ -26,7 +26,7 @@ slicing : Slices
 slicing = record { system = F25; rate = 48_000; threshold = Fixed 500; fineness = 1; smooth = 1; live = false }
 
 the_sound_is_sliced : SlicesTo 1_000 slicing sounded (sliced slicing (samples_of sounded))
-unfolding slicing sounded
+unfolding slicing sounded samples_of
 the_sound_is_sliced = record {
   threshold = 500;
   alone = refl;
