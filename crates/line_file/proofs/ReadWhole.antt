@@ -9,6 +9,7 @@ use Rattle.std.specs.declared.option.Option.{Option}
 use Rattle.std.proofs.lemmas.Bool.{and_parts, cases_eq, eq-eqb, eqb-true, false≢true, leb-true, not-false, ne_eqb}
 use Rattle.std.proofs.lemmas.Bool.{true≢false}
 use Rattle.std.proofs.lemmas.List.{drop-drop}
+use Rattle.tc_io.specs.ByteLemmas.{bytes_behind}
 use Rattle.byteorder.specs.Endian.{big_bytes, big_number}
 use Rattle.tc_address.specs.declared.system.System.{System}
 use Rattle.tc_address.specs.declared.system.System.TheVariants.{F25, F30}
@@ -37,11 +38,6 @@ use Rattle.line_file.proofs.HeaderBytes.{header_valid, whole_header}
 use Rattle.line_file.proofs.OwnBytes.{first_whole, items}
 
 -- ---- bytes
-
-bytes_behind : (n : ℕ) (bytes : List ℕ) → AreBytes bytes → AreBytes (drop n bytes)
-bytes_behind zero bytes are = are
-bytes_behind (suc n) [] are = are
-bytes_behind (suc n) (byte ∷ more) are = bytes_behind n more are.1
 
 two_bytes : (a b : ℕ) (more : List ℕ) → a < 256 → b < 256 → big_bytes 2 (big_number 2 (a ∷ b ∷ more)) ≡ a ∷ b ∷ []
 two_bytes a b more la lb =
@@ -305,7 +301,8 @@ right : (byte wanted : ℕ) → not (byte == wanted) ≡ false → byte ≡ want
 right byte wanted e = eqb-true byte wanted (not-false (byte == wanted) e)
 
 header_from : (bytes : List ℕ) (header : LineHeader) (v : Front (Unit {0})) → AreBytes bytes → 12 ≤ length bytes
-    → head_at HEAD_LENGTH 0 bytes ≡ v → behind_head v bytes ≡ whole header → bytes ≡ header_bytes header ++ drop 12 bytes
+    → head_at HEAD_LENGTH 0 bytes ≡ v → behind_head v bytes ≡ whole header
+        → bytes ≡ header_bytes header ++ drop 12 bytes
 header_from (a ∷ b ∷ c ∷ d ∷ v ∷ s ∷ y ∷ z ∷ i ∷ j ∷ k ∷ l ∷ rest) header (whole u) are least is e =
     let one = right_byte 7 0 a (b ∷ c ∷ d ∷ v ∷ s ∷ y ∷ z ∷ i ∷ j ∷ k ∷ l ∷ rest) u is in
     let two = right_byte 6 1 b (c ∷ d ∷ v ∷ s ∷ y ∷ z ∷ i ∷ j ∷ k ∷ l ∷ rest) u one.1 in

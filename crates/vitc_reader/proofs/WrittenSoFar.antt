@@ -8,6 +8,7 @@ use Rattle.std.proofs.Math.Nat.{pow-le-pow_right}
 use Rattle.std.proofs.lemmas.Bool.{cases_lt, ne_eqb}
 use Rattle.std.proofs.lemmas.Nat.{pow-add, shr_split, mul-le}
 use Rattle.std.proofs.lemmas.List.{take_more_set, length-set, drop-set-lt, drop-drop}
+use Rattle.lemmas.specs.Lists.{length-last}
 use Rattle.vitc_reader.specs.Runs.{total, bits_of_run, bits_of, IsCells, AreCells, StandFor, runs_from, HaveCells, AreRunsOf}
 use Rattle.vitc_reader.specs.Written.{run_length, cells_in, runs_in}
 use Rattle.vitc_reader.proofs.BitsOfCells.{level_after, level_after-last, bits_of-last, odd_runs}
@@ -33,10 +34,6 @@ runs_from-last n at (j ∷ cells) k end e =
 HaveCells-last : (cells : List ℕ) (k : ℕ) → HaveCells cells → 1 ≤ k → HaveCells (cells ++ k ∷ [])
 HaveCells-last [] k have some = (some, tt)
 HaveCells-last (j ∷ cells) k have some = (have.0, HaveCells-last cells k have.1 some)
-
-length-last : (cells : List ℕ) (k : ℕ) → length (cells ++ k ∷ []) ≡ length cells + 1
-length-last [] k = refl
-length-last (j ∷ cells) k = let h = length-last cells k in omega (arith, h)
 
 -- runs are no more than their cells
 few_runs : (cells : List ℕ) → HaveCells cells → length cells ≤ total cells

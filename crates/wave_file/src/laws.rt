@@ -5,7 +5,7 @@ ghost use Rattle.std.specs.Prelude.{codes, length, Some};
 ghost use Rattle.byteorder.specs.Endian.{big_number};
 ghost use Rattle.wave_file.specs.declared.chunk.TheConstants as chunk;
 ghost use Rattle.wave_file.specs.declared.format.WaveFormat.{WaveFormat};
-ghost use Rattle.wave_file.specs.declared.format.TheConstants.{MAX_RATE, MAX_TRACKS};
+ghost use Rattle.wave_file.specs.declared.format.TheConstants.{MAX_RATE};
 ghost use Rattle.wave_file.specs.declared.names.TheConstants as names;
 ghost use Rattle.wave_file.specs.declared.stage.TheConstants.{MAX_BYTES, MAX_SAMPLES};
 ghost use Rattle.wave_file.specs.Chunk.{is_open, is_open_size, no_notes};
@@ -15,11 +15,10 @@ ghost use Rattle.wave_file.specs.StandsFor.{Decoding, StandsFor, IsDecoding, IsT
 ghost use Rattle.wave_file.specs.Wave.{reading_of};
 ghost use Rattle.tc_io.specs.Verdict.{good};
 
-/// 2 to the 40th samples, and 2 to the 62nd bytes; 64 tracks, and 6,250,000 samples a second.
+/// 2 to the 40th samples, and 2 to the 62nd bytes; 6,250,000 samples a second.
 pub fn the_limits_are_these()
     ensures samples { MAX_SAMPLES ≡ 2 ^ 40 }
     ensures bytes { MAX_BYTES ≡ 2 ^ 62 }
-    ensures tracks { MAX_TRACKS ≡ 64 }
     ensures rate { MAX_RATE ≡ 6250000 }
 {}
 

@@ -1,8 +1,13 @@
--- A quotient by a product and a shift, for the proofs of the crates above: the factor is so little above the true one
--- that no quotient moves. All of this is proved here, and no promise speaks of it.
-use Rattle.std.proofs.Common.{◌≡◌, ℕ, ◌+◌, ◌*◌, ◌/◌, ◌<◌, ◌≤◌, arith}
+-- A quotient by a product and a shift, whose factor is so little above the true one that no quotient moves; and a
+-- quotient that is rounded up, which is the least whole number that is not below it.
+use Rattle.std.proofs.Common.{◌≡◌, ℕ, zero, suc, ◌+◌, ◌*◌, ◌/◌, ◌<◌, ◌≤◌, arith}
+use Rattle.std.proofs.Common.{suc-mul, zero-mul, mul-le-mul_left, lt_of_mul-lt-mul_right, mul-pos}
 use Rattle.std.proofs.Math.Nat.{div-eq_of_lt-le, div-mul-le_self, le_of_mul-le-mul_left, lt-mul-div-succ}
+use Rattle.std.proofs.lemmas.Grind.{div_ceil_times}
 use Rattle.std.proofs.lemmas.Nat.{mul-le}
+use Rattle.std.specs.Int.{div_ceil}
+
+-- ---- by a product
 
 not_less : (p x d q m : ℕ) → q * d ≤ x → p ≤ m * d → q * p ≤ x * m
 not_less p x d q m low factor =
@@ -41,3 +46,27 @@ by_product p x d some room =
     let most : (p / d + 1) * d ≤ p + d = let h = div-mul-le_self p d in let e : (p / d + 1) * d ≡ p / d * d + d = grind arith in omega (arith, h, e) in
     let least : p ≤ (p / d + 1) * d = let h = behind p d some in omega (arith, h) in
     is_quotient p x d (x / d) (p / d + 1) some (div-mul-le_self x d) (behind x d some) least most room
+
+-- ---- rounded up
+
+pub quotient_least : (x d : ℕ) → 0 < d → x ≤ div_ceil x d * d
+quotient_least x d some = (div_ceil_times x d some).0
+
+pub quotient_most : (x d k : ℕ) → 0 < d → x ≤ k * d → div_ceil x d ≤ k
+quotient_most x d k some is =
+    let below : div_ceil x d * d < suc k * d = omega (arith, suc-mul k d, (div_ceil_times x d some).1, is) in
+    let bound : div_ceil x d < suc k = lt_of_mul-lt-mul_right d below in
+    omega (arith, bound)
+
+positive_factor : (c d x : ℕ) → 1 ≤ x → x ≤ c * d → 1 ≤ c
+positive_factor zero d x some most = let none : zero * d ≡ 0 = zero-mul d in omega arith
+positive_factor (suc c) d x some most = omega arith
+
+-- a part r of d, in f ticks, takes from one of them to all of them
+pub quotient_within : (f r d : ℕ) → 1 ≤ f → 1 ≤ r → r ≤ d → (1 ≤ div_ceil (f * r) d) × (div_ceil (f * r) d ≤ f)
+quotient_within f r d some rises within =
+    let product : 0 < f * r = mul-pos {m = f} {n = r} (omega arith) (omega arith) in
+    let divisor : 0 < d = omega arith in (
+      positive_factor (div_ceil (f * r) d) d (f * r) (omega (arith, product)) (quotient_least (f * r) d divisor),
+      quotient_most (f * r) d f divisor (mul-le-mul_left f within),
+    )

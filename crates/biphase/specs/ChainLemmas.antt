@@ -1,13 +1,14 @@
--- A law of chains, for the proofs of the crates above: each next cell is fixed by the intervals, so of two chains at
--- the front of one list one is a front of the other. All of this is proved here, and no promise rests on it.
-use Rattle.std.proofs.Common.{◌≡◌, ℕ, ◌+◌, List, [], ◌∷◌, ◌++◌, ◌⊎◌, inl, inr, refl, ap, sym, ◌∙◌}
+-- Laws of chains, for the proofs of the crates above: each next cell is fixed by the intervals, so of two chains at the
+-- front of one list one is a front of the other; and a cell has an interval. No promise rests on these proofs.
+use Rattle.std.proofs.Common.{◌≡◌, ℕ, ◌+◌, ◌≤◌, List, [], ◌∷◌, ◌++◌, length, length-append, ◌⊎◌, inl, inr, refl, ap, sym}
+use Rattle.std.proofs.Common.{◌∙◌, arith}
 use Rattle.biphase.specs.declared.profile.Profile.{Profile}
 use Rattle.biphase.specs.declared.cell.Cell.{Cell}
 use Rattle.biphase.specs.declared.cell.Cell.TheVariants.{Zero, One}
 use Rattle.biphase.specs.Latest.{Latest}
 use Rattle.biphase.specs.Tolerance.{kept_next}
-use Rattle.biphase.specs.Chain.{flat, Begins, Follow}
-use Rattle.biphase.specs.Laws.{zero_is_no_half, first_half}
+use Rattle.biphase.specs.Chain.{flat, intervals_of, Begins, Follow}
+use Rattle.biphase.specs.ToleranceLemmas.{zero_is_no_half, first_half}
 
 -- a cell in front of both lists
 pub front_with : (cell : Cell) (one two : List Cell) → Begins one two ⊎ Begins two one
@@ -45,3 +46,18 @@ pub comparable : (profile : Profile) (c : Latest) (one two : List Cell) (interva
     → Begins one two ⊎ Begins two one
 comparable profile c one two intervals ones twos front front_too =
     comparable_after profile c one two front.0 front_too.0 ones twos (sym front.1 ∙ front_too.1)
+
+-- ---- cells and their intervals
+
+pub has_intervals : (cell : Cell) → 1 ≤ length (intervals_of cell)
+has_intervals (Zero x) = omega arith
+has_intervals (One a b) = omega arith
+
+-- so there are no more cells than intervals
+pub fewer_cells : (cells : List Cell) → length cells ≤ length (flat cells)
+fewer_cells [] = omega arith
+fewer_cells (cell ∷ cells) =
+    let one = has_intervals cell in
+    let rest = fewer_cells cells in
+    let parts = length-append (intervals_of cell) (flat cells) in
+    omega (arith, parts)

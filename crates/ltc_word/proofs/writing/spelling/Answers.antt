@@ -1,4 +1,4 @@
-use Rattle.ltc_jam.proofs.word.spelling.Goals as goal
+use Rattle.ltc_word.proofs.writing.spelling.Goals as goal
 
 -- a word has one spelling
 pub returns-clause-value : goal.returns-clause-value

@@ -10,7 +10,7 @@ use Rattle.biphase.specs.Tolerance.{LooksAtLast, kept_at_lock}
 use Rattle.biphase.specs.Tolerance.{length_of, AreHalves}
 use Rattle.biphase.specs.Chain.{IsCell, FollowOn, IsChain, IsChainAfter, IsNextZero, IsNextOne}
 use Rattle.biphase.specs.Chain.{Inner, Meets, Kinds}
-use Rattle.biphase.specs.Laws.{kept_anew}
+use Rattle.biphase.specs.ToleranceLemmas.{kept_anew}
 
 -- two zeros are equal, and so are two halves, of one cell and of two
 pub zeros_equal : (profile : Profile) → LooksAtLast profile → (c x : ℕ) → IsNextZero profile (kept_at_lock profile c) x

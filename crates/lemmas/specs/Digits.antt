@@ -1,19 +1,12 @@
--- What tests of digits say. No promise speaks of it.
-use Rattle.std.proofs.Common.{◌≡◌, ℕ, ◌<◌, ◌&&◌, Bool, true, false, List, [], ◌∷◌, refl, arith}
+-- What tests of decimal digits say.
+use Rattle.std.proofs.Common.{◌≡◌, ℕ, ◌<◌, true, List, [], ◌∷◌, arith}
 use Rattle.std.specs.Char.{is_ascii_digit, digit_value}
 use Rattle.std.specs.Int.{IsInRange}
 use Rattle.std.specs.List.{list_all}
 use Rattle.std.specs.Str.Parse.{AllDigits}
+use Rattle.std.proofs.lemmas.Bool.{and_parts}
 use Rattle.std.proofs.lemmas.Grind.{common_steps}
 use Rattle.std.proofs.lemmas.Str.{digit_value_digit}
-
-pub first_true : (a b : Bool) → (a && b) ≡ true → a ≡ true
-first_true true b h = refl
-first_true false b h = cc
-
-pub second_true : (a b : Bool) → (a && b) ≡ true → b ≡ true
-second_true true b h = h
-second_true false b h = cc
 
 pub digit_in_range : (c : ℕ) → is_ascii_digit c ≡ true → IsInRange 48 57 c
 digit_in_range c h = grind (arith, common_steps)
@@ -26,4 +19,5 @@ digit_below_ten c h =
 pub all_digits : (ds : List ℕ) → list_all is_ascii_digit ds ≡ true → AllDigits 10 ds
 all_digits [] h = tt
 all_digits (c ∷ ds) h =
-    (digit_below_ten c (first_true (is_ascii_digit c) _ h), all_digits ds (second_true (is_ascii_digit c) _ h))
+    let parts = and_parts (is_ascii_digit c) (list_all is_ascii_digit ds) h in
+    (digit_below_ten c parts.0, all_digits ds parts.1)
