@@ -5,6 +5,7 @@ ghost use Rattle.biphase.specs.declared.profile.Profile.{Profile};
 ghost use Rattle.biphase.specs.declared.cell.Cell.TheVariants.{Zero, One};
 ghost use Rattle.biphase.specs.declared.profile.Profile.TheVariants.{Normal, Rough};
 ghost use Rattle.biphase.specs.Tolerance.{LooksAtLast};
+ghost use Rattle.cell_tracker.specs.EvenRun.{IsEvenRun};
 ghost use Rattle.cell_tracker.specs.FoundAgain.{IsSecondLock, AreFrom};
 ghost use Rattle.cell_tracker.specs.Growing.{GrowTo};
 ghost use Rattle.cell_tracker.specs.ChainPiece.{IsPiece, cells_from, stretch_of_piece};
@@ -81,7 +82,18 @@ pub fn a_recording_is_found_again_behind_anything()
         → AreFrom (length before + second) (cells_from cells cut kept second) stretches }
 {}
 
-/// Mirror, for the same tolerances: where a recording and the same intervals in the other order of
+/// Resynchronisation under the rough tolerance: whatever stands before a recording within it, which has
+/// in it a zero, nine neighbouring ones or more that are even, and a zero behind them, from the greater
+/// interval of the next unequal pair behind this zero on the cells of the stretches are the recording's
+/// own, and nothing breaks behind it. A sync word has twelve such ones.
+pub fn a_recording_is_found_again_behind_even_ones()
+    ensures { (before kept : List ℕ) (cells : List Cell) (cut end second : ℕ) (stretches : List Stretch)
+        → IsPiece Rough kept cells cut → IsEvenRun kept cells cut end → IsLock Rough kept end second
+        → AreStretches Rough (before ++ kept) stretches
+        → AreFrom (length before + second) (cells_from cells cut kept second) stretches }
+{}
+
+/// Mirror, for the tolerances that look at the last cell: where a recording and the same intervals in the other order of
 /// time are both within the tolerance, their cells are the same between the greater intervals of the
 /// first and of the last unequal pair, each in its order. The lock of the mirror is the number of intervals behind them.
 pub fn a_mirrored_recording_has_the_mirrored_cells()
