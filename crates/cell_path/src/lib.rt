@@ -61,7 +61,7 @@ pub use cell::{Bit, Cell, Sign, Step, Way};
 pub use decisions::Decisions;
 pub use ends::{Bits, Ends};
 pub use follow::{DELAY, EVERY, FIRST};
-pub use lengths::{EARLY, JUMP, LENGTHS};
+pub use lengths::{EARLY, JUMP, LENGTHS, length_at};
 pub use mark::StepMarks;
 pub use marks::KEPT;
 pub use numbers::{Numbers, PLACES};
