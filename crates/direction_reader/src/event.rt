@@ -37,7 +37,8 @@ impl Event {
         ensures { result ≡ tick_of self.now }
     {
         match *self {
-            Event::Word { tick, .. } | Event::Refused { tick, .. } | Event::Lost { tick, .. } => tick,
+            Event::Word { tick, .. } | Event::Refused { tick, .. } | Event::Lost { tick, .. } =>
+                tick,
         }
     }
 }

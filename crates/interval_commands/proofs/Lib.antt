@@ -1,5 +1,8 @@
 mod Converted
 mod CountedEvents
+mod FirmCounted
+mod FirmLines
+mod FirmlyReports
 mod LinesGrow
 mod PrintedInOrder
 mod ReportsTheTape

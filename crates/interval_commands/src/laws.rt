@@ -9,10 +9,14 @@ ghost use Rattle.interval_file.specs.Recording.{recording_of};
 ghost use Rattle.tc_command.specs.Meaning.{Meaning, IsInput};
 ghost use Rattle.interval_engine.specs.Along.{along_intervals};
 ghost use Rattle.interval_engine.specs.KeptCommand.{PrintsInOrder};
+ghost use Rattle.interval_commands.specs.FirmReport.{firm_report};
 ghost use Rattle.interval_commands.specs.LtcConvert.{conversion, in_version};
 ghost use Rattle.interval_commands.specs.LtcPcm.{made_sound};
 ghost use Rattle.interval_commands.specs.LtcRead.{report};
 
+use direction_reader::firm_laws::{
+    a_list_has_one_list_of_firm_events, a_list_has_one_list_of_told_events, told_events_come_first,
+};
 use direction_reader::laws::{
     a_list_has_one_list_of_events, each_list_has_events, events_of_a_front_come_first,
 };
@@ -22,12 +26,16 @@ use interval_file::laws::{a_file_is_read_as_it_was_written, bytes_are_read_as_th
 /// follow.
 pub fn what_is_printed_is_in_order()
     ensures report { (profile : Profile) → PrintsInOrder (report profile) }
+    ensures firm { (profile : Profile) → PrintsInOrder (firm_report profile) }
     ensures conversion { (version : FileVersion) → PrintsInOrder (conversion version) }
     ensures sound { (size : ℕ) → PrintsInOrder (made_sound size) }
 {
     a_list_has_one_list_of_events();
     each_list_has_events();
     events_of_a_front_come_first();
+    a_list_has_one_list_of_firm_events();
+    a_list_has_one_list_of_told_events();
+    told_events_come_first();
 }
 
 /// Each input that `ltc-convert` takes whole is a file, and it writes the file of the asked version with
