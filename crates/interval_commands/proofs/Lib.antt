@@ -8,3 +8,4 @@ mod PrintedInOrder
 mod ReportsTheTape
 mod SoundGrows
 mod ToldOfCopies
+mod WordsInOrder
