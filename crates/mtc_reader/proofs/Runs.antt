@@ -28,6 +28,7 @@ use Rattle.mtc_reader.proofs.SlidingWindow.{numbers_along, current_behind, ends_
 use Rattle.mtc_reader.proofs.SlidingWindow.{inner_of}
 use Rattle.mtc_reader.proofs.SlidingWindow.{long, messages_behind, number_of, place_behind, replaced, slid, slid_long}
 use Rattle.mtc_reader.proofs.SlidingWindow.{window_behind, AreInner, AreNumbers, EndsIn, IsInner}
+use Rattle.mtc_reader.proofs.SlidingWindow.{eight_numbers, four_numbers, six_inner, three_inner}
 
 -- ---- a pair of frames, and half of one
 
@@ -110,17 +111,32 @@ half_along place current messages sent p ready =
     let i = p.inner in
     let four = p.a ∷ p.b ∷ p.c ∷ p.d ∷ [] in
     let inner = p.b ∷ p.c ∷ p.d ∷ [] in
+    let are = four_numbers p.a p.b p.c p.d n.0 n.1.0 n.1.1.0 n.1.1.1.0 in
+    let are_inner = three_inner p.b p.c p.d i.0 i.1.0 i.1.1.0 in
     subst (λ (l : List ℕ). events_along place current messages (quarters (take 4 l)) ≡ []) (sym p.are)
-    (numbers_along four [] place current messages ready.window (n.0, (n.1.0, (n.1.1.0, (n.1.1.1.0, tt)))) ready.ends
+    (numbers_along four [] place current messages ready.window are ready.ends
     ∙ append-nil (given place ready.window four)
     ∙ ap (λ o. events_of o ++ given (on place) (slid ready.window p.a) inner)
     (first_none (place + 1) ready.window p.a eights ready.second)
-    ∙ inner_given inner [] (on place) (slid ready.window p.a) (slid_long ready.window p.a eights)
-    (i.0, (i.1.0, (i.1.1.0, tt))))
+    ∙ inner_given inner [] (on place) (slid ready.window p.a) (slid_long ready.window p.a eights) are_inner)
 
 -- ---- a label, in either direction
 
-pub rising_pair : (a b c d e f g h : ℕ) → IsRow a b c d e f g h → IsPair (a ∷ b ∷ c ∷ d ∷ e ∷ f ∷ g ∷ h ∷ [])
+pub rising_numbers : (a b c d e f g h : ℕ) → IsRow a b c d e f g h
+    → AreNumbers (a ∷ b ∷ c ∷ d ∷ e ∷ f ∷ g ∷ h ∷ [])
+rising_numbers a b c d e f g h row =
+    eight_numbers a b c d e f g h (number_of 0 a row.first) (number_of 1 b row.second) (number_of 2 c row.third)
+    (number_of 3 d row.fourth) (number_of 4 e row.fifth) (number_of 5 f row.sixth) (number_of 6 g row.seventh)
+    (number_of 7 h row.eighth)
+
+pub rising_inner : (a b c d e f g h : ℕ) → IsRow a b c d e f g h → AreInner (b ∷ c ∷ d ∷ e ∷ f ∷ g ∷ [])
+rising_inner a b c d e f g h row =
+    six_inner b c d e f g (inner_of 1 b (omega arith) (omega arith) row.second)
+    (inner_of 2 c (omega arith) (omega arith) row.third) (inner_of 3 d (omega arith) (omega arith) row.fourth)
+    (inner_of 4 e (omega arith) (omega arith) row.fifth) (inner_of 5 f (omega arith) (omega arith) row.sixth)
+    (inner_of 6 g (omega arith) (omega arith) row.seventh)
+
+rising_pair : (a b c d e f g h : ℕ) → IsRow a b c d e f g h → IsPair (a ∷ b ∷ c ∷ d ∷ e ∷ f ∷ g ∷ h ∷ [])
 rising_pair a b c d e f g h row = record {
   a = a;
   b = b;
@@ -131,57 +147,14 @@ rising_pair a b c d e f g h row = record {
   g = g;
   h = h;
   are = refl;
-  numbers = (
-    number_of 0 a row.first,
-    (
-      number_of 1 b row.second,
-      (
-        number_of 2 c row.third,
-        (
-          number_of 3 d row.fourth,
-          (
-            number_of 4 e row.fifth,
-            (
-              number_of 5 f row.sixth,
-              (
-                number_of 6 g row.seventh,
-                (
-                  number_of 7 h row.eighth,
-                  tt,
-                ),
-              ),
-            ),
-          ),
-        ),
-      ),
-    ),
-  );
-  inner = (
-    inner_of 1 b (omega arith) (omega arith) row.second,
-    (
-      inner_of 2 c (omega arith) (omega arith) row.third,
-      (
-        inner_of 3 d (omega arith) (omega arith) row.fourth,
-        (
-          inner_of 4 e (omega arith) (omega arith) row.fifth,
-          (
-            inner_of 5 f (omega arith) (omega arith) row.sixth,
-            (
-              inner_of 6 g (omega arith) (omega arith) row.seventh,
-              tt,
-            ),
-          ),
-        ),
-      ),
-    ),
-  );
+  numbers = rising_numbers a b c d e f g h row;
+  inner = rising_inner a b c d e f g h row;
 }
 
 falling_pair : (a b c d e f g h : ℕ) → IsRow a b c d e f g h → IsPair (h ∷ g ∷ f ∷ e ∷ d ∷ c ∷ b ∷ a ∷ [])
 falling_pair a b c d e f g h row =
-    let p = rising_pair a b c d e f g h row in
-    let n = p.numbers in
-    let i = p.inner in
+    let n = rising_numbers a b c d e f g h row in
+    let i = rising_inner a b c d e f g h row in
     record {
       a = h;
       b = g;
@@ -192,32 +165,9 @@ falling_pair a b c d e f g h row =
       g = b;
       h = a;
       are = refl;
-      numbers = (
-        n.1.1.1.1.1.1.1.0,
-        (
-          n.1.1.1.1.1.1.0,
-          (
-            n.1.1.1.1.1.0,
-            (
-              n.1.1.1.1.0,
-              (
-                n.1.1.1.0,
-                (
-                  n.1.1.0,
-                  (
-                    n.1.0,
-                    (
-                      n.0,
-                      tt,
-                    ),
-                  ),
-                ),
-              ),
-            ),
-          ),
-        ),
-      );
-      inner = (i.1.1.1.1.1.0, (i.1.1.1.1.0, (i.1.1.1.0, (i.1.1.0, (i.1.0, (i.0, tt))))));
+      numbers = eight_numbers h g f e d c b a n.1.1.1.1.1.1.1.0 n.1.1.1.1.1.1.0 n.1.1.1.1.1.0 n.1.1.1.1.0 n.1.1.1.0
+          n.1.1.0 n.1.0 n.0;
+      inner = six_inner g f e d c b i.1.1.1.1.1.0 i.1.1.1.1.0 i.1.1.1.0 i.1.1.0 i.1.0 i.0;
     }
 
 -- the data bytes with which a label is sent, in a direction: a pair of frames that carries it

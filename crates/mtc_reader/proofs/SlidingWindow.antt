@@ -150,3 +150,25 @@ number_of piece number is = (is.is_data_byte, is.is_no_real_time)
 pub inner_of : (piece number : ℕ) → 0 < piece → piece < 7 → IsQuarter piece number → IsInner (piece_of number)
 inner_of piece number low high is =
     ((λ e. absurd (omega (arith, low, is.is_piece, e))), (λ e. absurd (omega (arith, high, is.is_piece, e))))
+
+-- ---- eight of them, and six
+
+also : {Held Rest : Type 0} → Held → Rest → Held × Rest
+also held rest = (held, rest)
+
+pub four_numbers : (a b c d : ℕ) → IsNumber a → IsNumber b → IsNumber c → IsNumber d → AreNumbers (a ∷ b ∷ c ∷ d ∷ [])
+four_numbers a b c d one two three four = also one (also two (also three (also four tt)))
+
+pub eight_numbers : (a b c d e f g h : ℕ) → IsNumber a → IsNumber b → IsNumber c → IsNumber d → IsNumber e → IsNumber f
+    → IsNumber g → IsNumber h → AreNumbers (a ∷ b ∷ c ∷ d ∷ e ∷ f ∷ g ∷ h ∷ [])
+eight_numbers a b c d e f g h one two three four five six seven eighth =
+    also one (also two (also three (also four (also five (also six (also seven (also eighth tt)))))))
+
+pub three_inner : (a b c : ℕ) → IsInner (piece_of a) → IsInner (piece_of b) → IsInner (piece_of c)
+    → AreInner (a ∷ b ∷ c ∷ [])
+three_inner a b c one two three = also one (also two (also three tt))
+
+pub six_inner : (a b c d e f : ℕ) → IsInner (piece_of a) → IsInner (piece_of b) → IsInner (piece_of c)
+    → IsInner (piece_of d) → IsInner (piece_of e) → IsInner (piece_of f) → AreInner (a ∷ b ∷ c ∷ d ∷ e ∷ f ∷ [])
+six_inner a b c d e f one two three four five six =
+    also one (also two (also three (also four (also five (also six tt)))))

@@ -20,7 +20,7 @@ use Rattle.mtc_reader.specs.StandsFor.{Keeps, KeepsRow, StandsFor, eight_in, eve
 use Rattle.mtc_reader.proofs.AlongTheBytes.{along, events_along}
 use Rattle.mtc_reader.proofs.LatestEight.{eight, eight_of, latest_eight-full, padded_event, padded_full}
 use Rattle.mtc_reader.proofs.ReadBack.{below, came, on, rising_window, sounds, IsQuarter, IsRow}
-use Rattle.mtc_reader.proofs.Runs.{rising_pair}
+use Rattle.mtc_reader.proofs.Runs.{rising_inner, rising_numbers}
 use Rattle.mtc_reader.proofs.SlidingWindow.{ends_behind, given, inner_given, numbers_along, place_behind, replaced}
 use Rattle.mtc_reader.proofs.SlidingWindow.{slid}
 use Rattle.mtc_reader.proofs.SlidingWindow.{slid_long, window_behind, EndsIn}
@@ -51,14 +51,14 @@ window_along place current messages a b c d e f g h r first =
     let numbers = a ∷ b ∷ c ∷ d ∷ e ∷ f ∷ g ∷ h ∷ [] in
     let inner = b ∷ c ∷ d ∷ e ∷ f ∷ g ∷ [] in
     let w = window messages in
-    let p = rising_pair a b c d e f g h r in
     let none : window_event (slid w a) (place + 1) ≡ None =
     ap (λ (v : List ℕ). window_event v (place + 1)) (latest_eight-full (padded (row_in messages)) a (eights messages))
     ∙ padded_event (row_in messages ++ a ∷ []) (place + 1) ∙ first (place + 1) in
-    numbers_along numbers [] place current messages w p.numbers refl
+    numbers_along numbers [] place current messages w (rising_numbers a b c d e f g h r) refl
     ∙ append-nil (given place w numbers)
     ∙ ap (λ o. events_of o ++ given (on place) (slid w a) (b ∷ c ∷ d ∷ e ∷ f ∷ g ∷ h ∷ [])) none
-    ∙ inner_given inner (h ∷ []) (on place) (slid w a) (slid_long w a (eights messages)) p.inner
+    ∙ inner_given inner (h ∷ []) (on place) (slid w a) (slid_long w a (eights messages))
+    (rising_inner a b c d e f g h r)
     ∙ append-nil (events_of (window_event (window_behind w numbers) (place_behind place (a ∷ inner) + 1)))
     ∙ ap (λ (v : List ℕ). events_of (window_event v (place_behind place (a ∷ inner) + 1)))
     (replaced w a b c d e f g h (eights messages))

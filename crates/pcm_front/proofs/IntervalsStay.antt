@@ -218,4 +218,5 @@ short_so n s xs is fine most few =
     let some = recursion_from_All (λ d. 1 ≤ d) ds (sliced-some s xs fine) in
     let none : passed_by s xs / n ≡ 0 = div-eq_of_lt few in
     ap₂ (λ (l : List ℕ) k. l ++ replicate k n) (whole_in n ds (both n ds some most)) none
-    ∙ append-nil ds ∙ sym (whole_in MAX_INTERVAL ds (both MAX_INTERVAL ds some (within_more n MAX_INTERVAL ds is.1 most)))
+    ∙ append-nil ds
+    ∙ sym (whole_in MAX_INTERVAL ds (both MAX_INTERVAL ds some (within_more n MAX_INTERVAL ds is.1 most)))

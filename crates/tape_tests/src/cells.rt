@@ -1,5 +1,7 @@
 //! Values from outside.
-use biphase::{Cell, LatestFour, PairKind, Profile, ShapeFault, Shaper, is_one, is_zero, kind, may_begin_one};
+use biphase::{
+    Cell, LatestFour, PairKind, Profile, ShapeFault, Shaper, is_one, is_zero, kind, may_begin_one,
+};
 use limits::MAX_INTERVAL;
 use std::test::Fail;
 

@@ -36,7 +36,7 @@ HaveCells-last [] k have some = (some, tt)
 HaveCells-last (j ∷ cells) k have some = (have.0, HaveCells-last cells k have.1 some)
 
 -- runs are no more than their cells
-few_runs : (cells : List ℕ) → HaveCells cells → length cells ≤ total cells
+pub few_runs : (cells : List ℕ) → HaveCells cells → length cells ≤ total cells
 few_runs [] have = omega arith
 few_runs (k ∷ cells) have = let h = few_runs cells have.1 in let one = have.0 in omega (arith, h, one)
 
@@ -83,11 +83,11 @@ value_with bits list rest high low cell k run e split same =
     let p = pow-add 2 cell k in
     rw (e, ← split, same, p) (grind arith)
 
-turned : (m : ℕ) (b : Bool) → ((m % 2 ≡ 1) ↔ (b ≡ false)) → ((m % 2 ≡ 1) ↔ (not b ≡ true))
+pub turned : (m : ℕ) (b : Bool) → ((m % 2 ≡ 1) ↔ (b ≡ false)) → ((m % 2 ≡ 1) ↔ (not b ≡ true))
 turned m true h = (λ e. let f : true ≡ false = h.0 e in absurd cc, λ e. absurd cc)
 turned m false h = (λ e. refl, λ e. h.1 refl)
 
-ended : (m : ℕ) (b : Bool) → ((m % 2 ≡ 1) ↔ (b ≡ false)) → m ≡ 0 → not b ≡ false
+pub ended : (m : ℕ) (b : Bool) → ((m % 2 ≡ 1) ↔ (b ≡ false)) → m ≡ 0 → not b ≡ false
 ended m true h z = refl
 ended m false h z = let e = h.1 refl in absurd (omega (arith, e, z))
 
