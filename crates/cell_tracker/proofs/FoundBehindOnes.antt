@@ -17,8 +17,8 @@ use Rattle.biphase.specs.declared.cell.Cell.TheVariants.{Zero, One}
 use Rattle.biphase.specs.Latest.{Latest}
 use Rattle.biphase.specs.Tolerance.{kept_at_lock, kept_next, length_of, IsFirstHalf}
 use Rattle.biphase.specs.Chain.{intervals_of, flat, kept_after, kept_of, Begins, Follow, IsChain, IsChainAfter}
-use Rattle.biphase.specs.OneChain.{comparable_after}
-use Rattle.biphase.specs.Laws.{behind_zero, half_or_not, unequal_differ}
+use Rattle.biphase.specs.ChainLemmas.{comparable_after}
+use Rattle.biphase.specs.ToleranceLemmas.{behind_zero, half_or_not, unequal_differ}
 use Rattle.biphase.specs.Pair.{AreUnequal}
 use Rattle.biphase.specs.Zeros.{IsZeroAt}
 use Rattle.cell_tracker.specs.ChainPiece.{IsPiece, cells_between, cells_from}
