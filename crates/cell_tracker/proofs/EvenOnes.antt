@@ -113,7 +113,8 @@ zeros_end even whole l (One x y ∷ cells) (h ∷ []) more rest some is evens ze
 zeros_end even whole l (One x y ∷ cells) (h ∷ g ∷ hs) more rest some is evens zeros follow same =
     let first : x ≡ h = cc in
     let second : y ≡ g = cc in
-    absurd (omega (arith, first, second, evens.0.0, evens.1.0.0, zeros.0.1, zeros.1.1, zeros.2.1, zeros.3.1, follow.1.2.1))
+    absurd (omega (arith, first, second, evens.0.0, evens.1.0.0, zeros.0.1, zeros.1.1, zeros.2.1, zeros.3.1,
+    follow.1.2.1))
 
 -- ---- four ones
 
@@ -205,7 +206,8 @@ zero_is_none : (even x : ℕ) (l : Latest) → 1 ≤ even → IsEvenZero even x 
     → IsFirstHalf Rough l x → ⊥
 zero_is_none even x l some is sum half = omega (arith, is.0, sum.1, half.1)
 
-zero_none_fits : (l : Latest) (whole : ℕ) (more : List ℕ) → NoneFits Rough l (whole ∷ more) → IsNext Rough l (Zero whole)
+zero_none_fits : (l : Latest) (whole : ℕ) (more : List ℕ) → NoneFits Rough l (whole ∷ more) → IsNext Rough l
+    (Zero whole)
     → ⊥
 zero_none_fits l whole [] none fits = none fits
 zero_none_fits l whole (x ∷ more) none fits = none.0 fits
@@ -245,12 +247,14 @@ ones_end run front even whole (One x y ∷ cells) a b c d e f g h [] more rest a
     let l = kept_ones a b c d e f g h in
     absurd (zero_is_none even whole l some is (sum_is even a b c d e f g h ones)
     (subst (IsFirstHalf Rough l) first follow.1.0))
-ones_end run front even whole (Zero x ∷ cells) a b c d e f g h (y ∷ hs) more rest at some is evens ones follow none same =
+ones_end run front even whole (Zero x ∷ cells) a b c d e f g h (y ∷ hs) more rest at some is evens ones follow none
+    same =
     let first : x ≡ y = cc in
     let l = kept_ones a b c d e f g h in
     absurd (half_is_none even y l some evens.0 (sum_is even a b c d e f g h ones)
     (subst (λ v. IsNext Rough l (Zero v)) first follow.1))
-ones_end run front even whole (One x y ∷ cells) a b c d e f g h (z ∷ []) more rest at some is evens ones follow none same =
+ones_end run front even whole (One x y ∷ cells) a b c d e f g h (z ∷ []) more rest at some is evens ones follow none
+    same =
     let second : y ≡ whole = cc in
     let l = kept_ones a b c d e f g h in
     absurd (zero_is_none even whole l some is (sum_is even a b c d e f g h ones)
@@ -326,7 +330,8 @@ by_cell run even whole l (Zero a ∷ cells) (x ∷ y ∷ hs) more rest two is th
       same = tail;
     } in
     behind run l (Zero a) cells whole (x ∷ y ∷ hs) (y ∷ hs) parts
-    (then (Zero a) cells (y ∷ hs) (subst (IsEvenHalf even) (sym first) is.evens.0) is.follow.1 parts (omega arith) inner)
+    (then (Zero a) cells (y ∷ hs) (subst (IsEvenHalf even) (sym first) is.evens.0) is.follow.1 parts (omega arith)
+    inner)
 by_cell run even whole l (One a b ∷ cells) (x ∷ y ∷ hs) more rest two is then =
     let same = is.same in
     let first : a ≡ x = cc in
@@ -370,7 +375,8 @@ behind_two_zeros : (run : List ℕ) (even whole : ℕ) (l : Latest) (cells : Lis
     → IsEvenZero even whole → AreShort even l → IsEvenHalf even l.last → IsEvenHalf even l.second → 4 ≤ length hs
     → InRun even whole l cells hs more rest → EndOrGoOn run l cells whole hs
 behind_two_zeros run even whole l cells hs more rest some is short last second four own =
-    by_cell run even whole l cells hs more rest (omega (arith, four)) own (λ cell others left taken fits parts long inner.
+    by_cell run even whole l cells hs more rest (omega (arith, four)) own
+    (λ cell others left taken fits parts long inner.
     let next = short_on even l cell some short taken fits in
     behind_three_zeros run even whole (kept_next Rough l (length_of cell)) others left more rest some is next.1
     (is_half even cell next.0) last second (omega (arith, four, long)) inner)
@@ -379,7 +385,8 @@ behind_a_zero : (run : List ℕ) (even whole : ℕ) (l : Latest) (cells : List C
     → IsEvenZero even whole → AreShort even l → IsEvenHalf even l.last → 6 ≤ length hs
     → InRun even whole l cells hs more rest → EndOrGoOn run l cells whole hs
 behind_a_zero run even whole l cells hs more rest some is short last six own =
-    by_cell run even whole l cells hs more rest (omega (arith, six)) own (λ cell others left taken fits parts long inner.
+    by_cell run even whole l cells hs more rest (omega (arith, six)) own
+    (λ cell others left taken fits parts long inner.
     let next = short_on even l cell some short taken fits in
     behind_two_zeros run even whole (kept_next Rough l (length_of cell)) others left more rest some is next.1
     (is_half even cell next.0) last (omega (arith, six, long)) inner)
@@ -440,7 +447,8 @@ behind_two_ones : (run front : List ℕ) (even whole a b c d u v : ℕ) (cells :
     → InRun even whole (kept_two a b c d u v) cells hs more rest → EndOrGoOn run (kept_two a b c d u v) cells whole hs
 behind_two_ones run front even whole a b c d u v cells hs more rest at some is ones long four own =
     let l = kept_two a b c d u v in
-    by_cell run even whole l cells hs more rest (omega (arith, four)) own (λ cell others left taken fits parts many inner.
+    by_cell run even whole l cells hs more rest (omega (arith, four)) own
+    (λ cell others left taken fits parts many inner.
     let next = long_on even l cell some long taken fits in
     third_one run front even whole a b c d u v cell others hs left more rest at some is ones next.0 next.1
     (omega (arith, four, many)) parts inner)
@@ -465,7 +473,8 @@ behind_a_one : (run front : List ℕ) (even whole a b u v w : ℕ) (cells : List
     → EndOrGoOn run (kept_one a b u v w) cells whole hs
 behind_a_one run front even whole a b u v w cells hs more rest at some is ones long six own =
     let l = kept_one a b u v w in
-    by_cell run even whole l cells hs more rest (omega (arith, six)) own (λ cell others left taken fits parts many inner.
+    by_cell run even whole l cells hs more rest (omega (arith, six)) own
+    (λ cell others left taken fits parts many inner.
     let next = long_on even l cell some long taken fits in
     second_one run front even whole a b u v w cell others hs left more rest at some is ones next.0 next.1
     (omega (arith, six, many)) parts inner)
@@ -492,7 +501,8 @@ behind_known : (run front : List ℕ) (even whole : ℕ) (l : Latest) (cells : L
     → run ≡ front ++ hs → 1 ≤ even → IsEvenZero even whole → AreKnown even l → 8 ≤ length hs
     → InRun even whole l cells hs more rest → EndOrGoOn run l cells whole hs
 behind_known run front even whole l cells hs more rest at some is all eight own =
-    by_cell run even whole l cells hs more rest (omega (arith, eight)) own (λ cell others left taken fits parts many inner.
+    by_cell run even whole l cells hs more rest (omega (arith, eight)) own
+    (λ cell others left taken fits parts many inner.
     fifth run front even whole l cell others hs left more rest at some is (decides even l cell all taken fits)
     (omega (arith, eight, many)) parts inner)
 
@@ -511,7 +521,8 @@ behind_three run front even whole x y z u cells hs more rest at some is first se
     by_cell run even whole (latest_with x y z u) cells hs more rest (omega (arith, ten)) own
     (λ cell others left taken fits parts many inner.
     behind_known run (front ++ intervals_of cell) even whole (latest_with (length_of cell) x y z) others left more rest
-    (on run front hs left cell at parts) some is (known even cell taken, first, second, third) (omega (arith, ten, many)) inner)
+    (on run front hs left cell at parts) some is (known even cell taken, first, second, third)
+    (omega (arith, ten, many)) inner)
 
 behind_two : (run front : List ℕ) (even whole x y u v : ℕ) (cells : List Cell) (hs more rest : List ℕ)
     → run ≡ front ++ hs → 1 ≤ even → IsEvenZero even whole → IsKnown even x → IsKnown even y
@@ -521,7 +532,8 @@ behind_two run front even whole x y u v cells hs more rest at some is first seco
     by_cell run even whole (latest_with x y u v) cells hs more rest (omega (arith, twelve)) own
     (λ cell others left taken fits parts many inner.
     behind_three run (front ++ intervals_of cell) even whole (length_of cell) x y u others left more rest
-    (on run front hs left cell at parts) some is (known even cell taken) first second (omega (arith, twelve, many)) inner)
+    (on run front hs left cell at parts) some is (known even cell taken) first second (omega (arith, twelve, many))
+    inner)
 
 behind_one : (run front : List ℕ) (even whole x u v w : ℕ) (cells : List Cell) (hs more rest : List ℕ)
     → run ≡ front ++ hs → 1 ≤ even → IsEvenZero even whole → IsKnown even x
@@ -543,5 +555,6 @@ in_a_run even whole l cells hs more rest some is evens sixteen covers follow non
     record { evens = evens; covers = covers; follow = follow; none = none; same = same } in
     by_cell hs even whole l cells hs more rest (omega (arith, sixteen)) own
     (λ cell others left taken fits parts many inner.
-    behind_one hs (intervals_of cell) even whole (length_of cell) l.last l.second l.third others left more rest parts some
+    behind_one hs (intervals_of cell) even whole (length_of cell) l.last l.second l.third others left more rest parts
+    some
     is (known even cell taken) (omega (arith, sixteen, many)) inner)

@@ -1,7 +1,8 @@
 -- Behind a run of even ones the tracker has the recording's own phase, whatever stands before it. A stretch that comes
 -- over the run either breaks at the zero behind it at the latest, or has this zero, and what is kept there is what the
 -- recording's own stretch keeps, which begins at the zero before the run. So both go on alike.
-use Rattle.std.proofs.Common.{◌≡◌, ℕ, zero, suc, ◌+◌, ◌-◌, ◌*◌, ◌<◌, ◌≤◌, ◌⊎◌, List, [], ◌∷◌, ◌++◌, length, drop, get_or}
+use Rattle.std.proofs.Common.{◌≡◌, ℕ, zero, suc, ◌+◌, ◌-◌, ◌*◌, ◌<◌, ◌≤◌, ◌⊎◌, List, [], ◌∷◌, ◌++◌, length, drop}
+use Rattle.std.proofs.Common.{get_or}
 use Rattle.std.proofs.Common.{Option, Some, None, inl, inr, refl, ap, ap₂, subst, sym, ◌∙◌, arith, append_assoc}
 use Rattle.std.proofs.Common.{length-append, length-drop, MatchOption, IsSomeAnd}
 use Rattle.std.proofs.lemmas.Option.{MatchOption-at_none, MatchOption-at_some}
@@ -192,7 +193,8 @@ record OwnStretch (l : List ℕ) (tape : List Cell) (cut : ℕ) (kept : List ℕ
     : Type 0 where
   lock : ℕ
   before_run : lock + 1 + length (flat ones) ≡ n + end
-  is : IsStretch Rough l (record { lock = lock; cells = Zero first ∷ (ones ++ cells_from tape cut kept end); broken_at = None })
+  is : IsStretch Rough l
+      (record { lock = lock; cells = Zero first ∷ (ones ++ cells_from tape cut kept end); broken_at = None })
   behind : List Cell
   cells_end : cells_from tape cut kept end ≡ Zero whole ∷ behind
   rest : List ℕ
@@ -235,7 +237,8 @@ own_stretch before kept tape cut end run piece =
     record {
       lock = n + q;
       before_run = omega (arith, within, place);
-      is = subst (λ (cs : List Cell). IsStretch Rough l (record { lock = n + q; cells = cs; broken_at = None })) cells found;
+      is = subst (λ (cs : List Cell). IsStretch Rough l (record { lock = n + q; cells = cs; broken_at = None })) cells
+          found;
       behind = behind;
       cells_end = there_end;
       rest = rest;
@@ -387,7 +390,8 @@ over_breaks l s place whole ones even more over within ends =
     let all : length (flat over.newer) ≡ length over.hs = omega (arith, at, end, at_end) in
     let behind : over.rest ≡ whole ∷ more =
     sym (drop_at (flat over.newer) over.rest (length (flat over.newer)) refl)
-    ∙ ap (drop (length (flat over.newer))) over.same ∙ drop_at over.hs (whole ∷ more) (length (flat over.newer)) (sym all) in
+    ∙ ap (drop (length (flat over.newer))) over.same ∙ drop_at over.hs (whole ∷ more) (length (flat over.newer))
+    (sym all) in
     let same : x ∷ others ≡ whole ∷ more = sym rest_is ∙ behind in
     let first : x ≡ whole = cc in
     ends.1 all (subst (IsFirstHalf Rough (kept_after Rough latest over.newer)) first half))
@@ -409,7 +413,8 @@ over_kept even first ones skipped hs latest cells whole are many halves on =
     let four = last_four even ones are many in
     let last = One four.a four.b ∷ One four.c four.d ∷ One four.e four.f ∷ One four.g four.h ∷ [] in
     let eight = on.a ∷ on.b ∷ on.c ∷ on.d ∷ on.e ∷ on.f ∷ on.g ∷ on.h ∷ [] in
-    let theirs : flat ones ≡ flat four.older ++ flat last = ap flat four.are ∙ flat_map-append intervals_of four.older last in
+    let theirs : flat ones ≡ flat four.older ++ flat last = ap flat four.are ∙ flat_map-append intervals_of four.older
+    last in
     let mine : flat ones ≡ (skipped ++ on.front) ++ eight =
     halves ∙ ap (λ (xs : List ℕ). skipped ++ xs) on.last ∙ sym (append_assoc skipped on.front eight) in
     on.kept ∙ same_last (skipped ++ on.front) (flat four.older) on.a on.b on.c on.d on.e on.f on.g on.h
@@ -450,7 +455,8 @@ over_goes_on l tape cut kept n end first whole ones even own s over are many on 
     (subst (λ (c : Latest). NoneFits Rough c over.rest) all_kept over.none)
     (subst (λ (c : Latest). NoneFits Rough c own.rest) own_all own.none) tails in
     let rests : over.rest ≡ own.rest =
-    append_cancel_left (flat mine) over.rest own.rest (tails ∙ ap (λ (cs : List Cell). flat cs ++ own.rest) (sym cells)) in
+    append_cancel_left (flat mine) over.rest own.rest (tails ∙ ap (λ (cs : List Cell). flat cs ++ own.rest)
+    (sym cells)) in
     let long : length (flat over.newer) ≡ length over.hs + length (flat mine) =
     ap (λ (cs : List Cell). length (flat cs)) on.are
     ∙ ap length (flat_map-append intervals_of on.older mine)
@@ -461,11 +467,13 @@ over_goes_on l tape cut kept n end first whole ones even own s over are many on 
     let at_end = over.ends in
     let before_run = own.before_run in
     let end_is : own.lock + 1 + length (flat (ones ++ own_cells)) ≡ end_of s =
-    omega (arith, own_long, cells_long, long, at_end, before_run, over_end l s (n + end) whole ones even (flat own.behind ++ own.rest) over) in
+    omega (arith, own_long, cells_long, long, at_end, before_run, over_end l s (n + end) whole ones even
+    (flat own.behind ++ own.rest) over) in
     let broken : IsBreak Rough (kept_after Rough latest over.newer) (end_of s) over.rest None =
     subst (λ (c : Latest). IsBreak Rough c (end_of s) over.rest None)
     (own_all ∙ ap (kept_after Rough theirs) (sym cells) ∙ sym all_kept)
-    (subst (λ (xs : List ℕ). IsBreak Rough (kept_after Rough (kept_at_lock Rough first) (ones ++ own_cells)) (end_of s) xs None)
+    (subst (λ (xs : List ℕ). IsBreak Rough (kept_after Rough (kept_at_lock Rough first) (ones ++ own_cells))
+    (end_of s) xs None)
     (sym rests)
     (subst (λ (e : ℕ). IsBreak Rough (kept_after Rough (kept_at_lock Rough first) (ones ++ own_cells)) e own.rest None)
     end_is own.broken)) in
@@ -482,7 +490,8 @@ over_goes_on l tape cut kept n end first whole ones even own s over are many on 
         ap length (flat_map-append intervals_of over.older on.older),
         length-append (flat over.older) (flat on.older),
       );
-      open_yet = break_is_one Rough (kept_after Rough latest over.newer) (end_of s) over.rest s.broken_at None over.broken
+      open_yet = break_is_one Rough (kept_after Rough latest over.newer) (end_of s) over.rest s.broken_at None
+          over.broken
           broken;
     }
 
@@ -700,7 +709,8 @@ zero_inside kept tape cut end run q x zero_there behind before =
     let rest = run.ones ++ Zero run.whole ∷ run.after in
     let other = Zero x ∷ zero_there.after in
     let long : length (flat first) ≡ length (flat run.before) + 1 =
-    ap length (flat_map-append intervals_of run.before (Zero run.first ∷ [])) ∙ length-append (flat run.before) (run.first ∷ []) in
+    ap length (flat_map-append intervals_of run.before (Zero run.first ∷ [])) ∙ length-append (flat run.before)
+    (run.first ∷ []) in
     let same : first ++ rest ≡ zero_there.before ++ other =
     append_assoc run.before (Zero run.first ∷ []) rest ∙ sym run.are ∙ zero_there.are in
     let front = front_of_front first rest zero_there.before other same (omega (arith, long, at, within, behind)) in
@@ -778,7 +788,8 @@ breaks_or_has before kept tape cut end start s run piece lock is early =
               (omega (arith, many, soon, long, inside)) (λ less. omega (arith, many, soon, long, inside))
               (omega (arith, soon)) (λ same x others rest_is half. omega (arith, same, soon))))
           | inr late ↦ over_the_run l tape cut kept n end run.first run.whole run.ones run.even own s
-              (over_it l tape cut kept n end run.first run.whole run.ones run.even own s is (omega (arith, lock_is, ahead))
+              (over_it l tape cut kept n end run.first run.whole run.ones run.even own s is
+              (omega (arith, lock_is, ahead))
               late run.even_ones run.many) (omega (arith, long, inside)) run.some run.even_whole run.even_ones
               (omega (arith, run.many)) late
         ]
@@ -791,7 +802,8 @@ found_behind : (before kept : List ℕ) (tape : List Cell) (cut end second start
     → AreFrom (length before + second) (cells_from tape cut kept second) ss
 found_behind before kept tape cut end second start [] run piece next low are =
     let within = next.within in
-    absurd (are (length before + next.pair) (omega (arith, low, within)) (shift_on Rough before kept next.pair next.unequal))
+    absurd (are (length before + next.pair) (omega (arith, low, within))
+    (shift_on Rough before kept next.pair next.unequal))
 found_behind before kept tape cut end second start (s ∷ more) run piece next low are =
     let l = before ++ kept in
     let n = length before in
