@@ -11,9 +11,9 @@ ghost use Rattle.tc_command.specs.Causes.{HasOutCause};
 ghost use Rattle.interval_commands.specs.FirmReport.{firm_lines};
 ghost use Rattle.interval_commands.specs.KeptFirmReport.{all_told, counts_in, no_counts, told_once, FitFirmLines};
 
-use limits::MAX_INTERVALS;
 use direction_reader::{Event, FirmEvent, FirmEvents};
 use interval_file::IntervalHeader;
+use limits::MAX_INTERVALS;
 use line_text::Text;
 use report_text::{firm_event_text, read_end_text};
 use tc_command::{Stop, push_line};
