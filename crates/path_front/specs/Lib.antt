@@ -1,5 +1,6 @@
 pub mod Clip
 pub mod Fit
+pub mod Gate
 pub mod Grid
 pub mod Hold
 pub mod KeptSizes
