@@ -9,3 +9,4 @@ pub mod Levels
 pub mod Measured
 pub mod Sizes
 pub mod Steps
+pub mod Tiles

@@ -1,4 +1,4 @@
-//! Which cells are code, and which are noise. Next: `laws`.
+//! Which cells are code, and which are noise. Next: `tile`.
 ghost use Rattle.std.specs.Prelude.{◌≡◌, ◌*◌, ◌^◌, ◌<◌, ◌≤◌, ◌/◌, min, max, IfSome, IfNone, List, [], ◌∷◌, ◌++◌};
 ghost use Rattle.std.specs.Prelude.{length, drop, take};
 ghost use Rattle.std.specs.List.{All};

@@ -17,9 +17,12 @@
 //!   `specs/Levels.antt`, `specs/Fit.antt`). What cells come behind these neighbours changes nothing.
 //! - All is kept in fixed room, and no number overflows in 2^40 samples and steps.
 //!
+//! - The intervals of a cell: a zero is one, a one two halves, and a tick is cut off their front where the
+//!   stretch breaks (`tiled`; `specs/Tiles.antt`). Joined again they last as long as the cell (`laws`).
+//!
 //! Read `sizes`, `clip`, `hold`, `grid`, `group` and `steps`, in this order, then `latest`, `measured`,
-//! `levels`, `fit` and `gate`, and the file of the same name in `specs/` beside each. Lists of samples and of steps
-//! begin with the latest. Nothing here allocates or fails. What writes the intervals of cells does
+//! `levels`, `fit`, `gate` and `tile`, and the file of the same name in `specs/` beside each. Lists of samples and of steps
+//! begin with the latest. Nothing here allocates or fails. What puts these rooms together does
 //! not stand here yet.
 #![tactic(auto)]
 
@@ -35,6 +38,7 @@ mod levels;
 mod measured;
 mod sizes;
 mod steps;
+mod tile;
 
 pub use clip::CLIP;
 pub use fit::{Fit, HalfFit, Range, Usual};
@@ -47,3 +51,4 @@ pub use levels::FINE;
 pub use measured::{Half, Measured, measure};
 pub use sizes::MEANS;
 pub use steps::{Heard, Steps};
+pub use tile::{MAX_TICKS, Tiles, tiled};

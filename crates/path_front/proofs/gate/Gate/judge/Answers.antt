@@ -75,7 +75,7 @@ returns-clause-judges c = λ judged more near stand_now.
     ∙ ap₂ (λ b a. usual_by i.usual b cell a) c.as_slice-before.ensures.value c.as_slice-behind.ensures.value in
     let breaks : c.if-cell.result ≡ cell.jumps || c.is_refused-refused.result = elim c.if-cell.branch [
       | then-cell w ↦ or_first cell.jumps c.is_refused-refused.result c.if-cell.result w.if-cell.true (w.result-is
-      ∙ w.if-cell.true)
+          ∙ w.if-cell.true)
       | else-cell w ↦ or_second cell.jumps c.is_refused-refused.result c.if-cell.result w.if-cell.false w.result-is
     ] in
     let judged_now = judges (state_of c) cell behind c.if-is_empty.self c.next_usual-usual.result
