@@ -1,3 +1,4 @@
+pub mod GateJudges
 pub mod GroupNext
 pub mod HeldNext
 pub mod LatestSizes

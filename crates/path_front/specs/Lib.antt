@@ -1,5 +1,6 @@
 pub mod Clip
 pub mod Fit
+pub mod Gate
 pub mod Grid
 pub mod Hold
 pub mod KeptSizes
@@ -8,3 +9,4 @@ pub mod Levels
 pub mod Measured
 pub mod Sizes
 pub mod Steps
+pub mod Tiles

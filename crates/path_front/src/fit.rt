@@ -1,4 +1,4 @@
-//! How well the halves of a cell fit those of its neighbours. Next: `cell_path/src/lib.rt`.
+//! How well the halves of a cell fit those of its neighbours. Next: `gate`.
 ghost use Rattle.std.specs.Prelude.{◌≡◌, ◌+◌, ◌*◌, ◌^◌, ◌<◌, ◌≤◌, Option, IfSome};
 ghost use Rattle.path_front.specs.Fit.{fit_of, half_fit, half_level, is_misfit, moved, outside, usual_after, IsFit};
 ghost use Rattle.path_front.specs.Fit.{IsRange, IsUsual};
@@ -84,7 +84,7 @@ fn half_fit(range: Range, half: &Half, length: u32) -> HalfFit
 }
 
 /// How a cell fits.
-pub fn fit_of(range: Range, cell: &Measured) -> Fit
+pub(crate) fn fit_of(range: Range, cell: &Measured) -> Fit
     requires range { IsRange range }
     requires cell { IsMeasured cell.now }
     ensures value { result ≡ fit_of range cell.now }
@@ -98,7 +98,7 @@ pub fn fit_of(range: Range, cell: &Measured) -> Fit
 
 impl Usual {
     /// Whether a cell does not fit.
-    pub fn refuses(self, range: Range, fit: Fit) -> bool
+    pub(crate) fn refuses(self, range: Range, fit: Fit) -> bool
         requires usual { IsUsual self }
         requires range { IsRange range }
         ensures { result ≡ is_misfit self range fit }
@@ -127,7 +127,7 @@ impl Usual {
 }
 
 /// What is usual after one more cell, or after the first.
-pub fn usual_after(usual: Option<Usual>, range: Range, fit: Fit) -> Usual
+pub(crate) fn usual_after(usual: Option<Usual>, range: Range, fit: Fit) -> Usual
     requires usual { IfSome usual (λ usual. IsUsual usual) }
     requires range { IsRange range }
     requires fit { IsFit fit }

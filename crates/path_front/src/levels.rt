@@ -1,6 +1,6 @@
 //! The level of cells. Next: `fit`.
-ghost use Rattle.std.specs.Prelude.{◌≡◌, ◌+◌, ◌*◌, ◌^◌, ◌<◌, ◌≤◌, ℕ, unsigned_abs, List, length};
-ghost use Rattle.std.specs.List.{All};
+ghost use Rattle.std.specs.Prelude.{◌≡◌, ◌+◌, ◌*◌, ◌^◌, ◌<◌, ◌≤◌, ℕ, unsigned_abs, List, ◌∷◌, length, take};
+ghost use Rattle.std.specs.List.{sum_by, All};
 ghost use Rattle.path_front.specs.Levels.{above, is_faint, level_of, mean_level, slowly};
 ghost use Rattle.path_front.specs.Measured.{IsMeasured};
 
@@ -22,7 +22,7 @@ pub(crate) fn above(number: i64) -> u64
 }
 
 /// The level of a cell: the mean of the sound times the signs.
-pub fn level(cell: &Measured) -> u64
+pub(crate) fn level(cell: &Measured) -> u64
     requires { IsMeasured cell.now }
     ensures value { result ≡ level_of cell.now }
     ensures most { result ≤ 2 ^ 21 }
@@ -30,23 +30,43 @@ pub fn level(cell: &Measured) -> u64
     above(cell.first.sum + cell.second.sum) * 32 / u64::from(cell.length)
 }
 
-/// The mean of the levels of some cells.
-pub fn mean_level(cells: &[Measured]) -> u64
-    requires some { 0 < length cells.now }
-    requires few { length cells.now ≤ 9 }
+/// The sum of the levels of some cells.
+fn levels(cells: &[Measured]) -> u64
+    requires few { length cells.now ≤ 8 }
     requires measured { All IsMeasured cells.now }
-    ensures value { result ≡ mean_level cells.now }
-    ensures most { result ≤ 2 ^ 21 }
+    ensures value { result ≡ sum_by level_of cells.now }
+    ensures most { result ≤ length cells.now * 2 ^ 21 }
 {
     let mut sum = 0;
     for cell in cells {
         sum += level(cell);
     }
-    sum / cells.len() as u64
+    sum
+}
+
+/// The mean of the levels of some cells.
+pub(crate) fn mean_level(cells: &[Measured]) -> u64
+    requires some { 0 < length cells.now }
+    requires few { length cells.now ≤ 8 }
+    requires measured { All IsMeasured cells.now }
+    ensures value { result ≡ mean_level cells.now }
+    ensures most { result ≤ 2 ^ 21 }
+{
+    levels(cells) / cells.len() as u64
+}
+
+/// The mean of the levels of a cell and the next seven.
+pub(crate) fn mean_level_with(cell: &Measured, behind: &[Measured]) -> u64
+    requires cell { IsMeasured cell.now }
+    requires measured { All IsMeasured behind.now }
+    ensures { result ≡ mean_level (take 8 (cell.now ∷ behind.now)) }
+{
+    let others = behind.len().min(7);
+    (level(cell) + levels(&behind[..others])) / (others as u64 + 1)
 }
 
 /// The latest value moves a slow mean by a 32nd of the difference.
-pub fn slowly(before: u64, latest: u64) -> u64
+pub(crate) fn slowly(before: u64, latest: u64) -> u64
     requires before { before ≤ 2 ^ 50 }
     requires latest { latest ≤ 2 ^ 50 }
     ensures value { result ≡ slowly before latest }
@@ -56,7 +76,7 @@ pub fn slowly(before: u64, latest: u64) -> u64
 }
 
 /// Whether the sound from the middle of a cell to the middle of the next has no level.
-pub fn is_faint(before: &Measured, cell: &Measured, least: u64) -> bool
+pub(crate) fn is_faint(before: &Measured, cell: &Measured, least: u64) -> bool
     requires before { IsMeasured before.now }
     requires cell { IsMeasured cell.now }
     requires least { least ≤ 2 ^ 21 }

@@ -1,7 +1,7 @@
 use Rattle.std.proofs.Common.{◌≡◌, ◌*◌, ◌^◌, ◌≤◌, take}
 use Rattle.std.specs.List.{sum_by}
 use Rattle.path_front.specs.Levels.{level_of}
-use Rattle.path_front.proofs.levels.mean_level.Given as goal
+use Rattle.path_front.proofs.levels.levels.Given as goal
 
 abbrev pub invariant-loop-cell : goal.invariant-loop-cell
 invariant-loop-cell l = record {

@@ -1,0 +1,242 @@
+//! Which cells are code, and which are noise. Next: `tile`.
+ghost use Rattle.std.specs.Prelude.{◌≡◌, ◌*◌, ◌^◌, ◌<◌, ◌≤◌, ◌/◌, min, max, IfSome, IfNone, List, [], ◌∷◌, ◌++◌};
+ghost use Rattle.std.specs.Prelude.{length, drop, take};
+ghost use Rattle.std.specs.List.{All};
+ghost use Rattle.path_front.specs.Fit.{IsRange, IsUsual};
+ghost use Rattle.path_front.specs.Gate.{floor_by, range_by, refuses, usual_by, GateStandsFor, Judges};
+ghost use Rattle.path_front.specs.Measured.{IsMeasured};
+ghost use Rattle.path_front.specs.declared.gate.TheConstants.{NEIGHBOURS};
+ghost use Rattle.path_front.specs.declared.measured.Measured.{Measured};
+
+use crate::fit::{Range, Usual, fit_of, usual_after};
+use crate::levels::{is_faint, level, mean_level, mean_level_with, slowly};
+use crate::measured::Measured;
+use arrayvec::ArrayVec;
+use std::marker::Model;
+
+/// So many cells before and behind are looked at.
+pub const NEIGHBOURS: usize = 8;
+
+/// A cell, and whether the stretch of code breaks in front of it.
+#[derive(Clone, Copy, Debug, PartialEq, Eq)]
+pub struct Judged {
+    pub cell: Measured,
+    pub breaks: bool,
+}
+
+/// The mean levels of the neighbours.
+fn range(before: &[Measured], behind: &[Measured]) -> Range
+    requires some { 0 < length before.now }
+    requires few { length before.now ≤ 8 }
+    requires few_behind { length behind.now ≤ 8 }
+    requires before { All IsMeasured before.now }
+    requires behind { All IsMeasured behind.now }
+    ensures value { result ≡ range_by before.now behind.now }
+    ensures range { IsRange result }
+{
+    let level = mean_level(before);
+    if behind.is_empty() {
+        return Range {
+            least: level,
+            most: level,
+        };
+    }
+    let other = mean_level(behind);
+    Range {
+        least: level.min(other),
+        most: level.max(other),
+    }
+}
+
+/// The level that a cell has to have, by the means before it and with it.
+fn floor(least: u32, long: u64, before: u64, ahead: u64) -> u64
+    requires least { least ≤ 2 ^ 15 }
+    requires long { long ≤ 2 ^ 21 }
+    requires before { before ≤ 2 ^ 21 }
+    ensures value { result ≡ max (max (min before ahead / 4) (long / 16)) (16 * least) }
+    ensures most { result ≤ 2 ^ 21 }
+{
+    (before.min(ahead) / 4)
+        .max(long / 16)
+        .max(16 * u64::from(least))
+}
+
+/// Whether a cell is too faint, or does not fit.
+fn is_refused(
+    least: u32,
+    long: u64,
+    usual: Option<Usual>,
+    before: &[Measured],
+    cell: &Measured,
+    behind: &[Measured],
+) -> bool
+    requires least { least ≤ 2 ^ 15 }
+    requires long { long ≤ 2 ^ 21 }
+    requires usual { IfSome usual (λ usual. IsUsual usual) }
+    requires few { length before.now ≤ 8 }
+    requires few_behind { length behind.now ≤ 8 }
+    requires before { All IsMeasured before.now }
+    requires cell { IsMeasured cell.now }
+    requires behind { All IsMeasured behind.now }
+    ensures { result ≡ refuses least long usual before.now cell.now behind.now }
+{
+    let Some(previous) = before.first() else {
+        return false;
+    };
+    let floor = floor(
+        least,
+        long,
+        mean_level(before),
+        mean_level_with(cell, behind),
+    );
+    if is_faint(previous, cell, floor) {
+        return true;
+    }
+    let range = range(before, behind);
+    match usual {
+        Some(usual) => usual.refuses(range, fit_of(range, cell)),
+        None => false,
+    }
+}
+
+/// What is usual after a cell.
+fn next_usual(
+    usual: Option<Usual>,
+    before: &[Measured],
+    cell: &Measured,
+    behind: &[Measured],
+) -> Option<Usual>
+    requires usual { IfSome usual (λ usual. IsUsual usual) }
+    requires few { length before.now ≤ 8 }
+    requires few_behind { length behind.now ≤ 8 }
+    requires before { All IsMeasured before.now }
+    requires cell { IsMeasured cell.now }
+    requires behind { All IsMeasured behind.now }
+    ensures value { result ≡ usual_by usual before.now cell.now behind.now }
+    ensures size { IfSome result (λ usual. IsUsual usual) }
+{
+    if cell.jumps || before.is_empty() {
+        return usual;
+    }
+    let range = range(before, behind);
+    Some(usual_after(usual, range, fit_of(range, cell)))
+}
+
+/// Cells on their way through the gate.
+#[derive(Drop)]
+pub struct Gate {
+    least: u32,
+    /// The latest cells that were judged, the latest first.
+    before: ArrayVec<Measured, 8>,
+    /// The next cell to be judged, and those behind it.
+    ahead: ArrayVec<Measured, 9>,
+    /// A slow mean of the levels of the cells that were judged.
+    long: u64,
+    usual: Option<Usual>,
+}
+
+impl Model for Gate {
+    ghost use Rattle.path_front.specs.Gate.{AreGated, GateState};
+
+    ghost Value = { GateState };
+
+    ghost view = { λ s. record {
+      least = s.least;
+      before = s.before.items;
+      ahead = s.ahead.items;
+      long = s.long;
+      usual = s.usual;
+    } };
+
+    ghost invariant = { λ s. AreGated (record {
+      least = s.least;
+      before = s.before.items;
+      ahead = s.ahead.items;
+      long = s.long;
+      usual = s.usual;
+    }) };
+}
+
+impl Gate {
+    /// Before the first cell.
+    pub fn new(least: u32) -> Gate
+        requires least { least ≤ 2 ^ 15 }
+        ensures stands { (more : List Measured) → GateStandsFor result [] more }
+        ensures least { result.least ≡ least }
+        ensures ahead { result.ahead ≡ [] }
+    {
+        Gate {
+            least,
+            before: ArrayVec::new(),
+            ahead: ArrayVec::new(),
+            long: 0,
+            usual: None,
+        }
+    }
+
+    /// Takes the next cell, and judges the one behind which eight stand now.
+    pub fn feed(&mut self, cell: Measured) -> Option<Judged>
+        requires cell { IsMeasured cell }
+        requires room { length self.old.ahead ≤ 8 }
+        ensures least { self.new.least ≡ self.old.least }
+        ensures room { length self.new.ahead ≤ 8 }
+        ensures waits { IfNone result (self.new.ahead ≡ self.old.ahead ++ cell ∷ []) }
+        ensures stands { IfNone result ((judged more : List Measured) → GateStandsFor self.old judged (cell ∷ more)
+            → GateStandsFor self.new judged more) }
+        ensures judges { IfSome result (λ answer. (judged more : List Measured)
+            → GateStandsFor self.old judged (cell ∷ more)
+            → Judges self.old.least (self.old.ahead ++ cell ∷ []) self.new judged more answer) }
+    {
+        self.ahead.push(cell);
+        if self.ahead.is_full() {
+            Some(self.judge())
+        } else {
+            None
+        }
+    }
+
+    /// Judges the next cell when no more come.
+    pub fn drain(&mut self) -> Option<Judged>
+        requires room { length self.old.ahead ≤ 8 }
+        ensures least { self.new.least ≡ self.old.least }
+        ensures room { length self.new.ahead ≤ 8 }
+        ensures none { IfNone result (self.old.ahead ≡ []) }
+        ensures judges { IfSome result (λ answer. (judged : List Measured) → GateStandsFor self.old judged []
+            → Judges self.old.least self.old.ahead self.new judged [] answer) }
+    {
+        if self.ahead.is_empty() {
+            None
+        } else {
+            Some(self.judge())
+        }
+    }
+
+    /// Judges the next cell.
+    fn judge(&mut self) -> Judged
+        requires some { 0 < length self.old.ahead }
+        ensures least { self.new.least ≡ self.old.least }
+        ensures front { self.old.ahead ≡ result.cell ∷ self.new.ahead }
+        ensures judges { (judged more : List Measured)
+            → take NEIGHBOURS (drop 1 self.old.ahead ++ more) ≡ drop 1 self.old.ahead
+            → GateStandsFor self.old judged more
+            → Judges self.old.least self.old.ahead self.new judged more result }
+    {
+        let cell = self.ahead.remove(0);
+        self.long = if self.before.is_empty() {
+            level(&cell)
+        } else {
+            slowly(self.long, level(&cell))
+        };
+        let before = self.before.as_slice();
+        let behind = self.ahead.as_slice();
+        let refused = is_refused(self.least, self.long, self.usual, before, &cell, behind);
+        let usual = next_usual(self.usual, before, &cell, behind);
+        self.usual = usual;
+        self.before.truncate(NEIGHBOURS - 1);
+        self.before.insert(0, cell);
+        Judged {
+            cell,
+            breaks: cell.jumps || refused,
+        }
+    }
+}

@@ -1,0 +1,56 @@
+//! The intervals of cells. Next: `laws`.
+ghost use Rattle.std.specs.Prelude.{◌≡◌, ◌^◌, ◌≤◌, ◌∷◌};
+ghost use Rattle.std.specs.Option.{option_to_list};
+ghost use Rattle.path_front.specs.Measured.{IsMeasured};
+ghost use Rattle.path_front.specs.Tiles.{cut, tiles_of};
+
+use crate::gate::Judged;
+use arrayvec::ArrayVec;
+use cell_path::Bit;
+
+/// A step has so many ticks at most.
+pub const MAX_TICKS: u32 = 65_536;
+
+/// The intervals of a cell: one, or two halves, and a tick in front of them where the stretch breaks.
+pub type Tiles = ArrayVec<u32, 3>;
+
+/// One or two intervals, and a tick cut off their front where the stretch breaks.
+fn cut_off(breaks: bool, first: u32, second: Option<u32>) -> Tiles
+    requires { 2 ≤ first }
+    ensures { result.items ≡ cut breaks (first ∷ option_to_list second) }
+{
+    let mut tiles = Tiles::new();
+    if breaks {
+        tiles.push(1);
+        tiles.push(first - 1);
+    } else {
+        tiles.push(first);
+    }
+    if let Some(second) = second {
+        tiles.push(second);
+    }
+    tiles
+}
+
+/// The intervals of a cell, where a step has so many ticks.
+pub fn tiled(ticks: u32, judged: &Judged) -> Tiles
+    requires least { 2 ≤ ticks }
+    requires most { ticks ≤ MAX_TICKS }
+    requires cell { IsMeasured judged.now.cell }
+    ensures { result.items ≡ tiles_of ticks judged.now }
+{
+    let cell = &judged.cell;
+    let whole = cell.span * ticks;
+    match cell.bit {
+        Bit::Zero => cut_off(judged.breaks, whole, None),
+        Bit::One => {
+            let half = (cell.length * ticks).div_ceil(2);
+            let second = half.min(whole - 2);
+            cut_off(
+                judged.breaks || whole < half + 2,
+                whole - second,
+                Some(second),
+            )
+        }
+    }
+}
