@@ -15,6 +15,7 @@ use Rattle.tc_command.specs.Exchange.{Exchange}
 use Rattle.tc_job.specs.declared.job.Job.{Job}
 use Rattle.tc_job.specs.declared.job.Job.TheVariants.{LtcRead, LtcWorn, LtcRough}
 use Rattle.tc_job.specs.declared.job.Task.TheVariants.{Stream}
+use Rattle.tc_job.specs.declared.witness.Witness.TheVariants.{NotAsked}
 use Rattle.tc_job.specs.Slicing.{IsSlicing, Slices}
 use Rattle.tc_job.specs.WaveSlicing.{SlicesWave}
 use Rattle.tc_top.specs.Answer.{IsRunAnswer}
@@ -45,7 +46,7 @@ pub record Piped (first : Job) (second : Job) (input text : List ℕ) : Type 0 w
 abbrev pub report_under : Profile → Job
 report_under Normal = LtcRead
 report_under Worn = LtcWorn
-report_under Rough = LtcRough
+report_under Rough = LtcRough NotAsked
 
 -- ---- the sound
 
