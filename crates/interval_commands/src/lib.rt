@@ -18,6 +18,6 @@ mod ltc_convert;
 mod ltc_pcm;
 mod ltc_read;
 
-pub use ltc_convert::convert_recording;
-pub use ltc_pcm::sound_recording;
-pub use ltc_read::read_recording;
+pub use ltc_convert::{conversions_are_lawful, convert_recording};
+pub use ltc_pcm::{made_sound_is_lawful, sound_recording};
+pub use ltc_read::{read_recording, reports_are_lawful};

@@ -14,7 +14,7 @@ use Rattle.interval_file.specs.Grammar.{file_of}
 use Rattle.pcm_front.specs.Pace.{intervals_at}
 use Rattle.signal_commands.specs.WavLtc.{told_wav_ltc, track_header, track_pace, track_settings}
 use Rattle.tc_command.specs.Command.{IsCommand}
-use Rattle.tc_command.specs.Told.{IsTold}
+use Rattle.tc_command.specs.Told.{IsLawful, IsTold}
 
 -- a fault of the end is there where the input may not end
 may_not_end : (b : Bool) (f : WaveFault) → b ≡ false → ¬ (option_map Sound (if b then None else Some f) ≡ None)
@@ -46,11 +46,16 @@ one_track w bytes a b p q =
     (one_format r p.format q.format p.begins q.begins)
     ∙ sym q.are
 
-pub track_is_told : ((w : SlicesWave) → IsCommand (along_sound_file w))
-    → ((track : ℕ) (bytes : List ℕ) → IsWithin (reading_of track bytes)) → (w : SlicesWave) → IsTold (told_wav_ltc w)
-track_is_told command within w = record {
+pub track_is_lawful : ((w : SlicesWave) → IsCommand (along_sound_file w)) → (w : SlicesWave) → IsLawful (told_wav_ltc w)
+track_is_lawful command w = record {
   command = command w;
-  kept = λ pulled written are input output. slices_the_track w pulled written within input output;
-  pinned = λ yes. one_track w;
+  pinned = one_track w;
   unlimited = λ none input spent. spent;
+}
+
+pub track_is_told : ((track : ℕ) (bytes : List ℕ) → IsWithin (reading_of track bytes)) → (w : SlicesWave)
+    → IsLawful (told_wav_ltc w) → IsTold (told_wav_ltc w)
+track_is_told within w lawful = record {
+  lawful = lawful;
+  kept = λ pulled written are input output. slices_the_track w pulled written within input output;
 }

@@ -61,6 +61,5 @@ abbrev pub told_wav_ltc : SlicesWave → Told
 told_wav_ltc w = record {
   meaning = along_sound_file w;
   promise = SlicesTheTrack w;
-  is_pinned = true;
   has_own_limit = false;
 }
