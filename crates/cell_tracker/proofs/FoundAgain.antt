@@ -260,7 +260,7 @@ in_stretch profile l s k j is at within =
     ∙ drop-drop k s.lock l ∙ ap (λ n. drop n l) at
 
 -- the recording's pairs in the list
-shift_on : (profile : Profile) (before kept : List ℕ) (k : ℕ) → IsUnequalAt profile kept k
+pub shift_on : (profile : Profile) (before kept : List ℕ) (k : ℕ) → IsUnequalAt profile kept k
     → IsUnequalAt profile (before ++ kept) (length before + k)
 shift_on profile before kept k at =
     let here : get_or (before ++ kept) (length before + k) 0 ≡ get_or kept k 0 = get_or-append-add before kept k 0 in
@@ -269,7 +269,7 @@ shift_on profile before kept k at =
     ap (λ n. get_or (before ++ kept) n 0) place ∙ get_or-append-add before kept (k + 1) 0 in
     (omega (arith, at.0, length-append before kept), rw (here, next) at.1)
 
-shift_back : (profile : Profile) (before kept : List ℕ) (k : ℕ)
+pub shift_back : (profile : Profile) (before kept : List ℕ) (k : ℕ)
     → IsUnequalAt profile (before ++ kept) (length before + k)
     → IsUnequalAt profile kept k
 shift_back profile before kept k at =
@@ -563,7 +563,7 @@ last_of_all profile looks before kept tape cut second q s more is2 piece order i
     }
 
 -- a stretch more that breaks by then
-one_before : (from : ℕ) (cells : List Cell) (s : Stretch) (more : List Stretch) → BreaksBy from s
+pub one_before : (from : ℕ) (cells : List Cell) (s : Stretch) (more : List Stretch) → BreaksBy from s
     → AreFrom from cells more
     → AreFrom from cells (s ∷ more)
 one_before from cells s more breaks are = record {
@@ -585,7 +585,7 @@ by_or_late (Some b) limit = elim (cases_lt limit b) [
   | inr early ↦ inl (b, refl, early)
 ]
 
-breaks_by : (o : Option ℕ) (b from : ℕ) → o ≡ Some b → b ≤ from → IsSomeAnd o (λ place. place ≤ from)
+pub breaks_by : (o : Option ℕ) (b from : ℕ) → o ≡ Some b → b ≤ from → IsSomeAnd o (λ place. place ≤ from)
 breaks_by o b from some early = rw some early
 
 found : (profile : Profile) → LooksAtLast profile → (before kept : List ℕ) (tape : List Cell) (cut second start : ℕ)

@@ -44,13 +44,13 @@ lock_is_one profile intervals start lock other is is_too =
     ]
 
 -- a front that is as long as the list is the list
-front_is : (one two : List Cell) → Begins one two → length two ≤ length one → one ≡ two
+pub front_is : (one two : List Cell) → Begins one two → length two ≤ length one → one ≡ two
 front_is one two (rest, is) long =
     let none : rest ≡ [] = nil_from_length rest (omega (arith, ap length is, length-append one rest)) in
     sym (is ∙ ap (λ xs. one ++ xs) none ∙ append-nil one)
 
 -- two breaks of one stretch are one
-break_is_one : (profile : Profile) (c : Latest) (after : ℕ) (rest : List ℕ) (place other : Option ℕ)
+pub break_is_one : (profile : Profile) (c : Latest) (after : ℕ) (rest : List ℕ) (place other : Option ℕ)
     → IsBreak profile c after rest place
     → IsBreak profile c after rest other → place ≡ other
 break_is_one profile c after [] place other is is_too = is ∙ sym is_too

@@ -13,12 +13,15 @@ use Rattle.std.proofs.lemmas.List.Elements.{All-nil, All-cons, All-append, All-h
 use Rattle.std.proofs.lemmas.List.Sums.{sum_by-append, sum_by-take-drop, sum_by-cons}
 use Rattle.biphase.specs.declared.cell.Cell.{Cell}
 use Rattle.biphase.specs.declared.profile.Profile.{Profile}
+use Rattle.biphase.specs.declared.profile.Profile.TheVariants.{Rough}
 use Rattle.biphase.specs.Latest.{Latest}
 use Rattle.biphase.specs.Tolerance.{LooksAtLast}
 use Rattle.biphase.specs.Chain.{intervals_of, flat, kept_of}
 use Rattle.biphase.specs.ToleranceLemmas.{half_or_not}
+use Rattle.cell_tracker.specs.EvenRun.{IsEvenRun}
 use Rattle.cell_tracker.specs.FoundAgain.{IsSecondLock, AreFrom, BreaksBy}
 use Rattle.cell_tracker.specs.ChainPiece.{IsPiece, cells_from}
+use Rattle.cell_tracker.specs.Lock.{IsLock}
 use Rattle.cell_tracker.specs.Stretch.{Stretch, end_of, IsBreak, IsStretch, AreStretches, AreStretchesFrom}
 use Rattle.tc_address.specs.declared.system.System.{System}
 use Rattle.tc_address.specs.declared.direction.Direction.{Direction}
@@ -33,7 +36,7 @@ use Rattle.direction_reader.specs.Gathered.{begin_of}
 use Rattle.direction_reader.specs.Windows.{CellWindow, windows}
 use Rattle.direction_reader.specs.ListEvents.{duration, break_events}
 use Rattle.direction_reader.specs.ListEvents.{AreEvents}
-use Rattle.direction_reader.specs.Tape.{ComesBehind, ComesBy, FindsTheTape}
+use Rattle.direction_reader.specs.Tape.{ComesBehind, ComesBy, FindsTheTape, FindsTheTapeBehindOnes, TellFrom}
 use Rattle.direction_reader.proofs.AsLists.{AreListed}
 use Rattle.ltc_word.specs.SyncLemmas.{in_sync_or_not}
 use Rattle.direction_reader.proofs.WindowsGrow.{few}
@@ -400,26 +403,47 @@ pub record Fronts : Type 0 where
   pub first : IsFrontFirst
   pub behind : IsBehind
 
-pub finds_the_tape : AreListed → IsFoundAgain → Fronts → (system : System) (profile : Profile) (l : List ℕ)
-    (es : List Event) → AreEvents system profile l es → FindsTheTape system profile l es
-finds_the_tape lists law fronts system profile l es are = λ looks before kept behind cells cut second same piece is2.
-    let front = before ++ kept in
+-- what the events are from a place on, where the stretches of a front are the tape's from there on
+pub tells_from : AreListed → Fronts → (system : System) (profile : Profile) (l : List ℕ) (es : List Event)
+    → AreEvents system profile l es → (front behind : List ℕ) (from : ℕ) (cells : List Cell) → l ≡ front ++ behind
+    → ((ss : List Stretch) → AreStretches profile front ss → AreFrom from cells ss) → TellFrom system front from cells es
+tells_from lists fronts system profile l es are front behind from cells same law =
     let whole = subst (λ (xs : List ℕ). AreEvents system profile xs es) same are in
     let mine = fronts.exist system profile front in
     let rest = fronts.first system profile front behind mine.0 es mine.1 whole in
     let late = fronts.behind system profile front behind mine.0 rest.0 mine.1
     (subst (λ (e : List Event). AreEvents system profile (front ++ behind) e) rest.1 whole) in
     let own = lists.gathered system profile front mine.0 mine.1 in
-    let from = length before + second in
-    let there = cells_from cells cut kept second in
-    let found = tell_to system profile front from there own.0 mine.0 own.1
-    (law profile looks before kept cells cut second own.0 piece is2 own.1) own.2 in
-    let words = lists.cells system (sum (take from front)) there found.later found.words in
+    let found = tell_to system profile front from cells own.0 mine.0 own.1 (law own.0 own.1) own.2 in
+    let words = lists.cells system (sum (take from front)) cells found.later found.words in
     record {
       past = found.past;
       behind = rest.0;
       are = rest.1 ∙ ap (λ (e : List Event). e ++ rest.0) (found.are ∙ ap (λ (e : List Event). found.past ++ e) words);
-      no_others = all_by (sum (take from front) + duration (take 79 there)) from found.past found.no_other_word
+      no_others = all_by (sum (take from front) + duration (take 79 cells)) from found.past found.no_other_word
           found.no_other_break;
       none_before_the_end = late;
     }
+
+pub finds_the_tape : AreListed → IsFoundAgain → Fronts → (system : System) (profile : Profile) (l : List ℕ)
+    (es : List Event) → AreEvents system profile l es → FindsTheTape system profile l es
+finds_the_tape lists law fronts system profile l es are = λ looks before kept behind cells cut second same piece is2.
+    tells_from lists fronts system profile l es are (before ++ kept) behind (length before + second)
+    (cells_from cells cut kept second) same
+    (λ ss stretches. law profile looks before kept cells cut second ss piece is2 stretches)
+
+-- ---- under the rough tolerance, behind even ones
+
+-- the stretches are the tape's from a place on
+abbrev pub IsFoundBehindOnes : Type 0
+IsFoundBehindOnes = (before kept : List ℕ) (cells : List Cell) (cut end second : ℕ) (stretches : List Stretch)
+    → IsPiece Rough kept cells cut → IsEvenRun kept cells cut end → IsLock Rough kept end second
+    → AreStretches Rough (before ++ kept) stretches
+    → AreFrom (length before + second) (cells_from cells cut kept second) stretches
+
+pub finds_behind_ones : AreListed → IsFoundBehindOnes → Fronts → (system : System) (l : List ℕ) (es : List Event)
+    → AreEvents system Rough l es → FindsTheTapeBehindOnes system l es
+finds_behind_ones lists law fronts system l es are = λ before kept behind cells cut end second same piece run next.
+    tells_from lists fronts system Rough l es are (before ++ kept) behind (length before + second)
+    (cells_from cells cut kept second) same
+    (λ ss stretches. law before kept cells cut end second ss piece run next stretches)

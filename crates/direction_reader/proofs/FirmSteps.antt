@@ -38,7 +38,7 @@ use Rattle.direction_reader.proofs.ReaderSteps.{sum_more, last_sum}
 
 -- ---- the stretches that were there
 
-stretch_stays : (system : System) (l more : List ℕ) (s : Stretch) (n : ℕ) → n ≡ length l
+pub stretch_stays : (system : System) (l more : List ℕ) (s : Stretch) (n : ℕ) → n ≡ length l
     → Rattle.direction_reader.specs.StandsFor.IsInside n s
     → firm_events_of_stretch system (l ++ more) s ≡ firm_events_of_stretch system l s
 stretch_stays system l more s n count inside =

@@ -85,7 +85,7 @@ part_of_more r next profile header intervals written x own s takes feeds law =
     }
 
 -- the same numbers give the same line
-same_line : (i w r l t i' w' r' l' t' : ℕ) → i ≡ i' → w ≡ w' → r ≡ r' → l ≡ l' → t ≡ t' → read_end_line i w r l t ≡ read_end_line i' w' r' l' t'
+pub same_line : (i w r l t i' w' r' l' t' : ℕ) → i ≡ i' → w ≡ w' → r ≡ r' → l ≡ l' → t ≡ t' → read_end_line i w r l t ≡ read_end_line i' w' r' l' t'
 same_line i w r l t i' w' r' l' t' same_i same_w same_r same_l same_t =
     ap (λ (n : ℕ). read_end_line n w r l t) same_i ∙ ap (λ (n : ℕ). read_end_line i' n r l t) same_w
     ∙ ap (λ (n : ℕ). read_end_line i' w' n l t) same_r ∙ ap (λ (n : ℕ). read_end_line i' w' r' n t) same_l

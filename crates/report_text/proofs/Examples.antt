@@ -12,12 +12,13 @@ use Rattle.tc_bits.specs.declared.flags.Flags.{Flags}
 use Rattle.tc_bits.specs.Fields.{field_values, flags}
 use Rattle.ltc_word.specs.declared.word.LtcWord.{LtcWord}
 use Rattle.direction_reader.specs.declared.event.Event.TheVariants.{Word, Refused, Lost}
+use Rattle.direction_reader.specs.declared.firm_event.FirmEvent.TheVariants.{Told, Alone}
 use Rattle.flywheel.specs.declared.frame.Frame.TheVariants.{Heard, Invented, Gone}
 use Rattle.hex.specs.Hex.{encode_with}
 use Rattle.interval_file.specs.declared.header.FileVersion.TheVariants.{One}
 use Rattle.interval_file.specs.declared.header.IntervalHeader.{IntervalHeader}
 use Rattle.report_text.specs.FrameTexts.{fly_end_line, frame_line}
-use Rattle.report_text.specs.Texts.{event_line, read_end_line, speed_of}
+use Rattle.report_text.specs.Texts.{event_line, firm_event_line, read_end_line, speed_of}
 
 of_system : System → IntervalHeader
 of_system system = record { version = One; system = system; tick_rate = 48_000 }
@@ -69,6 +70,15 @@ a_word_backward = refl
 a_refused_word : event_line (of_system F25) (Refused Backward Hours 77) ≡ codes "refused backward hours tick 77\n"
 unfolding of_system digits
 a_refused_word = refl
+
+a_word_that_is_alone : firm_event_line (of_system F25) (Alone Backward 79) ≡ codes "refused backward alone tick 79\n"
+unfolding of_system digits
+a_word_that_is_alone = refl
+
+a_told_word : firm_event_line (of_system F25) (Told (Refused Backward Hours 77))
+    ≡ codes "refused backward hours tick 77\n"
+unfolding of_system digits
+a_told_word = refl
 
 a_break : event_line (of_system F25) (Lost 6 78) ≡ codes "lost interval 6 tick 78\n"
 unfolding of_system digits

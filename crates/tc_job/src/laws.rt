@@ -23,7 +23,7 @@ pub fn each_command_is_typed_so()
     ensures { map {B = List ℕ × List ℕ} (λ row. (row.0.now, row.1.now)) USAGES
         ≡ (codes "ltc-read", codes "")
         ∷ (codes "ltc-worn", codes "")
-        ∷ (codes "ltc-rough", codes "")
+        ∷ (codes "ltc-rough", codes " [firm]")
         ∷ (codes "ltc-fly", codes " LIMIT [worn|rough]")
         ∷ (codes "ltc-spans", codes " LIMIT [worn|rough]")
         ∷ (codes "ltc-mtc", codes " LIMIT [worn|rough]")

@@ -19,8 +19,8 @@ use frame_commands::{
     messages_are_lawful, send_time_code, spans_are_lawful, tell_spans, traces_are_lawful,
 };
 use interval_commands::{
-    conversions_are_lawful, convert_recording, made_sound_is_lawful, read_recording,
-    reports_are_lawful, sound_recording,
+    conversions_are_lawful, convert_recording, firm_reports_are_lawful, made_sound_is_lawful,
+    read_firmly, read_recording, reports_are_lawful, sound_recording,
 };
 use made_commands::{
     line_stripes_are_lawful, loads_are_lawful, make_lines, make_recording, stripes_are_lawful,
@@ -30,7 +30,7 @@ use signal_commands::laws::each_signal_makes_a_command;
 use signal_commands::{read_fields, read_midi, slice_sound, slice_track, sliced_tracks_are_lawful};
 use tc_command::{Status, Stop, push_note, stop_note};
 use tc_io::{Sink, Source};
-use tc_job::Job;
+use tc_job::{Job, Witness};
 
 /// Works a job along its input, in fixed memory. It never answers `Usage` or `Memory`.
 pub fn stream<S: Source, K: Sink, N: Sink>(
@@ -83,6 +83,7 @@ pub(crate) fn each_job_is_lawful()
     ensures { (job : Job) → IsLawful (told_of job) }
 {
     reports_are_lawful();
+    firm_reports_are_lawful();
     flown_frames_are_lawful();
     spans_are_lawful();
     messages_are_lawful();
@@ -105,7 +106,12 @@ fn work_on<S: Source, K: Sink>(job: &Job, source: &mut S, out: &mut K) -> Result
     match job {
         Job::LtcRead => read_recording(Profile::Normal, source, out),
         Job::LtcWorn => read_recording(Profile::Worn, source, out),
-        Job::LtcRough => read_recording(Profile::Rough, source, out),
+        Job::LtcRough {
+            witness: Witness::NotAsked,
+        } => read_recording(Profile::Rough, source, out),
+        Job::LtcRough {
+            witness: Witness::Asked,
+        } => read_firmly(Profile::Rough, source, out),
         Job::LtcFly { flight } => fly_along(*flight, source, out),
         Job::LtcSpans { flight } => tell_spans(*flight, source, out),
         Job::LtcMtc { flight } => send_time_code(*flight, source, out),

@@ -3,7 +3,7 @@ ghost use Rattle.std.specs.Prelude.{◌≡◌, ◌≤◌, IfSome, map, slice_get
 ghost use Rattle.std.specs.Option.{option_copied};
 ghost use Rattle.tc_words.specs.Values.{between, count_in, count_with_lines, is_number};
 ghost use Rattle.tc_words.specs.Values.{number_spelled, numbered, read_or};
-ghost use Rattle.tc_words.specs.Values.{system_in, tolerance_in, version_in};
+ghost use Rattle.tc_words.specs.Values.{system_in, tolerance_in, version_in, witness_in};
 ghost use Rattle.tc_address.specs.Count.{system_with};
 ghost use Rattle.tc_address.specs.Label.{IsLabel};
 ghost use Rattle.tc_address.specs.Spelling.{label_in};
@@ -13,6 +13,7 @@ use biphase::Profile;
 use interval_file::FileVersion;
 use line_text::are_digits;
 use tc_address::{Count, Label, System, day_labels, label_at, read_text};
+use tc_job::Witness;
 
 /// A word that need not be there.
 pub fn word_at<'a>(words: &[&'a str], i: usize) -> Option<&'a str>
@@ -108,6 +109,27 @@ pub fn tolerance_or_normal(word: Option<&str>) -> Option<Profile>
     match word {
         None => Some(Profile::Normal),
         Some(word) => tolerance_in(word),
+    }
+}
+
+/// That each word that is read is asked for a witness: `firm`.
+#[tactic(auto, unfolding(crate::specs::Values::witness_in))]
+pub fn witness_in(word: &str) -> Option<Witness>
+    ensures { result ≡ witness_in word.now }
+{
+    match word {
+        "firm" => Some(Witness::Asked),
+        _ => None,
+    }
+}
+
+/// What a word says of witnesses: without it none is asked for.
+pub fn witness_or_none(word: Option<&str>) -> Option<Witness>
+    ensures { result ≡ read_or Witness.NotAsked witness_in (option_copied word.entry) }
+{
+    match word {
+        None => Some(Witness::NotAsked),
+        Some(word) => witness_in(word),
     }
 }
 
