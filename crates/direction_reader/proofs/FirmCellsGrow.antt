@@ -32,7 +32,7 @@ use Rattle.direction_reader.proofs.FirmWindows.{spans_join, span_one, spans_more
 use Rattle.direction_reader.proofs.FirmWindows.{candidate_stays, forward_stays}
 use Rattle.direction_reader.proofs.FirmWindows.{events_stay, needs_stay, not_yet}
 use Rattle.direction_reader.proofs.InSync.{sync_true, sync_false, sync_holds}
-use Rattle.direction_reader.proofs.OneList.{in_sync_or_not}
+use Rattle.ltc_word.specs.SyncLemmas.{in_sync_or_not}
 use Rattle.direction_reader.proofs.SyncInTime.{WordLaws, window_bits}
 use Rattle.direction_reader.proofs.SyncsApart.{backwards_apart, forwards_apart}
 

@@ -1,7 +1,7 @@
 //! From intervals to events, where each word is asked for a witness. Next: `tracker`, and with a cell
 //! `firm_cells`.
 ghost use Rattle.std.specs.Prelude.{◌≡◌, ℕ, ◌<◌, ◌≤◌, ◌+◌, ◌*◌, List, [], ◌∷◌, ◌++◌, map};
-ghost use Rattle.biphase.specs.declared.cell.TheConstants.{MAX_INTERVAL, MAX_INTERVALS};
+ghost use Rattle.limits.specs.declared.recording.TheConstants.{MAX_INTERVAL, MAX_INTERVALS};
 ghost use Rattle.direction_reader.specs.declared.firm_event.FirmEvent.{FirmEvent};
 ghost use Rattle.direction_reader.specs.Firm.{AreFirmEvents, told_tick, DoNotFall};
 ghost use Rattle.direction_reader.specs.FirmReader.{FirmStandsFor, FirmTakes, FirmBrings, told_until};
@@ -15,7 +15,8 @@ use crate::firm_cells::FirmCells;
 use crate::firm_event::{FirmEvent, FirmEvents};
 use crate::state::Step;
 use crate::tracker::Tracker;
-use biphase::{MAX_INTERVAL, Profile};
+use biphase::Profile;
+use limits::MAX_INTERVAL;
 use std::marker::Model;
 use tc_address::System;
 

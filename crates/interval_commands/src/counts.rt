@@ -2,7 +2,7 @@
 //! `report_text/src/event.rt`.
 ghost use Rattle.std.specs.Prelude.{◌≡◌, ◌<◌, ◌≤◌, ◌+◌, ◌*◌, ◌^◌, OnOk, OnErr, IfErr, IfSome};
 ghost use Rattle.std.specs.Io.KnownBytes.{Appends};
-ghost use Rattle.biphase.specs.declared.cell.TheConstants.{MAX_INTERVALS};
+ghost use Rattle.limits.specs.declared.recording.TheConstants.{MAX_INTERVALS};
 ghost use Rattle.direction_reader.specs.FirmStep.{firm_list, firm_listed};
 ghost use Rattle.interval_file.specs.IntervalHeader.{IsTickRate};
 ghost use Rattle.report_text.specs.Texts.{read_end_line, FitsFirmLine};
@@ -11,9 +11,9 @@ ghost use Rattle.tc_command.specs.Causes.{HasOutCause};
 ghost use Rattle.interval_commands.specs.FirmReport.{firm_lines};
 ghost use Rattle.interval_commands.specs.KeptFirmReport.{all_told, counts_in, no_counts, told_once, FitFirmLines};
 
-use biphase::MAX_INTERVALS;
 use direction_reader::{Event, FirmEvent, FirmEvents};
 use interval_file::IntervalHeader;
+use limits::MAX_INTERVALS;
 use line_text::Text;
 use report_text::{firm_event_text, read_end_text};
 use tc_command::{Stop, push_line};

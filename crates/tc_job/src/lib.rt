@@ -40,6 +40,6 @@ pub use line_stripe::LineStripe;
 pub use load_run::{LoadRun, MAX_WORDS};
 pub use slicing::{MAX_FINENESS, MAX_LEVEL, Slicing};
 pub use sound_level::SoundLevel;
-pub use stripe::{MAX_FRAMES, MAX_TICK_RATE, Stripe};
-pub use wave_slicing::{MAX_TRACKS, WaveSlicing};
+pub use stripe::{MAX_FRAMES, Stripe};
+pub use wave_slicing::WaveSlicing;
 pub use witness::Witness;

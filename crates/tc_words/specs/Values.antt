@@ -9,8 +9,6 @@ use Rattle.biphase.specs.declared.profile.Profile.{Profile}
 use Rattle.biphase.specs.declared.profile.Profile.TheVariants.{Worn, Rough}
 use Rattle.tc_address.specs.declared.count.Count.{Count}
 use Rattle.tc_address.specs.declared.count.Count.TheVariants.{C24, C25, C30, Drop30}
-use Rattle.tc_address.specs.declared.direction.Direction.{Direction}
-use Rattle.tc_address.specs.declared.direction.Direction.TheVariants.{Forward, Backward}
 use Rattle.tc_address.specs.declared.system.System.{System}
 use Rattle.tc_address.specs.declared.system.System.TheVariants.{F24, F25, F30}
 use Rattle.tc_address.specs.Label.{Address, labels}
@@ -59,10 +57,6 @@ between least greatest word =
 -- a tolerance other than the normal one: `worn` or `rough`
 unfoldable pub tolerance_in : Word → Option Profile
 tolerance_in word = value_in ((codes "worn", Worn) ∷ (codes "rough", Rough) ∷ []) word
-
--- `forward` or `backward`
-unfoldable pub direction_in : Word → Option Direction
-direction_in word = value_in ((codes "forward", Forward) ∷ (codes "backward", Backward) ∷ []) word
 
 -- a version of the interval file: `1` or `2`
 unfoldable pub version_in : Word → Option FileVersion

@@ -13,7 +13,8 @@ use Rattle.tc_job.specs.declared.job.Task.TheVariants.{Stream, Chase}
 use Rattle.tc_job.specs.declared.fault.WordsFault.{WordsFault}
 use Rattle.tc_job.specs.declared.fault.WordsFault.TheVariants.{Dash, Command, CountOfWords}
 use Rattle.tc_job.specs.declared.slicing.TheConstants.{MAX_LEVEL}
-use Rattle.tc_job.specs.declared.stripe.TheConstants.{MAX_FRAMES, MAX_TICK_RATE}
+use Rattle.tc_job.specs.declared.stripe.TheConstants.{MAX_FRAMES}
+use Rattle.limits.specs.declared.recording.TheConstants.{MAX_TICK_RATE}
 use Rattle.tc_job.specs.Jam.{jamming_of}
 use Rattle.tc_job.specs.LineStripe.{line_stripe_of}
 use Rattle.tc_job.specs.declared.load_run.TheConstants.{MAX_WORDS}

@@ -1,9 +1,7 @@
 //! The values of the words, one by one. Next: `tc_address/src/spelling.rt`, which reads labels.
 ghost use Rattle.std.specs.Prelude.{◌≡◌, ◌≤◌, IfSome, map, slice_get};
 ghost use Rattle.std.specs.Option.{option_copied};
-ghost use Rattle.std.specs.Char.{is_ascii_digit};
-ghost use Rattle.std.specs.List.{list_all};
-ghost use Rattle.tc_words.specs.Values.{between, count_in, count_with_lines, direction_in, is_number};
+ghost use Rattle.tc_words.specs.Values.{between, count_in, count_with_lines, is_number};
 ghost use Rattle.tc_words.specs.Values.{number_spelled, numbered, read_or};
 ghost use Rattle.tc_words.specs.Values.{system_in, tolerance_in, version_in, witness_in};
 ghost use Rattle.tc_address.specs.Count.{system_with};
@@ -13,7 +11,8 @@ ghost use Rattle.vitc_line.specs.Places.{HasLines};
 
 use biphase::Profile;
 use interval_file::FileVersion;
-use tc_address::{Count, Direction, Label, System, day_labels, label_at, read_text};
+use line_text::are_digits;
+use tc_address::{Count, Label, System, day_labels, label_at, read_text};
 use tc_job::Witness;
 
 /// A word that need not be there.
@@ -82,12 +81,6 @@ fn is_number(digits: &[u8]) -> bool
     !digits.is_empty() && digits.len() <= 20 && are_digits(digits)
 }
 
-fn are_digits(bytes: &[u8]) -> bool
-    ensures { result ≡ list_all is_ascii_digit bytes.now }
-{
-    bytes.iter().all(|byte| byte.is_ascii_digit())
-}
-
 /// A number of frames from 0 to 255.
 pub fn limit_in(word: &str) -> Option<u8>
     ensures { result ≡ between 0 255 word.now }
@@ -137,18 +130,6 @@ pub fn witness_or_none(word: Option<&str>) -> Option<Witness>
     match word {
         None => Some(Witness::NotAsked),
         Some(word) => witness_in(word),
-    }
-}
-
-/// A way of the tape: `forward` or `backward`.
-#[tactic(auto, unfolding(crate::specs::Values::direction_in))]
-pub fn direction_in(word: &str) -> Option<Direction>
-    ensures { result ≡ direction_in word.now }
-{
-    match word {
-        "forward" => Some(Direction::Forward),
-        "backward" => Some(Direction::Backward),
-        _ => None,
     }
 }
 

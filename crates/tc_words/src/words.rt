@@ -26,10 +26,9 @@ use crate::vitc_make::in_lines;
 use crate::wav_ltc::sliced_track;
 use biphase::{MAX_SHAPED, MIN_SHAPED};
 use command_words::CommandLine;
+use limits::MAX_TICK_RATE;
 use std::alloc::Global;
-use tc_job::{
-    Flight, Jam, Job, LoadRun, MAX_LEVEL, MAX_TICK_RATE, MAX_WORDS, SoundLevel, Task, WordsFault,
-};
+use tc_job::{Flight, Jam, Job, LoadRun, MAX_LEVEL, MAX_WORDS, SoundLevel, Task, WordsFault};
 
 /// The task of the words, or their first fault. Word 0 is the command.
 pub fn read_words(alloc: Global, words: &[String]) -> Result<Task, WordsFault>
