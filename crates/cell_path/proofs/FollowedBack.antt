@@ -86,10 +86,11 @@ way_of_best lengths steps place sign cell rest number way best some b =
 
 -- ---- the end before
 
-end_of_all : (lengths : List ℕ) (steps : List Step) (from : ℕ) (end : Sign) (number : ℤ)
+-- where a best path of all ends
+pub best_ends_there : (lengths : List ℕ) (steps : List Step) (from : ℕ) (end : Sign) (number : ℤ)
     → IsBestEnd lengths steps from end number
     → (path : List Cell) → IsBestOfAll lengths steps path → EndsIn from end path
-end_of_all lengths steps from end number e path best =
+best_ends_there lengths steps from end number e path best =
     subst (EndsIn from end) (same_winner (score lengths steps e.path) (score lengths steps path) e.path path
     (e.is_best.wins path best.is_path) (best.wins e.path e.is_best.is_path)) e.ends
 
@@ -133,7 +134,7 @@ jumped_from lengths steps place sign cell rest from end number best jump some e 
           front_wins x (score lengths (drop n steps) rest) t k cell rest other
           (subst (λ c. Wins (x +ℤ (score lengths (drop n steps) rest -ℤ k)) (cell ∷ rest) (x +ℤ (t -ℤ c)) (cell ∷ other)) (sym same) over);
     } in
-    end_of_all lengths (drop n steps) from end number e rest all
+    best_ends_there lengths (drop n steps) from end number e rest all
 
 -- where nothing is left, nothing stands before, and the first cell stands behind a jump
 pub first_cell : (lengths : List ℕ) (steps : List Step) (place : ℕ) (sign : Sign) (cell : Cell) (rest : List Cell)

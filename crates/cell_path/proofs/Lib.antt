@@ -6,6 +6,7 @@ pub mod EndOfSteps
 pub mod Examples
 pub mod Followed
 pub mod FollowedBack
+pub mod GivesNext
 pub mod GoesBack
 pub mod LengthsOfCells
 pub mod MarkedSoFar
@@ -17,4 +18,5 @@ pub mod OneMoreLength
 pub mod Order
 pub mod Rings
 pub mod SoundOfBits
+pub mod SpacedEnds
 pub mod StartOfCells

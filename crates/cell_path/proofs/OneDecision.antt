@@ -5,6 +5,7 @@ use Rattle.std.proofs.lemmas.Bool.{lt-leb}
 use Rattle.std.proofs.lemmas.List.{reverse-append}
 use Rattle.cell_path.specs.declared.cell.Cell.{Cell}
 use Rattle.cell_path.specs.declared.cell.Step.{Step}
+use Rattle.cell_path.specs.declared.follow.TheConstants.{DELAY}
 use Rattle.cell_path.specs.declared.lengths.TheConstants.{LENGTHS}
 use Rattle.cell_path.specs.declared.placed.Placed.{Placed}
 use Rattle.cell_path.specs.Best.{IsBestOfAll}
@@ -24,8 +25,8 @@ adds_one : (steps : List Step) (before earlier all others : List Placed) (due : 
 adds_one steps before earlier all others true due same adds like =
     let a = adds.due due in
     let b = like.due due in
-    a.2 ∙ ap (λ p. newly (length steps) (end_behind 0 before) p ++ before) (one_of_all steps a.0 b.0 a.1 b.1)
-    ∙ ap (λ l. newly (length steps) (end_behind 0 l) b.0 ++ l) same ∙ sym b.2
+    a.2 ∙ ap (λ p. newly DELAY (length steps) (end_behind 0 before) p ++ before) (one_of_all steps a.0 b.0 a.1 b.1)
+    ∙ ap (λ l. newly DELAY (length steps) (end_behind 0 l) b.0 ++ l) same ∙ sym b.2
 adds_one steps before earlier all others false due same adds like = adds.idle due ∙ same ∙ sym (like.idle due)
 
 pub one_decision : (steps : List Step) (all others : List Placed) → AreDecided steps all → AreDecided steps others
@@ -51,7 +52,7 @@ adds_in_front : (steps : List Step) (before all : List Placed) (due : Bool) → 
     → Adds steps before all → (new : List Placed) × (all ≡ new ++ before)
 adds_in_front steps before all true due adds =
     let a = adds.due due in
-    (newly (length steps) (end_behind 0 before) a.0, a.2)
+    (newly DELAY (length steps) (end_behind 0 before) a.0, a.2)
 adds_in_front steps before all false due adds = ([], adds.idle due)
 
 pub decided_before : (step : Step) (steps : List Step) (all : List Placed) → AreDecided (step ∷ steps) all

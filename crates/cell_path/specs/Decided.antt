@@ -28,14 +28,15 @@ abbrev pub end_behind : ℕ → List Placed → ℕ
 end_behind done [] = done
 end_behind done (latest ∷ before) = latest.end
 
--- after so many steps it ended long enough ago, and more than a quarter of its length behind what was decided before
-abbrev pub is_decided : ℕ → ℕ → Placed → Bool
-is_decided count done cell =
-    leb (cell.end + DELAY) count && ltb (done + length_in LENGTHS cell.cell.place / 4) cell.end
+-- after so many steps it ended as long ago as this, and more than a quarter of its length behind what was decided before
+abbrev pub is_decided : ℕ → ℕ → ℕ → Placed → Bool
+is_decided delay count done cell =
+    leb (cell.end + delay) count && ltb (done + length_in LENGTHS cell.cell.place / 4) cell.end
 
--- those cells of a path through so many steps that are decided behind what was decided before
-abbrev pub newly : ℕ → ℕ → List Cell → List Placed
-newly count done path = filter (is_decided count done) (placed count path)
+-- those cells of a path through so many steps that are decided behind what was decided before, if they ended as long
+-- ago as this
+abbrev pub newly : ℕ → ℕ → ℕ → List Cell → List Placed
+newly delay count done path = filter (is_decided delay count done) (placed count path)
 
 -- a decision falls due after so many steps
 abbrev pub is_due : ℕ → Bool
@@ -44,13 +45,22 @@ is_due count = leb FIRST count && (count % EVERY == 0)
 -- the latest step adds what it decides on the best path of all, and nothing where no decision falls due
 pub record Adds (steps : List Step) (before all : List Placed) : Type 0 where
   pub due : is_due (length steps) ≡ true → (path : List Cell) × IsBestOfAll LENGTHS steps path
-      × (all ≡ newly (length steps) (end_behind 0 before) path ++ before)
+      × (all ≡ newly DELAY (length steps) (end_behind 0 before) path ++ before)
   pub idle : is_due (length steps) ≡ false → all ≡ before
 
 -- these cells are decided after these steps, and no others
 abbrev pub AreDecided : List Step → List Placed → Type 0
 AreDecided [] all = all ≡ []
 AreDecided (step ∷ steps) all = (before : List Placed) × AreDecided steps before × Adds (step ∷ steps) before all
+
+-- these cells are decided when the sound ends behind these steps: the best path of all to its end, behind what was
+-- decided before
+abbrev pub AreDecidedInAll : List Step → List Placed → Type 0
+AreDecidedInAll [] all = all ≡ []
+AreDecidedInAll (step ∷ steps) all =
+    (before : List Placed) × AreDecided (step ∷ steps) before
+    × (path : List Cell) × IsBestOfAll LENGTHS (step ∷ steps) path
+    × (all ≡ newly 0 (length (step ∷ steps)) (end_behind 0 before) path ++ before)
 
 abbrev pub same_sign : Sign → Sign → Bool
 same_sign Plus Plus = true

@@ -9,6 +9,7 @@ pub mod Number
 pub mod Path
 pub mod Paths
 pub mod Scores
+pub mod Spaced
 pub mod StandsFor
 pub mod Trying
 pub mod Within

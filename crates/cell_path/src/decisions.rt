@@ -1,13 +1,13 @@
 //! The cells of a sound, decided while it goes on. Next: `laws`.
-ghost use Rattle.std.specs.Prelude.{◌≡◌, ℕ, ◌+◌, ◌^◌, ◌<◌, List, [], ◌∷◌};
+ghost use Rattle.std.specs.Prelude.{◌≡◌, ℕ, ◌+◌, ◌^◌, ◌<◌, IfSome, IfNone, None, List, [], ◌∷◌};
 ghost use Rattle.cell_path.specs.declared.cell.Step.{Step};
 ghost use Rattle.cell_path.specs.declared.placed.Placed.{Placed};
 ghost use Rattle.cell_path.specs.Decided.{TakesEarliest};
-ghost use Rattle.cell_path.specs.Decisions.{placed_of, DecisionsStandFor, Gives};
+ghost use Rattle.cell_path.specs.Decisions.{placed_of, DecisionsEndFor, DecisionsStandFor, Gives, GivesRest, IsNear};
 ghost use Rattle.cell_path.specs.Scores.{IsStep};
 
 use crate::cell::Step;
-use crate::follow::{EVERY, FIRST, decide};
+use crate::follow::{DELAY, EVERY, FIRST, decide};
 use crate::paths::Paths;
 use crate::placed::{Decided, Placed, jumps};
 use crate::waiting::Waiting;
@@ -51,6 +51,7 @@ impl Decisions {
         ensures stands { DecisionsStandFor result [] [] }
         ensures waiting { result.waiting ≡ [] }
         ensures count { result.count ≡ 0 }
+        ensures last { result.last ≡ None }
     {
         Decisions {
             paths: Paths::new(),
@@ -69,13 +70,33 @@ impl Decisions {
         ensures stands { (steps : List Step) (given : List Placed) → DecisionsStandFor self.old steps given
             → DecisionsStandFor self.new (step ∷ steps) given }
         ensures count { self.new.count ≡ self.old.count + 1 }
+        ensures last { self.new.last ≡ self.old.last }
     {
-        let best = self.paths.feed(step);
+        self.paths.feed(step);
         self.count += 1;
         if FIRST <= self.count && self.count % EVERY == 0 {
             decide(
                 &self.paths,
-                best,
+                DELAY,
+                self.count,
+                &mut self.done,
+                &mut self.waiting,
+            );
+        }
+    }
+
+    /// Decides all that is left, when the sound has ended and all that was decided has been given.
+    pub fn finish(&mut self)
+        requires given { self.old.waiting ≡ [] }
+        ensures stands { (steps : List Step) (given : List Placed) → DecisionsStandFor self.old steps given
+            → DecisionsEndFor self.new steps given }
+        ensures count { self.new.count ≡ self.old.count }
+        ensures last { self.new.last ≡ self.old.last }
+    {
+        if 0 < self.count {
+            decide(
+                &self.paths,
+                0,
                 self.count,
                 &mut self.done,
                 &mut self.waiting,
@@ -87,7 +108,11 @@ impl Decisions {
     pub fn give(&mut self) -> Option<Decided>
         ensures gives { (steps : List Step) (given : List Placed) → DecisionsStandFor self.old steps given
             → Gives self.new steps given result }
+        ensures rest { (steps : List Step) (given : List Placed) → DecisionsEndFor self.old steps given
+            → GivesRest self.new steps given result }
         ensures waiting { TakesEarliest self.old.waiting self.new.waiting (placed_of result) }
+        ensures near { IfSome result (λ cell. IsNear self.old self.new cell) }
+        ensures none { IfNone result (self.new ≡ self.old) }
         ensures count { self.new.count ≡ self.old.count }
     {
         let placed = self.waiting.pop()?;

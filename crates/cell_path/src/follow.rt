@@ -1,13 +1,13 @@
 //! Following the best path back to what was decided before. Next: `decisions`.
-ghost use Rattle.std.specs.Prelude.{◌≡◌, ℕ, ◌+◌, ◌-◌, ◌^◌, ◌<◌, ◌≤◌, List};
+ghost use Rattle.std.specs.Prelude.{◌≡◌, ℕ, ◌+◌, ◌-◌, ◌^◌, ◌<◌, ◌≤◌, List, length};
 ghost use Rattle.cell_path.specs.declared.cell.Cell.{Cell};
 ghost use Rattle.cell_path.specs.declared.cell.Step.{Step};
 ghost use Rattle.cell_path.specs.declared.lengths.TheConstants.{LENGTHS};
 ghost use Rattle.cell_path.specs.Best.{EndsIn, IsBestOfAll};
 ghost use Rattle.cell_path.specs.Decided.{end_behind, newly};
+ghost use Rattle.cell_path.specs.Spaced.{AreSpaced};
 ghost use Rattle.cell_path.specs.Paths.{PathsStandFor};
 
-use crate::best::Best;
 use crate::lengths::length_at;
 use crate::paths::Paths;
 use crate::placed::Placed;
@@ -25,32 +25,33 @@ pub const EVERY: u64 = 1_024;
 /// The first decision falls due after so many steps: after 1,024 it would decide 224 only.
 pub const FIRST: u64 = 2_048;
 
-/// The cells that are decided after so many steps, behind what was decided before, which ended there.
-pub(crate) fn decided_now(paths: &Paths, best: Best, count: u64, done: u64) -> Waiting
+/// The cells of the best path that ended so long ago or earlier, behind what was decided before, which
+/// ended there.
+fn decided_now(paths: &Paths, best: Point, delay: u64, count: u64, done: u64) -> Waiting
     requires count { count ≡ paths.now.scores.sums.count }
-    requires first { 2_048 ≤ count }
+    requires first { 0 < delay → 2_048 ≤ count }
+    requires delay { delay ≤ 800 }
     requires room { count ≤ 2 ^ 40 }
+    requires some { 0 < count }
     requires behind { done ≤ count }
     requires near { count ≤ done + 2_048 }
+    requires here { best.ago ≡ 0 }
     requires place { best.place < 45 }
     ensures decided { (steps : List Step) (path : List Cell) → PathsStandFor paths.now steps
-        → IsBestOfAll LENGTHS steps path → EndsIn best.place best.sign path → result ≡ newly count done path }
-    ensures near { count ≤ end_behind done result + 919 }
+        → IsBestOfAll LENGTHS steps path → EndsIn best.place best.sign path → result ≡ newly delay count done path }
+    ensures near { count ≤ end_behind done result + delay + 119 }
     ensures behind { end_behind done result ≤ count }
+    ensures spaced { AreSpaced 120 done result }
 {
     let mut waiting = Waiting::new();
-    let mut at = Some(Point {
-        ago: 0,
-        place: usize::from(best.place),
-        sign: best.sign,
-    });
+    let mut at = Some(best);
     'cells: while let Some(point) = at {
         let end = count - point.ago as u64;
         if end <= done + length_at(point.place) as u64 / 4 {
             break;
         }
         let back = paths.back(point);
-        if end + DELAY <= count {
+        if end + delay <= count {
             waiting.push(Placed {
                 end,
                 cell: back.cell,
@@ -61,24 +62,25 @@ pub(crate) fn decided_now(paths: &Paths, best: Best, count: u64, done: u64) -> W
     waiting
 }
 
-/// Takes the decision that falls due, when all that was decided before has been given.
+/// Takes a decision, when all that was decided before has been given.
 // Out of line, since the room for a list is cleared on entry, which a step does not have to pay.
 #[cold]
 #[inline(never)]
-pub(crate) fn decide(paths: &Paths, best: Best, count: u64, done: &mut u64, waiting: &mut Waiting)
+pub(crate) fn decide(paths: &Paths, delay: u64, count: u64, done: &mut u64, waiting: &mut Waiting)
     requires count { count ≡ paths.now.scores.sums.count }
-    requires first { 2_048 ≤ count }
+    requires first { 0 < delay → 2_048 ≤ count }
+    requires delay { delay ≤ 800 }
     requires room { count ≤ 2 ^ 40 }
+    requires some { 0 < count }
     requires behind { done.old ≤ count }
     requires near { count ≤ done.old + 2_048 }
-    requires place { best.place < 45 }
-    ensures decided { (steps : List Step) (path : List Cell) → PathsStandFor paths.now steps
-        → IsBestOfAll LENGTHS steps path → EndsIn best.place best.sign path
-        → waiting.new ≡ newly count done.old path }
+    ensures decided { (steps : List Step) → PathsStandFor paths.now steps → 0 < length steps
+        → (path : List Cell) × IsBestOfAll LENGTHS steps path × (waiting.new ≡ newly delay count done.old path) }
     ensures done { done.new ≡ end_behind done.old waiting.new }
-    ensures near { count ≤ done.new + 919 }
+    ensures near { count ≤ done.new + delay + 119 }
     ensures behind { done.new ≤ count }
+    ensures spaced { AreSpaced 120 done.old waiting.new }
 {
-    *waiting = decided_now(paths, best, count, *done);
+    *waiting = decided_now(paths, paths.best(), delay, count, *done);
     *done = waiting.end_behind(*done);
 }

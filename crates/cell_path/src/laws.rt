@@ -38,7 +38,7 @@ pub fn the_decisions_are_these()
     ensures delay { DELAY ≡ 800 }
     ensures every { EVERY ≡ 1_024 }
     ensures first { FIRST ≡ 2 * EVERY }
-    ensures room { 4 * ROOM ≡ FIRST - DELAY }
+    ensures room { 4 * ROOM ≡ FIRST }
 {}
 
 /// The steps of a sound decide one list of cells, however they come.

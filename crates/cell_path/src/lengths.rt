@@ -18,7 +18,7 @@ pub const JUMP: usize = 3;
 pub const EARLY: i64 = 268_435_456;
 
 /// The length in a place of the list.
-pub(crate) fn length_at(place: usize) -> usize
+pub fn length_at(place: usize) -> usize
     requires { place < 45 }
     ensures value { result ≡ length_in LENGTHS place }
     ensures least { 4 ≤ result }

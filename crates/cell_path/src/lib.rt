@@ -18,9 +18,10 @@
 //! - While the sound goes on, its cells are decided: every 1,024 steps the best path is followed back, and
 //!   those of its cells that ended 800 steps ago or earlier, behind what was decided before, are given one
 //!   by one in the order of time (`Decisions::feed`, `Decisions::give`; `specs/Decided.antt`, `AreDecided`:
-//!   what is decided depends on the steps alone, not on when it is asked for). A cell jumps where it does
-//!   not meet the one before it within a quarter of its length and with its sign. At most 312 are decided
-//!   at once, so nothing is allocated.
+//!   what is decided depends on the steps alone, not on when it is asked for). When the sound ends, the
+//!   rest of its best path is decided too (`Decisions::finish`; `AreDecidedInAll`). A cell jumps where it
+//!   does not meet the one before it within a quarter of its length and with its sign. At most 512 are
+//!   decided at once, so nothing is allocated.
 //! - No score overflows in 2^40 steps, since a step adds 2^22 in the mean at most (`specs/Kept.antt`,
 //!   `limit`).
 //! - A sound has one best path for each end, and what stands before the latest cell of a best path is a
@@ -30,8 +31,8 @@
 //! `specs/Number.antt` and `specs/StandsFor.antt`, `paths` with `specs/KeptMarks.antt`, and `decisions`
 //! with `specs/Decided.antt`; below them stand `end`, `best` and `start`, which try one length each, and
 //! `follow`. Lists of steps and of cells begin with the latest.
-//! Nothing here allocates or refuses. What makes the steps of samples, what is decided when the sound
-//! ends, and what tells cells from noise does not stand here yet.
+//! Nothing here allocates or refuses. What makes the steps of samples, and what tells cells from noise, does
+//! not stand here yet.
 #![tactic(auto)]
 
 mod best;
@@ -60,7 +61,7 @@ pub use cell::{Bit, Cell, Sign, Step, Way};
 pub use decisions::Decisions;
 pub use ends::{Bits, Ends};
 pub use follow::{DELAY, EVERY, FIRST};
-pub use lengths::{EARLY, JUMP, LENGTHS};
+pub use lengths::{EARLY, JUMP, LENGTHS, length_at};
 pub use mark::StepMarks;
 pub use marks::KEPT;
 pub use numbers::{Numbers, PLACES};

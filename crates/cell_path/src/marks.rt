@@ -1,5 +1,5 @@
 //! The marks of the latest steps, and following a best path back by them. Next: `paths`.
-ghost use Rattle.std.specs.Prelude.{◌≡◌, ℕ, ◌+◌, ◌^◌, ◌<◌, ◌≤◌, IfSome, None, List, [], ◌∷◌, drop, length};
+ghost use Rattle.std.specs.Prelude.{◌≡◌, ℕ, ◌+◌, ◌^◌, ◌<◌, ◌≤◌, ℤ, IfSome, None, List, [], ◌∷◌, drop, length};
 ghost use Rattle.cell_path.specs.declared.cell.Cell.{Cell};
 ghost use Rattle.cell_path.specs.declared.cell.Step.{Step};
 ghost use Rattle.cell_path.specs.declared.lengths.TheConstants.{LENGTHS};
@@ -7,6 +7,7 @@ ghost use Rattle.cell_path.specs.Best.{IsBest};
 ghost use Rattle.cell_path.specs.KeptMarks.{marks_ago, GoesBack, MarksStandFor};
 ghost use Rattle.cell_path.specs.Lengths.{length_in};
 ghost use Rattle.cell_path.specs.Marks.{IsMarked};
+ghost use Rattle.cell_path.specs.Number.{IsBestEnd};
 
 use crate::cell::{Cell, Sign, Way};
 use crate::lengths::length_at;
@@ -72,6 +73,21 @@ impl Marks {
         ensures place { result.now.best_place < 45 }
     {
         &self.ring[(self.count as usize + KEPT - ago) % KEPT]
+    }
+
+    /// Where the best path of all ends, with the latest step.
+    pub(crate) fn best(&self) -> Point
+        ensures best { (steps : List Step) → MarksStandFor self.now steps → 0 < length steps
+            → (number : ℤ) × IsBestEnd LENGTHS steps result.place result.sign number }
+        ensures place { result.place < 45 }
+        ensures here { result.ago ≡ 0 }
+    {
+        let here = self.ago(0);
+        Point {
+            ago: 0,
+            place: usize::from(here.best_place),
+            sign: here.best_sign,
+        }
     }
 
     /// The latest cell of the best path that ends in a point, and the end of the cell before.

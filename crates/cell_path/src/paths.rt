@@ -1,5 +1,5 @@
 //! The best paths through the sound so far, which can be followed back. Next: `laws`.
-ghost use Rattle.std.specs.Prelude.{◌≡◌, ℕ, ◌+◌, ◌^◌, ◌<◌, ◌≤◌, IfSome, None, List, [], ◌∷◌, drop, length};
+ghost use Rattle.std.specs.Prelude.{◌≡◌, ℕ, ◌+◌, ◌^◌, ◌<◌, ◌≤◌, ℤ, IfSome, None, List, [], ◌∷◌, drop, length};
 ghost use Rattle.cell_path.specs.declared.cell.Cell.{Cell};
 ghost use Rattle.cell_path.specs.declared.cell.Step.{Step};
 ghost use Rattle.cell_path.specs.declared.lengths.TheConstants.{LENGTHS};
@@ -90,6 +90,16 @@ impl Paths {
         let heard = self.scores.feed(step);
         self.marks.push(marks_of(&heard));
         heard.best
+    }
+
+    /// Where the best path of all ends, with the latest step.
+    pub fn best(&self) -> Point
+        ensures best { (steps : List Step) → PathsStandFor self.now steps → 0 < length steps
+            → (number : ℤ) × IsBestEnd LENGTHS steps result.place result.sign number }
+        ensures place { result.place < 45 }
+        ensures here { result.ago ≡ 0 }
+    {
+        self.marks.best()
     }
 
     /// The latest cell of the best path that ends in a point, and the end of the cell before it. So, from

@@ -6,9 +6,9 @@ use crate::cell::{Bit, Cell, Sign, Way};
 use crate::placed::Placed;
 use std::marker::Model;
 
-/// So many cells can be decided at once: by the first decision, of 2,048 steps but for the latest 800,
+/// So many cells can be decided at once: where a sound ends before its first decision, of 2,048 steps,
 /// with a cell in four steps.
-pub const ROOM: usize = 312;
+pub const ROOM: usize = 512;
 
 /// Cells that are decided, the latest first.
 #[derive(Drop)]
@@ -26,7 +26,7 @@ impl Model for Waiting {
 
     ghost view = { λ s. take s.count s.cells };
 
-    ghost invariant = { λ s. (length s.cells ≡ 312) × (s.count ≤ 312)
+    ghost invariant = { λ s. (length s.cells ≡ 512) × (s.count ≤ 512)
         × All (λ placed. placed.cell.place < 45) s.cells };
 }
 
@@ -52,7 +52,7 @@ impl Waiting {
 
     /// Takes one that is earlier than all.
     pub(crate) fn push(&mut self, placed: Placed)
-        requires room { length self.old < 312 }
+        requires room { length self.old < 512 }
         requires place { placed.cell.place < 45 }
         ensures { self.new ≡ self.old ++ placed ∷ [] }
     {

@@ -113,8 +113,18 @@ zeros_end even whole l (One x y ∷ cells) (h ∷ []) more rest some is evens ze
 zeros_end even whole l (One x y ∷ cells) (h ∷ g ∷ hs) more rest some is evens zeros follow same =
     let first : x ≡ h = cc in
     let second : y ≡ g = cc in
-    absurd (omega (arith, first, second, evens.0.0, evens.1.0.0, zeros.0.1, zeros.1.1, zeros.2.1, zeros.3.1,
-    follow.1.2.1))
+    absurd (omega (
+      arith,
+      first,
+      second,
+      evens.0.0,
+      evens.1.0.0,
+      zeros.0.1,
+      zeros.1.1,
+      zeros.2.1,
+      zeros.3.1,
+      follow.1.2.1,
+    ))
 
 -- ---- four ones
 

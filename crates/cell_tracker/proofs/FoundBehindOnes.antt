@@ -18,8 +18,8 @@ use Rattle.biphase.specs.declared.cell.Cell.TheVariants.{Zero, One}
 use Rattle.biphase.specs.Latest.{Latest}
 use Rattle.biphase.specs.Tolerance.{kept_at_lock, kept_next, length_of, IsFirstHalf}
 use Rattle.biphase.specs.Chain.{intervals_of, flat, kept_after, kept_of, Begins, Follow, IsChain, IsChainAfter}
-use Rattle.biphase.specs.OneChain.{comparable_after}
-use Rattle.biphase.specs.Laws.{behind_zero, half_or_not, unequal_differ}
+use Rattle.biphase.specs.ChainLemmas.{comparable_after}
+use Rattle.biphase.specs.ToleranceLemmas.{behind_zero, half_or_not, unequal_differ}
 use Rattle.biphase.specs.Pair.{AreUnequal}
 use Rattle.biphase.specs.Zeros.{IsZeroAt}
 use Rattle.cell_tracker.specs.ChainPiece.{IsPiece, cells_between, cells_from}
@@ -467,8 +467,16 @@ over_goes_on l tape cut kept n end first whole ones even own s over are many on 
     let at_end = over.ends in
     let before_run = own.before_run in
     let end_is : own.lock + 1 + length (flat (ones ++ own_cells)) ≡ end_of s =
-    omega (arith, own_long, cells_long, long, at_end, before_run, over_end l s (n + end) whole ones even
-    (flat own.behind ++ own.rest) over) in
+    omega (
+      arith,
+      own_long,
+      cells_long,
+      long,
+      at_end,
+      before_run,
+      over_end l s (n + end) whole ones even
+          (flat own.behind ++ own.rest) over,
+    ) in
     let broken : IsBreak Rough (kept_after Rough latest over.newer) (end_of s) over.rest None =
     subst (λ (c : Latest). IsBreak Rough c (end_of s) over.rest None)
     (own_all ∙ ap (kept_after Rough theirs) (sym cells) ∙ sym all_kept)

@@ -9,7 +9,7 @@ ghost use Rattle.direction_reader.specs.declared.boundaries.TheConstants.{BOUNDA
 ghost use Rattle.direction_reader.specs.declared.event.Event.{Event};
 ghost use Rattle.direction_reader.specs.declared.event.Event.TheVariants.{Word, Refused, Lost};
 ghost use Rattle.direction_reader.specs.declared.event.Events.{Events};
-ghost use Rattle.biphase.specs.declared.cell.TheConstants.{MAX_INTERVALS};
+ghost use Rattle.limits.specs.declared.recording.TheConstants.{MAX_INTERVALS};
 ghost use Rattle.direction_reader.specs.declared.window.TheConstants.{WINDOW_BITS};
 ghost use Rattle.direction_reader.specs.Brings.{greatest_cell};
 ghost use Rattle.direction_reader.specs.Candidate.{AreEventsOf};
@@ -24,7 +24,8 @@ ghost use Rattle.direction_reader.specs.Reader.{ReaderState};
 ghost use Rattle.direction_reader.specs.StandsFor.{StandsFor};
 ghost use Rattle.direction_reader.specs.Tape.{ComesBehind, TellsTheTape, FindsTheTape, FindsTheTapeBehindOnes};
 ghost use Rattle.direction_reader.specs.Tracker.{profile_of};
-ghost use Rattle.ltc_word.specs.Spelling.{word_with, flags};
+ghost use Rattle.ltc_word.specs.Spelling.{word_with};
+ghost use Rattle.tc_bits.specs.Fields.{flags};
 ghost use Rattle.tc_address.specs.declared.count.Count.TheVariants.{C25};
 ghost use Rattle.tc_address.specs.declared.direction.Direction.TheVariants.{Forward, Backward};
 ghost use Rattle.tc_address.specs.declared.system.System.{System};

@@ -19,15 +19,13 @@ returns-then-self-eq0-clause-stands c = λ steps given stand_now.
     let none : inside.waiting ≡ [] = ap (λ (s : DecisionsState). s.waiting) c.self.view_is ∙ c.requires.given in
     let decided : AreDecided steps given = subst (λ l. AreDecided steps (l ++ given)) none stand.decided in
     let done : inside.done ≡ end_behind 0 given = stand.done ∙ ap (λ l. end_behind 0 (l ++ given)) none in
-    let paths = c.feed-best.ensures.stands steps stand.paths in
+    let paths = c.feed.ensures.stands steps stand.paths in
     let long : inside.count + 1 ≡ length (c.args.step ∷ steps) = omega (arith, stand.count) in
     record {
       paths = paths;
       count = long;
-      decided = due_adds c.args.step steps given c.decide.new.waiting (inside.count + 1) inside.done
-          c.feed-best.result.place c.feed-best.result.sign c.feed-best.result.number decided long done
-          c.if-self-ge-FIRST.true c.if-self-eq0.true (c.feed-best.ensures.best steps stand.paths)
-          (λ path best ends. c.decide.ensures.decided (c.args.step ∷ steps) path paths best ends);
+      decided = due_adds c.args.step steps given c.decide.new.waiting (inside.count + 1) inside.done decided long done
+          c.if-self-ge-FIRST.true c.if-self-eq0.true (c.decide.ensures.decided (c.args.step ∷ steps) paths (omega arith));
       done = c.decide.ensures.done ∙ end_of_all inside.done c.decide.new.waiting given done;
       last = stand.last;
     }

@@ -6,4 +6,4 @@ use Rattle.cell_path.proofs.waiting.Waiting.new.Goals as goal
 
 pub invariant_of-result : goal.invariant_of-result
 invariant_of-result c =
-    (refl, omega arith, All-replicate (λ (cell : Placed). cell.cell.place < 45) 312 no_cell (omega arith))
+    (refl, omega arith, All-replicate (λ (cell : Placed). cell.cell.place < 45) 512 no_cell (omega arith))

@@ -1,0 +1,11 @@
+-- How far apart the ends of cells stand. Lists of cells begin with the latest.
+use Rattle.std.specs.Prelude.{ℕ, ◌+◌, ◌≤◌, List, [], ◌∷◌}
+use Rattle.cell_path.specs.declared.placed.Placed.{Placed}
+use Rattle.cell_path.specs.Decided.{end_behind}
+
+-- each ends two steps behind the one before it at least, and so many at most; the earliest does so behind what was
+-- decided before
+abbrev pub AreSpaced : ℕ → ℕ → List Placed → Type 0
+AreSpaced most done [] = Unit {0}
+AreSpaced most done (cell ∷ before) =
+    (end_behind done before + 2 ≤ cell.end) × (cell.end ≤ end_behind done before + most) × AreSpaced most done before

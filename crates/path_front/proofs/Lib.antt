@@ -1,0 +1,6 @@
+pub mod GroupNext
+pub mod HeldNext
+pub mod LatestSizes
+pub mod LatestSound
+pub mod Means
+pub mod StepsNext

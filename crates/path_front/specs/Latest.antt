@@ -1,0 +1,34 @@
+-- Parts of the sound, and what is kept of it. Lists begin with the latest.
+use Rattle.std.specs.Prelude.{◌≡◌, ℕ, ◌+◌, ◌-◌, ◌*◌, ◌%◌, ◌^◌, ◌<◌, ◌≤◌, ℤ, pos, unsigned_abs}
+use Rattle.std.specs.Prelude.{List, length, get_or, take, drop}
+use Rattle.std.specs.List.{sum_by, All}
+use Rattle.path_front.specs.Grid.{total}
+
+-- so many steps up to the one so long ago
+abbrev pub part : ℕ → ℕ → List ℤ → List ℤ
+part ago many sounds = take many (drop ago sounds)
+
+abbrev pub sum_of : List ℤ → ℤ
+sum_of sounds = total sounds
+
+-- the sum of the squares
+abbrev pub squares_of : List ℤ → ℕ
+squares_of sounds = sum_by (λ sound. unsigned_abs sound * unsigned_abs sound) sounds
+
+pub record LatestState : Type 0 where
+  pub ring : List ℤ
+  pub count : ℕ
+
+-- the sound of the step so long ago
+abbrev pub sound_ago : LatestState → ℕ → ℤ
+sound_ago latest ago = get_or latest.ring ((latest.count + 4_096 - ago) % 4_096) (pos 0)
+
+pub record AreLatest (latest : LatestState) : Type 0 where
+  pub long : length latest.ring ≡ 4_096
+  pub size : All (λ sound. unsigned_abs sound ≤ 2 ^ 15) latest.ring
+  pub count : latest.count ≤ 2 ^ 40
+
+-- as many steps have come, and the sound of the latest 4,096 is this
+pub record LatestStandFor (latest : LatestState) (sounds : List ℤ) : Type 0 where
+  pub count : latest.count ≡ length sounds
+  pub kept : (ago : ℕ) → ago < 4_096 → sound_ago latest ago ≡ get_or sounds ago (pos 0)

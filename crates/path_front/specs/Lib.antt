@@ -1,0 +1,10 @@
+pub mod Clip
+pub mod Fit
+pub mod Grid
+pub mod Hold
+pub mod KeptSizes
+pub mod Latest
+pub mod Levels
+pub mod Measured
+pub mod Sizes
+pub mod Steps
