@@ -117,6 +117,6 @@ part_is_found_behind_ones finds system f threshold tape cut sound first count ev
       cells = cells.cells;
       bits_are = bits_found m.delay cells.late tape cells.cells cells.are;
       piece = cells.piece;
-      tell = λ end second run next. finds system Rough (distances f threshold sound) events are refl split.0 (gaps own)
+      tell = λ end second run next. finds system Rough (distances f threshold sound) events are split.0 (gaps own)
           split.1 cells.cells cut end second list cells.piece run next;
     }

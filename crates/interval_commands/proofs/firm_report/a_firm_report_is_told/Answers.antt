@@ -11,6 +11,7 @@ returns c = firm_report_is_told c.recordings_grow.ensures c.what_is_printed_is_i
   tell = record {
     truth = c.events_tell_the_tape.ensures;
     damage = c.events_find_the_tape_again.ensures;
+    rough_damage = c.events_find_the_tape_behind_even_ones.ensures;
     mirror = c.events_mirror_the_tape.ensures;
   };
 })
