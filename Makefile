@@ -1,7 +1,9 @@
 # make               proves and builds bin/tc
 # make check         the quick checks, in a few minutes: doors, documents, trail, made pages, constants, exit numbers, examples and tapes on bin/tc
-# make gate          the gate (rt ci): proves every crate, tries the must-fail edits, runs tests and program
+# make gate          the gate (tools/check_sources, then rt ci): looks through the documents, proves every crate, tries the must-fail edits, runs tests and program
 # make dist          tc-VERSION.tar.gz of the last commit, which builds, tests and installs by itself
+# make deb           dist/tc-timecode_VERSION-1_amd64.deb, a Debian package of the built program and its tools
+# make binary        dist/tc-VERSION-x86_64-linux.tar.gz, with a script that installs it, for machines without the toolchain
 # make install       program, manual pages, completions, documents and examples, under PREFIX (and DESTDIR, for packagers)
 # make install-strip the same, with the program stripped of its symbols
 # make uninstall     removes what install put there
@@ -46,19 +48,13 @@ INSTALL_PROGRAM = install -m 755
 VERSION := $(shell cat VERSION)
 DIST = tc-$(VERSION)
 
-.PHONY: all check gate dist install install-strip uninstall
+.PHONY: all binary check deb gate dist install install-strip uninstall
 
 all:
 	./build
 
 check:
-	./doors
-	tools/check_docs
-	tools/trail
-	tools/list_calls --check
-	tools/make_formats_page --check
-	tools/trusted --check
-	tools/check_constants
+	tools/check_sources
 	@[ -x bin/tc ] || { echo "bin/tc is not built: run make first" >&2; exit 1; }
 	tools/try_status
 	tools/run_examples
@@ -71,6 +67,12 @@ dist:
 	@[ -z "$$(git status --porcelain)" ] || { echo "what is not committed is left out:" >&2; git status --short >&2; }
 	git archive --format=tar --prefix=$(DIST)/ HEAD | gzip -9n > $(DIST).tar.gz.part
 	mv $(DIST).tar.gz.part $(DIST).tar.gz
+
+deb:
+	packaging/deb
+
+binary:
+	packaging/binary
 
 install:
 	@[ -x bin/tc ] || { echo "bin/tc is not built: run make first" >&2; exit 1; }

@@ -4,7 +4,7 @@
     bench/read_by_hand.py [COUNT [PROGRAM]]      a thousand recordings and bin/tc where none are named
 
 A recording is made here: real words in cells whose length shakes, glides or jumps, with intervals dropped, doubled,
-cut or moved. Each is read under the three tolerances. The seed is printed, and a run is repeated by the environment's
+cut or moved. Each is read under the three tolerances, and under the rough one with a witness asked for. The seed is printed, and a run is repeated by the environment's
 SEED. Run by hand, never in the gate.
 """
 import os
@@ -107,7 +107,15 @@ def candidate(system, rate, way, bits, tick, length):
         way, label, user, flags, balance, tick, length, speed)
 
 
-def report(command, system, rate, intervals):
+def has_witness(bits, first, way):
+    """Whether the 80 bits from a place on have 16 of another word's sync word on the side away from their own, or the
+    stretch does not reach that far."""
+    if way == "forward":
+        return first < 16 or bits[first - 16 : first] == [SYNC >> place & 1 for place in range(16)]
+    return len(bits) < first + 96 or bits[first + 80 : first + 96] == [SYNC >> 15 - place & 1 for place in range(16)]
+
+
+def report(command, system, rate, intervals, firm=False):
     lines, counts = [], {"word": 0, "refused": 0, "lost": 0}
     for lock, cells, broken in stretches(command, intervals):
         ticks = [sum(intervals[:lock])]
@@ -119,7 +127,10 @@ def report(command, system, rate, intervals):
             for way, order in (("forward", bits), ("backward", bits[::-1])):
                 number = sum(bit << place for place, bit in enumerate(order))
                 if number >> 64 == SYNC:
-                    lines.append(candidate(system, rate, way, number, tick, length))
+                    line = candidate(system, rate, way, number, tick, length)
+                    if firm and line.startswith("word") and not has_witness([bit for bit, _ in cells], first, way):
+                        line = "refused %s alone tick %d" % (way, tick)
+                    lines.append(line)
         if broken is not None:
             lines.append("lost interval %d tick %d" % (broken, sum(intervals[: broken + 1])))
     for line in lines:
@@ -176,22 +187,24 @@ def main():
     program = sys.argv[2] if len(sys.argv) > 2 else os.path.join(TOP, "bin", "tc")
     seed = int(os.environ.get("SEED", random.randrange(1 << 32)))
     print("seed", seed)
-    chance, totals, wrong = random.Random(seed), dict.fromkeys(COMMANDS, 0), 0
+    readings = [(command, False) for command in COMMANDS] + [("ltc-rough", True)]
+    chance, totals, wrong = random.Random(seed), dict.fromkeys(readings, 0), 0
     for number in range(count):
         system = chance.choice([24, 25, 30])
         intervals = made(chance, system)
         head = b"LTCI\x01" + bytes([system]) + b"\0\0" + (48000).to_bytes(4, "big")
         data = head + b"".join(x.to_bytes(4, "big") for x in intervals)
-        for command in COMMANDS:
-            told = subprocess.run([program, command], input=data, stdout=subprocess.PIPE, check=False).stdout.decode()
-            wanted = report(command, system, 48000, intervals)
-            totals[command] += wanted.count("word ")
+        for command, firm in readings:
+            words = [program, command] + ["firm"] * firm
+            told = subprocess.run(words, input=data, stdout=subprocess.PIPE, check=False).stdout.decode()
+            wanted = report(command, system, 48000, intervals, firm)
+            totals[command, firm] += wanted.count("word ")
             if told != wanted:
                 wrong += 1
                 with open("/tmp/tc-by-hand-%d-%s.ltci" % (number, command), "wb") as kept:
                     kept.write(data)
     print("recordings %d, words %s, reports that differ %d" % (
-        count, ", ".join("%s %d" % it for it in totals.items()), wrong))
+        count, ", ".join("%s%s %d" % (*it[0][:1], " firm" * it[0][1], it[1]) for it in totals.items()), wrong))
     return 1 if wrong else 0
 
 

@@ -12,6 +12,7 @@ _tc() {
             pcm-ltc:2) values="24 25 30" ;;
             pcm-ltc:5 | pcm-ltc:7 | pcm-ltc:8) values="live" ;;
             pcm-ltc:6) values="follow deep live" ;;
+            ltc-rough:2) values="firm" ;;
             ltc-fly:3 | ltc-spans:3 | ltc-mtc:3 | ltc-jam:5 | ltc-chase:7) values="worn rough" ;;
             wav-ltc:2) values="24 25 30" ;;
             wav-ltc:5 | wav-ltc:7) values="live" ;;

@@ -104,6 +104,18 @@ def level_there(sound: Sound, track: int, seconds: int) -> Level:
         return level_in(file, form.bits, form.tracks, track, form.rate, blocks)
 
 
+def samples_of(sound: Sound, track: int, first: int, count: int) -> array.array:
+    """So many samples of a track of a file that `tc` reads itself, from one on."""
+    form = sound.wave.form if sound.wave else None
+    data = sound.wave.data if sound.wave else None
+    if data is None or form is None or not form.is_whole:
+        return array.array("h")
+    with open(sound.source.path, "rb") as file:
+        file.seek(data.place + form.block * first)
+        blocks = min(count, data.there // form.block - first)
+        return words_of(file.read(form.block * blocks), form.bits, form.tracks, track)
+
+
 def level_in(file: IO[bytes], bits: int, tracks: int, track: int, rate: int, left: int) -> Level:
     """The level of so many blocks at most."""
     peak, crossings, count = 0, 0, 0

@@ -16,9 +16,12 @@ OTHER = "is another program of that name (iproute2 has one) and is not run; TC=/
 
 
 def beside() -> list[str]:
-    """Where `tc` stands to this file: in the repository in bin/ beside tools/; installed, lib/NAME beside bin/NAME."""
+    """Where `tc` stands to this file: in the repository in bin/ beside tools/; installed, lib/NAME beside bin/NAME; of a
+    package of another name than the program's, beside bin/tc.
+    """
     top, name = os.path.split(HERE)
-    return [os.path.join(top, "bin", "tc"), os.path.join(os.path.dirname(top), "bin", name)]
+    programs = os.path.join(os.path.dirname(top), "bin")
+    return [os.path.join(top, "bin", "tc"), os.path.join(programs, name), os.path.join(programs, "tc")]
 
 
 def on_path() -> Iterator[str]:
@@ -51,9 +54,9 @@ def program() -> str:
         if is_other(named):
             raise NoProgram(f"{named} {OTHER}")
         return named
-    own = next(filter(is_program, beside()), None)
-    if own is not None:
-        return own
+    for path in filter(is_program, beside()):
+        if not is_other(path):
+            return path
     others = []
     for path in filter(is_program, on_path()):
         if not is_other(path):

@@ -8,6 +8,7 @@ from .breaks import breaks_of
 from .choice import Choice
 from .labels import NTSC, name_of, number_of
 from .levels import LEVEL_SECONDS, Level
+from .margin import MOST_DECIBELS
 from .place import Place, count_of, played_rate, rate_of
 from .sound import Sound
 from .spans import Reading
@@ -145,12 +146,28 @@ def first_lines(place: Place | None) -> Iterator[str]:
         yield f"not sure      {'; '.join(place.doubts)}"
 
 
-def found_report(name: str, sound: Sound, choice: Choice, place: Place | None, level: Level, is_given: bool) -> str:
+def margin_lines(margin: int | None) -> Iterator[str]:
+    """Said where all words were read and some decibels are left."""
+    if margin:
+        more = ", or more" if margin == MOST_DECIBELS else ""
+        yield f"margin        every word was read; the noise could be some {margin} dB louder{more}"
+
+
+def found_report(
+    name: str,
+    sound: Sound,
+    choice: Choice,
+    place: Place | None,
+    level: Level,
+    is_given: bool,
+    margin: int | None = None,
+) -> str:
     """The report of a tape with code."""
     lines = [
         name,
         sound_line(sound),
         *code_lines(choice, place, level, sound, is_given),
+        *margin_lines(margin),
         *first_lines(place),
         "spans",
     ]

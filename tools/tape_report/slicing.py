@@ -169,6 +169,7 @@ def told(reader: Reader, track: int, rate: int, front: FrontEnd, note: str) -> R
         ticks=ticks,
         path=reader.outputs[1],
         note=note,
+        made=front,
     )
     for line in reader.lines(1, last=1):
         words = line.split()

@@ -3,6 +3,8 @@ from collections.abc import Iterable
 from dataclasses import dataclass, field
 from fractions import Fraction
 
+from .front_ends import PLAIN, FrontEnd
+
 # Ticks a sample in the recordings of `wav-ltc`.
 FINENESS = 16
 
@@ -70,6 +72,8 @@ class Reading:
     # The file of the lines of its words, and what `tc` or the decoder noted.
     path: str = ""
     note: str = ""
+    # The front end itself.
+    made: FrontEnd = PLAIN
 
     @property
     def heard(self) -> int:

@@ -44,7 +44,7 @@ def tell(options: argparse.Namespace, name: str, is_first: bool) -> int:
 
 def tell_tape(options: argparse.Namespace, tape: Tape, is_first: bool) -> int:
     is_found = tape.choice.is_found
-    text = tape.report() if options.page or not (options.csv or options.json) else ""
+    text = tape.report(has_margin=True) if options.page or not (options.csv or options.json) else ""
     if options.json:
         print(tape.told().as_json())
     elif options.csv:

@@ -6,6 +6,7 @@ from dataclasses import dataclass
 from fractions import Fraction
 
 from . import levels, page, report, row, slicing
+from .margin import margin_of
 from .choice import Choice, Wanted, choose
 from .faults import NoSound
 from .names import shown
@@ -25,11 +26,14 @@ class Tape:
     place: Place | None
     is_rate_given: bool
 
-    def report(self) -> str:
+    def report(self, has_margin: bool = False) -> str:
+        """The report, with the margin of the tape where it is asked for: that takes about a second."""
         mine = self.choice.reading
         if self.choice.is_found:
             level = levels.level_of(self.sound, mine.track)
-            return report.found_report(self.name, self.sound, self.choice, self.place, level, self.is_rate_given)
+            margin = margin_of(self.sound, mine) if has_margin else None
+            is_given = self.is_rate_given
+            return report.found_report(self.name, self.sound, self.choice, self.place, level, is_given, margin)
         tracks = sorted({reading.track for reading in self.choice.others})
         heights = {track: levels.level_of(self.sound, track) for track in tracks}
         return report.empty_report(self.name, self.sound, self.choice, heights)

@@ -67,6 +67,37 @@ def try_options(room):
     has(out, "25 frames a second", "front end     threshold 20; tried threshold 20")
 
 
+def margin_told(path, *words):
+    """The decibels of the margin that the report tells; None where it tells none."""
+    out, _ = tape(path, *words)
+    found = re.search(r"\nmargin        every word was read; the noise could be some (\d+) dB louder", out)
+    return int(found[1]) if found else None
+
+
+def try_margin(room):
+    """The margin is told where every word was read, it shrinks as the noise grows, and the noise may grow so much."""
+    chance = random.Random(9)
+    made = code(48_000, intervals("25", "10:00:00:00", 60), lead=2400)
+    hiss = [chance.uniform(-1, 1) for _ in made]
+
+    def with_noise(name, loud):
+        return wav(os.path.join(room, name), 48_000, [[round(a + loud * b) for a, b in zip(made, hiss)]])
+
+    told = [margin_told(with_noise(f"hiss{loud}.wav", loud)) for loud in (90, 285, 900)]
+    assert None not in told and told[0] >= told[1] + 6 and told[1] >= told[2] + 6, f"{told}"
+    louder = with_noise("louder.wav", 900 * 10 ** (told[2] / 20))
+    out, _ = tape(louder, "--csv")
+    assert [row["heard"] for row in csv.DictReader(out.splitlines())] == ["60"], out
+    # Not where a word is missing, where the noise covers words, of few words, or by a table.
+    frame = 48_000 // 25
+    holed = made[: 30 * frame] + [0] * frame + made[31 * frame :]
+    assert margin_told(wav(os.path.join(room, "holed.wav"), 48_000, [holed])) is None
+    assert margin_told(with_noise("covered.wav", 8000)) is None
+    assert margin_told(wav(os.path.join(room, "few.wav"), 48_000, [made[: 20 * frame]])) is None
+    out, _ = tape(louder, "--json")
+    assert "margin" not in out, out
+
+
 def heard_of(path, *words):
     """How many frames are heard as 25 a second."""
     _, out, _ = run(TAPE, path, "--csv", "--system", "25", *words)

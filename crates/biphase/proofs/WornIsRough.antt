@@ -8,7 +8,7 @@ use Rattle.biphase.specs.declared.profile.Profile.TheVariants.{Worn, Rough}
 use Rattle.biphase.specs.Pair.{AreUnequal}
 use Rattle.biphase.specs.Tolerance.{kept_at_lock, kept_next}
 use Rattle.biphase.specs.Chain.{Follow, FollowOn, FollowEachZero, IsChain, Inner, Meets, Kinds}
-use Rattle.biphase.specs.Kinds.{chain_kinds}
+use Rattle.biphase.specs.KindLemmas.{chain_kinds}
 use Rattle.biphase.specs.Mean.{StayNearTheMean, StayFromEachZero}
 
 unequal_too : (a b : ℕ) → AreUnequal Worn a b → AreUnequal Rough a b

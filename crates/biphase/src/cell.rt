@@ -1,12 +1,6 @@
 //! A cell of biphase mark. Next: `direction_reader/src/latest_cells.rt`, which has the latest cells of a
 //! stretch.
 
-/// The greatest length of an interval, in ticks. The least is 1.
-pub const MAX_INTERVAL: u32 = 16_777_215;
-
-/// The most intervals of a recording that are read.
-pub const MAX_INTERVALS: u64 = 1_000_000_000;
-
 /// One bit of biphase mark (SMPTE 12M, linear time code), with its intervals in ticks.
 #[derive(Clone, Copy, Debug, PartialEq, Eq)]
 pub enum Cell {

@@ -1,6 +1,6 @@
 //! What a tolerance keeps of the cells so far. Next: `tolerance`, whose tests compare with it.
 ghost use Rattle.std.specs.Prelude.{◌≡◌, ℕ, ◌*◌, ◌≤◌};
-ghost use Rattle.biphase.specs.declared.cell.TheConstants.{MAX_INTERVAL};
+ghost use Rattle.limits.specs.declared.recording.TheConstants.{MAX_INTERVAL};
 ghost use Rattle.biphase.specs.Tolerance.{latest_with, sum_of, kept_at_lock, kept_next, reference_of, kept_by};
 
 use crate::profile::Profile;
@@ -18,7 +18,7 @@ pub struct LatestFour {
 
 impl Model for LatestFour {
     ghost use Rattle.std.specs.Prelude.{◌*◌, ◌≤◌};
-    ghost use Rattle.biphase.specs.declared.cell.TheConstants.{MAX_INTERVAL};
+    ghost use Rattle.limits.specs.declared.recording.TheConstants.{MAX_INTERVAL};
     ghost use Rattle.biphase.specs.Latest.{Latest};
 
     ghost Value = { Latest };

@@ -3,7 +3,7 @@ ghost use Rattle.std.specs.Prelude.{◌≡◌, ℕ, ◌+◌, ◌-◌, ◌*◌, �
 ghost use Rattle.std.specs.Prelude.{Bool};
 ghost use Rattle.std.specs.Int.{abs_diff};
 ghost use Rattle.biphase.specs.declared.cell.Cell.{Cell};
-ghost use Rattle.biphase.specs.declared.cell.TheConstants.{MAX_INTERVAL};
+ghost use Rattle.limits.specs.declared.recording.TheConstants.{MAX_INTERVAL};
 ghost use Rattle.biphase.specs.declared.pair.PairKind.{PairKind};
 ghost use Rattle.biphase.specs.declared.profile.Profile.{Profile};
 ghost use Rattle.biphase.specs.declared.profile.TheConstants.{NORMAL, WORN, ROUGH};
@@ -19,11 +19,6 @@ ghost use Rattle.biphase.specs.Zeros.{GreaterIsZero};
 ghost use Rattle.biphase.specs.declared.cell.Cell.TheVariants.{Zero};
 ghost use Rattle.biphase.specs.declared.shaper.TheConstants.{MIN_SHAPED, MAX_SHAPED};
 ghost use Rattle.biphase.specs.Shape.{Shape, IsShape, shaped};
-
-/// The greatest length of an interval, in ticks: 24 bits.
-pub fn the_greatest_interval_is_this()
-    ensures { MAX_INTERVAL ≡ 2 ^ 24 - 1 }
-{}
 
 /// The numbers of the three tolerances.
 pub fn the_profiles_have_these_numbers()

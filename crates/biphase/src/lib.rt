@@ -33,7 +33,7 @@ mod profile;
 mod shaper;
 mod tolerance;
 
-pub use cell::{Cell, MAX_INTERVAL, MAX_INTERVALS};
+pub use cell::Cell;
 pub use latest::LatestFour;
 pub use pair::{PairKind, kind};
 pub use profile::Profile;

@@ -1,14 +1,16 @@
 -- A search goes on where no pair is unequal, and else a stretch begins at the lock.
 use Rattle.biphase.specs.Tolerance.{IsFirstHalf}
-use Rattle.std.proofs.Common.{◌≡◌, ◌≢◌, ℕ, ◌+◌, ◌-◌, ◌<◌, ◌≤◌, List, [], ◌∷◌, ◌++◌, length, drop, get_or, Some, None, refl, ap, subst, sym}
+use Rattle.std.proofs.Common.{◌≡◌, ◌≢◌, ℕ, ◌+◌, ◌-◌, ◌<◌, ◌≤◌, List, [], ◌∷◌, ◌++◌, length, drop, get_or, Some, None}
+use Rattle.std.proofs.Common.{refl, ap, subst, sym}
 use Rattle.std.proofs.Common.{◌∙◌, arith, MatchOption}
-use Rattle.std.proofs.lemmas.List.{append-nil, drop-append-le, drop_more, drop_all, drop_at, length_push, get_or_push, get_or_append_left}
+use Rattle.std.proofs.lemmas.List.{append-nil, drop-append-le, drop_more, drop_all, drop_at, length_push, get_or_push}
+use Rattle.std.proofs.lemmas.List.{get_or_append_left}
 use Rattle.std.proofs.lemmas.List.Elements.{All-push}
 use Rattle.std.proofs.lemmas.Option.{slice_get-get_or, slice_get_within, get_or_from_slice_get}
 use Rattle.biphase.specs.declared.profile.Profile.{Profile}
 use Rattle.biphase.specs.Pair.{AreUnequal}
 use Rattle.biphase.specs.Tolerance.{kept_at_lock}
-use Rattle.biphase.specs.Laws.{step_is_no_zero, unequal_differ}
+use Rattle.biphase.specs.ToleranceLemmas.{step_is_no_zero, unequal_differ}
 use Rattle.cell_tracker.specs.Lock.{IsUnequalAt, HasNoLock}
 use Rattle.cell_tracker.specs.State.{HuntingState, search_from}
 use Rattle.cell_tracker.specs.Stretch.{Stretch, IsBroken, IsStretch, AreStretchesFrom, AreStretches, begun, with_break}
@@ -121,14 +123,16 @@ drop_last intervals z x k is end =
     ∙ ap (λ xs. z ∷ xs) (drop_all (k + 1) intervals (omega arith)))
 
 -- no pair stands past the end of a list with one interval more
-pub none_past : (profile : Profile) (intervals : List ℕ) (x : ℕ) → HasNoLock profile (intervals ++ x ∷ []) (length intervals)
+pub none_past : (profile : Profile) (intervals : List ℕ) (x : ℕ)
+    → HasNoLock profile (intervals ++ x ∷ []) (length intervals)
 none_past profile intervals x k past at = omega (arith, at.0, length_push intervals x)
 
 -- the interval is the first zero of a stretch
 pub start_at : (state : HuntingState) (intervals : List ℕ) (stretches : List Stretch) (z x : ℕ)
     → HuntingStandsFor state intervals stretches
     → state.before ≡ Some z → AreUnequal state.profile z x → z < x
-    → AtCellStandsFor (record { profile = state.profile; latest = kept_at_lock state.profile x }) (intervals ++ x ∷ []) stretches
+    → AtCellStandsFor (record { profile = state.profile; latest = kept_at_lock state.profile x })
+    (intervals ++ x ∷ []) stretches
     (begun (length intervals) x)
 start_at state intervals stretches z x stands before unequal rising = record {
   stretches_are =
@@ -150,8 +154,10 @@ start_at state intervals stretches z x stands before unequal rising = record {
 -- the interval before is the first zero of a stretch, and the interval waits
 pub start_mid : (state : HuntingState) (intervals : List ℕ) (stretches : List Stretch) (z x : ℕ)
     → HuntingStandsFor state intervals stretches
-    → state.before ≡ Some z → AreUnequal state.profile z x → x ≤ z → IsFirstHalf state.profile (kept_at_lock state.profile z) x
-    → MidCellStandsFor (record { profile = state.profile; latest = kept_at_lock state.profile z; half = x }) (intervals ++ x ∷ []) stretches
+    → state.before ≡ Some z → AreUnequal state.profile z x → x ≤ z
+    → IsFirstHalf state.profile (kept_at_lock state.profile z) x
+    → MidCellStandsFor (record { profile = state.profile; latest = kept_at_lock state.profile z; half = x })
+    (intervals ++ x ∷ []) stretches
     (begun (length intervals - 1) z)
 start_mid state intervals stretches z x stands before unequal low half =
     let falling : x < z = falls state.profile z x unequal low in
@@ -179,7 +185,8 @@ start_mid state intervals stretches z x stands before unequal low half =
 -- the interval before is the only zero of a stretch that breaks at the interval
 pub start_broken : (state : HuntingState) (intervals : List ℕ) (stretches : List Stretch) (z x : ℕ)
     → HuntingStandsFor state intervals stretches
-    → state.before ≡ Some z → AreUnequal state.profile z x → x ≤ z → ¬ IsFirstHalf state.profile (kept_at_lock state.profile z) x
+    → state.before ≡ Some z → AreUnequal state.profile z x → x ≤ z
+    → ¬ IsFirstHalf state.profile (kept_at_lock state.profile z) x
     → HuntingStandsFor (search_from state.profile x) (intervals ++ x ∷ [])
     (stretches ++ with_break (length intervals) (begun (length intervals - 1) z) ∷ [])
 start_broken state intervals stretches z x stands before unequal low no_half =

@@ -1,25 +1,23 @@
--- The cells of a chain that lie wholly in a list from one of their boundaries on: they are a chain, and what the list has behind them is no
--- more than the first half of a one.
-use Rattle.std.proofs.Common.{◌≡◌, ℕ, ◌+◌, ◌<◌, ◌≤◌, List, [], ◌∷◌, ◌++◌, length, None, cond, nat_le, refl, ap, subst, sym, ◌∙◌, arith, length-append}
+-- The cells of a chain that lie wholly in a list from one of their boundaries on: they are a chain, and what the list
+-- has behind them is no more than the first half of a one.
+use Rattle.std.proofs.Common.{◌≡◌, ℕ, ◌+◌, ◌<◌, ◌≤◌, List, [], ◌∷◌, ◌++◌, length, None, cond, nat_le, refl, ap, subst}
+use Rattle.std.proofs.Common.{sym, ◌∙◌, arith, length-append}
 use Rattle.std.proofs.lemmas.Bool.{le-leb, lt-leb}
+use Rattle.biphase.specs.ChainLemmas.{has_intervals}
 use Rattle.biphase.specs.declared.profile.Profile.{Profile}
 use Rattle.biphase.specs.declared.cell.Cell.{Cell}
 use Rattle.biphase.specs.declared.cell.Cell.TheVariants.{Zero, One}
 use Rattle.biphase.specs.Latest.{Latest}
 use Rattle.biphase.specs.Tolerance.{kept_next}
 use Rattle.biphase.specs.Chain.{intervals_of, flat, kept_after, Follow, IsNextOne}
-use Rattle.biphase.specs.Laws.{zero_is_no_half, first_half}
+use Rattle.biphase.specs.ToleranceLemmas.{zero_is_no_half, first_half}
 use Rattle.cell_tracker.specs.ChainPiece.{cells_between}
 use Rattle.cell_tracker.specs.Stretch.{IsBreak}
 use Rattle.cell_tracker.proofs.LocalStretch.{NoneFits}
 
--- a cell has an interval or more
-pub has_intervals : (cell : Cell) → 1 ≤ length (intervals_of cell)
-has_intervals (Zero x) = omega arith
-has_intervals (One a b) = omega arith
-
 -- a cell that lies between is one of them, one that begins before or ends behind is none
-pub lies_between : (low high at : ℕ) (cell : Cell) (cells : List Cell) → low ≤ at → at + length (intervals_of cell) ≤ high
+pub lies_between : (low high at : ℕ) (cell : Cell) (cells : List Cell) → low ≤ at
+    → at + length (intervals_of cell) ≤ high
     → cells_between low high at (cell ∷ cells) ≡ cell ∷ cells_between low high (at + length (intervals_of cell)) cells
 lies_between low high at cell cells begins ends =
     rw (le-leb low at begins, le-leb (at + length (intervals_of cell)) high ends) refl
@@ -28,7 +26,8 @@ pub begins_before : (low high at : ℕ) (cell : Cell) (cells : List Cell) → at
     → cells_between low high at (cell ∷ cells) ≡ cells_between low high (at + length (intervals_of cell)) cells
 begins_before low high at cell cells before = rw (lt-leb low at before) refl
 
-pub ends_behind : (low high at : ℕ) (cell : Cell) (cells : List Cell) → low ≤ at → high < at + length (intervals_of cell)
+pub ends_behind : (low high at : ℕ) (cell : Cell) (cells : List Cell) → low ≤ at
+    → high < at + length (intervals_of cell)
     → cells_between low high at (cell ∷ cells) ≡ cells_between low high (at + length (intervals_of cell)) cells
 ends_behind low high at cell cells begins behind =
     rw (le-leb low at begins, lt-leb (at + length (intervals_of cell)) high behind) refl
@@ -60,7 +59,8 @@ all_between low high at (cell ∷ one) two begins ends =
     let end = at + length (intervals_of cell) in
     let same : end + length (flat one) ≡ at + length (flat (cell ∷ one)) = omega (arith, long) in
     lies_between low high at cell (one ++ two) begins (omega (arith, long, ends))
-    ∙ ap (λ (cells : List Cell). cell ∷ cells) (all_between low high end one two (omega arith) (omega (arith, long, ends)))
+    ∙ ap (λ (cells : List Cell). cell ∷ cells) (all_between low high end one two (omega arith)
+    (omega (arith, long, ends)))
     ∙ ap (λ n. cell ∷ (one ++ cells_between low high n two)) same
 
 -- where the places begin before the cells, it does not matter where
@@ -73,7 +73,8 @@ from_any_low low other high at (cell ∷ cells) begins too =
     (from_any_low low other high end cells (omega arith) (omega arith)))
 
 -- of two fronts of a list of cells the one with fewer intervals is a front of the other
-pub front_of_front : (one rest two other : List Cell) → one ++ rest ≡ two ++ other → length (flat one) ≤ length (flat two)
+pub front_of_front : (one rest two other : List Cell) → one ++ rest ≡ two ++ other
+    → length (flat one) ≤ length (flat two)
     → (mid : List Cell) × (two ≡ one ++ mid)
 front_of_front [] rest two other same fewer = (two, refl)
 front_of_front (cell ∷ one) rest [] other same fewer =
@@ -83,7 +84,13 @@ front_of_front (cell ∷ one) rest (next ∷ two) other same fewer =
     let tail : one ++ rest ≡ two ++ other = cc in
     let long : length (intervals_of next) ≡ length (intervals_of cell) = ap (λ c. length (intervals_of c)) head in
     let more = front_of_front one rest two other tail
-    (omega (arith, length-append (intervals_of cell) (flat one), length-append (intervals_of next) (flat two), long, fewer)) in
+    (omega (
+      arith,
+      length-append (intervals_of cell) (flat one),
+      length-append (intervals_of next) (flat two),
+      long,
+      fewer,
+    )) in
     (more.0, ap (λ c. c ∷ two) head ∙ ap (λ (cs : List Cell). cell ∷ cs) more.1)
 
 -- what a list may have behind some cells: nothing, or the first half of a one
@@ -95,13 +102,19 @@ IsCutOff profile c (x ∷ y ∷ rest) = ⊥
 -- no cell fits there
 pub none_fits_cut : (profile : Profile) (c : Latest) (left : List ℕ) → IsCutOff profile c left → NoneFits profile c left
 none_fits_cut profile c [] cut = tt
-none_fits_cut profile c (x ∷ []) cut = λ near. zero_is_no_half profile c x cut.1 near (first_half profile c x cut.0 cut.2)
+none_fits_cut profile c (x ∷ []) cut = λ near. zero_is_no_half profile c x cut.1 near
+    (first_half profile c x cut.0 cut.2)
 none_fits_cut profile c (x ∷ y ∷ rest) cut = absurd cut
 
 -- and nothing breaks there
-pub no_break_cut : (profile : Profile) (c : Latest) (after : ℕ) (left : List ℕ) → IsCutOff profile c left → IsBreak profile c after left None
+pub no_break_cut : (profile : Profile) (c : Latest) (after : ℕ) (left : List ℕ) → IsCutOff profile c left
+    → IsBreak profile c after left None
 no_break_cut profile c after [] cut = refl
-no_break_cut profile c after (x ∷ []) cut = (λ _. refl, λ no_half. absurd (no_half (first_half profile c x cut.0 cut.2)))
+no_break_cut profile c after (x ∷ []) cut = (
+  λ _. refl,
+  λ no_half.
+      absurd (no_half (first_half profile c x cut.0 cut.2)),
+)
 no_break_cut profile c after (x ∷ y ∷ rest) cut = absurd cut
 
 -- the cells that lie in a list from a boundary on, and what is left of the list
@@ -112,7 +125,8 @@ pub record Lie (profile : Profile) (c : Latest) (kept : List Cell) (front : List
   pub cut : IsCutOff profile (kept_after profile c kept) left
 
 -- none of them, and the list is what is left
-lie_none : (profile : Profile) (c : Latest) (kept : List Cell) (front : List ℕ) → kept ≡ [] → IsCutOff profile c front → Lie profile c kept front
+lie_none : (profile : Profile) (c : Latest) (kept : List Cell) (front : List ℕ) → kept ≡ [] → IsCutOff profile c front
+    → Lie profile c kept front
 lie_none profile c kept front none cut = subst (λ (cells : List Cell). Lie profile c cells front) (sym none) (record {
   chain = tt;
   left = front;
@@ -130,7 +144,8 @@ they_lie profile c low high at (cell ∷ cells) [] rest begins ends chain same =
 they_lie profile c low high at (Zero x ∷ cells) (y ∷ front) rest begins ends chain same =
     let first : y ≡ x = cc in
     let tail : flat cells ≡ front ++ rest = cc in
-    let more = they_lie profile (kept_next profile c x) low high (at + 1) cells front rest (omega arith) (omega arith) chain.2 tail in
+    let more = they_lie profile (kept_next profile c x) low high (at + 1) cells front rest (omega arith)
+    (omega arith) chain.2 tail in
     subst (λ (kept : List Cell). Lie profile c kept (y ∷ front))
     (sym (lies_between low high at (Zero x) cells begins (omega arith))) (record {
       chain = (chain.0, chain.1, more.chain);
@@ -149,7 +164,8 @@ they_lie profile c low high at (One a b ∷ cells) (y ∷ z ∷ front) rest begi
     let first : y ≡ a = cc in
     let second : z ≡ b = cc in
     let tail : flat cells ≡ front ++ rest = cc in
-    let more = they_lie profile (kept_next profile c (a + b)) low high (at + 2) cells front rest (omega arith) (omega arith) chain.2 tail in
+    let more = they_lie profile (kept_next profile c (a + b)) low high (at + 2) cells front rest (omega arith)
+    (omega arith) chain.2 tail in
     subst (λ (kept : List Cell). Lie profile c kept (y ∷ z ∷ front))
     (sym (lies_between low high at (One a b) cells begins (omega arith))) (record {
       chain = (chain.0, chain.1, more.chain);

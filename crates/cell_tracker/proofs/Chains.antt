@@ -7,7 +7,7 @@ use Rattle.biphase.specs.declared.cell.Cell.TheVariants.{Zero, One}
 use Rattle.biphase.specs.Tolerance.{kept_at_lock, kept_next}
 use Rattle.biphase.specs.Tolerance.{length_of}
 use Rattle.biphase.specs.Chain.{kept_after, kept_of, IsCell, IsChainAfter, Follow}
-use Rattle.biphase.specs.Laws.{last_at_lock, last_next}
+use Rattle.biphase.specs.ToleranceLemmas.{last_at_lock, last_next}
 
 -- what is kept of two lists of cells, one after the other
 pub kept_after-append : (profile : Profile) (c : Latest) (one two : List Cell)
@@ -17,8 +17,10 @@ kept_after-append profile c (cell ∷ one) two = kept_after-append profile (kept
 
 -- what is kept of the cells of a stretch with one cell more
 pub kept_of-push : (profile : Profile) (first : Cell) (more : List Cell) (cell : Cell)
-    → kept_of profile (first ∷ (more ++ cell ∷ [])) ≡ kept_next profile (kept_of profile (first ∷ more)) (length_of cell)
-kept_of-push profile first more cell = kept_after-append profile (kept_at_lock profile (length_of first)) more (cell ∷ [])
+    → kept_of profile (first ∷ (more ++ cell ∷ [])) ≡ kept_next profile (kept_of profile (first ∷ more))
+    (length_of cell)
+kept_of-push profile first more cell = kept_after-append profile (kept_at_lock profile (length_of first)) more
+    (cell ∷ [])
 
 -- the second of two lists of cells follows the first
 pub chain_rest : (profile : Profile) (c : Latest) (one two : List Cell) → Follow profile c (one ++ two)

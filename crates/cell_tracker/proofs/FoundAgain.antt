@@ -1,8 +1,10 @@
--- Whatever stands before a recording within the tolerance, the tracker has the recording's own phase from its second unequal pair on. A stretch
--- that goes on over the first unequal pair has the greater interval of it as a zero, as the recording has, and from there on its cells are the
--- recording's.
-use Rattle.std.proofs.Common.{◌≡◌, ℕ, zero, suc, ◌+◌, ◌-◌, ◌<◌, ◌≤◌, List, [], ◌∷◌, ◌++◌, length, drop, get_or, Option, Some, None, ◌⊎◌, inl, inr}
-use Rattle.std.proofs.Common.{refl, ap, subst, sym, ◌∙◌, arith, append_assoc, length-append, length-drop, MatchOption, IsSomeAnd}
+-- Whatever stands before a recording within the tolerance, the tracker has the recording's own phase from its second
+-- unequal pair on. A stretch that goes on over the first unequal pair has the greater interval of it as a zero, as the
+-- recording has, and from there on its cells are the recording's.
+use Rattle.std.proofs.Common.{◌≡◌, ℕ, zero, suc, ◌+◌, ◌-◌, ◌<◌, ◌≤◌, List, [], ◌∷◌, ◌++◌, length, drop, get_or, Option}
+use Rattle.std.proofs.Common.{Some, None, ◌⊎◌, inl, inr}
+use Rattle.std.proofs.Common.{refl, ap, subst, sym, ◌∙◌, arith, append_assoc, length-append, length-drop, MatchOption}
+use Rattle.std.proofs.Common.{IsSomeAnd}
 use Rattle.std.proofs.lemmas.Option.{MatchOption-at_none, MatchOption-at_some}
 use Rattle.std.proofs.Math.Seq.{drop-nil, drop-append-add}
 use Rattle.std.proofs.lemmas.Bool.{cases_lt, cases_order}
@@ -17,17 +19,22 @@ use Rattle.biphase.specs.Pair.{AreUnequal}
 use Rattle.biphase.specs.Latest.{Latest}
 use Rattle.biphase.specs.Tolerance.{LooksAtLast, kept_at_lock, kept_next}
 use Rattle.biphase.specs.Tolerance.{length_of, AreHalves, IsFirstHalf}
-use Rattle.biphase.specs.Chain.{intervals_of, flat, kept_after, kept_of, IsCell, IsChain, Follow, FollowOn, IsChainAfter}
-use Rattle.biphase.specs.Kinds.{zeros_equal, halves_equal}
-use Rattle.biphase.specs.Laws.{behind_zero, chain_on, kept_anew, last_at_lock, last_next, unequal_differ, half_or_not}
-use Rattle.biphase.specs.Zeros.{IsZeroAt, greater_is_zero}
+use Rattle.biphase.specs.Chain.{intervals_of, flat, kept_after, kept_of, IsCell, IsChain, Follow, FollowOn}
+use Rattle.biphase.specs.Chain.{IsChainAfter}
+use Rattle.biphase.specs.KindLemmas.{zeros_equal, halves_equal}
+use Rattle.biphase.specs.ToleranceLemmas.{behind_zero, chain_on, kept_anew, last_at_lock, last_next, unequal_differ}
+use Rattle.biphase.specs.ToleranceLemmas.{half_or_not}
+use Rattle.biphase.specs.Zeros.{IsZeroAt}
+use Rattle.biphase.specs.ZeroLemmas.{greater_is_zero}
 use Rattle.cell_tracker.specs.FoundAgain.{IsSecondLock, BreaksBy, AreFrom}
 use Rattle.cell_tracker.specs.ChainPiece.{IsPiece, cells_between, cells_from}
 use Rattle.cell_tracker.specs.Lock.{IsLock, IsUnequalAt}
 use Rattle.cell_tracker.specs.Stretch.{Stretch, end_of, IsBreak, IsStretch, AreStretchesFrom, AreStretches}
-use Rattle.cell_tracker.proofs.CellsOfAPiece.{has_intervals, from_low, all_between, from_any_low, front_of_front}
+use Rattle.cell_tracker.proofs.CellsOfAPiece.{from_low, all_between, from_any_low, front_of_front}
+use Rattle.biphase.specs.ChainLemmas.{has_intervals}
 use Rattle.cell_tracker.proofs.Chains.{kept_after-append}
-use Rattle.cell_tracker.proofs.KeptStretch.{piece_from, two_at, pair_has_zero, lock_is_zero, stretch_of_piece_at, stretch_at_zero}
+use Rattle.cell_tracker.proofs.KeptStretch.{piece_from, two_at, pair_has_zero, lock_is_zero, stretch_of_piece_at}
+use Rattle.cell_tracker.proofs.KeptStretch.{stretch_at_zero}
 use Rattle.cell_tracker.proofs.LocalStretch.{NoneFits, stretch_from, locally}
 use Rattle.cell_tracker.proofs.OneStretch.{stretch_is_one}
 use Rattle.cell_tracker.proofs.StretchGrows.{end_within}
@@ -38,15 +45,18 @@ use Rattle.cell_tracker.proofs.StretchGrows.{end_within}
 abbrev EndsIn : Profile → ℕ → ℕ → Type 0
 EndsIn profile c a = (c ≡ a) ⊎ ((h : ℕ) × AreHalves profile h a × (c ≡ h + a))
 
-last_interval : (profile : Profile) (c : Latest) (cell : Cell) (cells : List Cell) (k a : ℕ) → c.last ≡ length_of cell → IsCell profile cell
+last_interval : (profile : Profile) (c : Latest) (cell : Cell) (cells : List Cell) (k a : ℕ) → c.last ≡ length_of cell
+    → IsCell profile cell
     → Follow profile c cells → drop k (flat (cell ∷ cells)) ≡ a ∷ []
     → EndsIn profile (kept_after profile c cells).last a
 last_interval profile c (Zero x) [] zero a at is chain there = let same : x ≡ a = cc in inl (at ∙ same)
-last_interval profile c (Zero x) [] (suc k) a at is chain there = absurd (omega (arith, ap length there, ap length (drop-nil {A = ℕ} k)))
+last_interval profile c (Zero x) [] (suc k) a at is chain there =
+    absurd (omega (arith, ap length there, ap length (drop-nil {A = ℕ} k)))
 last_interval profile c (Zero x) (next ∷ more) zero a at is chain there =
     absurd (omega (arith, has_intervals next, ap length there, length-append (intervals_of next) (flat more)))
 last_interval profile c (Zero x) (next ∷ more) (suc k) a at is chain there =
-    last_interval profile (kept_next profile c (length_of next)) next more k a (last_next profile c (length_of next)) chain.0 chain.2 there
+    last_interval profile (kept_next profile c (length_of next)) next more k a
+    (last_next profile c (length_of next)) chain.0 chain.2 there
 last_interval profile c (One x y) cells zero a at is chain there = absurd (omega (arith, ap length there))
 last_interval profile c (One x y) [] (suc zero) a at is chain there =
     let same : y ≡ a = cc in
@@ -56,28 +66,34 @@ last_interval profile c (One x y) [] (suc (suc k)) a at is chain there =
 last_interval profile c (One x y) (next ∷ more) (suc zero) a at is chain there =
     absurd (omega (arith, has_intervals next, ap length there, length-append (intervals_of next) (flat more)))
 last_interval profile c (One x y) (next ∷ more) (suc (suc k)) a at is chain there =
-    last_interval profile (kept_next profile c (length_of next)) next more k a (last_next profile c (length_of next)) chain.0 chain.2 there
+    last_interval profile (kept_next profile c (length_of next)) next more k a
+    (last_next profile c (length_of next)) chain.0 chain.2 there
 
 -- behind a last interval the greater one of an unequal pair is no first half
-no_half_zero : (profile : Profile) → LooksAtLast profile → (c : Latest) (a b : ℕ) → c.last ≡ a → AreUnequal profile a b → a < b
+no_half_zero : (profile : Profile) → LooksAtLast profile → (c : Latest) (a b : ℕ) → c.last ≡ a → AreUnequal profile a b
+    → a < b
     → IsFirstHalf profile c b → ⊥
 no_half_zero Normal looks c a b same unequal rises half = omega arith
 no_half_zero Worn looks c a b same unequal rises half = omega arith
 no_half_zero Rough looks c a b same unequal rises half = absurd looks
 
-no_half_one : (profile : Profile) → LooksAtLast profile → (c : Latest) (h a b : ℕ) → c.last ≡ h + a → AreHalves profile h a
+no_half_one : (profile : Profile) → LooksAtLast profile → (c : Latest) (h a b : ℕ) → c.last ≡ h + a
+    → AreHalves profile h a
     → AreUnequal profile a b → a < b → IsFirstHalf profile c b → ⊥
 no_half_one Normal looks c h a b same halves unequal rises half = omega arith
 no_half_one Worn looks c h a b same halves unequal rises half = omega arith
 no_half_one Rough looks c h a b same halves unequal rises half = absurd looks
 
-no_half : (profile : Profile) → LooksAtLast profile → (c : Latest) (a b : ℕ) → EndsIn profile c.last a → AreUnequal profile a b → a < b
+no_half : (profile : Profile) → LooksAtLast profile → (c : Latest) (a b : ℕ) → EndsIn profile c.last a
+    → AreUnequal profile a b → a < b
     → IsFirstHalf profile c b → ⊥
 no_half profile looks c a b (inl same) unequal rises half = no_half_zero profile looks c a b same unequal rises half
-no_half profile looks c a b (inr (h, halves, same)) unequal rises half = no_half_one profile looks c h a b same halves unequal rises half
+no_half profile looks c a b (inr (h, halves, same)) unequal rises half =
+    no_half_one profile looks c h a b same halves unequal rises half
 
 -- in a chain no unequal pair follows a zero and a half
-zero_half_after : (profile : Profile) → LooksAtLast profile → (a b d : ℕ) (rest : List ℕ) (after : List Cell) → IsChainAfter profile a after
+zero_half_after : (profile : Profile) → LooksAtLast profile → (a b d : ℕ) (rest : List ℕ) (after : List Cell)
+    → IsChainAfter profile a after
     → flat after ≡ b ∷ d ∷ rest → AreUnequal profile a b → AreUnequal profile b d → ⊥
 zero_half_after profile looks a b d rest [] chain there first second = absurd (omega (arith, ap length there))
 zero_half_after profile looks a b d rest (Zero x ∷ after) chain there first second =
@@ -87,7 +103,8 @@ zero_half_after profile looks a b d rest (One x y ∷ after) chain there first s
     let too : y ≡ d = cc in
     second.0 (rw (← same, ← too) (halves_equal profile looks x y chain.0.2))
 
-zero_half_half : (profile : Profile) → LooksAtLast profile → (cells : List Cell) (k a b d : ℕ) (rest : List ℕ) → IsChain profile cells → IsZeroAt cells k a
+zero_half_half : (profile : Profile) → LooksAtLast profile → (cells : List Cell) (k a b d : ℕ) (rest : List ℕ)
+    → IsChain profile cells → IsZeroAt cells k a
     → drop k (flat cells) ≡ a ∷ b ∷ d ∷ rest → AreUnequal profile a b → AreUnequal profile b d → ⊥
 zero_half_half profile looks cells k a b d rest chain is there first second =
     let behind : a ∷ flat is.after ≡ a ∷ b ∷ d ∷ rest =
@@ -100,7 +117,8 @@ zero_half_half profile looks cells k a b d rest chain is there first second =
 
 -- ---- a stretch that shares a zero with the recording
 
--- the stretch has a zero where the recording has one, at the place q of the recording, which begins at the place n of the list
+-- the stretch has a zero where the recording has one, at the place q of the recording, which begins at the place n of
+-- the list
 record Shares (tape : List Cell) (cut n : ℕ) (stretch : Stretch) (q : ℕ) : Type 0 where
   older : List Cell
   newer : List Cell
@@ -124,19 +142,24 @@ kept_from_zero profile looks (cell ∷ older) newer x =
     ∙ ap (λ (l : Latest). kept_after profile l newer) (kept_anew profile looks c x)
 
 -- what a stretch has from one of its zeros on is the stretch there
-stretch_from_zero : (profile : Profile) → LooksAtLast profile → (l : List ℕ) (s : Stretch) (older newer : List Cell) (x : ℕ) → IsStretch profile l s
-    → s.cells ≡ older ++ Zero x ∷ newer → IsStretch profile l (stretch_by (s.lock + length (flat older)) (Zero x ∷ newer) s.broken_at)
+stretch_from_zero : (profile : Profile) → LooksAtLast profile
+    → (l : List ℕ) (s : Stretch) (older newer : List Cell) (x : ℕ) → IsStretch profile l s
+    → s.cells ≡ older ++ Zero x ∷ newer → IsStretch profile l
+    (stretch_by (s.lock + length (flat older)) (Zero x ∷ newer) s.broken_at)
 stretch_from_zero profile looks l s older newer x is are =
     let local = locally profile l s is in
     let first = get_or l s.lock 0 in
     let more = local.0 in
     let rest = drop (end_of s) l in
-    let chain = behind_zero profile older newer x (chain_on profile looks (older ++ Zero x ∷ newer) (subst (FollowOn profile) are is.chain.chain)) in
+    let chain = behind_zero profile older newer x (chain_on profile looks (older ++ Zero x ∷ newer)
+    (subst (FollowOn profile) are is.chain.chain)) in
     let last : kept_of profile (Zero first ∷ more) ≡ kept_of profile (Zero x ∷ newer) =
     ap (kept_of profile) (sym local.1.cells) ∙ ap (kept_of profile) are ∙ kept_from_zero profile looks older newer x in
-    let joined : flat s.cells ≡ flat older ++ (x ∷ flat newer) = ap flat are ∙ flat_map-append intervals_of older (Zero x ∷ newer) in
+    let joined : flat s.cells ≡ flat older ++ (x ∷ flat newer) = ap flat are
+    ∙ flat_map-append intervals_of older (Zero x ∷ newer) in
     let there : drop s.lock l ≡ flat older ++ (x ∷ (flat newer ++ rest)) =
-    local.1.there ∙ ap (λ (cs : List Cell). flat cs ++ rest) (sym local.1.cells) ∙ ap (λ (xs : List ℕ). xs ++ rest) joined
+    local.1.there ∙ ap (λ (cs : List Cell). flat cs ++ rest) (sym local.1.cells)
+    ∙ ap (λ (xs : List ℕ). xs ++ rest) joined
     ∙ append_assoc (flat older) (x ∷ flat newer) rest in
     let new = stretch_by (s.lock + length (flat older)) (Zero x ∷ newer) s.broken_at in
     let end : end_of s ≡ end_of new = omega (arith, ap length joined, length-append (flat older) (x ∷ flat newer)) in
@@ -158,8 +181,10 @@ record Joins (tape : List Cell) (cut n : ℕ) (kept : List ℕ) (stretch : Stret
   place : stretch.lock + length (flat older) ≡ n + q
   open_yet : stretch.broken_at ≡ None
 
-joins : (profile : Profile) → LooksAtLast profile → (before kept : List ℕ) (tape : List Cell) (cut q : ℕ) (s : Stretch) → IsPiece profile kept tape cut
-    → q < length kept → IsStretch profile (before ++ kept) s → Shares tape cut (length before) s q → Joins tape cut (length before) kept s q
+joins : (profile : Profile) → LooksAtLast profile → (before kept : List ℕ) (tape : List Cell) (cut q : ℕ) (s : Stretch)
+    → IsPiece profile kept tape cut
+    → q < length kept → IsStretch profile (before ++ kept) s → Shares tape cut (length before) s q
+    → Joins tape cut (length before) kept s q
 joins profile looks before kept tape cut q s piece within is shares =
     let part = stretch_by (s.lock + length (flat shares.older)) (Zero shares.x ∷ shares.newer) s.broken_at in
     let own = stretch_of_piece_at (length before) tape cut kept q in
@@ -174,8 +199,10 @@ joins profile looks before kept tape cut q s piece within is shares =
     }
 
 -- the recording's cells from one of its zeros on are those up to a later zero, and those from there on
-pub later_zero : (tape : List Cell) (cut q r x y : ℕ) (kept : List ℕ) → IsZeroAt tape (cut + q) x → IsZeroAt tape (cut + r) y → q ≤ r
-    → r < length kept → (mid : List Cell) × (cells_from tape cut kept q ≡ mid ++ cells_from tape cut kept r) × (q + length (flat mid) ≡ r)
+pub later_zero : (tape : List Cell) (cut q r x y : ℕ) (kept : List ℕ) → IsZeroAt tape (cut + q) x
+    → IsZeroAt tape (cut + r) y → q ≤ r
+    → r < length kept → (mid : List Cell) × (cells_from tape cut kept q ≡ mid ++ cells_from tape cut kept r)
+    × (q + length (flat mid) ≡ r)
 later_zero tape cut q r x y kept one two order within =
     let high = cut + length kept in
     let behind = Zero y ∷ two.after in
@@ -203,7 +230,8 @@ later_zero tape cut q r x y kept one two order within =
     let place : cut + q + length (flat mid) ≡ cut + r = omega arith in (
       mid,
       from_q ∙ ap (λ n. mid ++ cells_between (cut + q) high n behind) place
-          ∙ ap (λ (cs : List Cell). mid ++ cs) (from_any_low (cut + q) (cut + r) high (cut + r) behind (omega arith) (omega arith) ∙ sym from_r),
+          ∙ ap (λ (cs : List Cell). mid ++ cs) (from_any_low (cut + q) (cut + r) high (cut + r) behind (omega arith)
+          (omega arith) ∙ sym from_r),
       long,
     )
 
@@ -232,7 +260,7 @@ in_stretch profile l s k j is at within =
     ∙ drop-drop k s.lock l ∙ ap (λ n. drop n l) at
 
 -- the recording's pairs in the list
-shift_on : (profile : Profile) (before kept : List ℕ) (k : ℕ) → IsUnequalAt profile kept k
+pub shift_on : (profile : Profile) (before kept : List ℕ) (k : ℕ) → IsUnequalAt profile kept k
     → IsUnequalAt profile (before ++ kept) (length before + k)
 shift_on profile before kept k at =
     let here : get_or (before ++ kept) (length before + k) 0 ≡ get_or kept k 0 = get_or-append-add before kept k 0 in
@@ -241,7 +269,8 @@ shift_on profile before kept k at =
     ap (λ n. get_or (before ++ kept) n 0) place ∙ get_or-append-add before kept (k + 1) 0 in
     (omega (arith, at.0, length-append before kept), rw (here, next) at.1)
 
-shift_back : (profile : Profile) (before kept : List ℕ) (k : ℕ) → IsUnequalAt profile (before ++ kept) (length before + k)
+pub shift_back : (profile : Profile) (before kept : List ℕ) (k : ℕ)
+    → IsUnequalAt profile (before ++ kept) (length before + k)
     → IsUnequalAt profile kept k
 shift_back profile before kept k at =
     let here : get_or (before ++ kept) (length before + k) 0 ≡ get_or kept k 0 = get_or-append-add before kept k 0 in
@@ -251,15 +280,18 @@ shift_back profile before kept k at =
     (omega (arith, at.0, length-append before kept), rw (← here, ← next) at.1)
 
 -- a stretch over both intervals of an unequal pair of the recording shares its greater interval
-over_pair : (profile : Profile) → LooksAtLast profile → (before kept : List ℕ) (tape : List Cell) (cut k : ℕ) (s : Stretch) → IsPiece profile kept tape cut
-    → IsUnequalAt profile kept k → IsStretch profile (before ++ kept) s → s.lock ≤ length before + k → length before + k + 2 ≤ end_of s
+over_pair : (profile : Profile) → LooksAtLast profile → (before kept : List ℕ) (tape : List Cell) (cut k : ℕ)
+    (s : Stretch) → IsPiece profile kept tape cut
+    → IsUnequalAt profile kept k → IsStretch profile (before ++ kept) s → s.lock ≤ length before + k
+    → length before + k + 2 ≤ end_of s
     → (q : ℕ) × (q ≤ k + 1) × Shares tape cut (length before) s q
 over_pair profile looks before kept tape cut k s piece at is begins ends =
     let n = length before in
     let a = get_or kept k 0 in
     let b = get_or kept (k + 1) 0 in
     let j = n + k - s.lock in
-    let there : drop (n + k) (before ++ kept) ≡ a ∷ b ∷ drop (k + 1 + 1) kept = drop-append-add before kept k ∙ two_at kept k at.0 in
+    let there : drop (n + k) (before ++ kept) ≡ a ∷ b ∷ drop (k + 1 + 1) kept = drop-append-add before kept k
+    ∙ two_at kept k at.0 in
     let inside = in_stretch profile (before ++ kept) s j (n + k) is (omega arith) (omega arith) in
     let two = two_of_front (drop j (flat s.cells)) is.chain.front.0 a b _ (inside ∙ there)
     (omega (arith, length-drop j (flat s.cells))) in
@@ -298,7 +330,8 @@ over_pair profile looks before kept tape cut k s piece at is begins ends =
     ]
 
 -- a stretch that begins at a zero of the recording shares it
-at_zero : (profile : Profile) (before kept : List ℕ) (tape : List Cell) (cut q y : ℕ) (s : Stretch) → IsStretch profile (before ++ kept) s
+at_zero : (profile : Profile) (before kept : List ℕ) (tape : List Cell) (cut q y : ℕ) (s : Stretch)
+    → IsStretch profile (before ++ kept) s
     → s.lock ≡ length before + q → IsZeroAt tape (cut + q) y → Shares tape cut (length before) s q
 at_zero profile before kept tape cut q y s is at zero_there =
     let local = locally profile (before ++ kept) s is in
@@ -313,7 +346,8 @@ at_zero profile before kept tape cut q y s is at zero_there =
     }
 
 -- where a break is past a place, so is the end of the cells, or the interval at that place waits as a half
-late_end : (profile : Profile) (c : Latest) (after : ℕ) (rest : List ℕ) (place : Option ℕ) (limit : ℕ) → IsBreak profile c after rest place
+late_end : (profile : Profile) (c : Latest) (after : ℕ) (rest : List ℕ) (place : Option ℕ) (limit : ℕ)
+    → IsBreak profile c after rest place
     → ((b : ℕ) → place ≡ Some b → limit < b) → limit + 1 < after + length rest
     → (limit < after) ⊎ ((after ≡ limit) × ((x : ℕ) × (more : List ℕ) × (rest ≡ x ∷ more) × IsFirstHalf profile c x))
 late_end profile c after [] place limit broken late within = inl (omega arith)
@@ -330,7 +364,8 @@ late_end profile c after (x ∷ y ∷ rest) place limit broken late within =
     ]
 
 -- no stretch waits with a half at the second interval of the first pair where the second pair begins there
-no_wait : (profile : Profile) → LooksAtLast profile → (before kept : List ℕ) (tape : List Cell) (cut k x : ℕ) (more : List ℕ) (s : Stretch)
+no_wait : (profile : Profile) → LooksAtLast profile → (before kept : List ℕ) (tape : List Cell) (cut k x : ℕ)
+    (more : List ℕ) (s : Stretch)
     → IsPiece profile kept tape cut → IsUnequalAt profile kept k → IsUnequalAt profile kept (k + 1)
     → IsStretch profile (before ++ kept) s → s.lock ≤ length before + k → end_of s ≡ length before + k + 1
     → drop (end_of s) (before ++ kept) ≡ x ∷ more → IsFirstHalf profile (kept_of profile s.cells) x → ⊥
@@ -342,14 +377,17 @@ no_wait profile looks before kept tape cut k x more s piece at next is begins en
     let d = get_or kept (k + 1 + 1) 0 in
     let j = n + k - s.lock in
     let local = locally profile l s is in
-    let there : drop (n + k) l ≡ a ∷ drop (k + 1) kept = drop-append-add before kept k ∙ drop_more kept k 0 (omega (arith, at.0)) in
+    let there : drop (n + k) l ≡ a ∷ drop (k + 1) kept = drop-append-add before kept k
+    ∙ drop_more kept k 0 (omega (arith, at.0)) in
     let inside = in_stretch profile l s j (n + k) is (omega arith) (omega arith) in
     let one : drop j (flat s.cells) ≡ a ∷ [] =
-    one_of_front (drop j (flat s.cells)) is.chain.front.0 a _ (inside ∙ there) (omega (arith, length-drop j (flat s.cells))) in
+    one_of_front (drop j (flat s.cells)) is.chain.front.0 a _ (inside ∙ there)
+    (omega (arith, length-drop j (flat s.cells))) in
     let z = get_or l s.lock 0 in
     let last : EndsIn profile (kept_of profile s.cells).last a =
     subst (λ c. EndsIn profile c a) (ap (λ (cs : List Cell). (kept_of profile cs).last) (sym local.1.cells))
-    (last_interval profile (kept_at_lock profile z) (Zero z) local.0 j a (last_at_lock profile z) local.1.ticks local.1.chain
+    (last_interval profile (kept_at_lock profile z) (Zero z) local.0 j a
+    (last_at_lock profile z) local.1.ticks local.1.chain
     (ap (λ (cs : List Cell). drop j (flat cs)) (sym local.1.cells) ∙ one)) in
     let place : end_of s ≡ n + (k + 1) = omega (arith, ends) in
     let at_end : x ∷ more ≡ b ∷ drop (k + 1 + 1) kept =
@@ -367,7 +405,8 @@ no_wait profile looks before kept tape cut k x more s piece at next is begins en
     ]
 
 -- a lock is one of the two places of its pair
-pub lock_near : (profile : Profile) (l : List ℕ) (start lock : ℕ) (is : IsLock profile l start lock) → (is.pair ≤ lock) × (lock ≤ is.pair + 1)
+pub lock_near : (profile : Profile) (l : List ℕ) (start lock : ℕ) (is : IsLock profile l start lock)
+    → (is.pair ≤ lock) × (lock ≤ is.pair + 1)
 lock_near profile l start lock is =
     elim (cases_order (get_or l is.pair 0) (get_or l (is.pair + 1) 0)) [
       | inl same ↦ absurd (unequal_differ profile _ _ is.unequal.1 same)
@@ -375,11 +414,13 @@ lock_near profile l start lock is =
       | inr (inr falls) ↦ let at = is.falling falls in (omega arith, omega arith)
     ]
 
--- a stretch that is locked behind the first interval of the recording's first pair, and before its second pair, is locked at the second
--- interval, a zero
+-- a stretch that is locked behind the first interval of the recording's first pair, and before its second pair, is
+-- locked at the second interval, a zero
 locked_behind : (profile : Profile) (before kept : List ℕ) (tape : List Cell) (cut second start : ℕ) (s : Stretch)
-    (is2 : IsSecondLock profile kept second) → IsPiece profile kept tape cut → (lock : IsLock profile (before ++ kept) start s.lock)
-    → IsStretch profile (before ++ kept) s → lock.pair < length before + is2.next.pair → length before + is2.lock.pair < s.lock
+    (is2 : IsSecondLock profile kept second) → IsPiece profile kept tape cut
+    → (lock : IsLock profile (before ++ kept) start s.lock)
+    → IsStretch profile (before ++ kept) s → lock.pair < length before + is2.next.pair
+    → length before + is2.lock.pair < s.lock
     → (q : ℕ) × (q ≤ second) × Shares tape cut (length before) s q
 locked_behind profile before kept tape cut second start s is2 piece lock is early behind =
     let l = before ++ kept in
@@ -400,7 +441,8 @@ locked_behind profile before kept tape cut second start s is2 piece lock is earl
           let b = get_or kept (k + 1) 0 in
           let here : get_or l lock.pair 0 ≡ a = ap (λ i. get_or l i 0) same ∙ get_or-append-add before kept k 0 in
           let place : lock.pair + 1 ≡ n + (k + 1) = omega arith in
-          let next : get_or l (lock.pair + 1) 0 ≡ b = ap (λ i. get_or l i 0) place ∙ get_or-append-add before kept (k + 1) 0 in
+          let next : get_or l (lock.pair + 1) 0 ≡ b = ap (λ i. get_or l i 0) place
+          ∙ get_or-append-add before kept (k + 1) 0 in
           elim (cases_order a b) [
             | inl equal ↦ absurd (unequal_differ profile a b is2.lock.unequal.1 equal)
             | inr (inl rises) ↦ (
@@ -416,8 +458,10 @@ locked_behind profile before kept tape cut second start s is2 piece lock is earl
     ]
 
 -- a stretch that is locked before the recording's second pair, and does not break before it, shares a zero
-shares_late : (profile : Profile) → LooksAtLast profile → (before kept : List ℕ) (tape : List Cell) (cut second start : ℕ) (s : Stretch)
-    (is2 : IsSecondLock profile kept second) → IsPiece profile kept tape cut → (lock : IsLock profile (before ++ kept) start s.lock)
+shares_late : (profile : Profile) → LooksAtLast profile
+    → (before kept : List ℕ) (tape : List Cell) (cut second start : ℕ) (s : Stretch)
+    (is2 : IsSecondLock profile kept second) → IsPiece profile kept tape cut
+    → (lock : IsLock profile (before ++ kept) start s.lock)
     → IsStretch profile (before ++ kept) s → lock.pair < length before + is2.next.pair
     → ((b : ℕ) → s.broken_at ≡ Some b → length before + is2.next.pair < b)
     → (q : ℕ) × (q ≤ second) × Shares tape cut (length before) s q
@@ -454,7 +498,8 @@ shares_late profile looks before kept tape cut second start s is2 piece lock is 
 
 -- a stretch whose pair is the recording's second one is locked at the zero of it
 at_second : (profile : Profile) (before kept : List ℕ) (tape : List Cell) (cut second start : ℕ) (s : Stretch)
-    (is2 : IsSecondLock profile kept second) → IsPiece profile kept tape cut → (lock : IsLock profile (before ++ kept) start s.lock)
+    (is2 : IsSecondLock profile kept second) → IsPiece profile kept tape cut
+    → (lock : IsLock profile (before ++ kept) start s.lock)
     → IsStretch profile (before ++ kept) s → lock.pair ≡ length before + is2.next.pair
     → (q : ℕ) × (q ≤ second) × Shares tape cut (length before) s q
 at_second profile before kept tape cut second start s is2 piece lock is same =
@@ -465,7 +510,8 @@ at_second profile before kept tape cut second start s is2 piece lock is same =
     let b = get_or kept (k + 1) 0 in
     let here : get_or l lock.pair 0 ≡ a = ap (λ i. get_or l i 0) same ∙ get_or-append-add before kept k 0 in
     let place : lock.pair + 1 ≡ n + (k + 1) = omega arith in
-    let next : get_or l (lock.pair + 1) 0 ≡ b = ap (λ i. get_or l i 0) place ∙ get_or-append-add before kept (k + 1) 0 in
+    let next : get_or l (lock.pair + 1) 0 ≡ b = ap (λ i. get_or l i 0) place
+    ∙ get_or-append-add before kept (k + 1) 0 in
     let zero_of = lock_is_zero profile kept tape cut (is2.lock.pair + 1) second piece is2.next in
     let at : s.lock ≡ n + second = elim (cases_order a b) [
       | inl equal ↦ absurd (unequal_differ profile a b is2.next.unequal.1 equal)
@@ -483,8 +529,10 @@ at_second profile before kept tape cut second start s is2 piece lock is same =
 -- ---- the stretches
 
 -- a stretch that shares a zero has the recording's cells from the second pair on, and is the last
-last_of_all : (profile : Profile) → LooksAtLast profile → (before kept : List ℕ) (tape : List Cell) (cut second q : ℕ) (s : Stretch) (more : List Stretch)
-    → IsSecondLock profile kept second → IsPiece profile kept tape cut → q ≤ second → IsStretch profile (before ++ kept) s
+last_of_all : (profile : Profile) → LooksAtLast profile
+    → (before kept : List ℕ) (tape : List Cell) (cut second q : ℕ) (s : Stretch) (more : List Stretch)
+    → IsSecondLock profile kept second → IsPiece profile kept tape cut → q ≤ second
+    → IsStretch profile (before ++ kept) s
     → Shares tape cut (length before) s q
     → MatchOption s.broken_at (more ≡ []) (λ place. AreStretchesFrom profile (before ++ kept) place more)
     → AreFrom (length before + second) (cells_from tape cut kept second) (s ∷ more)
@@ -494,7 +542,8 @@ last_of_all profile looks before kept tape cut second q s more is2 piece order i
     let joined = joins profile looks before kept tape cut q s piece (omega arith) is shares in
     let later = later_zero tape cut q second shares.y zero_of.1.0 kept shares.zero_there zero_of.1.1 order within in
     let none : more ≡ [] =
-    MatchOption-at_none (more ≡ []) (λ place. AreStretchesFrom profile (before ++ kept) place more) joined.open_yet after in
+    MatchOption-at_none (more ≡ []) (λ place. AreStretchesFrom profile
+    (before ++ kept) place more) joined.open_yet after in
     record {
       earlier = [];
       last = s;
@@ -514,7 +563,8 @@ last_of_all profile looks before kept tape cut second q s more is2 piece order i
     }
 
 -- a stretch more that breaks by then
-one_before : (from : ℕ) (cells : List Cell) (s : Stretch) (more : List Stretch) → BreaksBy from s → AreFrom from cells more
+pub one_before : (from : ℕ) (cells : List Cell) (s : Stretch) (more : List Stretch) → BreaksBy from s
+    → AreFrom from cells more
     → AreFrom from cells (s ∷ more)
 one_before from cells s more breaks are = record {
   earlier = s ∷ are.earlier;
@@ -535,10 +585,11 @@ by_or_late (Some b) limit = elim (cases_lt limit b) [
   | inr early ↦ inl (b, refl, early)
 ]
 
-breaks_by : (o : Option ℕ) (b from : ℕ) → o ≡ Some b → b ≤ from → IsSomeAnd o (λ place. place ≤ from)
+pub breaks_by : (o : Option ℕ) (b from : ℕ) → o ≡ Some b → b ≤ from → IsSomeAnd o (λ place. place ≤ from)
 breaks_by o b from some early = rw some early
 
-found : (profile : Profile) → LooksAtLast profile → (before kept : List ℕ) (tape : List Cell) (cut second start : ℕ) (ss : List Stretch)
+found : (profile : Profile) → LooksAtLast profile → (before kept : List ℕ) (tape : List Cell) (cut second start : ℕ)
+    (ss : List Stretch)
     (is2 : IsSecondLock profile kept second) → IsPiece profile kept tape cut → start ≤ length before + is2.next.pair
     → AreStretchesFrom profile (before ++ kept) start ss
     → AreFrom (length before + second) (cells_from tape cut kept second) ss
@@ -559,7 +610,8 @@ found profile looks before kept tape cut second start (s ∷ more) is2 piece low
             (breaks_by s.broken_at b (n + second) some (omega arith))
             (found profile looks before kept tape cut second b more is2 piece by
             (MatchOption-at_some (more ≡ []) (λ place. AreStretchesFrom profile l place more) b some are.2))
-        | inr late ↦ last (shares_late profile looks before kept tape cut second start s is2 piece lock are.1 early late)
+        | inr late ↦ last
+            (shares_late profile looks before kept tape cut second start s is2 piece lock are.1 early late)
       ]
       | inr past ↦ elim (cases_lt (n + k2) lock.pair) [
         | inl behind ↦ absurd (lock.none_before (n + k2) low behind at)
@@ -568,7 +620,8 @@ found profile looks before kept tape cut second start (s ∷ more) is2 piece low
     ]
 
 -- whatever stands before a recording
-pub found_again : (profile : Profile) → LooksAtLast profile → (before kept : List ℕ) (tape : List Cell) (cut second : ℕ) (ss : List Stretch)
+pub found_again : (profile : Profile) → LooksAtLast profile
+    → (before kept : List ℕ) (tape : List Cell) (cut second : ℕ) (ss : List Stretch)
     → IsPiece profile kept tape cut → IsSecondLock profile kept second → AreStretches profile (before ++ kept) ss
     → AreFrom (length before + second) (cells_from tape cut kept second) ss
 found_again profile looks before kept tape cut second ss piece is2 are =

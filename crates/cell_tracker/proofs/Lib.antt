@@ -3,7 +3,9 @@ pub mod CellsOfAPiece
 pub mod Chains
 pub mod Computed
 mod Examples
+pub mod EvenOnes
 pub mod FoundAgain
+pub mod FoundBehindOnes
 pub mod GainsOrBreaks
 pub mod KeptStretch
 pub mod LocalStretch

@@ -1,5 +1,6 @@
 -- A chain is the longest one exactly where no next cell fits what follows it.
-use Rattle.std.proofs.Common.{◌≡◌, ℕ, ◌≤◌, List, [], ◌∷◌, ◌++◌, length, drop, get_or, inl, inr, refl, ap, subst, sym, ◌∙◌, arith}
+use Rattle.std.proofs.Common.{◌≡◌, ℕ, ◌≤◌, List, [], ◌∷◌, ◌++◌, length, drop, get_or, inl, inr, refl, ap, subst, sym}
+use Rattle.std.proofs.Common.{◌∙◌, arith}
 use Rattle.std.proofs.Common.{append_assoc, length-append, add-zero}
 use Rattle.std.proofs.lemmas.List.{append_cancel_left, append-nil, drop_at, drop-drop, get_or-drop, length_push}
 use Rattle.std.proofs.lemmas.Grind.{flat_map-append}
@@ -9,10 +10,11 @@ use Rattle.biphase.specs.declared.cell.Cell.TheVariants.{Zero, One}
 use Rattle.biphase.specs.Latest.{Latest}
 use Rattle.biphase.specs.Tolerance.{kept_at_lock}
 use Rattle.biphase.specs.Tolerance.{IsNext}
-use Rattle.biphase.specs.Chain.{intervals_of, flat, kept_after, kept_of, IsCell, Follow, FollowOn, IsChainAfter, IsNextZero, IsNextOne}
+use Rattle.biphase.specs.Chain.{intervals_of, flat, kept_after, kept_of, IsCell, Follow, FollowOn, IsChainAfter}
+use Rattle.biphase.specs.Chain.{IsNextZero, IsNextOne}
 use Rattle.cell_tracker.proofs.Chains.{chain_rest, chain-append, chain_lasts}
-use Rattle.biphase.specs.OneChain.{comparable_after}
-use Rattle.biphase.specs.Laws.{zero_lasts, one_lasts}
+use Rattle.biphase.specs.ChainLemmas.{comparable_after}
+use Rattle.biphase.specs.ToleranceLemmas.{zero_lasts, one_lasts}
 use Rattle.cell_tracker.specs.Stretch.{Stretch, end_of, IsChainFrom, IsBreak, IsStretch}
 
 -- after the latest cells no cell fits the front of the list
@@ -22,7 +24,8 @@ NoneFits profile c (x ∷ []) = ¬ IsNextZero profile c x
 NoneFits profile c (x ∷ y ∷ rest) = ¬ IsNextZero profile c x × ¬ IsNextOne profile c x y
 
 -- so its first interval is no zero
-none_is_zero : (profile : Profile) (c : Latest) (x : ℕ) (rest : List ℕ) → NoneFits profile c (x ∷ rest) → IsNextZero profile c x → ⊥
+none_is_zero : (profile : Profile) (c : Latest) (x : ℕ) (rest : List ℕ) → NoneFits profile c (x ∷ rest)
+    → IsNextZero profile c x → ⊥
 none_is_zero profile c x [] none zero = none zero
 none_is_zero profile c x (y ∷ rest) none zero = none.0 zero
 
@@ -42,7 +45,8 @@ no_more : (profile : Profile) (c : Latest) (cells more : List Cell) (rest other 
 no_more profile c cells [] rest other chain none same = omega (arith, length-append {A = Cell})
 no_more profile c cells (cell ∷ more) rest other chain none same =
     let tail : rest ≡ flat (cell ∷ more) ++ other =
-    append_cancel_left (flat cells) _ _ (same ∙ ap (λ xs. xs ++ other) (flat_map-append intervals_of cells (cell ∷ more))
+    append_cancel_left (flat cells) _ _ (same ∙ ap (λ xs. xs ++ other)
+    (flat_map-append intervals_of cells (cell ∷ more))
     ∙ append_assoc (flat cells) (flat (cell ∷ more)) other) in
     absurd (none_goes_on profile (kept_after profile c cells) cell more rest other none
     (chain_rest profile c cells (cell ∷ more) chain) tail)
@@ -59,7 +63,8 @@ no_longer profile c cells others rest other chain chain_too none same =
     ]
 
 -- a stretch by what stands at its end: its cells are a first zero and more, and no cell fits the rest of the list
-pub record IsLocally (profile : Profile) (intervals : List ℕ) (stretch : Stretch) (first : ℕ) (more : List Cell) (rest : List ℕ) : Type 0 where
+pub record IsLocally (profile : Profile) (intervals : List ℕ) (stretch : Stretch) (first : ℕ) (more : List Cell)
+    (rest : List ℕ) : Type 0 where
   pub cells : stretch.cells ≡ Zero first ∷ more
   pub ticks : 1 ≤ first
   pub chain : IsChainAfter profile first more
@@ -80,7 +85,8 @@ rest_is intervals stretch first more rest cells there =
 -- what a list of intervals has at a place where something is known to stand
 head_is : (intervals : List ℕ) (k x : ℕ) (rest : List ℕ) → drop k intervals ≡ x ∷ rest → get_or intervals k 0 ≡ x
 head_is intervals k x rest there =
-    ap (λ n. get_or intervals n 0) (sym (add-zero k)) ∙ sym (get_or-drop k intervals 0 0) ∙ ap (λ xs. get_or xs 0 0) there
+    ap (λ n. get_or intervals n 0) (sym (add-zero k)) ∙ sym (get_or-drop k intervals 0 0)
+    ∙ ap (λ xs. get_or xs 0 0) there
 
 -- the tails of equal lists are equal
 pub tail_is : {x y : ℕ} {xs ys : List ℕ} → x ∷ xs ≡ y ∷ ys → xs ≡ ys
@@ -97,7 +103,8 @@ record Parts (profile : Profile) (intervals : List ℕ) (lock : ℕ) (cells : Li
 
 -- a chain from a lock has these parts
 parts_of : (profile : Profile) (intervals : List ℕ) (lock : ℕ) (cells : List Cell) (first : ℕ)
-    → get_or intervals lock 0 ≡ first → IsChainFrom profile intervals lock cells → Parts profile intervals lock cells first
+    → get_or intervals lock 0 ≡ first → IsChainFrom profile intervals lock cells
+    → Parts profile intervals lock cells first
 parts_of profile intervals lock cells first head from =
     let same : cells ≡ Zero first ∷ from.first.0 = from.first.1 ∙ ap (λ x. Zero x ∷ from.first.0) head in
     let chain : FollowOn profile (Zero first ∷ from.first.0) = subst (FollowOn profile) same from.chain in
@@ -123,7 +130,8 @@ chain_from profile intervals lock cells first more rest same ticks chain there =
 }
 
 -- what no cell fits behind is a stretch
-pub stretch_from : (profile : Profile) (intervals : List ℕ) (stretch : Stretch) (first : ℕ) (more : List Cell) (rest : List ℕ)
+pub stretch_from : (profile : Profile) (intervals : List ℕ) (stretch : Stretch) (first : ℕ) (more : List Cell)
+    (rest : List ℕ)
     → IsLocally profile intervals stretch first more rest → IsStretch profile intervals stretch
 stretch_from profile intervals stretch first more rest is = record {
   chain = chain_from profile intervals stretch.lock stretch.cells first more rest is.cells is.ticks is.chain is.there;
@@ -133,7 +141,8 @@ stretch_from profile intervals stretch first more rest is = record {
       (head_is intervals stretch.lock first (flat more ++ rest) is.there) from in
       let tails : flat more ++ rest ≡ flat parts.more ++ parts.rest = tail_is (sym is.there ∙ parts.there) in
       let most : length parts.more ≤ length more =
-      no_longer profile (kept_at_lock profile first) more parts.more rest parts.rest is.chain parts.chain is.none tails in
+      no_longer profile
+      (kept_at_lock profile first) more parts.more rest parts.rest is.chain parts.chain is.none tails in
       omega (arith, most, ap length parts.same, ap length is.cells);
   broken =
       rw (rest_is intervals stretch first more rest is.cells is.there)
@@ -152,12 +161,14 @@ flat_push cells cell rest =
 -- no cell fits at the end of a stretch, or the chain with it would be longer
 too_long : (profile : Profile) (intervals : List ℕ) (stretch : Stretch) (first : ℕ) (more : List Cell) (cell : Cell)
     (rest : List ℕ)
-    → IsStretch profile intervals stretch → stretch.cells ≡ Zero first ∷ more → 1 ≤ first → IsChainAfter profile first more
+    → IsStretch profile intervals stretch → stretch.cells ≡ Zero first ∷ more → 1 ≤ first
+    → IsChainAfter profile first more
     → IsCell profile cell → IsNext profile (kept_of profile (Zero first ∷ more)) cell
     → drop stretch.lock intervals ≡ first ∷ (flat more ++ (intervals_of cell ++ rest)) → ⊥
 too_long profile intervals stretch first more cell rest is same ticks chain one near there =
     let longer : IsChainFrom profile intervals stretch.lock (Zero first ∷ (more ++ cell ∷ [])) =
-    chain_from profile intervals stretch.lock (Zero first ∷ (more ++ cell ∷ [])) first (more ++ cell ∷ []) rest refl ticks
+    chain_from profile intervals stretch.lock (Zero first ∷ (more ++ cell ∷ [])) first
+    (more ++ cell ∷ []) rest refl ticks
     (chain-append profile (kept_at_lock profile first) more (cell ∷ []) chain (one, near, tt))
     (there ∙ ap (λ xs. first ∷ xs) (sym (flat_push more cell rest))) in
     let most : length (Zero first ∷ (more ++ cell ∷ [])) ≤ length stretch.cells = is.longest _ longer in
@@ -165,12 +176,15 @@ too_long profile intervals stretch first more cell rest is same ticks chain one 
 
 -- at the end of a stretch no cell fits
 none_fits : (profile : Profile) (intervals : List ℕ) (stretch : Stretch) (first : ℕ) (more : List Cell) (rest : List ℕ)
-    → IsStretch profile intervals stretch → stretch.cells ≡ Zero first ∷ more → 1 ≤ first → IsChainAfter profile first more
-    → drop stretch.lock intervals ≡ first ∷ (flat more ++ rest) → NoneFits profile (kept_of profile (Zero first ∷ more)) rest
+    → IsStretch profile intervals stretch → stretch.cells ≡ Zero first ∷ more → 1 ≤ first
+    → IsChainAfter profile first more
+    → drop stretch.lock intervals ≡ first ∷ (flat more ++ rest)
+    → NoneFits profile (kept_of profile (Zero first ∷ more)) rest
 none_fits profile intervals stretch first more [] is same ticks chain there = tt
 none_fits profile intervals stretch first more (x ∷ []) is same ticks chain there =
     λ zero. too_long profile intervals stretch first more (Zero x) [] is same ticks chain
-    (zero_lasts profile (kept_of profile (Zero first ∷ more)) x (chain_lasts profile first more ticks chain) zero) zero there
+    (zero_lasts profile (kept_of profile (Zero first ∷ more)) x
+    (chain_lasts profile first more ticks chain) zero) zero there
 none_fits profile intervals stretch first more (x ∷ y ∷ rest) is same ticks chain there =
     let lasts : 1 ≤ (kept_of profile (Zero first ∷ more)).last = chain_lasts profile first more ticks chain in (
       λ zero. too_long profile intervals stretch first more (Zero x) (y ∷ rest) is same ticks chain

@@ -1,23 +1,28 @@
--- Of a recording within the tolerance and its mirror, the kinds of the pairs tell the cells between the greater intervals of the first and the
--- last unequal pair. So there the cells of the mirror are those of the recording in the other order of time.
-use Rattle.std.proofs.Common.{◌≡◌, ℕ, ◌+◌, ◌-◌, ◌<◌, ◌≤◌, List, [], ◌∷◌, ◌++◌, length, drop, take, get_or, reverse, map, inl, inr, refl, ap, subst, sym, ◌∙◌}
+-- Of a recording within the tolerance and its mirror, the kinds of the pairs tell the cells between the greater
+-- intervals of the first and the last unequal pair. So there the cells of the mirror are those of the recording in the
+-- other order of time.
+use Rattle.std.proofs.Common.{◌≡◌, ℕ, ◌+◌, ◌-◌, ◌<◌, ◌≤◌, List, [], ◌∷◌, ◌++◌, length, drop, take, get_or, reverse, map}
+use Rattle.std.proofs.Common.{inl, inr, refl, ap, subst, sym, ◌∙◌}
 use Rattle.std.proofs.Common.{arith, append_assoc, length-append, length-drop}
 use Rattle.std.proofs.lemmas.Bool.{cases_lt, cases_order}
-use Rattle.std.proofs.lemmas.List.{append-nil, drop_at, length-reverse, reverse-append, get_or-reverse, take-append-drop, map-append}
+use Rattle.std.proofs.lemmas.List.{append-nil, drop_at, length-reverse, reverse-append, get_or-reverse}
+use Rattle.std.proofs.lemmas.List.{take-append-drop, map-append}
 use Rattle.std.proofs.lemmas.Grind.{flat_map-append}
 use Rattle.biphase.specs.declared.profile.Profile.{Profile}
 use Rattle.biphase.specs.declared.cell.Cell.{Cell}
 use Rattle.biphase.specs.declared.cell.Cell.TheVariants.{Zero}
 use Rattle.biphase.specs.Chain.{intervals_of, flat, FollowOn, IsChain, Kinds}
-use Rattle.biphase.specs.Kinds.{chain_kinds}
-use Rattle.biphase.specs.Laws.{behind_zero, chain_on, unequal_differ}
-use Rattle.biphase.specs.Mirror.{mirror_of, mirrored, flat_mirrored, unequal_turned, front_kinds, mirrored_kinds, comparable_kinds}
+use Rattle.biphase.specs.KindLemmas.{chain_kinds}
+use Rattle.biphase.specs.ToleranceLemmas.{behind_zero, chain_on, unequal_differ}
+use Rattle.biphase.specs.Mirror.{mirror_of, mirrored}
+use Rattle.biphase.specs.MirrorLemmas.{flat_mirrored, unequal_turned, front_kinds, mirrored_kinds, comparable_kinds}
 use Rattle.biphase.specs.Tolerance.{LooksAtLast}
 use Rattle.biphase.specs.Zeros.{IsZeroAt}
 use Rattle.cell_tracker.specs.ChainPiece.{IsPiece, cells_between, cells_from}
 use Rattle.cell_tracker.specs.Lock.{IsLock, IsUnequalAt}
 use Rattle.cell_tracker.specs.Mirrored.{BeginMirrored}
-use Rattle.cell_tracker.proofs.CellsOfAPiece.{has_intervals, all_between}
+use Rattle.cell_tracker.proofs.CellsOfAPiece.{all_between}
+use Rattle.biphase.specs.ChainLemmas.{has_intervals}
 use Rattle.cell_tracker.proofs.FoundAgain.{lock_near, later_zero}
 use Rattle.cell_tracker.proofs.KeptStretch.{piece_from, pair_has_zero, lock_is_zero, cells_at_zero, stretch_at_lock}
 
@@ -93,7 +98,12 @@ mirrored_push cells x =
 -- cells without an interval are none
 no_cells : (cells : List Cell) → length (flat cells) ≡ 0 → cells ≡ []
 no_cells [] none = refl
-no_cells (cell ∷ cells) none = absurd (omega (arith, has_intervals cell, length-append (intervals_of cell) (flat cells), none))
+no_cells (cell ∷ cells) none = absurd (omega (
+  arith,
+  has_intervals cell,
+  length-append (intervals_of cell) (flat cells),
+  none,
+))
 
 -- of a list with these intervals, what stands there in the other order
 turned_there : (l one middle tail : List ℕ) (last : ℕ) → l ≡ one ++ (middle ++ tail) → length tail ≡ last
@@ -106,18 +116,24 @@ turned_there l one middle tail last are many =
     ∙ reverse-append one middle
 
 -- where the mirror has the cells of the middle, from its first zero on
-tells_cells : (profile : Profile) (x : ℕ) (mid after : List Cell) (rest : List ℕ) → Kinds profile (Zero x ∷ mirrored mid)
-    → Kinds profile (Zero x ∷ after) → flat after ≡ flat (mirrored mid) ++ rest → (more : List Cell) × (after ≡ mirrored mid ++ more)
+tells_cells : (profile : Profile) (x : ℕ) (mid after : List Cell) (rest : List ℕ)
+    → Kinds profile (Zero x ∷ mirrored mid)
+    → Kinds profile (Zero x ∷ after) → flat after ≡ flat (mirrored mid) ++ rest
+    → (more : List Cell) × (after ≡ mirrored mid ++ more)
 tells_cells profile x mid after rest kinds others same =
-    elim (comparable_kinds profile (Zero x) (mirrored mid) after rest [] kinds others (sym same ∙ sym (append-nil (flat after)))) [
+    elim (comparable_kinds profile (Zero x) (mirrored mid) after rest [] kinds others (sym same
+    ∙ sym (append-nil (flat after)))) [
       | inl front ↦ front
       | inr (extra, is) ↦ (
           let fewer : length (flat (mirrored mid)) ≡ length (flat after) + length (flat extra) =
           ap (λ (cs : List Cell). length (flat cs)) is ∙ ap length (flat_map-append intervals_of after extra)
           ∙ length-append (flat after) (flat extra) in
           let none : extra ≡ [] =
-          no_cells extra (omega (arith, fewer, ap length same, length-append (flat (mirrored mid)) rest)) in
-          ([], sym (append-nil after) ∙ ap (λ (cs : List Cell). after ++ cs) (sym none) ∙ sym is ∙ sym (append-nil (mirrored mid))))
+          no_cells extra (omega (arith, fewer, ap length same, length-append (flat (mirrored mid)) rest)) in (
+            [],
+            sym (append-nil after) ∙ ap (λ (cs : List Cell). after ++ cs) (sym none) ∙ sym is
+                ∙ sym (append-nil (mirrored mid)),
+          ))
     ]
 
 -- ---- the cells
@@ -142,7 +158,8 @@ push_flat mid more x rest =
     ∙ ap (λ (xs : List ℕ). xs ++ rest) (flat_map-append intervals_of (mid ++ Zero x ∷ []) more)
     ∙ append_assoc (flat (mid ++ Zero x ∷ [])) (flat more) rest
 
-middle_of : (profile : Profile) → LooksAtLast profile → (l : List ℕ) (tape : List Cell) (cut first last : ℕ) → IsPiece profile l tape cut
+middle_of : (profile : Profile) → LooksAtLast profile → (l : List ℕ) (tape : List Cell) (cut first last : ℕ)
+    → IsPiece profile l tape cut
     → IsLock profile l 0 first → IsLock profile (reverse l) 0 last → Middle profile l tape cut first last
 middle_of profile looks l tape cut first last piece lock turned =
     let z = last_zero profile l tape cut first last piece lock turned in
@@ -172,22 +189,34 @@ middle_of profile looks l tape cut first last piece lock turned =
       more = more;
       are = are;
       many = omega (arith, z.1, later.2);
-      kinds = kinds_of_front profile (mid ++ Zero x ∷ []) more (subst (Kinds profile) same (chain_kinds profile (mid ++ Zero x ∷ more) chain));
+      kinds = kinds_of_front profile (mid ++ Zero x ∷ []) more
+          (subst (Kinds profile) same (chain_kinds profile (mid ++ Zero x ∷ more) chain));
       tail = tail;
       there = sym (take-append-drop first l) ∙ ap (λ (xs : List ℕ). take first l ++ xs) begins;
-      long = omega (arith, ap length begins, length-append (flat (mid ++ Zero x ∷ [])) tail, long, length-drop first l, z.1, later.2);
+      long = omega (
+        arith,
+        ap length begins,
+        length-append (flat (mid ++ Zero x ∷ [])) tail,
+        long,
+        length-drop first l,
+        z.1,
+        later.2,
+      );
     }
 
 -- what stands behind a zero of a piece
-behind_zero_there : (profile : Profile) (intervals : List ℕ) (cells : List Cell) (cut place x : ℕ) (is : IsPiece profile intervals cells cut)
-    (z : IsZeroAt cells (cut + place) x) → place ≤ length intervals → drop place intervals ++ is.part.0 ≡ x ∷ flat z.after
+behind_zero_there : (profile : Profile) (intervals : List ℕ) (cells : List Cell) (cut place x : ℕ)
+    (is : IsPiece profile intervals cells cut)
+    (z : IsZeroAt cells (cut + place) x) → place ≤ length intervals
+    → drop place intervals ++ is.part.0 ≡ x ∷ flat z.after
 behind_zero_there profile intervals cells cut place x is z within =
     sym (piece_from profile intervals cells cut place is within)
     ∙ ap (λ (cs : List Cell). drop (cut + place) (flat cs)) z.are
     ∙ ap (drop (cut + place)) (flat_map-append intervals_of z.before (Zero x ∷ z.after))
     ∙ drop_at (flat z.before) (x ∷ flat z.after) (cut + place) z.place
 
-pub begin_mirrored : (profile : Profile) → LooksAtLast profile → (l : List ℕ) (tape other : List Cell) (cut place first last : ℕ) → IsPiece profile l tape cut
+pub begin_mirrored : (profile : Profile) → LooksAtLast profile
+    → (l : List ℕ) (tape other : List Cell) (cut place first last : ℕ) → IsPiece profile l tape cut
     → IsPiece profile (reverse l) other place → IsLock profile l 0 first → IsLock profile (reverse l) 0 last
     → BeginMirrored (cells_from tape cut l first) (cells_from other place (reverse l) last) first last (length l)
 begin_mirrored profile looks l tape other cut place first last piece turned lock last_lock =
@@ -210,13 +239,16 @@ begin_mirrored profile looks l tape other cut place first last piece turned lock
     ∙ append_assoc (x ∷ flat (mirrored mid)) (reverse (take first l)) turned.part.0 in
     let head : w ≡ x = cc in
     let after : flat z.after ≡ flat (mirrored mid) ++ rest = cc in
-    let kinds : Kinds profile (Zero x ∷ mirrored mid) = subst (Kinds profile) pushed (kinds_mirrored profile middle m.kinds) in
+    let kinds : Kinds profile (Zero x ∷ mirrored mid) =
+    subst (Kinds profile) pushed (kinds_mirrored profile middle m.kinds) in
     let others : Kinds profile (Zero x ∷ z.after) =
-    subst (λ v. Kinds profile (Zero v ∷ z.after)) head (chain_kinds profile (Zero w ∷ z.after) (chain_on profile looks (Zero w ∷ z.after) (chain.0, chain.1))) in
+    subst (λ v. Kinds profile (Zero v ∷ z.after)) head (chain_kinds profile (Zero w ∷ z.after)
+    (chain_on profile looks (Zero w ∷ z.after) (chain.0, chain.1))) in
     let found = tells_cells profile x mid z.after rest kinds others after in
     let low = place + last in
     let high = place + length (reverse l) in
-    let long : length (flat (mirrored mid)) ≡ length (flat mid) = ap length (flat_mirrored mid) ∙ length-reverse (flat mid) in
+    let long : length (flat (mirrored mid)) ≡ length (flat mid) = ap length (flat_mirrored mid)
+    ∙ length-reverse (flat mid) in
     let behind = cells_between low high (low + 1 + length (flat (mirrored mid))) found.0 in
     record {
       middle = middle;

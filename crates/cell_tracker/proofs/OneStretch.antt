@@ -1,5 +1,6 @@
 -- A lock, its longest chain and its break are each fixed by the list, so a list has one list of stretches.
-use Rattle.std.proofs.Common.{◌≡◌, ◌≢◌, ℕ, ◌+◌, ◌≤◌, List, [], ◌∷◌, ◌++◌, length, get_or, Option, Some, None, inl, inr, refl, ap, subst}
+use Rattle.std.proofs.Common.{◌≡◌, ◌≢◌, ℕ, ◌+◌, ◌≤◌, List, [], ◌∷◌, ◌++◌, length, get_or, Option, Some, None, inl, inr}
+use Rattle.std.proofs.Common.{refl, ap, subst}
 use Rattle.std.proofs.Common.{sym, ◌∙◌, arith, length-append, MatchOption}
 use Rattle.std.proofs.lemmas.Bool.{cases_order}
 use Rattle.std.proofs.lemmas.List.{append-nil, nil_from_length}
@@ -9,8 +10,8 @@ use Rattle.biphase.specs.declared.cell.Cell.TheVariants.{Zero}
 use Rattle.biphase.specs.Latest.{Latest}
 use Rattle.biphase.specs.Tolerance.{kept_at_lock}
 use Rattle.biphase.specs.Chain.{Begins}
-use Rattle.biphase.specs.OneChain.{comparable_after}
-use Rattle.biphase.specs.Laws.{half_or_not, unequal_differ}
+use Rattle.biphase.specs.ChainLemmas.{comparable_after}
+use Rattle.biphase.specs.ToleranceLemmas.{half_or_not, unequal_differ}
 use Rattle.cell_tracker.specs.Lock.{IsLock}
 use Rattle.cell_tracker.specs.Stretch.{Stretch, IsBreak, IsStretch, AreStretchesFrom}
 use Rattle.cell_tracker.proofs.LocalStretch.{locally, tail_is}
@@ -37,18 +38,20 @@ lock_is_one profile intervals start lock other is is_too =
     let differ : here ≢ next = unequal_differ profile here next is.unequal.1 in
     elim (cases_order here next) [
       | inl equal ↦ absurd (differ equal)
-      | inr (inl rises) ↦ is.rising rises ∙ ap (λ k. k + 1) same ∙ sym (is_too.rising (rw (← here_too, ← next_too) rises))
+      | inr (inl rises) ↦ is.rising rises ∙ ap (λ k. k + 1) same
+          ∙ sym (is_too.rising (rw (← here_too, ← next_too) rises))
       | inr (inr falls) ↦ is.falling falls ∙ same ∙ sym (is_too.falling (rw (← here_too, ← next_too) falls))
     ]
 
 -- a front that is as long as the list is the list
-front_is : (one two : List Cell) → Begins one two → length two ≤ length one → one ≡ two
+pub front_is : (one two : List Cell) → Begins one two → length two ≤ length one → one ≡ two
 front_is one two (rest, is) long =
     let none : rest ≡ [] = nil_from_length rest (omega (arith, ap length is, length-append one rest)) in
     sym (is ∙ ap (λ xs. one ++ xs) none ∙ append-nil one)
 
 -- two breaks of one stretch are one
-break_is_one : (profile : Profile) (c : Latest) (after : ℕ) (rest : List ℕ) (place other : Option ℕ) → IsBreak profile c after rest place
+pub break_is_one : (profile : Profile) (c : Latest) (after : ℕ) (rest : List ℕ) (place other : Option ℕ)
+    → IsBreak profile c after rest place
     → IsBreak profile c after rest other → place ≡ other
 break_is_one profile c after [] place other is is_too = is ∙ sym is_too
 break_is_one profile c after (x ∷ []) place other is is_too =
@@ -78,9 +81,11 @@ cells_are_one profile intervals lock cells others place other is is_too =
     let first = get_or intervals lock 0 in
     let fewer : length cells ≤ length others = is_too.longest cells is.chain in
     let more : length others ≤ length cells = is.longest others is_too.chain in
-    elim (comparable_after profile (kept_at_lock profile first) one.0 two.0 _ _ one.1.chain two.1.chain (tail_is (sym one.1.there ∙ two.1.there))) [
+    elim (comparable_after profile (kept_at_lock profile first) one.0 two.0 _ _ one.1.chain two.1.chain
+    (tail_is (sym one.1.there ∙ two.1.there))) [
       | inl front ↦ one.1.cells ∙ ap (λ xs. Zero first ∷ xs)
-          (front_is one.0 two.0 front (omega (arith, more, ap length one.1.cells, ap length two.1.cells))) ∙ sym two.1.cells
+          (front_is one.0 two.0 front (omega (arith, more, ap length one.1.cells, ap length two.1.cells)))
+          ∙ sym two.1.cells
       | inr front ↦ one.1.cells ∙ ap (λ xs. Zero first ∷ xs)
           (sym (front_is two.0 one.0 front (omega (arith, fewer, ap length one.1.cells, ap length two.1.cells))))
           ∙ sym two.1.cells
@@ -98,7 +103,8 @@ stretch_is_one profile intervals stretch other lock is is_too =
     subst (λ xs. IsStretch profile intervals (stretch_of stretch.lock xs other.broken_at)) (sym cells) at_lock in
     let place : stretch.broken_at ≡ other.broken_at =
     break_is_one profile _ _ _ stretch.broken_at other.broken_at is.broken with_cells.broken in
-    ap (λ k. stretch_of k stretch.cells stretch.broken_at) lock ∙ ap (λ xs. stretch_of other.lock xs stretch.broken_at) cells
+    ap (λ k. stretch_of k stretch.cells stretch.broken_at) lock
+    ∙ ap (λ xs. stretch_of other.lock xs stretch.broken_at) cells
     ∙ ap (λ o. stretch_of other.lock other.cells o) place
 
 -- what follows one break is one list
@@ -112,7 +118,8 @@ rest_is_one profile intervals (Some start) more others one is is_too = one start
 
 -- a list has one list of stretches from a place
 pub stretches_are_one : (profile : Profile) (intervals : List ℕ) (start : ℕ) (stretches others : List Stretch)
-    → AreStretchesFrom profile intervals start stretches → AreStretchesFrom profile intervals start others → stretches ≡ others
+    → AreStretchesFrom profile intervals start stretches → AreStretchesFrom profile intervals start others
+    → stretches ≡ others
 stretches_are_one profile intervals start [] [] are are_too = refl
 stretches_are_one profile intervals start [] (other ∷ others) are are_too =
     absurd (are are_too.0.pair are_too.0.within are_too.0.unequal)

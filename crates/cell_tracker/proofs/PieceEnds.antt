@@ -1,6 +1,7 @@
--- A state that stands for a piece of a chain has the one stretch of the piece: so its cells are a part of the chain, and the piece ends behind the last of
--- them, or inside the next one.
-use Rattle.std.proofs.Common.{◌≡◌, ◌⊎◌, ℕ, ◌+◌, ◌-◌, ◌<◌, ◌≤◌, List, [], ◌∷◌, ◌++◌, length, drop, get_or, Some, IsSome, All, inl, inr, refl, ap}
+-- A state that stands for a piece of a chain has the one stretch of the piece: so its cells are a part of the chain,
+-- and the piece ends behind the last of them, or inside the next one.
+use Rattle.std.proofs.Common.{◌≡◌, ◌⊎◌, ℕ, ◌+◌, ◌-◌, ◌<◌, ◌≤◌, List, [], ◌∷◌, ◌++◌, length, drop, get_or, Some, IsSome}
+use Rattle.std.proofs.Common.{All, inl, inr, refl, ap}
 use Rattle.std.proofs.Common.{subst, sym, ◌∙◌, arith, length-append, append_assoc}
 use Rattle.std.specs.Prelude.{⊤}
 use Rattle.std.proofs.lemmas.Bool.{cases_lt, false≢true}
@@ -14,7 +15,7 @@ use Rattle.biphase.specs.Latest.{Latest}
 use Rattle.biphase.specs.Tolerance.{kept_at_lock, kept_next}
 use Rattle.biphase.specs.Tolerance.{length_of}
 use Rattle.biphase.specs.Chain.{intervals_of, flat, kept_after, kept_of}
-use Rattle.biphase.specs.Laws.{last_at_lock, last_next}
+use Rattle.biphase.specs.ToleranceLemmas.{last_at_lock, last_next}
 use Rattle.cell_tracker.specs.ChainPiece.{IsPiece, cells_between, cells_from, stretch_of_piece}
 use Rattle.cell_tracker.specs.Lock.{IsLock, HasNoLock}
 use Rattle.cell_tracker.specs.PieceEnd.{StandsAtBoundary, StandsInsideOne}
@@ -40,7 +41,8 @@ record IsFront (high at : ℕ) (kept cells : List Cell) : Type 0 where
 front_lies : (low high at : ℕ) (cells : List Cell) → low ≤ at → IsFront high at (cells_between low high at cells) cells
 front_lies low high at [] begins = record { rest = []; are = refl; next = tt }
 front_lies low high at (cell ∷ cells) begins =
-    by_end (cases_lt high (at + length (intervals_of cell))) (front_lies low high (at + length (intervals_of cell)) cells (omega (arith, begins)))
+    by_end (cases_lt high (at + length (intervals_of cell)))
+    (front_lies low high (at + length (intervals_of cell)) cells (omega (arith, begins)))
   where
     end : ℕ
     end = at + length (intervals_of cell)
@@ -48,14 +50,16 @@ front_lies low high at (cell ∷ cells) begins =
     by_end : (high < end) ⊎ (end ≤ high) → IsFront high end (cells_between low high end cells) cells
         → IsFront high at (cells_between low high at (cell ∷ cells)) (cell ∷ cells)
     by_end (inl behind) more =
-        let none = ends_behind low high at cell cells begins behind ∙ none_behind low high end cells (omega arith) (omega (arith, behind)) in
+        let none = ends_behind low high at cell cells begins behind
+        ∙ none_behind low high end cells (omega arith) (omega (arith, behind)) in
         subst (λ (kept : List Cell). IsFront high at kept (cell ∷ cells)) (sym none)
         (record { rest = cell ∷ cells; are = refl; next = omega (arith, behind) })
     by_end (inr fits) more =
         let kept = cells_between low high end cells in
         let long = length-append (intervals_of cell) (flat kept) in
         let same : end + length (flat kept) ≡ at + length (flat (cell ∷ kept)) = omega (arith, long) in
-        subst (λ (all : List Cell). IsFront high at all (cell ∷ cells)) (sym (lies_between low high at cell cells begins fits)) (record {
+        subst (λ (all : List Cell). IsFront high at all (cell ∷ cells))
+        (sym (lies_between low high at cell cells begins fits)) (record {
           rest = more.rest;
           are = ap (λ (cs : List Cell). cell ∷ cs) more.are;
           next = subst (λ (n : ℕ). NextEndsBehind high n more.rest) same more.next;
@@ -93,11 +97,13 @@ record LieInChain (profile : Profile) (cells : List Cell) (cut lock : ℕ) (inte
   cell : Cell
   rest : List Cell
   are : cells ≡ before ++ cell ∷ rest
-  place : length (flat before) + length (intervals_of cell) ≡ cut + lock + length (flat (cells_from cells cut intervals lock))
+  place : length (flat before) + length (intervals_of cell)
+      ≡ cut + lock + length (flat (cells_from cells cut intervals lock))
   last : (kept_of profile (cells_from cells cut intervals lock)).last ≡ length_of cell
   next : NextEndsBehind (cut + length intervals) (cut + lock + length (flat (cells_from cells cut intervals lock))) rest
 
-lie_in_chain : (profile : Profile) (intervals : List ℕ) (cells : List Cell) (cut lock : ℕ) → IsPiece profile intervals cells cut
+lie_in_chain : (profile : Profile) (intervals : List ℕ) (cells : List Cell) (cut lock : ℕ)
+    → IsPiece profile intervals cells cut
     → IsLock profile intervals 0 lock → LieInChain profile cells cut lock intervals
 lie_in_chain profile intervals cells cut lock is at =
     let zero_of = lock_is_zero profile intervals cells cut 0 lock is at in
@@ -107,7 +113,8 @@ lie_in_chain profile intervals cells cut lock is at =
     let high = cut + length intervals in
     let more = cells_between low high (low + 1) zero.after in
     let kept = cells_from cells cut intervals lock in
-    let begins : kept ≡ Zero x ∷ more = cells_at_zero cells zero.before zero.after cut lock x intervals zero.are zero.place zero_of.0 in
+    let begins : kept ≡ Zero x ∷ more =
+    cells_at_zero cells zero.before zero.after cut lock x intervals zero.are zero.place zero_of.0 in
     let front = front_lies low high (low + 1) zero.after (omega arith) in
     let end = ends_with (Zero x) more in
     let all : cells ≡ (zero.before ++ end.front) ++ end.cell ∷ front.rest =
@@ -117,7 +124,8 @@ lie_in_chain profile intervals cells cut lock is at =
     ∙ sym (append_assoc zero.before end.front (end.cell ∷ front.rest)) in
     let halves = ap length (flat_map-append intervals_of zero.before end.front) in
     let sum = length-append (flat zero.before) (flat end.front) in
-    let spelled = ap (λ (cs : List Cell). length (flat cs)) end.are ∙ ap length (flat_map-append intervals_of end.front (end.cell ∷ [])) in
+    let spelled = ap (λ (cs : List Cell). length (flat cs)) end.are
+    ∙ ap length (flat_map-append intervals_of end.front (end.cell ∷ [])) in
     let parts = length-append (flat end.front) (flat (end.cell ∷ [])) in
     let single = length-append (intervals_of end.cell) (flat []) in
     let place = zero.place in
@@ -135,7 +143,8 @@ lie_in_chain profile intervals cells cut lock is at =
 
 -- ---- the stretch of a state is that of the piece
 
-record IsItsStretch (profile : Profile) (intervals : List ℕ) (cells : List Cell) (cut : ℕ) (stretch : Stretch) : Type 0 where
+record IsItsStretch (profile : Profile) (intervals : List ℕ) (cells : List Cell) (cut : ℕ)
+    (stretch : Stretch) : Type 0 where
   lock : ℕ
   at : IsLock profile intervals 0 lock
   is : stretch ≡ stretch_of_piece cells cut intervals lock
@@ -149,17 +158,24 @@ last_is [] s t e = cc
 last_is (r ∷ []) s t e = cc
 last_is (r ∷ q ∷ earlier) s t e = cc
 
-locked : (profile : Profile) (intervals : List ℕ) (cells : List Cell) (cut : ℕ) (s : Stretch) (more : List Stretch) → IsPiece profile intervals cells cut
+locked : (profile : Profile) (intervals : List ℕ) (cells : List Cell) (cut : ℕ) (s : Stretch) (more : List Stretch)
+    → IsPiece profile intervals cells cut
     → AreStretches profile intervals (s ∷ more) → s ∷ more ≡ stretch_of_piece cells cut intervals s.lock ∷ []
 locked profile intervals cells cut s more is are =
     stretches_are_one profile intervals 0 (s ∷ more) (stretch_of_piece cells cut intervals s.lock ∷ []) are
     (kept_is_one_stretch profile intervals cells cut s.lock is are.0)
 
-its_stretch : (profile : Profile) (intervals : List ℕ) (cells : List Cell) (cut : ℕ) (earlier : List Stretch) (stretch : Stretch)
+its_stretch : (profile : Profile) (intervals : List ℕ) (cells : List Cell) (cut : ℕ) (earlier : List Stretch)
+    (stretch : Stretch)
     → IsPiece profile intervals cells cut → AreStretches profile intervals (earlier ++ stretch ∷ [])
     → IsItsStretch profile intervals cells cut stretch
 its_stretch profile intervals cells cut [] stretch is are =
-    record { lock = stretch.lock; at = are.0; is = first_is stretch _ [] (locked profile intervals cells cut stretch [] is are) }
+    record {
+      lock = stretch.lock;
+      at = are.0;
+      is = first_is stretch _ []
+          (locked profile intervals cells cut stretch [] is are);
+    }
 its_stretch profile intervals cells cut (s ∷ earlier) stretch is are = record {
   lock = s.lock;
   at = are.0;
@@ -168,18 +184,24 @@ its_stretch profile intervals cells cut (s ∷ earlier) stretch is are = record 
 
 -- ---- the states
 
-pub no_unequal_pair : (state : HuntingState) (intervals : List ℕ) (stretches : List Stretch) (cells : List Cell) (cut : ℕ)
-    → HuntingStandsFor state intervals stretches → IsPiece state.profile intervals cells cut → HasNoLock state.profile intervals 0
-no_unequal_pair state intervals stretches cells cut stands is = by_stretches stretches stands.stretches_are stands.all_broken
+pub no_unequal_pair : (state : HuntingState) (intervals : List ℕ) (stretches : List Stretch) (cells : List Cell)
+    (cut : ℕ)
+    → HuntingStandsFor state intervals stretches → IsPiece state.profile intervals cells cut
+    → HasNoLock state.profile intervals 0
+no_unequal_pair state intervals stretches cells cut stands is =
+    by_stretches stretches stands.stretches_are stands.all_broken
   where
-    by_stretches : (ss : List Stretch) → AreStretches state.profile intervals ss → All IsBroken ss → HasNoLock state.profile intervals 0
+    by_stretches : (ss : List Stretch) → AreStretches state.profile intervals ss → All IsBroken ss
+        → HasNoLock state.profile intervals 0
     by_stretches [] are broken = are
     by_stretches (s ∷ more) are broken =
-        let open_yet = ap (λ (t : Stretch). t.broken_at) (first_is s _ more (locked state.profile intervals cells cut s more is are)) in
+        let open_yet = ap (λ (t : Stretch). t.broken_at)
+        (first_is s _ more (locked state.profile intervals cells cut s more is are)) in
         let some : IsSome s.broken_at = broken 0 s (omega arith) in
         absurd (false≢true (subst IsSome open_yet some))
 
-pub at_boundary : (state : AtCellState) (intervals : List ℕ) (earlier : List Stretch) (stretch : Stretch) (cells : List Cell) (cut : ℕ)
+pub at_boundary : (state : AtCellState) (intervals : List ℕ) (earlier : List Stretch) (stretch : Stretch)
+    (cells : List Cell) (cut : ℕ)
     → AtCellStandsFor state intervals earlier stretch → IsPiece state.profile intervals cells cut
     → StandsAtBoundary state cells (cut + length intervals)
 at_boundary state intervals earlier stretch cells cut stands is =
@@ -193,11 +215,13 @@ at_boundary state intervals earlier stretch cells cut stands is =
       after = lie.rest;
       are = lie.are;
       ends = omega (arith, place, ends);
-      last = ap (λ (c : Latest). c.last) (sym stands.kept) ∙ ap (λ (s : Stretch). (kept_of state.profile s.cells).last) its.is ∙ lie.last;
+      last = ap (λ (c : Latest). c.last) (sym stands.kept)
+          ∙ ap (λ (s : Stretch). (kept_of state.profile s.cells).last) its.is ∙ lie.last;
     }
 
 -- what stands in the chain behind these cells is the last interval of the piece
-half_there : (profile : Profile) (intervals : List ℕ) (cells : List Cell) (cut half : ℕ) (before rest : List Cell) (cell : Cell)
+half_there : (profile : Profile) (intervals : List ℕ) (cells : List Cell) (cut half : ℕ) (before rest : List Cell)
+    (cell : Cell)
     → IsPiece profile intervals cells cut → last_of intervals ≡ Some half → cells ≡ before ++ cell ∷ rest
     → length (flat before) + length (intervals_of cell) + 1 ≡ cut + length intervals → 0 < length intervals
     → (more : List ℕ) × (flat rest ≡ half ∷ more)
@@ -212,7 +236,8 @@ half_there profile intervals cells cut half before rest cell is last are ends so
     let single = length-append (intervals_of cell) (flat []) in
     let place : length (flat (before ++ cell ∷ [])) ≡ cut + k = omega (arith, parts, sum, single, ends, some) in
     let behind : drop (cut + k) (flat cells) ≡ flat rest =
-    ap (λ (cs : List Cell). drop (cut + k) (flat cs)) split ∙ ap (drop (cut + k)) flats ∙ drop_at (flat (before ++ cell ∷ [])) (flat rest) (cut + k) place in
+    ap (λ (cs : List Cell). drop (cut + k) (flat cs)) split ∙ ap (drop (cut + k)) flats
+    ∙ drop_at (flat (before ++ cell ∷ [])) (flat rest) (cut + k) place in
     let there = piece_from profile intervals cells cut k is (omega (arith, some)) in (
       drop (k + 1) intervals ++ is.part.0,
       sym behind ∙ there ∙ ap (λ (xs : List ℕ). xs ++ is.part.0) (drop_more intervals k 0 (omega (arith, some)))
@@ -223,7 +248,8 @@ half_there profile intervals cells cut half before rest cell is last are ends so
     some_is a b e = cc
 
 -- a cell that ends behind the next place is a one
-is_one : (half high : ℕ) (more : List ℕ) (rest : List Cell) → NextEndsBehind (high + 1) high rest → flat rest ≡ half ∷ more
+is_one : (half high : ℕ) (more : List ℕ) (rest : List Cell) → NextEndsBehind (high + 1) high rest
+    → flat rest ≡ half ∷ more
     → (second : ℕ) × (after : List Cell) × (rest ≡ One half second ∷ after)
 is_one half high more [] next there = cc
 is_one half high more (Zero x ∷ after) next there = absurd (omega (arith, next))
@@ -231,7 +257,8 @@ is_one half high more (One a b ∷ after) next there =
     let first : a ≡ half = cc in
     (b, after, ap (λ (n : ℕ). One n b ∷ after) first)
 
-pub inside_one : (state : MidCellState) (intervals : List ℕ) (earlier : List Stretch) (stretch : Stretch) (cells : List Cell) (cut : ℕ)
+pub inside_one : (state : MidCellState) (intervals : List ℕ) (earlier : List Stretch) (stretch : Stretch)
+    (cells : List Cell) (cut : ℕ)
     → MidCellStandsFor state intervals earlier stretch → IsPiece state.profile intervals cells cut
     → StandsInsideOne state cells (cut + length intervals)
 inside_one state intervals earlier stretch cells cut stands is =
@@ -242,9 +269,11 @@ inside_one state intervals earlier stretch cells cut stands is =
     let place = lie.place in
     let end = cut + its.lock + length (flat (cells_from cells cut intervals its.lock)) in
     let one_more : cut + length intervals ≡ end + 1 = omega (arith, ends) in
-    let there = half_there state.profile intervals cells cut state.half lie.before lie.rest lie.cell is stands.half lie.are
+    let there =
+    half_there state.profile intervals cells cut state.half lie.before lie.rest lie.cell is stands.half lie.are
     (omega (arith, place, ends)) (omega (arith, ends)) in
-    let one = is_one state.half end there.0 lie.rest (subst (λ (n : ℕ). NextEndsBehind n end lie.rest) one_more lie.next) there.1 in
+    let one = is_one state.half end there.0 lie.rest (subst
+    (λ (n : ℕ). NextEndsBehind n end lie.rest) one_more lie.next) there.1 in
     record {
       before = lie.before;
       cell = lie.cell;
@@ -252,5 +281,6 @@ inside_one state intervals earlier stretch cells cut stands is =
       after = one.1;
       are = lie.are ∙ ap (λ (cs : List Cell). lie.before ++ lie.cell ∷ cs) one.2;
       ends = omega (arith, place, ends);
-      last = ap (λ (c : Latest). c.last) (sym stands.kept) ∙ ap (λ (s : Stretch). (kept_of state.profile s.cells).last) its.is ∙ lie.last;
+      last = ap (λ (c : Latest). c.last) (sym stands.kept)
+          ∙ ap (λ (s : Stretch). (kept_of state.profile s.cells).last) its.is ∙ lie.last;
     }

@@ -1,5 +1,6 @@
 -- An interval at the end of a list changes its last stretch alone.
-use Rattle.std.proofs.Common.{◌≡◌, ℕ, ◌+◌, ◌-◌, ◌<◌, ◌≤◌, List, [], ◌∷◌, ◌++◌, length, drop, get_or, Option, Some, None, inl, inr, refl, ap}
+use Rattle.std.proofs.Common.{◌≡◌, ℕ, ◌+◌, ◌-◌, ◌<◌, ◌≤◌, List, [], ◌∷◌, ◌++◌, length, drop, get_or, Option, Some, None}
+use Rattle.std.proofs.Common.{inl, inr, refl, ap}
 use Rattle.std.proofs.Common.{subst, sym, ◌∙◌, arith, append_assoc, length-append, All, IsSome, is_some, MatchOption}
 use Rattle.std.proofs.lemmas.Bool.{false≢true}
 use Rattle.std.proofs.lemmas.List.Elements.{All-nil, All-cons, All-head, All-tail}
@@ -10,7 +11,7 @@ use Rattle.biphase.specs.Latest.{Latest}
 use Rattle.biphase.specs.declared.cell.Cell.TheVariants.{Zero}
 use Rattle.biphase.specs.Tolerance.{IsFirstHalf}
 use Rattle.biphase.specs.Chain.{flat, kept_of}
-use Rattle.biphase.specs.Laws.{first_half, half_or_not}
+use Rattle.biphase.specs.ToleranceLemmas.{first_half, half_or_not}
 use Rattle.cell_tracker.specs.Lock.{HasNoLock, IsLock}
 use Rattle.cell_tracker.specs.Stretch.{Stretch, IsBroken, end_of, IsBreak, IsStretch, AreStretchesFrom, AreStretches}
 use Rattle.cell_tracker.proofs.LocalStretch.{NoneFits, stretch_from, locally}
@@ -22,7 +23,8 @@ place_within intervals k x rest there = omega (arith, ap length there, length-dr
 
 -- what stands from a place on, with an interval at the end
 pub there_push : (intervals : List ℕ) (lock first x : ℕ) (more rest : List ℕ)
-    → drop lock intervals ≡ first ∷ (more ++ rest) → drop lock (intervals ++ x ∷ []) ≡ first ∷ (more ++ (rest ++ x ∷ []))
+    → drop lock intervals ≡ first ∷ (more ++ rest) → drop lock (intervals ++ x ∷ [])
+    ≡ first ∷ (more ++ (rest ++ x ∷ []))
 there_push intervals lock first x more rest there =
     let within : lock < length intervals = place_within intervals lock first (more ++ rest) there in
     drop-append-le lock intervals (x ∷ []) (omega arith) ∙ ap (λ xs. xs ++ x ∷ []) there
@@ -40,7 +42,8 @@ rest_stays profile c after (h ∷ y ∷ rest) place broken x none is some = (non
 
 -- a stretch that broke stays
 pub stretch_stays : (profile : Profile) (intervals : List ℕ) (stretch : Stretch) (broken x : ℕ)
-    → IsStretch profile intervals stretch → stretch.broken_at ≡ Some broken → IsStretch profile (intervals ++ x ∷ []) stretch
+    → IsStretch profile intervals stretch → stretch.broken_at ≡ Some broken
+    → IsStretch profile (intervals ++ x ∷ []) stretch
 stretch_stays profile intervals stretch broken x is some =
     let local = locally profile intervals stretch is in
     let first = get_or intervals stretch.lock 0 in

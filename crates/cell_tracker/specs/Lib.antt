@@ -2,6 +2,7 @@ pub use Rattle.biphase.specs.Chain
 pub use Rattle.biphase.specs.Pair
 pub use Rattle.biphase.specs.Profile
 pub mod Answer
+pub mod EvenRun
 pub mod FoundAgain
 pub mod Growing
 pub mod ChainPiece

@@ -1,6 +1,6 @@
 //! The state at the end of a cell. Next: `biphase/src/tolerance.rt`, and after a first half `mid_cell`.
 ghost use Rattle.std.specs.Prelude.{◌≡◌, ℕ, ◌≤◌, List};
-ghost use Rattle.biphase.specs.declared.cell.TheConstants.{MAX_INTERVAL};
+ghost use Rattle.limits.specs.declared.recording.TheConstants.{MAX_INTERVAL};
 ghost use Rattle.biphase.specs.Tolerance.{IsFirstHalf};
 ghost use Rattle.biphase.specs.Chain.{IsNextZero};
 ghost use Rattle.biphase.specs.Tolerance.{kept_by, kept_next, Fits};
@@ -12,7 +12,8 @@ ghost use Rattle.cell_tracker.specs.declared.at_cell.FromAtCell.TheVariants.{Zer
 
 use crate::hunting::Hunting;
 use crate::mid_cell::MidCell;
-use biphase::{LatestFour, MAX_INTERVAL, Profile, is_zero, may_begin_one};
+use biphase::{LatestFour, Profile, is_zero, may_begin_one};
+use limits::MAX_INTERVAL;
 use std::marker::Model;
 
 /// A stretch is open and ends with the last interval. Of the cells so far it holds the number that its

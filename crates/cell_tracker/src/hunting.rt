@@ -1,7 +1,7 @@
 //! The state between stretches. Next: `biphase/src/pair.rt`, and at a lock `at_cell` or `mid_cell`.
 ghost use Rattle.biphase.specs.Tolerance.{IsFirstHalf};
 ghost use Rattle.std.specs.Prelude.{◌≡◌, ℕ, ◌≤◌, ◌<◌, List, [], IfSome};
-ghost use Rattle.biphase.specs.declared.cell.TheConstants.{MAX_INTERVAL};
+ghost use Rattle.limits.specs.declared.recording.TheConstants.{MAX_INTERVAL};
 ghost use Rattle.biphase.specs.Pair.{AreUnequal};
 ghost use Rattle.biphase.specs.Tolerance.{kept_at_lock};
 ghost use Rattle.cell_tracker.specs.Answer.{KeepsOfHunting};
@@ -12,7 +12,8 @@ ghost use Rattle.cell_tracker.specs.declared.hunting.FromHunting.TheVariants.{Hu
 
 use crate::at_cell::AtCell;
 use crate::mid_cell::MidCell;
-use biphase::{LatestFour, MAX_INTERVAL, PairKind, Profile, kind, may_begin_one};
+use biphase::{LatestFour, PairKind, Profile, kind, may_begin_one};
+use limits::MAX_INTERVAL;
 use std::marker::Model;
 
 /// No stretch is open: the tracker looks for two unequal intervals.
@@ -24,7 +25,7 @@ pub struct Hunting {
 
 impl Model for Hunting {
     ghost use Rattle.std.specs.Prelude.{◌≤◌, IfSome};
-    ghost use Rattle.biphase.specs.declared.cell.TheConstants.{MAX_INTERVAL};
+    ghost use Rattle.limits.specs.declared.recording.TheConstants.{MAX_INTERVAL};
     ghost use Rattle.cell_tracker.specs.State.{HuntingState};
 
     ghost Value = { HuntingState };

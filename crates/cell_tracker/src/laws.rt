@@ -5,6 +5,7 @@ ghost use Rattle.biphase.specs.declared.profile.Profile.{Profile};
 ghost use Rattle.biphase.specs.declared.cell.Cell.TheVariants.{Zero, One};
 ghost use Rattle.biphase.specs.declared.profile.Profile.TheVariants.{Normal, Rough};
 ghost use Rattle.biphase.specs.Tolerance.{LooksAtLast};
+ghost use Rattle.cell_tracker.specs.EvenRun.{IsEvenRun};
 ghost use Rattle.cell_tracker.specs.FoundAgain.{IsSecondLock, AreFrom};
 ghost use Rattle.cell_tracker.specs.Growing.{GrowTo};
 ghost use Rattle.cell_tracker.specs.ChainPiece.{IsPiece, cells_from, stretch_of_piece};
@@ -81,7 +82,38 @@ pub fn a_recording_is_found_again_behind_anything()
         → AreFrom (length before + second) (cells_from cells cut kept second) stretches }
 {}
 
-/// Mirror, for the same tolerances: where a recording and the same intervals in the other order of
+/// Resynchronisation under the rough tolerance: whatever stands before a recording within it, which has
+/// in it a zero, nine neighbouring ones or more that are even, and a zero behind them, from the greater
+/// interval of the next unequal pair behind this zero on the cells of the stretches are the recording's
+/// own, and nothing breaks behind it. A sync word has twelve such ones.
+pub fn a_recording_is_found_again_behind_even_ones()
+    ensures { (before kept : List ℕ) (cells : List Cell) (cut end second : ℕ) (stretches : List Stretch)
+        → IsPiece Rough kept cells cut → IsEvenRun kept cells cut end → IsLock Rough kept end second
+        → AreStretches Rough (before ++ kept) stretches
+        → AreFrom (length before + second) (cells_from cells cut kept second) stretches }
+{}
+
+/// A recording with such a run; and one without, whose second unequal pair is not enough. Behind zeros of
+/// 36 ticks a zero, a one and a zero of 24 are two ones of 36, so the stretch goes on in their phase.
+pub fn rough_recordings_are_found_behind_even_ones_alone()
+    ensures run { IsEvenRun
+        (32 ∷ 16 ∷ 16 ∷ 16 ∷ 16 ∷ 16 ∷ 16 ∷ 16 ∷ 16 ∷ 16 ∷ 16 ∷ 16 ∷ 16 ∷ 16 ∷ 16 ∷ 16 ∷ 16 ∷ 16 ∷ 16 ∷ 32 ∷ [])
+        (Zero 32 ∷ One 16 16 ∷ One 16 16 ∷ One 16 16 ∷ One 16 16 ∷ One 16 16 ∷ One 16 16 ∷ One 16 16 ∷ One 16 16
+        ∷ One 16 16 ∷ Zero 32 ∷ []) 0 19 }
+    ensures piece { IsPiece Rough (24 ∷ 12 ∷ 12 ∷ 24 ∷ 24 ∷ 12 ∷ 12 ∷ 24 ∷ [])
+        (Zero 24 ∷ One 12 12 ∷ Zero 24 ∷ Zero 24 ∷ One 12 12 ∷ Zero 24 ∷ []) 0 }
+    ensures second { IsSecondLock Rough (24 ∷ 12 ∷ 12 ∷ 24 ∷ 24 ∷ 12 ∷ 12 ∷ 24 ∷ []) 3 }
+    ensures other_phase { AreStretches Rough
+        (18 ∷ 36 ∷ 36 ∷ 36 ∷ 36 ∷ 24 ∷ 12 ∷ 12 ∷ 24 ∷ 24 ∷ 12 ∷ 12 ∷ 24 ∷ [])
+        (record {
+          lock = 1;
+          cells = Zero 36 ∷ Zero 36 ∷ Zero 36 ∷ Zero 36 ∷ One 24 12 ∷ One 12 24 ∷ One 24 12
+              ∷ One 12 24 ∷ [];
+          broken_at = None;
+        } ∷ []) }
+{}
+
+/// Mirror, for the tolerances that look at the last cell: where a recording and the same intervals in the other order of
 /// time are both within the tolerance, their cells are the same between the greater intervals of the
 /// first and of the last unequal pair, each in its order. The lock of the mirror is the number of intervals behind them.
 pub fn a_mirrored_recording_has_the_mirrored_cells()

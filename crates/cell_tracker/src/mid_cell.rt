@@ -1,6 +1,6 @@
 //! The state inside a one. Next: `biphase/src/tolerance.rt`, and after a one `at_cell`.
 ghost use Rattle.std.specs.Prelude.{◌≡◌, ℕ, ◌≤◌, ◌+◌, List};
-ghost use Rattle.biphase.specs.declared.cell.TheConstants.{MAX_INTERVAL};
+ghost use Rattle.limits.specs.declared.recording.TheConstants.{MAX_INTERVAL};
 ghost use Rattle.biphase.specs.Chain.{IsNextOne};
 ghost use Rattle.biphase.specs.Tolerance.{kept_by, kept_next, Fits};
 ghost use Rattle.cell_tracker.specs.Answer.{KeepsOfMidCell};
@@ -11,7 +11,8 @@ ghost use Rattle.cell_tracker.specs.declared.mid_cell.FromMidCell.TheVariants.{O
 
 use crate::at_cell::AtCell;
 use crate::hunting::Hunting;
-use biphase::{LatestFour, MAX_INTERVAL, Profile, is_one};
+use biphase::{LatestFour, Profile, is_one};
+use limits::MAX_INTERVAL;
 use std::marker::Model;
 
 /// A stretch is open and ends one interval before the last, which may be the first half of a one. Of the
@@ -25,7 +26,7 @@ pub struct MidCell {
 
 impl Model for MidCell {
     ghost use Rattle.std.specs.Prelude.{◌≤◌};
-    ghost use Rattle.biphase.specs.declared.cell.TheConstants.{MAX_INTERVAL};
+    ghost use Rattle.limits.specs.declared.recording.TheConstants.{MAX_INTERVAL};
     ghost use Rattle.cell_tracker.specs.State.{MidCellHeld};
 
     ghost Value = { MidCellHeld };

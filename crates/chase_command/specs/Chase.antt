@@ -46,6 +46,10 @@ ChaseEndsSeen _ ends = ends ≡ 0
 abbrev pub ChaseSeesOneEnd : Status → ℕ → ℕ → Type 0
 ChaseSeesOneEnd status before now = before ≡ 0 → ChaseEndsSeen status now
 
+-- nothing was pulled of the source, or the end of its input was seen: where memory is wanted
+abbrev pub IsUnreadOrWhole : {S : Type 0} → (S → ℕ) → S → S → Type 0
+IsUnreadOrWhole ends before after = (after ≡ before) ⊎ (ends before ≡ 0 → ends after ≡ 1)
+
 -- ---- a whole input
 
 -- the one status of a chase on an input where no call fails, want of memory aside

@@ -9,7 +9,7 @@ ghost use Rattle.chase_script.specs.declared.row.ScriptRow.{ScriptRow};
 ghost use Rattle.chase_script.specs.Answer.{AreRowsFor};
 ghost use Rattle.chase_script.specs.Lock.{KeepsItsLock};
 ghost use Rattle.chase_script.specs.Script.{script_in};
-ghost use Rattle.chase_command.specs.Chase.{ChaseSeesOneEnd, IsChaseAnswer};
+ghost use Rattle.chase_command.specs.Chase.{ChaseSeesOneEnd, IsChaseAnswer, IsUnreadOrWhole};
 ghost use Rattle.tc_command.specs.Causes.{SourceCause, OutCause};
 ghost use Rattle.chase_command.specs.Chase.{chase_status_on};
 ghost use Rattle.tc_command.specs.Exchange.{Exchange, IsPulled, IsNoted};
@@ -44,9 +44,10 @@ pub fn chase<S: Source, K: Sink, N: Sink>(
         × IsChaseAnswer label.now result e }
     ensures no_note { result ≡ Status.Done → notes.new ≡ notes.old }
 
-    // Want of memory writes nothing.
+    // Want of memory writes nothing, and comes before the first pull, or behind the end of the script.
     ensures no_usage { result ≡ Status.Usage → ⊥ }
     ensures no_memory { result ≡ Status.Memory → out.new ≡ out.old }
+    ensures unread { result ≡ Status.Memory → IsUnreadOrWhole S.ends source.old source.new }
 
     // A read fault and a write fault come only where a count of faults rose, and the end of the input is seen once.
     ensures source { SourceCause result (S.faults source.old) (S.faults source.new) }
@@ -86,6 +87,7 @@ fn trace_script<S: Source, K: Sink>(
     ensures once { ChaseSeesOneEnd (chase_ended result) (S.ends source.old) (S.ends source.new) }
     ensures out { OutCause (chase_ended result) (K.faults out.old) (K.faults out.new) }
     ensures no_memory { result ≡ Err ChaseStop.Memory → out.new ≡ out.old }
+    ensures unread { result ≡ Err ChaseStop.Memory → IsUnreadOrWhole S.ends source.old source.new }
 {
     let script = gather(alloc, source)?;
     let rows = judge(alloc, &script, label.count())?;
@@ -117,6 +119,7 @@ fn gather<S: Source>(alloc: Global, source: &mut S) -> Result<Vec<u8>, ChaseStop
         × IsGatherStop stop pulled) }
     ensures source { SourceCause (chase_ended result) (S.faults source.old) (S.faults source.new) }
     ensures once { ChaseSeesOneEnd (chase_ended result) (S.ends source.old) (S.ends source.new) }
+    ensures unread { result ≡ Err ChaseStop.Memory → source.new ≡ source.old }
 {
     let Ok(mut script) = Vec::with_capacity(alloc, MAX_SCRIPT + 1) else {
         return Err(ChaseStop::Memory);

@@ -1,5 +1,5 @@
 -- Traces worked by hand, as theorems on the definition.
-use Rattle.std.proofs.Common.{◌≡◌, ℕ, ℤ, pos, neg_ℤ, Option, Some, None, [], ◌∷◌, refl}
+use Rattle.std.proofs.Common.{◌≡◌, ℕ, zero, suc, ℤ, pos, neg_ℤ, Option, Some, None, List, [], ◌∷◌, refl, subst, arith}
 use Rattle.tc_address.specs.declared.count.Count.{Count}
 use Rattle.tc_address.specs.declared.count.Count.TheVariants.{C25, Drop30}
 use Rattle.tc_address.specs.declared.direction.Direction.{Direction}
@@ -11,7 +11,7 @@ use Rattle.chase_core.specs.declared.report.State.{State}
 use Rattle.chase_core.specs.declared.report.State.TheVariants.{Waiting, Locating, Pulling, Locked}
 use Rattle.chase_core.specs.declared.report.Loss.{Loss}
 use Rattle.chase_core.specs.declared.report.Loss.TheVariants.{NoCode, Window}
-use Rattle.chase_core.specs.Trace.{Loop, Row, Traced, trace}
+use Rattle.chase_core.specs.Trace.{GoesOn, IsSteadyFromTo, Loop, Row, Traced, trace}
 
 begun : Count → ℕ → Loop
 begun count position = record { chase = record { count = count; mode = modes.Waiting }; position = position }
@@ -97,3 +97,33 @@ located_then_played : trace (begun C25 0) (bare (Some (Locate 100)) ∷ frame (S
     line Locating (pos 8_000) (pos 2_560) None 2_560 ∷ line Locked (pos 0) (pos 80) None 2_640 ∷ []
 unfolding begun frame bare line trace
 located_then_played = refl
+
+-- ---- a master that moves steadily over midnight, and a transport that slips by its bound
+
+over_the_day : List Row
+over_the_day =
+    frame (Some Play) Forward 2_159_999 (pos 3) ∷ frame None Forward 0 (neg_ℤ (pos 8)) ∷ frame None Forward 1 (pos 9) ∷ []
+
+a_step : (row next a b : Row) → Some row ≡ Some a → Some next ≡ Some b → GoesOn C25 row next → GoesOn C25 a b
+a_step row next a b one two goes =
+    let first : row ≡ a = cc in
+    let second : next ≡ b = cc in
+    subst (λ (r : Row). GoesOn C25 r b) first (subst (λ (r : Row). GoesOn C25 row r) second goes)
+
+runs_steadily : IsSteadyFromTo C25 over_the_day 0 2
+unfolding over_the_day frame
+runs_steadily zero a b from before is_a is_b = a_step _ _ a b is_a is_b (record {
+  no_command = refl;
+  master = record { number = 2_159_999; direction = Forward };
+  reads = refl;
+  steady = refl;
+  slip = omega arith;
+})
+runs_steadily (suc zero) a b from before is_a is_b = a_step _ _ a b is_a is_b (record {
+  no_command = refl;
+  master = record { number = 0; direction = Forward };
+  reads = refl;
+  steady = refl;
+  slip = omega arith;
+})
+runs_steadily (suc (suc i)) a b from before is_a is_b = absurd (omega (arith, before))

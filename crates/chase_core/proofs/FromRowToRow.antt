@@ -2,6 +2,7 @@
 -- and rows after it change no line.
 use Rattle.std.proofs.Common.{◌≡◌, ℕ, suc, zero, ◌+◌, ◌-◌, ◌*◌, ◌<◌, ◌≤◌, refl, sym, ap, ◌∙◌, subst, Option, Some, List, [], ◌∷◌, take, length, arith}
 use Rattle.std.specs.Prelude.{unsigned_abs, slice_get, IfSome}
+use Rattle.std.proofs.lemmas.Option.{same_Some}
 use Rattle.tc_address.specs.declared.count.Count.{Count}
 use Rattle.tc_address.specs.Numbering.{day_length}
 use Rattle.transport_model.specs.Move.{day_of}
@@ -61,10 +62,6 @@ held_from_row (suc first) loop (r ∷ rows) (suc last) (suc i) at_first line p q
     (steady_rest loop.chase.count r rows first last s) e locked (omega arith) (omega arith) g in
     subst (λ (k : ℕ). SaysLocked line (lock_bound k)) (omega arith) here
 
--- a row that one leaves Locked is Locked too where it reads on, and the transport slipped by 24 subframes at most
-first_row : (a b : Row) → Some a ≡ Some b → a ≡ b
-first_row a b e = cc
-
 pub held_over_a_slip : (i : ℕ) (loop : Loop) (rows : List Row) (row next : Row) (leaves line : Traced) → loop.position < day_of loop.chase.count →
     AreRowsOf loop.chase.count rows → slice_get rows i ≡ Some row → slice_get rows (suc i) ≡ Some next → ReadsOn loop.chase.count row next →
     unsigned_abs row.slip ≤ 24 → slice_get (trace loop rows) i ≡ Some leaves → leaves.report.state ≡ states.Locked →
@@ -76,8 +73,8 @@ held_over_a_slip zero loop (r ∷ x ∷ rows) row next leaves line p q here late
     let count = loop.chase.count in
     let first : traced loop r ≡ leaves = first_line _ leaves e in
     let holds = holds_lock loop r p (q 0 r refl) (subst (λ (y : Traced). y.report.state ≡ states.Locked) (sym first) locked) in
-    let is_row : row ≡ r = sym (first_row r row here) in
-    let is_next : next ≡ x = sym (first_row x next later) in
+    let is_row : row ≡ r = sym (same_Some r row here) in
+    let is_next : next ≡ x = sym (same_Some x next later) in
     let on : ReadsOn count r x = subst (λ (y : Row). ReadsOn count r y) is_next (subst (λ (y : Row). ReadsOn count y next) is_row reads) in
     let small : unsigned_abs r.slip ≤ 24 = subst (λ (y : Row). unsigned_abs y.slip ≤ 24) is_row slip in
     let says = says_locked (after_row loop r) x (16 + unsigned_abs r.slip) (next_wide loop r x small holds on) in

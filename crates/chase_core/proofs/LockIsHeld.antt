@@ -4,6 +4,7 @@ use Rattle.std.proofs.Common.{◌≡◌, ℕ, suc, zero, ◌+◌, ◌<◌, ◌�
 use Rattle.std.specs.Prelude.{unsigned_abs, slice_get, IfSome}
 use Rattle.std.proofs.lemmas.Int.{ints, clamps}
 use Rattle.std.proofs.lemmas.Grind.{common_steps}
+use Rattle.chase_core.specs.StepLemmas.{state_locked}
 use Rattle.tc_address.specs.declared.count.Count.{Count}
 use Rattle.tc_address.specs.declared.direction.Direction.{Direction}
 use Rattle.tc_address.specs.Numbering.{day_length}
@@ -110,12 +111,6 @@ hold_next loop r next bound left small slip rest h g =
 -- a row that goes on reads on
 reads_on : (count : Count) (r next : Row) → GoesOn count r next → ReadsOn count r next
 reads_on count r next g = record { no_command = g.no_command; master = g.master; reads = g.reads; steady = g.steady }
-
-state_locked : (mode : Mode) → state_of mode ≡ states.Locked → mode ≡ Locked
-state_locked Waiting e = absurd (cc)
-state_locked (Locating n) e = absurd (cc)
-state_locked Pulling e = absurd (cc)
-state_locked Locked e = refl
 
 -- a row that ends Locked had a master within half a frame
 holds_in : (loop : Loop) (r : Row) (mode : Mode) (master : Option Master) → outcome_in loop r ≡ outcome_of loop.chase.count mode master loop.position →

@@ -4,6 +4,7 @@ use Rattle.std.proofs.Common.{subst, Option, Some, None, List, [], ◌∷◌, ar
 use Rattle.std.specs.Prelude.{unsigned_abs, slice_get, IfSome}
 use Rattle.std.proofs.lemmas.Int.{ints, clamps}
 use Rattle.std.proofs.lemmas.Grind.{common_steps}
+use Rattle.chase_core.specs.StepLemmas.{pulled_quiet}
 use Rattle.tc_address.specs.declared.count.Count.{Count}
 use Rattle.tc_address.specs.declared.direction.Direction.{Direction}
 use Rattle.tc_address.specs.Numbering.{day_length}
@@ -104,10 +105,6 @@ locks loop r bound h near = record {
   near = near;
   answer = h.answer ∙ pulled_near h.master.direction _ near;
 }
-
--- a row that is worked Pulling loses nothing
-pulled_quiet : (direction : Direction) (e : ℤ) → (pulled direction e).loss ≡ None
-pulled_quiet direction e = grind (arith, common_steps)
 
 -- what is known of a line so many rows after one that is worked Pulling
 pub record SaysPulled (n i : ℕ) (line : Traced) : Type 0 where

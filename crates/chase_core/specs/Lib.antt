@@ -5,3 +5,4 @@ pub use Rattle.transport_model.specs.Move
 pub mod NextRow
 pub mod Step
 pub mod Trace
+pub mod StepLemmas

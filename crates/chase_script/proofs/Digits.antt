@@ -1,5 +1,6 @@
 -- What so many digits write at most.
-use Rattle.std.proofs.Common.{◌≡◌, ℕ, zero, suc, ◌<◌, ◌≤◌, ◌+◌, ◌-◌, ◌*◌, ◌^◌, true, List, [], ◌∷◌, length, take, get_or, refl, arith}
+use Rattle.std.proofs.Common.{◌≡◌, ℕ, zero, suc, ◌<◌, ◌≤◌, ◌+◌, ◌-◌, ◌*◌, ◌^◌, true, List, [], ◌∷◌, length, take}
+use Rattle.std.proofs.Common.{get_or, refl, arith}
 use Rattle.std.specs.Char.{is_ascii_digit}
 use Rattle.std.specs.Int.{IsInRange}
 use Rattle.std.specs.List.{list_all}
@@ -8,10 +9,12 @@ use Rattle.std.proofs.Math.Nat.{pow-le-pow_right}
 use Rattle.std.proofs.lemmas.Int.Digits.{digits_value-lt, digits_value_more}
 use Rattle.std.proofs.lemmas.Str.{digit_value_digit}
 use Rattle.std.proofs.lemmas.Str.Parse.{digits_value-take-le}
-use Rattle.line_text.specs.KeptDigits.{first_true, second_true, digit_in_range, all_digits}
+use Rattle.std.proofs.lemmas.Bool.{and_parts}
+use Rattle.lemmas.specs.Digits.{digit_in_range, all_digits}
 
 -- seven digits write no more than this
-pub short_value : (ds : List ℕ) (i : ℕ) → list_all is_ascii_digit ds ≡ true → length ds ≤ 7 → digits_value 10 (take i ds) < 10_000_000
+pub short_value : (ds : List ℕ) (i : ℕ) → list_all is_ascii_digit ds ≡ true → length ds ≤ 7
+    → digits_value 10 (take i ds) < 10_000_000
 short_value ds i all few =
     let least = digits_value-take-le 10 ds i (omega arith) in
     let below = digits_value-lt 10 ds (all_digits ds all) in
@@ -19,10 +22,11 @@ short_value ds i all few =
     omega (arith, least, below, most)
 
 -- the digit at a place
-pub digit_at : (ds : List ℕ) (i : ℕ) → list_all is_ascii_digit ds ≡ true → i < length ds → IsInRange 48 57 (get_or ds i 0)
+pub digit_at : (ds : List ℕ) (i : ℕ) → list_all is_ascii_digit ds ≡ true → i < length ds
+    → IsInRange 48 57 (get_or ds i 0)
 digit_at [] i all within = absurd (omega (arith, within))
-digit_at (c ∷ ds) zero all within = digit_in_range c (first_true (is_ascii_digit c) _ all)
-digit_at (c ∷ ds) (suc i) all within = digit_at ds i (second_true (is_ascii_digit c) _ all) (omega (arith, within))
+digit_at (c ∷ ds) zero all within = digit_in_range c (and_parts (is_ascii_digit c) _ all).0
+digit_at (c ∷ ds) (suc i) all within = digit_at ds i (and_parts (is_ascii_digit c) _ all).1 (omega (arith, within))
 
 -- one digit more
 pub a_digit_more : (ds : List ℕ) (i : ℕ) → list_all is_ascii_digit ds ≡ true → i < length ds

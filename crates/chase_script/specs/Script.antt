@@ -9,10 +9,10 @@ use Rattle.std.specs.List.{list_all}
 use Rattle.std.specs.Option.{ok_or, option_map}
 use Rattle.std.specs.Str.{bytes_eq}
 use Rattle.std.specs.Str.Parse.{digits_value}
+use Rattle.line_text.specs.Line.{direction_named}
 use Rattle.csv.specs.Reading.{default_config, records, strip_bom}
 use Rattle.tc_address.specs.declared.count.Count.{Count}
 use Rattle.tc_address.specs.declared.direction.Direction.{Direction}
-use Rattle.tc_address.specs.declared.direction.Direction.TheVariants as directions
 use Rattle.tc_address.specs.Label.{Address}
 use Rattle.tc_address.specs.Numbering.{number_of, day_length}
 use Rattle.tc_address.specs.Spelling.{label_in}
@@ -53,10 +53,7 @@ command_in count word target =
 
 -- column 4: `forward` or `backward`
 abbrev pub direction_in : Field → Result Direction column.Column
-direction_in word =
-    if bytes_eq word (codes "forward") then Ok directions.Forward
-    else if bytes_eq word (codes "backward") then Ok directions.Backward
-    else Err columns.Direction
+direction_in word = ok_or (direction_named word) columns.Direction
 
 -- columns 3 and 4: a label of the count and a direction, or neither
 abbrev pub master_in : Count → Field → Field → Result (Option master.Master) column.Column

@@ -4,7 +4,7 @@ ghost use Rattle.csv.specs.Records.{field_at, fields_of};
 ghost use Rattle.tc_address.specs.Numbering.{day_length};
 ghost use Rattle.tc_address.specs.Spelling.{label_in};
 ghost use Rattle.chase_core.specs.Step.{IsCommandOf};
-ghost use Rattle.chase_script.specs.Script.{row_in, command_in, without_target, direction_in};
+ghost use Rattle.chase_script.specs.Script.{row_in, command_in, without_target};
 ghost use Rattle.chase_script.specs.KeptRow.{row_of_fields, to_target};
 ghost use Rattle.chase_script.specs.Script.{master_in};
 ghost use Rattle.chase_script.specs.KeptRow.{no_master};
@@ -15,7 +15,8 @@ use crate::column::Column;
 use crate::slip::slip_in;
 use chase_core::{Command, Master};
 use csv::ByteRecord;
-use tc_address::{Count, Direction, Label, number, read_text};
+use line_text::direction_named;
+use tc_address::{Count, Label, number, read_text};
 
 /// What comes in one frame.
 #[derive(Clone, Copy, PartialEq, Eq)]
@@ -153,22 +154,10 @@ fn master_at(count: Count, label: &[u8], direction: &[u8]) -> Result<Option<Mast
 {
     match label_in(count, label) {
         Some(label) => {
-            let direction = direction_in(direction)?;
+            let direction = direction_named(direction).ok_or(Column::Direction)?;
             let number = number(&label);
             Ok(Some(Master { number, direction }))
         }
         None => Err(Column::Master),
-    }
-}
-
-fn direction_in(word: &[u8]) -> Result<Direction, Column>
-    ensures { result ≡ direction_in word.now }
-{
-    if word == b"forward".as_slice() {
-        Ok(Direction::Forward)
-    } else if word == b"backward".as_slice() {
-        Ok(Direction::Backward)
-    } else {
-        Err(Column::Direction)
     }
 }

@@ -7,6 +7,7 @@ ghost use Rattle.chase_script.specs.Script.{length_in, slip_in};
 ghost use Rattle.chase_script.specs.KeptRow.{is_length};
 
 use crate::column::Column;
+use line_text::are_digits;
 
 /// A number of subframes: nothing for 0, else one to seven digits up to a million, behind a `-` where
 /// the transport falls back.
@@ -48,12 +49,6 @@ fn is_length(digits: &[u8]) -> bool
     ensures { result ≡ is_length digits.now }
 {
     !digits.is_empty() && digits.len() <= 7 && are_digits(digits)
-}
-
-fn are_digits(bytes: &[u8]) -> bool
-    ensures { result ≡ list_all is_ascii_digit bytes.now }
-{
-    bytes.iter().all(|byte| byte.is_ascii_digit())
 }
 
 // The number that digits write.

@@ -1,11 +1,15 @@
--- Only a locked chase loses its lock: of no code where the row has no master, and else out of the window. One that the step before left locked keeps
--- it where the next row reads on and the transport slipped by 24 subframes at most: so a loss of the window needs a row that does not.
-use Rattle.std.proofs.Common.{◌≡◌, ◌≢◌, ℕ, zero, suc, ◌+◌, ◌-◌, ◌≤◌, ◌⊎◌, inl, inr, Bool, true, false, nat_le, ℤ, List, [], ◌∷◌}
+-- Only a locked chase loses its lock: of no code where the row has no master, and else out of the window. One that the
+-- step before left locked keeps it where the next row reads on and the transport slipped by 24 subframes at most: so a
+-- loss of the window needs a row that does not.
+use Rattle.std.proofs.Common.{◌≡◌, ◌≢◌, ℕ, zero, suc, ◌+◌, ◌-◌, ◌≤◌, ◌⊎◌, inl, inr, Bool, true, false, nat_le, ℤ, List}
+use Rattle.std.proofs.Common.{[], ◌∷◌}
 use Rattle.std.proofs.Common.{Option, Some, None, slice_get, refl, sym, ◌∙◌, ap, subst, arith}
 use Rattle.std.specs.Prelude.{unsigned_abs, if◌then◌else◌}
 use Rattle.std.proofs.lemmas.Bool.Decides.{nat_tests}
 use Rattle.std.proofs.lemmas.Grind.{common_steps}
 use Rattle.std.proofs.lemmas.Int.{ints}
+use Rattle.std.proofs.lemmas.Option.{same_Some}
+use Rattle.chase_core.specs.StepLemmas.{state_locked, pulled_quiet}
 use Rattle.tc_address.specs.declared.count.Count.{Count}
 use Rattle.tc_address.specs.declared.direction.Direction.{Direction}
 use Rattle.tc_address.specs.Label.{Address, IsLabel}
@@ -19,15 +23,18 @@ use Rattle.chase_core.specs.declared.report.Loss.{Loss}
 use Rattle.chase_core.specs.declared.report.Loss.TheVariants.{NoCode, Window}
 use Rattle.chase_core.specs.declared.report.State.TheVariants as states
 use Rattle.chase_core.specs.Step.{after_command, error_to, kept, located, outcome_of, pulled, state_of}
-use Rattle.chase_core.specs.Trace.{AreRowsOf, GoesOn, IsOnTheDay, IsSteadyFromTo, Loop, Row, Traced, after_row, after_rows, lock_bound, loop_at}
+use Rattle.chase_core.specs.Trace.{AreRowsOf, GoesOn, IsOnTheDay, IsSteadyFromTo, Loop, Row, Traced, after_row}
+use Rattle.chase_core.specs.Trace.{after_rows, lock_bound, loop_at}
 use Rattle.chase_core.specs.Trace.{starts_at, trace, traced}
 use Rattle.flywheel.specs.declared.frame.Frame.{Frame}
 use Rattle.flywheel.specs.declared.frame.Frame.TheVariants.{Heard, Invented, Gone}
 use Rattle.flywheel.specs.Frames.{is_same_count}
 use Rattle.flywheel.specs.GoOn.{GoOn, goes_on}
 use Rattle.code_chase.specs.CodeTrace.{code_trace, master_of, row_of, rows_of, slip_of}
-use Rattle.code_chase.specs.Lock.{AreWhole, BringsNoCode, HasCauseOfLoss, HasOtherCount, HaveLabels, IsApart, IsCauseOf, SlippedFar}
-use Rattle.code_chase.proofs.RowsOfFrames.{DayLaws, HasCount, are_rows, command_at, follows_at, other_count, row_at, row_reads_on, same_count}
+use Rattle.code_chase.specs.Lock.{AreWhole, BringsNoCode, HasCauseOfLoss, HasOtherCount, HaveLabels, IsApart, IsCauseOf}
+use Rattle.code_chase.specs.Lock.{SlippedFar}
+use Rattle.code_chase.proofs.RowsOfFrames.{DayLaws, HasCount, are_rows, command_at, follows_at, other_count, row_at}
+use Rattle.code_chase.proofs.RowsOfFrames.{row_reads_on, same_count}
 
 -- a locked chase stays locked: the law of the closed loop
 abbrev pub StaysLocked : Type 0
@@ -35,15 +42,19 @@ StaysLocked = (loop : Loop) (rows : List Row) (first last i : ℕ) (leaves line 
     → IsOnTheDay loop → AreRowsOf loop.chase.count rows → IsSteadyFromTo loop.chase.count rows first last
     → slice_get (trace loop rows) first ≡ Some leaves → leaves.report.state ≡ states.Locked
     → first ≤ i → i ≤ last → slice_get (trace loop rows) i ≡ Some line
-    → (line.report.state ≡ states.Locked) × (line.report.loss ≡ None) × (unsigned_abs line.report.error ≤ lock_bound (i - first))
+    → (line.report.state ≡ states.Locked) × (line.report.loss ≡ None)
+    × (unsigned_abs line.report.error ≤ lock_bound (i - first))
 
 -- and so it does over a slip that is less than the window
 abbrev pub HoldsOverASlip : Type 0
 HoldsOverASlip = (loop : Loop) (rows : List Row) (i : ℕ) (row next : Row) (leaves line : Traced)
-    → IsOnTheDay loop → AreRowsOf loop.chase.count rows → slice_get rows i ≡ Some row → slice_get rows (suc i) ≡ Some next
+    → IsOnTheDay loop → AreRowsOf loop.chase.count rows → slice_get rows i ≡ Some row
+    → slice_get rows (suc i) ≡ Some next
     → ReadsOn loop.chase.count row next → unsigned_abs row.slip ≤ 24
-    → slice_get (trace loop rows) i ≡ Some leaves → leaves.report.state ≡ states.Locked → slice_get (trace loop rows) (suc i) ≡ Some line
-    → (line.report.state ≡ states.Locked) × (line.report.loss ≡ None) × (unsigned_abs line.report.error ≤ 16 + unsigned_abs row.slip)
+    → slice_get (trace loop rows) i ≡ Some leaves → leaves.report.state ≡ states.Locked
+    → slice_get (trace loop rows) (suc i) ≡ Some line
+    → (line.report.state ≡ states.Locked) × (line.report.loss ≡ None)
+    × (unsigned_abs line.report.error ≤ 16 + unsigned_abs row.slip)
 
 -- each row has its line
 abbrev pub HasLine : Type 0
@@ -51,9 +62,6 @@ HasLine = (loop : Loop) (rows : List Row) (i : ℕ) (row : Row) → slice_get ro
     → slice_get (trace loop rows) i ≡ Some (traced (loop_at loop rows i) row)
 
 -- ---- lines and rows
-
-first_row : (a b : Row) → Some a ≡ Some b → a ≡ b
-first_row a b e = cc
 
 line_is : (a b : Traced) → Some a ≡ Some b → b ≡ a
 line_is a b e = cc
@@ -71,10 +79,11 @@ loop_next : (loop : Loop) (rows : List Row) (i : ℕ) (row : Row) → slice_get 
     loop_at loop rows (suc i) ≡ after_row (loop_at loop rows i) row
 unfolding after_rows
 loop_next loop [] i row e = absurd (cc)
-loop_next loop (r ∷ rows) zero row e = ap (after_row loop) (first_row r row e)
+loop_next loop (r ∷ rows) zero row e = ap (after_row loop) (same_Some r row e)
 loop_next loop (r ∷ rows) (suc i) row e = loop_next (after_row loop r) rows i row e
 
-row_before : (rows : List Row) (i : ℕ) (next : Row) → slice_get rows (suc i) ≡ Some next → (row : Row) × (slice_get rows i ≡ Some row)
+row_before : (rows : List Row) (i : ℕ) (next : Row) → slice_get rows (suc i) ≡ Some next
+    → (row : Row) × (slice_get rows i ≡ Some row)
 row_before [] i next e = absurd (cc)
 row_before (r ∷ rows) zero next e = (r, refl)
 row_before (r ∷ rows) (suc i) next e = row_before rows i next e
@@ -88,16 +97,14 @@ some_loss told loss some none = cc
 located_no_loss : (n : ℕ) (e : ℤ) → (located n e).loss ≡ None
 located_no_loss n e = grind (arith, common_steps)
 
-pulled_no_loss : (direction : Direction) (e : ℤ) → (pulled direction e).loss ≡ None
-pulled_no_loss direction e = grind (arith, common_steps)
-
-was_locked : (count : Count) (mode : Mode) (master : Option Master) (position : ℕ) → (outcome_of count mode master position).loss ≢ None → mode ≡ Locked
+was_locked : (count : Count) (mode : Mode) (master : Option Master) (position : ℕ)
+    → (outcome_of count mode master position).loss ≢ None → mode ≡ Locked
 was_locked count Waiting master position loses = absurd (loses refl)
 was_locked count (Locating n) master position loses =
     absurd (loses (located_no_loss n (error_to count position n)))
 was_locked count Pulling None position loses = absurd (loses refl)
 was_locked count Pulling (Some m) position loses =
-    absurd (loses (pulled_no_loss m.direction (error_to count position m.number)))
+    absurd (loses (pulled_quiet m.direction (error_to count position m.number)))
 was_locked count Locked master position loses = refl
 
 -- ---- the kind of a loss
@@ -110,7 +117,8 @@ IsKind (Window error) master = (m : Master) × (master ≡ Some m)
 kept_code : (direction : Direction) (e : ℤ) → (kept direction e).loss ≡ Some NoCode → ⊥
 kept_code direction e told = grind (arith, common_steps)
 
-outcome_kind : (count : Count) (master : Option Master) (position : ℕ) (loss : Loss) → (outcome_of count Locked master position).loss ≡ Some loss
+outcome_kind : (count : Count) (master : Option Master) (position : ℕ) (loss : Loss)
+    → (outcome_of count Locked master position).loss ≡ Some loss
     → IsKind loss master
 outcome_kind count None position NoCode told = refl
 outcome_kind count None position (Window e) told = absurd (cc)
@@ -119,26 +127,32 @@ outcome_kind count (Some m) position NoCode told =
 outcome_kind count (Some m) position (Window e) told = (m, refl)
 
 -- a frame without a master brings no code, and one with a master does
-unknown : (count : Count) (label : Address) (m : Master) (b : Bool) → is_same_count label.count count ≡ b → (if b then Some m else None) ≡ None
+unknown : (count : Count) (label : Address) (m : Master) (b : Bool) → is_same_count label.count count ≡ b
+    → (if b then Some m else None) ≡ None
     → label.count ≢ count
 unknown count label m true e none = absurd (cc)
 unknown count label m false e none = other_count label.count count e
 
-no_master : (count : Count) (label : Address) (m : Master) (b : Bool) → is_same_count label.count count ≡ b → label.count ≢ count
+no_master : (count : Count) (label : Address) (m : Master) (b : Bool) → is_same_count label.count count ≡ b
+    → label.count ≢ count
     → (if b then Some m else None) ≡ None
 no_master count label m true e other = absurd (other (same_count label.count count e))
 no_master count label m false e other = refl
 
 brings_none : (count : Count) (frame : Frame) → master_of count frame ≡ None → BringsNoCode count frame
-brings_none count (Heard label direction joined tick) none = inr (unknown count label _ (is_same_count label.count count) refl none)
-brings_none count (Invented label direction step tick) none = inr (unknown count label _ (is_same_count label.count count) refl none)
+brings_none count (Heard label direction joined tick) none =
+    inr (unknown count label _ (is_same_count label.count count) refl none)
+brings_none count (Invented label direction step tick) none =
+    inr (unknown count label _ (is_same_count label.count count) refl none)
 brings_none count (Gone tick) none = inl tt
 
 none_told : (count : Count) (frame : Frame) → BringsNoCode count frame → master_of count frame ≡ None
 none_told count (Heard label direction joined tick) (inl gone) = absurd gone
-none_told count (Heard label direction joined tick) (inr other) = no_master count label _ (is_same_count label.count count) refl other
+none_told count (Heard label direction joined tick) (inr other) =
+    no_master count label _ (is_same_count label.count count) refl other
 none_told count (Invented label direction step tick) (inl gone) = absurd gone
-none_told count (Invented label direction step tick) (inr other) = no_master count label _ (is_same_count label.count count) refl other
+none_told count (Invented label direction step tick) (inr other) =
+    no_master count label _ (is_same_count label.count count) refl other
 none_told count (Gone tick) brings = refl
 
 -- ---- what does not lose it
@@ -156,9 +170,11 @@ MayLose count frame before = BringsNoCode count frame ⊎ IsApart frame ⊎ Slip
 by_slip : (count : Count) (frame : Frame) (before : Row) → goes_on frame ≡ true → HasCount count frame → (b : Bool) →
     nat_le (unsigned_abs before.slip) 24 ≡ b → MayLose count frame before ⊎ Stays count frame before
 by_slip count frame before on has true e = inr (record { on = on; has = has; slip = grind (arith, nat_tests) })
-by_slip count frame before on has false e = let far : SlippedFar before = grind (arith, nat_tests) in inl (inr (inr far))
+by_slip count frame before on has false e = let far : SlippedFar before = grind (arith, nat_tests) in
+    inl (inr (inr far))
 
-by_count : (count : Count) (frame : Frame) (label : Address) (before : Row) → goes_on frame ≡ true → (b : Bool) → is_same_count label.count count ≡ b →
+by_count : (count : Count) (frame : Frame) (label : Address) (before : Row) → goes_on frame ≡ true → (b : Bool)
+    → is_same_count label.count count ≡ b →
     (label.count ≡ count → HasCount count frame) → (label.count ≢ count → HasOtherCount count frame) →
     MayLose count frame before ⊎ Stays count frame before
 by_count count frame label before on true e has other =
@@ -167,18 +183,22 @@ by_count count frame label before on false e has other = inl (inl (inr (other (o
 
 decide : (count : Count) (frame : Frame) (before : Row) → MayLose count frame before ⊎ Stays count frame before
 decide count (Heard label direction true tick) before =
-    by_count count (Heard label direction true tick) label before refl (is_same_count label.count count) refl (λ e. e) (λ e. e)
+    by_count count (Heard label direction true tick) label before refl (is_same_count label.count count) refl (λ e. e)
+    (λ e. e)
 decide count (Heard label direction false tick) before = inl (inr (inl refl))
 decide count (Invented label direction step tick) before =
-    by_count count (Invented label direction step tick) label before refl (is_same_count label.count count) refl (λ e. e) (λ e. e)
+    by_count count (Invented label direction step tick) label before refl (is_same_count label.count count) refl
+    (λ e. e) (λ e. e)
 decide count (Gone tick) before = inl (inl (inl tt))
 
 -- so a loss of this kind has its cause
-is_cause : (count : Count) (frame : Frame) (before : Row) (loss : Loss) → IsKind loss (master_of count frame) → (Stays count frame before → ⊥) →
+is_cause : (count : Count) (frame : Frame) (before : Row) (loss : Loss) → IsKind loss (master_of count frame)
+    → (Stays count frame before → ⊥) →
     IsCauseOf loss count frame before
 is_cause count frame before NoCode kind never = brings_none count frame kind
 is_cause count frame before (Window e) kind never =
-    let code : BringsNoCode count frame → ⊥ = λ none. let both : None ≡ Some kind.0 = sym (none_told count frame none) ∙ kind.1 in cc in (
+    let code : BringsNoCode count frame → ⊥ = λ none. let both : None ≡ Some kind.0 = sym (none_told count frame none)
+    ∙ kind.1 in cc in (
       code,
       elim (decide count frame before) [
         | inl (inl none) ↦ absurd (code none)
@@ -193,17 +213,22 @@ one_frame : (frames : Option Frame) (a b : Frame) → frames ≡ Some a → fram
 one_frame frames a b p q = cc
 
 -- the row behind one reads on where its frame goes on and has the count
-reads_on_at : (laws : DayLaws) (count : Count) (bound seed : ℕ) (frames : List Frame) (i : ℕ) (row next : Row) (frame : Frame) → GoOn None frames →
-    slice_get (rows_of count seed bound frames) i ≡ Some row → slice_get (rows_of count seed bound frames) (suc i) ≡ Some next →
+reads_on_at : (laws : DayLaws) (count : Count) (bound seed : ℕ) (frames : List Frame) (i : ℕ) (row next : Row)
+    (frame : Frame) → GoOn None frames →
+    slice_get (rows_of count seed bound frames) i ≡ Some row
+    → slice_get (rows_of count seed bound frames) (suc i) ≡ Some next →
     slice_get frames (suc i) ≡ Some frame → goes_on frame ≡ true → HasCount count frame → ReadsOn count row next
 reads_on_at laws count bound seed frames i row next frame on here later there goes has =
     let at = row_at count bound seed (Some Play) frames i row here in
     let after = row_at count bound seed (Some Play) frames (suc i) next later in
     let same : after.frame ≡ frame = one_frame _ _ _ after.there there in
     let follows = follows_at None frames i at.frame frame on at.there there in
-    let reads = row_reads_on laws count bound (command_at (Some Play) i) at.value after.value at.frame frame follows goes has in
-    let next_is : row_of count bound None after.value frame ≡ next = ap (row_of count bound None after.value) (sym same) ∙ sym after.is in
-    subst (λ r. ReadsOn count row r) next_is (subst (λ r. ReadsOn count r (row_of count bound None after.value frame)) (sym at.is) reads)
+    let reads = row_reads_on laws count bound (command_at
+    (Some Play) i) at.value after.value at.frame frame follows goes has in
+    let next_is : row_of count bound None after.value frame ≡ next = ap (row_of count bound None after.value) (sym same)
+    ∙ sym after.is in
+    subst (λ r. ReadsOn count row r) next_is (subst (λ r. ReadsOn count r (row_of count bound None after.value frame))
+    (sym at.is) reads)
 
 -- and it goes on steadily where the transport keeps its bound
 steadily : (count : Count) (row next : Row) → ReadsOn count row next → unsigned_abs row.slip ≤ 8 → GoesOn count row next
@@ -215,17 +240,21 @@ on_the_day laws label is = omega (arith, laws.below label is)
 
 -- ---- the causes
 
-mode_behind : (loop : Loop) (rows : List Row) (i : ℕ) (row next : Row) → slice_get rows i ≡ Some row → next.command ≡ None →
-    after_command next.command (loop_at loop rows (suc i)).chase.mode ≡ Locked → (traced (loop_at loop rows i) row).report.state ≡ states.Locked
+mode_behind : (loop : Loop) (rows : List Row) (i : ℕ) (row next : Row) → slice_get rows i ≡ Some row
+    → next.command ≡ None →
+    after_command next.command (loop_at loop rows (suc i)).chase.mode ≡ Locked
+    → (traced (loop_at loop rows i) row).report.state ≡ states.Locked
 mode_behind loop rows i row next here none locked =
     let moved = ap (λ (l : Loop). l.chase.mode) (loop_next loop rows i row here) in
     let plain : (loop_at loop rows (suc i)).chase.mode ≡ Locked =
     subst (λ c. after_command c (loop_at loop rows (suc i)).chase.mode ≡ Locked) none locked in
     ap state_of (sym moved ∙ plain)
 
-pub cause : (laws : DayLaws) (over : HoldsOverASlip) (has_line : HasLine) (label : Address) (seed bound : ℕ) (frames : List Frame) (j : ℕ)
+pub cause : (laws : DayLaws) (over : HoldsOverASlip) (has_line : HasLine) (label : Address) (seed bound : ℕ)
+    (frames : List Frame) (j : ℕ)
     (line : Traced) (loss : Loss) →
-    IsLabel label → HaveLabels frames → GoOn None frames → slice_get (code_trace label seed bound frames) j ≡ Some line → line.report.loss ≡ Some loss →
+    IsLabel label → HaveLabels frames → GoOn None frames → slice_get (code_trace label seed bound frames) j ≡ Some line
+    → line.report.loss ≡ Some loss →
     HasCauseOfLoss label seed bound frames j loss
 unfolding after_rows
 cause laws over has_line label seed bound frames zero line loss is have on at loses =
@@ -233,7 +262,8 @@ cause laws over has_line label seed bound frames zero line loss is have on at lo
     let (row, here, same) = line_row (starts_at label) rows zero line at in
     let the = row_at label.count bound seed (Some Play) frames zero row here in
     let lost = subst (λ (l : Traced). l.report.loss ≡ Some loss) same loses in
-    let locked = was_locked label.count (after_command row.command Waiting) row.master (starts_at label).position (λ none. some_loss _ loss lost none) in
+    let locked = was_locked label.count (after_command row.command Waiting) row.master (starts_at label).position
+    (λ none. some_loss _ loss lost none) in
     let pulling : Pulling ≡ Locked = subst (λ (r : Row). after_command r.command Waiting ≡ Locked) the.is locked in
     absurd (cc)
 cause laws over has_line label seed bound frames (suc i) line loss is have on at loses =
@@ -244,11 +274,14 @@ cause laws over has_line label seed bound frames (suc i) line loss is have on at
     let after = row_at label.count bound seed (Some Play) frames (suc i) next later in
     let lost = subst (λ (l : Traced). l.report.loss ≡ Some loss) same loses in
     let there = loop_at loop rows (suc i) in
-    let locked = was_locked _ (after_command next.command there.chase.mode) next.master _ (λ none. some_loss _ loss lost none) in
+    let locked = was_locked _ (after_command next.command there.chase.mode) next.master _
+    (λ none. some_loss _ loss lost none) in
     let left = mode_behind loop rows i row next here (ap (λ (r : Row). r.command) after.is) locked in
-    let plain = subst (λ (m : Mode). (outcome_of there.chase.count m next.master there.position).loss ≡ Some loss) locked lost in
+    let plain = subst (λ (m : Mode). (outcome_of there.chase.count m next.master there.position).loss
+    ≡ Some loss) locked lost in
     let kind = outcome_kind there.chase.count next.master there.position loss plain in
-    let told : IsKind loss (master_of label.count after.frame) = subst (λ (m : Option Master). IsKind loss m) (ap (λ (r : Row). r.master) after.is) kind in
+    let told : IsKind loss (master_of label.count after.frame) =
+    subst (λ (m : Option Master). IsKind loss m) (ap (λ (r : Row). r.master) after.is) kind in
     record {
       i = i;
       behind = refl;
@@ -259,26 +292,25 @@ cause laws over has_line label seed bound frames (suc i) line loss is have on at
       is = is_cause label.count after.frame row loss told (λ stay.
           let reads = reads_on_at laws label.count bound seed frames i row next after.frame on here later after.there stay.on stay.has in
           let kept = over loop rows i row next (traced (loop_at loop rows i) row) line (on_the_day laws label is)
-          (are_rows laws label.count bound seed (Some Play) frames have) here later reads stay.slip (has_line loop rows i row here) left at in
+          (are_rows laws label.count bound seed (Some Play) frames have) here later reads stay.slip
+          (has_line loop rows i row here) left at in
           some_loss line.report.loss loss loses kept.1);
     }
 
 -- ---- no code
 
-state_locked : (mode : Mode) → state_of mode ≡ states.Locked → mode ≡ Locked
-state_locked Waiting e = absurd (cc)
-state_locked (Locating n) e = absurd (cc)
-state_locked Pulling e = absurd (cc)
-state_locked Locked e = refl
-
 -- a locked chase that reads nothing and has no command says that there is no code
-tells_no_code : (count : Count) (mode : Mode) (command : Option Command) (master : Option Master) (position : ℕ) → mode ≡ Locked → command ≡ None
+tells_no_code : (count : Count) (mode : Mode) (command : Option Command) (master : Option Master) (position : ℕ)
+    → mode ≡ Locked → command ≡ None
     → master ≡ None → (outcome_of count (after_command command mode) master position).loss ≡ Some NoCode
 tells_no_code count mode command master position locked no_command no_code = rw (locked, no_command, no_code) refl
 
-pub no_code : (has_line : HasLine) (label : Address) (seed bound : ℕ) (frames : List Frame) (i : ℕ) (leaves line : Traced) (frame : Frame) →
-    slice_get (code_trace label seed bound frames) i ≡ Some leaves → leaves.report.state ≡ states.Locked → slice_get frames (suc i) ≡ Some frame →
-    BringsNoCode label.count frame → slice_get (code_trace label seed bound frames) (suc i) ≡ Some line → line.report.loss ≡ Some NoCode
+pub no_code : (has_line : HasLine) (label : Address) (seed bound : ℕ) (frames : List Frame) (i : ℕ)
+    (leaves line : Traced) (frame : Frame) →
+    slice_get (code_trace label seed bound frames) i ≡ Some leaves → leaves.report.state ≡ states.Locked
+    → slice_get frames (suc i) ≡ Some frame →
+    BringsNoCode label.count frame → slice_get (code_trace label seed bound frames) (suc i) ≡ Some line
+    → line.report.loss ≡ Some NoCode
 no_code has_line label seed bound frames i leaves line frame at_leaves locked there brings at =
     let rows = rows_of label.count seed bound frames in
     let loop = starts_at label in
@@ -287,10 +319,12 @@ no_code has_line label seed bound frames i leaves line frame at_leaves locked th
     let after = row_at label.count bound seed (Some Play) frames (suc i) next later in
     let is_frame : after.frame ≡ frame = one_frame _ _ _ after.there there in
     let mode = state_locked _ (subst (λ (l : Traced). l.report.state ≡ states.Locked) same_leaves locked) in
-    let behind : (loop_at loop rows (suc i)).chase.mode ≡ Locked = ap (λ (l : Loop). l.chase.mode) (loop_next loop rows i row here) ∙ mode in
+    let behind : (loop_at loop rows (suc i)).chase.mode ≡ Locked =
+    ap (λ (l : Loop). l.chase.mode) (loop_next loop rows i row here) ∙ mode in
     let master = ap (λ (r : Row). r.master) after.is ∙ none_told label.count after.frame
     (subst (λ (f : Frame). BringsNoCode label.count f) (sym is_frame) brings) in
-    let told = tells_no_code (loop_at loop rows (suc i)).chase.count (loop_at loop rows (suc i)).chase.mode next.command next.master
+    let told = tells_no_code (loop_at loop rows (suc i)).chase.count
+    (loop_at loop rows (suc i)).chase.mode next.command next.master
     (loop_at loop rows (suc i)).position behind (ap (λ (r : Row). r.command) after.is) master in
     ap (λ (l : Traced). l.report.loss) same ∙ told
 
@@ -307,10 +341,12 @@ whole_slip : (count : Count) (bound seed most : ℕ) (frames : List Frame) (i : 
     slice_get (rows_of count seed bound frames) i ≡ Some row → unsigned_abs row.slip ≤ most
 whole_slip count bound seed most frames i row small here =
     let at = row_at count bound seed (Some Play) frames i row here in
-    let within : unsigned_abs row.slip ≤ bound = subst (λ (r : Row). unsigned_abs r.slip ≤ bound) (sym at.is) (slip_within bound at.value) in
+    let within : unsigned_abs row.slip ≤ bound = subst (λ (r : Row). unsigned_abs r.slip ≤ bound) (sym at.is)
+    (slip_within bound at.value) in
     omega (arith, within, small)
 
-never_lost : (count : Count) (frame : Frame) (before : Row) (loss : Loss) → IsCauseOf loss count frame before → (BringsNoCode count frame → ⊥) →
+never_lost : (count : Count) (frame : Frame) (before : Row) (loss : Loss) → IsCauseOf loss count frame before
+    → (BringsNoCode count frame → ⊥) →
     (IsApart frame → ⊥) → unsigned_abs before.slip ≤ 24 → ⊥
 never_lost count frame before NoCode why code together slip = code why
 never_lost count frame before (Window e) why code together slip = elim why.1 [
@@ -318,7 +354,8 @@ never_lost count frame before (Window e) why code together slip = elim why.1 [
   | inr far ↦ absurd (omega (arith, slip, far))
 ]
 
-pub whole_no_loss : (laws : DayLaws) (over : HoldsOverASlip) (has_line : HasLine) (label : Address) (seed bound : ℕ) (frames : List Frame) (j : ℕ)
+pub whole_no_loss : (laws : DayLaws) (over : HoldsOverASlip) (has_line : HasLine) (label : Address) (seed bound : ℕ)
+    (frames : List Frame) (j : ℕ)
     (line : Traced) →
     IsLabel label → HaveLabels frames → GoOn None frames → AreWhole label.count frames → bound ≤ 24 →
     slice_get (code_trace label seed bound frames) j ≡ Some line → line.report.loss ≡ None
@@ -327,7 +364,8 @@ whole_no_loss laws over has_line label seed bound frames j line is have on whole
     let why = cause laws over has_line label seed bound frames j line loss is have on at loses in
     let there = subst (λ k. slice_get frames k ≡ Some why.frame) why.behind why.there in
     let never = whole why.i why.frame there in
-    never_lost label.count why.frame why.before loss why.is never.0 never.1 (whole_slip label.count bound seed 24 frames why.i why.before small why.at))
+    never_lost label.count why.frame why.before loss why.is never.0 never.1
+    (whole_slip label.count bound seed 24 frames why.i why.before small why.at))
 
 stays_whole : (count : Count) (frame : Frame) (before : Row) → (BringsNoCode count frame → ⊥) × (IsApart frame → ⊥) →
     unsigned_abs before.slip ≤ 24 → Stays count frame before
@@ -345,20 +383,26 @@ IsNear line = (line.report.state ≡ states.Locked) × (unsigned_abs line.report
 near_step : (a b : ℕ) → a ≤ 16 + b → b ≤ 24 → a ≤ 40
 near_step a b p q = omega (arith, p, q)
 
-near_from : (laws : DayLaws) (stays : StaysLocked) (over : HoldsOverASlip) (has_line : HasLine) (label : Address) (seed bound : ℕ) (frames : List Frame)
-    (first : ℕ) (leaves : Traced) → IsLabel label → HaveLabels frames → GoOn None frames → AreWhole label.count frames → bound ≤ 24 →
+near_from : (laws : DayLaws) (stays : StaysLocked) (over : HoldsOverASlip) (has_line : HasLine) (label : Address)
+    (seed bound : ℕ) (frames : List Frame)
+    (first : ℕ) (leaves : Traced) → IsLabel label → HaveLabels frames → GoOn None frames → AreWhole label.count frames
+    → bound ≤ 24 →
     slice_get (code_trace label seed bound frames) first ≡ Some leaves → leaves.report.state ≡ states.Locked →
     (d : ℕ) (line : Traced) → slice_get (code_trace label seed bound frames) (first + d) ≡ Some line → IsNear line
 near_from laws stays over has_line label seed bound frames first leaves is have on whole small at_first locked zero line at =
     let here : slice_get (code_trace label seed bound frames) first ≡ Some line =
     subst (λ n. slice_get (code_trace label seed bound frames) n ≡ Some line) (omega arith) at in
-    let kept = stays (starts_at label) (rows_of label.count seed bound frames) first first first leaves line (on_the_day laws label is)
-    (are_rows laws label.count bound seed (Some Play) frames have) (λ k row next low high. absurd (omega (arith, low, high)))
+    let kept = stays (starts_at label) (rows_of label.count seed bound frames) first first first leaves line
+    (on_the_day laws label is)
+    (are_rows laws label.count bound seed (Some Play) frames have)
+    (λ k row next low high. absurd (omega (arith, low, high)))
     at_first locked (omega arith) (omega arith) here in
     let none : first - first ≡ 0 = omega arith in
-    let most : unsigned_abs line.report.error ≤ lock_bound 0 = subst (λ n. unsigned_abs line.report.error ≤ lock_bound n) none kept.2 in
+    let most : unsigned_abs line.report.error ≤ lock_bound 0 =
+    subst (λ n. unsigned_abs line.report.error ≤ lock_bound n) none kept.2 in
     (kept.0, most)
-near_from laws stays over has_line label seed bound frames first leaves is have on whole small at_first locked (suc d) line at =
+near_from laws stays over has_line label seed bound frames first leaves is have on whole small at_first locked
+    (suc d) line at =
     let rows = rows_of label.count seed bound frames in
     let loop = starts_at label in
     let i = first + d in
@@ -377,7 +421,8 @@ near_from laws stays over has_line label seed bound frames first leaves is have 
     (are_rows laws label.count bound seed (Some Play) frames have) now later reads slip at_before near.0 here in
     (kept.0, near_step (unsigned_abs line.report.error) (unsigned_abs row.slip) kept.2 slip)
 
-pub whole_near : (laws : DayLaws) (stays : StaysLocked) (over : HoldsOverASlip) (has_line : HasLine) (label : Address) (seed bound : ℕ)
+pub whole_near : (laws : DayLaws) (stays : StaysLocked) (over : HoldsOverASlip) (has_line : HasLine) (label : Address)
+    (seed bound : ℕ)
     (frames : List Frame) (first j : ℕ) (leaves line : Traced) →
     IsLabel label → HaveLabels frames → GoOn None frames → AreWhole label.count frames → bound ≤ 24 →
     slice_get (code_trace label seed bound frames) first ≡ Some leaves → leaves.report.state ≡ states.Locked →
@@ -386,12 +431,15 @@ pub whole_near : (laws : DayLaws) (stays : StaysLocked) (over : HoldsOverASlip) 
 whole_near laws stays over has_line label seed bound frames first j leaves line is have on whole small at_first locked least at =
     let there : slice_get (code_trace label seed bound frames) (first + (j - first)) ≡ Some line =
     subst (λ n. slice_get (code_trace label seed bound frames) n ≡ Some line) (omega (arith, least)) at in
-    near_from laws stays over has_line label seed bound frames first leaves is have on whole small at_first locked (j - first) line there
+    near_from laws stays over has_line label seed bound frames first leaves is have on whole small at_first locked
+    (j - first) line there
 
-pub whole_nearer : (laws : DayLaws) (stays : StaysLocked) (label : Address) (seed bound : ℕ) (frames : List Frame) (first j : ℕ) (leaves line : Traced) →
+pub whole_nearer : (laws : DayLaws) (stays : StaysLocked) (label : Address) (seed bound : ℕ) (frames : List Frame)
+    (first j : ℕ) (leaves line : Traced) →
     IsLabel label → HaveLabels frames → GoOn None frames → AreWhole label.count frames → bound ≤ 8 →
     slice_get (code_trace label seed bound frames) first ≡ Some leaves → leaves.report.state ≡ states.Locked →
-    first ≤ j → slice_get (code_trace label seed bound frames) j ≡ Some line → unsigned_abs line.report.error ≤ lock_bound (j - first)
+    first ≤ j → slice_get (code_trace label seed bound frames) j ≡ Some line
+    → unsigned_abs line.report.error ≤ lock_bound (j - first)
 whole_nearer laws stays label seed bound frames first j leaves line is have on whole small at_first locked least at =
     let rows = rows_of label.count seed bound frames in
     let steady : IsSteadyFromTo label.count rows first j = λ i row next low high here later.

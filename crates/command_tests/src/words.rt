@@ -5,7 +5,9 @@ use pcm_front::{Pace, Threshold};
 use std::alloc::{AllocError, Global};
 use std::test::Fail;
 use tc_address::text;
-use tc_job::{ChaseRun, Jam, Job, LineStripe, Slicing, SoundLevel, Task, WaveSlicing, WordsFault};
+use tc_job::{
+    ChaseRun, Jam, Job, LineStripe, Slicing, SoundLevel, Task, WaveSlicing, Witness, WordsFault,
+};
 use tc_words::read_words;
 
 fn typed(alloc: Global, line: &str) -> Result<Vec<String>, AllocError> {
@@ -102,7 +104,22 @@ fn reports_of_a_tape_are_read(rt: HostRuntime) -> Result<(), Fail> {
     let alloc = rt.alloc();
     assert!(rt; matches!(job_in(alloc, "ltc-read")?, Job::LtcRead));
     assert!(rt; matches!(job_in(alloc, "ltc-worn")?, Job::LtcWorn));
-    assert!(rt; matches!(job_in(alloc, "ltc-rough")?, Job::LtcRough));
+    assert!(rt;
+        matches!(
+            job_in(alloc, "ltc-rough")?,
+            Job::LtcRough {
+                witness: Witness::NotAsked
+            }
+        )
+    );
+    assert!(rt;
+        matches!(
+            job_in(alloc, "ltc-rough firm")?,
+            Job::LtcRough {
+                witness: Witness::Asked
+            }
+        )
+    );
     Ok(())
 }
 

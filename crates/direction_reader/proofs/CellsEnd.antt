@@ -1,10 +1,11 @@
 -- Each cell lasts a tick at least and twice the greatest interval at most, so the boundaries that are
 -- kept tell how long a window can be.
-use Rattle.std.proofs.Common.{◌≡◌, ◌<◌, ◌≤◌, ℕ, ◌+◌, ◌-◌, ◌*◌, List, [], ◌∷◌, ◌++◌, length, drop, Bool, arith, refl, true, false}
+use Rattle.std.proofs.Common.{◌≡◌, ◌<◌, ◌≤◌, ℕ, ◌+◌, ◌-◌, ◌*◌, List, [], ◌∷◌, ◌++◌, length, drop, Bool, arith, refl}
+use Rattle.std.proofs.Common.{true, false}
 use Rattle.std.specs.Prelude.{slice_index, nat_lt}
 use Rattle.std.proofs.Math.Decide.{dec_lt}
 use Rattle.std.proofs.lemmas.Grind.{common_steps}
-use Rattle.biphase.specs.declared.cell.TheConstants.{MAX_INTERVAL}
+use Rattle.limits.specs.declared.recording.TheConstants.{MAX_INTERVAL}
 use Rattle.direction_reader.specs.Tracking.{Tracking}
 use Rattle.direction_reader.specs.Tracking.{Hunting, AtCell, MidCell}
 use Rattle.direction_reader.specs.declared.state.Step.TheVariants.{Cell}
@@ -44,7 +45,8 @@ span-least tick (last ∷ []) are = omega arith
 span-least tick (b ∷ next ∷ rest) are = let more = span-least tick (next ∷ rest) are.2 in omega arith
 
 -- and at most
-span-most : (tick : ℕ) (bs : List ℕ) → AreBoundariesTo tick bs → tick + greatest_cell ≤ slice_index bs 0 + length bs * greatest_cell
+span-most : (tick : ℕ) (bs : List ℕ) → AreBoundariesTo tick bs
+    → tick + greatest_cell ≤ slice_index bs 0 + length bs * greatest_cell
 span-most tick [] are = absurd are
 span-most tick (last ∷ []) are = omega arith
 span-most tick (b ∷ next ∷ rest) are = let more = span-most tick (next ∷ rest) are.2 in omega arith
@@ -52,13 +54,16 @@ span-most tick (b ∷ next ∷ rest) are = let more = span-most tick (next ∷ r
 -- the 80 cells of a full window
 pub window_length : (tick : ℕ) (bs : List ℕ) → AreBoundariesTo tick bs → length bs ≡ 81
     → (slice_index bs 0 + 80 ≤ tick) × (tick ≤ slice_index bs 0 + 80 * greatest_cell)
-window_length tick bs are full = let least = span-least tick bs are in let most = span-most tick bs are in (omega arith, omega arith)
+window_length tick bs are full = let least = span-least tick bs are in let most = span-most tick bs are in
+    (omega arith, omega arith)
 
 -- a cell that ends is one boundary more
-pub cell_ended : (old next : Tracking) (x tick : ℕ) (bit : Bool) (bs : List ℕ) → FitsTracker old tick bs → 1 ≤ x → x ≤ MAX_INTERVAL
+pub cell_ended : (old next : Tracking) (x tick : ℕ) (bit : Bool) (bs : List ℕ) → FitsTracker old tick bs → 1 ≤ x
+    → x ≤ MAX_INTERVAL
     → Steps old x next (Cell bit) → AreBoundariesTo (tick + x) (with_boundary bs (tick + x))
 cell_ended (Hunting h) next x tick bit bs fits least most steps = absurd steps
-cell_ended (AtCell a) next x tick bit bs fits least most steps = kept tick (tick + x) bs fits (omega arith) (omega arith)
+cell_ended (AtCell a) next x tick bit bs fits least most steps =
+    kept tick (tick + x) bs fits (omega arith) (omega arith)
 cell_ended (MidCell m) next x tick bit bs fits least most steps =
     kept (tick - m.half) (tick + x) bs fits.3 (omega arith) (omega arith)
 
@@ -74,7 +79,8 @@ fits_after (MidCell m) (MidCell n) x tick bit bs steps are = absurd steps.1
 fits_after (MidCell m) (AtCell n) x tick bit bs steps are = are
 
 -- what the reader keeps fits where a cell has ended
-pub cell_fits : (old next : Tracking) (x tick now : ℕ) (bit : Bool) (bs new : List ℕ) → FitsTracker old tick bs → 1 ≤ x → x ≤ MAX_INTERVAL
+pub cell_fits : (old next : Tracking) (x tick now : ℕ) (bit : Bool) (bs new : List ℕ) → FitsTracker old tick bs → 1 ≤ x
+    → x ≤ MAX_INTERVAL
     → Steps old x next (Cell bit) → now ≡ tick + x → new ≡ with_boundary bs now → FitsTracker next now new
 cell_fits old next x tick now bit bs new fits least most steps is are =
     let ended = cell_ended old next x tick bit bs fits least most steps in

@@ -1,5 +1,6 @@
 -- What is kept of some cells becomes what is kept of one cell more.
-use Rattle.std.proofs.Common.{◌≡◌, ◌<◌, ℕ, ◌+◌, ◌-◌, ◌*◌, ◌^◌, List, [], ◌∷◌, ◌++◌, length, drop, ap, sym, ◌∙◌, arith, refl, subst}
+use Rattle.std.proofs.Common.{◌≡◌, ◌<◌, ℕ, ◌+◌, ◌-◌, ◌*◌, ◌^◌, List, [], ◌∷◌, ◌++◌, length, drop, ap, sym, ◌∙◌, arith}
+use Rattle.std.proofs.Common.{refl, subst}
 use Rattle.std.proofs.Common.{length-append, append_assoc, zero, suc, true, false}
 use Rattle.std.specs.Prelude.{nat_lt, slice_index}
 use Rattle.std.proofs.lemmas.Grind.{common_steps}
@@ -21,15 +22,8 @@ use Rattle.direction_reader.specs.ListEvents.{duration}
 use Rattle.direction_reader.specs.StandsFor.{ticks, BitsStandFor, CellsStandFor}
 use Rattle.direction_reader.specs.Window.{slid_by}
 use Rattle.direction_reader.proofs.BitsShift.{slid-full, slid-filling}
-use Rattle.direction_reader.proofs.WindowsGrow.{duration-append, last_window}
-
--- a cell's intervals sum to its length
-duration-one : (cell : Cell) → duration (cell ∷ []) ≡ length_of cell
-duration-one (Zero x) = omega arith
-duration-one (One a b) = omega arith
-
-duration-cons : (cell : Cell) (cells : List Cell) → duration (cell ∷ cells) ≡ length_of cell + duration cells
-duration-cons cell cells = duration-append (cell ∷ []) cells ∙ ap (λ n. n + duration cells) (duration-one cell)
+use Rattle.direction_reader.proofs.WindowsGrow.{last_window}
+use Rattle.direction_reader.specs.PlayedLemmas.{duration-append, duration-one, duration-cons}
 
 -- one cell more
 pub duration_more : (cells : List Cell) (cell : Cell) → duration (cells ++ cell ∷ []) ≡ duration cells + length_of cell
@@ -93,7 +87,8 @@ full_more n bs kept tick end older (first ∷ rest) cell is at ends is_bits is_b
     }
 
 -- the bits of a window that is filling, or full with the eightieth
-filled : (f : FillingBits) (newest : List Cell) (cell : Cell) (room : ℕ) → f.count ≡ length newest → length newest + room ≡ 79
+filled : (f : FillingBits) (newest : List Cell) (cell : Cell) (room : ℕ) → f.count ≡ length newest
+    → length newest + room ≡ 79
     → slid_by f.bits (bit_of cell) ≡ number_of (bits (newest ++ cell ∷ [])) * 2 ^ room
     → BitsStandFor (after_bit (latest.Filling f) (bit_of cell)) [] (newest ++ cell ∷ [])
 filled f newest cell zero count places shifted =
@@ -103,11 +98,22 @@ filled f newest cell (suc room) count places shifted =
     let test : nat_lt (f.count + 1) 80 ≡ true = grind (arith, common_steps) in
     let more = length-append newest (cell ∷ []) in
     let same : suc room ≡ room + 1 = omega arith in
-    rw test (refl, omega arith, (room, omega arith, shifted ∙ ap (λ n. number_of (bits (newest ++ cell ∷ [])) * 2 ^ n) same))
+    rw test (
+      refl,
+      omega arith,
+      (
+        room,
+        omega arith,
+        shifted
+            ∙ ap (λ n. number_of (bits (newest ++ cell ∷ [])) * 2 ^ n) same,
+      ),
+    )
 
 -- a window that is filling
-filling_more : (f : FillingBits) (bs : List ℕ) (kept : Cells) (tick end : ℕ) (older newest : List Cell) (cell : Cell) (room : ℕ)
-    → older ≡ [] → f.count ≡ length newest → length newest + room ≡ 79 → f.bits ≡ number_of (bits newest) * 2 ^ (room + 1)
+filling_more : (f : FillingBits) (bs : List ℕ) (kept : Cells) (tick end : ℕ) (older newest : List Cell) (cell : Cell)
+    (room : ℕ)
+    → older ≡ [] → f.count ≡ length newest → length newest + room ≡ 79
+    → f.bits ≡ number_of (bits newest) * 2 ^ (room + 1)
     → bs ≡ ticks (tick + duration older) newest → end ≡ tick + duration (older ++ newest) + length_of cell
     → kept.bits ≡ after_bit (latest.Filling f) (bit_of cell) → kept.boundaries ≡ with_boundary bs end
     → CellsStandFor kept tick ((older ++ newest) ++ cell ∷ [])
@@ -173,23 +179,34 @@ oldest tick [] = refl
 oldest tick (cell ∷ cells) = refl
 
 -- the events of what is kept are those of the last window
-pub kept_events : (system : System) (kept : Cells) (n tick end : ℕ) (cells : List Cell) (events : Events) → CellsStandFor kept tick cells
-    → kept.bits ≡ latest.Full n → end ≡ tick + duration cells → AreWindowEvents system kept.bits kept.boundaries end events
-    → (79 < length cells) × (let w : CellWindow = window_at tick cells (length cells - 80) in AreEventsOf system w.bits w.end w.length events)
+pub kept_events : (system : System) (kept : Cells) (n tick end : ℕ) (cells : List Cell) (events : Events)
+    → CellsStandFor kept tick cells
+    → kept.bits ≡ latest.Full n → end ≡ tick + duration cells
+    → AreWindowEvents system kept.bits kept.boundaries end events
+    → (79 < length cells) × (let w : CellWindow = window_at tick cells (length cells - 80) in
+    AreEventsOf system w.bits w.end w.length events)
 kept_events system kept n tick end cells events stands full ends are =
     let is = subst (λ (b : LatestBits). BitsStandFor b stands.older stands.newest) full stands.bits_are in
     let same = stands.are in
-    let count : length cells ≡ length stands.older + 80 = ap length same ∙ length-append stands.older stands.newest ∙ ap (λ m. length stands.older + m) is.0 in
+    let count : length cells ≡ length stands.older + 80 = ap length same ∙ length-append stands.older stands.newest
+    ∙ ap (λ m. length stands.older + m) is.0 in
     let place : length cells - 80 ≡ length stands.older = omega arith in
     let window : window_at tick cells (length cells - 80)
-    ≡ record { bits = number_of (bits stands.newest); end = tick + duration (stands.older ++ stands.newest); length = duration stands.newest } =
+    ≡ record {
+      bits = number_of (bits stands.newest);
+      end = tick + duration (stands.older ++ stands.newest);
+      length =
+          duration stands.newest;
+    } =
     rw place (rw same (last_window tick stands.older stands.newest is.0)) in
     let of_full = subst (λ (b : LatestBits). AreWindowEvents system b kept.boundaries end events) full are in
-    let first : slice_index kept.boundaries 0 ≡ tick + duration stands.older = ap (λ l. slice_index l 0) stands.boundaries_are ∙ oldest _ stands.newest in
+    let first : slice_index kept.boundaries 0 ≡ tick + duration stands.older =
+    ap (λ l. slice_index l 0) stands.boundaries_are ∙ oldest _ stands.newest in
     let whole = duration-append stands.older stands.newest in
     let long : end - slice_index kept.boundaries 0 ≡ duration stands.newest = omega (arith, ap duration same) in
     let ends_there : end ≡ tick + duration (stands.older ++ stands.newest) = omega (arith, ap duration same) in
     let by_bits = subst (λ m. AreEventsOf system m end (end - slice_index kept.boundaries 0) events) is.1 of_full in
     let by_length = subst (λ m. AreEventsOf system (number_of (bits stands.newest)) end m events) long by_bits in
-    let by_end = subst (λ m. AreEventsOf system (number_of (bits stands.newest)) m (duration stands.newest) events) ends_there by_length in
+    let by_end = subst (λ m. AreEventsOf system (number_of (bits stands.newest)) m
+    (duration stands.newest) events) ends_there by_length in
     (omega arith, subst (λ (w : CellWindow). AreEventsOf system w.bits w.end w.length events) (sym window) by_end)

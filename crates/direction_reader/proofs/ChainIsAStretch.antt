@@ -1,6 +1,7 @@
--- A chain that begins with a zero and a one is one stretch: their intervals are an unequal pair, so the lock is at the first of them, and no
--- longer chain stands there.
-use Rattle.std.proofs.Common.{◌≡◌, ℕ, suc, ◌+◌, ◌≤◌, Bool, true, false, List, [], ◌∷◌, ◌++◌, length, drop, None, inl, inr, refl, sym}
+-- A chain that begins with a zero and a one is one stretch: their intervals are an unequal pair, so the lock is at the
+-- first of them, and no longer chain stands there.
+use Rattle.std.proofs.Common.{◌≡◌, ℕ, suc, ◌+◌, ◌≤◌, Bool, true, false, List, [], ◌∷◌, ◌++◌, length, drop, None, inl}
+use Rattle.std.proofs.Common.{inr, refl, sym}
 use Rattle.std.proofs.Common.{ap, ◌∙◌, append-nil, arith}
 use Rattle.std.proofs.lemmas.List.{drop_all, length-append}
 use Rattle.biphase.specs.declared.cell.Cell.{Cell}
@@ -8,8 +9,8 @@ use Rattle.biphase.specs.declared.cell.Cell.TheVariants.{Zero, One}
 use Rattle.biphase.specs.declared.profile.Profile.{Profile}
 use Rattle.biphase.specs.Tolerance.{kept_at_lock}
 use Rattle.biphase.specs.Chain.{bits, flat, intervals_of, kept_of, Begins, FollowOn, IsChain, IsChainAfter, Kinds}
-use Rattle.biphase.specs.Laws.{behind_zero}
-use Rattle.biphase.specs.OneChain.{comparable}
+use Rattle.biphase.specs.ToleranceLemmas.{behind_zero}
+use Rattle.biphase.specs.ChainLemmas.{comparable, fewer_cells}
 use Rattle.cell_tracker.specs.Lock.{IsLock}
 use Rattle.cell_tracker.specs.Stretch.{Stretch, AreStretches, IsBreak, IsChainFrom, IsStretch, end_of}
 
@@ -21,24 +22,13 @@ AreAsSaid = (profile : Profile) (cells : List Cell) → IsChain profile cells �
 abbrev pub whole : List Cell → Stretch
 whole cells = record { lock = 0; cells = cells; broken_at = None }
 
--- a cell has an interval or more
-cell_has : (cell : Cell) → 1 ≤ length (intervals_of cell)
-cell_has (Zero x) = omega arith
-cell_has (One a b) = omega arith
-
-fewer_cells : (cells : List Cell) → length cells ≤ length (flat cells)
-fewer_cells [] = omega arith
-fewer_cells (cell ∷ cells) =
-    let one = cell_has cell in
-    let rest = fewer_cells cells in
-    let parts = length-append (intervals_of cell) (flat cells) in
-    omega (arith, parts)
-
 front_fits : (front list rest : List ℕ) → list ≡ front ++ rest → length front ≤ length list
-front_fits front list rest e = let parts = length-append front rest in let all = ap length e in omega (arith, parts, all)
+front_fits front list rest e = let parts = length-append front rest in let all = ap length e in
+    omega (arith, parts, all)
 
 fewer_before : (front list : List Cell) → Begins front list → length front ≤ length list
-fewer_before front list (rest, e) = let parts = length-append front rest in let all = ap length e in omega (arith, parts, all)
+fewer_before front list (rest, e) = let parts = length-append front rest in let all = ap length e in
+    omega (arith, parts, all)
 
 -- a chain that is no longer than the intervals of another is no longer than that
 no_longer : (one two : List Cell) → length (flat one) ≤ length (flat two) → Begins one two → length one ≤ length two
@@ -63,14 +53,16 @@ not_more one two fits (extra, e) =
 
 -- the longest chain there
 longest : (profile : Profile) (x : ℕ) (two others more : List Cell) → IsChainAfter profile x two
-    → others ≡ Zero x ∷ more → FollowOn profile others → Begins (flat others) (x ∷ flat two) → length others ≤ suc (length two)
+    → others ≡ Zero x ∷ more → FollowOn profile others → Begins (flat others) (x ∷ flat two)
+    → length others ≤ suc (length two)
 longest profile x two others more twos first chain (rest, e) =
     let chain_too : FollowOn profile (Zero x ∷ more) = rw first at chain in
     let e_too : x ∷ flat two ≡ (x ∷ flat more) ++ rest = e ∙ ap (λ (l : List Cell). flat l ++ rest) first in
     let tail : flat two ≡ flat more ++ rest = cc in
     let fits = front_fits (flat more) (flat two) rest tail in
     let count : length others ≡ suc (length more) = ap length first in
-    let fewer : length more ≤ length two = elim (comparable profile (kept_at_lock profile x) more two (flat two) chain_too.1 twos (rest, tail) ([], sym (append-nil (flat two)))) [
+    let fewer : length more ≤ length two = elim (comparable profile (kept_at_lock profile x) more two
+    (flat two) chain_too.1 twos (rest, tail) ([], sym (append-nil (flat two)))) [
       | inl before ↦ no_longer more two fits before
       | inr after ↦ not_more more two fits after
     ] in
@@ -91,9 +83,15 @@ one_stretch said profile x a b more chain =
       rising = λ lt. absurd (omega (arith, pair.1));
       falling = λ lt. refl;
     } in
-    let from : IsChainFrom profile list 0 cells = record { first = (One a b ∷ more, refl); chain = follow; front = ([], sym (append-nil list)) } in
+    let from : IsChainFrom profile list 0 cells = record {
+      first = (One a b ∷ more, refl);
+      chain = follow;
+      front =
+          ([], sym (append-nil list));
+    } in
     let none : drop (end_of (whole cells)) list ≡ [] = drop_all (end_of (whole cells)) list (omega arith) in
-    let broken : IsBreak profile (kept_of profile cells) (end_of (whole cells)) (drop (end_of (whole cells)) list) None = rw none refl in
+    let broken : IsBreak profile (kept_of profile cells) (end_of (whole cells))
+    (drop (end_of (whole cells)) list) None = rw none refl in
     let is : IsStretch profile list (whole cells) = record {
       chain = from;
       longest = λ others c. longest profile x (One a b ∷ more) others c.first.0 follow.1 c.first.1 c.chain c.front;
@@ -102,7 +100,8 @@ one_stretch said profile x a b more chain =
     (lock, is, refl)
 
 -- and so are cells with these bits
-pub whole_is : AreAsSaid → (profile : Profile) (cells : List Cell) (list : List Bool) → IsChain profile cells → bits cells ≡ false ∷ true ∷ list
+pub whole_is : AreAsSaid → (profile : Profile) (cells : List Cell) (list : List Bool) → IsChain profile cells
+    → bits cells ≡ false ∷ true ∷ list
     → AreStretches profile (flat cells) (whole cells ∷ [])
 whole_is said profile [] list chain are = absurd cc
 whole_is said profile (Zero x ∷ []) list chain are = absurd cc

@@ -1,5 +1,7 @@
--- 80 bits that end in the sync word spell a word or are at fault, so a window has events, and so has each stretch, and each list.
-use Rattle.std.proofs.Common.{◌≡◌, ◌<◌, ◌≤◌, ◌⊎◌, ℕ, ◌-◌, ◌^◌, List, [], ◌∷◌, ◌++◌, length, take, drop, map, Bool, Some, None, inl, inr}
+-- 80 bits that end in the sync word spell a word or are at fault, so a window has events, and so has each stretch, and
+-- each list.
+use Rattle.std.proofs.Common.{◌≡◌, ◌<◌, ◌≤◌, ◌⊎◌, ℕ, ◌-◌, ◌^◌, List, [], ◌∷◌, ◌++◌, length, take, drop, map, Bool, Some}
+use Rattle.std.proofs.Common.{None, inl, inr}
 use Rattle.std.proofs.Common.{arith, refl, zero, suc}
 use Rattle.std.specs.List.{flat_map, range_with_len}
 use Rattle.std.proofs.lemmas.List.{length-map, length-take}
@@ -27,20 +29,24 @@ use Rattle.direction_reader.specs.Windows.{number_of, window_at}
 use Rattle.direction_reader.specs.ListEvents.{break_events}
 use Rattle.direction_reader.specs.ListEvents.{AreEvents, events_of_stretch}
 use Rattle.direction_reader.proofs.BitsShift.{bit_value-least}
-use Rattle.direction_reader.proofs.OneList.{in_sync_or_not}
+use Rattle.ltc_word.specs.SyncLemmas.{in_sync_or_not}
 
--- 80 bits that end in the sync word spell a word or have a first fault of their fields, and in the other order they are 80 bits too
+-- 80 bits that end in the sync word spell a word or have a first fault of their fields, and in the other order they are
+-- 80 bits too
 pub record AreRead : Type 0 where
   pub word_or_fault : (system : System) (bits : ℕ) → bits < 2 ^ 80 → EndsInSync bits
-      → ((word : LtcWord) × Spells system word bits) ⊎ ((fault : FieldFault) × (first_fault system bits ≡ Some (Field fault)))
+      → ((word : LtcWord) × Spells system word bits) ⊎ ((fault : FieldFault)
+      × (first_fault system bits ≡ Some (Field fault)))
   pub width : (bits : ℕ) → reversed_bits bits < 2 ^ 80
 
 -- each list of intervals has stretches
 abbrev pub HaveStretches : Type 0
-HaveStretches = (profile : Profile) (intervals : List ℕ) → (stretches : List Stretch) × AreStretches profile intervals stretches
+HaveStretches = (profile : Profile) (intervals : List ℕ)
+    → (stretches : List Stretch) × AreStretches profile intervals stretches
 
 -- a candidate has an event
-candidate_event : AreRead → (system : System) (direction : Direction) (bits end length : ℕ) → bits < 2 ^ 80 → EndsInSync bits
+candidate_event : AreRead → (system : System) (direction : Direction) (bits end length : ℕ) → bits < 2 ^ 80
+    → EndsInSync bits
     → (event : Event) × IsEventOf system direction bits end length event
 candidate_event read system direction bits end length width sync =
     elim (read.word_or_fault system bits width sync) [
@@ -131,7 +137,8 @@ windows_events read system tick cells (k ∷ ks) =
     (event_list own.0 ++ rest.0, (own.0, rest.0, own.1, rest.1, refl))
 
 -- a stretch has events
-stretch_events : AreRead → (system : System) (l : List ℕ) (s : Stretch) → (events : List Event) × AreEventsOfStretch system l s events
+stretch_events : AreRead → (system : System) (l : List ℕ) (s : Stretch)
+    → (events : List Event) × AreEventsOfStretch system l s events
 stretch_events read system l s =
     let own = windows_events read system (begin_of l s) s.cells (range_with_len 0 (length s.cells - 79)) in
     (own.0 ++ break_events l s.broken_at, (own.0, own.1, refl))

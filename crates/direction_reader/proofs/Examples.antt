@@ -1,4 +1,5 @@
--- The events of small recordings, computed. Which stretches they have, and which bits spell a word, say the laws of the crates below.
+-- The events of small recordings, computed. Which stretches they have, and which bits spell a word, say the laws of the
+-- crates below.
 use Rattle.std.proofs.Common.{◌≡◌, ℕ, Bool, true, false, List, [], ◌∷◌, ◌++◌, Some, None, append-nil, refl, sym}
 use Rattle.std.specs.Prelude.{◌==◌}
 use Rattle.std.specs.Int.{reverse_bits_onto}
@@ -19,7 +20,8 @@ use Rattle.ltc_word.specs.declared.word.LtcWord.{LtcWord}
 use Rattle.ltc_word.specs.declared.word.WordFault.TheVariants.{Field}
 use Rattle.ltc_word.specs.Fault.{first_fault, wrong_sync_bit}
 use Rattle.ltc_word.specs.Reversal.{EndsInSync, reversed_bits}
-use Rattle.ltc_word.specs.Spelling.{Spells, word_with, flags}
+use Rattle.ltc_word.specs.Spelling.{Spells, word_with}
+use Rattle.tc_bits.specs.Fields.{flags}
 use Rattle.direction_reader.specs.declared.event.Event.{Event}
 use Rattle.direction_reader.specs.declared.event.Event.TheVariants.{Word, Refused, Lost}
 use Rattle.direction_reader.specs.declared.event.Events.{Events}
@@ -52,7 +54,8 @@ no_candidate system bits end length not_forward not_backward = record {
 }
 
 -- a window that is a word, read forward
-word_forward : (system : System) (bits end length : ℕ) (word : LtcWord) → in_sync bits ≡ true → in_sync (reversed_bits bits) ≡ false
+word_forward : (system : System) (bits end length : ℕ) (word : LtcWord) → in_sync bits ≡ true
+    → in_sync (reversed_bits bits) ≡ false
     → Spells system word bits → AreEventsOf system bits end length (one_event (Word Forward word end length))
 word_forward system bits end length word forward not_backward spells = record {
   forward = λ _. (refl, spells, refl, refl);
@@ -63,8 +66,10 @@ word_forward system bits end length word forward not_backward spells = record {
 }
 
 -- read backward
-word_backward : (system : System) (bits end length : ℕ) (word : LtcWord) → in_sync bits ≡ false → in_sync (reversed_bits bits) ≡ true
-    → Spells system word (reversed_bits bits) → AreEventsOf system bits end length (one_event (Word Backward word end length))
+word_backward : (system : System) (bits end length : ℕ) (word : LtcWord) → in_sync bits ≡ false
+    → in_sync (reversed_bits bits) ≡ true
+    → Spells system word (reversed_bits bits) → AreEventsOf system bits end length
+    (one_event (Word Backward word end length))
 word_backward system bits end length word not_forward backward spells = record {
   forward = λ forward. absurd (is_not bits not_forward forward);
   backward = λ _ _. ((refl, spells, refl, refl), refl);
@@ -75,10 +80,15 @@ word_backward system bits end length word not_forward backward spells = record {
 
 -- a candidate both ways, whose units of frames are at fault both ways
 abbrev refused_twice : ℕ → Events
-refused_twice end = record { first = Some (Refused Forward FrameUnits end); second = Some (Refused Backward FrameUnits end) }
+refused_twice end = record {
+  first = Some (Refused Forward FrameUnits end);
+  second =
+      Some (Refused Backward FrameUnits end);
+}
 
 both_ways : (system : System) (bits end length : ℕ) → in_sync bits ≡ true → in_sync (reversed_bits bits) ≡ true
-    → first_fault system bits ≡ Some (Field FrameUnits) → first_fault system (reversed_bits bits) ≡ Some (Field FrameUnits)
+    → first_fault system bits ≡ Some (Field FrameUnits)
+    → first_fault system (reversed_bits bits) ≡ Some (Field FrameUnits)
     → AreEventsOf system bits end length (refused_twice end)
 both_ways system bits end length forward backward first second = record {
   forward = λ _. (refl, first, refl);
@@ -101,18 +111,27 @@ quiet_then system window more events not_forward not_backward others = (
 )
 
 -- the last window
-last_window : (system : System) (window : CellWindow) (own : Events) → AreEventsOf system window.bits window.end window.length own
+last_window : (system : System) (window : CellWindow) (own : Events)
+    → AreEventsOf system window.bits window.end window.length own
     → AreEventsOfWindows system (window ∷ []) (event_list own)
 last_window system window own are = (own, [], are, refl, sym (append-nil (event_list own)))
 
 -- the only stretch of a list
-only_stretch : (system : System) (intervals : List ℕ) (stretch : Stretch) (own : List Event) → AreStretches Normal intervals (stretch ∷ [])
+only_stretch : (system : System) (intervals : List ℕ) (stretch : Stretch) (own : List Event)
+    → AreStretches Normal intervals (stretch ∷ [])
     → AreEventsOfWindows system (windows (begin_of intervals stretch) stretch.cells) own
     → AreGathered system Normal intervals (own ++ break_events intervals stretch.broken_at)
 only_stretch system intervals stretch own are windows = (
   stretch ∷ [],
   are,
-  (own ++ break_events intervals stretch.broken_at, [], (own, windows, refl), refl, sym (append-nil (own ++ break_events intervals stretch.broken_at))),
+  (
+    own ++ break_events intervals stretch.broken_at,
+    [],
+    (own, windows, refl),
+    refl,
+    sym
+        (append-nil (own ++ break_events intervals stretch.broken_at)),
+  ),
 )
 
 -- the word of 00:00:00:00 at 25 frames, behind a zero and a one
@@ -128,28 +147,35 @@ forward_cells = cells_of 82 0x2fff02000000000000002
 forward_windows : Spelled → AreEventsOfWindows F25 (windows 0 forward_cells) (Word Forward midnight 1968 1920 ∷ [])
 unfolding cells_of reverse_bits_onto
 forward_windows spelled =
-    quiet_then F25 (window_at 0 forward_cells 0) (window_at 0 forward_cells 1 ∷ window_at 0 forward_cells 2 ∷ []) _ refl refl
+    quiet_then F25 (window_at 0 forward_cells 0)
+    (window_at 0 forward_cells 1 ∷ window_at 0 forward_cells 2 ∷ []) _ refl refl
     (quiet_then F25 (window_at 0 forward_cells 1) (window_at 0 forward_cells 2 ∷ []) _ refl refl
     (last_window F25 (window_at 0 forward_cells 2) (one_event (Word Forward midnight 1968 1920))
     (word_forward F25 0xbffc0800000000000000 1968 1920 midnight refl refl spelled)))
 
-pub forward : Spelled → AreStretches Normal (recording 82 0x2fff02000000000000002) (stretch_of 82 0x2fff02000000000000002 None ∷ [])
+pub forward : Spelled → AreStretches Normal (recording 82 0x2fff02000000000000002)
+    (stretch_of 82 0x2fff02000000000000002 None ∷ [])
     → AreGathered F25 Normal (recording 82 0x2fff02000000000000002) (Word Forward midnight 1968 1920 ∷ [])
-forward spelled are = only_stretch F25 (recording 82 0x2fff02000000000000002) (stretch_of 82 0x2fff02000000000000002 None) _ are (forward_windows spelled)
+forward spelled are = only_stretch F25 (recording 82 0x2fff02000000000000002)
+    (stretch_of 82 0x2fff02000000000000002 None) _ are (forward_windows spelled)
 
 -- with an interval behind it at which its stretch breaks
-pub broken : Spelled → AreStretches Normal (recording 82 0x2fff02000000000000002 ++ 5 ∷ []) (stretch_of 82 0x2fff02000000000000002 (Some 97) ∷ [])
-    → AreGathered F25 Normal (recording 82 0x2fff02000000000000002 ++ 5 ∷ []) (Word Forward midnight 1968 1920 ∷ Lost 97 1973 ∷ [])
+pub broken : Spelled → AreStretches Normal (recording 82 0x2fff02000000000000002 ++ 5 ∷ [])
+    (stretch_of 82 0x2fff02000000000000002 (Some 97) ∷ [])
+    → AreGathered F25 Normal (recording 82 0x2fff02000000000000002 ++ 5 ∷ [])
+    (Word Forward midnight 1968 1920 ∷ Lost 97 1973 ∷ [])
 unfolding cells_of
 broken spelled are =
     only_stretch F25 (recording 82 0x2fff02000000000000002 ++ 5 ∷ []) (stretch_of 82 0x2fff02000000000000002 (Some 97))
     (Word Forward midnight 1968 1920 ∷ []) are (forward_windows spelled)
 
 -- with a half behind it that waits
-pub half : Spelled → AreStretches Normal (recording 82 0x2fff02000000000000002 ++ 12 ∷ []) (stretch_of 82 0x2fff02000000000000002 None ∷ [])
+pub half : Spelled → AreStretches Normal (recording 82 0x2fff02000000000000002 ++ 12 ∷ [])
+    (stretch_of 82 0x2fff02000000000000002 None ∷ [])
     → AreGathered F25 Normal (recording 82 0x2fff02000000000000002 ++ 12 ∷ []) (Word Forward midnight 1968 1920 ∷ [])
 half spelled are =
-    only_stretch F25 (recording 82 0x2fff02000000000000002 ++ 12 ∷ []) (stretch_of 82 0x2fff02000000000000002 None) _ are (forward_windows spelled)
+    only_stretch F25 (recording 82 0x2fff02000000000000002 ++ 12 ∷ [])
+    (stretch_of 82 0x2fff02000000000000002 None) _ are (forward_windows spelled)
 
 -- the word from its end, behind a zero
 abbrev backward_cells : List Cell
@@ -169,16 +195,19 @@ abbrev both_cells : List Cell
 both_cells = cells_of 81 0x17ff80000000000007ffa
 
 pub both : AreStretches Normal (recording 81 0x17ff80000000000007ffa) (stretch_of 81 0x17ff80000000000007ffa None ∷ [])
-    → AreGathered F25 Normal (recording 81 0x17ff80000000000007ffa) (Refused Forward FrameUnits 1944 ∷ Refused Backward FrameUnits 1944 ∷ [])
+    → AreGathered F25 Normal (recording 81 0x17ff80000000000007ffa)
+    (Refused Forward FrameUnits 1944 ∷ Refused Backward FrameUnits 1944 ∷ [])
 unfolding cells_of reverse_bits_onto wrong_sync_bit
 both are =
-    only_stretch F25 (recording 81 0x17ff80000000000007ffa) (stretch_of 81 0x17ff80000000000007ffa None) (event_list (refused_twice 1944)) are
+    only_stretch F25 (recording 81 0x17ff80000000000007ffa) (stretch_of 81 0x17ff80000000000007ffa None)
+    (event_list (refused_twice 1944)) are
     (quiet_then F25 (window_at 0 both_cells 0) (window_at 0 both_cells 1 ∷ []) _ refl refl
     (last_window F25 (window_at 0 both_cells 1) (refused_twice 1944)
     (both_ways F25 0xbffc0000000000003ffd 1944 1920 refl refl refl refl)))
 
 -- a stretch that breaks, and one that begins there
-pub two : AreStretches Normal (24 ∷ 12 ∷ 24 ∷ 12 ∷ 12 ∷ []) (with_break 2 (begun 0 24) ∷ with_cell (One 12 12) (begun 2 24) ∷ [])
+pub two : AreStretches Normal (24 ∷ 12 ∷ 24 ∷ 12 ∷ 12 ∷ [])
+    (with_break 2 (begun 0 24) ∷ with_cell (One 12 12) (begun 2 24) ∷ [])
     → AreGathered F25 Normal (24 ∷ 12 ∷ 24 ∷ 12 ∷ 12 ∷ []) (Lost 2 60 ∷ [])
 two are = (
   with_break 2 (begun 0 24) ∷ with_cell (One 12 12) (begun 2 24) ∷ [],

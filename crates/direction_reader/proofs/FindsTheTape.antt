@@ -1,8 +1,10 @@
 -- From the second unequal pair of a piece of the tape on the last stretch has the tape's own cells, so its windows that
 -- begin there are the tape's. All other words begin before, and the stretches before it are broken by then. What the
 -- recording has behind the piece comes later.
-use Rattle.std.proofs.Common.{◌≡◌, ◌<◌, ◌≤◌, ℕ, ◌+◌, ◌-◌, zero, suc, List, [], ◌∷◌, ◌++◌, length, take, drop, sum, Option, Some, None, MatchOption}
-use Rattle.std.proofs.Common.{get_or, ap, arith, append_assoc, append-nil, length-append, inl, inr, refl, subst, sym, ◌∙◌, All, IsSomeAnd}
+use Rattle.std.proofs.Common.{◌≡◌, ◌<◌, ◌≤◌, ℕ, ◌+◌, ◌-◌, zero, suc, List, [], ◌∷◌, ◌++◌, length, take, drop, sum}
+use Rattle.std.proofs.Common.{Option, Some, None, MatchOption}
+use Rattle.std.proofs.Common.{get_or, ap, arith, append_assoc, append-nil, length-append, inl, inr, refl, subst, sym}
+use Rattle.std.proofs.Common.{◌∙◌, All, IsSomeAnd}
 use Rattle.std.proofs.lemmas.Bool.{cases_lt}
 use Rattle.std.proofs.lemmas.Option.{MatchOption-at_some}
 use Rattle.std.proofs.lemmas.Grind.{flat_map-append}
@@ -11,12 +13,15 @@ use Rattle.std.proofs.lemmas.List.Elements.{All-nil, All-cons, All-append, All-h
 use Rattle.std.proofs.lemmas.List.Sums.{sum_by-append, sum_by-take-drop, sum_by-cons}
 use Rattle.biphase.specs.declared.cell.Cell.{Cell}
 use Rattle.biphase.specs.declared.profile.Profile.{Profile}
+use Rattle.biphase.specs.declared.profile.Profile.TheVariants.{Rough}
 use Rattle.biphase.specs.Latest.{Latest}
 use Rattle.biphase.specs.Tolerance.{LooksAtLast}
 use Rattle.biphase.specs.Chain.{intervals_of, flat, kept_of}
-use Rattle.biphase.specs.Laws.{half_or_not}
+use Rattle.biphase.specs.ToleranceLemmas.{half_or_not}
+use Rattle.cell_tracker.specs.EvenRun.{IsEvenRun}
 use Rattle.cell_tracker.specs.FoundAgain.{IsSecondLock, AreFrom, BreaksBy}
 use Rattle.cell_tracker.specs.ChainPiece.{IsPiece, cells_from}
+use Rattle.cell_tracker.specs.Lock.{IsLock}
 use Rattle.cell_tracker.specs.Stretch.{Stretch, end_of, IsBreak, IsStretch, AreStretches, AreStretchesFrom}
 use Rattle.tc_address.specs.declared.system.System.{System}
 use Rattle.tc_address.specs.declared.direction.Direction.{Direction}
@@ -31,16 +36,18 @@ use Rattle.direction_reader.specs.Gathered.{begin_of}
 use Rattle.direction_reader.specs.Windows.{CellWindow, windows}
 use Rattle.direction_reader.specs.ListEvents.{duration, break_events}
 use Rattle.direction_reader.specs.ListEvents.{AreEvents}
-use Rattle.direction_reader.specs.Tape.{ComesBehind, ComesBy, FindsTheTape}
+use Rattle.direction_reader.specs.Tape.{ComesBehind, ComesBy, FindsTheTape, FindsTheTapeBehindOnes, TellFrom}
 use Rattle.direction_reader.proofs.AsLists.{AreListed}
-use Rattle.direction_reader.proofs.OneList.{in_sync_or_not}
+use Rattle.ltc_word.specs.SyncLemmas.{in_sync_or_not}
 use Rattle.direction_reader.proofs.WindowsGrow.{few}
 use Rattle.direction_reader.proofs.WindowsFromCells.{duration_of, windows_cons, front_longer, front_most, front_within}
 
 -- the stretches are the tape's from a place on
 abbrev pub IsFoundAgain : Type 0
-IsFoundAgain = (profile : Profile) → LooksAtLast profile → (before kept : List ℕ) (cells : List Cell) (cut second : ℕ) (stretches : List Stretch)
-    → IsPiece profile kept cells cut → IsSecondLock profile kept second → AreStretches profile (before ++ kept) stretches
+IsFoundAgain = (profile : Profile) → LooksAtLast profile
+    → (before kept : List ℕ) (cells : List Cell) (cut second : ℕ) (stretches : List Stretch)
+    → IsPiece profile kept cells cut → IsSecondLock profile kept second
+    → AreStretches profile (before ++ kept) stretches
     → AreFrom (length before + second) (cells_from cells cut kept second) stretches
 
 -- ---- the events of a window come at its end
@@ -130,11 +137,13 @@ words_by system tick (cell ∷ cells) end es less are =
     elim (cases_lt (length (cell ∷ cells)) 80) [
       | inl fewer ↦ same_by end es [] (no_windows system tick (cell ∷ cells) es fewer are) (none_by end)
       | inr many ↦ (
-          let split = subst (λ (ws : List CellWindow). AreEventsOfWindows system ws es) (windows_cons tick cell cells (omega arith)) are in
+          let split = subst (λ (ws : List CellWindow). AreEventsOfWindows system ws es)
+          (windows_cons tick cell cells (omega arith)) are in
           let ends : tick + duration (take 80 (cell ∷ cells)) ≤ end = omega (arith, front_within 80 (cell ∷ cells)) in
           same_by end es _ split.4 (both_by end (event_list split.0) split.1
           (window_by system _ _ _ end split.0 ends split.2)
-          (words_by system (tick + duration (cell ∷ [])) cells end split.1 (omega (arith, duration_of cell cells)) split.3)))
+          (words_by system (tick + duration (cell ∷ [])) cells end split.1
+          (omega (arith, duration_of cell cells)) split.3)))
     ]
 
 -- ---- the windows that begin at a cell or later
@@ -178,7 +187,8 @@ split system tick (cell ∷ older) cells es are =
           })
       | inr many ↦ (
           let begin = tick + duration (cell ∷ []) in
-          let first = subst (λ (ws : List CellWindow). AreEventsOfWindows system ws es) (windows_cons tick cell (older ++ cells) many) are in
+          let first = subst (λ (ws : List CellWindow). AreEventsOfWindows system ws es)
+          (windows_cons tick cell (older ++ cells) many) are in
           let more = split system begin older cells first.1 first.3 in
           let place : begin + duration older ≡ tick + duration (cell ∷ older) = omega (arith, duration_of cell older) in
           let own = event_list first.0 in
@@ -202,7 +212,8 @@ split system tick (cell ∷ older) cells es are =
 -- ---- the places of a stretch and their ticks
 
 -- the sum of a list up to the end of some intervals of it
-pub sum_at : (l xs rest : List ℕ) (lock : ℕ) → drop lock l ≡ xs ++ rest → sum (take (lock + length xs) l) ≡ sum (take lock l) + sum xs
+pub sum_at : (l xs rest : List ℕ) (lock : ℕ) → drop lock l ≡ xs ++ rest
+    → sum (take (lock + length xs) l) ≡ sum (take lock l) + sum xs
 sum_at l xs rest lock same =
     let dropped : drop (lock + length xs) l ≡ rest =
     sym (drop-drop (length xs) lock l) ∙ ap (drop (length xs)) same ∙ drop_at xs rest (length xs) refl in
@@ -229,7 +240,8 @@ sum_later (x ∷ l) (suc i) (suc j) less =
     )
 
 -- a break does not stand before the end of the cells
-pub break_behind : (profile : Profile) (c : Latest) (after : ℕ) (rest : List ℕ) (place : Option ℕ) (p : ℕ) → IsBreak profile c after rest place
+pub break_behind : (profile : Profile) (c : Latest) (after : ℕ) (rest : List ℕ) (place : Option ℕ) (p : ℕ)
+    → IsBreak profile c after rest place
     → place ≡ Some p → after ≤ p
 break_behind profile c after [] place p is some = absurd cc
 break_behind profile c after (x ∷ []) place p is some = elim (half_or_not profile c x) [
@@ -252,7 +264,8 @@ end_tick profile l s is = sum_at l (flat s.cells) is.chain.front.0 s.lock is.cha
 
 -- ---- the events of the stretches before the last
 
-record Parted (system : System) (profile : Profile) (l : List ℕ) (from : ℕ) (last : Stretch) (events : List Event) : Type 0 where
+record Parted (system : System) (profile : Profile) (l : List ℕ) (from : ℕ) (last : Stretch)
+    (events : List Event) : Type 0 where
   past : List Event
   later : List Event
   are : events ≡ past ++ later
@@ -265,13 +278,15 @@ words_by_all : (end : ℕ) (es : List Event) → AreWordsBy end es → All (Ends
 words_by_all end es are = λ k d within. (are k d within).0
 
 -- what has a stretch behind it is broken, and its events come before
-of_broken : (system : System) (profile : Profile) (l : List ℕ) (from p : ℕ) (s : Stretch) (es : List Event) → IsStretch profile l s
+of_broken : (system : System) (profile : Profile) (l : List ℕ) (from p : ℕ) (s : Stretch) (es : List Event)
+    → IsStretch profile l s
     → s.broken_at ≡ Some p → p ≤ from → AreEventsOfStretch system l s es
     → ((end : ℕ) → sum (take from l) ≤ end → All (EndsBy end) es) × All (LostBy from) es
 of_broken system profile l from p s es is some by (own, are, join) =
     let lost = Lost p (sum (take (p + 1) l)) in
     let all : es ≡ own ++ (lost ∷ []) = join ∙ ap (λ o. own ++ break_events l o) some in
-    let ends = break_behind profile (kept_of profile s.cells) (end_of s) (drop (end_of s) l) s.broken_at p is.broken some in
+    let ends = break_behind profile (kept_of profile s.cells) (end_of s)
+    (drop (end_of s) l) s.broken_at p is.broken some in
     let tick = end_tick profile l s is in
     let later = sum_later l (end_of s) from (omega (arith, ends, by)) in
     let words : (end : ℕ) → sum (take from l) ≤ end → AreWordsBy end own =
@@ -287,9 +302,11 @@ of_broken system profile l from p s es is some by (own, are, join) =
 
 behind : (profile : Profile) (l : List ℕ) (o : Option ℕ) (p : ℕ) (ss : List Stretch) → o ≡ Some p
     → MatchOption o (ss ≡ []) (λ place. AreStretchesFrom profile l place ss) → AreStretchesFrom profile l p ss
-behind profile l o p ss some after = MatchOption-at_some (ss ≡ []) (λ place. AreStretchesFrom profile l place ss) p some after
+behind profile l o p ss some after = MatchOption-at_some (ss ≡ [])
+    (λ place. AreStretchesFrom profile l place ss) p some after
 
-parted : (system : System) (profile : Profile) (l : List ℕ) (start from : ℕ) (earlier : List Stretch) (last : Stretch) (es : List Event)
+parted : (system : System) (profile : Profile) (l : List ℕ) (start from : ℕ) (earlier : List Stretch) (last : Stretch)
+    (es : List Event)
     → AreStretchesFrom profile l start (earlier ++ last ∷ []) → All (BreaksBy from) earlier
     → AreEventsOfStretches system l (earlier ++ last ∷ []) es → Parted system profile l from last es
 parted system profile l start from [] last es stretches broken (own, rest, is, none, join) = record {
@@ -305,7 +322,8 @@ parted system profile l start from (s ∷ earlier) last es stretches broken (own
     let place = some_place s.broken_at from (All-head (BreaksBy from) s earlier broken) in
     let mine = of_broken system profile l from place.0 s own stretches.1 place.1 place.2 is in
     let more = parted system profile l place.0 from earlier last rest
-    (behind profile l s.broken_at place.0 (earlier ++ last ∷ []) place.1 stretches.2) (All-tail (BreaksBy from) s earlier broken) others in
+    (behind profile l s.broken_at place.0 (earlier ++ last ∷ []) place.1 stretches.2)
+    (All-tail (BreaksBy from) s earlier broken) others in
     record {
       past = own ++ more.past;
       later = more.later;
@@ -327,8 +345,10 @@ record TellTo (system : System) (l : List ℕ) (from : ℕ) (cells : List Cell) 
   no_other_word : All (EndsBy (sum (take from l) + duration (take 79 cells))) past
   no_other_break : All (LostBy from) past
 
-tell_to : (system : System) (profile : Profile) (l : List ℕ) (from : ℕ) (cells : List Cell) (ss : List Stretch) (es : List Event)
-    → AreStretches profile l ss → AreFrom from cells ss → AreEventsOfStretches system l ss es → TellTo system l from cells es
+tell_to : (system : System) (profile : Profile) (l : List ℕ) (from : ℕ) (cells : List Cell) (ss : List Stretch)
+    (es : List Event)
+    → AreStretches profile l ss → AreFrom from cells ss → AreEventsOfStretches system l ss es
+    → TellTo system l from cells es
 tell_to system profile l from cells ss es stretches found are =
     let last = found.last in
     let all = found.earlier ++ last ∷ [] in
@@ -365,41 +385,65 @@ tell_to system profile l from cells ss es stretches found are =
 
 -- what the events of a front have behind them
 abbrev pub IsFrontFirst : Type 0
-IsFrontFirst = (system : System) (profile : Profile) (front more : List ℕ) (events all : List Event) → AreEvents system profile front events
+IsFrontFirst = (system : System) (profile : Profile) (front more : List ℕ) (events all : List Event)
+    → AreEvents system profile front events
     → AreEvents system profile (front ++ more) all → (rest : List Event) × (all ≡ events ++ rest)
 
 abbrev pub IsBehind : Type 0
-IsBehind = (system : System) (profile : Profile) (front more : List ℕ) (events rest : List Event) → AreEvents system profile front events
+IsBehind = (system : System) (profile : Profile) (front more : List ℕ) (events rest : List Event)
+    → AreEvents system profile front events
     → AreEvents system profile (front ++ more) (events ++ rest) → All (ComesBehind front) rest
 
 abbrev pub EventsExist : Type 0
-EventsExist = (system : System) (profile : Profile) (intervals : List ℕ) → (events : List Event) × AreEvents system profile intervals events
+EventsExist = (system : System) (profile : Profile) (intervals : List ℕ)
+    → (events : List Event) × AreEvents system profile intervals events
 
 pub record Fronts : Type 0 where
   pub exist : EventsExist
   pub first : IsFrontFirst
   pub behind : IsBehind
 
-pub finds_the_tape : AreListed → IsFoundAgain → Fronts → (system : System) (profile : Profile) (l : List ℕ)
-    (es : List Event) → AreEvents system profile l es → FindsTheTape system profile l es
-finds_the_tape lists law fronts system profile l es are = λ looks before kept behind cells cut second same piece is2.
-    let front = before ++ kept in
+-- what the events are from a place on, where the stretches of a front are the tape's from there on
+pub tells_from : AreListed → Fronts → (system : System) (profile : Profile) (l : List ℕ) (es : List Event)
+    → AreEvents system profile l es → (front behind : List ℕ) (from : ℕ) (cells : List Cell) → l ≡ front ++ behind
+    → ((ss : List Stretch) → AreStretches profile front ss → AreFrom from cells ss) → TellFrom system front from cells es
+tells_from lists fronts system profile l es are front behind from cells same law =
     let whole = subst (λ (xs : List ℕ). AreEvents system profile xs es) same are in
     let mine = fronts.exist system profile front in
     let rest = fronts.first system profile front behind mine.0 es mine.1 whole in
     let late = fronts.behind system profile front behind mine.0 rest.0 mine.1
     (subst (λ (e : List Event). AreEvents system profile (front ++ behind) e) rest.1 whole) in
     let own = lists.gathered system profile front mine.0 mine.1 in
-    let from = length before + second in
-    let there = cells_from cells cut kept second in
-    let found = tell_to system profile front from there own.0 mine.0 own.1
-    (law profile looks before kept cells cut second own.0 piece is2 own.1) own.2 in
-    let words = lists.cells system (sum (take from front)) there found.later found.words in
+    let found = tell_to system profile front from cells own.0 mine.0 own.1 (law own.0 own.1) own.2 in
+    let words = lists.cells system (sum (take from front)) cells found.later found.words in
     record {
       past = found.past;
       behind = rest.0;
       are = rest.1 ∙ ap (λ (e : List Event). e ++ rest.0) (found.are ∙ ap (λ (e : List Event). found.past ++ e) words);
-      no_others = all_by (sum (take from front) + duration (take 79 there)) from found.past found.no_other_word
+      no_others = all_by (sum (take from front) + duration (take 79 cells)) from found.past found.no_other_word
           found.no_other_break;
       none_before_the_end = late;
     }
+
+pub finds_the_tape : AreListed → IsFoundAgain → Fronts → (system : System) (profile : Profile) (l : List ℕ)
+    (es : List Event) → AreEvents system profile l es → FindsTheTape system profile l es
+finds_the_tape lists law fronts system profile l es are = λ looks before kept behind cells cut second same piece is2.
+    tells_from lists fronts system profile l es are (before ++ kept) behind (length before + second)
+    (cells_from cells cut kept second) same
+    (λ ss stretches. law profile looks before kept cells cut second ss piece is2 stretches)
+
+-- ---- under the rough tolerance, behind even ones
+
+-- the stretches are the tape's from a place on
+abbrev pub IsFoundBehindOnes : Type 0
+IsFoundBehindOnes = (before kept : List ℕ) (cells : List Cell) (cut end second : ℕ) (stretches : List Stretch)
+    → IsPiece Rough kept cells cut → IsEvenRun kept cells cut end → IsLock Rough kept end second
+    → AreStretches Rough (before ++ kept) stretches
+    → AreFrom (length before + second) (cells_from cells cut kept second) stretches
+
+pub finds_behind_ones : AreListed → IsFoundBehindOnes → Fronts → (system : System) (l : List ℕ) (es : List Event)
+    → AreEvents system Rough l es → FindsTheTapeBehindOnes system l es
+finds_behind_ones lists law fronts system l es are = λ before kept behind cells cut end second same piece run next.
+    tells_from lists fronts system Rough l es are (before ++ kept) behind (length before + second)
+    (cells_from cells cut kept second) same
+    (λ ss stretches. law before kept cells cut end second ss piece run next stretches)

@@ -2,7 +2,7 @@
 -- told lie within those of the cells.
 use Rattle.std.proofs.Common.{◌≡◌, ◌<◌, ◌≤◌, ℕ, ◌+◌, ◌-◌, Bool, true, false, List, [], ◌∷◌, ◌++◌, length, Option, Some}
 use Rattle.std.proofs.Common.{None, IfSome}
-use Rattle.std.proofs.Common.{ap, sym, ◌∙◌, arith, refl, subst, length-append, append-nil, inl, inr}
+use Rattle.std.proofs.Common.{ap, sym, ◌∙◌, arith, refl, subst, length-append, append-nil, inl, inr, map}
 use Rattle.std.specs.Prelude.{nat_lt}
 use Rattle.std.specs.Option.{option_map}
 use Rattle.std.proofs.lemmas.Bool.{cases_lt}
@@ -21,10 +21,12 @@ use Rattle.direction_reader.specs.declared.waiting.Heard.{Heard}
 use Rattle.direction_reader.specs.declared.waiting.Waiting.{Waiting}
 use Rattle.direction_reader.specs.Beside.{BesideBits, none_beside, beside_with, is_firm_before, is_sync_behind}
 use Rattle.direction_reader.specs.Brings.{IsWordAt}
-use Rattle.direction_reader.specs.Firm.{judged, firm_events_of_cells}
+use Rattle.direction_reader.specs.Events.{tick_of}
+use Rattle.direction_reader.specs.Firm.{judged, firm_events_of_cells, told_tick, DoNotFall}
 use Rattle.direction_reader.specs.FirmStandsFor.{KeptFirm, FirmCellsStandFor, WaitsFor, beside_of}
 use Rattle.direction_reader.specs.FirmStep.{FindsAt, AreWindowCandidates, heard, began, or_else, ended, firm_list}
-use Rattle.direction_reader.specs.FirmStep.{IsWithin, IsToldWithin}
+use Rattle.direction_reader.specs.FirmStep.{IsWithin, IsToldWithin, firm_listed, until_of}
+use Rattle.direction_reader.specs.declared.firm_event.FirmEvents.{FirmEvents}
 use Rattle.direction_reader.specs.FirmStep.{IsWaitingWithin, WaitsWithin, TellsWithin}
 use Rattle.direction_reader.specs.LatestBits.{after_bit}
 use Rattle.direction_reader.specs.LatestCells.{with_boundary}
@@ -32,6 +34,7 @@ use Rattle.direction_reader.specs.ListEvents.{duration}
 use Rattle.direction_reader.proofs.CellsGrow.{cell_more, duration_more}
 use Rattle.direction_reader.proofs.FirmCellsGrow.{heard_stands, ended_stands}
 use Rattle.direction_reader.proofs.FirmKept.{all_found, beside_more, firm_before, sync_behind}
+use Rattle.direction_reader.proofs.FirmTicks.{judged_tick}
 use Rattle.direction_reader.proofs.SyncInTime.{WordLaws}
 
 -- ---- numbers
@@ -77,6 +80,7 @@ later_waits before tick (Some w) late is =
       word = later_event before tick w.word late is.word;
       behind = later_option before tick w.behind late
           is.behind;
+      later = is.later;
     }
 
 or_within : (tick : ℕ) (a b : Option FirmEvent) → IfSome a (IsToldWithin tick) → IfSome b (IsToldWithin tick)
@@ -87,9 +91,10 @@ or_within tick (Some e) b one two = one
 began_within : (tick : ℕ) (first second : Option FirmEvent) (backward : Option Event) → IfSome first (IsToldWithin tick)
     → IfSome second (IsToldWithin tick) → IfSome backward (IsWithin tick)
     → WaitsWithin tick (began first second backward).waiting × TellsWithin tick (began first second backward).told
-began_within tick first second None one two back = (tt, record { first = one; second = two; third = tt })
+began_within tick first second None one two back =
+    (tt, record { first = one; second = two; third = tt; no_word = tt })
 began_within tick first second (Some (Word d w t n)) one two back =
-    (record { word = back; behind = tt }, record { first = one; second = two; third = tt })
+    (record { word = back; behind = tt; later = tt }, record { first = one; second = two; third = tt; no_word = tt })
 began_within tick first second (Some (Refused d f t)) one two back = (
   tt,
   record {
@@ -97,28 +102,59 @@ began_within tick first second (Some (Refused d f t)) one two back = (
     second = two;
     third =
         back;
+    no_word = refl;
   },
 )
 began_within tick first second (Some (Lost p t)) one two back = absurd back
 
+-- an event that is told at a tick is told no sooner than one that ended by it
+within_tick : (tick : ℕ) (event : Event) → IsWithin tick event → tick_of event ≤ tick
+within_tick tick (Word d w t n) is = is.0
+within_tick tick (Refused d f t) is = is
+within_tick tick (Lost p t) is = absurd is
+
+abbrev IsToldAt : ℕ → FirmEvent → Type 0
+IsToldAt tick event = told_tick event ≡ tick
+
+or_later : (from tick : ℕ) (a b : Option FirmEvent) → from ≤ tick → IfSome a (λ event. from ≤ told_tick event)
+    → IfSome b (IsToldAt tick) → IfSome (or_else a b) (λ event. from ≤ told_tick event)
+or_later from tick None None late one two = tt
+or_later from tick None (Some e) late one two = omega (arith, late, two)
+or_later from tick (Some e) b late one two = one
+
 heard_within : (tick : ℕ) (waits : Option Waiting) (sync : Bool) (forward : Option FirmEvent) (backward : Option Event)
     → WaitsWithin tick waits
-    → IfSome forward (IsToldWithin tick) → IfSome backward (IsWithin tick)
+    → IfSome forward (IsToldWithin tick) → IfSome forward (IsToldAt tick) → IfSome backward (IsWithin tick)
     → WaitsWithin tick (heard waits sync forward backward).waiting × TellsWithin tick (heard waits sync forward
     backward).told
-heard_within tick None sync forward backward waits one back = began_within tick None forward backward tt one back
-heard_within tick (Some w) sync forward backward waits one back =
+heard_within tick None sync forward backward waits one at back = began_within tick None forward backward tt one back
+heard_within tick (Some w) sync forward backward waits one at back =
     let behind = or_within tick w.behind forward waits.behind one in
+    let later = or_later (tick_of w.word) tick w.behind forward (within_tick tick w.word waits.word) waits.later at in
     elim (cases_lt w.age 15) [
       | inl less ↦ (
           let test : nat_lt w.age 15 ≡ true = grind (arith, common_steps) in
-          rw test (record { word = waits.word; behind = behind }, record { first = tt; second = tt; third = tt }))
+          rw test (
+            record { word = waits.word; behind = behind; later = later },
+            record { first = tt; second = tt; third = tt; no_word = tt },
+          ))
       | inr last ↦ (
           let test : nat_lt w.age 15 ≡ false = grind (arith, common_steps) in
           let is = began_within tick (Some (judged sync w.word)) (or_else w.behind forward) backward (judged_within
           tick sync w.word waits.word) behind back in
           rw test is)
     ]
+
+-- a candidate of the window that ends at a tick is told of that tick
+at_tick : (tick : ℕ) (event : Event) → IsWordAt tick event → tick_of event ≡ tick
+at_tick tick (Word d w t n) at = at.0
+at_tick tick (Refused d f t) at = at
+at_tick tick (Lost p t) at = absurd at
+
+told_at : (tick : ℕ) (firm : Bool) (o : Option Event) → IfSome o (IsWordAt tick)
+    → IfSome (option_map (judged firm) o) (IsToldAt tick)
+told_at tick firm None at = tt
+told_at tick firm (Some event) at = judged_tick firm event ∙ at_tick tick event at
 
 -- what one cell tells
 pub add_within : (before tick : ℕ) (waits : Option Waiting) (firm sync : Bool) (found : Candidates) → before ≤ tick
@@ -129,8 +165,140 @@ pub add_within : (before tick : ℕ) (waits : Option Waiting) (firm sync : Bool)
 add_within before tick waits firm sync found late within at =
     heard_within tick waits sync (option_map (judged firm) found.forward) found.backward (later_waits before tick waits
     late within)
-    (all_judged_within tick firm found.forward (found_within tick found.forward at.forward)) (found_within tick
-    found.backward at.backward)
+    (all_judged_within tick firm found.forward (found_within tick found.forward at.forward))
+    (told_at tick firm found.forward at.forward) (found_within tick found.backward at.backward)
+
+-- ---- in turn
+
+in_turn_append : (xs ys : List ℕ) (a b c : ℕ) → DoNotFall a xs b → DoNotFall b ys c → DoNotFall a (xs ++ ys) c
+in_turn_append [] [] a b c one two = omega (arith, one, two)
+in_turn_append [] (y ∷ ys) a b c one two = let first = two.0 in (omega (arith, one, first), two.1)
+in_turn_append (x ∷ xs) ys a b c one two = (one.0, in_turn_append xs ys x b c one.1 two)
+
+one_in_turn : (a b : ℕ) (o : Option FirmEvent) → a ≤ b
+    → IfSome o (λ event. (a ≤ told_tick event) × (told_tick event ≤ b)) → DoNotFall a (map told_tick (firm_listed o)) b
+one_in_turn a b None le is = le
+one_in_turn a b (Some e) le is = is
+
+three_in_turn : (told : FirmEvents) (a b c d : ℕ) → DoNotFall a (map told_tick (firm_listed told.first)) b
+    → DoNotFall b (map told_tick (firm_listed told.second)) c
+    → DoNotFall c (map told_tick (firm_listed told.third)) d → DoNotFall a (map told_tick (firm_list told)) d
+three_in_turn told a b c d one two three =
+    let f = firm_listed told.first in
+    let s = firm_listed told.second in
+    let t = firm_listed told.third in
+    let split : map told_tick (f ++ s ++ t) ≡ (map told_tick f ++ map told_tick s) ++ map told_tick t =
+    map-append told_tick (f ++ s) t ∙ ap (λ (ns : List ℕ). ns ++ map told_tick t) (map-append told_tick f s) in
+    subst (λ (ns : List ℕ). DoNotFall a ns d) (sym split)
+    (in_turn_append (map told_tick f ++ map told_tick s) (map told_tick t) a c d
+    (in_turn_append (map told_tick f) (map told_tick s) a b c one two) three)
+
+-- what is told where a cell ends at a tick
+began_in_turn : (from tick : ℕ) (first second : Option FirmEvent) (backward : Option Event)
+    → DoNotFall from (map told_tick (firm_listed first)) from
+    → DoNotFall from (map told_tick (firm_listed second)) tick → IfSome backward (IsWordAt tick)
+    → DoNotFall from (map told_tick (firm_list (began first second backward).told))
+    (until_of tick (began first second backward).waiting)
+began_in_turn from tick first second None one two back =
+    three_in_turn (began first second None).told from from tick tick one two (omega arith)
+began_in_turn from tick first second (Some (Word d w t n)) one two back =
+    let at = back.0 in
+    three_in_turn (began first second (Some (Word d w t n))).told from from tick t one two (omega (arith, at))
+began_in_turn from tick first second (Some (Refused d f t)) one two back =
+    three_in_turn (began first second (Some (Refused d f t))).told from from tick tick one two
+    (omega (arith, back), omega (arith, back))
+began_in_turn from tick first second (Some (Lost p t)) one two back = absurd back
+
+-- a candidate of the cell, behind an earlier tick
+forward_in_turn : (from tick : ℕ) (o : Option FirmEvent) → from ≤ tick → IfSome o (IsToldAt tick)
+    → DoNotFall from (map told_tick (firm_listed o)) tick
+forward_in_turn from tick None late at = late
+forward_in_turn from tick (Some e) late at = (omega (arith, late, at), omega (arith, at))
+
+told_within : (tick : ℕ) (event : FirmEvent) → IsToldWithin tick event → told_tick event ≤ tick
+told_within tick (Told event) is = within_tick tick event is
+told_within tick (Alone d t) is = is
+
+-- what stood behind a word
+waited_in_turn : (from before tick : ℕ) (a : Option FirmEvent) → from ≤ before → before ≤ tick
+    → IfSome a (IsToldWithin before) → IfSome a (λ event. from ≤ told_tick event)
+    → DoNotFall from (map told_tick (firm_listed a)) tick
+waited_in_turn from before tick None first late within one = omega (arith, first, late)
+waited_in_turn from before tick (Some e) first late within one =
+    let by = told_within before e within in (one, omega (arith, by, late))
+
+until_within : (tick : ℕ) (waits : Option Waiting) → WaitsWithin tick waits → until_of tick waits ≤ tick
+until_within tick None within = omega arith
+until_within tick (Some w) within = within_tick tick w.word within.word
+
+until_later : (before now : ℕ) (waits : Option Waiting) → before ≤ now → until_of before waits ≤ until_of now waits
+until_later before now None late = late
+until_later before now (Some w) late = omega arith
+
+ends_later : (ticks : List ℕ) (a b c : ℕ) → DoNotFall a ticks b → b ≤ c → DoNotFall a ticks c
+ends_later [] a b c turn late = omega (arith, turn, late)
+ends_later (t ∷ ticks) a b c turn late = (turn.0, ends_later ticks t b c turn.1 late)
+
+-- what stood behind a word, or comes now
+behind_in_turn : (from before tick : ℕ) (a b : Option FirmEvent) → from ≤ before → before ≤ tick
+    → IfSome a (IsToldWithin before) → IfSome a (λ event. from ≤ told_tick event) → IfSome b (IsToldAt tick)
+    → DoNotFall from (map told_tick (firm_listed (or_else a b))) tick
+behind_in_turn from before tick None b first late within one two =
+    forward_in_turn from tick b (omega (arith, first, late)) two
+behind_in_turn from before tick (Some e) b first late within one two =
+    let by = told_within before e within in (one, omega (arith, by, late))
+
+heard_in_turn : (before tick : ℕ) (waits : Option Waiting) (sync : Bool) (forward : Option FirmEvent)
+    (backward : Option Event) → before ≤ tick → WaitsWithin before waits → IfSome forward (IsToldAt tick)
+    → IfSome backward (IsWordAt tick)
+    → DoNotFall (until_of before waits) (map told_tick (firm_list (heard waits sync forward backward).told))
+    (until_of tick (heard waits sync forward backward).waiting)
+heard_in_turn before tick None sync forward backward late within one back =
+    began_in_turn before tick None forward backward (omega arith) (forward_in_turn before tick forward late one) back
+heard_in_turn before tick (Some w) sync forward backward late within one back =
+    let from = tick_of w.word in
+    let first = within_tick before w.word within.word in
+    elim (cases_lt w.age 15) [
+      | inl less ↦ (
+          let test : nat_lt w.age 15 ≡ true = grind (arith, common_steps) in
+          let is : from ≤ from = omega arith in
+          rw test is)
+      | inr last ↦ (
+          let test : nat_lt w.age 15 ≡ false = grind (arith, common_steps) in
+          let same = judged_tick sync w.word in
+          let is = began_in_turn from tick (Some (judged sync w.word)) (or_else w.behind forward) backward
+          (omega (arith, same), omega (arith, same))
+          (behind_in_turn from before tick w.behind forward first late within.behind within.later one) back in
+          rw test is)
+    ]
+
+-- what one cell tells
+pub add_in_turn : (before tick : ℕ) (waits : Option Waiting) (firm sync : Bool) (found : Candidates) → before ≤ tick
+    → WaitsWithin before waits → FindsAt tick found
+    → DoNotFall (until_of before waits)
+    (map told_tick (firm_list (heard waits sync (option_map (judged firm) found.forward) found.backward).told))
+    (until_of tick (heard waits sync (option_map (judged firm) found.forward) found.backward).waiting)
+add_in_turn before tick waits firm sync found late within at =
+    heard_in_turn before tick waits sync (option_map (judged firm) found.forward) found.backward late within
+    (told_at tick firm found.forward at.forward) at.backward
+
+-- what the end of a stretch tells
+pub end_in_turn : (before tick : ℕ) (waits : Option Waiting) → before ≤ tick → WaitsWithin before waits
+    → DoNotFall (until_of before waits) (map told_tick (firm_list (ended waits))) tick
+end_in_turn before tick None late within = late
+end_in_turn before tick (Some w) late within =
+    let from = tick_of w.word in
+    let first = within_tick before w.word within.word in
+    three_in_turn (ended (Some w)) from from tick tick (omega arith, omega arith)
+    (waited_in_turn from before tick w.behind first late within.behind within.later) (omega arith)
+
+-- a stretch begins anew
+pub begins_in_turn : (before now : ℕ) (old new : Option Waiting) (ticks : List ℕ) → before ≤ now
+    → WaitsWithin before old → ((from : ℕ) → from ≤ before → DoNotFall from ticks (until_of before new))
+    → DoNotFall (until_of before old) ticks (until_of now new)
+begins_in_turn before now old new ticks late within law =
+    ends_later ticks (until_of before old) (until_of before new) (until_of now new)
+    (law (until_of before old) (until_within before old within)) (until_later before now new late)
 
 -- ---- what is kept
 

@@ -32,7 +32,7 @@ use Rattle.direction_reader.proofs.FirmWindows.{spans_join, span_one, spans_more
 use Rattle.direction_reader.proofs.FirmWindows.{candidate_stays, forward_stays}
 use Rattle.direction_reader.proofs.FirmWindows.{events_stay, needs_stay, not_yet}
 use Rattle.direction_reader.proofs.InSync.{sync_true, sync_false, sync_holds}
-use Rattle.direction_reader.proofs.OneList.{in_sync_or_not}
+use Rattle.ltc_word.specs.SyncLemmas.{in_sync_or_not}
 use Rattle.direction_reader.proofs.SyncInTime.{WordLaws, window_bits}
 use Rattle.direction_reader.proofs.SyncsApart.{backwards_apart, forwards_apart}
 
@@ -79,7 +79,7 @@ forward_apart cells j k low high one two =
     forwards_apart (bits cells) j k low high (rw (number_is cells j) at one) (rw (number_is cells k) at two)
 
 -- beside a word that is played backward there is no other backward candidate
-alone_before : WordLaws → (system : System) (tick : ℕ) (cells : List Cell) (j k : ℕ) → j < k → k < j + 16
+pub alone_before : WordLaws → (system : System) (tick : ℕ) (cells : List Cell) (j k : ℕ) → j < k → k < j + 16
     → IsBackward cells k
     → candidate_at system tick cells j Backward ≡ []
 alone_before laws system tick cells j k low high is =
@@ -91,7 +91,7 @@ alone_behind : WordLaws → (system : System) (tick : ℕ) (cells : List Cell) (
 alone_behind laws system tick cells j k low high is =
     no_backward system tick cells k (λ other. apart laws cells j k low high is other)
 
-needs_of_none : (system : System) (tick : ℕ) (cells : List Cell) (k : ℕ)
+pub needs_of_none : (system : System) (tick : ℕ) (cells : List Cell) (k : ℕ)
     → candidate_at system tick cells k Backward ≡ [] → NeedsNone system tick cells k
 needs_of_none system tick cells k none one two = rw none refl
 
@@ -104,7 +104,7 @@ forward_only system tick cells k none =
     ap (λ (es : List FirmEvent). firm_candidate_at system tick cells k Forward ++ es) nothing
     ∙ append-nil (firm_candidate_at system tick cells k Forward)
 
-both_ways : (system : System) (tick : ℕ) (cells : List Cell) (k : ℕ)
+pub both_ways : (system : System) (tick : ℕ) (cells : List Cell) (k : ℕ)
     → firm_events_at system tick cells k ≡ firm_candidate_at system tick cells k Forward ++ firm_candidate_at system
     tick cells k Backward
 unfolding firm_events_at

@@ -5,7 +5,7 @@ use Rattle.std.proofs.Common.{ap, ap₂, sym, ◌∙◌, arith, refl, subst, app
 use Rattle.std.specs.Prelude.{nat_lt, ◌==◌, ◌||◌}
 use Rattle.std.specs.List.{flat_map, range_with_len, AllZip}
 use Rattle.std.proofs.lemmas.Grind.{common_steps}
-use Rattle.std.proofs.lemmas.List.Elements.{All-nil, All-cons, All-append, All-same}
+use Rattle.std.proofs.lemmas.List.Elements.{All-nil, All-cons, All-append, All-head, All-tail, All-same}
 use Rattle.biphase.specs.declared.cell.Cell.{Cell}
 use Rattle.biphase.specs.declared.profile.Profile.{Profile}
 use Rattle.cell_tracker.specs.ChainPiece.{IsPiece, cells_from, stretch_of_piece}
@@ -25,7 +25,8 @@ use Rattle.direction_reader.specs.Candidate.{event_of, candidate_in}
 use Rattle.direction_reader.specs.Firm.{AreFirmEvents, is_firm, judged, candidate_at, firm_candidate_at, firm_events_at}
 use Rattle.direction_reader.specs.Firm.{firm_events_of_cells}
 use Rattle.direction_reader.specs.Firm.{firm_events_of_stretch}
-use Rattle.direction_reader.specs.FirmTape.{IsJudged, HasWitness, FirmTellsTheTape}
+use Rattle.direction_reader.specs.FirmTape.{AreWitnessed, HasWitnessIn, IsJudged, HasWitness, FirmTellsTheTape}
+use Rattle.direction_reader.specs.Gathered.{begin_of}
 use Rattle.direction_reader.specs.ListEvents.{AreEvents, bits_in, break_events, duration, events_at, events_of_cells}
 use Rattle.direction_reader.specs.ListEvents.{events_of_stretch, events_of_window}
 use Rattle.direction_reader.proofs.AsLists.{by_fault}
@@ -112,7 +113,7 @@ one_firm_list one system profile l es fs (ss, stretches, are) (ts, others, too) 
 -- ---- each word has its witness
 
 -- the event of a candidate in a direction, by the first fault of its fields
-abbrev event_by : System → Direction → ℕ → ℕ → ℕ → Option FieldFault → Event
+abbrev pub event_by : System → Direction → ℕ → ℕ → ℕ → Option FieldFault → Event
 event_by system d bits end n o = elim o [ None ↦ Word d (word_in system bits) end n | Some fault ↦ Refused d fault end ]
 
 witness_by : (system : System) (tick : ℕ) (cells : List Cell) (k : ℕ) (d : Direction) (bits end n : ℕ) (o : Option
@@ -171,6 +172,48 @@ cells_witness system tick cells (suc n) is = windows_witness system tick cells 0
 pub all_witness : (system : System) (tick : ℕ) (cells : List Cell)
     → All (HasWitness tick cells) (firm_events_of_cells system tick cells)
 all_witness system tick cells = cells_witness system tick cells (length cells - 79) refl
+
+-- of a stretch, and of stretches
+either : (l : List ℕ) (s : Stretch) (ss : List Stretch) (es : List FirmEvent)
+    → All (HasWitness (begin_of l s) s.cells) es → All (HasWitnessIn l (s ∷ ss)) es
+either l s ss [] all = All-nil (HasWitnessIn l (s ∷ ss))
+either l s ss (e ∷ es) all =
+    All-cons (HasWitnessIn l (s ∷ ss)) e es (inl (All-head (HasWitness (begin_of l s) s.cells) e es all))
+    (either l s ss es (All-tail (HasWitness (begin_of l s) s.cells) e es all))
+
+among_more : (l : List ℕ) (s : Stretch) (ss : List Stretch) (es : List FirmEvent)
+    → All (HasWitnessIn l ss) es → All (HasWitnessIn l (s ∷ ss)) es
+among_more l s ss [] all = All-nil (HasWitnessIn l (s ∷ ss))
+among_more l s ss (e ∷ es) all =
+    All-cons (HasWitnessIn l (s ∷ ss)) e es (inr (All-head (HasWitnessIn l ss) e es all))
+    (among_more l s ss es (All-tail (HasWitnessIn l ss) e es all))
+
+break_witness : (l : List ℕ) (tick : ℕ) (cells : List Cell) (place : Option ℕ)
+    → All (HasWitness tick cells) (map (λ (e : Event). Told e) (break_events l place))
+break_witness l tick cells None = All-nil (HasWitness tick cells)
+break_witness l tick cells (Some p) =
+    All-cons (HasWitness tick cells) (Told (Lost p (sum (take (p + 1) l)))) [] tt (All-nil (HasWitness tick cells))
+
+stretches_witnessed : (system : System) (l : List ℕ) (ss : List Stretch)
+    → All (HasWitnessIn l ss) (flat_map (firm_events_of_stretch system l) ss)
+stretches_witnessed system l [] = All-nil (HasWitnessIn l [])
+stretches_witnessed system l (s ∷ ss) =
+    let tick = begin_of l s in
+    let broken = map (λ (e : Event). Told e) (break_events l s.broken_at) in
+    All-append (HasWitnessIn l (s ∷ ss)) (firm_events_of_stretch system l s)
+    (flat_map (firm_events_of_stretch system l) ss)
+    (either l s ss (firm_events_of_stretch system l s) (All-append (HasWitness tick s.cells)
+    (firm_events_of_cells system tick s.cells) broken (all_witness system tick s.cells)
+    (break_witness l tick s.cells s.broken_at)))
+    (among_more l s ss (flat_map (firm_events_of_stretch system l) ss) (stretches_witnessed system l ss))
+
+pub list_witnessed : (system : System) (profile : Profile) (l : List ℕ) (fs : List FirmEvent)
+    → AreFirmEvents system profile l fs → AreWitnessed system profile l fs
+list_witnessed system profile l fs (ss, stretches, are) = record {
+  stretches = ss;
+  are = stretches;
+  each = rw are (stretches_witnessed system l ss);
+}
 
 -- ---- the tape
 

@@ -35,7 +35,8 @@ use Rattle.direction_reader.proofs.AsLists.{bits_are}
 use Rattle.direction_reader.proofs.BitsShift.{bit_value-least, number_of-append}
 use Rattle.direction_reader.proofs.CellsGrow.{oldest}
 use Rattle.direction_reader.proofs.FirmCellsGrow.{AreFound, forward_listed}
-use Rattle.direction_reader.proofs.WindowsGrow.{duration-append, last_window}
+use Rattle.direction_reader.proofs.WindowsGrow.{last_window}
+use Rattle.direction_reader.specs.PlayedLemmas.{duration-append}
 
 -- ---- numbers of bits
 

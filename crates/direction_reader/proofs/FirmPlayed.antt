@@ -33,9 +33,10 @@ use Rattle.direction_reader.proofs.FirmCellsGrow.{IsForward, IsBackward, number_
 use Rattle.direction_reader.proofs.FirmJudges.{all_firm}
 use Rattle.direction_reader.proofs.FirmKept.{cells_number, number_below, number_join}
 use Rattle.direction_reader.proofs.FirmWindows.{not_yet}
-use Rattle.direction_reader.proofs.OneList.{in_sync_or_not}
+use Rattle.ltc_word.specs.SyncLemmas.{in_sync_or_not}
 use Rattle.direction_reader.proofs.SyncsApart.{next_clear, fourteenth_clear, fifteenth_clear}
-use Rattle.direction_reader.proofs.SyncInTime.{WordLaws, Plays, Starts, Twelve, at, window_bits, length-low_bits, plays}
+use Rattle.direction_reader.proofs.SyncInTime.{WordLaws, Plays, Starts, Twelve, at, window_bits, plays}
+use Rattle.direction_reader.specs.PlayedLemmas.{length-low_bits, length-bits_of_words}
 use Rattle.direction_reader.proofs.SyncInTime.{quiet_forward, quiet_backward, led}
 use Rattle.direction_reader.proofs.SyncInTime.{lead_forward, lead_backward, no_other_way, no_way_forward, backward_ones}
 use Rattle.direction_reader.proofs.SyncInTime.{backward_set}
@@ -111,14 +112,6 @@ next_are cells w more p are =
     ap (λ (l : List Cell). bits l) (sym (drop-drop 80 p cells)) ∙ sym (drop-map bit_of 80 (drop p cells))
     ∙ ap (λ (l : List Bool). drop 80 l) are
     ∙ drop_at (played_bits w) (bits_of_words more) 80 (length-low_bits 80 _)
-
-length_words : (words : List Played) → length (bits_of_words words) ≡ 80 * length words
-length_words [] = refl
-length_words (w ∷ more) =
-    let e = length-low_bits 80 (in_time w.direction (spelling_of w.word)) in
-    let rest = length_words more in
-    let whole = length-append (played_bits w) (bits_of_words more) in
-    omega arith
 
 -- ---- the sync word of a window, as sixteen cells
 
@@ -342,7 +335,7 @@ all_cells : (cells : List Cell) (words : List Played) → bits cells ≡ false �
     → (CellsAre cells 2 words) × (2 + 80 * length words ≡ length cells)
 all_cells cells words are =
     let count = ap (λ (l : List Bool). length l) are in
-    let long = length_words words in (
+    let long = length-bits_of_words words in (
       sym (drop-map bit_of 2 cells) ∙ ap (λ (l : List Bool). drop 2 l) are,
       omega (
         arith,

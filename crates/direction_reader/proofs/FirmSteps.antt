@@ -6,6 +6,7 @@ use Rattle.std.proofs.Common.{append-nil, append_assoc, length-append, Some, Non
 use Rattle.std.specs.List.{flat_map}
 use Rattle.std.proofs.lemmas.Grind.{flat_map-append}
 use Rattle.std.proofs.lemmas.List.{take-append-le, take_all}
+use Rattle.lemmas.specs.Lists.{length-last}
 use Rattle.biphase.specs.declared.cell.Cell.{Cell}
 use Rattle.biphase.specs.declared.cell.Cell.TheVariants as cell
 use Rattle.biphase.specs.declared.profile.Profile.{Profile}
@@ -33,11 +34,11 @@ use Rattle.direction_reader.specs.Tracking.{AtCell, MidCell, Hunting}
 use Rattle.direction_reader.proofs.CellsGrow.{none_yet, duration_more}
 use Rattle.direction_reader.proofs.EventsJoin.{begin_stays, break_stays, all_inside, one_inside}
 use Rattle.direction_reader.proofs.FirmAdds.{end_stands}
-use Rattle.direction_reader.proofs.ReaderSteps.{sum_more, count_more, last_sum}
+use Rattle.direction_reader.proofs.ReaderSteps.{sum_more, last_sum}
 
 -- ---- the stretches that were there
 
-stretch_stays : (system : System) (l more : List ℕ) (s : Stretch) (n : ℕ) → n ≡ length l
+pub stretch_stays : (system : System) (l more : List ℕ) (s : Stretch) (n : ℕ) → n ≡ length l
     → Rattle.direction_reader.specs.StandsFor.IsInside n s
     → firm_events_of_stretch system (l ++ more) s ≡ firm_events_of_stretch system l s
 stretch_stays system l more s n count inside =
@@ -64,7 +65,7 @@ past_after r n x l told takes stands =
     ∙ past_stays r.system l (x ∷ []) stands.earlier stands.inside
 
 inside_after : (x : ℕ) (l : List ℕ) (ss : List Stretch) → AreInside (length l) ss → AreInside (length (l ++ x ∷ [])) ss
-inside_after x l ss inside = all_inside (length l) (length (l ++ x ∷ [])) ss (omega (arith, count_more l x)) inside
+inside_after x l ss inside = all_inside (length l) (length (l ++ x ∷ [])) ss (omega (arith, length-last l x)) inside
 
 -- ---- no cell ended
 
@@ -77,7 +78,7 @@ latest_waits r n x l (Some s) told takes same waits is =
     let half = waits refl in
     let ticks = takes.tick in
     let was = is.ends in
-    let count = count_more l x in
+    let count = length-last l x in
     let inside = is.lock in
     record {
       lock = omega arith;
@@ -89,7 +90,7 @@ pub nothing_ended : (r n : FirmState) (x : ℕ) (l : List ℕ) (told : List Firm
     → (stands : FirmStandsFor r l told) → StandsAfter r.tracker n.tracker x l stands.earlier stands.open_yet Nothing
     → FirmStandsFor n (l ++ x ∷ []) (told ++ [])
 nothing_ended r n x l told takes same stands after = record {
-  count = takes.intervals ∙ ap (λ m. m + 1) stands.count ∙ sym (count_more l x);
+  count = takes.intervals ∙ ap (λ m. m + 1) stands.count ∙ sym (length-last l x);
   sum_is = takes.tick ∙ ap (λ m. m + x) stands.sum_is ∙ sym (sum_more l x);
   earlier = stands.earlier;
   open_yet = stands.open_yet;
@@ -120,7 +121,7 @@ cell_opens r n x l s c bit told own takes adds is_bit long waits is =
     let ticks = takes.tick in
     let was = is.ends in
     let more = duration_more s.cells c in
-    let count = count_more l x in
+    let count = length-last l x in
     let inside = is.lock in
     let ends : n.tick ≡ begin + duration s.cells + length_of c = omega arith in
     record {
@@ -137,7 +138,7 @@ cell_told r n x l bit told own takes adds stands (s, c, open_yet, is_bit, long, 
     let is : FirmOpen r l s stands.latest = subst (λ (o : Option Stretch). FirmLatest r l o stands.latest) open_yet
     stands.latest_are in
     record {
-      count = takes.intervals ∙ ap (λ m. m + 1) stands.count ∙ sym (count_more l x);
+      count = takes.intervals ∙ ap (λ m. m + 1) stands.count ∙ sym (length-last l x);
       sum_is = takes.tick ∙ ap (λ m. m + x) stands.sum_is ∙ sym (sum_more l x);
       earlier = stands.earlier;
       open_yet = Some (with_cell c s);
@@ -178,9 +179,9 @@ begins r n x l told own lock first tick end takes adds ends_at within start ends
     let one : duration (cell.Zero first ∷ []) ≡ first = omega arith in
     let zero_ends : end ≡ tick + duration [] + first = omega arith in
     let kept = adds tick [] (cell.Zero first) [] (nothing_yet r.system tick) refl zero_ends in
-    let count = count_more l x in
+    let count = length-last l x in
     record {
-      count = takes.intervals ∙ ap (λ m. m + 1) stands.count ∙ sym (count_more l x);
+      count = takes.intervals ∙ ap (λ m. m + 1) stands.count ∙ sym (length-last l x);
       sum_is = takes.tick ∙ ap (λ m. m + x) stands.sum_is ∙ sym (sum_more l x);
       earlier = stands.earlier;
       open_yet = Some (begun lock first);
@@ -260,7 +261,7 @@ broken r n x l told takes empty stands (s, breaks, tracker) =
     let with = breaks_with r x l stands.open_yet s stands.latest stands.latest_are breaks in
     let counted : n.intervals - 1 ≡ length l = let a = takes.intervals in let b = stands.count in omega arith in
     let all_taken : take (length l + 1) (l ++ x ∷ []) ≡ l ++ x ∷ [] = take_all (length l + 1) (l ++ x ∷ []) (omega
-    (arith, count_more l x)) in
+    (arith, length-last l x)) in
     let summed : n.tick ≡ sum (l ++ x ∷ []) = takes.tick ∙ ap (λ m. m + x) stands.sum_is ∙ sym (sum_more l x) in
     let t = with_break (length l) s in
     let e = ended r.cells.waits in
@@ -268,7 +269,7 @@ broken r n x l told takes empty stands (s, breaks, tracker) =
     let pair = firm_listed e.first ++ firm_listed e.second in
     let same : lost ≡ map (λ (event : Event). Told event) (break_events (l ++ x ∷ []) (Some (length l))) =
     rw (counted, all_taken, summed) refl in
-    let more = count_more l x in
+    let more = length-last l x in
     let within = with.0 in
     let own : (stands.latest ++ pair) ++ lost ≡ firm_events_of_stretch r.system (l ++ x ∷ []) t =
     ap₂ (λ (a b : List FirmEvent). a ++ b) (ap (λ (es : List FirmEvent). stands.latest ++ es) (sym (two_ended
@@ -283,7 +284,7 @@ broken r n x l told takes empty stands (s, breaks, tracker) =
     stands.all ∙ ap (λ (es : List FirmEvent). es ++ stands.latest) (sym (past_stays r.system l (x ∷ []) stands.earlier
     stands.inside)) in
     record {
-      count = takes.intervals ∙ ap (λ m. m + 1) stands.count ∙ sym (count_more l x);
+      count = takes.intervals ∙ ap (λ m. m + 1) stands.count ∙ sym (length-last l x);
       sum_is = summed;
       earlier = stands.earlier ++ t ∷ [];
       open_yet = None;

@@ -97,7 +97,7 @@ forward_stays system tick cells more k within =
     (candidate_stays system tick cells more k Forward within)
 
 -- the 16 cells behind it, where they are there already, and where they are not there yet
-behind_stays : (cells more : List Cell) (k : ℕ) → k + 96 ≤ length cells
+pub behind_stays : (cells more : List Cell) (k : ℕ) → k + 96 ≤ length cells
     → is_firm Backward (cells ++ more) k ≡ is_firm Backward cells k
 behind_stays cells more k within =
     let long = length-append cells more in

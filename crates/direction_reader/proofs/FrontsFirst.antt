@@ -1,6 +1,7 @@
--- The stretches of the front of a list go on in those of the list: a broken one keeps its events, and the windows of the open one come first
--- among its windows. So the events of the front come first.
-use Rattle.std.proofs.Common.{◌≡◌, ◌<◌, ◌≤◌, ℕ, ◌+◌, ◌-◌, List, [], ◌∷◌, ◌++◌, length, take, drop, Option, Some, None, IfSome, MatchOption}
+-- The stretches of the front of a list go on in those of the list: a broken one keeps its events, and the windows of
+-- the open one come first among its windows. So the events of the front come first.
+use Rattle.std.proofs.Common.{◌≡◌, ◌<◌, ◌≤◌, ℕ, ◌+◌, ◌-◌, List, [], ◌∷◌, ◌++◌, length, take, drop, Option, Some, None}
+use Rattle.std.proofs.Common.{IfSome, MatchOption}
 use Rattle.std.proofs.Common.{ap, arith, append_assoc, append-nil, length-append, inl, inr, refl, subst, sym, ◌∙◌}
 use Rattle.std.specs.List.{slice_index}
 use Rattle.std.proofs.lemmas.List.{length-drop, take-append-drop}
@@ -10,7 +11,7 @@ use Rattle.biphase.specs.declared.cell.Cell.TheVariants.{Zero}
 use Rattle.biphase.specs.declared.profile.Profile.{Profile}
 use Rattle.biphase.specs.Latest.{Latest}
 use Rattle.biphase.specs.Chain.{Begins, flat, kept_of}
-use Rattle.biphase.specs.Laws.{half_or_not}
+use Rattle.biphase.specs.ToleranceLemmas.{half_or_not}
 use Rattle.cell_tracker.specs.Growing.{GrowsTo, GrowTo}
 use Rattle.cell_tracker.specs.Stretch.{Stretch, IsBreak, IsStretch, AreStretches, AreStretchesFrom, end_of}
 use Rattle.tc_address.specs.declared.system.System.{System}
@@ -28,7 +29,8 @@ use Rattle.direction_reader.proofs.WindowsGrow.{windows_stay}
 
 -- the stretches of the front of a list go on in those of the list
 abbrev pub StretchesGoOn : Type 0
-StretchesGoOn = (profile : Profile) (front more : List ℕ) (stretches later : List Stretch) → AreStretches profile front stretches
+StretchesGoOn = (profile : Profile) (front more : List ℕ) (stretches later : List Stretch)
+    → AreStretches profile front stretches
     → AreStretches profile (front ++ more) later → GrowTo stretches later
 
 -- ---- the windows of a front of cells
@@ -40,24 +42,28 @@ windows_split tick cells more =
     let n = length cells - 79 in
     let fewer : n ≤ length (cells ++ more) - 79 = omega (arith, length-append cells more) in
     let front : take n all ≡ windows tick cells =
-    take-map-range_with_len (window_at tick (cells ++ more)) 0 (length (cells ++ more) - 79) n fewer ∙ windows_stay tick cells more in
+    take-map-range_with_len (window_at tick (cells ++ more)) 0 (length (cells ++ more) - 79) n fewer
+    ∙ windows_stay tick cells more in
     sym (take-append-drop n all) ∙ ap (λ ws. ws ++ drop n all) front
 
 pub windows_first : (tick : ℕ) (cells more : List Cell) → Begins (windows tick cells) (windows tick (cells ++ more))
 windows_first tick cells more = (drop (length cells - 79) (windows tick (cells ++ more)), windows_split tick cells more)
 
 -- the events of one list, and those of it and a longer one
-joined : (own own' rest rest' all : List Event) → own' ≡ own → Begins rest rest' → all ≡ own' ++ rest' → Begins (own ++ rest) all
+joined : (own own' rest rest' all : List Event) → own' ≡ own → Begins rest rest' → all ≡ own' ++ rest'
+    → Begins (own ++ rest) all
 joined own own' rest rest' all same (more, is) join =
     (more, join ∙ ap (λ e. e ++ rest') same ∙ ap (λ e. own ++ e) is ∙ sym (append_assoc own rest more))
 
-pub events_of_windows : IsExact → (system : System) (ws vs : List CellWindow) (es fs : List Event) → AreEventsOfWindows system ws es
+pub events_of_windows : IsExact → (system : System) (ws vs : List CellWindow) (es fs : List Event)
+    → AreEventsOfWindows system ws es
     → AreEventsOfWindows system (ws ++ vs) fs → Begins es fs
 events_of_windows exact system [] vs es fs are too = (fs, ap (λ e. e ++ fs) (sym are))
 events_of_windows exact system (w ∷ ws) vs es fs (own, rest, is, others, join) (own', rest', is', others', join') =
     let same = one_list exact system w.bits w.end w.length own' own is' is in
     let more = events_of_windows exact system ws vs rest rest' others others' in
-    subst (λ e. Begins e fs) (sym join) (joined (event_list own) (event_list own') rest rest' fs (ap event_list same) more join')
+    subst (λ e. Begins e fs) (sym join) (joined (event_list own) (event_list own') rest rest' fs
+    (ap event_list same) more join')
 
 -- ---- stretches lie within their list
 
@@ -77,7 +83,8 @@ lock_inside profile l s is =
 is_place : (n p : ℕ) (place : Option ℕ) → place ≡ Some p → p < n → IfSome place (λ q. q < n)
 is_place n p place is within = rw is within
 
-break_inside : (profile : Profile) (c : Latest) (after n : ℕ) (rest : List ℕ) (place : Option ℕ) → length rest ≡ n - after
+break_inside : (profile : Profile) (c : Latest) (after n : ℕ) (rest : List ℕ) (place : Option ℕ)
+    → length rest ≡ n - after
     → IsBreak profile c after rest place → IfSome place (λ p. p < n)
 break_inside profile c after n [] place count is = rw is tt
 break_inside profile c after n (x ∷ []) place count is = elim (half_or_not profile c x) [
@@ -101,10 +108,12 @@ stretch_inside profile l s is =
 -- ---- a stretch that goes on
 
 -- the open stretch
-open_first : IsExact → (system : System) (l more : List ℕ) (s t : Stretch) (es fs : List Event) → s.lock ≤ length l → s.broken_at ≡ None
+open_first : IsExact → (system : System) (l more : List ℕ) (s t : Stretch) (es fs : List Event) → s.lock ≤ length l
+    → s.broken_at ≡ None
     → GrowsTo s t → AreEventsOfStretch system l s es → AreEventsOfStretch system (l ++ more) t fs → Begins es fs
 open_first exact system l more s t es fs within open_yet go (own, are, join) (own', are', join') =
-    let begin : begin_of (l ++ more) t ≡ begin_of l s = ap (λ k. begin_of (l ++ more) (record { lock = k; cells = t.cells; broken_at = None })) go.lock
+    let begin : begin_of (l ++ more) t ≡ begin_of l s =
+    ap (λ k. begin_of (l ++ more) (record { lock = k; cells = t.cells; broken_at = None })) go.lock
     ∙ begin_stays l more s within in
     let cells = go.cells in
     let first = windows_first (begin_of l s) s.cells cells.0 in
@@ -115,10 +124,15 @@ open_first exact system l more s t es fs within open_yet go (own, are, join) (ow
     let none : break_events l s.broken_at ≡ [] = rw open_yet refl in
     let is : es ≡ own = join ∙ ap (λ e. own ++ e) none ∙ append-nil own in
     let last = break_events (l ++ more) t.broken_at in
-    subst (λ e. Begins e fs) (sym is) (mine.0 ++ last, join' ∙ ap (λ e. e ++ last) mine.1 ∙ append_assoc own mine.0 last)
+    subst (λ e. Begins e fs) (sym is) (
+      mine.0 ++ last,
+      join' ∙ ap (λ e. e ++ last) mine.1
+          ∙ append_assoc own mine.0 last,
+    )
 
 -- a broken stretch
-pub broken_same : IsExact → (system : System) (l more : List ℕ) (s t : Stretch) (es fs : List Event) → IsInside (length l) s → t ≡ s
+pub broken_same : IsExact → (system : System) (l more : List ℕ) (s t : Stretch) (es fs : List Event)
+    → IsInside (length l) s → t ≡ s
     → AreEventsOfStretch system l s es → AreEventsOfStretch system (l ++ more) t fs → fs ≡ es
 broken_same exact system l more s t es fs inside same are too =
     let stays = stretch_stays system l more s es inside are in
@@ -128,7 +142,8 @@ broken_same exact system l more s t es fs inside same are too =
 -- ---- all stretches
 
 -- what follows a stretch, where the events of the stretches behind it come first
-behind : IsExact → (profile : Profile) (system : System) (l more : List ℕ) (s t : Stretch) (ss ts : List Stretch) (place : Option ℕ)
+behind : IsExact → (profile : Profile) (system : System) (l more : List ℕ) (s t : Stretch) (ss ts : List Stretch)
+    (place : Option ℕ)
     (own own' rest rest' all : List Event) → s.broken_at ≡ place
     → ((start : ℕ) → AreStretchesFrom profile l start ss → Begins rest rest')
     → IsStretch profile l s → MatchOption place (ss ≡ []) (λ start. AreStretchesFrom profile l start ss) → GrowsTo s t
@@ -139,18 +154,27 @@ behind exact profile system l more s t ss ts None own own' rest rest' all at aga
     let first = open_first exact system l more s t own own' inside.lock at go are too in
     let none : rest ≡ [] = subst (λ (xs : List Stretch). AreEventsOfStretches system l xs rest) last others in
     let mine : own ++ rest ≡ own = ap (λ e. own ++ e) none ∙ append-nil own in
-    subst (λ e. Begins e all) (sym mine) (first.0 ++ rest', join ∙ ap (λ e. e ++ rest') first.1 ∙ append_assoc own first.0 rest')
-behind exact profile system l more s t ss ts (Some start) own own' rest rest' all at again is next go are too others join =
+    subst (λ e. Begins e all) (sym mine) (
+      first.0 ++ rest',
+      join ∙ ap (λ e. e ++ rest') first.1
+          ∙ append_assoc own first.0 rest',
+    )
+behind exact profile system l more s t ss ts
+    (Some start) own own' rest rest' all at again is next go are too others join =
     let inside = stretch_inside profile l s is in
     let same = go.broken (rw at refl) in
-    joined own own' rest rest' all (broken_same exact system l more s t own own' inside same are too) (again start next) join
+    joined own own' rest rest' all (broken_same exact system l more s t own own' inside same are too)
+    (again start next) join
 
-stretches_first : IsExact → (profile : Profile) (system : System) (l more : List ℕ) (start : ℕ) (ss ts : List Stretch) (es fs : List Event)
-    → AreStretchesFrom profile l start ss → GrowTo ss ts → AreEventsOfStretches system l ss es → AreEventsOfStretches system (l ++ more) ts fs
+stretches_first : IsExact → (profile : Profile) (system : System) (l more : List ℕ) (start : ℕ) (ss ts : List Stretch)
+    (es fs : List Event)
+    → AreStretchesFrom profile l start ss → GrowTo ss ts → AreEventsOfStretches system l ss es
+    → AreEventsOfStretches system (l ++ more) ts fs
     → Begins es fs
 stretches_first exact profile system l more start [] ts es fs from go are too = (fs, ap (λ e. e ++ fs) (sym are))
 stretches_first exact profile system l more start (s ∷ ss) [] es fs from go are too = absurd go
-stretches_first exact profile system l more start (s ∷ ss) (t ∷ ts) es fs from go (own, rest, is, others, join) (own', rest', is', others', join') =
+stretches_first exact profile system l more start (s ∷ ss) (t ∷ ts) es fs from go (own, rest, is, others, join)
+    (own', rest', is', others', join') =
     let again : (next : ℕ) → AreStretchesFrom profile l next ss → Begins rest rest' =
     λ next after. stretches_first exact profile system l more next ss ts rest rest' after go.1 others others' in
     subst (λ e. Begins e fs) (sym join)
@@ -158,6 +182,8 @@ stretches_first exact profile system l more start (s ∷ ss) (t ∷ ts) es fs fr
 
 -- the events of the front of a list come first
 pub front_first : IsExact → StretchesGoOn → (system : System) (profile : Profile) (l more : List ℕ) (es fs : List Event)
-    → AreGathered system profile l es → AreGathered system profile (l ++ more) fs → (rest : List Event) × (fs ≡ es ++ rest)
+    → AreGathered system profile l es → AreGathered system profile (l ++ more) fs
+    → (rest : List Event) × (fs ≡ es ++ rest)
 front_first exact go_on system profile l more es fs (ss, stretches, are) (ts, later, too) =
-    stretches_first exact profile system l more 0 ss ts es fs stretches (go_on profile l more ss ts stretches later) are too
+    stretches_first exact profile system l more 0 ss ts es fs stretches
+    (go_on profile l more ss ts stretches later) are too

@@ -9,10 +9,12 @@ pub mod Examples
 pub mod FindsTheTape
 pub mod FirmAdds
 pub mod FirmCellsGrow
+pub mod FirmFronts
 pub mod FirmJudges
 pub mod FirmKept
 pub mod FirmPlayed
 pub mod FirmSteps
+pub mod FirmTicks
 pub mod FirmToldYet
 pub mod FirmWindows
 pub mod FrontsFirst

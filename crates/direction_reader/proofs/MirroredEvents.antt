@@ -1,6 +1,7 @@
--- A window read forward and the window in the other order read backward are one candidate. So the events of windows and of those in the other
--- order are the same, each met from its other end.
-use Rattle.std.proofs.Common.{◌≡◌, ◌<◌, ◌≤◌, ℕ, ◌+◌, ◌-◌, ◌^◌, zero, suc, List, [], ◌∷◌, ◌++◌, length, take, drop, map, reverse}
+-- A window read forward and the window in the other order read backward are one candidate. So the events of windows and
+-- of those in the other order are the same, each met from its other end.
+use Rattle.std.proofs.Common.{◌≡◌, ◌<◌, ◌≤◌, ℕ, ◌+◌, ◌-◌, ◌^◌, zero, suc, List, [], ◌∷◌, ◌++◌, length, take, drop, map}
+use Rattle.std.proofs.Common.{reverse}
 use Rattle.std.proofs.Common.{sum, get_or, Option, Some, None, IsSomeAnd}
 use Rattle.std.proofs.Common.{ap, arith, append_assoc, append-nil, length-append, inl, inr, refl, subst, sym, ◌∙◌, All}
 use Rattle.std.specs.List.{AllZip, range_with_len}
@@ -34,11 +35,13 @@ use Rattle.direction_reader.specs.ListEvents.{duration, AreEvents, events_of_cel
 use Rattle.direction_reader.specs.Mirror.{turned, IsMirrorOf, IsWindowOf, MirrorsTheTape}
 use Rattle.direction_reader.proofs.AsLists.{AreListed}
 use Rattle.direction_reader.proofs.EventsExist.{window_below}
-use Rattle.direction_reader.proofs.OneList.{IsExact, in_sync_or_not}
+use Rattle.direction_reader.proofs.OneList.{IsExact}
+use Rattle.ltc_word.specs.SyncLemmas.{in_sync_or_not}
 use Rattle.direction_reader.proofs.OneListOfEvents.{HasOneList}
 use Rattle.direction_reader.proofs.TellsTheTape.{IsOneStretch, words_told}
 use Rattle.direction_reader.proofs.FrontsFirst.{windows_split}
-use Rattle.direction_reader.proofs.LaterEvents.{EndsFrom, Positive, all_later_than, both_windows, front_lasts_longer, positive_chain, windows_from}
+use Rattle.direction_reader.proofs.LaterEvents.{EndsFrom, Positive, all_later_than, both_windows, front_lasts_longer}
+use Rattle.direction_reader.proofs.LaterEvents.{positive_chain, windows_from}
 use Rattle.direction_reader.proofs.MirroredWindows.{mirror_window, mirrored_windows, sum_reverse}
 use Rattle.direction_reader.proofs.WindowsFromCells.{duration_of, windows_cons, front_longer, front_within}
 use Rattle.direction_reader.proofs.WindowsGrow.{few}
@@ -49,36 +52,45 @@ TurnsBack = (bits : ℕ) → bits < 2 ^ 80 → reversed_bits (reversed_bits bits
 
 -- ---- lists that fit each other
 
-zip_append : (total begin : ℕ) (cells : List Cell) (one two other more : List Event) → AllZip (IsMirrorOf total begin cells) one two → AllZip (IsMirrorOf total begin cells) other more
+zip_append : (total begin : ℕ) (cells : List Cell) (one two other more : List Event)
+    → AllZip (IsMirrorOf total begin cells) one two → AllZip (IsMirrorOf total begin cells) other more
     → AllZip (IsMirrorOf total begin cells) (one ++ other) (two ++ more)
 zip_append total begin cells [] [] other more ones others = others
 zip_append total begin cells [] (e ∷ two) other more ones others = absurd ones
 zip_append total begin cells (e ∷ one) [] other more ones others = absurd ones
-zip_append total begin cells (e ∷ one) (f ∷ two) other more ones others = (ones.0, zip_append total begin cells one two other more ones.1 others)
+zip_append total begin cells (e ∷ one) (f ∷ two) other more ones others =
+    (ones.0, zip_append total begin cells one two other more ones.1 others)
 
 -- ---- one window
 
-one_mirrors : IsExact → (system : System) (d : Direction) (bits end there length total begin : ℕ) (cells : List Cell) (e f : Event) → IsWindowOf begin cells end length → there + end ≡ total + length
-    → IsEventOf system d bits end length e → IsEventOf system (turned d) bits there length f → IsMirrorOf total begin cells e f
+one_mirrors : IsExact → (system : System) (d : Direction) (bits end there length total begin : ℕ) (cells : List Cell)
+    (e f : Event) → IsWindowOf begin cells end length → there + end ≡ total + length
+    → IsEventOf system d bits end length e → IsEventOf system (turned d) bits there length f
+    → IsMirrorOf total begin cells e f
 one_mirrors exact system d bits end there length total begin cells (Word a w t n) (Word a' w' t' n') at place is too =
     let direction : a' ≡ turned a = too.0 ∙ ap turned (sym is.0) in
     let word : w' ≡ w = sym (exact.one_word system w w' bits is.1 too.1) in
     (direction, word, rw (is.2, is.3) at, omega (arith, is.2, is.3, too.2), too.3 ∙ sym is.3)
 one_mirrors exact system d bits end there length total begin cells (Word a w t n) (Refused a' g t') at place is too =
     let none = exact.no_fault system w bits is.1 in let some = too.1 in absurd cc
-one_mirrors exact system d bits end there length total begin cells (Word a w t n) (Lost p t') at place is too = absurd too
+one_mirrors exact system d bits end there length total begin cells (Word a w t n) (Lost p t') at place is too =
+    absurd too
 one_mirrors exact system d bits end there length total begin cells (Refused a g t) (Word a' w t' n) at place is too =
     let none = exact.no_fault system w bits too.1 in let some = is.1 in absurd cc
 one_mirrors exact system d bits end there length total begin cells (Refused a g t) (Refused a' g' t') at place is too =
     let direction : a' ≡ turned a = too.0 ∙ ap turned (sym is.0) in
     let fault : g' ≡ g = let one = is.1 in let other = too.1 in cc in
     (direction, fault, (length, rw is.2 at, omega (arith, is.2, too.2)))
-one_mirrors exact system d bits end there length total begin cells (Refused a g t) (Lost p t') at place is too = absurd too
+one_mirrors exact system d bits end there length total begin cells (Refused a g t) (Lost p t') at place is too =
+    absurd too
 one_mirrors exact system d bits end there length total begin cells (Lost p t) f at place is too = absurd is
 
-some_mirrors : IsExact → (system : System) (d : Direction) (bits end there length total begin : ℕ) (cells : List Cell) (e f : Option Event)
-    → IsWindowOf begin cells end length → there + end ≡ total + length → IsSomeAnd e (IsEventOf system d bits end length)
-    → IsSomeAnd f (IsEventOf system (turned d) bits there length) → AllZip (IsMirrorOf total begin cells) (listed e) (listed f)
+some_mirrors : IsExact → (system : System) (d : Direction) (bits end there length total begin : ℕ) (cells : List Cell)
+    (e f : Option Event)
+    → IsWindowOf begin cells end length → there + end ≡ total + length
+    → IsSomeAnd e (IsEventOf system d bits end length)
+    → IsSomeAnd f (IsEventOf system (turned d) bits there length)
+    → AllZip (IsMirrorOf total begin cells) (listed e) (listed f)
 some_mirrors exact system d bits end there length total begin cells None f at place is too = absurd is
 some_mirrors exact system d bits end there length total begin cells (Some e) None at place is too = absurd too
 some_mirrors exact system d bits end there length total begin cells (Some e) (Some f) at place is too =
@@ -95,25 +107,31 @@ none_listed : (o : Option Event) → o ≡ None → listed o ≡ []
 none_listed o none = rw none refl
 
 -- two and two events that mirror each other
-two_mirror : (total begin : ℕ) (cells : List Cell) (own other : Events) → AllZip (IsMirrorOf total begin cells) (listed own.first) (listed other.second)
+two_mirror : (total begin : ℕ) (cells : List Cell) (own other : Events)
+    → AllZip (IsMirrorOf total begin cells) (listed own.first) (listed other.second)
     → AllZip (IsMirrorOf total begin cells) (listed own.second) (listed other.first)
     → AllZip (IsMirrorOf total begin cells) (event_list own) (reverse (event_list other))
 two_mirror total begin cells own other first second =
-    subst (λ (es : List Event). AllZip (IsMirrorOf total begin cells) (event_list own) es) (sym (list_reverse other.first other.second))
-    (zip_append total begin cells (listed own.first) (listed other.second) (listed own.second) (listed other.first) first second)
+    subst (λ (es : List Event). AllZip (IsMirrorOf total begin cells) (event_list own) es)
+    (sym (list_reverse other.first other.second))
+    (zip_append total begin cells (listed own.first) (listed other.second) (listed own.second)
+    (listed other.first) first second)
 
 -- and one alone
-one_mirror : (total begin : ℕ) (cells : List Cell) (own other : Events) → AllZip (IsMirrorOf total begin cells) (listed own.first) (listed other.first) → own.second ≡ None
+one_mirror : (total begin : ℕ) (cells : List Cell) (own other : Events)
+    → AllZip (IsMirrorOf total begin cells) (listed own.first) (listed other.first) → own.second ≡ None
     → other.second ≡ None → AllZip (IsMirrorOf total begin cells) (event_list own) (reverse (event_list other))
 one_mirror total begin cells own other first none none_too =
     let mine : event_list own ≡ listed own.first =
     ap (λ (es : List Event). listed own.first ++ es) (none_listed own.second none) ∙ append-nil (listed own.first) in
     let theirs : reverse (event_list other) ≡ listed other.first =
-    list_reverse other.first other.second ∙ ap (λ (es : List Event). es ++ listed other.first) (none_listed other.second none_too) in
+    list_reverse other.first other.second ∙ ap (λ (es : List Event). es ++ listed other.first)
+    (none_listed other.second none_too) in
     subst (λ (es : List Event). AllZip (IsMirrorOf total begin cells) es (reverse (event_list other))) (sym mine)
     (subst (λ (es : List Event). AllZip (IsMirrorOf total begin cells) (listed own.first) es) (sym theirs) first)
 
-none_mirror : (total begin : ℕ) (cells : List Cell) (own other : Events) → (own.first ≡ None) × (own.second ≡ None) → (other.first ≡ None) × (other.second ≡ None)
+none_mirror : (total begin : ℕ) (cells : List Cell) (own other : Events) → (own.first ≡ None) × (own.second ≡ None)
+    → (other.first ≡ None) × (other.second ≡ None)
     → AllZip (IsMirrorOf total begin cells) (event_list own) (reverse (event_list other))
 none_mirror total begin cells own other none none_too =
     let mine : event_list own ≡ [] = rw (none.0, none.1) refl in
@@ -121,27 +139,34 @@ none_mirror total begin cells own other none none_too =
     subst (λ (es : List Event). AllZip (IsMirrorOf total begin cells) es (reverse (event_list other))) (sym mine)
     (subst (λ (es : List Event). AllZip (IsMirrorOf total begin cells) [] es) (sym theirs) tt)
 
-window_mirrors : IsExact → TurnsBack → (system : System) (bits end there length total begin : ℕ) (cells : List Cell) (own other : Events) → bits < 2 ^ 80
-    → IsWindowOf begin cells end length → there + end ≡ total + length → AreEventsOf system bits end length own → AreEventsOf system (reversed_bits bits) there length other
+window_mirrors : IsExact → TurnsBack → (system : System) (bits end there length total begin : ℕ) (cells : List Cell)
+    (own other : Events) → bits < 2 ^ 80
+    → IsWindowOf begin cells end length → there + end ≡ total + length → AreEventsOf system bits end length own
+    → AreEventsOf system (reversed_bits bits) there length other
     → AllZip (IsMirrorOf total begin cells) (event_list own) (reverse (event_list other))
 window_mirrors exact back system bits end there length total begin cells own other below at place are too =
     let turn = reversed_bits bits in
     let twice : reversed_bits turn ≡ bits = back bits below in
     let sync = λ (is : EndsInSync bits). subst EndsInSync (sym twice) is in
-    let no_sync = λ (is_not : ¬ EndsInSync bits) (is : EndsInSync (reversed_bits turn)). is_not (subst EndsInSync twice is) in
-    let as_backward = λ (o : Option Event) (is : IsSomeAnd o (IsEventOf system Backward (reversed_bits turn) there length)).
+    let no_sync = λ (is_not : ¬ EndsInSync bits) (is : EndsInSync (reversed_bits turn)).
+    is_not (subst EndsInSync twice is) in
+    let as_backward = λ (o : Option Event) (is : IsSomeAnd o
+    (IsEventOf system Backward (reversed_bits turn) there length)).
     subst (λ b. IsSomeAnd o (IsEventOf system Backward b there length)) twice is in
     elim (in_sync_or_not bits) [
       | inl forward ↦ elim (in_sync_or_not turn) [
         | inl backward ↦ two_mirror total begin cells own other
-            (some_mirrors exact system Forward bits end there length total begin cells own.first other.second at place (are.forward forward)
+            (some_mirrors exact system Forward bits end there length total begin cells own.first other.second at place
+            (are.forward forward)
             (as_backward other.second (too.both backward (sync forward))))
-            (some_mirrors exact system Backward turn end there length total begin cells own.second other.first at place (are.both forward backward)
+            (some_mirrors exact system Backward turn end there length total begin cells own.second other.first at place
+            (are.both forward backward)
             (too.forward backward))
         | inr not_back ↦ (
             let theirs = too.backward (sync forward) not_back in
             one_mirror total begin cells own other
-            (some_mirrors exact system Forward bits end there length total begin cells own.first other.first at place (are.forward forward)
+            (some_mirrors exact system Forward bits end there length total begin cells own.first other.first at place
+            (are.forward forward)
             (as_backward other.first theirs.0)) (are.one forward not_back) theirs.1)
       ]
       | inr not_forward ↦ elim (in_sync_or_not turn) [
@@ -150,7 +175,8 @@ window_mirrors exact back system bits end there length total begin cells own oth
             one_mirror total begin cells own other
             (some_mirrors exact system Backward turn end there length total begin cells own.first other.first at place mine.0 (too.forward backward))
             mine.1 (too.one backward (no_sync not_forward)))
-        | inr not_back ↦ none_mirror total begin cells own other (are.none not_forward not_back) (too.none not_back (no_sync not_forward))
+        | inr not_back ↦ none_mirror total begin cells own other (are.none not_forward not_back)
+            (too.none not_back (no_sync not_forward))
       ]
     ]
 
@@ -162,7 +188,8 @@ Fit total begin cells [] = Unit {0}
 Fit total begin cells (w ∷ ws) =
     (w.end ≤ total) × (w.bits < 2 ^ 80) × IsWindowOf begin cells w.end w.length × Fit total begin cells ws
 
-range_fits : (total tick : ℕ) (cells : List Cell) (a n : ℕ) → tick + duration cells ≤ total → (0 < n → a + n + 79 ≤ length cells)
+range_fits : (total tick : ℕ) (cells : List Cell) (a n : ℕ) → tick + duration cells ≤ total
+    → (0 < n → a + n + 79 ≤ length cells)
     → Fit total tick cells (map (window_at tick cells) (range_with_len a n))
 range_fits total tick cells a zero within many = tt
 range_fits total tick cells a (suc n) within many =
@@ -173,7 +200,8 @@ range_fits total tick cells a (suc n) within many =
       range_fits total tick cells (a + 1) n within (λ some. omega arith),
     )
 
-windows_fit : (total tick : ℕ) (cells : List Cell) → tick + duration cells ≤ total → Fit total tick cells (windows tick cells)
+windows_fit : (total tick : ℕ) (cells : List Cell) → tick + duration cells ≤ total
+    → Fit total tick cells (windows tick cells)
 windows_fit total tick cells within = range_fits total tick cells 0 (length cells - 79) within (λ some. omega arith)
 
 -- the events of windows and one more
@@ -184,7 +212,8 @@ record LastSplit (system : System) (ws : List CellWindow) (w : CellWindow) (even
   own_are : AreEventsOf system w.bits w.end w.length own
   are : events ≡ front ++ event_list own
 
-last_split : (system : System) (ws : List CellWindow) (w : CellWindow) (es : List Event) → AreEventsOfWindows system (ws ++ w ∷ []) es
+last_split : (system : System) (ws : List CellWindow) (w : CellWindow) (es : List Event)
+    → AreEventsOfWindows system (ws ++ w ∷ []) es
     → LastSplit system ws w es
 last_split system [] w es (own, rest, is, none, join) = record {
   front = [];
@@ -204,7 +233,8 @@ last_split system (v ∷ ws) w es (own, rest, is, others, join) =
           ∙ sym (append_assoc (event_list own) more.front (event_list more.own));
     }
 
-all_mirror : IsExact → TurnsBack → (system : System) (total begin : ℕ) (cells : List Cell) (ws : List CellWindow) (es fs : List Event) → Fit total begin cells ws
+all_mirror : IsExact → TurnsBack → (system : System) (total begin : ℕ) (cells : List Cell) (ws : List CellWindow)
+    (es fs : List Event) → Fit total begin cells ws
     → AreEventsOfWindows system ws es → AreEventsOfWindows system (reverse (map (mirror_window total) ws)) fs
     → AllZip (IsMirrorOf total begin cells) es (reverse fs)
 all_mirror exact back system total begin cells [] es fs fit are too =
@@ -215,24 +245,30 @@ all_mirror exact back system total begin cells [] es fs fit are too =
 all_mirror exact back system total begin cells (w ∷ ws) es fs fit (own, rest, is, others, join) too =
     let turn = map (mirror_window total) ws in
     let pushed : AreEventsOfWindows system (reverse turn ++ mirror_window total w ∷ []) fs =
-    subst (λ (vs : List CellWindow). AreEventsOfWindows system vs fs) (reverse_onto turn (mirror_window total w) []) too in
+    subst (λ (vs : List CellWindow). AreEventsOfWindows system vs fs)
+    (reverse_onto turn (mirror_window total w) []) too in
     let last = last_split system (reverse turn) (mirror_window total w) fs pushed in
     let place : total - w.end + w.length + w.end ≡ total + w.length = omega (arith, fit.0) in
-    let first = window_mirrors exact back system w.bits w.end (total - w.end + w.length) w.length total begin cells own last.own fit.1 fit.2 place is last.own_are in
+    let first = window_mirrors exact back system w.bits w.end
+    (total - w.end + w.length) w.length total begin cells own last.own fit.1 fit.2 place is last.own_are in
     let more = all_mirror exact back system total begin cells ws rest last.front fit.3 others last.front_are in
     let turned_all : reverse fs ≡ reverse (event_list last.own) ++ reverse last.front =
     ap (λ (e : List Event). reverse e) last.are ∙ reverse-append last.front (event_list last.own) in
     subst (λ (e : List Event). AllZip (IsMirrorOf total begin cells) e (reverse fs)) (sym join)
     (subst (λ (e : List Event). AllZip (IsMirrorOf total begin cells) (event_list own ++ rest) e) (sym turned_all)
-    (zip_append total begin cells (event_list own) (reverse (event_list last.own)) rest (reverse last.front) first more))
+    (zip_append total begin cells (event_list own) (reverse (event_list last.own)) rest
+    (reverse last.front) first more))
 
 -- ---- the tape
 
 -- the cells of a mirrored recording
 abbrev pub AreTheSame : Type 0
-AreTheSame = (profile : Profile) → LooksAtLast profile → (intervals : List ℕ) (cells others : List Cell) (cut place first last : ℕ) → IsPiece profile intervals cells cut
-    → IsPiece profile (reverse intervals) others place → IsLock profile intervals 0 first → IsLock profile (reverse intervals) 0 last
-    → BeginMirrored (cells_from cells cut intervals first) (cells_from others place (reverse intervals) last) first last (length intervals)
+AreTheSame = (profile : Profile) → LooksAtLast profile → (intervals : List ℕ) (cells others : List Cell)
+    (cut place first last : ℕ) → IsPiece profile intervals cells cut
+    → IsPiece profile (reverse intervals) others place → IsLock profile intervals 0 first
+    → IsLock profile (reverse intervals) 0 last
+    → BeginMirrored (cells_from cells cut intervals first) (cells_from others place (reverse intervals) last) first last
+    (length intervals)
 
 -- the windows of cells that do not stand in a front of them end behind it
 behind_front : (tick : ℕ) (middle more : List Cell) → Positive (flat (middle ++ more))
@@ -248,7 +284,12 @@ behind_front tick middle more lasts i d within =
     let window : get_or (drop k all) i d ≡ at (k + i) =
     get_or-drop k all i d ∙ get_or-map-range_with_len at 0 count (k + i) (k + i) d inside (omega arith) in
     let whole : duration (take (length middle) cells) ≡ duration middle = ap duration (take-append_seam middle more) in
-    rw window (omega (arith, whole, front_lasts_longer cells (length middle) (k + i + 80) lasts (omega arith) (omega arith)))
+    rw window (omega (
+      arith,
+      whole,
+      front_lasts_longer cells (length middle) (k + i + 80) lasts (omega arith)
+          (omega arith),
+    ))
 
 -- the events of the windows of a front of cells, and what comes behind it
 record FrontEvents (system : System) (tick : ℕ) (middle : List Cell) (events : List Event) : Type 0 where
@@ -258,11 +299,13 @@ record FrontEvents (system : System) (tick : ℕ) (middle : List Cell) (events :
   mine_are : AreEventsOfWindows system (windows tick middle) mine
   late : All (λ event. tick + duration middle < tick_of event) more
 
-events_of_front : (system : System) (tick : ℕ) (cells middle more : List Cell) (es : List Event) → Positive (flat cells) → cells ≡ middle ++ more
+events_of_front : (system : System) (tick : ℕ) (cells middle more : List Cell) (es : List Event) → Positive (flat cells)
+    → cells ≡ middle ++ more
     → AreEventsOfWindows system (windows tick cells) es → FrontEvents system tick middle es
 events_of_front system tick cells middle more es lasts same are =
     let others = drop (length middle - 79) (windows tick (middle ++ more)) in
-    let split : windows tick cells ≡ windows tick middle ++ others = ap (windows tick) same ∙ windows_split tick middle more in
+    let split : windows tick cells ≡ windows tick middle ++ others = ap (windows tick) same
+    ∙ windows_split tick middle more in
     let both = both_windows system (windows tick middle) others es
     (subst (λ (ws : List CellWindow). AreEventsOfWindows system ws es) split are) in
     record {
@@ -270,22 +313,32 @@ events_of_front system tick cells middle more es lasts same are =
       more = both.two;
       are = both.are;
       mine_are = both.ones;
-      late = all_later_than (tick + duration middle) both.two (λ m. windows_from system m (tick + duration middle) others both.two
+      late = all_later_than (tick + duration middle) both.two
+          (λ m. windows_from system m (tick + duration middle) others both.two
           (behind_front tick middle more (subst (λ (cs : List Cell). Positive (flat cs)) same lasts)) both.twos);
     }
 
 -- the sums before, in and behind the middle
-sums : (l middle tail : List ℕ) (first last : ℕ) → drop first l ≡ middle ++ tail → first + length middle + last ≡ length l → first ≤ length l
+sums : (l middle tail : List ℕ) (first last : ℕ) → drop first l ≡ middle ++ tail
+    → first + length middle + last ≡ length l → first ≤ length l
     → sum (take first l) + sum middle + sum (take last (reverse l)) ≡ sum l
 sums l middle tail first last there many within =
     let front = take first l in
     let whole : l ≡ (front ++ middle) ++ tail =
     sym (take-append-drop first l) ∙ ap (λ (xs : List ℕ). front ++ xs) there ∙ sym (append_assoc front middle tail) in
     let long : length (reverse tail) ≡ last =
-    omega (arith, length-reverse tail, ap length whole, length-append (front ++ middle) tail, length-append front middle, length-take first l) in
+    omega (
+      arith,
+      length-reverse tail,
+      ap length whole,
+      length-append (front ++ middle) tail,
+      length-append front middle,
+      length-take first l,
+    ) in
     let behind : take last (reverse l) ≡ reverse tail =
     ap (λ (xs : List ℕ). take last (reverse xs)) whole ∙ ap (take last) (reverse-append (front ++ middle) tail)
-    ∙ ap (λ n. take n (reverse tail ++ reverse (front ++ middle))) (sym long) ∙ take-append_seam (reverse tail) (reverse (front ++ middle)) in
+    ∙ ap (λ n. take n (reverse tail ++ reverse (front ++ middle))) (sym long)
+    ∙ take-append_seam (reverse tail) (reverse (front ++ middle)) in
     omega (
       arith,
       ap sum whole,
@@ -295,9 +348,12 @@ sums l middle tail first last there many within =
       sum_by-append (λ n. n) front middle,
     )
 
-pub mirrors_the_tape : AreListed → IsExact → TurnsBack → AreTheSame → IsOneStretch → HasOneList → (system : System) (profile : Profile) (l : List ℕ)
-    (es fs : List Event) → AreEvents system profile l es → AreEvents system profile (reverse l) fs → MirrorsTheTape system profile l es fs
-mirrors_the_tape lists exact back law stretch one system profile l es fs are too = λ looks tape other cut place first last piece turned_piece lock last_lock.
+pub mirrors_the_tape : AreListed → IsExact → TurnsBack → AreTheSame → IsOneStretch → HasOneList
+    → (system : System) (profile : Profile) (l : List ℕ)
+    (es fs : List Event) → AreEvents system profile l es → AreEvents system profile (reverse l) fs
+    → MirrorsTheTape system profile l es fs
+mirrors_the_tape lists exact back law stretch one system profile l es fs are too =
+    λ looks tape other cut place first last piece turned_piece lock last_lock.
     let m = law profile looks l tape other cut place first last piece turned_piece lock last_lock in
     let middle = m.middle in
     let tick = sum (take first l) in
@@ -305,11 +361,15 @@ mirrors_the_tape lists exact back law stretch one system profile l es fs are too
     let own = lists.gathered system profile l es are in
     let own_too = lists.gathered system profile (reverse l) fs too in
     let told = words_told one stretch system profile l es own.0 own.1 own.2 tape cut first piece lock in
-    let told_too = words_told one stretch system profile (reverse l) fs own_too.0 own_too.1 own_too.2 other place last turned_piece last_lock in
-    let lasts = positive_chain profile (cells_from tape cut l first) (stretch profile l tape cut first piece lock).1.chain.chain in
-    let lasts_too = positive_chain profile (cells_from other place (reverse l) last) (stretch profile (reverse l) other place last turned_piece last_lock).1.chain.chain in
+    let told_too = words_told one stretch system profile
+    (reverse l) fs own_too.0 own_too.1 own_too.2 other place last turned_piece last_lock in
+    let lasts = positive_chain profile (cells_from tape cut l first)
+    (stretch profile l tape cut first piece lock).1.chain.chain in
+    let lasts_too = positive_chain profile (cells_from other place (reverse l) last)
+    (stretch profile (reverse l) other place last turned_piece last_lock).1.chain.chain in
     let mine = events_of_front system tick (cells_from tape cut l first) middle m.more es lasts m.cells_are told in
-    let theirs = events_of_front system other_tick (cells_from other place (reverse l) last) (mirrored middle) m.others_more fs lasts_too m.others_are
+    let theirs = events_of_front system other_tick (cells_from other place (reverse l) last)
+    (mirrored middle) m.others_more fs lasts_too m.others_are
     told_too in
     let front = (stretch profile l tape cut first piece lock).1.chain.front in
     let there : drop first l ≡ flat middle ++ (flat m.more ++ front.0) =
@@ -320,7 +380,8 @@ mirrors_the_tape lists exact back law stretch one system profile l es fs are too
     sums l (flat middle) (flat m.more ++ front.0) first last there m.many (omega (arith, m.many)) in
     let same : windows other_tick (mirrored middle) ≡ reverse (map (mirror_window (sum l)) (windows tick middle)) =
     mirrored_windows (sum l) tick other_tick middle total in
-    let theirs_are : AreEventsOfWindows system (reverse (map (mirror_window (sum l)) (windows tick middle))) theirs.mine =
+    let theirs_are : AreEventsOfWindows system (reverse
+    (map (mirror_window (sum l)) (windows tick middle))) theirs.mine =
     subst (λ (ws : List CellWindow). AreEventsOfWindows system ws theirs.mine) same theirs.mine_are in
     let mine_is = lists.cells system tick middle mine.mine mine.mine_are in
     let theirs_is = lists.cells system other_tick (mirrored middle) theirs.mine theirs.mine_are in
@@ -333,6 +394,8 @@ mirrors_the_tape lists exact back law stretch one system profile l es fs are too
       many = m.many;
       told = (mine.more, mine.are ∙ ap (λ (e : List Event). e ++ mine.more) mine_is, mine.late);
       told_mirrored = (theirs.more, theirs.are ∙ ap (λ (e : List Event). e ++ theirs.more) theirs_is, theirs.late);
-      same = subst (λ (e : List Event). AllZip (IsMirrorOf (sum l) tick middle) e (reverse (events_of_cells system other_tick (mirrored middle))))
-          mine_is (subst (λ (e : List Event). AllZip (IsMirrorOf (sum l) tick middle) mine.mine (reverse e)) theirs_is all);
+      same = subst (λ (e : List Event). AllZip (IsMirrorOf (sum l) tick middle) e
+          (reverse (events_of_cells system other_tick (mirrored middle))))
+          mine_is (subst (λ (e : List Event). AllZip (IsMirrorOf (sum l) tick middle) mine.mine
+          (reverse e)) theirs_is all);
     }

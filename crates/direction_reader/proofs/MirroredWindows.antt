@@ -1,15 +1,19 @@
--- The windows of cells in the other order of time are the windows in the other order, each with its bits in the other order.
-use Rattle.std.proofs.Common.{◌≡◌, ◌≤◌, ℕ, ◌+◌, ◌-◌, ◌*◌, ◌/◌, ◌%◌, List, [], ◌∷◌, ◌++◌, length, take, drop, map, reverse, sum, Bool, true, false}
+-- The windows of cells in the other order of time are the windows in the other order, each with its bits in the other
+-- order.
+use Rattle.std.proofs.Common.{◌≡◌, ◌≤◌, ℕ, ◌+◌, ◌-◌, ◌*◌, ◌/◌, ◌%◌, List, [], ◌∷◌, ◌++◌, length, take, drop, map}
+use Rattle.std.proofs.Common.{reverse, sum, Bool, true, false}
 use Rattle.std.proofs.Common.{ap, arith, append_assoc, append-nil, length-drop, inl, inr, refl, sym, ◌∙◌}
 use Rattle.std.specs.Int.{reverse_bits_onto}
 use Rattle.std.proofs.lemmas.Bool.{cases_lt}
 use Rattle.std.proofs.lemmas.Grind.{reverse_onto}
-use Rattle.std.proofs.lemmas.List.{map-append, length-map, length-reverse, reverse-append, take-append-drop, length-take}
+use Rattle.std.proofs.lemmas.List.{map-append, length-map, length-reverse, reverse-append, take-append-drop}
+use Rattle.std.proofs.lemmas.List.{length-take}
 use Rattle.std.proofs.lemmas.List.Sums.{sum_by-append, sum_by-cons}
 use Rattle.biphase.specs.declared.cell.Cell.{Cell}
 use Rattle.biphase.specs.declared.cell.Cell.TheVariants.{Zero, One}
 use Rattle.biphase.specs.Chain.{bit_of, bits, flat}
-use Rattle.biphase.specs.Mirror.{mirror_of, mirrored, mirrored_cons, flat_mirrored}
+use Rattle.biphase.specs.Mirror.{mirror_of, mirrored}
+use Rattle.biphase.specs.MirrorLemmas.{mirrored_cons, flat_mirrored}
 use Rattle.ltc_word.specs.Reversal.{reversed_bits}
 use Rattle.direction_reader.specs.Windows.{CellWindow, number_of, window_at, windows}
 use Rattle.direction_reader.specs.ListEvents.{duration}
@@ -43,7 +47,8 @@ length_mirrored cells = length-reverse (map mirror_of cells) ∙ length-map cell
 
 mirrored_append : (one two : List Cell) → mirrored (one ++ two) ≡ mirrored two ++ mirrored one
 mirrored_append one two =
-    ap (λ (cs : List Cell). reverse cs) (map-append mirror_of one two) ∙ reverse-append (map mirror_of one) (map mirror_of two)
+    ap (λ (cs : List Cell). reverse cs) (map-append mirror_of one two)
+    ∙ reverse-append (map mirror_of one) (map mirror_of two)
 
 same_bit : (cell : Cell) → bit_of (mirror_of cell) ≡ bit_of cell
 same_bit (Zero x) = refl
@@ -67,19 +72,22 @@ others true n = omega arith
 others false n = omega arith
 
 -- bits as a number, the last first
-number_onto : (bs more : List Bool) → reverse_bits_onto (length bs) (number_of bs) (number_of more) ≡ number_of (reverse bs ++ more)
+number_onto : (bs more : List Bool) → reverse_bits_onto (length bs) (number_of bs) (number_of more)
+    ≡ number_of (reverse bs ++ more)
 unfolding reverse_bits_onto
 number_onto [] more = refl
 number_onto (b ∷ bs) more =
     let n = number_of bs in
     let place : number_of more * 2 + bit_value b ≡ number_of (b ∷ more) = omega arith in
-    let first : reverse_bits_onto (length bs) ((bit_value b + 2 * n) / 2) (number_of more * 2 + (bit_value b + 2 * n) % 2)
+    let first : reverse_bits_onto (length bs) ((bit_value b + 2 * n) / 2)
+    (number_of more * 2 + (bit_value b + 2 * n) % 2)
     ≡ reverse_bits_onto (length bs) n (number_of (b ∷ more)) =
     ap (λ m. reverse_bits_onto (length bs) m (number_of more * 2 + (bit_value b + 2 * n) % 2)) (others b n)
     ∙ ap (λ m. reverse_bits_onto (length bs) n (number_of more * 2 + m)) (lowest b n)
     ∙ ap (λ m. reverse_bits_onto (length bs) n m) place in
     first ∙ number_onto bs (b ∷ more)
-    ∙ ap number_of (sym (append_assoc (reverse bs) (b ∷ []) more) ∙ ap (λ (xs : List Bool). xs ++ more) (sym (reverse_onto bs b [])))
+    ∙ ap number_of (sym (append_assoc (reverse bs) (b ∷ []) more)
+    ∙ ap (λ (xs : List Bool). xs ++ more) (sym (reverse_onto bs b [])))
 
 number_reversed : (bs : List Bool) → length bs ≡ 80 → number_of (reverse bs) ≡ reversed_bits (number_of bs)
 number_reversed bs eighty =
@@ -98,11 +106,14 @@ first_is_last total tick other cells many is =
     ap mirrored (sym (take-append-drop 80 cells)) ∙ mirrored_append front behind in
     let eighty : length front ≡ 80 = omega (arith, length-take 80 cells) in
     let latest : length (mirrored front) ≡ 80 = length_mirrored front ∙ eighty in
-    let place : length cells - 80 ≡ length (mirrored behind) = omega (arith, length_mirrored behind, length-drop 80 cells) in
+    let place : length cells - 80 ≡ length (mirrored behind) =
+    omega (arith, length_mirrored behind, length-drop 80 cells) in
     let bits_are : number_of (bits (mirrored front)) ≡ reversed_bits (number_of (bits front)) =
     ap number_of (bits_mirrored front) ∙ number_reversed (bits front) (length-map front bit_of ∙ eighty) in
-    let whole : duration (mirrored behind ++ mirrored front) ≡ duration cells = ap duration (sym joined) ∙ duration_mirrored cells in
-    let end_is : other + duration (mirrored behind ++ mirrored front) ≡ total - (tick + duration front) + duration front =
+    let whole : duration (mirrored behind ++ mirrored front) ≡ duration cells = ap duration (sym joined)
+    ∙ duration_mirrored cells in
+    let end_is : other + duration (mirrored behind ++ mirrored front)
+    ≡ total - (tick + duration front) + duration front =
     omega (arith, whole, is, front_within 80 cells) in
     let window : ℕ → ℕ → ℕ → CellWindow = λ b e n. record { bits = b; end = e; length = n } in
     ap (λ (cs : List Cell). window_at other cs (length cells - 80)) joined
@@ -110,7 +121,8 @@ first_is_last total tick other cells many is =
     ∙ last_window other (mirrored behind) (mirrored front) latest
     ∙ ap (λ b. window b (other + duration (mirrored behind ++ mirrored front)) (duration (mirrored front))) bits_are
     ∙ ap (λ e. window (reversed_bits (number_of (bits front))) e (duration (mirrored front))) end_is
-    ∙ ap (λ n. window (reversed_bits (number_of (bits front))) (total - (tick + duration front) + duration front) n) (duration_mirrored front)
+    ∙ ap (λ n. window (reversed_bits (number_of (bits front))) (total - (tick + duration front) + duration front) n)
+    (duration_mirrored front)
 
 pub mirrored_windows : (total tick other : ℕ) (cells : List Cell) → tick + duration cells + other ≡ total
     → windows other (mirrored cells) ≡ reverse (map (mirror_window total) (windows tick cells))
@@ -129,10 +141,13 @@ mirrored_windows total tick other (cell ∷ cells) is =
           let rest = mirrored_windows total begin other cells (omega (arith, is, duration_of cell cells)) in
           ap (λ (cs : List Cell). windows other cs) (mirrored_cons cell cells)
           ∙ one_more other (mirrored cells) (mirror_of cell) (omega (arith, long, many))
-          ∙ ap (λ (ws : List CellWindow). ws ++ window_at other (mirrored cells ++ mirror_of cell ∷ []) (length (mirrored cells) - 79) ∷ []) rest
-          ∙ ap (λ (cs : List Cell). turn (windows begin cells) ++ window_at other cs (length (mirrored cells) - 79) ∷ []) (sym (mirrored_cons cell cells))
+          ∙ ap (λ (ws : List CellWindow). ws ++ window_at other (mirrored cells ++ mirror_of cell ∷ [])
+          (length (mirrored cells) - 79) ∷ []) rest
+          ∙ ap (λ (cs : List Cell). turn (windows begin cells)
+          ++ window_at other cs (length (mirrored cells) - 79) ∷ []) (sym (mirrored_cons cell cells))
           ∙ ap (λ k. turn (windows begin cells) ++ window_at other (mirrored (cell ∷ cells)) k ∷ []) place
-          ∙ ap (λ (w : CellWindow). turn (windows begin cells) ++ w ∷ []) (first_is_last total tick other (cell ∷ cells) (omega arith) is)
+          ∙ ap (λ (w : CellWindow). turn (windows begin cells) ++ w ∷ [])
+          (first_is_last total tick other (cell ∷ cells) (omega arith) is)
           ∙ sym (reverse_onto (map (mirror_window total) (windows begin cells)) (mirror_window total first) [])
           ∙ ap turn (sym (windows_cons tick cell cells many)))
     ]

@@ -2,6 +2,7 @@
 use Rattle.std.proofs.Common.{◌≡◌, ◌⊎◌, ℕ, ap, ap₂, sym, ◌∙◌, Some, None, IsSomeAnd, inl, inr}
 use Rattle.std.proofs.lemmas.Bool.Decides.{eqb_tells}
 use Rattle.std.specs.declared.option.Option.{Option}
+use Rattle.ltc_word.specs.SyncLemmas.{in_sync_or_not}
 use Rattle.tc_address.specs.declared.system.System.{System}
 use Rattle.tc_address.specs.declared.direction.Direction.{Direction}
 use Rattle.tc_address.specs.declared.direction.Direction.TheVariants.{Forward, Backward}
@@ -19,7 +20,8 @@ use Rattle.direction_reader.specs.Candidate.{IsEventOf, AreEventsOf}
 -- 80 bits spell one word at most, and bits that spell a word have no fault
 pub record IsExact : Type 0 where
   pub one_word : (system : System) (a b : LtcWord) (bits : ℕ) → Spells system a bits → Spells system b bits → a ≡ b
-  pub no_fault : (system : System) (word : LtcWord) (bits : ℕ) → Spells system word bits → first_fault system bits ≡ None
+  pub no_fault : (system : System) (word : LtcWord) (bits : ℕ) → Spells system word bits
+      → first_fault system bits ≡ None
 
 -- the event of a candidate is one
 one_event : IsExact → (system : System) (direction : Direction) (bits end length : ℕ) (e f : Event)
@@ -38,7 +40,8 @@ one_event exact system direction bits end length (Lost p t) f is too = absurd is
 
 -- so is the one that there is
 one_some : IsExact → (system : System) (direction : Direction) (bits end length : ℕ) (e f : Option Event)
-    → IsSomeAnd e (IsEventOf system direction bits end length) → IsSomeAnd f (IsEventOf system direction bits end length) → e ≡ f
+    → IsSomeAnd e (IsEventOf system direction bits end length)
+    → IsSomeAnd f (IsEventOf system direction bits end length) → e ≡ f
 one_some exact system direction bits end length None f is too = absurd is
 one_some exact system direction bits end length (Some e) None is too = absurd too
 one_some exact system direction bits end length (Some e) (Some f) is too =
@@ -49,27 +52,26 @@ same_events : (e f : Events) → e.first ≡ f.first → e.second ≡ f.second �
 same_events e f first second =
     let both : Option Event → Option Event → Events = λ a b. record { first = a; second = b } in ap₂ both first second
 
--- bits end in the sync word, or they do not
-pub in_sync_or_not : (bits : ℕ) → EndsInSync bits ⊎ ¬ EndsInSync bits
-in_sync_or_not bits = elim (eqb_tells (number_in SYNC bits) SYNC_PATTERN) [ inl same ↦ inl same.1 | inr other ↦ inr other.1 ]
-
 pub one_list : IsExact → (system : System) (bits end length : ℕ) (e f : Events)
     → AreEventsOf system bits end length e → AreEventsOf system bits end length f → e ≡ f
 one_list exact system bits end length e f are too =
     let back = reversed_bits bits in
     elim (in_sync_or_not bits) [
       | inl forward ↦ (
-          let first = one_some exact system Forward bits end length e.first f.first (are.forward forward) (too.forward forward) in
+          let first = one_some exact system Forward bits end length e.first f.first (are.forward forward)
+          (too.forward forward) in
           elim (in_sync_or_not back) [
             | inl backward ↦ same_events e f first
-                (one_some exact system Backward back end length e.second f.second (are.both forward backward) (too.both forward backward))
+                (one_some exact system Backward back end length e.second f.second (are.both forward backward)
+                (too.both forward backward))
             | inr not_back ↦ same_events e f first (are.one forward not_back ∙ sym (too.one forward not_back))
           ])
       | inr not_forward ↦ elim (in_sync_or_not back) [
         | inl backward ↦ (
             let mine = are.backward backward not_forward in
             let other = too.backward backward not_forward in
-            same_events e f (one_some exact system Backward back end length e.first f.first mine.0 other.0) (mine.1 ∙ sym other.1))
+            same_events e f (one_some exact system Backward back end length e.first f.first mine.0 other.0) (mine.1
+            ∙ sym other.1))
         | inr not_back ↦ (
             let mine = are.none not_forward not_back in
             let other = too.none not_forward not_back in

@@ -1,6 +1,8 @@
--- The hissy recording keeps the rough tolerance, which is tested cell by cell, and its first two cells break both others. It is a word.
-use Rattle.std.proofs.Common.{◌≡◌, ℕ, ◌+◌, ◌*◌, ◌≤◌, Bool, true, false, not, ◌&&◌, leb, ltb, List, [], ◌∷◌, ◌++◌, take, drop, min, max, refl, arith}
-use Rattle.std.proofs.lemmas.Bool.{leb-true, le-leb, ltb-true, false≢true}
+-- The hissy recording keeps the rough tolerance, which is tested cell by cell, and its first two cells break and_parts
+-- others. It is a word.
+use Rattle.std.proofs.Common.{◌≡◌, ℕ, ◌+◌, ◌*◌, ◌≤◌, Bool, true, false, not, ◌&&◌, leb, ltb, List, [], ◌∷◌, ◌++◌, take}
+use Rattle.std.proofs.Common.{drop, min, max, refl, arith}
+use Rattle.std.proofs.lemmas.Bool.{leb-true, le-leb, ltb-true, false≢true, and_parts}
 use Rattle.biphase.specs.declared.cell.Cell.{Cell}
 use Rattle.biphase.specs.declared.cell.Cell.TheVariants.{Zero, One}
 use Rattle.biphase.specs.Latest.{Latest}
@@ -15,11 +17,6 @@ use Rattle.direction_reader.specs.declared.event.Event.TheVariants.{Word}
 use Rattle.direction_reader.specs.Hissy.{hissy_cells, taking_turns}
 use Rattle.direction_reader.specs.ListEvents.{duration}
 use Rattle.direction_reader.specs.Played.{low_bits, events_of_words}
-
-both : (p q : Bool) → p && q ≡ true → (p ≡ true) × (q ≡ true)
-both true true holds = (refl, refl)
-both true false holds = absurd (false≢true holds)
-both false q holds = absurd (false≢true holds)
 
 -- ---- the tests
 
@@ -66,35 +63,41 @@ kinds_fit (cell ∷ next ∷ cells) = inner cell && (meet cell next && kinds_fit
 -- ---- what they tell
 
 is_length_told : (sum length : ℕ) → is_length sum length ≡ true → (3 * sum ≤ 16 * length) × (16 * length ≤ 5 * sum)
-is_length_told sum length holds = let parts = both _ _ holds in (leb-true _ _ parts.0, leb-true _ _ parts.1)
+is_length_told sum length holds = let parts = and_parts _ _ holds in (leb-true _ _ parts.0, leb-true _ _ parts.1)
 
 is_half_told : (sum x : ℕ) → is_half sum x ≡ true → (3 * sum ≤ 40 * x) × (40 * x ≤ 7 * sum)
-is_half_told sum x holds = let parts = both _ _ holds in (leb-true _ _ parts.0, leb-true _ _ parts.1)
+is_half_told sum x holds = let parts = and_parts _ _ holds in (leb-true _ _ parts.0, leb-true _ _ parts.1)
 
-fits_told : (latest : Latest) (cell : Cell) → fits (sum_of latest) cell ≡ true → IsCell Rough cell × IsNext Rough latest cell
+fits_told : (latest : Latest) (cell : Cell) → fits (sum_of latest) cell ≡ true
+    → IsCell Rough cell × IsNext Rough latest cell
 fits_told latest (Zero x) holds =
-    let parts = both _ _ holds in (leb-true 1 x parts.0, is_length_told (sum_of latest) x parts.1)
+    let parts = and_parts _ _ holds in (leb-true 1 x parts.0, is_length_told (sum_of latest) x parts.1)
 fits_told latest (One a b) holds =
-    let first = both _ _ holds in
-    let second = both _ _ first.1 in
-    let third = both _ _ second.1 in
-    let fourth = both _ _ third.1 in (
+    let first = and_parts _ _ holds in
+    let second = and_parts _ _ first.1 in
+    let third = and_parts _ _ second.1 in
+    let fourth = and_parts _ _ third.1 in (
       (leb-true 1 a first.0, leb-true 1 b second.0, tt),
-      (is_half_told (sum_of latest) a third.0, is_half_told (sum_of latest) b fourth.0, is_length_told (sum_of latest) (a + b) fourth.1),
+      (
+        is_half_told (sum_of latest) a third.0,
+        is_half_told (sum_of latest) b fourth.0,
+        is_length_told (sum_of latest)
+            (a + b) fourth.1,
+      ),
     )
 
 follows_told : (latest : Latest) (cells : List Cell) → follows latest cells ≡ true → Follow Rough latest cells
 follows_told latest [] holds = tt
 follows_told latest (cell ∷ cells) holds =
-    let parts = both _ _ holds in
+    let parts = and_parts _ _ holds in
     let is = fits_told latest cell parts.0 in
     (is.0, is.1, follows_told (kept_next Rough latest (length_of cell)) cells parts.1)
 
 follows_each_told : (cells : List Cell) → follows_each cells ≡ true → FollowEachZero Rough cells
 follows_each_told [] holds = tt
 follows_each_told (Zero x ∷ cells) holds =
-    let first = both _ _ holds in
-    let second = both _ _ first.1 in
+    let first = and_parts _ _ holds in
+    let second = and_parts _ _ first.1 in
     (leb-true 1 x first.0, follows_told (kept_at_lock Rough x) cells second.0, follows_each_told cells second.1)
 follows_each_told (One a b ∷ cells) holds = follows_each_told cells holds
 
@@ -107,7 +110,7 @@ not_told false holds is = false≢true is
 
 unequal_told : (a b : ℕ) → are_unequal a b ≡ true → AreUnequal Rough a b
 unequal_told a b holds =
-    let parts = both _ _ holds in
+    let parts = and_parts _ _ holds in
     (λ equal. not_told (are_equal a b) parts.0 (le-leb (2 * max a b) (3 * min a b) equal), leb-true _ _ parts.1)
 
 inner_told : (cell : Cell) → inner cell ≡ true → Inner Rough cell
@@ -116,16 +119,16 @@ inner_told (One a b) holds = equal_told a b holds
 
 meet_told : (cell next : Cell) → meet cell next ≡ true → Meets Rough cell next
 meet_told (Zero x) (Zero y) holds = equal_told x y holds
-meet_told (Zero x) (One a b) holds = let parts = both _ _ holds in (unequal_told x a parts.0, ltb-true a x parts.1)
-meet_told (One a b) (Zero y) holds = let parts = both _ _ holds in (unequal_told b y parts.0, ltb-true b y parts.1)
+meet_told (Zero x) (One a b) holds = let parts = and_parts _ _ holds in (unequal_told x a parts.0, ltb-true a x parts.1)
+meet_told (One a b) (Zero y) holds = let parts = and_parts _ _ holds in (unequal_told b y parts.0, ltb-true b y parts.1)
 meet_told (One a b) (One c d) holds = equal_told b c holds
 
 kinds_told : (cells : List Cell) → kinds_fit cells ≡ true → Kinds Rough cells
 kinds_told [] holds = tt
 kinds_told (cell ∷ []) holds = inner_told cell holds
 kinds_told (cell ∷ next ∷ cells) holds =
-    let first = both _ _ holds in
-    let second = both _ _ first.1 in
+    let first = and_parts _ _ holds in
+    let second = and_parts _ _ first.1 in
     (inner_told cell first.0, meet_told cell next second.0, kinds_told (next ∷ cells) second.1)
 
 -- ---- the recording
@@ -149,7 +152,8 @@ hissy_bits = refl
 
 -- whose event this is
 pub hissy_event : (word : LtcWord)
-    → events_of_words (duration (take 2 hissy_cells)) (drop 2 hissy_cells) (record { direction = Forward; word = word } ∷ [])
+    → events_of_words (duration (take 2 hissy_cells)) (drop 2 hissy_cells)
+    (record { direction = Forward; word = word } ∷ [])
     ≡ Word Forward word 8282 8080 ∷ []
 unfolding taking_turns events_of_words
 hissy_event word = refl

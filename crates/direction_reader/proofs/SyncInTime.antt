@@ -1,6 +1,7 @@
 -- In words that are played one after another, in any directions, twelve ones in a row stand only in their sync words.
 use Rattle.direction_reader.specs.Windows.{number_of}
-use Rattle.std.proofs.Common.{◌≡◌, ℕ, zero, suc, ◌+◌, ◌-◌, ◌*◌, ◌/◌, ◌%◌, ◌^◌, ◌<◌, ◌≤◌, Bool, true, false, List, [], ◌∷◌, ◌++◌, length, get_or, take}
+use Rattle.std.proofs.Common.{◌≡◌, ℕ, zero, suc, ◌+◌, ◌-◌, ◌*◌, ◌/◌, ◌%◌, ◌^◌, ◌<◌, ◌≤◌, Bool, true, false, List, []}
+use Rattle.std.proofs.Common.{◌∷◌, ◌++◌, length, get_or, take}
 use Rattle.std.proofs.Common.{drop, refl, sym, ap, ◌∙◌, inl, inr, arith}
 use Rattle.std.specs.Prelude.{◌==◌}
 use Rattle.std.specs.Int.{bit_at}
@@ -8,6 +9,8 @@ use Rattle.std.proofs.lemmas.Bool.{cases_lt}
 use Rattle.std.proofs.lemmas.List.{get_or-take, get_or-drop, get_or_append_left, get_or-append_right}
 use Rattle.std.proofs.lemmas.Nat.{shr-shr}
 use Rattle.std.proofs.lemmas.Nat.Bits.{bit_at-zero}
+use Rattle.direction_reader.specs.PlayedLemmas.{length-low_bits}
+use Rattle.lemmas.specs.Bits.{halved}
 use Rattle.ltc_word.specs.declared.word.LtcWord.{LtcWord}
 use Rattle.ltc_word.specs.Reversal.{reversed_bits, EndsInSync, HasTwelveOnes}
 use Rattle.ltc_word.specs.Spelling.{Spells}
@@ -21,7 +24,8 @@ use Rattle.direction_reader.proofs.BitsShift.{bit_value-least}
 
 -- what the laws of ltc_word say
 pub record WordLaws : Type 0 where
-  pub one : (system : System) (word : LtcWord) (bits i : ℕ) → Spells system word bits → i ≤ 68 → HasTwelveOnes bits i → i ≡ 66
+  pub one : (system : System) (word : LtcWord) (bits i : ℕ) → Spells system word bits → i ≤ 68 → HasTwelveOnes bits i
+      → i ≡ 66
   pub turned : (bits i : ℕ) → i < 80 → bit_at (reversed_bits bits) i ≡ bit_at bits (79 - i)
   pub width : (bits : ℕ) → reversed_bits bits < 2 ^ 80
   pub twice : (bits : ℕ) → bits < 2 ^ 80 → reversed_bits (reversed_bits bits) ≡ bits
@@ -41,9 +45,6 @@ false_of_zero false e = refl
 
 one_of_true : (b : Bool) → b ≡ true → bit_value b ≡ 1
 one_of_true b e = ap bit_value e
-
-halved : (n i : ℕ) → n / 2 / 2 ^ i ≡ n / 2 ^ suc i
-halved n i = let e : 1 + i ≡ suc i = omega arith in rw (← e) (shr-shr n 1 i)
 
 bit_of_number : (list : List Bool) (i : ℕ) → bit_at (number_of list) i ≡ bit_value (at list i)
 bit_of_number [] i = bit_at-zero i
@@ -65,11 +66,6 @@ unfolding low_bits
 at-low_bits zero n i lt = absurd (omega arith)
 at-low_bits (suc count) n zero lt = let e = bit_test (n % 2) (omega arith) in omega arith
 at-low_bits (suc count) n (suc i) lt = at-low_bits count (n / 2) i (omega arith) ∙ ap (λ (m : ℕ). m % 2) (halved n i)
-
-pub length-low_bits : (count n : ℕ) → length (low_bits count n) ≡ count
-unfolding low_bits
-length-low_bits zero n = refl
-length-low_bits (suc count) n = ap suc (length-low_bits count (n / 2))
 
 pub number-low_bits : (count n : ℕ) → n < 2 ^ count → number_of (low_bits count n) ≡ n
 unfolding low_bits
@@ -123,7 +119,8 @@ pub sync_bit : (n k : ℕ) → bit_at n (64 + k) ≡ n / 2 ^ 64 / 2 ^ k % 2
 sync_bit n k = ap (λ (m : ℕ). m % 2) (sym (shr-shr n 64 k))
 
 pub clear_78 : (n : ℕ) → EndsInSync n → bit_at n 78 ≡ 1 → ⊥
-clear_78 n sync one = let e = sync_bit n 14 in let m = n / 2 ^ 64 in let h : m % 2 ^ 16 ≡ 49148 = sync in omega (arith, e, one)
+clear_78 n sync one = let e = sync_bit n 14 in let m = n / 2 ^ 64 in let h : m % 2 ^ 16 ≡ 49148 = sync in
+    omega (arith, e, one)
 
 pub clear_64 : (n : ℕ) → EndsInSync n → bit_at n 64 ≡ 0
 clear_64 n sync = let e = sync_bit n 0 in let m = n / 2 ^ 64 in let h : m % 2 ^ 16 ≡ 49148 = sync in omega (arith, e)
@@ -131,7 +128,8 @@ clear_64 n sync = let e = sync_bit n 0 in let m = n / 2 ^ 64 in let h : m % 2 ^ 
 pub set_79 : (n : ℕ) → EndsInSync n → bit_at n 79 ≡ 1
 set_79 n sync = let e = sync_bit n 15 in let m = n / 2 ^ 64 in let h : m % 2 ^ 16 ≡ 49148 = sync in omega (arith, e)
 
-plays_forward : WordLaws → (system : System) (word : LtcWord) (n : ℕ) → Spells system word n → Plays Forward (low_bits 80 n)
+plays_forward : WordLaws → (system : System) (word : LtcWord) (n : ℕ) → Spells system word n
+    → Plays Forward (low_bits 80 n)
 plays_forward laws system word n s = record {
   count = length-low_bits 80 n;
   inside = λ i le ones. laws.one system word n i s le (λ k lt. set_in n (i + k) (omega arith) (ones k lt));
@@ -150,13 +148,17 @@ turned_ones laws n i le ones k lt =
     let e : 79 - (i + (11 - k)) ≡ 68 - i + k = omega arith in
     rw e at h
 
-plays_backward : WordLaws → (system : System) (word : LtcWord) (n : ℕ) → Spells system word n → Plays Backward (low_bits 80 (reversed_bits n))
+plays_backward : WordLaws → (system : System) (word : LtcWord) (n : ℕ) → Spells system word n
+    → Plays Backward (low_bits 80 (reversed_bits n))
 plays_backward laws system word n s = record {
   count = length-low_bits 80 (reversed_bits n);
-  inside = λ i le ones. let place = laws.one system word n (68 - i) s (omega arith) (turned_ones laws n i le ones) in omega arith;
+  inside = λ i le ones. let place = laws.one system word n (68 - i) s (omega arith) (turned_ones laws n i le ones) in
+      omega arith;
   begins = λ a b c d. clear_78 n s.sync (set_turned laws n 1 (omega arith) b);
-  ends = λ a b c d. units n (units_low system word n s) (set_turned laws n 78 (omega arith) c) (set_turned laws n 76 (omega arith) a);
-  marked = true_of_one _ (at-low_bits 80 (reversed_bits n) 0 (omega arith) ∙ laws.turned n 0 (omega arith) ∙ set_79 n s.sync);
+  ends = λ a b c d. units n (units_low system word n s) (set_turned laws n 78 (omega arith) c)
+      (set_turned laws n 76 (omega arith) a);
+  marked = true_of_one _ (at-low_bits 80 (reversed_bits n) 0 (omega arith) ∙ laws.turned n 0 (omega arith)
+      ∙ set_79 n s.sync);
 }
 
 pub plays : WordLaws → (direction : Direction) (system : System) (word : LtcWord) (n : ℕ) → Spells system word n
@@ -170,12 +172,14 @@ at_left : (w r : List Bool) (i : ℕ) → length w ≡ 80 → i < 80 → at (w +
 at_left w r i count lt = get_or_append_left w r false i (omega arith)
 
 at_right : (w r : List Bool) (i : ℕ) → length w ≡ 80 → at (w ++ r) (80 + i) ≡ at r i
-at_right w r i count = let e : 80 + i - 80 ≡ i = omega arith in get_or-append_right w r 80 (80 + i) false count (omega arith) ∙ ap (λ (j : ℕ). at r j) e
+at_right w r i count = let e : 80 + i - 80 ≡ i = omega arith in
+    get_or-append_right w r 80 (80 + i) false count (omega arith) ∙ ap (λ (j : ℕ). at r j) e
 
 one_at : (list : List Bool) (i j : ℕ) → Twelve list i → i ≤ j → j < i + 12 → at list j ≡ true
 one_at list i j ones le lt = let e : i + (j - i) ≡ j = omega arith in rw e at (ones (j - i) (omega arith))
 
-pub only_sync : (direction : Direction) (w r : List Bool) → Plays direction w → Starts r → (i : ℕ) → i < 80 → Twelve (w ++ r) i
+pub only_sync : (direction : Direction) (w r : List Bool) → Plays direction w → Starts r → (i : ℕ) → i < 80
+    → Twelve (w ++ r) i
     → i ≡ sync_place direction
 only_sync direction w r p starts i lt ones = elim (cases_lt i 69) [
   | inl low ↦ p.inside i (omega arith) (λ k less. sym (at_left w r (i + k) p.count (omega arith)) ∙ ones k less)
@@ -232,21 +236,26 @@ bit_of_window list j m lt = bit_of_number (take 80 (drop j list)) m ∙ ap bit_v
 pub forward_ones : (list : List Bool) (j : ℕ) → EndsInSync (window_bits list j) → Twelve list (j + 66)
 forward_ones list j sync k lt =
     let e : j + (66 + k) ≡ j + 66 + k = omega arith in
-    rw (← e) (true_of_one _ (sym (bit_of_window list j (66 + k) (omega arith)) ∙ ones_of_sync (window_bits list j) k sync lt))
+    rw (← e) (true_of_one _ (sym (bit_of_window list j (66 + k) (omega arith))
+    ∙ ones_of_sync (window_bits list j) k sync lt))
 
 pub forward_clear : (list : List Bool) (j : ℕ) → EndsInSync (window_bits list j) → at list (j + 64) ≡ false
-forward_clear list j sync = false_of_zero _ (sym (bit_of_window list j 64 (omega arith)) ∙ clear_64 (window_bits list j) sync)
+forward_clear list j sync = false_of_zero _ (sym (bit_of_window list j 64 (omega arith))
+    ∙ clear_64 (window_bits list j) sync)
 
-pub backward_ones : WordLaws → (list : List Bool) (j : ℕ) → EndsInSync (reversed_bits (window_bits list j)) → Twelve list (j + 2)
+pub backward_ones : WordLaws → (list : List Bool) (j : ℕ) → EndsInSync (reversed_bits (window_bits list j))
+    → Twelve list (j + 2)
 backward_ones laws list j sync k lt =
     let n = window_bits list j in
-    let one : bit_at (reversed_bits n) (66 + (11 - k)) ≡ 1 = ones_of_sync (reversed_bits n) (11 - k) sync (omega arith) in
+    let one : bit_at (reversed_bits n) (66 + (11 - k)) ≡ 1 =
+    ones_of_sync (reversed_bits n) (11 - k) sync (omega arith) in
     let back : bit_at n (79 - (66 + (11 - k))) ≡ 1 = sym (laws.turned n (66 + (11 - k)) (omega arith)) ∙ one in
     let m : 79 - (66 + (11 - k)) ≡ 2 + k = omega arith in
     let e : j + (2 + k) ≡ j + 2 + k = omega arith in
     rw (← e) (true_of_one _ (sym (bit_of_window list j (2 + k) (omega arith)) ∙ rw m at back))
 
-pub backward_set : WordLaws → (list : List Bool) (j : ℕ) → EndsInSync (reversed_bits (window_bits list j)) → at list (j + 0) ≡ true
+pub backward_set : WordLaws → (list : List Bool) (j : ℕ) → EndsInSync (reversed_bits (window_bits list j))
+    → at list (j + 0) ≡ true
 backward_set laws list j sync =
     let n = window_bits list j in
     let back : bit_at n 0 ≡ 1 = sym (laws.turned n 79 (omega arith)) ∙ set_79 (reversed_bits n) sync in
@@ -259,7 +268,8 @@ true_false b t f = let e : true ≡ false = sym t ∙ f in absurd cc
 
 pub starts_with : (direction : Direction) (v r : List Bool) → Plays direction v → Starts (v ++ r)
 starts_with direction v r p a b c d =
-    let front : (i : ℕ) → i < 80 → at (v ++ r) i ≡ true → at v i ≡ true = λ i lt e. sym (at_left v r i p.count lt) ∙ e in
+    let front : (i : ℕ) → i < 80 → at (v ++ r) i ≡ true → at v i ≡ true = λ i lt e. sym (at_left v r i p.count lt)
+    ∙ e in
     p.begins (front 0 (omega arith) a) (front 1 (omega arith) b) (front 2 (omega arith) c) (front 3 (omega arith) d)
 
 behind : (w r : List Bool) (i j : ℕ) → length w ≡ 80 → i ≡ 80 + j → Twelve (w ++ r) i → Twelve r j
@@ -271,7 +281,8 @@ no_later_forward : (direction : Direction) (i : ℕ) → 0 < i → i + 66 ≡ sy
 no_later_forward Forward i some e = omega arith
 no_later_forward Backward i some e = omega arith
 
-no_second_forward : (direction : Direction) (w v r : List Bool) (i : ℕ) → length w ≡ 80 → Plays direction v → i < 80 → 14 ≤ i
+no_second_forward : (direction : Direction) (w v r : List Bool) (i : ℕ) → length w ≡ 80 → Plays direction v → i < 80
+    → 14 ≤ i
     → i - 14 ≡ sync_place direction → at (w ++ (v ++ r)) (i + 64) ≡ false → ⊥
 no_second_forward Forward w v r i count p lt le e clear = omega arith
 no_second_forward Backward w v r i count p lt le e clear =
@@ -289,10 +300,12 @@ quiet_forward d e w v r p q starts i some lt sync =
       | inl low ↦ no_later_forward d i some (only_sync d w (v ++ r) p (starts_with e v r q) (i + 66) (omega arith) ones)
       | inr high ↦
           let later : Twelve (v ++ r) (i - 14) = behind w (v ++ r) (i + 66) (i - 14) p.count (omega arith) ones in
-          no_second_forward e w v r i p.count q lt high (only_sync e v r q starts (i - 14) (omega arith) later) (forward_clear list i sync)
+          no_second_forward e w v r i p.count q lt high (only_sync e v r q starts (i - 14) (omega arith) later)
+          (forward_clear list i sync)
     ]
 
-no_later_backward : (d : Direction) (w r : List Bool) (i : ℕ) → Plays d w → 0 < i → i + 2 < 80 → i + 2 ≡ sync_place d → at (w ++ r) (i + 0) ≡ true → ⊥
+no_later_backward : (d : Direction) (w r : List Bool) (i : ℕ) → Plays d w → 0 < i → i + 2 < 80 → i + 2 ≡ sync_place d
+    → at (w ++ r) (i + 0) ≡ true → ⊥
 no_later_backward Forward w r i p some lt e set =
     let place : i + 0 ≡ 64 = omega arith in
     let clear : at (w ++ r) (i + 0) ≡ false = rw place (at_left w r 64 p.count (omega arith) ∙ p.marked) in
@@ -303,13 +316,15 @@ no_second_backward : (e : Direction) (i : ℕ) → i < 80 → i - 78 ≡ sync_pl
 no_second_backward Forward i lt e = omega arith
 no_second_backward Backward i lt e = omega arith
 
-pub quiet_backward : WordLaws → (d e : Direction) (w v r : List Bool) → Plays d w → Plays e v → Starts r → (i : ℕ) → 0 < i → i < 80
+pub quiet_backward : WordLaws → (d e : Direction) (w v r : List Bool) → Plays d w → Plays e v → Starts r → (i : ℕ)
+    → 0 < i → i < 80
     → EndsInSync (reversed_bits (window_bits (w ++ (v ++ r)) i)) → ⊥
 quiet_backward laws d e w v r p q starts i some lt sync =
     let list = w ++ (v ++ r) in
     let ones = backward_ones laws list i sync in
     elim (cases_lt (i + 2) 80) [
-      | inl low ↦ no_later_backward d w (v ++ r) i p some low (only_sync d w (v ++ r) p (starts_with e v r q) (i + 2) low ones) (backward_set laws list i sync)
+      | inl low ↦ no_later_backward d w (v ++ r) i p some low
+          (only_sync d w (v ++ r) p (starts_with e v r q) (i + 2) low ones) (backward_set laws list i sync)
       | inr high ↦
           let later : Twelve (v ++ r) (i - 78) = behind w (v ++ r) (i + 2) (i - 78) p.count (omega arith) ones in
           no_second_backward e i lt (only_sync e v r q starts (i - 78) (omega arith) later)
@@ -333,21 +348,25 @@ no_early_forward : (d : Direction) (i : ℕ) → i < 2 → i + 64 ≡ sync_place
 no_early_forward Forward i lt e = omega arith
 no_early_forward Backward i lt e = omega arith
 
-pub lead_forward : (d : Direction) (w r : List Bool) → Plays d w → Starts r → (i : ℕ) → i < 2 → EndsInSync (window_bits (led (w ++ r)) i) → ⊥
+pub lead_forward : (d : Direction) (w r : List Bool) → Plays d w → Starts r → (i : ℕ) → i < 2
+    → EndsInSync (window_bits (led (w ++ r)) i) → ⊥
 lead_forward d w r p starts i lt sync =
-    let ones : Twelve (w ++ r) (i + 64) = behind_lead (w ++ r) (i + 66) (i + 64) (omega arith) (forward_ones (led (w ++ r)) i sync) in
+    let ones : Twelve (w ++ r) (i + 64) = behind_lead (w ++ r) (i + 66) (i + 64) (omega arith)
+    (forward_ones (led (w ++ r)) i sync) in
     no_early_forward d i lt (only_sync d w r p starts (i + 64) (omega arith) ones)
 
 pub lead_backward : WordLaws → (d : Direction) (w r : List Bool) → Plays d w → Starts r → (i : ℕ) → i < 2
     → EndsInSync (reversed_bits (window_bits (led (w ++ r)) i)) → ⊥
 lead_backward laws d w r p starts i lt sync =
-    let ones : Twelve (w ++ r) i = behind_lead (w ++ r) (i + 2) i (omega arith) (backward_ones laws (led (w ++ r)) i sync) in
+    let ones : Twelve (w ++ r) i = behind_lead (w ++ r) (i + 2) i (omega arith)
+    (backward_ones laws (led (w ++ r)) i sync) in
     no_early d i lt (only_sync d w r p starts i (omega arith) ones)
 
 -- ---- the window of a word
 
 -- a word is no candidate in the other direction
-pub no_other_way : WordLaws → (w r : List Bool) → Plays Forward w → Starts r → EndsInSync (reversed_bits (window_bits (w ++ r) 0)) → ⊥
+pub no_other_way : WordLaws → (w r : List Bool) → Plays Forward w → Starts r
+    → EndsInSync (reversed_bits (window_bits (w ++ r) 0)) → ⊥
 no_other_way laws w r p starts sync =
     let e = only_sync Forward w r p starts 2 (omega arith) (backward_ones laws (w ++ r) 0 sync) in omega (arith, e)
 

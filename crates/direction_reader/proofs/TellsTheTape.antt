@@ -1,5 +1,6 @@
 -- A recording within the tolerance has one stretch, the tape's own, so its events are those of the tape's windows.
-use Rattle.std.proofs.Common.{◌≡◌, ℕ, List, [], ◌∷◌, ◌++◌, refl, ap, sym, ◌∙◌, subst, arith, append-nil, None, Some, Option, IsSomeAnd, inl, inr}
+use Rattle.std.proofs.Common.{◌≡◌, ℕ, List, [], ◌∷◌, ◌++◌, refl, ap, sym, ◌∙◌, subst, arith, append-nil, None, Some}
+use Rattle.std.proofs.Common.{Option, IsSomeAnd, inl, inr}
 use Rattle.std.proofs.Common.{count_by, cond, ◌+◌, sum, take}
 use Rattle.std.proofs.lemmas.List.Sums.{sum_by-append}
 use Rattle.biphase.specs.declared.cell.Cell.{Cell}
@@ -20,12 +21,13 @@ use Rattle.direction_reader.specs.Windows.{CellWindow, windows}
 use Rattle.direction_reader.specs.ListEvents.{AreEvents}
 use Rattle.direction_reader.specs.Tape.{TellsTheTape}
 use Rattle.direction_reader.proofs.AsLists.{AreListed}
-use Rattle.direction_reader.proofs.OneList.{in_sync_or_not}
+use Rattle.ltc_word.specs.SyncLemmas.{in_sync_or_not}
 use Rattle.direction_reader.proofs.OneListOfEvents.{HasOneList}
 
 -- a recording within the tolerance has one stretch, the tape's own
 abbrev pub IsOneStretch : Type 0
-IsOneStretch = (profile : Profile) (intervals : List ℕ) (tape : List Cell) (cut lock : ℕ) → IsPiece profile intervals tape cut
+IsOneStretch = (profile : Profile) (intervals : List ℕ) (tape : List Cell) (cut lock : ℕ)
+    → IsPiece profile intervals tape cut
     → IsLock profile intervals 0 lock → AreStretches profile intervals (stretch_of_piece tape cut intervals lock ∷ [])
 
 -- ---- no break among the events of windows
@@ -47,7 +49,8 @@ heard system direction bits end length (Some (Lost p t)) is = absurd is
 unheard : (o : Option Event) → o ≡ None → breaks (listed o) ≡ 0
 unheard o none = rw none refl
 
-both_none : (own : Events) → breaks (listed own.first) ≡ 0 → breaks (listed own.second) ≡ 0 → breaks (event_list own) ≡ 0
+both_none : (own : Events) → breaks (listed own.first) ≡ 0 → breaks (listed own.second) ≡ 0
+    → breaks (event_list own) ≡ 0
 both_none own first second = omega (arith, breaks-append (listed own.first) (listed own.second), first, second)
 
 no_break_of_window : (system : System) (bits end length : ℕ) (own : Events) → AreEventsOf system bits end length own
@@ -56,8 +59,10 @@ no_break_of_window system bits end length own are =
     let back = reversed_bits bits in
     elim (in_sync_or_not bits) [
       | inl forward ↦ elim (in_sync_or_not back) [
-        | inl backward ↦ both_none own (heard _ _ _ _ _ own.first (are.forward forward)) (heard _ _ _ _ _ own.second (are.both forward backward))
-        | inr not_back ↦ both_none own (heard _ _ _ _ _ own.first (are.forward forward)) (unheard own.second (are.one forward not_back))
+        | inl backward ↦ both_none own (heard _ _ _ _ _ own.first (are.forward forward))
+            (heard _ _ _ _ _ own.second (are.both forward backward))
+        | inr not_back ↦ both_none own (heard _ _ _ _ _ own.first (are.forward forward))
+            (unheard own.second (are.one forward not_back))
       ]
       | inr not_forward ↦ elim (in_sync_or_not back) [
         | inl backward ↦ (
@@ -69,7 +74,8 @@ no_break_of_window system bits end length own are =
       ]
     ]
 
-no_break_of_windows : (system : System) (ws : List CellWindow) (es : List Event) → AreEventsOfWindows system ws es → breaks es ≡ 0
+no_break_of_windows : (system : System) (ws : List CellWindow) (es : List Event) → AreEventsOfWindows system ws es
+    → breaks es ≡ 0
 no_break_of_windows system [] es are = ap breaks are
 no_break_of_windows system (w ∷ ws) es (own, rest, is, others, join) =
     omega (
@@ -82,14 +88,17 @@ no_break_of_windows system (w ∷ ws) es (own, rest, is, others, join) =
 
 -- ---- the tape
 
-nothing_told : (system : System) (profile : Profile) (l : List ℕ) (es : List Event) (ss : List Stretch) → AreStretches profile l ss
+nothing_told : (system : System) (profile : Profile) (l : List ℕ) (es : List Event) (ss : List Stretch)
+    → AreStretches profile l ss
     → AreEventsOfStretches system l ss es → HasNoLock profile l 0 → es ≡ []
 nothing_told system profile l es [] stretches are none = are
 nothing_told system profile l es (s ∷ ss) stretches are none =
     let lock = stretches.0 in absurd (none lock.pair lock.within lock.unequal)
 
-pub words_told : HasOneList → IsOneStretch → (system : System) (profile : Profile) (l : List ℕ) (es : List Event) (ss : List Stretch)
-    → AreStretches profile l ss → AreEventsOfStretches system l ss es → (tape : List Cell) (cut lock : ℕ) → IsPiece profile l tape cut
+pub words_told : HasOneList → IsOneStretch → (system : System) (profile : Profile) (l : List ℕ) (es : List Event)
+    (ss : List Stretch)
+    → AreStretches profile l ss → AreEventsOfStretches system l ss es → (tape : List Cell) (cut lock : ℕ)
+    → IsPiece profile l tape cut
     → IsLock profile l 0 lock → AreEventsOfWindows system (windows (sum (take lock l)) (cells_from tape cut l lock)) es
 words_told one law system profile l es ss stretches are tape cut lock is at =
     let own = stretch_of_piece tape cut l lock in
@@ -100,9 +109,11 @@ words_told one law system profile l es ss stretches are tape cut lock is at =
     let all : windows_are.0 ≡ es =
     sym (append-nil windows_are.0) ∙ sym windows_are.2 ∙ sym (append-nil of_own.0)
     ∙ ap (λ (e : List Event). of_own.0 ++ e) (sym of_own.3) ∙ sym of_own.4 in
-    subst (λ (e : List Event). AreEventsOfWindows system (windows (sum (take lock l)) (cells_from tape cut l lock)) e) all windows_are.1
+    subst (λ (e : List Event). AreEventsOfWindows system
+    (windows (sum (take lock l)) (cells_from tape cut l lock)) e) all windows_are.1
 
-no_break_told : HasOneList → IsOneStretch → (system : System) (profile : Profile) (l : List ℕ) (es : List Event) (ss : List Stretch)
+no_break_told : HasOneList → IsOneStretch → (system : System) (profile : Profile) (l : List ℕ) (es : List Event)
+    (ss : List Stretch)
     → AreStretches profile l ss → AreEventsOfStretches system l ss es → (tape : List Cell) (cut : ℕ)
     → IsPiece profile l tape cut → breaks es ≡ 0
 no_break_told one law system profile l es [] stretches are tape cut is = ap breaks are

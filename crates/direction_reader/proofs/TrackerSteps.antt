@@ -1,6 +1,7 @@
 -- What a state answers to an interval is what the interval does to the tracker.
 use Rattle.std.proofs.Common.{◌≡◌, ℕ, ◌+◌, List, length, refl, sym, ◌∙◌, ap, subst, Some, None, Option, ◌-◌, true}
 use Rattle.std.proofs.Common.{false, arith}
+use Rattle.biphase.specs.ToleranceLemmas.{last_at_lock, last_next}
 use Rattle.biphase.specs.Latest.{Latest}
 use Rattle.biphase.specs.declared.cell.Cell.TheVariants as cells
 use Rattle.biphase.specs.declared.profile.Profile.{Profile}
@@ -23,17 +24,6 @@ use Rattle.direction_reader.specs.Tracking.{AtCell, MidCell, Hunting}
 use Rattle.direction_reader.specs.declared.state.Step.TheVariants.{Nothing, FirstZero, ZeroBefore, Break}
 use Rattle.direction_reader.specs.declared.state.Step.TheVariants as steps
 use Rattle.direction_reader.specs.StandsFor.{TrackerStandsFor, StandsAfter}
-
--- the last length that is kept
-last_at_lock : (profile : Profile) (x : ℕ) → (kept_at_lock profile x).last ≡ x
-last_at_lock Normal x = refl
-last_at_lock Worn x = refl
-last_at_lock Rough x = refl
-
-last_of_next : (profile : Profile) (latest : Latest) (x : ℕ) → (kept_next profile latest x).last ≡ x
-last_of_next Normal latest x = refl
-last_of_next Worn latest x = refl
-last_of_next Rough latest x = refl
 
 -- what each state says of the lists of intervals
 abbrev HuntingMeans : HuntingState → FromHunting → Latest → ℕ → Type 0
@@ -159,7 +149,7 @@ zero_ends a held before n four x reference its is keeps means =
     same (record {
       steps = (
         refl,
-        ap (λ (s : AtCellState). s.latest.last) keeps.with_four ∙ last_of_next a.profile (at_cell_with a
+        ap (λ (s : AtCellState). s.latest.last) keeps.with_four ∙ last_next a.profile (at_cell_with a
             before).latest x,
       );
       profile = ap (λ (s : AtCellState). s.profile) keeps.with_four;
@@ -214,7 +204,7 @@ one_ends m held before n four x first second reference its is keeps means =
       steps = (
         refl,
         ap (λ (s : AtCellState). s.latest.last) keeps.2.with_four
-            ∙ last_of_next m.profile (mid_cell_with m before).latest (m.half + x),
+            ∙ last_next m.profile (mid_cell_with m before).latest (m.half + x),
       );
       profile = ap (λ (s : AtCellState). s.profile) keeps.2.with_four;
       stands = one_means (mid_cell_with m before) n four x first second keeps.0 keeps.1 means;

@@ -1,5 +1,6 @@
 -- In cells that have the bits of words, the windows that are words are candidates, and no others are.
-use Rattle.std.proofs.Common.{◌≡◌, ℕ, zero, suc, ◌+◌, ◌-◌, ◌*◌, ◌^◌, ◌<◌, Bool, true, false, List, [], ◌∷◌, ◌++◌, length, take, drop, map}
+use Rattle.std.proofs.Common.{◌≡◌, ℕ, zero, suc, ◌+◌, ◌-◌, ◌*◌, ◌^◌, ◌<◌, Bool, true, false, List, [], ◌∷◌, ◌++◌}
+use Rattle.std.proofs.Common.{length, take, drop, map}
 use Rattle.std.proofs.Common.{refl, sym, ap, ap₂, ◌∙◌, subst, append-nil, arith}
 use Rattle.std.specs.List.{range_with_len}
 use Rattle.std.proofs.lemmas.List.{take-map, take_at, drop-drop, drop-map, drop_at, length-append, length-map}
@@ -21,15 +22,19 @@ use Rattle.direction_reader.specs.Events.{no_events, one_event}
 use Rattle.direction_reader.specs.Gathered.{AreEventsOfWindows, AreGathered}
 use Rattle.direction_reader.specs.Windows.{number_of, window_at, windows}
 use Rattle.direction_reader.specs.ListEvents.{duration}
-use Rattle.direction_reader.specs.Played.{Played, AreSpelled, bits_of_words, events_of_words, in_time, low_bits, played_bits}
+use Rattle.direction_reader.specs.Played.{Played, AreSpelled, bits_of_words, events_of_words, in_time, low_bits}
+use Rattle.direction_reader.specs.Played.{played_bits}
 use Rattle.direction_reader.proofs.ChainIsAStretch.{AreAsSaid, whole, whole_is}
-use Rattle.direction_reader.proofs.SyncInTime.{WordLaws, Starts, led, lead_backward, lead_forward, length-low_bits, no_other_way}
-use Rattle.direction_reader.proofs.SyncInTime.{no_way_forward, number-low_bits, plays, quiet_backward, quiet_forward, starts_with, window_bits}
-use Rattle.direction_reader.proofs.WindowsGrow.{duration-append}
+use Rattle.direction_reader.proofs.SyncInTime.{WordLaws, Starts, led, lead_backward, lead_forward, no_other_way}
+use Rattle.direction_reader.specs.PlayedLemmas.{length-low_bits, length-bits_of_words}
+use Rattle.direction_reader.proofs.SyncInTime.{no_way_forward, number-low_bits, plays, quiet_backward, quiet_forward}
+use Rattle.direction_reader.proofs.SyncInTime.{starts_with, window_bits}
+use Rattle.direction_reader.specs.PlayedLemmas.{duration-append}
 
 -- ---- one window
 
-no_candidate : (system : System) (n end len : ℕ) → (EndsInSync n → ⊥) → (EndsInSync (reversed_bits n) → ⊥) → AreEventsOf system n end len no_events
+no_candidate : (system : System) (n end len : ℕ) → (EndsInSync n → ⊥) → (EndsInSync (reversed_bits n) → ⊥)
+    → AreEventsOf system n end len no_events
 no_candidate system n end len forward backward = record {
   forward = λ s. absurd (forward s);
   backward = λ s _. absurd (backward s);
@@ -38,7 +43,8 @@ no_candidate system n end len forward backward = record {
   none = λ _ _. (refl, refl);
 }
 
-forward_word : (system : System) (word : LtcWord) (n end len : ℕ) → Spells system word n → (EndsInSync (reversed_bits n) → ⊥)
+forward_word : (system : System) (word : LtcWord) (n end len : ℕ) → Spells system word n
+    → (EndsInSync (reversed_bits n) → ⊥)
     → AreEventsOf system n end len (one_event (Word Forward word end len))
 forward_word system word n end len s backward = record {
   forward = λ _. (refl, s, refl, refl);
@@ -48,7 +54,8 @@ forward_word system word n end len s backward = record {
   none = λ f _. absurd (f s.sync);
 }
 
-backward_word : WordLaws → (system : System) (word : LtcWord) (n end len : ℕ) → Spells system word n → (EndsInSync (reversed_bits n) → ⊥)
+backward_word : WordLaws → (system : System) (word : LtcWord) (n end len : ℕ) → Spells system word n
+    → (EndsInSync (reversed_bits n) → ⊥)
     → AreEventsOf system (reversed_bits n) end len (one_event (Word Backward word end len))
 backward_word laws system word n end len s forward =
     let back = laws.twice n s.width in
@@ -67,13 +74,15 @@ width_in_time : WordLaws → (d : Direction) (n : ℕ) → n < 2 ^ 80 → in_tim
 width_in_time laws Forward n lt = lt
 width_in_time laws Backward n lt = laws.width n
 
-pub window_is : WordLaws → (d : Direction) (n : ℕ) (r : List Bool) → n < 2 ^ 80 → window_bits (low_bits 80 (in_time d n) ++ r) 0 ≡ in_time d n
+pub window_is : WordLaws → (d : Direction) (n : ℕ) (r : List Bool) → n < 2 ^ 80
+    → window_bits (low_bits 80 (in_time d n) ++ r) 0 ≡ in_time d n
 window_is laws d n r lt =
     first_window (low_bits 80 (in_time d n)) r (length-low_bits 80 (in_time d n))
     ∙ number-low_bits 80 (in_time d n) (width_in_time laws d n lt)
 
 -- the window of a word that is played is that word, and nothing else
-word_read : WordLaws → (d : Direction) (system : System) (word : LtcWord) (n : ℕ) (r : List Bool) (end len : ℕ) → Spells system word n → Starts r
+word_read : WordLaws → (d : Direction) (system : System) (word : LtcWord) (n : ℕ) (r : List Bool) (end len : ℕ)
+    → Spells system word n → Starts r
     → AreEventsOf system (window_bits (low_bits 80 (in_time d n) ++ r) 0) end len (one_event (Word d word end len))
 word_read laws Forward system word n r end len s starts =
     let same = window_is laws Forward n r s.width in
@@ -81,7 +90,8 @@ word_read laws Forward system word n r end len s starts =
     rw same (forward_word system word n end len s other)
 word_read laws Backward system word n r end len s starts =
     let same = window_is laws Backward n r s.width in
-    let other = rw same at (no_way_forward (low_bits 80 (reversed_bits n)) r (plays laws Backward system word n s) starts) in
+    let other = rw same at (no_way_forward (low_bits 80 (reversed_bits n)) r
+    (plays laws Backward system word n s) starts) in
     rw same (backward_word laws system word n end len s other)
 
 -- ---- windows by their places
@@ -107,7 +117,8 @@ abbrev AreFrom : System → List Cell → ℕ → ℕ → List Event → Type 0
 AreFrom system cells p n events = AreEventsOfWindows system (map (window_at 0 cells) (range_with_len p n)) events
 
 -- some windows that are no candidates, and others behind them
-quiet_then : (system : System) (cells : List Cell) (p n m : ℕ) (events : List Event) → ((i : ℕ) → i < n → IsQuiet (number_at cells (p + i)))
+quiet_then : (system : System) (cells : List Cell) (p n m : ℕ) (events : List Event)
+    → ((i : ℕ) → i < n → IsQuiet (number_at cells (p + i)))
     → AreFrom system cells (p + n) m events → AreFrom system cells p (n + m) events
 quiet_then system cells p zero m events quiet rest =
     let e : p + zero ≡ p = omega arith in
@@ -121,8 +132,14 @@ quiet_then system cells p (suc n) m events quiet rest =
     let later : (i : ℕ) → i < n → IsQuiet (number_at cells (p + 1 + i)) =
     λ i lt. let g : p + suc i ≡ p + 1 + i = omega arith in rw g at (quiet (suc i) (omega arith)) in
     let none = let g : p + 0 ≡ p = omega arith in rw g at (quiet 0 (omega arith)) in
-    let all : AreFrom system cells p (suc (n + m)) events =
-    (no_events, events, no_candidate system (number_at cells p) _ _ none.forward none.backward, quiet_then system cells (p + 1) n m events later more, refl) in
+    let all : AreFrom system cells p (suc (n + m)) events = (
+      no_events,
+      events,
+      no_candidate system (number_at cells p) _ _ none.forward none.backward,
+      quiet_then system cells
+          (p + 1) n m events later more,
+      refl,
+    ) in
     rw f all
 
 -- ---- all windows
@@ -130,57 +147,72 @@ quiet_then system cells p (suc n) m events quiet rest =
 starts_nothing : Starts []
 starts_nothing a b c d = absurd cc
 
-pub starts_words : WordLaws → (system : System) (words : List Played) → AreSpelled system words → Starts (bits_of_words words)
+pub starts_words : WordLaws → (system : System) (words : List Played) → AreSpelled system words
+    → Starts (bits_of_words words)
 starts_words laws system [] spelled = starts_nothing
 starts_words laws system (w ∷ more) spelled =
-    starts_with w.direction (played_bits w) (bits_of_words more) (plays laws w.direction system w.word (spelling_of w.word) spelled.0)
+    starts_with w.direction (played_bits w) (bits_of_words more)
+    (plays laws w.direction system w.word (spelling_of w.word) spelled.0)
 
-end_is : (cells : List Cell) (p : ℕ) → 0 + duration (take (p + 80) cells) ≡ duration (take p cells) + duration (take 80 (drop p cells))
+end_is : (cells : List Cell) (p : ℕ) → 0 + duration (take (p + 80) cells)
+    ≡ duration (take p cells) + duration (take 80 (drop p cells))
 end_is cells p =
     let e : duration (take (p + 80) cells) ≡ duration (take p cells) + duration (take 80 (drop p cells)) =
     ap duration (take-add p 80 cells) ∙ duration-append (take p cells) (take 80 (drop p cells)) in
     omega arith
 
 -- the window of the word that is played from place p on
-word_at : WordLaws → (system : System) (cells : List Cell) (w : Played) (more : List Played) (p : ℕ) → bits (drop p cells) ≡ bits_of_words (w ∷ more)
+word_at : WordLaws → (system : System) (cells : List Cell) (w : Played) (more : List Played) (p : ℕ)
+    → bits (drop p cells) ≡ bits_of_words (w ∷ more)
     → AreSpelled system (w ∷ more)
     → let len = duration (take 80 (drop p cells)) in
-    AreEventsOf system (number_at cells p) (0 + duration (take (p + 80) cells)) len (one_event (Word w.direction w.word (duration (take p cells) + len) len))
+    AreEventsOf system (number_at cells p) (0 + duration (take (p + 80) cells)) len
+    (one_event (Word w.direction w.word (duration (take p cells) + len) len))
 word_at laws system cells w more p are spelled =
     let len = duration (take 80 (drop p cells)) in
     let g : p + 0 ≡ p = omega arith in
-    let there : number_at cells p ≡ window_bits (played_bits w ++ bits_of_words more) 0 = rw g at (window_there cells p 0 (bits_of_words (w ∷ more)) are) in
-    let read = word_read laws w.direction system w.word (spelling_of w.word) (bits_of_words more) (duration (take p cells) + len) len spelled.0
+    let there : number_at cells p ≡ window_bits (played_bits w ++ bits_of_words more) 0 =
+    rw g at (window_there cells p 0 (bits_of_words (w ∷ more)) are) in
+    let read = word_read laws w.direction system w.word (spelling_of w.word) (bits_of_words more)
+    (duration (take p cells) + len) len spelled.0
     (starts_words laws system more spelled.1) in
     rw (there, end_is cells p) read
 
-next_are : (cells : List Cell) (w : Played) (more : List Played) (p : ℕ) → bits (drop p cells) ≡ bits_of_words (w ∷ more)
+next_are : (cells : List Cell) (w : Played) (more : List Played) (p : ℕ)
+    → bits (drop p cells) ≡ bits_of_words (w ∷ more)
     → bits (drop (p + 80) cells) ≡ bits_of_words more
 next_are cells w more p are =
-    ap (λ (l : List Cell). bits l) (sym (drop-drop 80 p cells)) ∙ sym (drop-map bit_of 80 (drop p cells)) ∙ ap (λ (l : List Bool). drop 80 l) are
+    ap (λ (l : List Cell). bits l) (sym (drop-drop 80 p cells)) ∙ sym (drop-map bit_of 80 (drop p cells))
+    ∙ ap (λ (l : List Bool). drop 80 l) are
     ∙ drop_at (played_bits w) (bits_of_words more) 80 (length-low_bits 80 _)
 
 -- the windows between two words
-between : WordLaws → (system : System) (cells : List Cell) (w v : Played) (more : List Played) (p : ℕ) → bits (drop p cells) ≡ bits_of_words (w ∷ v ∷ more)
+between : WordLaws → (system : System) (cells : List Cell) (w v : Played) (more : List Played) (p : ℕ)
+    → bits (drop p cells) ≡ bits_of_words (w ∷ v ∷ more)
     → AreSpelled system (w ∷ v ∷ more) → (i : ℕ) → i < 79 → IsQuiet (number_at cells (p + 1 + i))
 between laws system cells w v more p are spelled i lt =
     let g : p + (1 + i) ≡ p + 1 + i = omega arith in
-    let there : number_at cells (p + 1 + i) ≡ window_bits (played_bits w ++ (played_bits v ++ bits_of_words more)) (1 + i) =
+    let there : number_at cells (p + 1 + i) ≡ window_bits (played_bits w ++ (played_bits v ++ bits_of_words more))
+    (1 + i) =
     rw g at (window_there cells p (1 + i) (bits_of_words (w ∷ v ∷ more)) are) in
     let one = plays laws w.direction system w.word (spelling_of w.word) spelled.0 in
     let two = plays laws v.direction system v.word (spelling_of v.word) spelled.1.0 in
     let starts = starts_words laws system more spelled.1.1 in
     let quiet : IsQuiet (window_bits (played_bits w ++ (played_bits v ++ bits_of_words more)) (1 + i)) = record {
-      forward = quiet_forward w.direction v.direction (played_bits w) (played_bits v) (bits_of_words more) one two starts (1 + i)
+      forward = quiet_forward w.direction v.direction (played_bits w) (played_bits v)
+          (bits_of_words more) one two starts (1 + i)
           (omega arith) (omega arith);
-      backward = quiet_backward laws w.direction v.direction (played_bits w) (played_bits v) (bits_of_words more) one two starts (1 + i)
+      backward = quiet_backward laws w.direction v.direction (played_bits w) (played_bits v)
+          (bits_of_words more) one two starts (1 + i)
           (omega arith) (omega arith);
     } in
     rw there quiet
 
-read_from : WordLaws → (system : System) (cells : List Cell) (w : Played) (more : List Played) (p : ℕ) → bits (drop p cells) ≡ bits_of_words (w ∷ more)
+read_from : WordLaws → (system : System) (cells : List Cell) (w : Played) (more : List Played) (p : ℕ)
+    → bits (drop p cells) ≡ bits_of_words (w ∷ more)
     → AreSpelled system (w ∷ more)
-    → AreFrom system cells p (suc (80 * length more)) (events_of_words (duration (take p cells)) (drop p cells) (w ∷ more))
+    → AreFrom system cells p (suc (80 * length more)) (events_of_words (duration (take p cells)) (drop p cells)
+    (w ∷ more))
 unfolding events_of_words
 read_from laws system cells w [] p are spelled =
     (one_event (Word w.direction w.word _ _), [], word_at laws system cells w [] p are spelled, refl, refl)
@@ -195,31 +227,33 @@ read_from laws system cells w (v ∷ more) p are spelled =
     let rest_too : AreFrom system cells (p + 80) (suc (80 * length more)) others = subst P same rest in
     let g : p + 80 ≡ p + 1 + 79 = omega arith in
     let from : AreFrom system cells (p + 1 + 79) (suc (80 * length more)) others = rw g at rest_too in
-    let quiet = quiet_then system cells (p + 1) 79 (suc (80 * length more)) others (between laws system cells w v more p are spelled) from in
+    let quiet = quiet_then system cells (p + 1) 79 (suc (80 * length more)) others
+    (between laws system cells w v more p are spelled) from in
     let f : 79 + suc (80 * length more) ≡ 80 * suc (length more) = omega arith in
-    let all : AreFrom system cells (p + 1) (80 * suc (length more)) others = rw f at quiet in
-    (one_event (Word w.direction w.word tick len), others, word_at laws system cells w (v ∷ more) p are spelled, all, refl)
+    let all : AreFrom system cells (p + 1) (80 * suc (length more)) others = rw f at quiet in (
+      one_event (Word w.direction w.word tick len),
+      others,
+      word_at laws system cells w (v ∷ more) p are spelled,
+      all,
+      refl,
+    )
 
-length_bits : (words : List Played) → length (bits_of_words words) ≡ 80 * length words
-length_bits [] = refl
-length_bits (w ∷ more) =
-    let e = length-low_bits 80 (in_time w.direction (spelling_of w.word)) in
-    let rest = length_bits more in
-    let whole = length-append (played_bits w) (bits_of_words more) in
-    omega arith
-
-pub windows_are_read : WordLaws → (system : System) (cells : List Cell) (words : List Played) → bits cells ≡ false ∷ true ∷ bits_of_words words
-    → AreSpelled system words → AreEventsOfWindows system (windows 0 cells) (events_of_words (duration (take 2 cells)) (drop 2 cells) words)
+pub windows_are_read : WordLaws → (system : System) (cells : List Cell) (words : List Played)
+    → bits cells ≡ false ∷ true ∷ bits_of_words words
+    → AreSpelled system words → AreEventsOfWindows system (windows 0 cells)
+    (events_of_words (duration (take 2 cells)) (drop 2 cells) words)
 unfolding events_of_words
 windows_are_read laws system cells [] are spelled =
     let count : length cells ≡ 2 = sym (length-map cells bit_of) ∙ ap length are in
     let none : length cells - 79 ≡ 0 = omega arith in
     rw none refl
 windows_are_read laws system cells (w ∷ more) are spelled =
-    let all = length_bits (w ∷ more) in
-    let count : length cells ≡ suc (suc (length (bits_of_words (w ∷ more)))) = sym (length-map cells bit_of) ∙ ap length are in
+    let all = length-bits_of_words (w ∷ more) in
+    let count : length cells ≡ suc (suc (length (bits_of_words (w ∷ more)))) = sym (length-map cells bit_of)
+    ∙ ap length are in
     let many : length cells - 79 ≡ 2 + suc (80 * length more) = omega arith in
-    let there : bits (drop 2 cells) ≡ bits_of_words (w ∷ more) = sym (drop-map bit_of 2 cells) ∙ ap (λ (l : List Bool). drop 2 l) are in
+    let there : bits (drop 2 cells) ≡ bits_of_words (w ∷ more) = sym (drop-map bit_of 2 cells)
+    ∙ ap (λ (l : List Bool). drop 2 l) are in
     let starts = starts_words laws system more spelled.1 in
     let one = plays laws w.direction system w.word (spelling_of w.word) spelled.0 in
     let quiet : (i : ℕ) → i < 2 → IsQuiet (number_at cells (0 + i)) = λ i lt.
@@ -229,11 +263,13 @@ windows_are_read laws system cells (w ∷ more) are spelled =
       backward = lead_backward laws w.direction (played_bits w) (bits_of_words more) one starts i lt;
     } in
     rw here q in
-    rw many (quiet_then system cells 0 2 (suc (80 * length more)) _ quiet (read_from laws system cells w more 2 there spelled))
+    rw many (quiet_then system cells 0 2 (suc (80 * length more)) _ quiet
+    (read_from laws system cells w more 2 there spelled))
 
 -- ---- all events
 
-pub words_are_read : WordLaws → AreAsSaid → (system : System) (profile : Profile) (cells : List Cell) (words : List Played) → IsChain profile cells
+pub words_are_read : WordLaws → AreAsSaid → (system : System) (profile : Profile) (cells : List Cell)
+    (words : List Played) → IsChain profile cells
     → bits cells ≡ false ∷ true ∷ bits_of_words words → AreSpelled system words
     → AreGathered system profile (flat cells) (events_of_words (duration (take 2 cells)) (drop 2 cells) words)
 words_are_read laws said system profile cells words chain are spelled =

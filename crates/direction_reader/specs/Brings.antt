@@ -3,7 +3,7 @@ use Rattle.std.specs.Prelude.{◌≡◌, ℕ, ◌+◌, ◌*◌, ◌≤◌, IfSom
 use Rattle.direction_reader.specs.declared.event.Event.{Event}
 use Rattle.direction_reader.specs.declared.event.Event.TheVariants.{Word, Refused, Lost}
 use Rattle.direction_reader.specs.declared.event.Events.{Events}
-use Rattle.biphase.specs.declared.cell.TheConstants.{MAX_INTERVAL}
+use Rattle.limits.specs.declared.recording.TheConstants.{MAX_INTERVAL}
 
 -- a cell lasts so many ticks at most
 abbrev pub greatest_cell : ℕ

@@ -1,7 +1,7 @@
 -- The events of a list of intervals where each word is asked for a witness, by a reader that is told to be firm. A word
 -- of linear time code has no check but its address, but it does not stand alone: words follow one another, so on the
 -- side of a word away from its own sync word stands another one's. The rule is this project's own.
-use Rattle.std.specs.Prelude.{◌≡◌, ℕ, ◌+◌, ◌-◌, ◌==◌, List, [], ◌∷◌, ◌++◌, length, take, drop, sum, map, Bool, ◌||◌}
+use Rattle.std.specs.Prelude.{◌≡◌, ℕ, ◌+◌, ◌-◌, ◌≤◌, ◌==◌, List, [], ◌∷◌, ◌++◌, length, take, drop, sum, map, Bool, ◌||◌}
 use Rattle.std.specs.Prelude.{nat_lt, if◌then◌else◌}
 use Rattle.std.specs.List.{flat_map, range_with_len}
 use Rattle.biphase.specs.declared.cell.Cell.{Cell}
@@ -17,6 +17,7 @@ use Rattle.direction_reader.specs.declared.event.Event.TheVariants.{Word}
 use Rattle.direction_reader.specs.declared.firm_event.FirmEvent.{FirmEvent}
 use Rattle.direction_reader.specs.declared.firm_event.FirmEvent.TheVariants.{Told, Alone}
 use Rattle.direction_reader.specs.Candidate.{candidate_in}
+use Rattle.direction_reader.specs.Events.{tick_of}
 use Rattle.direction_reader.specs.ListEvents.{bits_in, duration, break_events}
 
 -- the sync word as it comes in time, the first bit in bit 0: of a word that is played forward, 0011111111111101, and of
@@ -38,6 +39,16 @@ abbrev pub judged : Bool → Event → FirmEvent
 judged firm (Word direction word tick length) =
     if firm then Told (Word direction word tick length) else Alone direction tick
 judged firm event = Told event
+
+-- the tick of what is told: where a window ends, or the interval at which a stretch breaks
+abbrev pub told_tick : FirmEvent → ℕ
+told_tick (Told event) = tick_of event
+told_tick (Alone direction tick) = tick
+
+-- ticks that do not fall, from a tick to another
+abbrev pub DoNotFall : ℕ → List ℕ → ℕ → Type 0
+DoNotFall first [] last = first ≤ last
+DoNotFall first (tick ∷ more) last = (first ≤ tick) × DoNotFall tick more last
 
 -- of cells that begin at a tick, the candidate that the 80 from place k on are in a direction
 abbrev pub candidate_at : System → ℕ → List Cell → ℕ → Direction → List Event

@@ -2,7 +2,7 @@
 -- has told and what `finish` tells are together the events of the list.
 use Rattle.std.specs.Prelude.{◌≡◌, ℕ, ◌+◌, ◌*◌, ◌≤◌, List, [], ◌++◌, length, sum, Option, Some, None, IfSome}
 use Rattle.std.specs.List.{flat_map}
-use Rattle.biphase.specs.declared.cell.TheConstants.{MAX_INTERVAL}
+use Rattle.limits.specs.declared.recording.TheConstants.{MAX_INTERVAL}
 use Rattle.cell_tracker.specs.Stretch.{Stretch}
 use Rattle.tc_address.specs.declared.system.System.{System}
 use Rattle.direction_reader.specs.declared.event.Event.{Event}
@@ -13,7 +13,7 @@ use Rattle.direction_reader.specs.declared.firm_event.FirmEvents.{FirmEvents}
 use Rattle.direction_reader.specs.Brings.{greatest_cell}
 use Rattle.direction_reader.specs.Firm.{firm_events_of_stretch}
 use Rattle.direction_reader.specs.FirmStandsFor.{KeptFirm, FirmCellsStandFor}
-use Rattle.direction_reader.specs.FirmStep.{WaitsWithin}
+use Rattle.direction_reader.specs.FirmStep.{IsNoWord, WaitsWithin, until_of}
 use Rattle.direction_reader.specs.Gathered.{begin_of}
 use Rattle.direction_reader.specs.Invariants.{IsReading}
 use Rattle.direction_reader.specs.ListEvents.{duration}
@@ -49,11 +49,16 @@ IsToldBy intervals sum (Told (Refused direction fault tick)) = tick ≤ sum
 IsToldBy intervals sum (Told (Lost interval tick)) = (interval + 1 ≡ intervals) × (tick ≡ sum)
 IsToldBy intervals sum (Alone direction tick) = tick ≤ sum
 
--- what the latest of so many intervals brings
+-- up to which tick all is told: the sum of the intervals, or the tick of a word that waits for its witness
+abbrev pub told_until : FirmState → ℕ
+told_until r = until_of r.tick r.cells.waits
+
+-- what the latest of so many intervals brings, at most two words
 pub record FirmBrings (intervals sum : ℕ) (events : FirmEvents) : Type 0 where
   pub first : IfSome events.first (IsToldBy intervals sum)
   pub second : IfSome events.second (IsToldBy intervals sum)
   pub third : IfSome events.third (IsToldBy intervals sum)
+  pub no_word : IfSome events.third IsNoWord
 
 -- the open stretch: what is kept of its cells, and what is told of them
 pub record FirmOpen (reader : FirmState) (intervals : List ℕ) (stretch : Stretch) (told : List FirmEvent) : Type 0 where

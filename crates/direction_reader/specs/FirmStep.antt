@@ -1,5 +1,5 @@
 -- What a cell does to a word that waits for its witness, in numbers. No public clause speaks of it.
-use Rattle.std.specs.Prelude.{◌≡◌, ℕ, ◌+◌, ◌-◌, List, [], ◌∷◌, ◌++◌, Option, Some, None, Bool, true, slice_index}
+use Rattle.std.specs.Prelude.{◌≡◌, ℕ, ◌+◌, ◌-◌, List, [], ◌∷◌, ◌++◌, Option, Some, None, Bool, true, false, slice_index}
 use Rattle.std.specs.Prelude.{nat_lt, if◌then◌else◌, IfSome, ◌≤◌, ◌*◌}
 use Rattle.std.specs.Option.{option_map}
 use Rattle.ltc_word.specs.Reversal.{reversed_bits}
@@ -17,8 +17,8 @@ use Rattle.direction_reader.specs.declared.waiting.Waiting.{Waiting}
 use Rattle.direction_reader.specs.declared.waiting.Heard.{Heard}
 use Rattle.direction_reader.specs.Brings.{IsWordAt, greatest_cell}
 use Rattle.direction_reader.specs.Candidate.{candidate_in, Bears}
-use Rattle.direction_reader.specs.Events.{listed}
-use Rattle.direction_reader.specs.Firm.{judged}
+use Rattle.direction_reader.specs.Events.{is_word, listed, tick_of}
+use Rattle.direction_reader.specs.Firm.{judged, told_tick}
 
 -- nothing is told
 abbrev pub nothing_told : FirmEvents
@@ -96,16 +96,28 @@ abbrev pub IsToldWithin : ℕ → FirmEvent → Type 0
 IsToldWithin tick (Told event) = IsWithin tick event
 IsToldWithin tick (Alone direction end) = end ≤ tick
 
--- a word that waits, and what stands behind it
+-- a word that waits, and what stands behind it, which ended at its tick or later
 pub record IsWaitingWithin (tick : ℕ) (w : Waiting) : Type 0 where
   pub word : IsWithin tick w.word
   pub behind : IfSome w.behind (IsToldWithin tick)
+  pub later : IfSome w.behind (λ event. tick_of w.word ≤ told_tick event)
 
 abbrev pub WaitsWithin : ℕ → Option Waiting → Type 0
 WaitsWithin tick waits = IfSome waits (IsWaitingWithin tick)
+
+-- up to which tick all is told: that of the word that waits, if one does
+abbrev pub until_of : ℕ → Option Waiting → ℕ
+until_of now None = now
+until_of now (Some w) = tick_of w.word
+
+-- no word
+abbrev pub IsNoWord : FirmEvent → Type 0
+IsNoWord (Told event) = is_word event ≡ false
+IsNoWord (Alone direction tick) = Unit {0}
 
 -- what is told of windows that ended by a tick
 pub record TellsWithin (tick : ℕ) (told : FirmEvents) : Type 0 where
   pub first : IfSome told.first (IsToldWithin tick)
   pub second : IfSome told.second (IsToldWithin tick)
   pub third : IfSome told.third (IsToldWithin tick)
+  pub no_word : IfSome told.third IsNoWord

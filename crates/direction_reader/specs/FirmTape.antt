@@ -1,9 +1,10 @@
 -- What a reading that asks each word for a witness says of the tape, beside one that asks for none.
-use Rattle.std.specs.Prelude.{◌≡◌, ℕ, ◌+◌, ◌≤◌, List, [], ◌∷◌, length, take, sum, map, Bool, true}
+use Rattle.std.specs.Prelude.{◌≡◌, ◌⊎◌, ℕ, ◌+◌, ◌≤◌, All, List, [], ◌∷◌, length, take, sum, map, Bool, true}
 use Rattle.biphase.specs.declared.cell.Cell.{Cell}
 use Rattle.biphase.specs.declared.profile.Profile.{Profile}
 use Rattle.cell_tracker.specs.ChainPiece.{IsPiece, cells_from}
 use Rattle.cell_tracker.specs.Lock.{IsLock, HasNoLock}
+use Rattle.cell_tracker.specs.Stretch.{Stretch, AreStretchesFrom}
 use Rattle.tc_address.specs.declared.direction.Direction.{Direction}
 use Rattle.tc_address.specs.declared.system.System.{System}
 use Rattle.direction_reader.specs.declared.event.Event.{Event}
@@ -11,6 +12,7 @@ use Rattle.direction_reader.specs.declared.event.Event.TheVariants.{Word}
 use Rattle.direction_reader.specs.declared.firm_event.FirmEvent.{FirmEvent}
 use Rattle.direction_reader.specs.declared.firm_event.FirmEvent.TheVariants.{Told}
 use Rattle.direction_reader.specs.Firm.{is_firm, judged, firm_events_of_cells}
+use Rattle.direction_reader.specs.Gathered.{begin_of}
 use Rattle.direction_reader.specs.ListEvents.{duration, events_of_cells}
 use Rattle.direction_reader.specs.Played.{Played}
 
@@ -34,6 +36,19 @@ abbrev pub HasWitness : ℕ → List Cell → FirmEvent → Type 0
 HasWitness tick cells (Told (Word direction word end length_of_word)) = (k : ℕ) × (k + 80 ≤ length cells)
     × (end ≡ tick + duration (take (k + 80) cells)) × (is_firm direction cells k ≡ true)
 HasWitness tick cells event = Unit {0}
+
+-- it is a word of one of these stretches, and stands there so
+abbrev pub HasWitnessIn : List ℕ → List Stretch → FirmEvent → Type 0
+HasWitnessIn intervals [] event = ⊥
+HasWitnessIn intervals (stretch ∷ more) event =
+    HasWitness (begin_of intervals stretch) stretch.cells event ⊎ HasWitnessIn intervals more event
+
+-- each word that is told of a list of intervals stands beside another word's sync word in its stretch, or at the edge
+pub record AreWitnessed (system : System) (profile : Profile) (intervals : List ℕ) (events : List FirmEvent)
+    : Type 0 where
+  pub stretches : List Stretch
+  pub are : AreStretchesFrom profile intervals 0 stretches
+  pub each : All (HasWitnessIn intervals stretches) events
 
 -- the events tell the tape, as `TellsTheTape` says without witnesses: whatever cells within the tolerance the recording
 -- is a piece of, they are those of the tape's own windows from the first unequal pair on

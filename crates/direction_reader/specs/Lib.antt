@@ -28,3 +28,4 @@ pub mod Tracker
 pub mod Tracking
 pub mod Window
 pub mod Windows
+pub mod PlayedLemmas

@@ -2,7 +2,9 @@
 use Rattle.std.specs.Prelude.{◌≡◌, ℕ, ◌+◌, ◌<◌, ◌≤◌, List, [], ◌++◌, length, take, sum, count_by, All}
 use Rattle.biphase.specs.declared.cell.Cell.{Cell}
 use Rattle.biphase.specs.declared.profile.Profile.{Profile}
+use Rattle.biphase.specs.declared.profile.Profile.TheVariants.{Rough}
 use Rattle.biphase.specs.Tolerance.{LooksAtLast}
+use Rattle.cell_tracker.specs.EvenRun.{IsEvenRun}
 use Rattle.cell_tracker.specs.FoundAgain.{IsSecondLock}
 use Rattle.cell_tracker.specs.ChainPiece.{IsPiece, cells_from}
 use Rattle.cell_tracker.specs.Lock.{IsLock, HasNoLock}
@@ -50,4 +52,13 @@ abbrev pub FindsTheTape : System → Profile → List ℕ → List Event → Typ
 FindsTheTape system profile intervals events = LooksAtLast profile
     → (before kept behind : List ℕ) (tape : List Cell) (cut second : ℕ) → intervals ≡ before ++ kept ++ behind
     → IsPiece profile kept tape cut → IsSecondLock profile kept second
+    → TellFrom system (before ++ kept) (length before + second) (cells_from tape cut kept second) events
+
+-- under the rough tolerance the events find the tape again behind even ones, as a sync word has them, whatever stands
+-- before them and whatever comes behind: from the greater interval of the next unequal pair behind the zero that ends
+-- them to the end of the piece they are those of the tape's windows, and nothing else
+abbrev pub FindsTheTapeBehindOnes : System → List ℕ → List Event → Type 0
+FindsTheTapeBehindOnes system intervals events =
+    (before kept behind : List ℕ) (tape : List Cell) (cut end second : ℕ) → intervals ≡ before ++ kept ++ behind
+    → IsPiece Rough kept tape cut → IsEvenRun kept tape cut end → IsLock Rough kept end second
     → TellFrom system (before ++ kept) (length before + second) (cells_from tape cut kept second) events

@@ -1,6 +1,6 @@
 -- Where the tracker stands: its state, with what the tolerance keeps of the cells so far.
 use Rattle.std.specs.Prelude.{◌≡◌, ◌≤◌, None}
-use Rattle.biphase.specs.declared.cell.TheConstants.{MAX_INTERVAL}
+use Rattle.limits.specs.declared.recording.TheConstants.{MAX_INTERVAL}
 use Rattle.biphase.specs.declared.profile.Profile.{Profile}
 use Rattle.biphase.specs.Latest.{Latest}
 use Rattle.biphase.specs.Tolerance.{Fits}

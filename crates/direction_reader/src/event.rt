@@ -29,6 +29,20 @@ pub enum Event {
     },
 }
 
+impl Event {
+    ghost use Rattle.direction_reader.specs.Events.{tick_of};
+
+    /// Its tick.
+    pub(crate) fn tick(&self) -> u64
+        ensures { result ≡ tick_of self.now }
+    {
+        match *self {
+            Event::Word { tick, .. } | Event::Refused { tick, .. } | Event::Lost { tick, .. } =>
+                tick,
+        }
+    }
+}
+
 /// What one interval brought: nothing, one event as the first, or two.
 #[derive(Clone, Copy, Debug, PartialEq, Eq)]
 pub struct Events {

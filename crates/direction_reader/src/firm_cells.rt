@@ -1,13 +1,13 @@
 //! The cells of the stretch that is open, where each word is asked for a witness. Next: `beside`, and with
 //! a word that is read backward `waiting`.
-ghost use Rattle.std.specs.Prelude.{◌≡◌, ◌≤◌, ℕ, ◌+◌, List, [], ◌∷◌, ◌++◌};
+ghost use Rattle.std.specs.Prelude.{◌≡◌, ◌≤◌, ℕ, ◌+◌, List, [], ◌∷◌, ◌++◌, map};
 ghost use Rattle.biphase.specs.declared.cell.Cell.{Cell};
 ghost use Rattle.biphase.specs.Chain.{bit_of};
 ghost use Rattle.biphase.specs.Tolerance.{length_of};
 ghost use Rattle.direction_reader.specs.declared.firm_event.FirmEvent.{FirmEvent};
-ghost use Rattle.direction_reader.specs.Firm.{firm_events_of_cells};
+ghost use Rattle.direction_reader.specs.Firm.{firm_events_of_cells, told_tick, DoNotFall};
 ghost use Rattle.direction_reader.specs.FirmStandsFor.{no_firm_cells, FirmCellsStandFor};
-ghost use Rattle.direction_reader.specs.FirmStep.{ended, firm_list, WaitsWithin, TellsWithin};
+ghost use Rattle.direction_reader.specs.FirmStep.{ended, firm_list, until_of, WaitsWithin, TellsWithin};
 ghost use Rattle.direction_reader.specs.Invariants.{AreBoundariesTo};
 ghost use Rattle.direction_reader.specs.LatestCells.{with_boundary};
 ghost use Rattle.direction_reader.specs.ListEvents.{duration};
@@ -66,6 +66,9 @@ impl FirmCells {
         ensures boundaries { self.new.cells.boundaries ≡ with_boundary self.old.cells.boundaries tick }
         ensures within { (before : ℕ) → before ≤ tick → WaitsWithin before self.old.waits
             → WaitsWithin tick self.new.waits × TellsWithin tick result }
+        ensures in_turn { (before : ℕ) → before ≤ tick → WaitsWithin before self.old.waits
+            → DoNotFall (until_of before self.old.waits) (map told_tick (firm_list result))
+            (until_of tick self.new.waits) }
         ensures stands { (begin : ℕ) (cells : List Cell) (cell : Cell) (told : List FirmEvent)
             → FirmCellsStandFor self.old system begin cells told → bit_of cell ≡ bit
             → tick ≡ begin + duration cells + length_of cell
@@ -82,10 +85,22 @@ impl FirmCells {
         heard.told
     }
 
+    /// Up to which tick all is told, where the latest interval ended at this one.
+    pub fn told_until(&self, now: u64) -> u64
+        ensures { result ≡ until_of now self.now.waits }
+    {
+        match self.waits {
+            Some(waiting) => waiting.word.tick(),
+            None => now,
+        }
+    }
+
     /// What is told where the stretch ends: a word that waits stands at its edge.
     pub fn end(&self) -> FirmEvents
         ensures value { result ≡ ended self.now.waits }
         ensures within { (tick : ℕ) → WaitsWithin tick self.now.waits → TellsWithin tick result }
+        ensures in_turn { (before tick : ℕ) → before ≤ tick → WaitsWithin before self.now.waits
+            → DoNotFall (until_of before self.now.waits) (map told_tick (firm_list result)) tick }
         ensures stands { (system : System) (begin : ℕ) (cells : List Cell) (told : List FirmEvent)
             → FirmCellsStandFor self.now system begin cells told
             → told ++ firm_list result ≡ firm_events_of_cells system begin cells }

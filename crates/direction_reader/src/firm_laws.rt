@@ -1,6 +1,6 @@
 //! What follows from the definition of a witness alone.
-ghost use Rattle.std.specs.Prelude.{◌≡◌, ℕ, ◌<◌, ◌+◌, ◌*◌, ◌^◌, List, [], ◌∷◌, true, false};
-ghost use Rattle.std.specs.Prelude.{All, length, map, reverse, take, drop};
+ghost use Rattle.std.specs.Prelude.{◌≡◌, ℕ, ◌<◌, ◌+◌, ◌*◌, ◌^◌, List, [], ◌∷◌, ◌++◌, true, false};
+ghost use Rattle.std.specs.Prelude.{All, length, map, reverse, sum, take, drop};
 ghost use Rattle.std.specs.List.{AllZip};
 ghost use Rattle.biphase.specs.declared.cell.Cell.{Cell};
 ghost use Rattle.biphase.specs.declared.profile.Profile.{Profile};
@@ -11,10 +11,10 @@ ghost use Rattle.direction_reader.specs.declared.firm_event.FirmEvent.{FirmEvent
 ghost use Rattle.direction_reader.specs.declared.firm_event.FirmEvent.TheVariants.{Told, Alone};
 ghost use Rattle.direction_reader.specs.Firm.{AreFirmEvents, candidate_at, firm_candidate_at, firm_events_of_cells};
 ghost use Rattle.direction_reader.specs.Firm.{is_firm, sync_in_time};
-ghost use Rattle.direction_reader.specs.FirmReader.{FirmState, FirmStandsFor};
-ghost use Rattle.direction_reader.specs.FirmTold.{AreTold};
+ghost use Rattle.direction_reader.specs.FirmReader.{FirmState, FirmStandsFor, told_until};
+ghost use Rattle.direction_reader.specs.FirmTold.{AreTold, ComesFirst};
 ghost use Rattle.direction_reader.specs.Tracker.{profile_of};
-ghost use Rattle.direction_reader.specs.FirmTape.{AreOneWay, FirmTellsTheTape, HasWitness, IsJudged, IsTold};
+ghost use Rattle.direction_reader.specs.FirmTape.{AreOneWay, AreWitnessed, FirmTellsTheTape, HasWitness, IsJudged, IsTold};
 ghost use Rattle.direction_reader.specs.ListEvents.{AreEvents, duration};
 ghost use Rattle.direction_reader.specs.Played.{Played, AreSpelled, bits_of_words, events_of_words, low_bits};
 ghost use Rattle.tc_address.specs.declared.direction.Direction.{Direction};
@@ -22,10 +22,13 @@ ghost use Rattle.tc_address.specs.declared.direction.Direction.TheVariants.{Forw
 ghost use Rattle.tc_address.specs.declared.system.System.{System};
 ghost use Rattle.tc_address.specs.declared.system.System.TheVariants.{F25};
 
-use crate::laws::events_are_those_that_are_spelled;
+use crate::laws::{
+    each_list_has_events, events_are_those_that_are_spelled, events_of_a_front_come_first,
+};
 use biphase::laws::kinds_are_as_the_cells_say;
 use cell_tracker::laws::{
     a_list_has_one_list_of_stretches, a_recording_within_the_tolerance_is_one_stretch,
+    stretches_go_on,
 };
 use ltc_word::laws::{reversed_twice_is_the_same, twelve_ones_are_the_sync_word};
 
@@ -57,10 +60,13 @@ pub fn a_witness_changes_words_alone()
     a_list_has_one_list_of_stretches();
 }
 
-/// Each word that is told of the cells of a stretch has its witness, or stands at the edge.
+/// Each word that is told of the cells of a stretch has its witness, or stands at the edge; and so has each
+/// word that is told of a list of intervals.
 pub fn each_word_that_is_told_has_its_witness()
-    ensures { (system : System) (tick : ℕ) (cells : List Cell)
+    ensures cells { (system : System) (tick : ℕ) (cells : List Cell)
         → All (HasWitness tick cells) (firm_events_of_cells system tick cells) }
+    ensures list { (system : System) (profile : Profile) (intervals : List ℕ) (events : List FirmEvent)
+        → AreFirmEvents system profile intervals events → AreWitnessed system profile intervals events }
 {}
 
 /// A candidate that stands beside another word's sync word, or at the edge of its stretch, is told as it
@@ -106,16 +112,37 @@ pub fn firm_events_tell_the_tape()
 pub fn a_reader_has_told_what_no_further_interval_changes()
     ensures { (reader : FirmState) (intervals : List ℕ) (told : List FirmEvent)
         → FirmStandsFor reader intervals told
-        → AreTold reader.system (profile_of reader.tracker) intervals told }
+        → AreTold reader.system (profile_of reader.tracker) intervals told (told_until reader) }
 {}
 
-/// A list of intervals has one list of events that are told while more may follow: at most one word
-/// waits.
+/// A list of intervals has one list of events that are told while more may follow, up to one tick: at most
+/// one word waits.
 pub fn a_list_has_one_list_of_told_events()
-    ensures { (system : System) (profile : Profile) (intervals : List ℕ) (told others : List FirmEvent)
-        → AreTold system profile intervals told → AreTold system profile intervals others → told ≡ others }
+    ensures some { (system : System) (profile : Profile) (intervals : List ℕ)
+        → (told : List FirmEvent) × (until : ℕ) × AreTold system profile intervals told until }
+    ensures one { (system : System) (profile : Profile) (intervals : List ℕ) (told others : List FirmEvent)
+        (until another : ℕ) → AreTold system profile intervals told until
+        → AreTold system profile intervals others another → (told ≡ others) × (until ≡ another) }
 {
     a_list_has_one_list_of_stretches();
+    reversed_twice_is_the_same();
+    twelve_ones_are_the_sync_word();
+}
+
+/// Where more intervals follow, what was told comes first, and all else ends at the tick up to which it was
+/// told, or later.
+pub fn told_events_come_first()
+    ensures all { (system : System) (profile : Profile) (front more : List ℕ) (told events : List FirmEvent)
+        (until : ℕ) → AreTold system profile front told until → AreFirmEvents system profile (front ++ more) events
+        → ComesFirst told until events (sum (front ++ more)) }
+    ensures more { (system : System) (profile : Profile) (front more : List ℕ) (told later : List FirmEvent)
+        (until now : ℕ) → AreTold system profile front told until
+        → AreTold system profile (front ++ more) later now → ComesFirst told until later now }
+{
+    a_list_has_one_list_of_stretches();
+    stretches_go_on();
+    each_list_has_events();
+    events_of_a_front_come_first();
     reversed_twice_is_the_same();
     twelve_ones_are_the_sync_word();
 }

@@ -1,10 +1,10 @@
 //! From intervals to events, where each word is asked for a witness. Next: `tracker`, and with a cell
 //! `firm_cells`.
-ghost use Rattle.std.specs.Prelude.{◌≡◌, ℕ, ◌<◌, ◌≤◌, ◌+◌, ◌*◌, List, [], ◌∷◌, ◌++◌};
-ghost use Rattle.biphase.specs.declared.cell.TheConstants.{MAX_INTERVAL, MAX_INTERVALS};
+ghost use Rattle.std.specs.Prelude.{◌≡◌, ℕ, ◌<◌, ◌≤◌, ◌+◌, ◌*◌, List, [], ◌∷◌, ◌++◌, map};
+ghost use Rattle.limits.specs.declared.recording.TheConstants.{MAX_INTERVAL, MAX_INTERVALS};
 ghost use Rattle.direction_reader.specs.declared.firm_event.FirmEvent.{FirmEvent};
-ghost use Rattle.direction_reader.specs.Firm.{AreFirmEvents};
-ghost use Rattle.direction_reader.specs.FirmReader.{FirmStandsFor, FirmTakes, FirmBrings};
+ghost use Rattle.direction_reader.specs.Firm.{AreFirmEvents, told_tick, DoNotFall};
+ghost use Rattle.direction_reader.specs.FirmReader.{FirmStandsFor, FirmTakes, FirmBrings, told_until};
 ghost use Rattle.direction_reader.specs.FirmStandsFor.{no_firm_cells};
 ghost use Rattle.direction_reader.specs.FirmStep.{firm_list};
 ghost use Rattle.direction_reader.specs.Tracker.{profile_of};
@@ -15,7 +15,8 @@ use crate::firm_cells::FirmCells;
 use crate::firm_event::{FirmEvent, FirmEvents};
 use crate::state::Step;
 use crate::tracker::Tracker;
-use biphase::{MAX_INTERVAL, Profile};
+use biphase::Profile;
+use limits::MAX_INTERVAL;
 use std::marker::Model;
 use tc_address::System;
 
@@ -89,6 +90,16 @@ impl FirmReader {
         self.tick
     }
 
+    /// Up to which tick all is told: the sum of the intervals, or the tick at the end of a word that waits
+    /// for its witness.
+    pub fn told_until(&self) -> u64
+        ensures value { result ≡ told_until self.now }
+        ensures within { result ≤ self.now.tick }
+        ensures most { result ≤ MAX_INTERVALS * MAX_INTERVAL }
+    {
+        self.cells.told_until(self.tick)
+    }
+
     /// Takes the next interval, of `x` ticks, and answers what is told with it. A word that is read
     /// backward is told 16 cells after its end, or when its stretch ends, and a candidate that comes in
     /// the meantime is told behind it.
@@ -97,7 +108,9 @@ impl FirmReader {
         requires most { x ≤ MAX_INTERVAL }
         requires room { self.old.intervals < MAX_INTERVALS }
         ensures next { FirmTakes self.old x self.new }
+        ensures within { self.new.tick ≤ self.new.intervals * MAX_INTERVAL }
         ensures brings { FirmBrings self.new.intervals self.new.tick result }
+        ensures in_turn { DoNotFall (told_until self.old) (map told_tick (firm_list result)) (told_until self.new) }
         ensures stands { (intervals : List ℕ) (told : List FirmEvent) → FirmStandsFor self.old intervals told
             → FirmStandsFor self.new (intervals ++ x ∷ []) (told ++ firm_list result) }
     {
@@ -133,7 +146,9 @@ impl FirmReader {
     /// What is told at the end of the input, where no interval follows: a word that waits stands at the
     /// edge of its stretch.
     pub fn finish(&self) -> FirmEvents
+        ensures within { self.now.tick ≤ self.now.intervals * MAX_INTERVAL }
         ensures brings { FirmBrings self.now.intervals self.now.tick result }
+        ensures in_turn { DoNotFall (told_until self.now) (map told_tick (firm_list result)) self.now.tick }
         ensures all { (intervals : List ℕ) (told : List FirmEvent) → FirmStandsFor self.now intervals told
             → AreFirmEvents self.now.system (profile_of self.now.tracker) intervals (told ++ firm_list result) }
     {

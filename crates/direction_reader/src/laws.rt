@@ -9,7 +9,7 @@ ghost use Rattle.direction_reader.specs.declared.boundaries.TheConstants.{BOUNDA
 ghost use Rattle.direction_reader.specs.declared.event.Event.{Event};
 ghost use Rattle.direction_reader.specs.declared.event.Event.TheVariants.{Word, Refused, Lost};
 ghost use Rattle.direction_reader.specs.declared.event.Events.{Events};
-ghost use Rattle.biphase.specs.declared.cell.TheConstants.{MAX_INTERVALS};
+ghost use Rattle.limits.specs.declared.recording.TheConstants.{MAX_INTERVALS};
 ghost use Rattle.direction_reader.specs.declared.window.TheConstants.{WINDOW_BITS};
 ghost use Rattle.direction_reader.specs.Brings.{greatest_cell};
 ghost use Rattle.direction_reader.specs.Candidate.{AreEventsOf};
@@ -22,9 +22,10 @@ ghost use Rattle.direction_reader.specs.ListEvents.{duration, events_of_cells, A
 ghost use Rattle.direction_reader.specs.Played.{Played, AreSpelled, bits_of_words, events_of_words};
 ghost use Rattle.direction_reader.specs.Reader.{ReaderState};
 ghost use Rattle.direction_reader.specs.StandsFor.{StandsFor};
-ghost use Rattle.direction_reader.specs.Tape.{ComesBehind, TellsTheTape, FindsTheTape};
+ghost use Rattle.direction_reader.specs.Tape.{ComesBehind, TellsTheTape, FindsTheTape, FindsTheTapeBehindOnes};
 ghost use Rattle.direction_reader.specs.Tracker.{profile_of};
-ghost use Rattle.ltc_word.specs.Spelling.{word_with, flags};
+ghost use Rattle.ltc_word.specs.Spelling.{word_with};
+ghost use Rattle.tc_bits.specs.Fields.{flags};
 ghost use Rattle.tc_address.specs.declared.count.Count.TheVariants.{C25};
 ghost use Rattle.tc_address.specs.declared.direction.Direction.TheVariants.{Forward, Backward};
 ghost use Rattle.tc_address.specs.declared.system.System.{System};
@@ -34,8 +35,9 @@ ghost use Rattle.tc_bits.specs.declared.fault.FieldFault.TheVariants.{FrameUnits
 use biphase::laws::kinds_are_as_the_cells_say;
 use cell_tracker::laws::{
     a_list_has_one_list_of_stretches, a_mirrored_recording_has_the_mirrored_cells,
-    a_recording_is_found_again_behind_anything, a_recording_within_the_tolerance_is_one_stretch,
-    small_recordings_have_these_stretches, stretches_go_on,
+    a_recording_is_found_again_behind_anything, a_recording_is_found_again_behind_even_ones,
+    a_recording_within_the_tolerance_is_one_stretch, small_recordings_have_these_stretches,
+    stretches_go_on,
 };
 use ltc_word::laws::{
     bits_in_sync_spell_a_word_or_have_a_fault, each_word_has_its_spelling,
@@ -157,7 +159,20 @@ pub fn events_find_the_tape_again()
     events_of_a_front_come_first();
 }
 
-/// Mirror, for the same tolerances: the events of a recording and of its intervals in the other order
+/// Resynchronisation under the rough tolerance: whatever stands before and behind a part of a recording
+/// within it that has even ones between two zeros, as a sync word has, from the next unequal pair behind
+/// them to its end the events are those of the tape's own windows.
+pub fn events_find_the_tape_behind_even_ones()
+    ensures { (system : System) (intervals : List ℕ) (events : List Event)
+        → AreEvents system Rough intervals events → FindsTheTapeBehindOnes system intervals events }
+{
+    a_recording_is_found_again_behind_even_ones();
+    each_list_has_events();
+    events_are_those_that_are_spelled();
+    events_of_a_front_come_first();
+}
+
+/// Mirror, for the tolerances that look at the last cell: the events of a recording and of its intervals in the other order
 /// of time, both within the tolerance, are the same words between the greater intervals of the first
 /// and of the last unequal pair, each met from its other end.
 pub fn events_mirror_the_tape()

@@ -1,6 +1,6 @@
 //! From intervals to events, one interval at a time. Next: `tracker`.
 ghost use Rattle.std.specs.Prelude.{◌≡◌, ℕ, ◌<◌, ◌≤◌, ◌+◌, ◌*◌, List, [], ◌∷◌, ◌++◌, reverse};
-ghost use Rattle.biphase.specs.declared.cell.TheConstants.{MAX_INTERVAL, MAX_INTERVALS};
+ghost use Rattle.limits.specs.declared.recording.TheConstants.{MAX_INTERVAL, MAX_INTERVALS};
 ghost use Rattle.direction_reader.specs.Brings.{Brings};
 ghost use Rattle.direction_reader.specs.declared.event.Event.{Event};
 ghost use Rattle.direction_reader.specs.declared.event.Events.{Events};
@@ -21,7 +21,8 @@ use crate::latest_cells::LatestCells;
 use crate::laws::a_reader_tells_the_tape;
 use crate::state::Step;
 use crate::tracker::Tracker;
-use biphase::{MAX_INTERVAL, Profile};
+use biphase::Profile;
+use limits::MAX_INTERVAL;
 use std::marker::Model;
 use tc_address::System;
 

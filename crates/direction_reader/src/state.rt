@@ -1,12 +1,13 @@
 //! The states of the tracker, and what an interval does to each. Next: `cell_tracker/src/hunting.rt`, and
 //! with what it answers `latest_cells`.
 ghost use Rattle.std.specs.Prelude.{◌≤◌};
-ghost use Rattle.biphase.specs.declared.cell.TheConstants.{MAX_INTERVAL};
+ghost use Rattle.limits.specs.declared.recording.TheConstants.{MAX_INTERVAL};
 ghost use Rattle.direction_reader.specs.KeptStep.{IsStepped};
 ghost use Rattle.direction_reader.specs.Tracking.{tracking_with, StateFits};
 
-use biphase::{LatestFour, MAX_INTERVAL, Profile};
+use biphase::{LatestFour, Profile};
 use cell_tracker::{AtCell, FromAtCell, FromHunting, FromMidCell, Hunting, MidCell};
+use limits::MAX_INTERVAL;
 
 /// A state of the tracker, in numbers, so that no profile is written with each cell. Most intervals find
 /// it at the end of a cell, and the compiler asks for the first variant first, where another one's arm

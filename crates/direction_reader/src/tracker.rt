@@ -1,13 +1,14 @@
 //! Where the tracker stands, and what an interval does to it. Next: `state`.
 ghost use Rattle.std.specs.Prelude.{◌≡◌, ◌≤◌, ◌↔◌, [], None, IsTrue};
-ghost use Rattle.biphase.specs.declared.cell.TheConstants.{MAX_INTERVAL};
+ghost use Rattle.limits.specs.declared.recording.TheConstants.{MAX_INTERVAL};
 ghost use Rattle.direction_reader.specs.KeptStep.{IsStepped};
 ghost use Rattle.direction_reader.specs.StandsFor.{TrackerStandsFor, IsAtCell};
 ghost use Rattle.direction_reader.specs.Tracking.{searching};
 
 use crate::state::{State, Step};
-use biphase::{LatestFour, MAX_INTERVAL, Profile};
+use biphase::{LatestFour, Profile};
 use cell_tracker::Hunting;
+use limits::MAX_INTERVAL;
 use std::marker::Model;
 
 /// The tracker: a state, and beside it the profile and the lengths of the latest four cells of its

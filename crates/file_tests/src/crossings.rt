@@ -1,7 +1,8 @@
 //! Distances that were worked out by hand.
 ghost use Rattle.std.specs.Prelude.{◌≡◌, ◌≤◌};
 
-use pcm_front::{Intervals, MAX_INTERVAL, Pace, Slicer, Threshold, pieces};
+use limits::MAX_INTERVAL;
+use pcm_front::{Intervals, Pace, Slicer, Threshold, pieces};
 use std::marker::Model;
 
 /// A slicer that is given so few samples that no count of ticks can be too great.

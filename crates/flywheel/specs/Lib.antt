@@ -6,3 +6,4 @@ pub mod Marked
 pub mod StandsFor
 pub mod Wheel
 pub mod Kinds
+pub mod StepLemmas

@@ -21,6 +21,7 @@ use Rattle.flywheel.specs.StandsFor as flies
 use Rattle.flywheel.specs.Wheel.{Wheel}
 use Rattle.interval_file.specs.declared.header.IntervalHeader.{IntervalHeader}
 use Rattle.std.specs.Io.KnownBytes.{Appends}
+use Rattle.lemmas.specs.Lists.{count_by-append}
 use Rattle.tc_job.specs.declared.flight.Flight.{Flight}
 use Rattle.frame_commands.specs.declared.flight.FrameReader.{FrameReader}
 use Rattle.frame_commands.specs.KeptFlight.{Counts, CountsAll, GivesAll, GivesDue, GivesFirst, Sends, SendsFront, Stands}
@@ -61,9 +62,6 @@ later : (before next : ReaderState) (intervals : List ℕ) (events : List Event)
     → reads.StandsFor before intervals events → Takes before x next → sum intervals ≤ next.tick
 later before next intervals events x stands takes = let now = takes.tick in let sum_is = stands.sum_is in omega arith
 
-count_of_more : (kind : Frame → Bool) (fs more : List Frame) → count_by kind (fs ++ more) ≡ count_by kind fs + count_by kind more
-count_of_more kind fs more = sum_by-append (λ (f : Frame). cond (kind f) 1 0) fs more
-
 -- one interval more
 pub flown : {S C : Type 0} (flight : C → Flight) (made : C → FrameText) (has : Given S C) (f next : FrameReader) (sink after : S) (choice : C) (header : IntervalHeader)
     (intervals written : List ℕ) (x : ℕ) (own : Events) (more : List Frame) (old new : Option (List ℕ))
@@ -93,9 +91,9 @@ flown flight made has f next sink after choice header intervals written x own mo
         wheel = wheel;
         sent = sent.0;
         are = ap (λ (l : List ℕ). l ++ sent.1.0) s.are ∙ sym sent.1.1;
-        heard = counts.heard ∙ ap (λ (n : ℕ). n + count_by is_heard more) s.heard ∙ sym (count_of_more is_heard s.given more);
-        invented = counts.invented ∙ ap (λ (n : ℕ). n + count_by is_invented more) s.invented ∙ sym (count_of_more is_invented s.given more);
-        gone = counts.gone ∙ ap (λ (n : ℕ). n + count_by is_gone more) s.gone ∙ sym (count_of_more is_gone s.given more);
+        heard = counts.heard ∙ ap (λ (n : ℕ). n + count_by is_heard more) s.heard ∙ sym (count_by-append is_heard s.given more);
+        invented = counts.invented ∙ ap (λ (n : ℕ). n + count_by is_invented more) s.invented ∙ sym (count_by-append is_invented s.given more);
+        gone = counts.gone ∙ ap (λ (n : ℕ). n + count_by is_gone more) s.gone ∙ sym (count_by-append is_gone s.given more);
       },
     )
 

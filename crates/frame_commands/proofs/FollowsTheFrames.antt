@@ -3,6 +3,7 @@ use Rattle.std.proofs.Common.{◌≡◌, inl, inr, ℕ, zero, suc, ◌-◌, ◌�
 use Rattle.std.proofs.Common.{subst}
 use Rattle.std.specs.Prelude.{sum, unsigned_abs}
 use Rattle.std.proofs.lemmas.Bool.{cases_lt}
+use Rattle.std.proofs.lemmas.Option.{same_Some}
 use Rattle.biphase.specs.declared.profile.Profile.{Profile}
 use Rattle.chase_core.specs.declared.report.State.TheVariants.{Locked}
 use Rattle.chase_core.specs.declared.report.Loss.{Loss}
@@ -55,12 +56,9 @@ label_of system (Heard label direction joined tick) is = is.0
 label_of system (Invented label direction step tick) is = is.0
 label_of system (Gone tick) is = tt
 
-first_frame : (a b : Frame) → Some a ≡ Some b → a ≡ b
-first_frame a b e = cc
-
 have_labels : (system : System) (fs : List Frame) → AreFramesOf system fs → (i : ℕ) (frame : Frame) → slice_get fs i ≡ Some frame → HasLabel frame
 have_labels system [] are i frame at = absurd (cc)
-have_labels system (f ∷ fs) are zero frame at = subst (λ (g : Frame). HasLabel g) (first_frame f frame at) (label_of system f are.0)
+have_labels system (f ∷ fs) are zero frame at = subst (λ (g : Frame). HasLabel g) (same_Some f frame at) (label_of system f are.0)
 have_labels system (f ∷ fs) are (suc i) frame at = have_labels system fs are.1 i frame at
 
 -- ---- the first of them

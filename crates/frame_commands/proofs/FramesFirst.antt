@@ -8,6 +8,7 @@ use Rattle.std.proofs.lemmas.Grind.{flat_map-append}
 use Rattle.std.proofs.lemmas.List.{take-append-le, take_all}
 use Rattle.std.proofs.lemmas.List.Elements.{All-append, All-cons, All-head, All-nil, All-tail}
 use Rattle.std.proofs.lemmas.List.Sums.{sum_by-append}
+use Rattle.lemmas.specs.Lists.{first_items}
 use Rattle.biphase.specs.declared.profile.Profile.{Profile}
 use Rattle.chase_core.specs.Trace.{Traced}
 use Rattle.chase_script.specs.TraceText.{step_line, step_lines}
@@ -91,12 +92,6 @@ cells_are_added : FrameByFrame → (j : Jamming) → IsAddedTo (file_of_frames j
 cells_are_added law j header fs more = (bytes_of_frames j.cell more, file_grows law j header fs more)
 
 -- ---- the steps of a chase
-
--- the first items of a list come first among those of a longer one
-pub first_items : {A : Type 0} (n : ℕ) (xs ys : List A) → (rest : List A) × (take n (xs ++ ys) ≡ take n xs ++ rest)
-first_items n [] ys = (take n ys, ap (λ l. l ++ take n ys) (sym (take_all n [] (omega arith))))
-first_items zero (x ∷ xs) ys = ([], refl)
-first_items (suc n) (x ∷ xs) ys = let more = first_items n xs ys in (more.0, ap (λ l. x ∷ l) more.1)
 
 steps_added : TraceLaws → (c : Chasing) (fs more : List Frame) → (rest : List Traced) × (steps_over c (fs ++ more) ≡ steps_over c fs ++ rest)
 steps_added laws c fs [] = ([], ap (steps_over c) (append-nil fs) ∙ sym (append-nil (steps_over c fs)))

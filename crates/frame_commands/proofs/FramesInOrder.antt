@@ -4,6 +4,7 @@ use Rattle.std.proofs.Common.{append-nil, append_assoc, cond, refl}
 use Rattle.std.specs.declared.option.Option.{Option}
 use Rattle.std.proofs.lemmas.List.Sums.{sum_by-append, sum_by-cons}
 use Rattle.std.proofs.KnownBytes.{Appends-nil, Appends-trans}
+use Rattle.lemmas.specs.Lists.{count_by-append}
 use Rattle.flywheel.specs.declared.frame.Frame.{Frame}
 use Rattle.flywheel.specs.declared.frame.Frame.TheVariants.{Heard, Invented, Gone}
 use Rattle.flywheel.specs.Kinds.{is_gone, is_heard, is_invented}
@@ -45,10 +46,6 @@ one_counted before mid after (Gone t) h i g e =
 pub none_counted : (f : FrameReader) → Counts f f []
 none_counted f = record { heard = omega arith; invented = omega arith; gone = omega arith }
 
-count_of_more : (kind : Frame → Bool) (fs more : List Frame)
-    → count_by kind (fs ++ more) ≡ count_by kind fs + count_by kind more
-count_of_more kind fs more = sum_by-append (λ (f : Frame). cond (kind f) 1 0) fs more
-
 -- one frame is counted once
 pub one_more : (before after : FrameReader) (frame : Frame) → Counts before after (frame ∷ [])
     → frames_counted after ≡ frames_counted before + 1
@@ -84,9 +81,9 @@ one_more before after (Gone t) c = omega (
 pub both_counted : (a b c : FrameReader) (fs more : List Frame)
     → Counts a b fs → Counts b c more → Counts a c (fs ++ more)
 both_counted a b c fs more first second = record {
-  heard = omega (arith, first.heard, second.heard, count_of_more is_heard fs more);
-  invented = omega (arith, first.invented, second.invented, count_of_more is_invented fs more);
-  gone = omega (arith, first.gone, second.gone, count_of_more is_gone fs more);
+  heard = omega (arith, first.heard, second.heard, count_by-append is_heard fs more);
+  invented = omega (arith, first.invented, second.invented, count_by-append is_invented fs more);
+  gone = omega (arith, first.gone, second.gone, count_by-append is_gone fs more);
 }
 
 -- ---- what is sent

@@ -4,7 +4,7 @@ use Rattle.std.specs.Prelude.{All, IfSome, None, Option, Some}
 use Rattle.std.specs.Io.KnownBytes.{Appends}
 use Rattle.std.proofs.Common.{sym, ◌∙◌, ap}
 use Rattle.direction_reader.specs.declared.event.Event.{Event}
-use Rattle.biphase.specs.declared.cell.TheConstants.{MAX_INTERVALS}
+use Rattle.limits.specs.declared.recording.TheConstants.{MAX_INTERVALS}
 use Rattle.direction_reader.specs.ListEvents.{AreEvents}
 use Rattle.direction_reader.specs.StandsFor as reads
 use Rattle.direction_reader.specs.Tracker.{profile_of}

@@ -19,8 +19,8 @@ use interval_engine::work_along;
 use interval_file::{FileVersion, IntervalHeader, interval_header};
 use ltc_jam::laws::a_clean_recording_is_written_frame_by_frame;
 use ltc_jam::{frame_cells, lead};
-use tc_command::{PIECE, Piece, Stop, push_piece, put_bytes, put_interval};
-use tc_io::{Sink, Source};
+use tc_command::{PIECE, Piece, Stop, push_piece, put_interval};
+use tc_io::{Sink, Source, put_bytes};
 use tc_job::{Flight, Jam};
 
 /// Works `ltc-jam`: a clean recording of the frames of a recording.

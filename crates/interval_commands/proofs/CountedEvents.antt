@@ -6,7 +6,7 @@ use Rattle.std.specs.declared.option.Option.{Option}
 use Rattle.direction_reader.specs.declared.event.Event.{Event}
 use Rattle.direction_reader.specs.declared.event.Event.TheVariants.{Word, Refused, Lost}
 use Rattle.direction_reader.specs.declared.event.Events.{Events}
-use Rattle.biphase.specs.declared.cell.TheConstants.{MAX_INTERVAL, MAX_INTERVALS}
+use Rattle.limits.specs.declared.recording.TheConstants.{MAX_INTERVAL, MAX_INTERVALS}
 use Rattle.direction_reader.specs.Brings.{IsLatest, Brings}
 use Rattle.report_text.specs.Texts.{FitsLine}
 use Rattle.interval_commands.specs.declared.ltc_read.Report.{Report}

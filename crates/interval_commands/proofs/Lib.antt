@@ -1,7 +1,11 @@
 mod Converted
 mod CountedEvents
+mod FirmCounted
+mod FirmLines
+mod FirmlyReports
 mod LinesGrow
 mod PrintedInOrder
 mod ReportsTheTape
 mod SoundGrows
 mod ToldOfCopies
+mod WordsInOrder

@@ -3,6 +3,7 @@ use Rattle.std.proofs.Common.{◌≡◌, ℕ, ◌+◌, List, [], ◌∷◌, ◌+
 use Rattle.std.specs.declared.option.Option.{Option}
 use Rattle.std.proofs.lemmas.List.Sums.{sum_by-append}
 use Rattle.std.proofs.lemmas.Grind.{flat_map-append}
+use Rattle.lemmas.specs.Lists.{count_by-append}
 use Rattle.biphase.specs.declared.profile.Profile.{Profile}
 use Rattle.tc_address.specs.declared.system.System.{System}
 use Rattle.direction_reader.specs.declared.event.Event.{Event}
@@ -19,10 +20,6 @@ use Rattle.interval_commands.specs.declared.ltc_read.Report.{Report}
 use Rattle.interval_commands.specs.KeptReport.{Feeds, Prints, Stands}
 use Rattle.direction_reader.specs.Events.{event_list, listed, is_word, is_refused, is_lost}
 use Rattle.interval_commands.specs.LtcRead.{lines, last_line, IsReadPart, IsReadWhole}
-
--- how many of some events and more are of a kind
-count_of_more : (kind : Event → Bool) (events more : List Event) → count_by kind (events ++ more) ≡ count_by kind events + count_by kind more
-count_of_more kind events more = sum_by-append (λ (e : Event). cond (kind e) 1 0) events more
 
 -- the lines of events and of more
 lines_of_more : (header : IntervalHeader) (events more : List Event) (written : List ℕ) → written ≡ lines header events
@@ -63,9 +60,9 @@ more_printed r next profile header intervals written x own old new s same takes 
       are_events = subst (λ (p : Profile). AreEvents header.system p (intervals ++ x ∷ []) all) keeps
           (subst (λ (y : System). AreEvents y (profile_of next.reader.tracker) (intervals ++ x ∷ []) all) system (law next.reader _ all reader));
       are = ap (λ (h : IntervalHeader). written ++ lines h (event_list own)) s.says ∙ lines_of_more header s.events (event_list own) written s.are;
-      words = prints.words ∙ ap (λ (n : ℕ). n + count_by is_word (event_list own)) s.words ∙ sym (count_of_more is_word s.events (event_list own));
-      refused = prints.refused ∙ ap (λ (n : ℕ). n + count_by is_refused (event_list own)) s.refused ∙ sym (count_of_more is_refused s.events (event_list own));
-      lost = prints.lost ∙ ap (λ (n : ℕ). n + count_by is_lost (event_list own)) s.lost ∙ sym (count_of_more is_lost s.events (event_list own));
+      words = prints.words ∙ ap (λ (n : ℕ). n + count_by is_word (event_list own)) s.words ∙ sym (count_by-append is_word s.events (event_list own));
+      refused = prints.refused ∙ ap (λ (n : ℕ). n + count_by is_refused (event_list own)) s.refused ∙ sym (count_by-append is_refused s.events (event_list own));
+      lost = prints.lost ∙ ap (λ (n : ℕ). n + count_by is_lost (event_list own)) s.lost ∙ sym (count_by-append is_lost s.events (event_list own));
     }
 
 -- the part that is due with one interval more
@@ -85,7 +82,7 @@ part_of_more r next profile header intervals written x own s takes feeds law =
     }
 
 -- the same numbers give the same line
-same_line : (i w r l t i' w' r' l' t' : ℕ) → i ≡ i' → w ≡ w' → r ≡ r' → l ≡ l' → t ≡ t' → read_end_line i w r l t ≡ read_end_line i' w' r' l' t'
+pub same_line : (i w r l t i' w' r' l' t' : ℕ) → i ≡ i' → w ≡ w' → r ≡ r' → l ≡ l' → t ≡ t' → read_end_line i w r l t ≡ read_end_line i' w' r' l' t'
 same_line i w r l t i' w' r' l' t' same_i same_w same_r same_l same_t =
     ap (λ (n : ℕ). read_end_line n w r l t) same_i ∙ ap (λ (n : ℕ). read_end_line i' n r l t) same_w
     ∙ ap (λ (n : ℕ). read_end_line i' w' n l t) same_r ∙ ap (λ (n : ℕ). read_end_line i' w' r' n t) same_l

@@ -1,6 +1,7 @@
 -- What the commands along intervals print behind some intervals comes first, whatever intervals follow.
 use Rattle.std.proofs.Common.{◌≡◌, ℕ, List, [], ◌∷◌, ◌++◌, refl, sym, ◌∙◌, ap, subst, append_assoc, append-nil}
 use Rattle.std.proofs.lemmas.Grind.{flat_map-append}
+use Rattle.interval_file.specs.FileLemmas.{file_first}
 use Rattle.biphase.specs.declared.profile.Profile.{Profile}
 use Rattle.direction_reader.specs.declared.event.Event.{Event}
 use Rattle.direction_reader.specs.ListEvents.{AreEvents}
@@ -60,14 +61,6 @@ report_in_order laws profile = record {
 }
 
 -- ---- a file in another version
-
--- a file of intervals begins with that of the first of them
-file_first : (header : IntervalHeader) (xs more : List ℕ) → IsFront (file_of header xs) (file_of header (xs ++ more))
-file_first header xs more = (
-  intervals_bytes header.version more,
-  ap (λ l. header_bytes header ++ l) (flat_map-append (spelling header.version) xs more)
-      ∙ sym (append_assoc (header_bytes header) (intervals_bytes header.version xs) (intervals_bytes header.version more)),
-)
 
 same_front : (a b c d : List ℕ) → a ≡ c → b ≡ d → IsFront c d → IsFront a b
 same_front a b c d same too front = (front.0, too ∙ front.1 ∙ ap (λ l. l ++ front.0) (sym same))

@@ -9,7 +9,7 @@ use Rattle.direction_reader.specs.declared.event.Events.{Events}
 use Rattle.direction_reader.specs.ListEvents.{AreEvents}
 use Rattle.direction_reader.specs.StandsFor.{StandsFor}
 use Rattle.direction_reader.specs.Tracker.{profile_of}
-use Rattle.biphase.specs.declared.cell.TheConstants.{MAX_INTERVALS}
+use Rattle.limits.specs.declared.recording.TheConstants.{MAX_INTERVALS}
 use Rattle.interval_file.specs.declared.header.IntervalHeader.{IntervalHeader}
 use Rattle.interval_file.specs.IntervalHeader.{IsTickRate}
 use Rattle.report_text.specs.Texts.{FitsLine}

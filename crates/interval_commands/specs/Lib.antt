@@ -1,4 +1,7 @@
+pub mod FirmReport
+pub mod FirmTape
 pub mod KeptConversion
+pub mod KeptFirmReport
 pub mod KeptReport
 pub mod KeptSound
 pub mod LtcConvert

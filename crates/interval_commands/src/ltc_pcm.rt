@@ -1,7 +1,7 @@
 //! The engine of `ltc-pcm`: sound made of the intervals of a recording. Next: `tc_command/src/gathered.rt`.
 ghost use Rattle.std.specs.Prelude.{◌≡◌, ◌≤◌, ◌*◌, ◌++◌, ℕ, ℤ, pos, List, length, replicate, OnOk, OnErr, IfErr};
 ghost use Rattle.std.specs.Io.KnownBytes.{Appends};
-ghost use Rattle.biphase.specs.declared.cell.TheConstants.{MAX_INTERVAL};
+ghost use Rattle.limits.specs.declared.recording.TheConstants.{MAX_INTERVAL};
 ghost use Rattle.pcm_front.specs.Samples.{bytes_of, sample_bytes};
 ghost use Rattle.pcm_front.specs.Side.{upward};
 ghost use Rattle.tc_io.specs.Sink.{AppendsFront};
@@ -12,11 +12,11 @@ ghost use Rattle.interval_commands.specs.LtcPcm.{told_ltc_pcm};
 
 use crate::laws::what_is_printed_is_in_order;
 use arrayvec::ArrayVec;
-use biphase::MAX_INTERVAL;
 use byteorder::{ByteOrder, LittleEndian};
 use interval_engine::laws::recordings_grow;
 use interval_engine::{Behind, work_along};
 use interval_file::IntervalHeader;
+use limits::MAX_INTERVAL;
 use pcm_front::Side;
 use tc_command::{Gathered, Stop, push_piece};
 use tc_io::{Sink, Source};

@@ -2,7 +2,7 @@
 //! `direction_reader/src/reader.rt`, and `report_text/src/event.rt` for the lines.
 ghost use Rattle.std.specs.Prelude.{◌≡◌, ◌≤◌, ◌<◌, ◌+◌, ◌*◌, List, ◌∷◌, ◌++◌, [], ℕ, OnOk, OnErr, IfOk, IfErr, IfSome};
 ghost use Rattle.std.specs.Io.KnownBytes.{Appends};
-ghost use Rattle.biphase.specs.declared.cell.TheConstants.{MAX_INTERVAL, MAX_INTERVALS};
+ghost use Rattle.limits.specs.declared.recording.TheConstants.{MAX_INTERVAL, MAX_INTERVALS};
 ghost use Rattle.direction_reader.specs.declared.event.Event.{Event};
 ghost use Rattle.direction_reader.specs.declared.event.Events.{Events};
 ghost use Rattle.direction_reader.specs.Events.{event_list, listed};
@@ -21,7 +21,7 @@ ghost use Rattle.interval_commands.specs.Tape.{told_ltc_read};
 ghost use Rattle.biphase.specs.declared.profile.Profile.{Profile};
 
 use crate::laws::what_is_printed_is_in_order;
-use biphase::{MAX_INTERVAL, MAX_INTERVALS, Profile};
+use biphase::Profile;
 use direction_reader::laws::{
     a_list_has_one_list_of_events, a_reader_gives_the_events_of_its_list,
     events_find_the_tape_again, events_mirror_the_tape, events_tell_the_tape,
@@ -30,6 +30,7 @@ use direction_reader::{Brought, DirectionReader, Event, Events};
 use interval_engine::laws::recordings_grow;
 use interval_engine::{Behind, work_along};
 use interval_file::IntervalHeader;
+use limits::{MAX_INTERVAL, MAX_INTERVALS};
 use line_text::Text;
 use report_text::{event_text, read_end_text};
 use tc_command::{Stop, push_line};

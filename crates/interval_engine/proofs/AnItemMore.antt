@@ -9,7 +9,7 @@ use Rattle.std.specs.Io.KnownBytes.{Appends}
 use Rattle.std.proofs.KnownBytes.{Appends-nil, Appends-trans}
 use Rattle.std.proofs.lemmas.Bool.{lt-ltb, le-ltb}
 use Rattle.tc_io.specs.Sink.{AppendsFront, IsFront}
-use Rattle.biphase.specs.declared.cell.TheConstants.{MAX_INTERVALS}
+use Rattle.limits.specs.declared.recording.TheConstants.{MAX_INTERVALS}
 use Rattle.interval_file.specs.declared.fault.IntervalFileFault.{IntervalFileFault}
 use Rattle.interval_file.specs.declared.decoder.Taken.{Taken}
 use Rattle.interval_file.specs.declared.decoder.Taken.TheVariants.{Nothing, Header, Interval, Fault}
@@ -31,7 +31,7 @@ use Rattle.tc_command.specs.Causes.{OutCause}
 use Rattle.interval_engine.specs.KeptAlong.{HasHeader, IntervalStops, Printed, Stands, longer, stop_at, Halts, IsHalt}
 use Rattle.tc_command.specs.Status.{status_of}
 use Rattle.tc_command.specs.Stops.{Stops}
-use Rattle.tc_command.specs.KeptWorks.{cut_at}
+use Rattle.lemmas.specs.Lists.{cut_at}
 use Rattle.interval_engine.proofs.VerdictStays.{good_step, more_bytes, past_is_all, refused_is_all}
 
 -- these bytes complete this item behind a front

@@ -13,7 +13,7 @@ use Rattle.tc_command.specs.declared.input_fault.InputFault.TheVariants.{Interva
 use Rattle.tc_command.specs.declared.stop.Stop.TheVariants.{WriteFault}
 use Rattle.tc_command.specs.Meaning.{IsInput}
 use Rattle.tc_command.specs.Stops.{StopsAtEnd}
-use Rattle.tc_io.specs.KeptVerdict.{good_too}
+use Rattle.tc_io.specs.VerdictLemmas.{good_too}
 use Rattle.tc_io.specs.Sink.{AppendsFront}
 use Rattle.interval_engine.specs.Along.{IsWholeOf, Printing, along_intervals}
 use Rattle.interval_engine.specs.KeptBehind.{IsWholeBehind}

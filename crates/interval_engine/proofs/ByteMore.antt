@@ -5,7 +5,7 @@ use Rattle.std.proofs.Common.{append-nil, take, length-append, subst, Bool, true
 use Rattle.std.specs.Prelude.{◌≢◌, IsSome, nat_lt, if◌then◌else◌}
 use Rattle.std.specs.declared.option.Option.{Option}
 use Rattle.std.specs.declared.result.Result.{Result}
-use Rattle.biphase.specs.declared.cell.TheConstants.{MAX_INTERVALS}
+use Rattle.limits.specs.declared.recording.TheConstants.{MAX_INTERVALS}
 use Rattle.interval_file.specs.declared.fault.IntervalFileFault.{IntervalFileFault}
 use Rattle.interval_file.specs.declared.decoder.Taken.{Taken}
 use Rattle.interval_file.specs.IntervalFile.{after, answer, fault_in}
@@ -17,14 +17,10 @@ use Rattle.tc_command.specs.declared.stop.Stop.TheVariants.{Refused, ReadFault, 
 use Rattle.tc_command.specs.Causes.{OutCause}
 use Rattle.tc_command.specs.KeptWorks.{works_on}
 use Rattle.std.proofs.KnownBytes.{Appends-nil}
+use Rattle.interval_file.specs.FileLemmas.{next_fault}
 use Rattle.tc_command.specs.Status.{status_of}
 use Rattle.interval_engine.specs.KeptAlong.{Advanced, FitsBehind, HasHeader, IsGoing, Stands, stop_at}
 use Rattle.interval_engine.proofs.AnItemMore.{Relation}
-
--- before a fault, a byte brings the fault in its answer
-next_fault : (decoder : Progress) (byte : ℕ) → decoder.fault ≡ None → (after decoder byte).fault ≡ fault_in
-    (answer decoder byte)
-next_fault decoder byte good = rw good refl
 
 -- and is counted
 pub next_taken : (decoder next : Progress) (byte : ℕ) → decoder.fault ≡ None → next ≡ after decoder byte

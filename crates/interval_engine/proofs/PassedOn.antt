@@ -7,12 +7,6 @@ use Rattle.tc_command.specs.declared.input_fault.InputFault.{InputFault}
 use Rattle.tc_command.specs.declared.stop.Stop.{Stop}
 use Rattle.tc_command.specs.declared.stop.Stop.TheVariants.{Refused, ReadFault, WriteFault, Limit}
 
--- an error that is passed on
-pub passed_on : {T : Type 0} (result : Result T Stop) (stop : Stop) → IsErrAnd result (λ told. told ≡ stop)
-    → result ≡ Err stop
-passed_on (Ok done) stop is = absurd is
-passed_on (Err told) stop is = ap (λ (s : Stop). Err s) is
-
 -- a call that stopped
 abbrev stopped : {T : Type 0} → Stop → Result T Stop
 stopped stop = Err stop

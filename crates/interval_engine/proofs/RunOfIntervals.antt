@@ -7,7 +7,7 @@ use Rattle.std.specs.Prelude.{◌≢◌}
 use Rattle.std.specs.Io.KnownBytes.{Appends}
 use Rattle.std.specs.declared.option.Option.{Option}
 use Rattle.tc_io.specs.Sink.{AppendsFront}
-use Rattle.biphase.specs.declared.cell.TheConstants.{MAX_INTERVALS}
+use Rattle.limits.specs.declared.recording.TheConstants.{MAX_INTERVALS}
 use Rattle.interval_file.specs.declared.fault.IntervalFileFault.{IntervalFileFault}
 use Rattle.interval_file.specs.declared.decoder.Taken.TheVariants.{Fault}
 use Rattle.interval_file.specs.declared.header.IntervalHeader.{IntervalHeader}
@@ -19,7 +19,7 @@ use Rattle.tc_command.specs.declared.stop.Stop.TheVariants.{Refused, WriteFault}
 use Rattle.interval_engine.specs.Along.{Printing}
 use Rattle.interval_engine.specs.KeptBehind.{IsPartBehind}
 use Rattle.interval_engine.specs.KeptAlong.{FitsBehind, IntervalStops, IsHalt, Stands, TakesInterval, stop_at}
-use Rattle.tc_command.specs.KeptWorks.{cut_more}
+use Rattle.lemmas.specs.Lists.{cut_more}
 use Rattle.interval_engine.proofs.AnItemMore.{Completes, Relation, a_fault, cut_some}
 
 -- what stands first in a window of m bytes stands first in the rest
@@ -36,7 +36,7 @@ pub cut_window : (k n m : ℕ) (bytes : List ℕ) → k + m ≤ length bytes →
     → take k bytes ++ take n (take m (drop k bytes)) ≡ take (k + n) bytes
 cut_window k n m bytes within less =
     subst (λ (l : List ℕ). take k bytes ++ l ≡ take (k + n) bytes) (in_window k n m bytes within less)
-    (cut_more k n bytes (omega (arith, within)) (omega (arith, within, less)))
+    (cut_more k n bytes)
 
 pub cut_through : (k n m : ℕ) (bytes : List ℕ) → k + m ≤ length bytes → n ≤ m
     → take k bytes ++ (take n (take m (drop k bytes)) ++ drop n (take (length bytes - k) (drop k bytes))) ≡ bytes

@@ -6,7 +6,7 @@ use Rattle.std.specs.Prelude.{nat_lt, if◌then◌else◌}
 use Rattle.std.specs.declared.option.Option.{Option}
 use Rattle.std.proofs.lemmas.List.Sums.{fold-append}
 use Rattle.interval_file.specs.declared.fault.IntervalFileFault.{IntervalFileFault}
-use Rattle.biphase.specs.declared.cell.TheConstants.{MAX_INTERVALS}
+use Rattle.limits.specs.declared.recording.TheConstants.{MAX_INTERVALS}
 use Rattle.interval_file.specs.declared.decoder.Taken.{Taken}
 use Rattle.interval_file.specs.declared.decoder.Taken.TheVariants.{Nothing, Header, Interval, Fault}
 use Rattle.interval_file.specs.declared.header.IntervalHeader.{IntervalHeader}

@@ -4,7 +4,7 @@ use Rattle.std.specs.Prelude.{◌+◌, IsSome, if◌then◌else◌, ⊤}
 use Rattle.std.proofs.Common.{subst, sym}
 use Rattle.std.specs.Io.KnownBytes.{Appends}
 use Rattle.tc_io.specs.Sink.{AppendsFront, IsFront}
-use Rattle.biphase.specs.declared.cell.TheConstants.{MAX_INTERVALS}
+use Rattle.limits.specs.declared.recording.TheConstants.{MAX_INTERVALS}
 use Rattle.interval_file.specs.declared.fault.IntervalFileFault.{IntervalFileFault}
 use Rattle.interval_file.specs.declared.header.IntervalHeader.{IntervalHeader}
 use Rattle.interval_file.specs.declared.header.TheConstants.{HEADER_LENGTH}

@@ -10,7 +10,7 @@ use Rattle.tc_command.specs.Command.{IsCommand}
 use Rattle.interval_engine.specs.Along.{IsPartOf, IsSpentOf, IsWholeOf}
 use Rattle.interval_engine.specs.KeptBehind.{IsPartBehind, IsSpentBehind, IsWholeBehind}
 use Rattle.interval_engine.specs.Along.{Printing, along_intervals}
-use Rattle.tc_io.specs.KeptVerdict.{ends_whole, is_past, is_refused}
+use Rattle.tc_io.specs.VerdictLemmas.{ends_whole, is_past, is_refused}
 use Rattle.tc_command.specs.declared.input_fault.InputFault.TheVariants.{Intervals}
 
 -- ---- a recording grows

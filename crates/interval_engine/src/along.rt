@@ -5,7 +5,7 @@ ghost use Rattle.std.specs.Prelude.{◌≡◌, ℕ, true, false, ◌+◌, ◌-�
 ghost use Rattle.std.specs.Prelude.{drop, OnOk, IfOk, IfErr, IsSome, Err};
 ghost use Rattle.std.specs.declared.option.Option.{Option};
 ghost use Rattle.std.specs.Io.KnownBytes.{Appends};
-ghost use Rattle.biphase.specs.declared.cell.TheConstants.{MAX_INTERVAL, MAX_INTERVALS};
+ghost use Rattle.limits.specs.declared.recording.TheConstants.{MAX_INTERVAL, MAX_INTERVALS};
 ghost use Rattle.interval_file.specs.declared.header.IntervalHeader.{IntervalHeader};
 ghost use Rattle.interval_file.specs.IntervalHeader.{IsTickRate};
 ghost use Rattle.interval_file.specs.Decoding.{IsBetween};
@@ -34,12 +34,12 @@ ghost use Rattle.interval_engine.specs.KeptAlong.{
   stop_at,
 };
 
-use biphase::{MAX_INTERVAL, MAX_INTERVALS};
 use interval_file::laws::the_decoder_reads_what_is_said;
 use interval_file::{
     FileVersion, IntervalDecoder, IntervalFileFault, IntervalHeader, Next, Taken, most_width,
     next_interval,
 };
+use limits::{MAX_INTERVAL, MAX_INTERVALS};
 use tc_command::{Engine, InputFault, Stop, work};
 use tc_io::{Sink, Source};
 
@@ -408,7 +408,7 @@ impl<B: Behind> Engine for Along<B> {
     ghost use Rattle.interval_engine.specs.Along.{along_intervals};
     ghost use Rattle.interval_engine.specs.KeptAlong.{IsGoing, IsSettled, StandsWithin, printed_well};
     ghost use Rattle.tc_command.specs.declared.input_fault.InputFault.TheVariants.{Intervals};
-    ghost use Rattle.tc_io.specs.KeptVerdict.{good_too};
+    ghost use Rattle.tc_io.specs.VerdictLemmas.{good_too};
 
     type Choice = B::Choice;
 

@@ -1,5 +1,7 @@
--- What stands at the front of bytes behind a file is what they bring to it: no whole interval, an interval in its one spelling, or one out of range.
-use Rattle.std.proofs.Common.{Fits, w8, suc, ◌≡◌, ◌⊎◌, inl, inr, ℕ, ◌<◌, ◌≤◌, List, [], ◌∷◌, length, get_or, take, refl, sym, ap, subst, arith}
+-- What stands at the front of bytes behind a file is what they bring to it: no whole interval, an interval in its one
+-- spelling, or one out of range.
+use Rattle.std.proofs.Common.{Fits, w8, suc, ◌≡◌, ◌⊎◌, inl, inr, ℕ, ◌<◌, ◌≤◌, List, [], ◌∷◌, length, get_or, take, refl}
+use Rattle.std.proofs.Common.{sym, ap, subst, arith}
 use Rattle.std.proofs.Math.Facts.{Fits-lt-pow}
 use Rattle.std.proofs.lemmas.Bool.{cases_lt, le-leb, lt-leb}
 use Rattle.interval_file.specs.declared.fault.IntervalFileFault.TheVariants as fault
@@ -17,12 +19,8 @@ use Rattle.interval_file.proofs.FrontInterval.{least}
 use Rattle.interval_file.proofs.OneByteMore.{file_more, in_range_is}
 use Rattle.interval_file.proofs.RestFault.{wrong_interval}
 
--- the bytes of a slice are bytes
-pub are_bytes : (l : List ℕ) → ((i : ℕ) → Fits w8 (get_or l i 0)) → AreBytes l
-are_bytes [] fits = tt
-are_bytes (x ∷ more) fits = (Fits-lt-pow (fits 0), are_bytes more (λ i. fits (suc i)))
-
-pub they_bring : (front bytes : List ℕ) (header : IntervalHeader) (intervals : List ℕ) → AreBytes bytes → IsFile front header intervals
+pub they_bring : (front bytes : List ℕ) (header : IntervalHeader) (intervals : List ℕ) → AreBytes bytes
+    → IsFile front header intervals
     → BringNext front header intervals bytes (next_of header.version (length front) bytes)
 they_bring front bytes header intervals are is =
     by_width (cases_lt (length bytes) (piece_width version bytes)) (in_range_or_not version bytes)
@@ -36,16 +34,25 @@ they_bring front bytes header intervals are is =
 
     none_or_part : (l : List ℕ) → length l < piece_width version l → BringNext front header intervals l Short
     none_or_part [] short = inl refl
-    none_or_part (x ∷ more) short = inr (record { front = front; rest = x ∷ more; are = refl; file = is; fails = (refl, omega arith, short) })
+    none_or_part (x ∷ more) short = inr (record {
+      front = front;
+      rest = x ∷ more;
+      are = refl;
+      file = is;
+      fails =
+          (refl, omega arith, short);
+    })
 
     by_width : (length bytes < piece_width version bytes) ⊎ (piece_width version bytes ≤ length bytes)
-        → InRange version bytes ⊎ (¬ InRange version bytes) → BringNext front header intervals bytes (next_of version (length front) bytes)
+        → InRange version bytes ⊎ (¬ InRange version bytes)
+        → BringNext front header intervals bytes (next_of version (length front) bytes)
     by_width (inl short) range =
         brings Short (rw (lt-leb (piece_width version bytes) (length bytes) short) refl) (none_or_part bytes short)
     by_width (inr whole) (inr wrong) =
         let width = piece_width version bytes in
         brings (Fault (fault.Interval (length front)))
-        (rw (le-leb width (length bytes) whole) (ap (next_with width) (wrong_interval version (length front) bytes wrong)))
+        (rw (le-leb width (length bytes) whole) (ap (next_with width)
+        (wrong_interval version (length front) bytes wrong)))
         (record { front = front; rest = bytes; are = refl; file = is; fails = (refl, whole, wrong) })
     by_width (inr whole) (inl range) =
         let x = ticks_in version bytes in
@@ -53,5 +60,8 @@ they_bring front bytes header intervals are is =
         let some = least version bytes in
         let low = range.0 in
         brings (Interval x width)
-        (rw (le-leb width (length bytes) whole) (ap (next_with width) (in_range_is version (length front) bytes range)))
-        (whole, file_more front (take width bytes) header intervals x is (is_spelled version bytes whole are range) (omega (arith, some, low)) range.1)
+        (rw (le-leb width (length bytes) whole) (ap (next_with width) (in_range_is version (length front) bytes range))) (
+          whole,
+          file_more front (take width bytes) header intervals x is (is_spelled version bytes whole are range)
+              (omega (arith, some, low)) range.1,
+        )

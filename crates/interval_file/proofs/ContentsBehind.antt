@@ -22,7 +22,8 @@ use Rattle.interval_file.specs.Recording.{Recording, read_of, within_limit}
 use Rattle.tc_io.specs.Verdict.{good}
 use Rattle.interval_file.proofs.FileReadBack.{IsGood, may_end, one_taken}
 use Rattle.interval_file.proofs.FrontInterval.{least, widths}
-use Rattle.interval_file.proofs.FrontOfBytes.{bytes_behind, in_range_or_not, is_spelled}
+use Rattle.interval_file.proofs.FrontOfBytes.{in_range_or_not, is_spelled}
+use Rattle.tc_io.specs.ByteLemmas.{bytes_behind}
 use Rattle.interval_file.proofs.OneByteMore.{file_more, in_range_is}
 use Rattle.interval_file.proofs.RestFault.{cut_off, interval_fails, wrong_interval}
 use Rattle.interval_file.proofs.WholeNumbers.{whole_number}

@@ -3,7 +3,7 @@ use Rattle.std.proofs.Common.{◌≡◌, inl, inr, ℕ, ◌≤◌, List, [], ◌
 use Rattle.std.proofs.Common.{subst, arith}
 use Rattle.std.proofs.lemmas.List.{drop-drop, length-drop}
 use Rattle.byteorder.specs.Endian.{big_number}
-use Rattle.biphase.specs.declared.cell.TheConstants.{MAX_INTERVALS}
+use Rattle.limits.specs.declared.recording.TheConstants.{MAX_INTERVALS}
 use Rattle.tc_address.specs.declared.system.System.{System}
 use Rattle.tc_address.specs.declared.system.System.TheVariants.{F24, F25, F30}
 use Rattle.interval_file.specs.declared.header.FileVersion.{FileVersion}
@@ -18,7 +18,8 @@ use Rattle.interval_file.specs.Recording.{end_fault_of, read_of, recording_of}
 use Rattle.tc_io.specs.Verdict.{good}
 use Rattle.interval_file.proofs.ContentsBehind.{IsDecoded, decoded_behind, said_behind}
 use Rattle.interval_file.proofs.FileReadBack.{IsGood, begins, in_range, within}
-use Rattle.interval_file.proofs.FrontOfBytes.{Begins, IsReadAs, bytes_behind, head_of, header_is, read_front}
+use Rattle.interval_file.proofs.FrontOfBytes.{Begins, IsReadAs, head_of, header_is, read_front}
+use Rattle.tc_io.specs.ByteLemmas.{bytes_behind}
 use Rattle.interval_file.proofs.InTheHeader.{head_at, header_fault_read, rate_read, split_fold}
 use Rattle.interval_file.proofs.OneText.{reads}
 

@@ -8,9 +8,11 @@ use Rattle.std.specs.declared.option.Option.{Option}
 use Rattle.std.specs.Option.{is_none, option_or}
 use Rattle.std.proofs.lemmas.Bool.{cases_Bool, cases_eq, cases_lt, eqb-true, false≢true, le-leb, le-ltb, lt-leb, lt-ltb}
 use Rattle.std.proofs.lemmas.Bool.{ne_eqb}
-use Rattle.std.proofs.lemmas.List.{drop-drop, get_or-take, length-drop, length-take, length-take-le, take-append-drop, take-take}
+use Rattle.std.proofs.lemmas.List.{drop-drop, get_or-take, length-drop, length-take, length-take-le, take-append-drop}
+use Rattle.std.proofs.lemmas.List.{take-take}
+use Rattle.tc_io.specs.ByteLemmas.{bytes_behind}
 use Rattle.byteorder.specs.Endian.{big_bytes, big_number}
-use Rattle.biphase.specs.declared.cell.TheConstants.{MAX_INTERVAL}
+use Rattle.limits.specs.declared.recording.TheConstants.{MAX_INTERVAL}
 use Rattle.tc_address.specs.declared.system.System.{System}
 use Rattle.tc_address.specs.declared.system.System.TheVariants.{F24, F25, F30}
 use Rattle.tc_address.specs.Count.{rate_of}
@@ -19,7 +21,8 @@ use Rattle.interval_file.specs.declared.fault.IntervalFileFault.TheVariants as f
 use Rattle.interval_file.specs.declared.header.FileVersion.{FileVersion}
 use Rattle.interval_file.specs.declared.header.FileVersion.TheVariants.{One, Two}
 use Rattle.interval_file.specs.declared.header.IntervalHeader.{IntervalHeader}
-use Rattle.interval_file.specs.declared.header.TheConstants.{MAGIC, MAX_TICK_RATE}
+use Rattle.interval_file.specs.declared.header.TheConstants.{MAGIC}
+use Rattle.limits.specs.declared.recording.TheConstants.{MAX_TICK_RATE}
 use Rattle.interval_file.specs.Contents.{contents_behind, contents_of, first_wrong, header_of, header_with}
 use Rattle.tc_io.specs.Bytes.{AreBytes}
 use Rattle.interval_file.specs.Grammar.{Contents, InRange, IsFirstWrong, IsHeaderFault, MayStand}
@@ -45,7 +48,8 @@ stand_or_not (byte ∷ more) place = by_test (cases_Bool (may_stand place byte))
     answer_of may = option_or (if may then None else Some (place_fault place)) (first_wrong (place + 1) more)
 
     answered : {may : Bool} → may_stand place byte ≡ may → first_wrong place (byte ∷ more) ≡ answer_of may
-    answered e = ap (λ (o : Option IntervalFileFault). option_or o (first_wrong (place + 1) more)) (fault_is place byte) ∙ ap answer_of e
+    answered e = ap (λ (o : Option IntervalFileFault). option_or o (first_wrong (place + 1) more)) (fault_is place byte)
+        ∙ ap answer_of e
 
     read_as : (may : Bool) → may_stand place byte ≡ may
         → first_wrong place (byte ∷ more) ≡ (if may then first_wrong (place + 1) more else Some (place_fault place))
@@ -62,7 +66,8 @@ stand_or_not (byte ∷ more) place = by_test (cases_Bool (may_stand place byte))
         let first = read_as true may ∙ found.4 ∙ ap (λ (n : ℕ). Some (place_fault n)) there in
         inr (suc k, omega (arith, below), wrong, (may, found.3), first)
 
-    by_test : (may_stand place byte ≡ true) ⊎ (may_stand place byte ≡ false) → StandOrNot (place + 1) more → StandOrNot place (byte ∷ more)
+    by_test : (may_stand place byte ≡ true) ⊎ (may_stand place byte ≡ false) → StandOrNot (place + 1) more
+        → StandOrNot place (byte ∷ more)
     by_test (inl may) rest = by_rest may rest
     by_test (inr wrong) rest =
         let here : place ≡ place + 0 = omega arith in
@@ -117,7 +122,8 @@ head_or_fault bytes = by_answer (stand_or_not (take 8 bytes) 0)
 -- ---- the header
 
 -- four bytes, and two, are the bytes of their number
-four_bytes : (a b c e : ℕ) → a < 256 → b < 256 → c < 256 → e < 256 → big_bytes 4 (big_number 4 (a ∷ b ∷ c ∷ e ∷ [])) ≡ a ∷ b ∷ c ∷ e ∷ []
+four_bytes : (a b c e : ℕ) → a < 256 → b < 256 → c < 256 → e < 256
+    → big_bytes 4 (big_number 4 (a ∷ b ∷ c ∷ e ∷ [])) ≡ a ∷ b ∷ c ∷ e ∷ []
 four_bytes a b c e la lb lc le =
     let n = big_number 4 (a ∷ b ∷ c ∷ e ∷ []) in
     let first : n / 16777216 % 256 ≡ a = omega arith in
@@ -136,7 +142,8 @@ two_bytes a b la lb =
 version_says : (byte : ℕ) → is_some (version_at byte) ≡ true → (version : FileVersion) × (byte ≡ version_byte version)
 version_says byte says = by_row (cases_eq byte 1) (cases_eq byte 2)
   where
-    by_row : (byte ≡ 1) ⊎ (byte ≡ 1 → ⊥) → (byte ≡ 2) ⊎ (byte ≡ 2 → ⊥) → (version : FileVersion) × (byte ≡ version_byte version)
+    by_row : (byte ≡ 1) ⊎ (byte ≡ 1 → ⊥) → (byte ≡ 2) ⊎ (byte ≡ 2 → ⊥)
+        → (version : FileVersion) × (byte ≡ version_byte version)
     by_row (inl one) two = (One, one)
     by_row (inr not_one) (inl two) = (Two, two)
     by_row (inr not_one) (inr not_two) =
@@ -152,7 +159,8 @@ system_says byte says = by_row (cases_eq byte 24) (cases_eq byte 25) (cases_eq b
     by_row (inr not_film) (inl tv) video = (F25, tv)
     by_row (inr not_film) (inr not_tv) (inl video) = (F30, video)
     by_row (inr not_film) (inr not_tv) (inr not_video) =
-        let none : is_some (system_at byte) ≡ false = rw (ne_eqb byte 24 not_film, ne_eqb byte 25 not_tv, ne_eqb byte 30 not_video) refl in
+        let none : is_some (system_at byte) ≡ false = rw
+        (ne_eqb byte 24 not_film, ne_eqb byte 25 not_tv, ne_eqb byte 30 not_video) refl in
         absurd (false≢true (sym none ∙ says))
 
 -- eight bytes that may stand
@@ -163,7 +171,8 @@ held : (holds : Bool) (first : IntervalFileFault) → is_none (fault_unless hold
 held true first e = refl
 held false first e = absurd cc
 
-head_is : (l : List ℕ) → length l ≡ 8 → MayStand 0 l → (version : FileVersion) × (system : System) × (l ≡ head_of version system)
+head_is : (l : List ℕ) → length l ≡ 8 → MayStand 0 l → (version : FileVersion) × (system : System)
+    × (l ≡ head_of version system)
 head_is [] long may = absurd (omega (arith, long))
 head_is (a ∷ []) long may = absurd (omega (arith, long))
 head_is (a ∷ b ∷ []) long may = absurd (omega (arith, long))
@@ -185,11 +194,6 @@ head_is (a ∷ b ∷ c ∷ e ∷ v ∷ s ∷ y ∷ z ∷ []) long may =
     let same_version = version.1 in
     let same_system = system.1 in
     (version.0, system.0, (cc))
-
-pub bytes_behind : (n : ℕ) (bytes : List ℕ) → AreBytes bytes → AreBytes (drop n bytes)
-bytes_behind zero bytes are = are
-bytes_behind (suc n) [] are = are
-bytes_behind (suc n) (byte ∷ more) are = bytes_behind n more are.1
 
 -- the tick rate is four bytes
 rate_is : (rest : List ℕ) → 4 ≤ length rest → AreBytes rest → rest ≡ big_bytes 4 (big_number 4 rest) ++ drop 4 rest
@@ -252,7 +256,8 @@ spelled_one (a ∷ b ∷ c ∷ e ∷ more) long are = sym (four_bytes a b c e ar
 abbrev pub IsSpelled : FileVersion → List ℕ → Type 0
 IsSpelled version rest = take (piece_width version rest) rest ≡ spelling version (ticks_in version rest)
 
-spelled_short : (a b : ℕ) (more : List ℕ) → a < 256 → b < 256 → (big_number 2 (a ∷ b ∷ more) == 0) ≡ false → IsSpelled Two (a ∷ b ∷ more)
+spelled_short : (a b : ℕ) (more : List ℕ) → a < 256 → b < 256 → (big_number 2 (a ∷ b ∷ more) == 0) ≡ false
+    → IsSpelled Two (a ∷ b ∷ more)
 spelled_short a b more la lb short =
     let low : big_number 2 (a ∷ b ∷ more) < 65536 = omega arith in
     rw (short, lt-ltb (big_number 2 (a ∷ b ∷ more)) 65536 low) (sym (two_bytes a b la lb))
@@ -261,14 +266,16 @@ spelled_long : (a b c e f g : ℕ) (more : List ℕ) → AreBytes (a ∷ b ∷ c
     → (big_number 2 (a ∷ b ∷ c ∷ e ∷ f ∷ g ∷ more) == 0) ≡ true → 65536 ≤ big_number 4 (c ∷ e ∷ f ∷ g ∷ more)
     → IsSpelled Two (a ∷ b ∷ c ∷ e ∷ f ∷ g ∷ more)
 spelled_long a b c e f g more are zeros least_long =
-    let none : big_number 2 (a ∷ b ∷ c ∷ e ∷ f ∷ g ∷ more) ≡ 0 = eqb-true (big_number 2 (a ∷ b ∷ c ∷ e ∷ f ∷ g ∷ more)) 0 zeros in
+    let none : big_number 2 (a ∷ b ∷ c ∷ e ∷ f ∷ g ∷ more) ≡ 0 =
+    eqb-true (big_number 2 (a ∷ b ∷ c ∷ e ∷ f ∷ g ∷ more)) 0 zeros in
     let first : a ≡ 0 = omega (arith, none) in
     let second : b ≡ 0 = omega (arith, none) in
     let four = four_bytes c e f g are.1.1.0 are.1.1.1.0 are.1.1.1.1.0 are.1.1.1.1.1.0 in
     rw (zeros, le-ltb (big_number 4 (c ∷ e ∷ f ∷ g ∷ more)) 65536 least_long)
     (ap₂ (λ (x y : ℕ). x ∷ y ∷ c ∷ e ∷ f ∷ g ∷ []) first second ∙ ap (λ (l : List ℕ). 0 ∷ 0 ∷ l) (sym four))
 
-spelled_two : (rest : List ℕ) (zero_first : Bool) → (big_number 2 rest == 0) ≡ zero_first → (if zero_first then 6 else 2) ≤ length rest
+spelled_two : (rest : List ℕ) (zero_first : Bool) → (big_number 2 rest == 0) ≡ zero_first
+    → (if zero_first then 6 else 2) ≤ length rest
     → AreBytes rest → (if zero_first then 65536 else 1) ≤ ticks_in Two rest → IsSpelled Two rest
 spelled_two [] true e long are range = absurd (omega (arith, long))
 spelled_two (a ∷ []) true e long are range = absurd (omega (arith, long))
@@ -282,16 +289,19 @@ spelled_two [] false e long are range = absurd (omega (arith, long))
 spelled_two (a ∷ []) false e long are range = absurd (omega (arith, long))
 spelled_two (a ∷ b ∷ more) false short long are range = spelled_short a b more are.0 are.1.0 short
 
-pub is_spelled : (version : FileVersion) (rest : List ℕ) → piece_width version rest ≤ length rest → AreBytes rest → InRange version rest
+pub is_spelled : (version : FileVersion) (rest : List ℕ) → piece_width version rest ≤ length rest → AreBytes rest
+    → InRange version rest
     → IsSpelled version rest
 is_spelled One rest long are range = spelled_one rest long are
 is_spelled Two rest long are range = spelled_two rest (big_number 2 rest == 0) refl long are range.0
 
 pub in_range_or_not : (version : FileVersion) (rest : List ℕ) → InRange version rest ⊎ (¬ InRange version rest)
-in_range_or_not version rest = by_order (cases_lt (ticks_in version rest) (least_in version rest)) (cases_lt MAX_INTERVAL (ticks_in version rest))
+in_range_or_not version rest = by_order (cases_lt (ticks_in version rest) (least_in version rest))
+    (cases_lt MAX_INTERVAL (ticks_in version rest))
   where
     by_order : (ticks_in version rest < least_in version rest) ⊎ (least_in version rest ≤ ticks_in version rest)
-        → (MAX_INTERVAL < ticks_in version rest) ⊎ (ticks_in version rest ≤ MAX_INTERVAL) → InRange version rest ⊎ (¬ InRange version rest)
+        → (MAX_INTERVAL < ticks_in version rest) ⊎ (ticks_in version rest ≤ MAX_INTERVAL)
+        → InRange version rest ⊎ (¬ InRange version rest)
     by_order (inl low) high = inr (λ range. let least_of_all = range.0 in omega (arith, low, least_of_all))
     by_order (inr low) (inl high) = inr (λ range. let most = range.1 in omega (arith, high, most))
     by_order (inr low) (inr high) = inl (low, high)

@@ -1,6 +1,7 @@
--- A decoder within the header: each of the first eight bytes that may stand leaves it without a fault, the first one that may not is its fault for good, and
--- so is a tick rate out of range.
-use Rattle.std.proofs.Common.{◌≡◌, ◌⊎◌, inl, inr, ℕ, ◌+◌, ◌-◌, ◌<◌, ◌≤◌, List, [], ◌∷◌, length, take, drop, fold, slice_index, Some, None, refl, sym}
+-- A decoder within the header: each of the first eight bytes that may stand leaves it without a fault, the first one
+-- that may not is its fault for good, and so is a tick rate out of range.
+use Rattle.std.proofs.Common.{◌≡◌, ◌⊎◌, inl, inr, ℕ, ◌+◌, ◌-◌, ◌<◌, ◌≤◌, List, [], ◌∷◌, length, take, drop, fold}
+use Rattle.std.proofs.Common.{slice_index, Some, None, refl, sym}
 use Rattle.std.proofs.Common.{◌∙◌, ap, ap₂, arith, Bool, true, false}
 use Rattle.std.specs.Prelude.{⊤, nat_le, nat_lt, ◌==◌, ◌&&◌, is_some, if◌then◌else◌}
 use Rattle.std.specs.declared.option.Option.{Option}
@@ -16,8 +17,10 @@ use Rattle.interval_file.specs.declared.decoder.Taken.{Taken}
 use Rattle.interval_file.specs.declared.decoder.Taken.TheVariants.{Nothing, Fault}
 use Rattle.interval_file.specs.declared.header.FileVersion.{FileVersion}
 use Rattle.interval_file.specs.declared.header.FileVersion.TheVariants.{One}
-use Rattle.interval_file.specs.declared.header.TheConstants.{MAGIC, MAX_TICK_RATE}
-use Rattle.interval_file.specs.Grammar.{EndsInHeader, IsFirstWrong, IsHeaderFault, IsWrongRate, MayStand, fault_at, fault_unless, may_stand}
+use Rattle.interval_file.specs.declared.header.TheConstants.{MAGIC}
+use Rattle.limits.specs.declared.recording.TheConstants.{MAX_TICK_RATE}
+use Rattle.interval_file.specs.Grammar.{EndsInHeader, IsFirstWrong, IsHeaderFault, IsWrongRate, MayStand, fault_at}
+use Rattle.interval_file.specs.Grammar.{fault_unless, may_stand}
 use Rattle.interval_file.specs.IntervalFile.{after, answer, end, fault_in, head_answer, header_answer, version_or}
 use Rattle.interval_file.specs.IntervalHeader.{IsTickRate, system_at, version_at}
 use Rattle.interval_file.specs.Progress.{Progress}
@@ -38,7 +41,8 @@ IsOver past_limit = ⊤
 over_stays : (r : Recording) (item : Taken) → IsOver r.verdict → with_taken r item ≡ r
 over_stays r item over = by_verdict r.verdict over
   where
-    by_verdict : (v : Verdict IntervalFileFault) → IsOver v → elim v [ good ↦ with_item r item | refused f ↦ r | past_limit ↦ r ] ≡ r
+    by_verdict : (v : Verdict IntervalFileFault) → IsOver v
+        → elim v [ good ↦ with_item r item | refused f ↦ r | past_limit ↦ r ] ≡ r
     by_verdict good over = absurd over
     by_verdict (refused f) over = refl
     by_verdict past_limit over = refl
@@ -46,12 +50,14 @@ over_stays r item over = by_verdict r.verdict over
 pub fault_stays : (p : Progress) (byte : ℕ) (first : IntervalFileFault) → p.fault ≡ Some first → after p byte ≡ p
 fault_stays p byte first met = rw met refl
 
-one_stays : (d : Decoding) (byte : ℕ) (first : IntervalFileFault) → d.progress.fault ≡ Some first → IsOver d.recording.verdict → with_byte d byte ≡ d
+one_stays : (d : Decoding) (byte : ℕ) (first : IntervalFileFault) → d.progress.fault ≡ Some first
+    → IsOver d.recording.verdict → with_byte d byte ≡ d
 one_stays d byte first met over =
     ap₂ (λ (p : Progress) (r : Recording). record { progress = p; recording = r })
     (fault_stays d.progress byte first met) (over_stays d.recording (answer d.progress byte) over)
 
-pub stays : (more : List ℕ) (d : Decoding) (first : IntervalFileFault) → d.progress.fault ≡ Some first → IsOver d.recording.verdict
+pub stays : (more : List ℕ) (d : Decoding) (first : IntervalFileFault) → d.progress.fault ≡ Some first
+    → IsOver d.recording.verdict
     → fold with_byte d more ≡ d
 stays [] d first met over = refl
 stays (byte ∷ more) d first met over =
@@ -104,7 +110,8 @@ by_row false false false magic version system false place = refl
 -- each byte is tested by the table
 pub tested : (place byte : ℕ) → head_answer place byte ≡ tested_as (may_stand place byte) place
 tested place byte =
-    by_row (nat_lt place 4) (place == 4) (place == 5) (byte == slice_index MAGIC place) (is_some (version_at byte)) (is_some (system_at byte)) (byte == 0) place
+    by_row (nat_lt place 4) (place == 4) (place == 5) (byte == slice_index MAGIC place) (is_some (version_at byte))
+    (is_some (system_at byte)) (byte == 0) place
 
 faulty_row : (low four five magic version system zero : Bool) (place : ℕ)
     → of_row low four five magic version system zero place
@@ -120,9 +127,11 @@ faulty_row false false false magic version system true place = refl
 faulty_row false false false magic version system false place = refl
 
 -- a byte that may not stand has the fault of its place
-pub fault_is : (place byte : ℕ) → fault_at place byte ≡ (if may_stand place byte then None else Some (place_fault place))
+pub fault_is : (place byte : ℕ) → fault_at place byte ≡
+    (if may_stand place byte then None else Some (place_fault place))
 fault_is place byte =
-    faulty_row (nat_lt place 4) (place == 4) (place == 5) (byte == slice_index MAGIC place) (is_some (version_at byte)) (is_some (system_at byte)) (byte == 0) place
+    faulty_row (nat_lt place 4) (place == 4) (place == 5) (byte == slice_index MAGIC place) (is_some (version_at byte))
+    (is_some (system_at byte)) (byte == 0) place
 
 abbrev version_behind : ℕ → FileVersion → ℕ → FileVersion
 version_behind place version byte = if place == 4 then version_or version (version_at byte) else version
@@ -143,22 +152,28 @@ head_behind place version system byte item = record {
   recording = with_taken no_recording item;
 }
 
-takes : (place byte : ℕ) (version : FileVersion) (system : Option System) (item : Taken) → place < 8 → head_answer place byte ≡ item
+takes : (place byte : ℕ) (version : FileVersion) (system : Option System) (item : Taken) → place < 8
+    → head_answer place byte ≡ item
     → with_byte (head_at place version system) byte ≡ head_behind place version system byte item
 takes place byte version system item low e = rw (lt-ltb place 8 low, e) refl
 
-by_test : (place byte : ℕ) (version : FileVersion) (system : Option System) (may : Bool) → place < 8 → may_stand place byte ≡ may
+by_test : (place byte : ℕ) (version : FileVersion) (system : Option System) (may : Bool) → place < 8
+    → may_stand place byte ≡ may
     → with_byte (head_at place version system) byte ≡ head_behind place version system byte (tested_as may place)
 by_test place byte version system may low e =
-    takes place byte version system (tested_as may place) low (tested place byte ∙ ap (λ (b : Bool). tested_as b place) e)
+    takes place byte version system (tested_as may place) low (tested place byte
+    ∙ ap (λ (b : Bool). tested_as b place) e)
 
 -- bytes that may stand
-walks : (front : List ℕ) (place : ℕ) (version : FileVersion) (system : Option System) → MayStand place front → place + length front ≤ 8
-    → (v : FileVersion) × (s : Option System) × (fold with_byte (head_at place version system) front ≡ head_at (place + length front) v s)
+walks : (front : List ℕ) (place : ℕ) (version : FileVersion) (system : Option System) → MayStand place front
+    → place + length front ≤ 8
+    → (v : FileVersion) × (s : Option System) × (fold with_byte (head_at place version system) front
+    ≡ head_at (place + length front) v s)
 walks [] place version system may short = (version, system, ap (λ (n : ℕ). head_at n version system) (omega arith))
 walks (byte ∷ more) place version system may short =
     let first = by_test place byte version system true (omega (arith, short)) may.0 in
-    let rest = walks more (place + 1) (version_behind place version byte) (system_behind place system byte) may.1 (omega (arith, short)) in
+    let rest = walks more (place + 1) (version_behind place version byte) (system_behind place system byte) may.1
+    (omega (arith, short)) in
     let n : place + 1 + length more ≡ place + length (byte ∷ more) = omega arith in (
       rest.0,
       rest.1,
@@ -175,7 +190,8 @@ reaches bytes place may there low =
 
 pub split_fold : (bytes : List ℕ) (place : ℕ)
     → decoding_of bytes ≡ fold with_byte (fold with_byte no_decoding (take place bytes)) (drop place bytes)
-split_fold bytes place = ap decoding_of (sym (take-append-drop place bytes)) ∙ fold-append with_byte no_decoding (take place bytes) (drop place bytes)
+split_fold bytes place = ap decoding_of (sym (take-append-drop place bytes))
+    ∙ fold-append with_byte no_decoding (take place bytes) (drop place bytes)
 
 -- ---- what is read, and the fault at the end
 
@@ -189,7 +205,8 @@ abbrev ending : Decoding → Option IntervalFileFault
 ending d = fault_at_end (end d.progress)
 
 -- the first byte that may not stand is the fault
-wrong_byte : (bytes : List ℕ) (place : ℕ) → place < 8 → IsFirstWrong place bytes → IsRead bytes (refused (place_fault place)) (place_fault place)
+wrong_byte : (bytes : List ℕ) (place : ℕ) → place < 8 → IsFirstWrong place bytes
+    → IsRead bytes (refused (place_fault place)) (place_fault place)
 wrong_byte bytes place low is =
     let byte = slice_index bytes place in
     let rest = drop (place + 1) bytes in
@@ -198,8 +215,10 @@ wrong_byte bytes place low is =
     let met = head_behind place at_place.0 at_place.1 byte (Fault (place_fault place)) in
     let one = by_test place byte at_place.0 at_place.1 false low is.wrong in
     let all : decoding_of bytes ≡ met =
-    split_fold bytes place ∙ ap (λ (l : List ℕ). fold with_byte (fold with_byte no_decoding (take place bytes)) l) (drop_more bytes place 0 there)
-    ∙ ap (λ (d : Decoding). fold with_byte d (byte ∷ rest)) at_place.2 ∙ ap (λ (d : Decoding). fold with_byte d rest) one
+    split_fold bytes place ∙ ap (λ (l : List ℕ). fold with_byte (fold with_byte no_decoding (take place bytes)) l)
+    (drop_more bytes place 0 there)
+    ∙ ap (λ (d : Decoding). fold with_byte d (byte ∷ rest)) at_place.2
+    ∙ ap (λ (d : Decoding). fold with_byte d rest) one
     ∙ stays rest met (place_fault place) refl tt in
     (ap (λ (d : Decoding). d.recording) all, ap ending all)
 
@@ -219,12 +238,14 @@ out_of_range : (version : FileVersion) (system : Option System) (rate : ℕ) →
     → header_answer version system rate ≡ Fault (fault.TickRate 8)
 out_of_range version None rate wrong = refl
 out_of_range version (Some system) rate wrong =
-    let not_both : (nat_le 1 rate && nat_le rate MAX_TICK_RATE) ≡ false = false_from_ne_true (nat_le 1 rate && nat_le rate MAX_TICK_RATE) (λ both.
+    let not_both : (nat_le 1 rate && nat_le rate MAX_TICK_RATE) ≡ false =
+    false_from_ne_true (nat_le 1 rate && nat_le rate MAX_TICK_RATE) (λ both.
     let parts = and_parts (nat_le 1 rate) (nat_le rate MAX_TICK_RATE) both in
     wrong (leb-true 1 rate parts.0, leb-true rate MAX_TICK_RATE parts.1)) in
     rw not_both refl
 
-rate_fails : (version : FileVersion) (system : Option System) (rest : List ℕ) → 4 ≤ length rest → ¬ IsTickRate (big_number 4 rest)
+rate_fails : (version : FileVersion) (system : Option System) (rest : List ℕ) → 4 ≤ length rest
+    → ¬ IsTickRate (big_number 4 rest)
     → fold with_byte (head_at 8 version system) rest ≡ rate_behind version system (Fault (fault.TickRate 8))
 rate_fails version system [] long wrong = absurd (omega (arith, long))
 rate_fails version system (a ∷ []) long wrong = absurd (omega (arith, long))
@@ -233,7 +254,8 @@ rate_fails version system (a ∷ b ∷ c ∷ []) long wrong = absurd (omega (ari
 rate_fails version system (a ∷ b ∷ c ∷ e ∷ more) long wrong =
     let met = rate_behind version system (Fault (fault.TickRate 8)) in
     let four = rate_read version system a b c e
-    ∙ ap (λ (item : Taken). rate_behind version system item) (out_of_range version system (big_number 4 (a ∷ b ∷ c ∷ e ∷ [])) wrong) in
+    ∙ ap (λ (item : Taken). rate_behind version system item)
+    (out_of_range version system (big_number 4 (a ∷ b ∷ c ∷ e ∷ [])) wrong) in
     ap (λ (d : Decoding). fold with_byte d more) four ∙ stays more met (fault.TickRate 8) refl tt
 
 wrong_rate : (bytes : List ℕ) → IsWrongRate bytes → IsRead bytes (refused (fault.TickRate 8)) (fault.TickRate 8)
@@ -303,32 +325,44 @@ ends_in_header : (bytes : List ℕ) → EndsInHeader bytes → IsRead bytes good
 ends_in_header bytes is =
     let stands = in_header bytes is in
     let taken = length bytes in
-    let ends : ending (within_header taken stands.version stands.system stands.part) ≡ Some (fault.Truncated taken) = rw (lt-leb 12 taken is.short) refl in
+    let ends : ending (within_header taken stands.version stands.system stands.part) ≡ Some (fault.Truncated taken) =
+    rw (lt-leb 12 taken is.short) refl in
     (ap (λ (d : Decoding). d.recording) stands.is, ap ending stands.is ∙ ends)
 
 -- ---- each fault of the table
 
-named : (bytes : List ℕ) (first second : IntervalFileFault) → first ≡ second → IsRead bytes (refused first) first → IsRead bytes (refused second) second
-named bytes first second e is = (is.0 ∙ ap (λ (f : IntervalFileFault). nothing_with (refused f)) e, is.1 ∙ ap (λ (f : IntervalFileFault). Some f) e)
+named : (bytes : List ℕ) (first second : IntervalFileFault) → first ≡ second → IsRead bytes (refused first) first
+    → IsRead bytes (refused second) second
+named bytes first second e is = (
+  is.0 ∙ ap (λ (f : IntervalFileFault). nothing_with (refused f)) e,
+  is.1
+      ∙ ap (λ (f : IntervalFileFault). Some f) e,
+)
 
-pub header_fault_read : (bytes : List ℕ) (first : IntervalFileFault) → IsHeaderFault first bytes → IsRead bytes (shown first) first
+pub header_fault_read : (bytes : List ℕ) (first : IntervalFileFault) → IsHeaderFault first bytes
+    → IsRead bytes (shown first) first
 header_fault_read bytes (fault.Magic place) is =
     let low = is.0 in
-    named bytes (place_fault place) (fault.Magic place) (rw (lt-ltb place 4 low) refl) (wrong_byte bytes place (omega (arith, low)) is.1)
+    named bytes (place_fault place) (fault.Magic place) (rw (lt-ltb place 4 low) refl)
+    (wrong_byte bytes place (omega (arith, low)) is.1)
 header_fault_read bytes (fault.Version place) is =
     let four = is.0 in
-    named bytes (place_fault place) (fault.Version place) (rw four refl) (wrong_byte bytes place (omega (arith, four)) is.1)
+    named bytes (place_fault place) (fault.Version place) (rw four refl)
+    (wrong_byte bytes place (omega (arith, four)) is.1)
 header_fault_read bytes (fault.System place) is =
     let five = is.0 in
-    named bytes (place_fault place) (fault.System place) (rw five refl) (wrong_byte bytes place (omega (arith, five)) is.1)
+    named bytes (place_fault place) (fault.System place) (rw five refl)
+    (wrong_byte bytes place (omega (arith, five)) is.1)
 header_fault_read bytes (fault.Reserved place) is =
     let six = is.0 in
     let not_four = ne_eqb place 4 (λ e. omega (arith, six, e)) in
     let not_five = ne_eqb place 5 (λ e. omega (arith, six, e)) in
-    let row : place_fault place ≡ fault.Reserved place = rw (le-ltb place 4 (omega (arith, six)), not_four, not_five) refl in
+    let row : place_fault place ≡ fault.Reserved place =
+    rw (le-ltb place 4 (omega (arith, six)), not_four, not_five) refl in
     named bytes (place_fault place) (fault.Reserved place) row (wrong_byte bytes place is.1 is.2)
 header_fault_read bytes (fault.TickRate place) is =
-    named bytes (fault.TickRate 8) (fault.TickRate place) (ap (λ (n : ℕ). fault.TickRate n) (sym is.0)) (wrong_rate bytes is.1)
+    named bytes (fault.TickRate 8) (fault.TickRate place) (ap (λ (n : ℕ). fault.TickRate n) (sym is.0))
+    (wrong_rate bytes is.1)
 header_fault_read bytes (fault.Interval place) is = absurd is
 header_fault_read bytes (fault.Truncated place) is =
     let read = ends_in_header bytes is.1 in

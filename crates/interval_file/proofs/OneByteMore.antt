@@ -1,5 +1,7 @@
--- The decoder's answer to one byte is what the byte brings to the text: within the header, inside an interval, or behind a fault.
-use Rattle.std.proofs.Common.{◌≡◌, ◌⊎◌, inl, inr, ℕ, ◌+◌, ◌-◌, ◌<◌, ◌≤◌, List, [], ◌∷◌, ◌++◌, length, drop, fold, Some, None, Ok, Err, refl, sym, ◌∙◌}
+-- The decoder's answer to one byte is what the byte brings to the text: within the header, inside an interval, or
+-- behind a fault.
+use Rattle.std.proofs.Common.{◌≡◌, ◌⊎◌, inl, inr, ℕ, ◌+◌, ◌-◌, ◌<◌, ◌≤◌, List, [], ◌∷◌, ◌++◌, length, drop, fold, Some}
+use Rattle.std.proofs.Common.{None, Ok, Err, refl, sym, ◌∙◌}
 use Rattle.std.proofs.Common.{ap, subst, arith, Bool, true, false, append_assoc, append-nil, length-append}
 use Rattle.std.specs.Prelude.{◌↔◌, nat_le, nat_lt, ◌==◌, ◌&&◌, if◌then◌else◌}
 use Rattle.std.specs.declared.option.Option.{Option}
@@ -8,8 +10,9 @@ use Rattle.std.proofs.lemmas.Bool.{cases_lt, le-leb, le-ltb, leb-false, leb-true
 use Rattle.std.proofs.lemmas.Grind.{flat_map-append}
 use Rattle.std.proofs.lemmas.List.{take_all}
 use Rattle.std.proofs.lemmas.List.Sums.{fold-append}
+use Rattle.interval_file.specs.FileLemmas.{next_fault}
 use Rattle.byteorder.specs.Endian.{big_bytes, big_number}
-use Rattle.biphase.specs.declared.cell.TheConstants.{MAX_INTERVAL}
+use Rattle.limits.specs.declared.recording.TheConstants.{MAX_INTERVAL}
 use Rattle.tc_address.specs.declared.system.System.{System}
 use Rattle.interval_file.specs.declared.fault.IntervalFileFault.{IntervalFileFault}
 use Rattle.interval_file.specs.declared.fault.IntervalFileFault.TheVariants as fault
@@ -18,11 +21,13 @@ use Rattle.interval_file.specs.declared.decoder.Taken.TheVariants.{Nothing, Head
 use Rattle.interval_file.specs.declared.header.FileVersion.{FileVersion}
 use Rattle.interval_file.specs.declared.header.FileVersion.TheVariants.{One, Two}
 use Rattle.interval_file.specs.declared.header.IntervalHeader.{IntervalHeader}
-use Rattle.interval_file.specs.declared.header.TheConstants.{MAX_TICK_RATE}
+use Rattle.limits.specs.declared.recording.TheConstants.{MAX_TICK_RATE}
 use Rattle.tc_io.specs.Bytes.{AreBytes}
-use Rattle.interval_file.specs.Grammar.{AreIntervals, Contents, EndsInHeader, InRange, IsFaulty, IsFile, IsHeaderFault, Says, fault_of, faulty}
+use Rattle.interval_file.specs.Grammar.{AreIntervals, Contents, EndsInHeader, InRange, IsFaulty, IsFile, IsHeaderFault}
+use Rattle.interval_file.specs.Grammar.{Says, fault_of, faulty}
 use Rattle.interval_file.specs.Grammar.{file, intervals_bytes, may_stand, no_header}
-use Rattle.interval_file.specs.IntervalFile.{after, answer, end, fault_in, header_answer, interval_answer, no_progress, progress_of}
+use Rattle.interval_file.specs.IntervalFile.{after, answer, end, fault_in, header_answer, interval_answer, no_progress}
+use Rattle.interval_file.specs.IntervalFile.{progress_of}
 use Rattle.interval_file.specs.IntervalHeader.{header_bytes}
 use Rattle.interval_file.specs.NextByte.{Brings, end_of_text, header_in, intervals_in, piece_fault_in, staying}
 use Rattle.interval_file.specs.Piece.{interval_in, least_in, ticks_in, piece_width, spelling}
@@ -34,7 +39,8 @@ use Rattle.interval_file.specs.Recording.{read_of}
 use Rattle.interval_file.proofs.FrontOfBytes.{in_range_or_not, is_spelled}
 use Rattle.interval_file.proofs.FileReadBack.{file_good}
 use Rattle.interval_file.proofs.FrontInterval.{least, widths}
-use Rattle.interval_file.proofs.InTheHeader.{InHeader, fault_stays, header_fault_read, in_header, place_fault, tested, tested_as}
+use Rattle.interval_file.proofs.InTheHeader.{InHeader, fault_stays, header_fault_read, in_header, place_fault, tested}
+use Rattle.interval_file.proofs.InTheHeader.{tested_as}
 use Rattle.interval_file.proofs.InTheHeader.{within_header}
 use Rattle.interval_file.proofs.OneText.{one_answer, reads, some_is}
 use Rattle.interval_file.proofs.RestFault.{rest_fault_read, stays_open, wrong_interval}
@@ -84,21 +90,32 @@ open_at bytes header intervals is =
           ∙ ap (λ (n : ℕ). at (n + length is.rest) header.version p.system is.rest d.recording) taken,
     )
 
-file_open : (bytes : List ℕ) (header : IntervalHeader) (intervals : List ℕ) → IsFile bytes header intervals → IsOpen bytes header intervals
+file_open : (bytes : List ℕ) (header : IntervalHeader) (intervals : List ℕ) → IsFile bytes header intervals
+    → IsOpen bytes header intervals
 file_open bytes header intervals is =
     let wide = widths header.version [] in
     let two = wide.0 in
     record { front = bytes; rest = []; are = sym (append-nil bytes); whole = is; short = omega (arith, two) }
 
-cut_open : (bytes : List ℕ) (header : IntervalHeader) (intervals : List ℕ) (n : ℕ) → IsFaulty bytes header intervals (fault.Truncated n)
+cut_open : (bytes : List ℕ) (header : IntervalHeader) (intervals : List ℕ) (n : ℕ)
+    → IsFaulty bytes header intervals (fault.Truncated n)
     → IsOpen bytes header intervals
-cut_open bytes header intervals n is = record { front = is.front; rest = is.rest; are = is.are; whole = is.file; short = is.fails.2 }
+cut_open bytes header intervals n is = record {
+  front = is.front;
+  rest = is.rest;
+  are = is.are;
+  whole = is.file;
+  short =
+      is.fails.2;
+}
 
 -- ---- the fault of the decoder is that of the text
 
 -- a fault that is no end is the decoder's own
-met_by : (first : IntervalFileFault) (o : Option IntervalFileFault) (may_end : Bool) (n : ℕ) → staying first ≡ Some first
-    → fault_at_end (elim o [ Some f ↦ Err f | None ↦ if may_end then Ok tt else Err (fault.Truncated n) ]) ≡ Some first → o ≡ Some first
+met_by : (first : IntervalFileFault) (o : Option IntervalFileFault) (may_end : Bool) (n : ℕ)
+    → staying first ≡ Some first
+    → fault_at_end (elim o [ Some f ↦ Err f | None ↦ if may_end then Ok tt else Err (fault.Truncated n) ]) ≡ Some first
+    → o ≡ Some first
 met_by first (Some f) may_end n stays e = e
 met_by first None true n stays e = cc
 met_by first None false n stays e =
@@ -113,54 +130,63 @@ met bytes first stays e =
     ap (λ (q : Progress). q.fault) (sym (progress_is bytes))
     ∙ met_by first p.fault (nat_le 12 p.taken && (length p.part == 0)) p.taken stays e
 
-in_header_fault : (bytes : List ℕ) (first : IntervalFileFault) → IsHeaderFault first bytes → (progress_of bytes).fault ≡ staying first
+in_header_fault : (bytes : List ℕ) (first : IntervalFileFault) → IsHeaderFault first bytes
+    → (progress_of bytes).fault ≡ staying first
 in_header_fault bytes (fault.Magic n) is = met bytes (fault.Magic n) refl (header_fault_read bytes (fault.Magic n) is).1
-in_header_fault bytes (fault.Version n) is = met bytes (fault.Version n) refl (header_fault_read bytes (fault.Version n) is).1
-in_header_fault bytes (fault.System n) is = met bytes (fault.System n) refl (header_fault_read bytes (fault.System n) is).1
-in_header_fault bytes (fault.Reserved n) is = met bytes (fault.Reserved n) refl (header_fault_read bytes (fault.Reserved n) is).1
-in_header_fault bytes (fault.TickRate n) is = met bytes (fault.TickRate n) refl (header_fault_read bytes (fault.TickRate n) is).1
+in_header_fault bytes (fault.Version n) is = met bytes (fault.Version n) refl
+    (header_fault_read bytes (fault.Version n) is).1
+in_header_fault bytes (fault.System n) is = met bytes (fault.System n) refl
+    (header_fault_read bytes (fault.System n) is).1
+in_header_fault bytes (fault.Reserved n) is = met bytes (fault.Reserved n) refl
+    (header_fault_read bytes (fault.Reserved n) is).1
+in_header_fault bytes (fault.TickRate n) is = met bytes (fault.TickRate n) refl
+    (header_fault_read bytes (fault.TickRate n) is).1
 in_header_fault bytes (fault.Truncated n) is =
     let stands = in_header bytes is.1 in
     ap (λ (q : Progress). q.fault) (sym (progress_is bytes) ∙ ap (λ (d : Decoding). d.progress) stands.is)
 in_header_fault bytes (fault.Interval n) is = absurd is
 
-open_fault : (bytes : List ℕ) (header : IntervalHeader) (intervals : List ℕ) → IsOpen bytes header intervals → (progress_of bytes).fault ≡ None
+open_fault : (bytes : List ℕ) (header : IntervalHeader) (intervals : List ℕ) → IsOpen bytes header intervals
+    → (progress_of bytes).fault ≡ None
 open_fault bytes header intervals is =
     let stands = open_at bytes header intervals is in
     ap (λ (q : Progress). q.fault) (sym (progress_is bytes) ∙ ap (λ (d : Decoding). d.progress) stands.3)
 
-rest_fault : (bytes : List ℕ) (header : IntervalHeader) (intervals : List ℕ) (first : IntervalFileFault) → IsFaulty bytes header intervals first
+rest_fault : (bytes : List ℕ) (header : IntervalHeader) (intervals : List ℕ) (first : IntervalFileFault)
+    → IsFaulty bytes header intervals first
     → (progress_of bytes).fault ≡ staying first
 rest_fault bytes header intervals (fault.Interval n) is =
     met bytes (fault.Interval n) refl (rest_fault_read bytes header intervals (fault.Interval n) is).1
-rest_fault bytes header intervals (fault.Truncated n) is = open_fault bytes header intervals (cut_open bytes header intervals n is)
+rest_fault bytes header intervals (fault.Truncated n) is =
+    open_fault bytes header intervals (cut_open bytes header intervals n is)
 rest_fault bytes header intervals (fault.Magic n) is = absurd is.fails
 rest_fault bytes header intervals (fault.Version n) is = absurd is.fails
 rest_fault bytes header intervals (fault.System n) is = absurd is.fails
 rest_fault bytes header intervals (fault.Reserved n) is = absurd is.fails
 rest_fault bytes header intervals (fault.TickRate n) is = absurd is.fails
 
-fault_is : (bytes : List ℕ) (contents : Contents) → Says contents bytes → (progress_of bytes).fault ≡ piece_fault_in contents
+fault_is : (bytes : List ℕ) (contents : Contents) → Says contents bytes
+    → (progress_of bytes).fault ≡ piece_fault_in contents
 fault_is bytes (file header intervals) says = open_fault bytes header intervals (file_open bytes header intervals says)
 fault_is bytes (no_header first) says = in_header_fault bytes first says
 fault_is bytes (faulty header intervals first) says = rest_fault bytes header intervals first says
 
--- so is that of its answer
-next_fault : (p : Progress) (byte : ℕ) → p.fault ≡ None → (after p byte).fault ≡ fault_in (answer p byte)
-next_fault p byte none = rw none refl
-
-answer_fault : (bytes : List ℕ) (byte : ℕ) (now : Contents) → Says now (bytes ++ byte ∷ []) → (progress_of bytes).fault ≡ None
+answer_fault : (bytes : List ℕ) (byte : ℕ) (now : Contents) → Says now (bytes ++ byte ∷ [])
+    → (progress_of bytes).fault ≡ None
     → piece_fault_in now ≡ fault_in (answer (progress_of bytes) byte)
 answer_fault bytes byte now says none =
     let p = progress_of bytes in
-    sym (fault_is (bytes ++ byte ∷ []) now says) ∙ ap (λ (q : Progress). q.fault) (one_more bytes byte) ∙ next_fault p byte none
+    sym (fault_is (bytes ++ byte ∷ []) now says) ∙ ap (λ (q : Progress). q.fault) (one_more bytes byte)
+    ∙ next_fault p byte none
 
 -- ---- behind a fault
 
-fault_answered : (p : Progress) (byte : ℕ) (first : IntervalFileFault) → p.fault ≡ Some first → answer p byte ≡ Fault first
+fault_answered : (p : Progress) (byte : ℕ) (first : IntervalFileFault) → p.fault ≡ Some first
+    → answer p byte ≡ Fault first
 fault_answered p byte first is = rw is refl
 
-behind_fault : (bytes : List ℕ) (byte : ℕ) (before now : Contents) (first : IntervalFileFault) → Says now (bytes ++ byte ∷ [])
+behind_fault : (bytes : List ℕ) (byte : ℕ) (before now : Contents) (first : IntervalFileFault)
+    → Says now (bytes ++ byte ∷ [])
     → (progress_of bytes).fault ≡ Some first → Brings (answer (progress_of bytes) byte) before now
 behind_fault bytes byte before now first says is =
     let p = progress_of bytes in
@@ -181,7 +207,8 @@ bytes_behind : (front rest : List ℕ) → AreBytes (front ++ rest) → AreBytes
 bytes_behind [] rest are = are
 bytes_behind (x ∷ front) rest are = bytes_behind front rest are.1
 
-all_in_range : (intervals : List ℕ) (x : ℕ) → AreIntervals intervals → 1 ≤ x → x ≤ MAX_INTERVAL → AreIntervals (intervals ++ x ∷ [])
+all_in_range : (intervals : List ℕ) (x : ℕ) → AreIntervals intervals → 1 ≤ x → x ≤ MAX_INTERVAL
+    → AreIntervals (intervals ++ x ∷ [])
 all_in_range [] x are some most = (some, most, tt)
 all_in_range (y ∷ more) x are some most = (are.0, are.1, all_in_range more x are.2 some most)
 
@@ -191,7 +218,8 @@ of_two false n few whole = omega (arith, few, whole)
 
 -- with a byte more, a part that is whole is exactly one interval
 exactly : (version : FileVersion) (part : List ℕ) (byte : ℕ) → length part < piece_width version part
-    → piece_width version (part ++ byte ∷ []) ≤ length (part ++ byte ∷ []) → length (part ++ byte ∷ []) ≡ piece_width version (part ++ byte ∷ [])
+    → piece_width version (part ++ byte ∷ []) ≤ length (part ++ byte ∷ [])
+    → length (part ++ byte ∷ []) ≡ piece_width version (part ++ byte ∷ [])
 exactly One part byte short whole = let long = length-append part (byte ∷ []) in omega (arith, short, whole, long)
 exactly Two [] byte short whole = of_two (big_number 2 (byte ∷ []) == 0) 1 (omega arith) whole
 exactly Two (a ∷ []) byte short whole = of_two (big_number 2 (a ∷ byte ∷ []) == 0) 2 (omega arith) whole
@@ -203,12 +231,18 @@ exactly Two (a ∷ b ∷ part) byte short whole =
 abbrev IsOf : IntervalHeader → List ℕ → Contents → Type 0
 IsOf header intervals contents = (header_in contents ≡ Some header) × (intervals_in contents ≡ intervals)
 
-pub in_range_is : (version : FileVersion) (place : ℕ) (rest : List ℕ) → InRange version rest → interval_in version place rest ≡ Ok (ticks_in version rest)
+pub in_range_is : (version : FileVersion) (place : ℕ) (rest : List ℕ) → InRange version rest
+    → interval_in version place rest ≡ Ok (ticks_in version rest)
 in_range_is version place rest range =
-    rw (le-leb (least_in version rest) (ticks_in version rest) range.0, le-leb (ticks_in version rest) MAX_INTERVAL range.1) refl
+    rw (
+      le-leb (least_in version rest) (ticks_in version rest) range.0,
+      le-leb
+          (ticks_in version rest) MAX_INTERVAL range.1,
+    ) refl
 
 -- a file with one interval more
-pub file_more : (front rest : List ℕ) (header : IntervalHeader) (intervals : List ℕ) (x : ℕ) → IsFile front header intervals
+pub file_more : (front rest : List ℕ) (header : IntervalHeader) (intervals : List ℕ) (x : ℕ)
+    → IsFile front header intervals
     → rest ≡ spelling header.version x → 1 ≤ x → x ≤ MAX_INTERVAL → IsFile (front ++ rest) header (intervals ++ x ∷ [])
 file_more front rest header intervals x is spelled some most =
     let version = header.version in
@@ -216,12 +250,14 @@ file_more front rest header intervals x is spelled some most =
     record {
       tick_rate = is.tick_rate;
       range = all_in_range intervals x is.range some most;
-      are = ap (λ (l : List ℕ). l ++ rest) is.are ∙ ap (λ (l : List ℕ). (header_bytes header ++ before) ++ l) (spelled ∙ sym (append-nil (spelling version x)))
+      are = ap (λ (l : List ℕ). l ++ rest) is.are ∙ ap (λ (l : List ℕ). (header_bytes header ++ before) ++ l) (spelled
+          ∙ sym (append-nil (spelling version x)))
           ∙ append_assoc (header_bytes header) before (spelling version x ++ [])
           ∙ ap (λ (l : List ℕ). header_bytes header ++ l) (sym (flat_map-append (spelling version) intervals (x ∷ [])));
     }
 
-open_brings : (bytes : List ℕ) (byte : ℕ) (header : IntervalHeader) (intervals : List ℕ) (before now : Contents) → AreBytes (bytes ++ byte ∷ [])
+open_brings : (bytes : List ℕ) (byte : ℕ) (header : IntervalHeader) (intervals : List ℕ) (before now : Contents)
+    → AreBytes (bytes ++ byte ∷ [])
     → IsOpen bytes header intervals → IsOf header intervals before → Says now (bytes ++ byte ∷ [])
     → Brings (answer (progress_of bytes) byte) before now
 open_brings bytes byte header intervals before now are is of says =
@@ -239,7 +275,8 @@ open_brings bytes byte header intervals before now are is of says =
     place : ℕ
     place = length is.front
 
-    stands : (system : Option System) × (r : Recording) × (12 ≤ place) × (decoding_of bytes ≡ at (place + length is.rest) version system is.rest r)
+    stands : (system : Option System) × (r : Recording) × (12 ≤ place)
+        × (decoding_of bytes ≡ at (place + length is.rest) version system is.rest r)
     stands = open_at bytes header intervals is
 
     progress : progress_of bytes ≡ (at (place + length is.rest) version stands.0 is.rest stands.1).progress
@@ -251,24 +288,36 @@ open_brings bytes byte header intervals before now are is of says =
     long : length rest ≡ length is.rest + 1
     long = length-append is.rest (byte ∷ [])
 
-    brought : (taken : Taken) (contents : Contents) → answer (at (place + length is.rest) version stands.0 is.rest stands.1).progress byte ≡ taken
-        → Says contents (bytes ++ byte ∷ []) → Brings taken before contents → Brings (answer (progress_of bytes) byte) before now
+    brought : (taken : Taken) (contents : Contents) → answer
+        (at (place + length is.rest) version stands.0 is.rest stands.1).progress byte ≡ taken
+        → Says contents (bytes ++ byte ∷ []) → Brings taken before contents
+        → Brings (answer (progress_of bytes) byte) before now
     brought taken contents answered too brings =
         subst (λ (t : Taken). Brings t before now) (sym (ap (λ (p : Progress). answer p byte) progress ∙ answered))
         (subst (λ (c : Contents). Brings taken before c) (one_answer (bytes ++ byte ∷ []) contents now too says) brings)
 
-    whole_answer : (result : Result ℕ IntervalFileFault) → piece_width version rest ≤ length rest → interval_in version place rest ≡ result
+    whole_answer : (result : Result ℕ IntervalFileFault) → piece_width version rest ≤ length rest
+        → interval_in version place rest ≡ result
         → answer (at (place + length is.rest) version stands.0 is.rest stands.1).progress byte ≡ interval_answer result
     whole_answer result whole e =
-        completes place (place + length is.rest) version stands.0 is.rest byte stands.1 late (le-leb (piece_width version rest) (length rest) whole)
+        completes place (place + length is.rest) version stands.0 is.rest byte stands.1 late
+        (le-leb (piece_width version rest) (length rest) whole)
         (omega (arith, long)) ∙ ap interval_answer e
 
     by_width : (length rest < piece_width version rest) ⊎ (piece_width version rest ≤ length rest)
         → InRange version rest ⊎ (¬ InRange version rest) → Brings (answer (progress_of bytes) byte) before now
     by_width (inl short) range =
         brought Nothing (faulty header intervals (fault.Truncated (place + length rest)))
-        (leaves_open (place + length is.rest) version stands.0 is.rest byte stands.1 late (lt-leb (piece_width version rest) (length rest) short))
-        (record { front = is.front; rest = rest; are = all; file = is.whole; fails = (refl, omega (arith, long), short) })
+        (leaves_open (place + length is.rest) version stands.0 is.rest byte stands.1 late
+        (lt-leb (piece_width version rest) (length rest) short))
+        (record {
+          front = is.front;
+          rest = rest;
+          are = all;
+          file = is.whole;
+          fails =
+              (refl, omega (arith, long), short);
+        })
         (sym of.0, sym of.1, refl)
     by_width (inr whole) (inr wrong) =
         brought (Fault (fault.Interval place)) (faulty header intervals (fault.Interval place))
@@ -281,8 +330,10 @@ open_brings bytes byte header intervals before now are is of says =
         let width = exactly version is.rest byte is.short whole in
         let rest_are = bytes_behind is.front rest (subst AreBytes all are) in
         let spelled : rest ≡ spelling version x =
-        sym (take_all (piece_width version rest) rest (omega (arith, width))) ∙ is_spelled version rest whole rest_are range in
-        brought (Interval x) (file header (intervals ++ x ∷ [])) (whole_answer (Ok x) whole (in_range_is version place rest range))
+        sym (take_all (piece_width version rest) rest (omega (arith, width)))
+        ∙ is_spelled version rest whole rest_are range in
+        brought (Interval x) (file header (intervals ++ x ∷ []))
+        (whole_answer (Ok x) whole (in_range_is version place rest range))
         (subst (λ (l : List ℕ). IsFile l header (intervals ++ x ∷ [])) (sym all)
         (file_more is.front rest header intervals x is.whole spelled (omega (arith, some, low)) range.1))
         (sym of.0, ap (λ (l : List ℕ). l ++ x ∷ []) (sym of.1), refl)
@@ -292,10 +343,12 @@ open_brings bytes byte header intervals before now are is of says =
 -- what a byte within the header may complete
 abbrev IsHeadAnswer : ℕ → Taken → Type 0
 IsHeadAnswer place taken = ((taken ≡ Nothing) × (place + 1 < 12))
-    ⊎ (((header : IntervalHeader) × (taken ≡ Header header) × (place + 1 ≡ 12)) ⊎ ((first : IntervalFileFault) × (taken ≡ Fault first)))
+    ⊎ (((header : IntervalHeader) × (taken ≡ Header header) × (place + 1 ≡ 12)) ⊎
+    ((first : IntervalFileFault) × (taken ≡ Fault first)))
 
 -- a tick rate completes the header, or is its fault
-by_rate : (version : FileVersion) (system : Option System) (rate place : ℕ) → place + 1 ≡ 12 → IsHeadAnswer place (header_answer version system rate)
+by_rate : (version : FileVersion) (system : Option System) (rate place : ℕ) → place + 1 ≡ 12
+    → IsHeadAnswer place (header_answer version system rate)
 by_rate version None rate place last = inr (inr (fault.TickRate 8, refl))
 by_rate version (Some system) rate place last = by_range (nat_le 1 rate && nat_le rate MAX_TICK_RATE)
   where
@@ -306,7 +359,8 @@ by_rate version (Some system) rate place last = by_range (nat_le 1 rate && nat_l
     by_range true = inr (inl (header, refl, last))
     by_range false = inr (inr (fault.TickRate 8, refl))
 
-by_whole : (version : FileVersion) (system : Option System) (piece : List ℕ) (place : ℕ) (whole : Bool) → length piece ≡ place - 8 + 1 → 8 ≤ place
+by_whole : (version : FileVersion) (system : Option System) (piece : List ℕ) (place : ℕ) (whole : Bool)
+    → length piece ≡ place - 8 + 1 → 8 ≤ place
     → place < 12 → nat_le 4 (length piece) ≡ whole
     → IsHeadAnswer place (if whole then header_answer version system (big_number 4 piece) else Nothing)
 by_whole version system piece place true long behind low e =
@@ -320,16 +374,19 @@ by_test : (place : ℕ) (may : Bool) → place < 8 → IsHeadAnswer place (teste
 by_test place true low = inl (refl, omega (arith, low))
 by_test place false low = inr (inr (place_fault place, refl))
 
-head_answered : (version : FileVersion) (system : Option System) (part : List ℕ) (place byte : ℕ) → length part ≡ place - 8 → place < 12
+head_answered : (version : FileVersion) (system : Option System) (part : List ℕ) (place byte : ℕ)
+    → length part ≡ place - 8 → place < 12
     → IsHeadAnswer place (answer (within_header place version system part).progress byte)
 head_answered version system part place byte behind low = by_place (cases_lt place 8)
   where
     piece : List ℕ
     piece = part ++ byte ∷ []
 
-    by_place : (place < 8) ⊎ (8 ≤ place) → IsHeadAnswer place (answer (within_header place version system part).progress byte)
+    by_place : (place < 8) ⊎ (8 ≤ place) → IsHeadAnswer place
+        (answer (within_header place version system part).progress byte)
     by_place (inl first) =
-        let same : answer (within_header place version system part).progress byte ≡ tested_as (may_stand place byte) place =
+        let same : answer (within_header place version system part).progress byte
+        ≡ tested_as (may_stand place byte) place =
         rw (lt-ltb place 8 first) (tested place byte) in
         subst (λ (t : Taken). IsHeadAnswer place t) (sym same) (by_test place (may_stand place byte) first)
     by_place (inr more) =
@@ -343,7 +400,8 @@ head_answered version system part place byte behind low = by_place (cases_lt pla
 -- a file has a header
 file_long : (bytes : List ℕ) (header : IntervalHeader) (intervals : List ℕ) → IsFile bytes header intervals
     → length bytes ≡ 12 + length (intervals_bytes header.version intervals)
-file_long bytes header intervals is = ap length is.are ∙ length-append (header_bytes header) (intervals_bytes header.version intervals)
+file_long bytes header intervals is = ap length is.are ∙ length-append (header_bytes header)
+    (intervals_bytes header.version intervals)
 
 spelling_long : (version : FileVersion) (x : ℕ) → 1 ≤ length (spelling version x)
 spelling_long One x = omega arith
@@ -354,8 +412,10 @@ spelling_long Two x = by_size (nat_lt x 65536)
     by_size false = omega arith
 
 -- fewer bytes have none
-headless : (bytes : List ℕ) (now : Contents) → Says now bytes → length bytes < 12 → (header_in now ≡ None) × (intervals_in now ≡ [])
-headless bytes (file header intervals) says short = let long = file_long bytes header intervals says in absurd (omega (arith, long, short))
+headless : (bytes : List ℕ) (now : Contents) → Says now bytes → length bytes < 12
+    → (header_in now ≡ None) × (intervals_in now ≡ [])
+headless bytes (file header intervals) says short = let long = file_long bytes header intervals says in
+    absurd (omega (arith, long, short))
 headless bytes (no_header first) says short = (refl, refl)
 headless bytes (faulty header intervals first) says short =
     let long = file_long says.front header intervals says.file in
@@ -363,7 +423,8 @@ headless bytes (faulty header intervals first) says short =
     absurd (omega (arith, long, all, short))
 
 -- and where these are all its bytes, it has no intervals
-header_alone : (bytes : List ℕ) (now : Contents) → Says now bytes → length bytes ≡ 12 → piece_fault_in now ≡ None → intervals_in now ≡ []
+header_alone : (bytes : List ℕ) (now : Contents) → Says now bytes → length bytes ≡ 12 → piece_fault_in now ≡ None
+    → intervals_in now ≡ []
 header_alone bytes (file header []) says twelve none = refl
 header_alone bytes (file header (x ∷ more)) says twelve none =
     let long = file_long bytes header (x ∷ more) says in
@@ -388,7 +449,8 @@ read_header (file header intervals) = refl
 read_header (no_header first) = refl
 read_header (faulty header intervals first) = refl
 
-header_brings : (bytes : List ℕ) (byte : ℕ) (before now : Contents) → EndsInHeader bytes → header_in before ≡ None → intervals_in before ≡ []
+header_brings : (bytes : List ℕ) (byte : ℕ) (before now : Contents) → EndsInHeader bytes → header_in before ≡ None
+    → intervals_in before ≡ []
     → Says now (bytes ++ byte ∷ []) → Brings (answer (progress_of bytes) byte) before now
 header_brings bytes byte before now ends none_before empty says =
     by_answer (head_answered stands.version stands.system stands.part (length bytes) byte stands.behind_head ends.short)
@@ -407,20 +469,24 @@ header_brings bytes byte before now ends none_before empty says =
 
     fault_now : piece_fault_in now ≡ fault_in (answer d.progress byte)
     fault_now =
-        answer_fault bytes byte now says (ap (λ (p : Progress). p.fault) progress) ∙ ap (λ (p : Progress). fault_in (answer p byte)) progress
+        answer_fault bytes byte now says (ap (λ (p : Progress). p.fault) progress)
+        ∙ ap (λ (p : Progress). fault_in (answer p byte)) progress
 
     header_now : header_in now ≡ (with_taken d.recording (answer d.progress byte)).header
     header_now =
         let read = reads (bytes ++ byte ∷ []) now says in
         let all : decoding_of (bytes ++ byte ∷ []) ≡ with_byte d byte =
         fold-append with_byte no_decoding bytes (byte ∷ []) ∙ ap (λ (e : Decoding). with_byte e byte) stands.is in
-        sym (read_header now) ∙ ap (λ (r : Recording). r.header) (sym read.0) ∙ ap (λ (e : Decoding). e.recording.header) all
+        sym (read_header now) ∙ ap (λ (r : Recording). r.header) (sym read.0)
+        ∙ ap (λ (e : Decoding). e.recording.header) all
 
-    brought : (taken : Taken) → answer d.progress byte ≡ taken → Brings taken before now → Brings (answer (progress_of bytes) byte) before now
+    brought : (taken : Taken) → answer d.progress byte ≡ taken → Brings taken before now
+        → Brings (answer (progress_of bytes) byte) before now
     brought taken e brings =
         subst (λ (t : Taken). Brings t before now) (sym (ap (λ (p : Progress). answer p byte) progress ∙ e)) brings
 
-    by_answer : IsHeadAnswer (length bytes) (answer d.progress byte) → Brings (answer (progress_of bytes) byte) before now
+    by_answer : IsHeadAnswer (length bytes) (answer d.progress byte)
+        → Brings (answer (progress_of bytes) byte) before now
     by_answer (inl nothing) =
         let short = nothing.1 in
         let no_one = headless (bytes ++ byte ∷ []) now says (omega (arith, long, short)) in
@@ -429,33 +495,42 @@ header_brings bytes byte before now ends none_before empty says =
         let header = whole.0 in
         let last = whole.2 in
         let no_fault : piece_fault_in now ≡ None = fault_now ∙ ap fault_in whole.1 in
-        let has : header_in now ≡ Some header = header_now ∙ ap (λ (t : Taken). (with_taken d.recording t).header) whole.1 in
+        let has : header_in now ≡ Some header = header_now
+        ∙ ap (λ (t : Taken). (with_taken d.recording t).header) whole.1 in
         brought (Header header) whole.1
         (none_before, has, header_alone (bytes ++ byte ∷ []) now says (omega (arith, long, last)) no_fault, no_fault)
     by_answer (inr (inr fails)) = brought (Fault fails.0) fails.1 (fault_now ∙ ap fault_in fails.1)
 
 -- ---- any text
 
-pub brings : (bytes : List ℕ) (byte : ℕ) (before now : Contents) → AreBytes bytes → byte < 256 → Says before bytes → Says now (bytes ++ byte ∷ [])
+pub brings : (bytes : List ℕ) (byte : ℕ) (before now : Contents) → AreBytes bytes → byte < 256 → Says before bytes
+    → Says now (bytes ++ byte ∷ [])
     → Brings (answer (progress_of bytes) byte) before now
 brings bytes byte (file header intervals) now are small says with_it =
-    open_brings bytes byte header intervals (file header intervals) now (bytes_too bytes byte are small) (file_open bytes header intervals says)
+    open_brings bytes byte header intervals (file header intervals) now (bytes_too bytes byte are small)
+    (file_open bytes header intervals says)
     (refl, refl) with_it
 brings bytes byte (no_header (fault.Truncated n)) now are small says with_it =
     header_brings bytes byte (no_header (fault.Truncated n)) now says.1 refl refl with_it
 brings bytes byte (no_header (fault.Magic n)) now are small says with_it =
-    behind_fault bytes byte (no_header (fault.Magic n)) now (fault.Magic n) with_it (in_header_fault bytes (fault.Magic n) says)
+    behind_fault bytes byte (no_header (fault.Magic n)) now (fault.Magic n) with_it
+    (in_header_fault bytes (fault.Magic n) says)
 brings bytes byte (no_header (fault.Version n)) now are small says with_it =
-    behind_fault bytes byte (no_header (fault.Version n)) now (fault.Version n) with_it (in_header_fault bytes (fault.Version n) says)
+    behind_fault bytes byte (no_header (fault.Version n)) now (fault.Version n) with_it
+    (in_header_fault bytes (fault.Version n) says)
 brings bytes byte (no_header (fault.System n)) now are small says with_it =
-    behind_fault bytes byte (no_header (fault.System n)) now (fault.System n) with_it (in_header_fault bytes (fault.System n) says)
+    behind_fault bytes byte (no_header (fault.System n)) now (fault.System n) with_it
+    (in_header_fault bytes (fault.System n) says)
 brings bytes byte (no_header (fault.Reserved n)) now are small says with_it =
-    behind_fault bytes byte (no_header (fault.Reserved n)) now (fault.Reserved n) with_it (in_header_fault bytes (fault.Reserved n) says)
+    behind_fault bytes byte (no_header (fault.Reserved n)) now (fault.Reserved n) with_it
+    (in_header_fault bytes (fault.Reserved n) says)
 brings bytes byte (no_header (fault.TickRate n)) now are small says with_it =
-    behind_fault bytes byte (no_header (fault.TickRate n)) now (fault.TickRate n) with_it (in_header_fault bytes (fault.TickRate n) says)
+    behind_fault bytes byte (no_header (fault.TickRate n)) now (fault.TickRate n) with_it
+    (in_header_fault bytes (fault.TickRate n) says)
 brings bytes byte (no_header (fault.Interval n)) now are small says with_it = absurd says
 brings bytes byte (faulty header intervals (fault.Truncated n)) now are small says with_it =
-    open_brings bytes byte header intervals (faulty header intervals (fault.Truncated n)) now (bytes_too bytes byte are small)
+    open_brings bytes byte header intervals (faulty header intervals (fault.Truncated n)) now
+    (bytes_too bytes byte are small)
     (cut_open bytes header intervals n says) (refl, refl) with_it
 brings bytes byte (faulty header intervals (fault.Interval n)) now are small says with_it =
     behind_fault bytes byte (faulty header intervals (fault.Interval n)) now (fault.Interval n) with_it
@@ -468,7 +543,8 @@ brings bytes byte (faulty header intervals (fault.TickRate n)) now are small say
 
 -- ---- the end of the input
 
-by_end : (result : Result Unit IntervalFileFault) (contents : Contents) → fault_at_end result ≡ fault_of contents → result ≡ end_of_text contents
+by_end : (result : Result Unit IntervalFileFault) (contents : Contents) → fault_at_end result ≡ fault_of contents
+    → result ≡ end_of_text contents
 by_end (Ok u) (file header intervals) e = refl
 by_end (Ok u) (no_header first) e = cc
 by_end (Ok u) (faulty header intervals first) e = cc
@@ -495,26 +571,36 @@ last_same (z ∷ more) x y e = last_same more x y (ap (drop 1) e)
 
 pub one_thing : (a b : Taken) (before now : Contents) → Brings a before now → Brings b before now → a ≡ b
 one_thing Nothing Nothing before now first second = refl
-one_thing Nothing (Header h) before now first second = absurd (none_some h (header_in before) (header_in now) (sym first.0) second.1 second.0)
-one_thing Nothing (Interval x) before now first second = absurd (longer (intervals_in before) x (sym first.1 ∙ second.1))
+one_thing Nothing (Header h) before now first second = absurd
+    (none_some h (header_in before) (header_in now) (sym first.0) second.1 second.0)
+one_thing Nothing (Interval x) before now first second =
+    absurd (longer (intervals_in before) x (sym first.1 ∙ second.1))
 one_thing Nothing (Fault f) before now first second = cc
-one_thing (Header h) Nothing before now first second = absurd (none_some h (header_in before) (header_in now) (sym second.0) first.1 first.0)
-one_thing (Header h) (Header k) before now first second = ap (λ (i : IntervalHeader). Header i) (some_is h k (sym first.1 ∙ second.1))
-one_thing (Header h) (Interval x) before now first second = absurd (none_some h (header_in before) (header_in now) (sym second.0) first.1 first.0)
+one_thing (Header h) Nothing before now first second = absurd
+    (none_some h (header_in before) (header_in now) (sym second.0) first.1 first.0)
+one_thing (Header h) (Header k) before now first second =
+    ap (λ (i : IntervalHeader). Header i) (some_is h k (sym first.1 ∙ second.1))
+one_thing (Header h) (Interval x) before now first second =
+    absurd (none_some h (header_in before) (header_in now) (sym second.0) first.1 first.0)
 one_thing (Header h) (Fault f) before now first second = cc
-one_thing (Interval x) Nothing before now first second = absurd (longer (intervals_in before) x (sym second.1 ∙ first.1))
-one_thing (Interval x) (Header h) before now first second = absurd (none_some h (header_in before) (header_in now) (sym first.0) second.1 second.0)
+one_thing (Interval x) Nothing before now first second =
+    absurd (longer (intervals_in before) x (sym second.1 ∙ first.1))
+one_thing (Interval x) (Header h) before now first second =
+    absurd (none_some h (header_in before) (header_in now) (sym first.0) second.1 second.0)
 one_thing (Interval x) (Interval y) before now first second =
     ap (λ (n : ℕ). Interval n) (last_same (intervals_in before) x y (sym first.1 ∙ second.1))
 one_thing (Interval x) (Fault f) before now first second = cc
 one_thing (Fault f) Nothing before now first second = cc
 one_thing (Fault f) (Header h) before now first second = cc
 one_thing (Fault f) (Interval x) before now first second = cc
-one_thing (Fault f) (Fault g) before now first second = ap (λ (k : IntervalFileFault). Fault k) (some_is f g (sym first ∙ second))
+one_thing (Fault f) (Fault g) before now first second =
+    ap (λ (k : IntervalFileFault). Fault k) (some_is f g (sym first ∙ second))
 
 -- so an answer that is the decoder's is what the byte brings, and no other is
-pub exactly_brings : (bytes : List ℕ) (byte : ℕ) (before now : Contents) (p : Progress) (result taken : Taken) → result ≡ answer p byte → p ≡ progress_of bytes
-    → AreBytes bytes → byte < 256 → Says before bytes → Says now (bytes ++ byte ∷ []) → (result ≡ taken) ↔ Brings taken before now
+pub exactly_brings : (bytes : List ℕ) (byte : ℕ) (before now : Contents) (p : Progress) (result taken : Taken)
+    → result ≡ answer p byte → p ≡ progress_of bytes
+    → AreBytes bytes → byte < 256 → Says before bytes → Says now (bytes ++ byte ∷ [])
+    → (result ≡ taken) ↔ Brings taken before now
 exactly_brings bytes byte before now p result taken is stands are small says with_it =
     let same = is ∙ ap (λ (q : Progress). answer q byte) stands in
     let brought = brings bytes byte before now are small says with_it in (
@@ -522,6 +608,7 @@ exactly_brings bytes byte before now p result taken is stands are small says wit
       λ so. same ∙ one_thing (answer (progress_of bytes) byte) taken before now brought so,
     )
 
-pub exactly_ends : (bytes : List ℕ) (contents : Contents) (p : Progress) (result : Result Unit IntervalFileFault) → result ≡ end p → p ≡ progress_of bytes
+pub exactly_ends : (bytes : List ℕ) (contents : Contents) (p : Progress) (result : Result Unit IntervalFileFault)
+    → result ≡ end p → p ≡ progress_of bytes
     → Says contents bytes → result ≡ end_of_text contents
 exactly_ends bytes contents p result is stands says = is ∙ ap end stands ∙ ends bytes contents says

@@ -1,6 +1,8 @@
--- A list of bytes says one thing: the decoder reads one header and one fault from it, and where two lists of intervals are spelled in it up to a place that no
--- whole interval in range begins at, they are the same, interval after interval.
-use Rattle.std.proofs.Common.{◌≡◌, ℕ, suc, ◌<◌, ◌≤◌, List, [], ◌∷◌, ◌++◌, length, Some, refl, sym, ◌∙◌, ap, ap₂, subst, arith, Bool, true, false}
+-- A list of bytes says one thing: the decoder reads one header and one fault from it, and where two lists of intervals
+-- are spelled in it up to a place that no whole interval in range begins at, they are the same, interval after
+-- interval.
+use Rattle.std.proofs.Common.{◌≡◌, ℕ, suc, ◌<◌, ◌≤◌, List, [], ◌∷◌, ◌++◌, length, Some, refl, sym, ◌∙◌, ap, ap₂, subst}
+use Rattle.std.proofs.Common.{arith, Bool, true, false}
 use Rattle.std.proofs.Common.{append_assoc, append-nil}
 use Rattle.std.specs.Prelude.{nat_lt, if◌then◌else◌}
 use Rattle.std.specs.declared.option.Option.{Option}
@@ -8,13 +10,14 @@ use Rattle.std.proofs.lemmas.Bool.{leb-false, leb-true, ne_eqb}
 use Rattle.std.proofs.lemmas.List.{append_cancel_left}
 use Rattle.byteorder.specs.Endian.{big_bytes}
 use Rattle.byteorder.specs.Numbers.{big_number-reads_back}
-use Rattle.biphase.specs.declared.cell.TheConstants.{MAX_INTERVAL}
+use Rattle.limits.specs.declared.recording.TheConstants.{MAX_INTERVAL}
 use Rattle.interval_file.specs.declared.fault.IntervalFileFault.{IntervalFileFault}
 use Rattle.interval_file.specs.declared.fault.IntervalFileFault.TheVariants as fault
 use Rattle.interval_file.specs.declared.header.FileVersion.{FileVersion}
 use Rattle.interval_file.specs.declared.header.FileVersion.TheVariants.{One, Two}
 use Rattle.interval_file.specs.declared.header.IntervalHeader.{IntervalHeader}
-use Rattle.interval_file.specs.Grammar.{AreIntervals, Contents, InRange, IsFaulty, IsFile, IsRestFault, Says, fault_of, faulty, file, intervals_bytes, no_header}
+use Rattle.interval_file.specs.Grammar.{AreIntervals, Contents, InRange, IsFaulty, IsFile, IsRestFault, Says, fault_of}
+use Rattle.interval_file.specs.Grammar.{faulty, file, intervals_bytes, no_header}
 use Rattle.interval_file.specs.IntervalHeader.{header_bytes}
 use Rattle.interval_file.specs.Piece.{ticks_in, piece_width, spelling}
 use Rattle.interval_file.specs.Decoding.{decoded_end, decoded}
@@ -37,7 +40,8 @@ reads bytes (faulty header intervals first) says = rest_fault_read bytes header 
 
 -- a whole interval in range stands first, and this is it
 abbrev BeginsWith : FileVersion → List ℕ → ℕ → Type 0
-BeginsWith version bytes x = (piece_width version bytes ≤ length bytes) × InRange version bytes × (ticks_in version bytes ≡ x)
+BeginsWith version bytes x = (piece_width version bytes ≤ length bytes) × InRange version bytes
+    × (ticks_in version bytes ≡ x)
 
 abbrev IsStuck : FileVersion → List ℕ → Type 0
 IsStuck version bytes = (piece_width version bytes ≤ length bytes) → ¬ InRange version bytes
@@ -54,15 +58,18 @@ begins_in_two x more false e least most =
     let same = big_number-reads_back 4 x more (omega (arith, most)) in
     (omega arith, rw same (omega (arith, high), most), same)
 
-begins_with : (version : FileVersion) (x : ℕ) (more : List ℕ) → 1 ≤ x → x ≤ MAX_INTERVAL → BeginsWith version (spelling version x ++ more) x
+begins_with : (version : FileVersion) (x : ℕ) (more : List ℕ) → 1 ≤ x → x ≤ MAX_INTERVAL
+    → BeginsWith version (spelling version x ++ more) x
 begins_with One x more least most =
     let same = big_number-reads_back 4 x more (omega (arith, most)) in
     (omega arith, rw same (least, most), same)
 begins_with Two x more least most = begins_in_two x more (nat_lt x 65536) refl least most
 
-is_stuck : (version : FileVersion) (place : ℕ) (rest : List ℕ) (first : IntervalFileFault) → IsRestFault version place rest first → IsStuck version rest
+is_stuck : (version : FileVersion) (place : ℕ) (rest : List ℕ) (first : IntervalFileFault)
+    → IsRestFault version place rest first → IsStuck version rest
 is_stuck version place rest (fault.Interval n) fails = λ whole. fails.2
-is_stuck version place rest (fault.Truncated n) fails = λ whole. let short = fails.2 in absurd (omega (arith, whole, short))
+is_stuck version place rest (fault.Truncated n) fails = λ whole. let short = fails.2 in
+    absurd (omega (arith, whole, short))
 is_stuck version place rest (fault.Magic n) fails = absurd fails
 is_stuck version place rest (fault.Version n) fails = absurd fails
 is_stuck version place rest (fault.System n) fails = absurd fails
@@ -73,13 +80,15 @@ end_is_stuck : (version : FileVersion) → IsStuck version []
 end_is_stuck version = λ whole. let wide = widths version [] in let two = wide.0 in absurd (omega (arith, whole, two))
 
 -- where no interval begins, none is spelled
-none_begins : (version : FileVersion) (bytes : List ℕ) (x : ℕ) (more : List ℕ) → IsStuck version bytes → 1 ≤ x → x ≤ MAX_INTERVAL
+none_begins : (version : FileVersion) (bytes : List ℕ) (x : ℕ) (more : List ℕ) → IsStuck version bytes → 1 ≤ x
+    → x ≤ MAX_INTERVAL
     → bytes ≡ spelling version x ++ more → ⊥
 none_begins version bytes x more stuck least most e =
     let begins = subst (λ (l : List ℕ). BeginsWith version l x) (sym e) (begins_with version x more least most) in
     stuck begins.0 begins.1
 
-same_intervals : (version : FileVersion) (xs ys a b : List ℕ) → AreIntervals xs → AreIntervals ys → IsStuck version a → IsStuck version b
+same_intervals : (version : FileVersion) (xs ys a b : List ℕ) → AreIntervals xs → AreIntervals ys → IsStuck version a
+    → IsStuck version b
     → intervals_bytes version xs ++ a ≡ intervals_bytes version ys ++ b → xs ≡ ys
 same_intervals version [] [] a b are also stuck ends e = refl
 same_intervals version [] (y ∷ ys) a b are also stuck ends e =
@@ -92,12 +101,14 @@ same_intervals version (x ∷ xs) (y ∷ ys) a b are also stuck ends e =
     let left = intervals_bytes version xs ++ a in
     let right = intervals_bytes version ys ++ b in
     let both : spelling version x ++ left ≡ spelling version y ++ right =
-    sym (append_assoc (spelling version x) (intervals_bytes version xs) a) ∙ e ∙ append_assoc (spelling version y) (intervals_bytes version ys) b in
+    sym (append_assoc (spelling version x) (intervals_bytes version xs) a) ∙ e
+    ∙ append_assoc (spelling version y) (intervals_bytes version ys) b in
     let first = begins_with version x left are.0 are.1 in
     let second = begins_with version y right also.0 also.1 in
     let same : x ≡ y = sym first.2 ∙ ap (λ (l : List ℕ). ticks_in version l) both ∙ second.2 in
     let behind : left ≡ right =
-    append_cancel_left (spelling version x) left right (both ∙ ap (λ (n : ℕ). spelling version n ++ right) (sym same)) in
+    append_cancel_left (spelling version x) left right (both
+    ∙ ap (λ (n : ℕ). spelling version n ++ right) (sym same)) in
     ap₂ (λ (n : ℕ) (l : List ℕ). n ∷ l) same (same_intervals version xs ys a b are.2 also.2 stuck ends behind)
 
 -- the bytes begin with a file, and behind it no interval begins
@@ -107,28 +118,34 @@ pub record Begins (bytes : List ℕ) (header : IntervalHeader) (intervals : List
   pub range : AreIntervals intervals
   pub stuck : IsStuck header.version rest
 
-file_begins : (bytes : List ℕ) (header : IntervalHeader) (intervals : List ℕ) → IsFile bytes header intervals → Begins bytes header intervals
+file_begins : (bytes : List ℕ) (header : IntervalHeader) (intervals : List ℕ) → IsFile bytes header intervals
+    → Begins bytes header intervals
 file_begins bytes header intervals is = record {
   rest = [];
-  are = is.are ∙ ap (λ (l : List ℕ). header_bytes header ++ l) (sym (append-nil (intervals_bytes header.version intervals)));
+  are = is.are ∙ ap (λ (l : List ℕ). header_bytes header ++ l)
+      (sym (append-nil (intervals_bytes header.version intervals)));
   range = is.range;
   stuck = end_is_stuck header.version;
 }
 
-faulty_begins : (bytes : List ℕ) (header : IntervalHeader) (intervals : List ℕ) (first : IntervalFileFault) → IsFaulty bytes header intervals first
+faulty_begins : (bytes : List ℕ) (header : IntervalHeader) (intervals : List ℕ) (first : IntervalFileFault)
+    → IsFaulty bytes header intervals first
     → Begins bytes header intervals
 faulty_begins bytes header intervals first is = record {
   rest = is.rest;
-  are = is.are ∙ ap (λ (l : List ℕ). l ++ is.rest) is.file.are ∙ append_assoc (header_bytes header) (intervals_bytes header.version intervals) is.rest;
+  are = is.are ∙ ap (λ (l : List ℕ). l ++ is.rest) is.file.are
+      ∙ append_assoc (header_bytes header) (intervals_bytes header.version intervals) is.rest;
   range = is.file.range;
   stuck = is_stuck header.version (length is.front) is.rest first is.fails;
 }
 
-one_list : (bytes : List ℕ) (a b : IntervalHeader) (xs ys : List ℕ) → a ≡ b → Begins bytes a xs → Begins bytes b ys → xs ≡ ys
+one_list : (bytes : List ℕ) (a b : IntervalHeader) (xs ys : List ℕ) → a ≡ b → Begins bytes a xs → Begins bytes b ys
+    → xs ≡ ys
 one_list bytes a b xs ys same first second =
     let also = subst (λ (h : IntervalHeader). Begins bytes h ys) (sym same) second in
     same_intervals a.version xs ys first.rest also.rest first.range also.range first.stuck also.stuck
-    (append_cancel_left (header_bytes a) (intervals_bytes a.version xs ++ first.rest) (intervals_bytes a.version ys ++ also.rest) (sym first.are ∙ also.are))
+    (append_cancel_left (header_bytes a) (intervals_bytes a.version xs ++ first.rest)
+    (intervals_bytes a.version ys ++ also.rest) (sym first.are ∙ also.are))
 
 -- ---- one answer
 
@@ -138,21 +155,26 @@ some_is x y e = (cc)
 abbrev header_in : Contents → Option IntervalHeader
 header_in contents = (read_of contents).header
 
-by_parts : (bytes : List ℕ) (a b : Contents) → Says a bytes → Says b bytes → fault_of a ≡ fault_of b → header_in a ≡ header_in b → a ≡ b
+by_parts : (bytes : List ℕ) (a b : Contents) → Says a bytes → Says b bytes → fault_of a ≡ fault_of b
+    → header_in a ≡ header_in b → a ≡ b
 by_parts bytes (file h xs) (file k ys) first second faults headers =
     let same = some_is h k headers in
-    ap₂ (λ (i : IntervalHeader) (l : List ℕ). file i l) same (one_list bytes h k xs ys same (file_begins bytes h xs first) (file_begins bytes k ys second))
+    ap₂ (λ (i : IntervalHeader) (l : List ℕ). file i l) same
+    (one_list bytes h k xs ys same (file_begins bytes h xs first) (file_begins bytes k ys second))
 by_parts bytes (file h xs) (no_header g) first second faults headers = (cc)
 by_parts bytes (file h xs) (faulty k ys g) first second faults headers = (cc)
 by_parts bytes (no_header f) (file k ys) first second faults headers = (cc)
-by_parts bytes (no_header f) (no_header g) first second faults headers = ap (λ (x : IntervalFileFault). no_header x) (some_is f g faults)
+by_parts bytes (no_header f) (no_header g) first second faults headers =
+    ap (λ (x : IntervalFileFault). no_header x) (some_is f g faults)
 by_parts bytes (no_header f) (faulty k ys g) first second faults headers = (cc)
 by_parts bytes (faulty h xs f) (file k ys) first second faults headers = (cc)
 by_parts bytes (faulty h xs f) (no_header g) first second faults headers = (cc)
 by_parts bytes (faulty h xs f) (faulty k ys g) first second faults headers =
     let same = some_is h k headers in
-    let intervals = one_list bytes h k xs ys same (faulty_begins bytes h xs f first) (faulty_begins bytes k ys g second) in
-    ap₂ (λ (i : IntervalHeader) (l : List ℕ). faulty i l f) same intervals ∙ ap (λ (x : IntervalFileFault). faulty k ys x) (some_is f g faults)
+    let intervals = one_list bytes h k xs ys same (faulty_begins bytes h xs f first)
+    (faulty_begins bytes k ys g second) in
+    ap₂ (λ (i : IntervalHeader) (l : List ℕ). faulty i l f) same intervals
+    ∙ ap (λ (x : IntervalFileFault). faulty k ys x) (some_is f g faults)
 
 pub one_answer : (bytes : List ℕ) (a b : Contents) → Says a bytes → Says b bytes → a ≡ b
 one_answer bytes a b first second =
@@ -162,7 +184,8 @@ one_answer bytes a b first second =
 
 -- ---- a file
 
-pub one_recording : (bytes : List ℕ) (a b : IntervalHeader) (xs ys : List ℕ) → IsFile bytes a xs → IsFile bytes b ys → (a ≡ b) × (xs ≡ ys)
+pub one_recording : (bytes : List ℕ) (a b : IntervalHeader) (xs ys : List ℕ) → IsFile bytes a xs → IsFile bytes b ys
+    → (a ≡ b) × (xs ≡ ys)
 one_recording bytes a b xs ys first second =
     let same = one_answer bytes (file a xs) (file b ys) first second in
     ((cc), (cc))

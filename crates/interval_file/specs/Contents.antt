@@ -9,7 +9,8 @@ use Rattle.interval_file.specs.declared.fault.IntervalFileFault.{IntervalFileFau
 use Rattle.interval_file.specs.declared.fault.IntervalFileFault.TheVariants as fault
 use Rattle.interval_file.specs.declared.header.FileVersion.{FileVersion}
 use Rattle.interval_file.specs.declared.header.IntervalHeader.{IntervalHeader}
-use Rattle.interval_file.specs.declared.header.TheConstants.{HEADER_LENGTH, HEAD_LENGTH, MAX_TICK_RATE}
+use Rattle.interval_file.specs.declared.header.TheConstants.{HEADER_LENGTH, HEAD_LENGTH}
+use Rattle.limits.specs.declared.recording.TheConstants.{MAX_TICK_RATE}
 use Rattle.interval_file.specs.Grammar.{Contents, file, no_header, faulty, fault_at}
 use Rattle.interval_file.specs.IntervalHeader.{system_at, version_at}
 use Rattle.interval_file.specs.Piece.{interval_in, piece_width}

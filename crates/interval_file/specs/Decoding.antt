@@ -2,7 +2,7 @@
 -- `recording_of`). No promise speaks of it.
 use Rattle.std.specs.Prelude.{◌≡◌, ℕ, ◌+◌, ◌*◌, ◌≤◌, List, [], ◌∷◌, ◌++◌, length, Option, Some, None, Result}
 use Rattle.std.specs.Prelude.{Ok, Err, nat_lt, fold, if◌then◌else◌}
-use Rattle.biphase.specs.declared.cell.TheConstants.{MAX_INTERVALS}
+use Rattle.limits.specs.declared.recording.TheConstants.{MAX_INTERVALS}
 use Rattle.interval_file.specs.declared.fault.IntervalFileFault.{IntervalFileFault}
 use Rattle.interval_file.specs.declared.decoder.Taken.{Taken}
 use Rattle.interval_file.specs.declared.decoder.Taken.TheVariants.{Nothing, Header, Interval, Fault}

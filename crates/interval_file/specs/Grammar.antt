@@ -8,7 +8,7 @@ use Rattle.std.specs.Option.{is_none}
 use Rattle.std.specs.Prelude.{is_some, nat_lt, ◌==◌, if◌then◌else◌}
 use Rattle.std.specs.List.{flat_map}
 use Rattle.byteorder.specs.Endian.{big_number}
-use Rattle.biphase.specs.declared.cell.TheConstants.{MAX_INTERVAL}
+use Rattle.limits.specs.declared.recording.TheConstants.{MAX_INTERVAL}
 use Rattle.interval_file.specs.declared.fault.IntervalFileFault.{IntervalFileFault}
 use Rattle.interval_file.specs.declared.fault.IntervalFileFault.TheVariants.{Magic, Version, System, Reserved, TickRate}
 use Rattle.interval_file.specs.declared.fault.IntervalFileFault.TheVariants.{Interval, Truncated}
@@ -105,7 +105,8 @@ IsRestFault version place rest (Truncated end) =
 IsRestFault version place rest _ = ⊥
 
 -- the bytes begin with the file of this header and these intervals, and behind it stands their first fault
-pub record IsFaulty (bytes : List ℕ) (header : IntervalHeader) (intervals : List ℕ) (fault : IntervalFileFault) : Type 0 where
+pub record IsFaulty (bytes : List ℕ) (header : IntervalHeader) (intervals : List ℕ)
+    (fault : IntervalFileFault) : Type 0 where
   pub front : List ℕ
   pub rest : List ℕ
   pub are : bytes ≡ front ++ rest

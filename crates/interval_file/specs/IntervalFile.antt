@@ -6,8 +6,9 @@ use Rattle.byteorder.specs.Endian.{big_number}
 use Rattle.tc_address.specs.declared.system.System.{System}
 use Rattle.interval_file.specs.declared.header.FileVersion.{FileVersion}
 use Rattle.interval_file.specs.declared.header.FileVersion.TheVariants.{One, Two}
-use Rattle.interval_file.specs.declared.header.TheConstants.{MAGIC, HEADER_LENGTH, HEAD_LENGTH, MAX_TICK_RATE}
-use Rattle.biphase.specs.declared.cell.TheConstants.{MAX_INTERVAL}
+use Rattle.interval_file.specs.declared.header.TheConstants.{MAGIC, HEADER_LENGTH, HEAD_LENGTH}
+use Rattle.limits.specs.declared.recording.TheConstants.{MAX_TICK_RATE}
+use Rattle.limits.specs.declared.recording.TheConstants.{MAX_INTERVAL}
 use Rattle.interval_file.specs.declared.fault.IntervalFileFault.{IntervalFileFault}
 use Rattle.interval_file.specs.declared.fault.IntervalFileFault.TheVariants as fault
 use Rattle.interval_file.specs.declared.decoder.Taken.{Taken}

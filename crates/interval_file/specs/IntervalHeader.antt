@@ -7,7 +7,8 @@ use Rattle.tc_address.specs.Count.{rate_of}
 use Rattle.interval_file.specs.declared.header.FileVersion.{FileVersion}
 use Rattle.interval_file.specs.declared.header.FileVersion.TheVariants.{One, Two}
 use Rattle.interval_file.specs.declared.header.IntervalHeader.{IntervalHeader}
-use Rattle.interval_file.specs.declared.header.TheConstants.{MAGIC, VERSION_ONE, VERSION_TWO, MAX_TICK_RATE}
+use Rattle.interval_file.specs.declared.header.TheConstants.{MAGIC, VERSION_ONE, VERSION_TWO}
+use Rattle.limits.specs.declared.recording.TheConstants.{MAX_TICK_RATE}
 
 -- a tick rate that a recording may have
 abbrev pub IsTickRate : ℕ → Type 0

@@ -10,3 +10,4 @@ pub mod NextByte
 pub mod Piece
 pub mod Progress
 pub mod Recording
+pub mod FileLemmas

@@ -1,6 +1,6 @@
 -- The interval at the front of bytes.
 use Rattle.std.specs.Prelude.{◌≡◌, ◌≤◌, ◌<◌, ℕ, List, length, take, fold, nat_le, Result, Ok, Err, if◌then◌else◌}
-use Rattle.biphase.specs.declared.cell.TheConstants.{MAX_INTERVAL}
+use Rattle.limits.specs.declared.recording.TheConstants.{MAX_INTERVAL}
 use Rattle.interval_file.specs.declared.fault.IntervalFileFault.{IntervalFileFault}
 use Rattle.interval_file.specs.declared.header.FileVersion.{FileVersion}
 use Rattle.interval_file.specs.declared.piece.Next.{Next}

@@ -2,7 +2,7 @@
 -- significant one first.
 use Rattle.std.specs.Prelude.{◌≡◌, ◌%◌, ℕ, List, ◌∷◌, drop, nat_le, nat_lt, ◌==◌, ◌&&◌, Result, Ok, Err, if◌then◌else◌}
 use Rattle.byteorder.specs.Endian.{big_bytes, big_number}
-use Rattle.biphase.specs.declared.cell.TheConstants.{MAX_INTERVAL}
+use Rattle.limits.specs.declared.recording.TheConstants.{MAX_INTERVAL}
 use Rattle.interval_file.specs.declared.fault.IntervalFileFault.{IntervalFileFault}
 use Rattle.interval_file.specs.declared.fault.IntervalFileFault.TheVariants as fault
 use Rattle.interval_file.specs.declared.header.FileVersion.{FileVersion}

@@ -1,7 +1,7 @@
 -- What bytes say of a recording, as far as they go, to a command that takes so many intervals at most: the limit is the
 -- command's, and no matter of the grammar.
 use Rattle.std.specs.Prelude.{ℕ, ◌+◌, List, [], length, take, Option, Some, None, nat_le, if◌then◌else◌}
-use Rattle.biphase.specs.declared.cell.TheConstants.{MAX_INTERVALS}
+use Rattle.limits.specs.declared.recording.TheConstants.{MAX_INTERVALS}
 use Rattle.interval_file.specs.declared.fault.IntervalFileFault.{IntervalFileFault}
 use Rattle.interval_file.specs.declared.fault.IntervalFileFault.TheVariants.{Interval, Truncated}
 use Rattle.interval_file.specs.declared.header.IntervalHeader.{IntervalHeader}

@@ -30,12 +30,12 @@ ghost use Rattle.interval_file.specs.Decoding.{FitsBytes, IsBetween, interval_co
 
 use crate::fault::IntervalFileFault;
 use crate::header::{
-    FileVersion, HEAD_LENGTH, HEADER_LENGTH, IntervalHeader, MAGIC, MAX_TICK_RATE, system_of_byte,
-    version_of_byte,
+    FileVersion, HEAD_LENGTH, HEADER_LENGTH, IntervalHeader, MAGIC, system_of_byte, version_of_byte,
 };
 use crate::piece::{interval_in, whole_width};
 use arrayvec::ArrayVec;
 use byteorder::{BigEndian, ByteOrder};
+use limits::MAX_TICK_RATE;
 use std::marker::Model;
 use tc_address::System;
 

@@ -22,9 +22,6 @@ pub const HEAD_LENGTH: u64 = 8;
 /// The bytes of a header.
 pub const HEADER_LENGTH: u64 = 12;
 
-/// The greatest tick rate, in ticks a second.
-pub const MAX_TICK_RATE: u32 = 100_000_000;
-
 /// How a file spells its intervals: each with four bytes, or with two where it fits in two.
 #[derive(Clone, Copy, Debug, PartialEq, Eq)]
 pub enum FileVersion {

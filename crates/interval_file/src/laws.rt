@@ -1,7 +1,7 @@
 //! The numbers, names and bytes that code and definitions share, as the tables of an interval file
 //! give them; and what follows of whole files.
 ghost use Rattle.std.specs.Prelude.{◌≡◌, ◌≤◌, ℕ, List, [], ◌∷◌, length, Some, None, codes};
-ghost use Rattle.biphase.specs.declared.cell.TheConstants.{MAX_INTERVALS};
+ghost use Rattle.limits.specs.declared.recording.TheConstants.{MAX_INTERVALS};
 ghost use Rattle.interval_file.specs.declared.header.IntervalHeader.{IntervalHeader};
 ghost use Rattle.interval_file.specs.Contents.{contents_of};
 ghost use Rattle.interval_file.specs.Decoding.{ReadsWhatIsSaid};
@@ -21,7 +21,6 @@ pub fn a_header_is_this()
     ensures two { header.VERSION_TWO ≡ 2 }
     ensures first { header.HEAD_LENGTH ≡ 8 }
     ensures length { header.HEADER_LENGTH ≡ 12 }
-    ensures tick_rate { header.MAX_TICK_RATE ≡ 100000000 }
     ensures least_long { piece.LEAST_LONG ≡ 65536 }
 {}
 

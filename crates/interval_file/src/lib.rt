@@ -25,7 +25,8 @@
 //! - As a whole text, every list of bytes is a file or has one first fault, which is what is read of
 //!   it (`specs/Grammar.antt`, `Says`; `laws`). Each single answer is what the byte, the bytes or
 //!   the end of the input bring to this text (`specs/NextByte.antt`, clauses `text`).
-//! - `interval_header` and `interval_bytes` give the bytes of a header and of an interval.
+//! - `interval_header` and `interval_bytes` give the bytes of a header and of an interval, `four_bytes` those of one in
+//!   version 1.
 //!
 //! Read `fault`, `header` and `piece`, then `decoder`. The commands along a recording stand on this
 //! crate. Nothing here allocates.
@@ -41,7 +42,7 @@ mod piece;
 pub use decoder::{IntervalDecoder, Taken};
 pub use fault::IntervalFileFault;
 pub use header::{
-    FileVersion, HEAD_LENGTH, HEADER_LENGTH, IntervalHeader, MAGIC, MAX_TICK_RATE, VERSION_ONE,
-    VERSION_TWO, interval_header,
+    FileVersion, HEAD_LENGTH, HEADER_LENGTH, IntervalHeader, MAGIC, VERSION_ONE, VERSION_TWO,
+    interval_header,
 };
-pub use piece::{LEAST_LONG, Next, interval_bytes, most_width, next_interval};
+pub use piece::{LEAST_LONG, Next, four_bytes, interval_bytes, most_width, next_interval};

@@ -2,8 +2,9 @@
 ghost use Rattle.std.specs.Prelude.{◌≡◌, ℕ, List, ◌≤◌, ◌<◌, ◌++◌, ◌==◌, ◌&&◌, length, drop, fold, nat_le, Some, None};
 ghost use Rattle.std.specs.Prelude.{Ok, Err, IfOk, OnErr, if◌then◌else◌};
 ghost use Rattle.interval_file.specs.declared.fault.IntervalFileFault.TheVariants as fault;
+ghost use Rattle.interval_file.specs.declared.header.FileVersion.TheVariants.{One};
 ghost use Rattle.interval_file.specs.Piece.{interval_in, most_width, piece_width, spelling};
-ghost use Rattle.biphase.specs.declared.cell.TheConstants.{MAX_INTERVAL};
+ghost use Rattle.limits.specs.declared.recording.TheConstants.{MAX_INTERVAL};
 ghost use Rattle.interval_file.specs.Grammar.{IsFile};
 ghost use Rattle.interval_file.specs.Next.{IsNext, next_of};
 ghost use Rattle.interval_file.specs.NextByte.{BringNext};
@@ -12,8 +13,8 @@ ghost use Rattle.interval_file.specs.Decoding.{Decoding, IsBetween, with_byte, w
 
 use crate::fault::IntervalFileFault;
 use crate::header::FileVersion;
-use biphase::MAX_INTERVAL;
 use byteorder::{BigEndian, ByteOrder};
+use limits::MAX_INTERVAL;
 
 /// The least interval that version 2 spells with six bytes, in ticks.
 pub const LEAST_LONG: u32 = 65_536;
@@ -149,4 +150,13 @@ pub fn interval_bytes(version: FileVersion, x: u32, room: &mut [u8; 6]) -> usize
             6
         }
     }
+}
+
+/// The bytes of an interval, of `ticks`, in version 1: four, the most significant one first.
+pub fn four_bytes(ticks: u32) -> [u8; 4]
+    ensures { result ≡ spelling One ticks }
+{
+    let mut bytes = [0; 4];
+    BigEndian::write_u32(&mut bytes, ticks);
+    bytes
 }

@@ -43,7 +43,7 @@ pub record OwnRuns (count place : ℕ) (bytes runs : List ℕ) : Type 0 where
   pub within : 2 * length runs ≤ length bytes
   pub own : (more : List ℕ) → runs_at count place (take (2 * length runs) bytes ++ more) ≡ whole runs
 
-two_more : (x : ℕ) (runs : List ℕ) → 2 * length (x ∷ runs) ≡ suc (suc (2 * length runs))
+pub two_more : (x : ℕ) (runs : List ℕ) → 2 * length (x ∷ runs) ≡ suc (suc (2 * length runs))
 two_more x runs = omega arith
 
 own_run : (count place high low : ℕ) (rest runs : List ℕ) (b : Bool) → (big_number 2 (high ∷ low ∷ rest) == 0) ≡ b

@@ -9,6 +9,7 @@ use Rattle.std.specs.declared.option.Option.{Option}
 use Rattle.std.proofs.lemmas.Bool.{and_parts, cases_eq, eq-eqb, eqb-true, false≢true, leb-true, not-false, ne_eqb}
 use Rattle.std.proofs.lemmas.Bool.{true≢false}
 use Rattle.std.proofs.lemmas.List.{drop-drop}
+use Rattle.tc_io.specs.ByteLemmas.{bytes_behind}
 use Rattle.byteorder.specs.Endian.{big_bytes, big_number}
 use Rattle.tc_address.specs.declared.system.System.{System}
 use Rattle.tc_address.specs.declared.system.System.TheVariants.{F25, F30}
@@ -34,14 +35,9 @@ use Rattle.line_file.specs.LineFile.{lines_width, reading_of, runs_at, short, wh
 use Rattle.line_file.specs.KeptPieces.{with_first}
 use Rattle.line_file.specs.LineHeader.{IsHeader, header_bytes, system_at}
 use Rattle.line_file.proofs.HeaderBytes.{header_valid, whole_header}
-use Rattle.line_file.proofs.OwnBytes.{first_whole, items}
+use Rattle.line_file.proofs.OwnBytes.{first_whole, items, two_more}
 
 -- ---- bytes
-
-bytes_behind : (n : ℕ) (bytes : List ℕ) → AreBytes bytes → AreBytes (drop n bytes)
-bytes_behind zero bytes are = are
-bytes_behind (suc n) [] are = are
-bytes_behind (suc n) (byte ∷ more) are = bytes_behind n more are.1
 
 two_bytes : (a b : ℕ) (more : List ℕ) → a < 256 → b < 256 → big_bytes 2 (big_number 2 (a ∷ b ∷ more)) ≡ a ∷ b ∷ []
 two_bytes a b more la lb =
@@ -66,9 +62,6 @@ record ReadRuns (count : ℕ) (bytes runs : List ℕ) : Type 0 where
   number : length runs ≡ count
   are : AreRuns runs
   first : bytes ≡ flat_map (big_bytes 2) runs ++ drop (2 * length runs) bytes
-
-two_more : (x : ℕ) (runs : List ℕ) → 2 * length (x ∷ runs) ≡ suc (suc (2 * length runs))
-two_more x runs = omega arith
 
 not_zero : (n : ℕ) → (n == 0) ≡ false → 1 ≤ n
 not_zero n e = by_case (cases_eq n 0)
@@ -305,7 +298,8 @@ right : (byte wanted : ℕ) → not (byte == wanted) ≡ false → byte ≡ want
 right byte wanted e = eqb-true byte wanted (not-false (byte == wanted) e)
 
 header_from : (bytes : List ℕ) (header : LineHeader) (v : Front (Unit {0})) → AreBytes bytes → 12 ≤ length bytes
-    → head_at HEAD_LENGTH 0 bytes ≡ v → behind_head v bytes ≡ whole header → bytes ≡ header_bytes header ++ drop 12 bytes
+    → head_at HEAD_LENGTH 0 bytes ≡ v → behind_head v bytes ≡ whole header
+    → bytes ≡ header_bytes header ++ drop 12 bytes
 header_from (a ∷ b ∷ c ∷ d ∷ v ∷ s ∷ y ∷ z ∷ i ∷ j ∷ k ∷ l ∷ rest) header (whole u) are least is e =
     let one = right_byte 7 0 a (b ∷ c ∷ d ∷ v ∷ s ∷ y ∷ z ∷ i ∷ j ∷ k ∷ l ∷ rest) u is in
     let two = right_byte 6 1 b (c ∷ d ∷ v ∷ s ∷ y ∷ z ∷ i ∷ j ∷ k ∷ l ∷ rest) u one.1 in

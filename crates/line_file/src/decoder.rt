@@ -14,6 +14,7 @@ use crate::field::{FoundField, field_in};
 use crate::header::{FoundHeader, HEADER_LENGTH, LineHeader, header_in};
 use arrayvec::ArrayVec;
 use std::marker::Model;
+use tc_io::put_bytes;
 use vitc_reader::FieldAnswer;
 
 /// So many fields are read, at most.
@@ -171,7 +172,7 @@ fn take_piece(
     if before == 0 {
         let piece = piece_in(header, place, fields, bytes);
         if let Piece::Short = piece {
-            push(part, bytes);
+            put_bytes(part, bytes);
         }
         return piece;
     }
@@ -206,7 +207,7 @@ fn piece_behind(
     ensures others { result ≢ pieces.Short → part.new.items ≡ part.old.items }
 {
     let before = part.len();
-    push(part, bytes);
+    put_bytes(part, bytes);
     let piece = piece_in(header, place, fields, part);
     match piece {
         Piece::Short => {}
@@ -235,12 +236,4 @@ fn piece_in(header: Option<LineHeader>, place: u64, fields: u32, bytes: &[u8]) -
             FoundField::Fault(fault) => Piece::Fault(fault),
         },
     }
-}
-
-/// Appends bytes for which there is room.
-fn push(part: &mut Part, bytes: &[u8])
-    requires { array_vec_len part.old + length bytes.now ≤ FIELD_ROOM }
-    ensures { part.new.items ≡ part.old.items ++ bytes.now }
-{
-    let _fits = part.try_extend_from_slice(bytes);
 }

@@ -1,6 +1,7 @@
 -- What the lines of reports are made of, byte for byte. Their form is this project's own.
-use Rattle.std.specs.Prelude.{List, ℕ, Bool, ◌++◌, codes, if◌then◌else◌}
+use Rattle.std.specs.Prelude.{List, ℕ, Bool, ◌++◌, codes, if◌then◌else◌, Option, Some, None}
 use Rattle.std.specs.Int.{w32, to_be_bytes}
+use Rattle.std.specs.Str.{bytes_eq}
 use Rattle.hex.specs.Hex.{encode_lower}
 use Rattle.tc_address.specs.declared.direction.Direction.{Direction}
 use Rattle.tc_address.specs.declared.direction.Direction.TheVariants.{Forward, Backward}
@@ -12,7 +13,9 @@ flag_digit flag = if flag then codes "1" else codes "0"
 
 -- drop-frame flag, colour-frame flag, and binary group flags 0, 1 and 2
 abbrev pub flags_text : Flags → List ℕ
-flags_text f = flag_digit f.bit10 ++ flag_digit f.colour ++ flag_digit f.bgf0 ++ flag_digit f.bgf1 ++ flag_digit f.bgf2
+flags_text f =
+    flag_digit f.drop_frame ++ flag_digit f.colour_frame ++ flag_digit f.group_flag_zero ++ flag_digit f.group_flag_one
+    ++ flag_digit f.group_flag_two
 
 -- the user bits: eight hexadecimal digits, user group 8 first
 abbrev pub user_text : ℕ → List ℕ
@@ -22,3 +25,9 @@ user_text user = encode_lower (to_be_bytes w32 user)
 abbrev pub direction_name : Direction → List ℕ
 direction_name Forward = codes "forward"
 direction_name Backward = codes "backward"
+
+-- and the way that a word names
+unfoldable pub direction_named : List ℕ → Option Direction
+direction_named word =
+    if bytes_eq word (codes "forward") then Some Forward
+    else if bytes_eq word (codes "backward") then Some Backward else None

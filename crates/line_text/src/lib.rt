@@ -10,9 +10,12 @@
 //! - A number takes no more digits than its bound says: `push_count` 13, `push_ticks` 19,
 //!   `push_any_number` 20, `push_signed` 11 (the clauses `len`). So a line of many numbers is known to fit
 //!   from its words alone.
+//! - What is read as it is written: `direction_named` and `are_digits` tell the direction and the digits of a
+//!   word exactly.
 //!
 //! Read `line`, then `numbers` and `named`, with `specs/Line.antt` beside them. `report_text`, `line_file`,
-//! `mtc_reader`, `chase_script` and `tc_top` write with this crate. Nothing here allocates or fails.
+//! `mtc_reader`, `chase_script` and `tc_top` write with this crate, and `chase_script` and `tc_words` read with it.
+//! Nothing here allocates or fails.
 #![tactic(auto)]
 
 mod line;
@@ -20,7 +23,7 @@ mod named;
 mod numbers;
 
 pub use line::{Text, push_bytes};
-pub use named::{direction_name, push_flag, push_flags};
+pub use named::{direction_name, direction_named, push_flag, push_flags};
 pub use numbers::{
-    push_any_number, push_count, push_hexadecimal, push_number, push_signed, push_ticks,
+    are_digits, push_any_number, push_count, push_hexadecimal, push_number, push_signed, push_ticks,
 };

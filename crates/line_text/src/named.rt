@@ -1,7 +1,8 @@
-//! Truth values, flags and directions in a line. Next: `tc_command/src/pushing.rt`, with the whole line.
+//! Truth values, flags and directions in a line; and a direction that is read. Next: `tc_command/src/pushing.rt`,
+//! with the whole line.
 ghost use Rattle.std.specs.Prelude.{◌≡◌, ◌+◌, ◌≤◌, ◌<◌, ◌++◌};
 ghost use Rattle.arrayvec.specs.ArrayVec.{array_vec_len};
-ghost use Rattle.line_text.specs.Line.{direction_name, flag_digit, flags_text};
+ghost use Rattle.line_text.specs.Line.{direction_name, direction_named, flag_digit, flags_text};
 
 use crate::line::Text;
 use tc_address::Direction;
@@ -22,11 +23,11 @@ pub fn push_flags(text: &mut Text, flags: Flags)
     ensures items { text.new.items ≡ text.old.items ++ flags_text flags }
     ensures len { array_vec_len text.new ≡ array_vec_len text.old + 5 }
 {
-    push_flag(text, flags.bit10);
-    push_flag(text, flags.colour);
-    push_flag(text, flags.bgf0);
-    push_flag(text, flags.bgf1);
-    push_flag(text, flags.bgf2);
+    push_flag(text, flags.drop_frame);
+    push_flag(text, flags.colour_frame);
+    push_flag(text, flags.group_flag_zero);
+    push_flag(text, flags.group_flag_one);
+    push_flag(text, flags.group_flag_two);
 }
 
 /// The name of a direction.
@@ -36,5 +37,19 @@ pub fn direction_name(direction: Direction) -> &'static str
     match direction {
         Direction::Forward => "forward",
         Direction::Backward => "backward",
+    }
+}
+
+/// The direction that a word names: `forward` or `backward`.
+#[tactic(auto, unfolding(crate::specs::Line::direction_named))]
+pub fn direction_named(word: &[u8]) -> Option<Direction>
+    ensures { result ≡ direction_named word.now }
+{
+    if word == b"forward".as_slice() {
+        Some(Direction::Forward)
+    } else if word == b"backward".as_slice() {
+        Some(Direction::Backward)
+    } else {
+        None
     }
 }

@@ -1,7 +1,9 @@
-//! The numbers of a line. Next: `named`.
+//! The numbers of a line, and the test of digits that are read. Next: `named`.
 ghost use Rattle.std.specs.Prelude.{◌≡◌, ◌+◌, ◌≤◌, ◌<◌, ◌^◌, ◌++◌, length, decimal};
+ghost use Rattle.std.specs.Char.{is_ascii_digit};
 ghost use Rattle.std.specs.Fmt.{signed_decimal};
 ghost use Rattle.std.specs.Int.{w32, to_be_bytes};
+ghost use Rattle.std.specs.List.{list_all};
 ghost use Rattle.arrayvec.specs.ArrayVec.{array_vec_len};
 ghost use Rattle.hex.specs.Hex.{encode_lower};
 ghost use Rattle.tc_address.specs.Spelling.{two_digits};
@@ -137,4 +139,11 @@ pub fn push_hexadecimal(text: &mut Text, number: u32)
     let mut digits = [0; 8];
     let _fits = hex::encode_to_slice(number.to_be_bytes(), &mut digits);
     push_bytes(text, &digits);
+}
+
+/// Whether each byte is a decimal digit.
+pub fn are_digits(bytes: &[u8]) -> bool
+    ensures { result ≡ list_all is_ascii_digit bytes.now }
+{
+    bytes.iter().all(|byte| byte.is_ascii_digit())
 }

@@ -1,10 +1,13 @@
--- Each word that is read at a system has a label of it, and a step from a label leads to one of its count, so each frame has a label of the system.
-use Rattle.std.proofs.Common.{◌≡◌, ◌⊎◌, ℕ, ◌+◌, Bool, true, false, cond, List, [], ◌∷◌, ◌++◌, length, map, Some, None, inl, inr}
+-- Each word that is read at a system has a label of it, and a step from a label leads to one of its count, so each
+-- frame has a label of the system.
+use Rattle.std.proofs.Common.{◌≡◌, ◌⊎◌, ℕ, ◌+◌, Bool, true, false, cond, List, [], ◌∷◌, ◌++◌, length, map, Some, None}
+use Rattle.std.proofs.Common.{inl, inr}
 use Rattle.std.proofs.Common.{refl, sym, subst, ap, ◌∙◌, IsSomeAnd}
 use Rattle.std.specs.Prelude.{ℤ, slice_get}
 use Rattle.std.specs.Option.{unwrap_or}
 use Rattle.std.specs.declared.option.Option.{Option}
 use Rattle.std.proofs.lemmas.Bool.Decides.{eqb_tells}
+use Rattle.ltc_word.specs.SyncLemmas.{in_sync_or_not}
 use Rattle.biphase.specs.declared.profile.Profile.{Profile}
 use Rattle.cell_tracker.specs.Stretch.{Stretch}
 use Rattle.tc_address.specs.declared.count.Count.{Count}
@@ -30,16 +33,19 @@ use Rattle.direction_reader.specs.ListEvents.{break_events}
 use Rattle.flywheel.specs.declared.frame.Frame.{Frame}
 use Rattle.flywheel.specs.declared.frame.Frame.TheVariants.{Gone}
 use Rattle.flywheel.specs.declared.heard.HeardWord.{HeardWord}
-use Rattle.flywheel.specs.Frames.{due_steps, frames, frames_after, frames_between, invented_after, is_gone, steps_in, tick_after}
+use Rattle.flywheel.specs.Frames.{due_steps, frames, frames_after, frames_between, invented_after, is_gone, steps_in}
+use Rattle.flywheel.specs.Frames.{tick_after}
 use Rattle.ltc_jam.specs.Labels.{AreEventsOf, AreFramesOf, AreHeardOf, IsEventOf, IsLabelOf}
 
 -- ---- events
 
-events_join : (system : System) (a b : List Event) → AreEventsOf system a → AreEventsOf system b → AreEventsOf system (a ++ b)
+events_join : (system : System) (a b : List Event) → AreEventsOf system a → AreEventsOf system b
+    → AreEventsOf system (a ++ b)
 events_join system [] b first more = more
 events_join system (event ∷ a) b first more = (first.0, events_join system a b first.1 more)
 
-event_is : (system : System) (direction : Direction) (bits end length : ℕ) (event : Event) → candidate.IsEventOf system direction bits end length event
+event_is : (system : System) (direction : Direction) (bits end length : ℕ) (event : Event)
+    → candidate.IsEventOf system direction bits end length event
     → IsEventOf system event
 event_is system direction bits end length (Word d w t n) is = let spells = is.1 in (spells.valid.label, spells.count)
 event_is system direction bits end length (Refused d f t) is = tt
@@ -53,15 +59,13 @@ some_is system direction bits end length (Some event) is = (event_is system dire
 none_is : (system : System) (event : Option Event) → event ≡ None → AreEventsOf system (listed event)
 none_is system event e = subst (λ (o : Option Event). AreEventsOf system (listed o)) (sym e) tt
 
-both_are : (system : System) (events : Events) → AreEventsOf system (listed events.first) → AreEventsOf system (listed events.second)
+both_are : (system : System) (events : Events) → AreEventsOf system (listed events.first)
+    → AreEventsOf system (listed events.second)
     → AreEventsOf system (event_list events)
 both_are system events first second = events_join system (listed events.first) (listed events.second) first second
 
--- bits end in the sync word, or they do not
-in_sync_or_not : (bits : ℕ) → EndsInSync bits ⊎ ¬ EndsInSync bits
-in_sync_or_not bits = elim (eqb_tells (number_in SYNC bits) SYNC_PATTERN) [ inl same ↦ inl same.1 | inr other ↦ inr other.1 ]
-
-of_window : (system : System) (bits end length : ℕ) (events : Events) → candidate.AreEventsOf system bits end length events
+of_window : (system : System) (bits end length : ℕ) (events : Events)
+    → candidate.AreEventsOf system bits end length events
     → AreEventsOf system (event_list events)
 of_window system bits end length events are =
     let back = reversed_bits bits in
@@ -69,38 +73,45 @@ of_window system bits end length events are =
       | inl forward ↦ (
           let first = some_is system Forward bits end length events.first (are.forward forward) in
           elim (in_sync_or_not back) [
-            | inl backward ↦ both_are system events first (some_is system Backward back end length events.second (are.both forward backward))
+            | inl backward ↦ both_are system events first
+                (some_is system Backward back end length events.second (are.both forward backward))
             | inr not_back ↦ both_are system events first (none_is system events.second (are.one forward not_back))
           ])
       | inr not_forward ↦ elim (in_sync_or_not back) [
         | inl backward ↦ (
             let both = are.backward backward not_forward in
-            both_are system events (some_is system Backward back end length events.first both.0) (none_is system events.second both.1))
+            both_are system events (some_is system Backward back end length events.first both.0)
+            (none_is system events.second both.1))
         | inr not_back ↦ (
             let both = are.none not_forward not_back in
             both_are system events (none_is system events.first both.0) (none_is system events.second both.1))
       ]
     ]
 
-of_windows : (system : System) (list : List CellWindow) (events : List Event) → AreEventsOfWindows system list events → AreEventsOf system events
+of_windows : (system : System) (list : List CellWindow) (events : List Event) → AreEventsOfWindows system list events
+    → AreEventsOf system events
 of_windows system [] events are = subst (λ (es : List Event). AreEventsOf system es) (sym are) tt
 of_windows system (window ∷ more) events are =
     let own = of_window system window.bits window.end window.length are.0 are.2 in
     let rest = of_windows system more are.1 are.3 in
-    subst (λ (es : List Event). AreEventsOf system es) (sym are.4) (events_join system (event_list are.0) are.1 own rest)
+    subst (λ (es : List Event). AreEventsOf system es) (sym are.4)
+    (events_join system (event_list are.0) are.1 own rest)
 
 of_break : (system : System) (intervals : List ℕ) (place : Option ℕ) → AreEventsOf system (break_events intervals place)
 of_break system intervals None = tt
 of_break system intervals (Some place) = (tt, tt)
 
-of_stretch : (system : System) (intervals : List ℕ) (stretch : Stretch) (events : List Event) → AreEventsOfStretch system intervals stretch events
+of_stretch : (system : System) (intervals : List ℕ) (stretch : Stretch) (events : List Event)
+    → AreEventsOfStretch system intervals stretch events
     → AreEventsOf system events
 of_stretch system intervals stretch events are =
     let own = of_windows system (windows (begin_of intervals stretch) stretch.cells) are.0 are.1 in
     subst (λ (es : List Event). AreEventsOf system es) (sym are.2)
-    (events_join system are.0 (break_events intervals stretch.broken_at) own (of_break system intervals stretch.broken_at))
+    (events_join system are.0 (break_events intervals stretch.broken_at) own
+    (of_break system intervals stretch.broken_at))
 
-of_stretches : (system : System) (intervals : List ℕ) (stretches : List Stretch) (events : List Event) → AreEventsOfStretches system intervals stretches events
+of_stretches : (system : System) (intervals : List ℕ) (stretches : List Stretch) (events : List Event)
+    → AreEventsOfStretches system intervals stretches events
     → AreEventsOf system events
 of_stretches system intervals [] events are = subst (λ (es : List Event). AreEventsOf system es) (sym are) tt
 of_stretches system intervals (stretch ∷ more) events are =
@@ -108,14 +119,16 @@ of_stretches system intervals (stretch ∷ more) events are =
     let rest = of_stretches system intervals more are.1 are.3 in
     subst (λ (es : List Event). AreEventsOf system es) (sym are.4) (events_join system are.0 are.1 own rest)
 
-pub of_events : (system : System) (profile : Profile) (intervals : List ℕ) (events : List Event) → AreGathered system profile intervals events
+pub of_events : (system : System) (profile : Profile) (intervals : List ℕ) (events : List Event)
+    → AreGathered system profile intervals events
     → AreEventsOf system events
 of_events system profile intervals events are = of_stretches system intervals are.0 events are.2
 
 -- ---- steps
 
 abbrev pub LabelsAreValid : Type 0
-LabelsAreValid = (c : Count) (n : ℕ) (a : Address) → slice_get (labels c) n ≡ Some a → (number_of a ≡ n) × (a.count ≡ c) × IsLabel a
+LabelsAreValid = (c : Count) (n : ℕ) (a : Address) → slice_get (labels c) n ≡ Some a
+    → (number_of a ≡ n) × (a.count ≡ c) × IsLabel a
 
 found : LabelsAreValid → (a : Address) (n : ℕ) (o : Option Address) → slice_get (labels a.count) n ≡ o → IsLabel a
     → IsLabel (unwrap_or o a) × ((unwrap_or o a).count ≡ a.count)
@@ -131,7 +144,8 @@ step_valid law a k valid = found law a (moved (length (labels a.count)) (number_
 abbrev pub StepsAreValid : Type 0
 StepsAreValid = (a : Address) (k : ℤ) → IsLabel a → IsLabel (step a k) × ((step a k).count ≡ a.count)
 
-frames_join : (system : System) (a b : List Frame) → AreFramesOf system a → AreFramesOf system b → AreFramesOf system (a ++ b)
+frames_join : (system : System) (a b : List Frame) → AreFramesOf system a → AreFramesOf system b
+    → AreFramesOf system (a ++ b)
 frames_join system [] b first more = more
 frames_join system (frame ∷ a) b first more = (first.0, frames_join system a b first.1 more)
 
@@ -151,16 +165,19 @@ of_between : StepsAreValid → (system : System) (limit : ℕ) (word : HeardWord
 of_between law system limit word tick is =
     frames_join system (map (invented_after word) (due_steps limit word tick))
     (cond (is_gone limit word tick) (Gone (tick_after word (limit + 1)) ∷ []) [])
-    (of_steps law system word (due_steps limit word tick) is) (of_gone system (is_gone limit word tick) (tick_after word (limit + 1)))
+    (of_steps law system word (due_steps limit word tick) is)
+    (of_gone system (is_gone limit word tick) (tick_after word (limit + 1)))
 
-of_words_after : StepsAreValid → (system : System) (limit : ℕ) (word : HeardWord) (more : List HeardWord) (last : ℕ) → IsLabelOf system word.label
+of_words_after : StepsAreValid → (system : System) (limit : ℕ) (word : HeardWord) (more : List HeardWord) (last : ℕ)
+    → IsLabelOf system word.label
     → AreHeardOf system more → AreFramesOf system (frames_after limit word more last)
 of_words_after law system limit word [] last is are = of_between law system limit word last is
 of_words_after law system limit word (next ∷ more) last is are =
     frames_join system (frames_between limit word next.tick) _ (of_between law system limit word next.tick is)
     (are.0, of_words_after law system limit next more last are.0 are.1)
 
-pub of_words : StepsAreValid → (system : System) (limit : ℕ) (words : List HeardWord) (last : ℕ) → AreHeardOf system words
+pub of_words : StepsAreValid → (system : System) (limit : ℕ) (words : List HeardWord) (last : ℕ)
+    → AreHeardOf system words
     → AreFramesOf system (frames limit words last)
 of_words law system limit [] last are = tt
 of_words law system limit (word ∷ more) last are = (are.0, of_words_after law system limit word more last are.0 are.1)

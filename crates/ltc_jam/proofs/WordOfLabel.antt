@@ -1,5 +1,6 @@
 -- The word of a label has its spelling, since its flag agrees with its count.
 use Rattle.std.proofs.Common.{◌≡◌, ◌^◌, ◌<◌, true, refl, lit<}
+use Rattle.ltc_jam.specs.WordLemmas.{flag_agrees}
 use Rattle.tc_address.specs.declared.count.Count.{Count}
 use Rattle.tc_address.specs.declared.count.Count.TheVariants.{C24, C25, C30, Drop30}
 use Rattle.tc_address.specs.Count.{system_with}
@@ -11,13 +12,9 @@ use Rattle.ltc_word.specs.Spelling.{Spells}
 use Rattle.ltc_jam.specs.Word.{drops, word_of}
 
 abbrev pub EachIsSpelled : Type 0
-EachIsSpelled = (word : LtcWord) → IsFields word.fields → word.fields.user < 2 ^ 32 → Spells (system_with word.fields.label.count) word (spelling_of word)
+EachIsSpelled = (word : LtcWord) → IsFields word.fields → word.fields.user < 2 ^ 32
+    → Spells (system_with word.fields.label.count) word (spelling_of word)
 
-flag_agrees : (count : Count) → agrees count (drops count) ≡ true
-flag_agrees C24 = refl
-flag_agrees C25 = refl
-flag_agrees C30 = refl
-flag_agrees Drop30 = refl
-
-pub word_spelled : EachIsSpelled → (label : Address) → IsLabel label → Spells (system_with label.count) (word_of label) (spelling_of (word_of label))
+pub word_spelled : EachIsSpelled → (label : Address) → IsLabel label
+    → Spells (system_with label.count) (word_of label) (spelling_of (word_of label))
 word_spelled law label valid = law (word_of label) (record { label = valid; flag = flag_agrees label.count }) (lit< tt)

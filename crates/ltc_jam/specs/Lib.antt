@@ -1,3 +1,4 @@
 pub mod Cells
 pub mod Labels
 pub mod Word
+pub mod WordLemmas

@@ -8,7 +8,7 @@ use Rattle.tc_address.specs.Label.{Address}
 use Rattle.tc_bits.specs.Fields.{field_values}
 use Rattle.ltc_word.specs.declared.word.LtcWord.{LtcWord}
 use Rattle.ltc_word.specs.Spelled.{spelling_of}
-use Rattle.ltc_word.specs.Spelling.{flags}
+use Rattle.tc_bits.specs.Fields.{flags}
 use Rattle.direction_reader.specs.Played.{Played, in_time}
 
 -- the count drops labels

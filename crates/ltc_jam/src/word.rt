@@ -2,12 +2,10 @@
 //! `cells`.
 ghost use Rattle.std.specs.Prelude.{◌≡◌, ◌^◌, ◌<◌};
 ghost use Rattle.tc_bits.specs.Fields.{IsFields};
-ghost use Rattle.ltc_word.specs.Spelled.{spelling_of};
 ghost use Rattle.direction_reader.specs.Played.{in_time};
 ghost use Rattle.ltc_jam.specs.Word.{drops, time_bits, word_of};
 
-use ltc_word::laws::{each_word_has_its_spelling, spelling_is_exact};
-use ltc_word::{LtcWord, encode, reversed};
+use ltc_word::{LtcWord, reversed, spelling};
 use tc_address::{Count, Direction, Label};
 use tc_bits::{Fields, Flags, UserBits};
 
@@ -17,11 +15,11 @@ pub fn word_of(label: &Label) -> LtcWord
     ensures valid { IsFields result.fields }
 {
     let flags = Flags {
-        bit10: drops(label.count()),
-        colour: false,
-        bgf0: false,
-        bgf1: false,
-        bgf2: false,
+        drop_frame: drops(label.count()),
+        colour_frame: false,
+        group_flag_zero: false,
+        group_flag_one: false,
+        group_flag_two: false,
     };
     match Fields::new(*label, flags, UserBits::new(0)) {
         Ok(fields) => LtcWord {
@@ -50,16 +48,6 @@ pub fn played_bits(direction: Direction, label: &Label) -> u128
 {
     let bits = spelling(&word_of(label));
     in_time(direction, bits)
-}
-
-/// The 80 bits of a word.
-fn spelling(word: &LtcWord) -> u128
-    ensures value { result ≡ spelling_of word.now }
-    ensures width { result < 2 ^ 80 }
-{
-    each_word_has_its_spelling();
-    spelling_is_exact();
-    encode(word)
 }
 
 /// The bits in the order of time in which they are played.

@@ -5,6 +5,7 @@ use Rattle.std.specs.Int.{bit_at, reverse_bits_onto}
 use Rattle.std.proofs.lemmas.Nat.{pow_pos, shr-shr, shr_high, mod_below, field_of, mod-pow-add}
 use Rattle.std.proofs.lemmas.Nat.Bits.{same_from_bits_below}
 use Rattle.std.proofs.Math.Nat.{pow-suc, mod-eq_of_lt}
+use Rattle.lemmas.specs.Bits.{halved, bit_at_low}
 
 -- the lowest k bits of n, the last one first
 abbrev pub turned : ℕ → ℕ → ℕ
@@ -45,9 +46,6 @@ pub turned_below : (k n : ℕ) → turned k n < 2 ^ k
 turned_below zero n = turned_none n
 turned_below (suc k) n = rw (turned-suc k n, pow-suc 2 k) (bit_times (n % 2) (2 ^ k) (turned k (n / 2)) (omega arith) (turned_below k (n / 2)))
 
-halved : (n j : ℕ) → n / 2 / 2 ^ j ≡ n / 2 ^ suc j
-halved n j = let e : 1 + j ≡ suc j = omega arith in rw (← e) (shr-shr n 1 j)
-
 -- first j bits, and then k more
 pub onto_more : (j k n a : ℕ) → reverse_bits_onto (j + k) n a ≡ reverse_bits_onto k (n / 2 ^ j) (reverse_bits_onto j n a)
 unfolding reverse_bits_onto
@@ -79,14 +77,6 @@ bit_at-turned k n i lt =
 mod_two : (n j : ℕ) → 0 < j → n % 2 ^ j % 2 ≡ n % 2
 mod_two n zero lt = absurd (omega arith)
 mod_two n (suc j) lt = let e : j + 1 ≡ suc j = omega arith in let h = rw e at (mod-pow-add n j 1) in omega arith
-
--- a bit of the lowest k bits
-pub bit_at_low : (n k i : ℕ) → i < k → bit_at (n % 2 ^ k) i ≡ bit_at n i
-bit_at_low n k i lt =
-    let j = k - i in
-    let e : j + i ≡ k = omega arith in
-    let f : n % 2 ^ k / 2 ^ i ≡ n / 2 ^ i % 2 ^ j = rw e at (field_of n j i) in
-    rw f (mod_two (n / 2 ^ i) j (omega arith))
 
 bit_back : (n k i : ℕ) → i < k → bit_at n (k - 1 - (k - 1 - i)) ≡ bit_at (n % 2 ^ k) i
 bit_back n k i lt = let e : k - 1 - (k - 1 - i) ≡ i = omega arith in rw e (sym (bit_at_low n k i lt))

@@ -80,16 +80,3 @@ no_fault exact none system word bits s =
       none system (raw_in (table_of system) bits) word.fields
           (says exact system word bits s),
     ) refl
-
--- the parts of a word and its digits, each compared
-pub said : {system : System} {count : Count} {hours minutes seconds frames : ℕ} {flags : Flags} {user : ℕ} {raw : RawFields}
-    → hours < 24 → minutes < 60 → seconds < 60 → frames < rate_of (system_with count)
-    → is_dropped (address count hours minutes seconds frames) ≡ false
-    → agrees count flags.bit10 ≡ true → system_with count ≡ system
-    → digits_of (field_values (address count hours minutes seconds frames) flags user) ≡ raw
-    → Says system raw (field_values (address count hours minutes seconds frames) flags user)
-said h m s f counted flag count digits = record {
-  valid = record { label = record { hours = h; minutes = m; seconds = s; frames = f; counted = counted }; flag = flag };
-  count = count;
-  digits = digits;
-}

@@ -2,6 +2,7 @@
 use Rattle.std.proofs.Common.{◌≡◌, ℕ, ◌/◌, ◌^◌, ◌<◌, ◌≤◌, true, refl, lit<, arith}
 use Rattle.std.specs.Prelude.{◌↔◌, IsTrue}
 use Rattle.std.proofs.lemmas.Nat.{mod_below}
+use Rattle.tc_address.specs.LabelLemmas.{rate_within}
 use Rattle.tc_address.specs.declared.system.System.{System}
 use Rattle.tc_address.specs.declared.system.System.TheVariants.{F24, F25, F30}
 use Rattle.tc_address.specs.Count.{system_with, rate_of}
@@ -21,11 +22,6 @@ pub table_is : (system : System) → is_table (table_of system) ≡ true
 table_is F24 = refl
 table_is F25 = refl
 table_is F30 = refl
-
-pub rate_within : (system : System) → rate_of system ≤ 30
-rate_within F24 = omega arith
-rate_within F25 = omega arith
-rate_within F30 = omega arith
 
 -- the numbers of a word fill the 80 bits
 row_is : AreExact → (system : System) (c : FieldValues) (polarity : ℕ) → IsLabel c.label → polarity < 2

@@ -23,9 +23,6 @@ use Rattle.ltc_word.proofs.OneSpelling.{spelled, word_with}
 abbrev pub FaultlessSay : Type 0
 FaultlessSay = (system : System) (raw : RawFields) → first_field_fault system raw ≡ None → (c : FieldValues) × Says system raw c
 
-told : (n : ℕ) → (IsTrue (n == 0) ↔ (n ≡ 0))
-told n = (eqb-true n 0, eq-eqb n 0)
-
 -- the bits spell a word, or their fields have a first fault
 abbrev pub SpellsOrIsFaulty : System → ℕ → Type 0
 SpellsOrIsFaulty system bits =
@@ -36,7 +33,10 @@ by_fault : AreExact → FaultlessSay → (system : System) (bits : ℕ) → bits
 by_fault exact say system bits width sync None is =
     let said = say system (raw_in (table_of system) bits) is in
     let word = word_with said.0 (zeros bits % 2 == 0) in
-    inl (word, spelled exact system word bits width sync said.1 (told (zeros bits % 2)))
+    inl (
+      word,
+      spelled exact system word bits width sync said.1 (eqb-true (zeros bits % 2) 0, eq-eqb (zeros bits % 2) 0),
+    )
 by_fault exact say system bits width sync (Some fault) is = inr (fault, rw (none_from_right bits sync, is) refl)
 
 pub word_or_fault : AreExact → FaultlessSay → (system : System) (bits : ℕ) → bits < 2 ^ 80 → EndsInSync bits

@@ -14,7 +14,7 @@ use Rattle.ltc_word.specs.declared.word.LtcWord.{LtcWord}
 use Rattle.ltc_word.specs.Places.{table_of}
 use Rattle.ltc_word.specs.Spelling.{Spells}
 use Rattle.ltc_word.specs.Reversal.{HasTwelveOnes}
-use Rattle.ltc_word.proofs.RowOfAWord.{rate_within}
+use Rattle.tc_address.specs.LabelLemmas.{rate_within}
 
 -- a bit that stands in the twelve is set
 set_at : (bits i p : ℕ) → HasTwelveOnes bits i → i ≤ p → p < i + 12 → bit_at bits p ≡ 1

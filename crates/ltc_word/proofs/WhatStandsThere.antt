@@ -31,16 +31,13 @@ SayOne = (system : System) (raw : RawFields) (a b : FieldValues) → Says system
 abbrev pub SayFaultless : Type 0
 SayFaultless = (system : System) (raw : RawFields) (c : FieldValues) → Says system raw c → first_field_fault system raw ≡ None
 
-told : (n : ℕ) → (IsTrue (n == 0) ↔ (n ≡ 0))
-told n = (eqb-true n 0, eq-eqb n 0)
-
 pub stands : AreExact → FaultlessSayThese → (system : System) (bits : ℕ) → bits < 2 ^ 80 → EndsInSync bits
     → fault_in system bits ≡ None → Spells system (word_in system bits) bits
 unfolding fault_in word_in
 stands exact say system bits width sync none =
     let fields = fields_of system (raw_in (table_of system) bits) in
     spelled exact system (word_with fields (zeros bits % 2 == 0)) bits width sync
-    (say system (raw_in (table_of system) bits) none) (told (zeros bits % 2))
+    (say system (raw_in (table_of system) bits) none) (eqb-true (zeros bits % 2) 0, eq-eqb (zeros bits % 2) 0)
 
 pub no_fault_there : AreExact → SayFaultless → (system : System) (word : LtcWord) (bits : ℕ) → Spells system word bits
     → fault_in system bits ≡ None

@@ -5,6 +5,7 @@ pub mod Reading
 pub mod Reversal
 pub mod Spelled
 pub mod Spelling
+pub mod SyncLemmas
 -- what the public clauses cite of the crates below
 pub use Rattle.tc_address.specs.Count
 pub use Rattle.tc_address.specs.Label

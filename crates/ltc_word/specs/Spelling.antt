@@ -28,8 +28,3 @@ pub record Spells (system : System) (word : LtcWord) (bits : ℕ) : Type 0 where
 abbrev pub word_with : Count → ℕ → ℕ → ℕ → ℕ → Flags → ℕ → Bool → LtcWord
 word_with count hours minutes seconds frames flags user balanced =
     record { fields = field_values (address count hours minutes seconds frames) flags user; balanced = balanced }
-
--- flags in the order of a report: drop-frame, colour-frame, binary group flags 0, 1 and 2
-abbrev pub flags : Bool → Bool → Bool → Bool → Bool → Flags
-flags drop_frame colour zero one two =
-    record { bit10 = drop_frame; colour = colour; bgf0 = zero; bgf1 = one; bgf2 = two }

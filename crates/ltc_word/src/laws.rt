@@ -14,7 +14,8 @@ ghost use Rattle.tc_bits.specs.Fields.{IsFields};
 ghost use Rattle.ltc_word.specs.Places.{are_shared_out, places_of};
 ghost use Rattle.ltc_word.specs.Reading.{fault_in, word_in};
 ghost use Rattle.ltc_word.specs.Spelled.{spelling_of};
-ghost use Rattle.ltc_word.specs.Spelling.{Spells, word_with, flags};
+ghost use Rattle.ltc_word.specs.Spelling.{Spells, word_with};
+ghost use Rattle.tc_bits.specs.Fields.{flags};
 ghost use Rattle.ltc_word.specs.Fault.{first_fault};
 ghost use Rattle.ltc_word.specs.Reversal.{EndsInSync, reversed_bits, HasTwelveOnes};
 

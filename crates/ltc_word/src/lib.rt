@@ -6,7 +6,8 @@
 //! bits are a number below 2 to the 80th, bit 0 least significant.
 //!
 //! What this crate promises:
-//! - `encode` gives the one spelling of a word, and `decode` reads a word exactly from its spelling
+//! - `encode` gives the one spelling of a word, `spelling` the same number by the weights of its places
+//!   (`specs/Spelled.antt`, `spelling_of`), and `decode` reads a word exactly from its spelling
 //!   (`specs/Spelling.antt`, `Spells`). So each is the other's inverse.
 //! - Other bits are refused with their first fault: the least bit of the sync word that differs, else
 //!   the first fault of the fields (`specs/Fault.antt`, `first_fault`).
@@ -34,4 +35,4 @@ mod writing;
 pub use reading::decode;
 pub use reversal::{begins_in_reversed_sync, ends_in_sync, reversed};
 pub use word::{LtcWord, WordFault};
-pub use writing::encode;
+pub use writing::{encode, spelling};

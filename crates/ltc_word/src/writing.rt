@@ -1,9 +1,12 @@
 //! Writing a word as its 80 bits. Next: `ltc_jam/src/cells.rt` and `made_commands/src/ltc_make.rt`.
 
+ghost use Rattle.std.specs.Prelude.{◌≡◌, ◌^◌, ◌<◌};
 ghost use Rattle.tc_address.specs.Count.{system_with};
+ghost use Rattle.ltc_word.specs.Spelled.{spelling_of};
 ghost use Rattle.ltc_word.specs.Spelling.{Spells};
 
 use crate::balance::is_balanced;
+use crate::laws::{each_word_has_its_spelling, spelling_is_exact};
 use crate::places::{SYNC, SYNC_PATTERN, correction, table};
 use crate::word::LtcWord;
 use tc_address::system_of;
@@ -25,4 +28,14 @@ pub fn encode(word: &LtcWord) -> u128
     } else {
         uncorrected + correction(system)
     }
+}
+
+/// The same as one number by the weights of the places, which is below 2 to the 80th.
+pub fn spelling(word: &LtcWord) -> u128
+    ensures value { result ≡ spelling_of word.now }
+    ensures width { result < 2 ^ 80 }
+{
+    each_word_has_its_spelling();
+    spelling_is_exact();
+    encode(word)
 }

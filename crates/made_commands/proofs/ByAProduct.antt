@@ -5,7 +5,7 @@ use Rattle.std.proofs.lemmas.Nat.{mul-le}
 use Rattle.std.proofs.lemmas.Bool.{cases_eq}
 use Rattle.std.proofs.lemmas.List.{get_or-set_other, get_or-set_same}
 use Rattle.made_commands.specs.KeptDivisors.{factor_of, AreBelow, AreFactors}
-use Rattle.tc_bits.specs.KeptQuotients.{behind, by_product}
+use Rattle.lemmas.specs.Quotients.{behind, by_product}
 
 -- a quotient, and what the division leaves
 pub record IsDivided (value divisor quotient : ℕ) : Type 0 where

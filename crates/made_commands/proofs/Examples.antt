@@ -8,7 +8,7 @@ use Rattle.made_commands.specs.Labels.{number_line}
 all_of_help : help_text ≡
     codes "ltc-read\n"
     ++ codes "ltc-worn\n"
-    ++ codes "ltc-rough\n"
+    ++ codes "ltc-rough [firm]\n"
     ++ codes "ltc-fly LIMIT [worn|rough]\n"
     ++ codes "ltc-spans LIMIT [worn|rough]\n"
     ++ codes "ltc-mtc LIMIT [worn|rough]\n"

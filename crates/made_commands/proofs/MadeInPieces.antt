@@ -9,6 +9,7 @@ use Rattle.std.specs.declared.option.Option.{Option}
 use Rattle.std.specs.List.{range_with_len}
 use Rattle.std.proofs.lemmas.Int.{ints}
 use Rattle.std.proofs.lemmas.List.Concat.{flat_map-append}
+use Rattle.flywheel.specs.StepLemmas.{no_steps}
 use Rattle.biphase.specs.declared.cell.Cell.{Cell}
 use Rattle.biphase.specs.Chain.{flat, intervals_of}
 use Rattle.biphase.specs.Shape.{Shape, shaped, shaped_from}
@@ -35,14 +36,6 @@ cell_pushed old new shape next cell bit tail pushed e =
     ap (λ (l : List ℕ). l ++ cell_bytes next tail) pushed ∙ append_assoc old (intervals_bytes One (intervals_of cell)) (cell_bytes next tail)
     ∙ ap (λ (l : List ℕ). old ++ l) (sym (cell_bytes-next shape next cell bit tail e))
 
--- the bits that are left, one of them taken
-pub low_bits-more : (done count number : ℕ) → done < count
-    → low_bits (count - done) number ≡ (number % 2 == 1) ∷ low_bits (count - (done + 1)) (number / 2)
-unfolding low_bits
-low_bits-more done count number lt =
-    let e : count - done ≡ suc (count - (done + 1)) = omega arith in
-    ap (λ (n : ℕ). low_bits n number) e
-
 -- ---- frames
 
 -- what the laws of the addresses say of steps
@@ -59,10 +52,6 @@ map_later {A} f g same start (suc count) =
     let rest = map_later f g same (start + 1) count in
     let first : f (start + 1) ≡ g start = let e : start + 1 ≡ suc start = omega arith in rw e (same start) in
     ap₂ (λ (x : A) (xs : List A). x ∷ xs) first rest
-
-no_steps : (direction : Direction) → steps_in direction 0 ≡ pos 0
-no_steps Forward = refl
-no_steps Backward = refl
 
 one_and_more : (direction : Direction) (k : ℕ) → steps_in direction 1 +ℤ steps_in direction k ≡ steps_in direction (suc k)
 one_and_more Forward k = omega (arith, ints)

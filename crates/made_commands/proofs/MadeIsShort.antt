@@ -3,6 +3,7 @@ use Rattle.std.proofs.Common.{◌≡◌, ℕ, zero, suc, ◌+◌, ◌*◌, ◌/�
 use Rattle.std.specs.List.{range_with_len}
 use Rattle.std.proofs.lemmas.List.{length-map}
 use Rattle.std.proofs.lemmas.List.FromFn.{length-range_with_len}
+use Rattle.direction_reader.specs.PlayedLemmas.{length-bits_of_words}
 use Rattle.biphase.specs.declared.cell.Cell.{Cell}
 use Rattle.biphase.specs.declared.cell.Cell.TheVariants.{Zero, One}
 use Rattle.biphase.specs.Chain.{bits, flat}
@@ -16,19 +17,6 @@ use Rattle.tc_job.specs.Stripe.{IsStripe, Striping}
 use Rattle.made_commands.specs.Made.{frames_from, made_cells, made_frames}
 use Rattle.ltc_jam.specs.Word.{played_as}
 use Rattle.made_commands.proofs.MadeIsRead.{ShapesHaveBits}
-
-length-low_bits : (count number : ℕ) → length (low_bits count number) ≡ count
-unfolding low_bits
-length-low_bits zero number = refl
-length-low_bits (suc count) number = let rest = length-low_bits count (number / 2) in omega (arith, rest)
-
-length-bits_of_words : (words : List Played) → length (bits_of_words words) ≡ 80 * length words
-length-bits_of_words [] = omega arith
-length-bits_of_words (p ∷ more) =
-    let first = length-low_bits 80 (in_time p.direction (spelling_of p.word)) in
-    let rest = length-bits_of_words more in
-    let all = length-append (played_bits p) (bits_of_words more) in
-    omega (arith, first, rest, all)
 
 length-frames_from : (direction : Direction) (label : Address) (frames : ℕ) → length (frames_from direction label frames) ≡ frames
 unfolding frames_from

@@ -4,6 +4,7 @@ use Rattle.std.proofs.Common.{Bool, true, false, List, [], ◌∷◌, Ok, length
 use Rattle.std.proofs.Common.{sym, subst, lit<, lit≤, arith}
 use Rattle.std.specs.Prelude.{pos, map}
 use Rattle.std.specs.List.{flat_map, range_with_len}
+use Rattle.ltc_jam.specs.WordLemmas.{flag_agrees}
 use Rattle.line_file.specs.declared.decoder.TheConstants.{MAX_FIELDS}
 use Rattle.line_file.specs.declared.header.LineHeader.{LineHeader}
 use Rattle.line_file.specs.Answers.{AreAnswers, AreAnswersOf}
@@ -47,12 +48,6 @@ record IsWordOf (count : Count) (word : VitcWord) : Type 0 where
   fields : IsFields word.fields
   user : word.fields.user < 2 ^ 32
   counted : word.fields.label.count ≡ count
-
-flag_agrees : (count : Count) → agrees count (drops count) ≡ true
-flag_agrees C24 = refl
-flag_agrees C25 = refl
-flag_agrees C30 = refl
-flag_agrees Drop30 = refl
 
 word_is : (count : Count) (label : Address) (mark : Bool) → IsLabel label → label.count ≡ count → IsWordOf count (field_word label mark)
 word_is count label mark valid same = record { fields = record { label = valid; flag = flag_agrees label.count }; user = lit< tt; counted = same }

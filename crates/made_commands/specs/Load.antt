@@ -17,7 +17,7 @@ use Rattle.tc_address.specs.Numbering.{day_length, step}
 use Rattle.tc_address.specs.Spelling.{text_of}
 use Rattle.tc_bits.specs.Fields.{field_values}
 use Rattle.ltc_word.specs.declared.word.LtcWord.{LtcWord}
-use Rattle.ltc_word.specs.Spelling.{flags}
+use Rattle.tc_bits.specs.Fields.{flags}
 use Rattle.direction_reader.specs.declared.event.Event.{Event}
 use Rattle.direction_reader.specs.declared.event.Event.TheVariants.{Word, Refused, Lost}
 use Rattle.direction_reader.specs.Events.{is_lost, is_refused, is_word}

@@ -7,8 +7,8 @@ ghost use Rattle.made_commands.specs.KeptLine.{rest_of};
 ghost use Rattle.tc_command.specs.Told.{WorksAsTold};
 ghost use Rattle.made_commands.specs.About.{told_help, told_version};
 
-use tc_command::{Maker, PIECE, Piece, Stop, make, put_bytes};
-use tc_io::{Sink, Source};
+use tc_command::{Maker, PIECE, Piece, Stop, make};
+use tc_io::{Sink, Source, put_bytes};
 use tc_job::usages::USAGES;
 
 /// The number of this version, which stands in the file `VERSION` at the top too.

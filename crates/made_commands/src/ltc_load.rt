@@ -4,7 +4,7 @@ ghost use Rattle.std.specs.Prelude.{◌≡◌, ◌≤◌, ◌<◌, ◌+◌, ◌*
 ghost use Rattle.std.specs.Prelude.{length, Some};
 ghost use Rattle.arrayvec.specs.ArrayVec.{array_vec_len};
 ghost use Rattle.biphase.specs.Chain.{flat, intervals_of};
-ghost use Rattle.biphase.specs.declared.cell.TheConstants.{MAX_INTERVAL, MAX_INTERVALS};
+ghost use Rattle.limits.specs.declared.recording.TheConstants.{MAX_INTERVAL, MAX_INTERVALS};
 ghost use Rattle.direction_reader.specs.declared.event.Events.{Events};
 ghost use Rattle.direction_reader.specs.Events.{event_list, listed};
 ghost use Rattle.direction_reader.specs.StandsFor.{MayTell, Tells};
@@ -21,16 +21,16 @@ ghost use Rattle.tc_command.specs.Told.{IsTold};
 
 use crate::chance::Chance;
 use crate::divisors::Divisors;
-use crate::ltc_make::spelling;
-use biphase::{Cell, MAX_INTERVAL, MAX_INTERVALS, Profile};
+use biphase::{Cell, Profile};
 use direction_reader::laws::{
     a_list_has_one_list_of_events, a_reader_gives_the_events_of_its_list, played_words_are_read,
 };
 use direction_reader::{Brought, DirectionReader, Event};
+use limits::{MAX_INTERVAL, MAX_INTERVALS};
 use line_text::{Text, push_any_number, push_bytes, push_number};
 use ltc_jam::laws::steps_lead_to_labels;
-use ltc_word::LtcWord;
 use ltc_word::laws::each_word_has_its_spelling;
+use ltc_word::{LtcWord, spelling};
 use tc_address::{Count, Label, System, advance, day_labels, label_at, text};
 use tc_bits::{Fields, Flags, UserBits};
 use tc_job::LoadRun;
@@ -279,11 +279,11 @@ fn load_word(label: &Label, value: u64) -> LtcWord
     ensures valid { IsFields result.fields }
 {
     let flags = Flags {
-        bit10: false,
-        colour: false,
-        bgf0: false,
-        bgf1: false,
-        bgf2: false,
+        drop_frame: false,
+        colour_frame: false,
+        group_flag_zero: false,
+        group_flag_one: false,
+        group_flag_two: false,
     };
     match Fields::new(*label, flags, UserBits::new((value >> 32) as u32)) {
         Ok(fields) => LtcWord {

@@ -6,7 +6,6 @@ ghost use Rattle.direction_reader.specs.Played.{low_bits};
 ghost use Rattle.flywheel.specs.Frames.{steps_in};
 ghost use Rattle.interval_file.specs.declared.header.FileVersion.TheVariants.{One};
 ghost use Rattle.interval_file.specs.Grammar.{intervals_bytes};
-ghost use Rattle.ltc_word.specs.Spelled.{spelling_of};
 ghost use Rattle.made_commands.specs.KeptStriping.{cell_bytes, rest_of};
 ghost use Rattle.made_commands.specs.Made.{made};
 ghost use Rattle.tc_command.specs.Told.{IsTold, WorksAsTold};
@@ -16,12 +15,10 @@ use crate::laws::what_is_made_is_read_whole;
 use biphase::{Cell, Shaper};
 use interval_file::{FileVersion, IntervalHeader, interval_header};
 use ltc_jam::played_bits;
-use ltc_word::laws::{each_word_has_its_spelling, spelling_is_exact};
-use ltc_word::{LtcWord, encode};
 use tc_address::laws::steps_add_up;
 use tc_address::{Direction, Label, advance, system_of};
-use tc_command::{Maker, PIECE, Piece, Stop, make, put_bytes, put_interval};
-use tc_io::{Sink, Source};
+use tc_command::{Maker, PIECE, Piece, Stop, make, put_interval};
+use tc_io::{Sink, Source, put_bytes};
 use tc_job::Stripe;
 
 /// The room that the intervals of a frame take at most: 80 ones of two intervals of four bytes.
@@ -167,14 +164,4 @@ fn push_cell(room: &mut Piece, cell: Cell)
             put_interval(room, second);
         }
     }
-}
-
-/// The 80 bits of a word, bit 0 first in time.
-pub(crate) fn spelling(word: &LtcWord) -> u128
-    ensures value { result ≡ spelling_of word.now }
-    ensures width { result < 2 ^ 80 }
-{
-    each_word_has_its_spelling();
-    spelling_is_exact();
-    encode(word)
 }

@@ -1,12 +1,15 @@
 -- The events of a list of bytes, told along the list: each byte goes on the message and the row that stand before it.
-use Rattle.std.proofs.Common.{◌≡◌, ℕ, ◌+◌, Bool, true, false, List, [], ◌∷◌, ◌++◌, length, cond, refl, sym, ◌∙◌, ap, append-nil, append_assoc, length-append}
+use Rattle.std.proofs.Common.{◌≡◌, ℕ, ◌+◌, Bool, true, false, List, [], ◌∷◌, ◌++◌, length, cond, refl, sym, ◌∙◌, ap}
+use Rattle.std.proofs.Common.{append-nil, append_assoc, length-append}
 use Rattle.std.specs.Prelude.{reverse}
 use Rattle.std.specs.List.{cons_option}
 use Rattle.std.proofs.lemmas.List.{length-reverse}
+use Rattle.lemmas.specs.Lists.{length-last}
 use Rattle.mtc_reader.specs.declared.event.MtcEvent.{MtcEvent}
 use Rattle.mtc_reader.specs.declared.message.Message.{Message}
 use Rattle.mtc_reader.specs.Events.{event_at, event_with, events_in}
-use Rattle.mtc_reader.specs.Messages.{Current, is_sounding, without_real_time, completed_by, current_in, messages_in, with_byte}
+use Rattle.mtc_reader.specs.Messages.{Current, is_sounding, without_real_time, completed_by, current_in, messages_in}
+use Rattle.mtc_reader.specs.Messages.{with_byte}
 use Rattle.mtc_reader.specs.StandsFor.{events_of}
 use Rattle.mtc_reader.proofs.OneByteMore.{events_more, reverse_more}
 
@@ -25,20 +28,19 @@ events_after before more =
     let sounding = without_real_time (reverse before) in
     events_along (length before) (current_in sounding) (messages_in sounding) more
 
-length_more : (before : List ℕ) (byte : ℕ) → length (before ++ byte ∷ []) ≡ length before + 1
-length_more before byte = length-append before (byte ∷ [])
-
 step : (sounds : Bool) (before : List ℕ) (byte : ℕ) (more : List ℕ) → is_sounding byte ≡ sounds →
-    events_of (event_at byte (reverse before)) ++ events_after (before ++ byte ∷ []) more ≡ events_after before (byte ∷ more)
-step true before byte more is = rw (reverse_more before byte, length_more before byte, is, length-reverse before) refl
-step false before byte more is = rw (reverse_more before byte, length_more before byte, is) refl
+    events_of (event_at byte (reverse before)) ++ events_after (before ++ byte ∷ []) more
+    ≡ events_after before (byte ∷ more)
+step true before byte more is = rw (reverse_more before byte, length-last before byte, is, length-reverse before) refl
+step false before byte more is = rw (reverse_more before byte, length-last before byte, is) refl
 
 -- bytes to come change no event that was told
 pub along : (before more : List ℕ) → events_in (before ++ more) ≡ events_in before ++ events_after before more
 along before [] = ap events_in (append-nil before) ∙ sym (append-nil (events_in before))
 along before (byte ∷ more) =
     let event = event_at byte (reverse before) in
-    let next : events_in (before ++ byte ∷ []) ≡ events_in before ++ events_of event = events_more before byte event refl in
+    let next : events_in (before ++ byte ∷ []) ≡ events_in before ++ events_of event =
+    events_more before byte event refl in
     ap events_in (sym (append_assoc before (byte ∷ []) more)) ∙ along (before ++ byte ∷ []) more
     ∙ ap (λ events. events ++ events_after (before ++ byte ∷ []) more) next
     ∙ append_assoc (events_in before) (events_of event) (events_after (before ++ byte ∷ []) more)

@@ -6,11 +6,6 @@ use Rattle.tc_address.specs.declared.label.LabelFault.TheVariants.{Hours, Minute
 use Rattle.tc_address.specs.Label.{Address, IsLabel, is_label, IsFirstFault}
 use Rattle.mtc_reader.specs.Events.{fault_of}
 
-pub label_is : (a : Address) → IsLabel a → is_label a ≡ true
-label_is a l =
-    let counted = l.counted in
-    grind (arith, nat_tests)
-
 pub no_label : (fault : LabelFault) (a : Address) → IsFirstFault fault a → is_label a ≡ false
 no_label Hours a f = grind (arith, nat_tests)
 no_label Minutes a f = grind (arith, nat_tests)

@@ -24,11 +24,13 @@ latest_eight-full row quarter full =
     let longer : length (row ++ quarter ∷ []) ≡ length row + 1 = length-append row (quarter ∷ []) in
     let next : length (row ++ quarter ∷ []) - 8 ≡ length row - 8 + 1 = omega (arith, long, longer) in
     let within : length row - 8 + 1 ≤ length row = omega (arith, long) in
-    ap (λ ys. ys ++ quarter ∷ []) (drop-drop 1 (length row - 8) row) ∙ sym (drop-append-le (length row - 8 + 1) row (quarter ∷ []) within)
+    ap (λ ys. ys ++ quarter ∷ []) (drop-drop 1 (length row - 8) row)
+    ∙ sym (drop-append-le (length row - 8 + 1) row (quarter ∷ []) within)
     ∙ sym (ap (λ n. drop n (row ++ quarter ∷ [])) next)
 
 -- eight numbers, one by one
-pub eight : (xs : List ℕ) → length xs ≡ 8 → xs ≡ slice_index xs 0 ∷ slice_index xs 1 ∷ slice_index xs 2 ∷ slice_index xs 3 ∷ slice_index xs 4
+pub eight : (xs : List ℕ) → length xs ≡ 8
+    → xs ≡ slice_index xs 0 ∷ slice_index xs 1 ∷ slice_index xs 2 ∷ slice_index xs 3 ∷ slice_index xs 4
     ∷ slice_index xs 5 ∷ slice_index xs 6 ∷ slice_index xs 7 ∷ []
 eight xs len = fill_by_all (slice_index xs) xs 8 0 len (λ k h. refl)
 
@@ -39,14 +41,19 @@ not_pieces xs other true is = absurd (other (ap length ((bytes_eq-Decides xs pie
 -- fewer than eight carry nothing
 pub no_window : (xs : List ℕ) (place : ℕ) → length xs ≢ 8 → window_event xs place ≡ None
 no_window xs place other =
-    let forward : bytes_eq (map piece_of xs) pieces ≡ false = not_pieces (map piece_of xs) (λ e. other (sym (length-map xs piece_of) ∙ e)) _ refl in
-    let turned : length (map piece_of (reverse xs)) ≡ length xs = length-map (reverse xs) piece_of ∙ length-reverse xs in
-    let backward : bytes_eq (map piece_of (reverse xs)) pieces ≡ false = not_pieces (map piece_of (reverse xs)) (λ e. other (sym turned ∙ e)) _ refl in
+    let forward : bytes_eq (map piece_of xs) pieces ≡ false =
+    not_pieces (map piece_of xs) (λ e. other (sym (length-map xs piece_of) ∙ e)) _ refl in
+    let turned : length (map piece_of (reverse xs)) ≡ length xs = length-map (reverse xs) piece_of
+    ∙ length-reverse xs in
+    let backward : bytes_eq (map piece_of (reverse xs)) pieces ≡ false =
+    not_pieces (map piece_of (reverse xs)) (λ e. other (sym turned ∙ e)) _ refl in
     rw (forward, backward) refl
 
 -- one more quarter frame moves the others to the front
-pub shifted : (xs row : List ℕ) (quarter : ℕ) → 8 ≤ length row → xs ≡ latest_eight row → slice_index xs 1 ∷ slice_index xs 2 ∷ slice_index xs 3
-    ∷ slice_index xs 4 ∷ slice_index xs 5 ∷ slice_index xs 6 ∷ slice_index xs 7 ∷ quarter ∷ [] ≡ latest_eight (row ++ quarter ∷ [])
+pub shifted : (xs row : List ℕ) (quarter : ℕ) → 8 ≤ length row → xs ≡ latest_eight row
+    → slice_index xs 1 ∷ slice_index xs 2 ∷ slice_index xs 3
+    ∷ slice_index xs 4 ∷ slice_index xs 5 ∷ slice_index xs 6 ∷ slice_index xs 7 ∷ quarter ∷ []
+    ≡ latest_eight (row ++ quarter ∷ [])
 shifted xs row quarter long is =
     let full : length (latest_eight row) ≡ 8 = omega (arith, long, length-latest_eight row) in
     let with_one = λ (l : List ℕ). remove l 0 ++ quarter ∷ [] in
@@ -61,12 +68,14 @@ eight_turned : (xs : List ℕ) → map piece_of (reverse xs) ≡ pieces → leng
 eight_turned xs is = sym (length-reverse xs) ∙ eight_of (reverse xs) is
 
 -- a place of a window forward has its own piece, and backward the piece at the place from the other end
-pub forward_at : (xs : List ℕ) → map piece_of xs ≡ pieces → (piece_of (slice_index xs 0) ≡ 0) × (piece_of (slice_index xs 7) ≡ 7)
+pub forward_at : (xs : List ℕ) → map piece_of xs ≡ pieces
+    → (piece_of (slice_index xs 0) ≡ 0) × (piece_of (slice_index xs 7) ≡ 7)
 forward_at xs is =
     let same = ap (map piece_of) (sym (eight xs (eight_of xs is))) ∙ is in
     (ap (λ l. slice_index l 0) same, ap (λ l. slice_index l 7) same)
 
-pub backward_at : (xs : List ℕ) → map piece_of (reverse xs) ≡ pieces → (piece_of (slice_index xs 0) ≡ 7) × (piece_of (slice_index xs 7) ≡ 0)
+pub backward_at : (xs : List ℕ) → map piece_of (reverse xs) ≡ pieces
+    → (piece_of (slice_index xs 0) ≡ 7) × (piece_of (slice_index xs 7) ≡ 0)
 backward_at xs is =
     let same = ap (λ l. map piece_of (reverse l)) (sym (eight xs (eight_turned xs is))) ∙ is in
     (ap (λ l. slice_index l 7) same, ap (λ l. slice_index l 0) same)
@@ -75,14 +84,17 @@ is_false : (xs : List ℕ) → xs ≢ pieces → (b : Bool) → bytes_eq xs piec
 is_false xs other false is = refl
 is_false xs other true is = absurd (other ((bytes_eq-Decides xs pieces).0 is))
 
-pub neither : (xs : List ℕ) (place : ℕ) → map piece_of xs ≢ pieces → map piece_of (reverse xs) ≢ pieces → window_event xs place ≡ None
+pub neither : (xs : List ℕ) (place : ℕ) → map piece_of xs ≢ pieces → map piece_of (reverse xs) ≢ pieces
+    → window_event xs place ≡ None
 neither xs place not_forward not_backward =
     let forward : bytes_eq (map piece_of xs) pieces ≡ false = is_false (map piece_of xs) not_forward _ refl in
-    let backward : bytes_eq (map piece_of (reverse xs)) pieces ≡ false = is_false (map piece_of (reverse xs)) not_backward _ refl in
+    let backward : bytes_eq (map piece_of (reverse xs)) pieces ≡ false =
+    is_false (map piece_of (reverse xs)) not_backward _ refl in
     rw (forward, backward) refl
 
 -- the latest quarter frame has another piece than the last of a window
-pub another_piece : (xs : List ℕ) (place : ℕ) → piece_of (slice_index xs 7) ≢ 0 → piece_of (slice_index xs 7) ≢ 7 → window_event xs place ≡ None
+pub another_piece : (xs : List ℕ) (place : ℕ) → piece_of (slice_index xs 7) ≢ 0 → piece_of (slice_index xs 7) ≢ 7
+    → window_event xs place ≡ None
 another_piece xs place not_zero not_seven =
     neither xs place (λ is. not_seven (forward_at xs is).1) (λ is. not_zero (backward_at xs is).1)
 
@@ -90,7 +102,12 @@ another_piece xs place not_zero not_seven =
 no_first : (xs : List ℕ) (place : ℕ) → slice_index xs 0 ≡ NO_QUARTER → window_event xs place ≡ None
 no_first xs place is =
     let none : piece_of (slice_index xs 0) ≡ 15 = ap piece_of is in
-    neither xs place (λ all. absurd (omega (arith, none, (forward_at xs all).0))) (λ all. absurd (omega (arith, none, (backward_at xs all).0)))
+    neither xs place (λ all. absurd (omega (arith, none, (forward_at xs all).0)))
+    (λ all. absurd (omega (arith, none, (backward_at xs all).0)))
+
+-- with what stands for those that did not come there are eight
+pub padded_full : (row : List ℕ) → length (latest_eight (padded row)) ≡ 8
+padded_full row = omega (arith, length-latest_eight (padded row))
 
 -- a row that is long enough hides what stands before it
 latest_eight-padded : (row : List ℕ) → 8 ≤ length row → latest_eight (padded row) ≡ latest_eight row
@@ -99,32 +116,35 @@ latest_eight-padded row long =
     ap (λ n. drop n (padded row)) hidden ∙ drop-append-add (padded []) row (length row - 8)
 
 -- what stands for quarter frames that did not come carries nothing
-pub padded_event : (row : List ℕ) (place : ℕ) → window_event (latest_eight (padded row)) place ≡ window_event (latest_eight row) place
+pub padded_event : (row : List ℕ) (place : ℕ) → window_event (latest_eight (padded row)) place
+    ≡ window_event (latest_eight row) place
 padded_event [] place = no_first (latest_eight (padded [])) place refl
 padded_event (a ∷ []) place =
-    let row = a ∷ [] in no_first (latest_eight (padded row)) place refl ∙ sym (no_window (latest_eight row) place (λ e. absurd cc))
+    let row = a ∷ [] in no_first (latest_eight (padded row)) place refl
+    ∙ sym (no_window (latest_eight row) place (λ e. absurd cc))
 padded_event (a ∷ b ∷ []) place =
-    let row = a ∷ b ∷ [] in no_first (latest_eight (padded row)) place refl ∙ sym (no_window (latest_eight row) place (λ e. absurd cc))
+    let row = a ∷ b ∷ [] in no_first (latest_eight (padded row)) place refl
+    ∙ sym (no_window (latest_eight row) place (λ e. absurd cc))
 padded_event (a ∷ b ∷ c ∷ []) place =
-    let row = a ∷ b ∷ c ∷ [] in no_first (latest_eight (padded row)) place refl ∙ sym (no_window (latest_eight row) place (λ e. absurd cc))
+    let row = a ∷ b ∷ c ∷ [] in no_first (latest_eight (padded row)) place refl
+    ∙ sym (no_window (latest_eight row) place (λ e. absurd cc))
 padded_event (a ∷ b ∷ c ∷ d ∷ []) place =
-    let row = a ∷ b ∷ c ∷ d ∷ [] in no_first (latest_eight (padded row)) place refl ∙ sym (no_window (latest_eight row) place (λ e. absurd cc))
+    let row = a ∷ b ∷ c ∷ d ∷ [] in no_first (latest_eight (padded row)) place refl
+    ∙ sym (no_window (latest_eight row) place (λ e. absurd cc))
 padded_event (a ∷ b ∷ c ∷ d ∷ e ∷ []) place =
-    let row = a ∷ b ∷ c ∷ d ∷ e ∷ [] in no_first (latest_eight (padded row)) place refl ∙ sym (no_window (latest_eight row) place (λ e. absurd cc))
+    let row = a ∷ b ∷ c ∷ d ∷ e ∷ [] in no_first (latest_eight (padded row)) place refl
+    ∙ sym (no_window (latest_eight row) place (λ e. absurd cc))
 padded_event (a ∷ b ∷ c ∷ d ∷ e ∷ f ∷ []) place =
-    let row = a ∷ b ∷ c ∷ d ∷ e ∷ f ∷ [] in no_first (latest_eight (padded row)) place refl ∙ sym (no_window (latest_eight row) place (λ e. absurd cc))
+    let row = a ∷ b ∷ c ∷ d ∷ e ∷ f ∷ [] in no_first (latest_eight (padded row)) place refl
+    ∙ sym (no_window (latest_eight row) place (λ e. absurd cc))
 padded_event (a ∷ b ∷ c ∷ d ∷ e ∷ f ∷ g ∷ []) place =
-    let row = a ∷ b ∷ c ∷ d ∷ e ∷ f ∷ g ∷ [] in no_first (latest_eight (padded row)) place refl ∙ sym (no_window (latest_eight row) place (λ e. absurd cc))
+    let row = a ∷ b ∷ c ∷ d ∷ e ∷ f ∷ g ∷ [] in no_first (latest_eight (padded row)) place refl
+    ∙ sym (no_window (latest_eight row) place (λ e. absurd cc))
 padded_event (a ∷ b ∷ c ∷ d ∷ e ∷ f ∷ g ∷ h ∷ more) place =
     ap (λ l. window_event l place) (latest_eight-padded (a ∷ b ∷ c ∷ d ∷ e ∷ f ∷ g ∷ h ∷ more) (omega arith))
 
 -- the oldest quarter frame has another piece than the first of a window
-pub another_first : (xs : List ℕ) (place : ℕ) → piece_of (slice_index xs 0) ≢ 0 → piece_of (slice_index xs 0) ≢ 7 → window_event xs place ≡ None
+pub another_first : (xs : List ℕ) (place : ℕ) → piece_of (slice_index xs 0) ≢ 0 → piece_of (slice_index xs 0) ≢ 7
+    → window_event xs place ≡ None
 another_first xs place not_zero not_seven =
     neither xs place (λ is. not_zero (forward_at xs is).0) (λ is. not_seven (backward_at xs is).0)
-
--- one more in place of the oldest of eight
-pub latest_eight-next : (row : List ℕ) (a b c d e f g h quarter : ℕ) → latest_eight row ≡ a ∷ b ∷ c ∷ d ∷ e ∷ f ∷ g ∷ h ∷ []
-    → latest_eight (row ++ quarter ∷ []) ≡ b ∷ c ∷ d ∷ e ∷ f ∷ g ∷ h ∷ quarter ∷ []
-latest_eight-next row a b c d e f g h quarter is =
-    sym (latest_eight-full row quarter (ap length is)) ∙ ap (λ (l : List ℕ). remove l 0 ++ quarter ∷ []) is

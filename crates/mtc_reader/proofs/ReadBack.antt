@@ -1,5 +1,6 @@
 -- What carries a label is read as that label.
-use Rattle.std.proofs.Common.{◌≡◌, ◌≢◌, ◌<◌, ◌≤◌, ◌++◌, length, map, Some, append-nil, ℕ, ◌+◌, ◌*◌, ◌/◌, ◌%◌, List, [], ◌∷◌, true, refl, ◌∙◌, ap, arith}
+use Rattle.std.proofs.Common.{◌≡◌, ◌≢◌, ◌<◌, ◌≤◌, ◌++◌, length, map, Some, append-nil, ℕ, ◌+◌, ◌*◌, ◌/◌, ◌%◌, List, []}
+use Rattle.std.proofs.Common.{◌∷◌, true, refl, ◌∙◌, ap, arith}
 use Rattle.std.proofs.lemmas.Bool.{cond-true}
 use Rattle.std.proofs.lemmas.Bool.Decides.{nat_tests}
 use Rattle.tc_address.specs.declared.count.Count.{Count}
@@ -17,8 +18,7 @@ use Rattle.mtc_reader.specs.Laws.{code_of, full_message, quarters, rising, falli
 use Rattle.mtc_reader.specs.Messages.{Current, current_in, is_data, is_sounding}
 use Rattle.mtc_reader.specs.StandsFor.{events_of}
 use Rattle.mtc_reader.proofs.AlongTheBytes.{all_along, events_along}
-use Rattle.mtc_reader.proofs.Labels.{label_is}
-use Rattle.mtc_reader.proofs.LatestEight.{no_window}
+use Rattle.tc_address.specs.LabelLemmas.{label_is}
 
 pub below : (n : ℕ) → n < 0x80 → is_data n ≡ true
 below n h = grind (arith, nat_tests)
@@ -27,10 +27,22 @@ pub sounds : (n : ℕ) → n < 0x80 → is_sounding n ≡ true
 sounds n h = grind (arith, nat_tests)
 
 full_read : (device hr mn sc fr : ℕ) → device < 0x80 → hr < 0x80 → mn < 0x80 → sc < 0x80 → fr < 0x80 →
-    events_in (0xf0 ∷ 0x7f ∷ device ∷ 0x01 ∷ 0x01 ∷ hr ∷ mn ∷ sc ∷ fr ∷ 0xf7 ∷ []) ≡ full_event (full_address hr mn sc fr) 9 ∷ []
+    events_in (0xf0 ∷ 0x7f ∷ device ∷ 0x01 ∷ 0x01 ∷ hr ∷ mn ∷ sc ∷ fr ∷ 0xf7 ∷ [])
+    ≡ full_event (full_address hr mn sc fr) 9 ∷ []
 full_read device hr mn sc fr d h m s f =
     all_along (0xf0 ∷ 0x7f ∷ device ∷ 0x01 ∷ 0x01 ∷ hr ∷ mn ∷ sc ∷ fr ∷ 0xf7 ∷ [])
-    ∙ rw (below device d, below hr h, below mn m, below sc s, below fr f, sounds device d, sounds hr h, sounds mn m, sounds sc s, sounds fr f) refl
+    ∙ rw (
+      below device d,
+      below hr h,
+      below mn m,
+      below sc s,
+      below fr f,
+      sounds device d,
+      sounds hr h,
+      sounds mn m,
+      sounds sc s,
+      sounds fr f,
+    ) refl
 
 -- a quarter frame of a piece: its data byte
 pub record IsQuarter (piece quarter : ℕ) : Type 0 where
@@ -44,24 +56,21 @@ quarter_is piece quarter bits p b is =
     let over : quarter / 16 ≡ piece = omega (arith, p, b, is) in
     record { is_data_byte = below quarter small; is_no_real_time = sounds quarter small; is_piece = over }
 
+-- two bytes on
+abbrev pub on : ℕ → ℕ
+on place = place + 1 + 1
+
 -- what stands after a quarter frame
 abbrev pub after : ℕ → Current
 after quarter = record { kind = kinds.Quarter; numbers = quarter ∷ [] }
 
-pub quarter_step : (place : ℕ) (current : Current) (messages : List Message) (quarter : ℕ) (more : List ℕ) → is_data quarter ≡ true
+pub quarter_step : (place : ℕ) (current : Current) (messages : List Message) (quarter : ℕ) (more : List ℕ)
+    → is_data quarter ≡ true
     → is_sounding quarter ≡ true →
     events_along place current messages (0xf1 ∷ quarter ∷ more)
-    ≡ events_of (event_of (QuarterFrame quarter) messages (place + 1)) ++ events_along (place + 1 + 1) (after quarter) (QuarterFrame quarter ∷ messages) more
+    ≡ events_of (event_of (QuarterFrame quarter) messages (place + 1))
+    ++ events_along (place + 1 + 1) (after quarter) (QuarterFrame quarter ∷ messages) more
 quarter_step place current messages quarter more is_number is_no_real_time = rw (is_number, is_no_real_time) refl
-
--- fewer than eight give nothing yet
-pub early : (place : ℕ) (current : Current) (messages : List Message) (quarter : ℕ) (more : List ℕ) → is_data quarter ≡ true → is_sounding quarter ≡ true →
-    length (latest_eight (row_in messages ++ quarter ∷ [])) ≢ 8 →
-    events_along place current messages (0xf1 ∷ quarter ∷ more) ≡ events_along (place + 1 + 1) (after quarter) (QuarterFrame quarter ∷ messages) more
-early place current messages quarter more is_number is_no_real_time fewer =
-    quarter_step place current messages quarter more is_number is_no_real_time
-    ∙ ap (λ event. events_of event ++ events_along (place + 1 + 1) (after quarter) (QuarterFrame quarter ∷ messages) more)
-    (no_window (latest_eight (row_in messages ++ quarter ∷ [])) (place + 1) fewer)
 
 pub record IsRow (a b c d e f g h : ℕ) : Type 0 where
   pub first : IsQuarter 0 a
@@ -73,30 +82,16 @@ pub record IsRow (a b c d e f g h : ℕ) : Type 0 where
   pub seventh : IsQuarter 6 g
   pub eighth : IsQuarter 7 h
 
-abbrev IsNumber : ℕ → Type 0
+abbrev pub IsNumber : ℕ → Type 0
 IsNumber n = (is_data n ≡ true) × (is_sounding n ≡ true)
 
 -- quarter frames that came, the latest first
 abbrev pub came : List ℕ → List Message
 came numbers = map (λ number. QuarterFrame number) numbers
 
-eight_read : (a b c d e f g h : ℕ) → IsNumber a → IsNumber b → IsNumber c → IsNumber d → IsNumber e → IsNumber f → IsNumber g → IsNumber h →
-    events_in (quarters (a ∷ b ∷ c ∷ d ∷ e ∷ f ∷ g ∷ h ∷ []))
-    ≡ events_of (window_event (a ∷ b ∷ c ∷ d ∷ e ∷ f ∷ g ∷ h ∷ []) 15)
-eight_read a b c d e f g h na nb nc nd ne nf ng nh =
-    all_along (quarters (a ∷ b ∷ c ∷ d ∷ e ∷ f ∷ g ∷ h ∷ []))
-    ∙ early 0 (current_in []) [] a (quarters (b ∷ c ∷ d ∷ e ∷ f ∷ g ∷ h ∷ [])) na.0 na.1 (λ n. absurd (omega (arith, n)))
-    ∙ early 2 (after a) (came (a ∷ [])) b (quarters (c ∷ d ∷ e ∷ f ∷ g ∷ h ∷ [])) nb.0 nb.1 (λ n. absurd (omega (arith, n)))
-    ∙ early 4 (after b) (came (b ∷ a ∷ [])) c (quarters (d ∷ e ∷ f ∷ g ∷ h ∷ [])) nc.0 nc.1 (λ n. absurd (omega (arith, n)))
-    ∙ early 6 (after c) (came (c ∷ b ∷ a ∷ [])) d (quarters (e ∷ f ∷ g ∷ h ∷ [])) nd.0 nd.1 (λ n. absurd (omega (arith, n)))
-    ∙ early 8 (after d) (came (d ∷ c ∷ b ∷ a ∷ [])) e (quarters (f ∷ g ∷ h ∷ [])) ne.0 ne.1 (λ n. absurd (omega (arith, n)))
-    ∙ early 10 (after e) (came (e ∷ d ∷ c ∷ b ∷ a ∷ [])) f (quarters (g ∷ h ∷ [])) nf.0 nf.1 (λ n. absurd (omega (arith, n)))
-    ∙ early 12 (after f) (came (f ∷ e ∷ d ∷ c ∷ b ∷ a ∷ [])) g (quarters (h ∷ [])) ng.0 ng.1 (λ n. absurd (omega (arith, n)))
-    ∙ quarter_step 14 (after g) (came (g ∷ f ∷ e ∷ d ∷ c ∷ b ∷ a ∷ [])) h [] nh.0 nh.1
-    ∙ append-nil (events_of (window_event (a ∷ b ∷ c ∷ d ∷ e ∷ f ∷ g ∷ h ∷ []) 15))
-
 pub rising_window : (place a b c d e f g h : ℕ) → IsRow a b c d e f g h →
-    window_event (a ∷ b ∷ c ∷ d ∷ e ∷ f ∷ g ∷ h ∷ []) place ≡ Some (quarter_event Forward (quarter_address (a ∷ b ∷ c ∷ d ∷ e ∷ f ∷ g ∷ h ∷ [])) place)
+    window_event (a ∷ b ∷ c ∷ d ∷ e ∷ f ∷ g ∷ h ∷ []) place
+    ≡ Some (quarter_event Forward (quarter_address (a ∷ b ∷ c ∷ d ∷ e ∷ f ∷ g ∷ h ∷ [])) place)
 rising_window place a b c d e f g h row =
     rw (
       row.first.is_piece,
@@ -110,7 +105,8 @@ rising_window place a b c d e f g h row =
     ) refl
 
 pub falling_window : (place a b c d e f g h : ℕ) → IsRow a b c d e f g h →
-    window_event (h ∷ g ∷ f ∷ e ∷ d ∷ c ∷ b ∷ a ∷ []) place ≡ Some (quarter_event Backward (quarter_address (a ∷ b ∷ c ∷ d ∷ e ∷ f ∷ g ∷ h ∷ [])) place)
+    window_event (h ∷ g ∷ f ∷ e ∷ d ∷ c ∷ b ∷ a ∷ []) place
+    ≡ Some (quarter_event Backward (quarter_address (a ∷ b ∷ c ∷ d ∷ e ∷ f ∷ g ∷ h ∷ [])) place)
 falling_window place a b c d e f g h row =
     rw (
       row.first.is_piece,
@@ -144,21 +140,26 @@ rate_below C30 = omega arith
 pub frames_below : (a : Address) → IsLabel a → a.frames < 30
 frames_below a l = omega (arith, rate_below a.count, l.frames)
 
-pub full_back : (a : Address) → IsLabel a → full_address (32 * code_of a.count + a.hours) a.minutes a.seconds a.frames ≡ a
+pub full_back : (a : Address) → IsLabel a → full_address (32 * code_of a.count + a.hours) a.minutes a.seconds a.frames
+    ≡ a
 full_back a l =
     let over : (32 * code_of a.count + a.hours) / 32 ≡ code_of a.count = omega (arith, l.hours) in
     let under : (32 * code_of a.count + a.hours) % 32 ≡ a.hours = omega (arith, l.hours) in
     rw (over, under, count_back a.count) refl
 
-pub full_message_back : (device : ℕ) (a : Address) → device < 0x80 → IsLabel a → events_in (full_message device a) ≡ Full a 9 ∷ []
+pub full_message_back : (device : ℕ) (a : Address) → device < 0x80 → IsLabel a
+    → events_in (full_message device a) ≡ Full a 9 ∷ []
 full_message_back device a small l =
     let hours : 32 * code_of a.count + a.hours < 0x80 = omega (arith, l.hours, code_below a.count) in
-    full_read device (32 * code_of a.count + a.hours) a.minutes a.seconds a.frames small hours (omega (arith, l.minutes)) (omega (arith, l.seconds))
+    full_read device (32 * code_of a.count + a.hours) a.minutes a.seconds a.frames small hours
+    (omega (arith, l.minutes)) (omega (arith, l.seconds))
     (omega (arith, frames_below a l)) ∙ ap (λ b. full_event b 9 ∷ []) (full_back a l)
     ∙ ap (λ event. event ∷ []) (cond-true (is_label a) (Full a 9) (RefusedFull (fault_of a) 9) (label_is a l))
 
-quarter_back : (a b c d e f g h : ℕ) (label : Address) → IsLabel label → a ≡ label.frames % 16 → b ≡ 16 + label.frames / 16
-    → c ≡ 32 + label.seconds % 16 → d ≡ 48 + label.seconds / 16 → e ≡ 64 + label.minutes % 16 → f ≡ 80 + label.minutes / 16
+quarter_back : (a b c d e f g h : ℕ) (label : Address) → IsLabel label → a ≡ label.frames % 16
+    → b ≡ 16 + label.frames / 16
+    → c ≡ 32 + label.seconds % 16 → d ≡ 48 + label.seconds / 16 → e ≡ 64 + label.minutes % 16
+    → f ≡ 80 + label.minutes / 16
     → g ≡ 96 + label.hours % 16 → h ≡ 112 + (label.hours / 16 + 2 * code_of label.count)
     → quarter_address (a ∷ b ∷ c ∷ d ∷ e ∷ f ∷ g ∷ h ∷ []) ≡ label
 quarter_back a b c d e f g h label l ia ib ic id ie if_ ig ih =
@@ -169,11 +170,13 @@ quarter_back a b c d e f g h label l ia ib ic id ie if_ ig ih =
     let code : h % 16 / 2 % 4 ≡ code_of label.count = omega (arith, l.hours, code_below label.count, ih) in
     rw (frames, seconds, minutes, hours, code, count_back label.count) refl
 
-pub row_is : (a : Address) → IsLabel a → IsRow (a.frames % 16) (0x10 + a.frames / 16) (0x20 + a.seconds % 16) (0x30 + a.seconds / 16) (0x40 + a.minutes % 16)
+pub row_is : (a : Address) → IsLabel a → IsRow (a.frames % 16) (0x10 + a.frames / 16) (0x20 + a.seconds % 16)
+    (0x30 + a.seconds / 16) (0x40 + a.minutes % 16)
     (0x50 + a.minutes / 16) (0x60 + a.hours % 16) (0x70 + (a.hours / 16 + 2 * code_of a.count))
 row_is a l = record {
   first = quarter_is 0 (a.frames % 16) (a.frames % 16) (omega arith) (omega arith) (omega arith);
-  second = quarter_is 1 (0x10 + a.frames / 16) (a.frames / 16) (omega arith) (omega (arith, frames_below a l)) (omega arith);
+  second = quarter_is 1 (0x10 + a.frames / 16) (a.frames / 16) (omega arith) (omega (arith, frames_below a l))
+      (omega arith);
   third = quarter_is 2 (0x20 + a.seconds % 16) (a.seconds % 16) (omega arith) (omega arith) (omega arith);
   fourth = quarter_is 3 (0x30 + a.seconds / 16) (a.seconds / 16) (omega arith) (omega (arith, l.seconds)) (omega arith);
   fifth = quarter_is 4 (0x40 + a.minutes % 16) (a.minutes % 16) (omega arith) (omega arith) (omega arith);
@@ -183,25 +186,8 @@ row_is a l = record {
       (omega (arith, l.hours, code_below a.count)) (omega arith);
 }
 
-number_of : (piece quarter : ℕ) → IsQuarter piece quarter → IsNumber quarter
-number_of piece quarter is = (is.is_data_byte, is.is_no_real_time)
-
-pub address_back : (a : Address) → IsLabel a → quarter_address (a.frames % 16 ∷ (0x10 + a.frames / 16) ∷ (0x20 + a.seconds % 16) ∷ (0x30 + a.seconds / 16)
-    ∷ (0x40 + a.minutes % 16) ∷ (0x50 + a.minutes / 16) ∷ (0x60 + a.hours % 16) ∷ (0x70 + (a.hours / 16 + 2 * code_of a.count)) ∷ []) ≡ a
+pub address_back : (a : Address) → IsLabel a → quarter_address
+    (a.frames % 16 ∷ (0x10 + a.frames / 16) ∷ (0x20 + a.seconds % 16) ∷ (0x30 + a.seconds / 16)
+    ∷ (0x40 + a.minutes % 16) ∷ (0x50 + a.minutes / 16) ∷ (0x60 + a.hours % 16) ∷
+    (0x70 + (a.hours / 16 + 2 * code_of a.count)) ∷ []) ≡ a
 address_back a l = quarter_back _ _ _ _ _ _ _ _ a l refl refl refl refl refl refl refl refl
-
-pub rising_back : (a : Address) → IsLabel a → events_in (rising a) ≡ Quarter Forward a 15 ∷ []
-rising_back a l =
-    let row = row_is a l in
-    eight_read _ _ _ _ _ _ _ _ (number_of 0 _ row.first) (number_of 1 _ row.second) (number_of 2 _ row.third) (number_of 3 _ row.fourth)
-    (number_of 4 _ row.fifth) (number_of 5 _ row.sixth) (number_of 6 _ row.seventh) (number_of 7 _ row.eighth)
-    ∙ ap events_of (rising_window 15 _ _ _ _ _ _ _ _ row) ∙ ap (λ b. quarter_event Forward b 15 ∷ []) (address_back a l)
-    ∙ ap (λ event. event ∷ []) (cond-true (is_label a) (Quarter Forward a 15) (RefusedQuarter Forward (fault_of a) 15) (label_is a l))
-
-pub falling_back : (a : Address) → IsLabel a → events_in (falling a) ≡ Quarter Backward a 15 ∷ []
-falling_back a l =
-    let row = row_is a l in
-    eight_read _ _ _ _ _ _ _ _ (number_of 7 _ row.eighth) (number_of 6 _ row.seventh) (number_of 5 _ row.sixth) (number_of 4 _ row.fifth)
-    (number_of 3 _ row.fourth) (number_of 2 _ row.third) (number_of 1 _ row.second) (number_of 0 _ row.first)
-    ∙ ap events_of (falling_window 15 _ _ _ _ _ _ _ _ row) ∙ ap (λ b. quarter_event Backward b 15 ∷ []) (address_back a l)
-    ∙ ap (λ event. event ∷ []) (cond-true (is_label a) (Quarter Backward a 15) (RefusedQuarter Backward (fault_of a) 15) (label_is a l))

@@ -1,5 +1,6 @@
 -- The moments of some samples stay where samples follow, and the later ones stand behind them; so do their distances.
 use Rattle.std.proofs.Common.{◌≡◌, ℕ, ◌-◌, cond, ℤ, List, [], ◌∷◌, ◌++◌, length, refl, ap, sym, ◌∙◌, append_assoc, append-nil}
+use Rattle.pcm_front.specs.DistanceLemmas.{gaps_after-front, gaps-front}
 use Rattle.pcm_front.specs.declared.start.Start.{Start}
 use Rattle.pcm_front.specs.declared.start.Start.TheVariants.{Crossing, Tick}
 use Rattle.pcm_front.specs.declared.threshold.Threshold.{Threshold}
@@ -21,22 +22,14 @@ moments-stay f threshold xs (s ∷ more) =
           ∙ append_assoc (moments f threshold xs) new later.0,
     )
 
-gaps_after-stay : (x : ℕ) (ms more : List ℕ) → (rest : List ℕ) × (gaps_after x (ms ++ more) ≡ gaps_after x ms ++ rest)
-gaps_after-stay x [] more = (gaps_after x more, refl)
-gaps_after-stay x (y ∷ ms) more = let later = gaps_after-stay y ms more in (later.0, ap (λ ds. (y - x) ∷ ds) later.1)
-
-gaps-stay : (ms more : List ℕ) → (rest : List ℕ) × (gaps (ms ++ more) ≡ gaps ms ++ rest)
-gaps-stay [] more = (gaps more, refl)
-gaps-stay (x ∷ ms) more = gaps_after-stay x ms more
-
 -- the distances, where the first one begins there
 pub distances-stay : (start : Start) (f : ℕ) (threshold : Threshold) (xs more : List ℤ) →
     (rest : List ℕ) × (distances_since start f threshold (xs ++ more) ≡ distances_since start f threshold xs ++ rest)
 distances-stay Crossing f threshold xs more =
     let later = moments-stay f threshold xs more in
-    let ds = gaps-stay (moments f threshold xs) later.0 in
+    let ds = gaps-front (moments f threshold xs) later.0 in
     (ds.0, ap gaps later.1 ∙ ds.1)
 distances-stay Tick f threshold xs more =
     let later = moments-stay f threshold xs more in
-    let ds = gaps_after-stay 0 (moments f threshold xs) later.0 in
+    let ds = gaps_after-front 0 (moments f threshold xs) later.0 in
     (ds.0, ap (gaps_after 0) later.1 ∙ ds.1)

@@ -9,6 +9,7 @@ use Rattle.std.specs.Prelude.{unsigned_abs}
 use Rattle.std.specs.List.{AllByRecursion, range_with_len}
 use Rattle.std.proofs.Math.Nat.{max-eq_left}
 use Rattle.std.proofs.Math.Path.{fun_ext}
+use Rattle.lemmas.specs.Lists.{front_keeps}
 use Rattle.pcm_front.specs.declared.level.Level.{Level}
 use Rattle.pcm_front.specs.declared.side.Side.{Side}
 use Rattle.pcm_front.specs.declared.side.Side.TheVariants.{High, Low}
@@ -78,11 +79,6 @@ runs_within size side (x ∷ xs) =
 
 sound_within : (size : ℕ) (xs : List ℕ) → AllByRecursion (IsWithinSize size) (sound size xs)
 sound_within size xs = (omega (arith, size_of Low size), runs_within size High xs)
-
-front_keeps : (P : ℤ → Type 0) (n : ℕ) (xs : List ℤ) → AllByRecursion P xs → AllByRecursion P (take n xs)
-front_keeps P zero xs all = tt
-front_keeps P (suc n) [] all = tt
-front_keeps P (suc n) (x ∷ xs) all = (all.0, front_keeps P n xs all.1)
 
 -- its peak after some samples
 peak_within : (size : ℕ) (xs : List ℕ) (n : ℕ) → (level_of (take n (sound size xs))).peak ≤ size

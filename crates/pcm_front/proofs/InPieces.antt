@@ -6,7 +6,9 @@ use Rattle.std.specs.List.{flat_map, AllByRecursion}
 use Rattle.std.proofs.Math.Nat.{div-mul-le_self, lt-div-mul-add, div-eq_of_lt, mul-add-div_right, mul-add}
 use Rattle.std.proofs.lemmas.List.{replicate-append-replicate}
 use Rattle.std.proofs.lemmas.List.Sums.{sum_by-cons}
-use Rattle.pcm_front.specs.Distance.{greatest, whole_pieces, pieces_in, pieces_of, IsInterval}
+use Rattle.pcm_front.specs.DistanceLemmas.{IsPiece}
+use Rattle.limits.specs.declared.recording.TheConstants.{MAX_INTERVAL}
+use Rattle.pcm_front.specs.Distance.{whole_pieces, pieces_in, pieces_of, IsInterval}
 
 -- the whole pieces fall short of the distance, by a length at most
 pub rest_within : (n d : ℕ) → 1 ≤ n → 1 ≤ d → ((d - 1) / n * n < d) × (d ≤ (d - 1) / n * n + n)
@@ -20,10 +22,6 @@ rest_is : (n d : ℕ) → 1 ≤ n → 1 ≤ d → (n * whole_pieces n d < d) × 
 rest_is n d some some_too = rw (mul_comm n (whole_pieces n d)) (rest_within n d some some_too)
 
 -- ---- what they are
-
--- from 1 to a length
-abbrev pub IsPiece : ℕ → ℕ → Type 0
-IsPiece n x = (1 ≤ x) × (x ≤ n)
 
 sum-pieces : (n x rest : ℕ) → sum (replicate n x ++ rest ∷ []) ≡ n * x + rest
 sum-pieces zero x rest = omega arith
@@ -45,31 +43,13 @@ pieces_in-range n d some some_too =
     let rest = rest_is n d some some_too in
     all-pieces n (whole_pieces n d) n (d - n * whole_pieces n d) (some, omega arith) (omega (arith, rest.0), omega (arith, rest.1))
 
--- a distance within the length is one piece
-pub one_piece_in : (n d : ℕ) → IsPiece n d → pieces_in n d ≡ d ∷ []
-one_piece_in n d is =
-    let below : d - 1 < n = omega (arith, is.0, is.1) in
-    let none : whole_pieces n d ≡ 0 = div-eq_of_lt below in
-    ap (λ k. replicate k n ++ (d - n * k) ∷ []) none ∙ ap (λ rest. rest ∷ []) (omega arith)
-
-pub whole_in : (n : ℕ) (ds : List ℕ) → AllByRecursion (IsPiece n) ds → flat_map (pieces_in n) ds ≡ ds
-whole_in n [] are = refl
-whole_in n (d ∷ ds) are = ap₂ ◌++◌ (one_piece_in n d are.0) (whole_in n ds are.1)
-
 -- ---- the greatest intervals
 
 pub sum-pieces_of : (d : ℕ) → 1 ≤ d → sum (pieces_of d) ≡ d
-sum-pieces_of d some = sum-pieces_in greatest d (omega arith) some
+sum-pieces_of d some = sum-pieces_in MAX_INTERVAL d (omega arith) some
 
 pub pieces_of-intervals : (d : ℕ) → 1 ≤ d → AllByRecursion IsInterval (pieces_of d)
-pieces_of-intervals d some = pieces_in-range greatest d (omega arith) some
-
-pub one_piece : (d : ℕ) → IsInterval d → pieces_of d ≡ d ∷ []
-one_piece d is = one_piece_in greatest d is
-
--- distances that are intervals are written as they are
-pub written_whole : (ds : List ℕ) → AllByRecursion IsInterval ds → flat_map pieces_of ds ≡ ds
-written_whole ds are = whole_in greatest ds are
+pieces_of-intervals d some = pieces_in-range MAX_INTERVAL d (omega arith) some
 
 -- ---- the first of them
 

@@ -18,7 +18,8 @@ use Rattle.pcm_front.specs.declared.start.Start.TheVariants.{Crossing, Tick}
 use Rattle.pcm_front.specs.declared.threshold.Threshold.{Threshold}
 use Rattle.pcm_front.specs.declared.threshold.Threshold.TheVariants.{Fixed, Follow, Deep}
 use Rattle.pcm_front.specs.Crossing.{tick_to}
-use Rattle.pcm_front.specs.Distance.{distances_by, distances_since, greatest, intervals_by, pieces_in, IsInterval}
+use Rattle.limits.specs.declared.recording.TheConstants.{MAX_INTERVAL}
+use Rattle.pcm_front.specs.Distance.{distances_by, distances_since, intervals_by, pieces_in, IsInterval}
 use Rattle.pcm_front.specs.Level.{silent, threshold_by}
 use Rattle.pcm_front.specs.Pace.{begun, begun_in, intervals_at, longest, passed_by, passed_since, ticks_since, IsPace}
 use Rattle.pcm_front.specs.Pace.{Passes}
@@ -28,7 +29,8 @@ use Rattle.pcm_front.specs.StandsFor.{passed_in, Finds}
 use Rattle.pcm_front.specs.State.{between, crossing_in, distance_at, fresh, late_start, level_in, state_after}
 use Rattle.pcm_front.specs.State.{state_of, FinderState}
 use Rattle.pcm_front.specs.Sums.{sums}
-use Rattle.pcm_front.proofs.InPieces.{begun_first, sum-pieces_in, whole_in}
+use Rattle.pcm_front.proofs.InPieces.{begun_first, sum-pieces_in}
+use Rattle.pcm_front.specs.DistanceLemmas.{whole_in}
 use Rattle.pcm_front.proofs.Passing.{begun-below, grown, more_begun, passed_is}
 use Rattle.pcm_front.proofs.Rising.{side_of_crossing, sliced-some}
 use Rattle.pcm_front.proofs.Rounding.{tick_to-within}
@@ -216,4 +218,5 @@ short_so n s xs is fine most few =
     let some = recursion_from_All (λ d. 1 ≤ d) ds (sliced-some s xs fine) in
     let none : passed_by s xs / n ≡ 0 = div-eq_of_lt few in
     ap₂ (λ (l : List ℕ) k. l ++ replicate k n) (whole_in n ds (both n ds some most)) none
-    ∙ append-nil ds ∙ sym (whole_in greatest ds (both greatest ds some (within_more n greatest ds is.1 most)))
+    ∙ append-nil ds
+    ∙ sym (whole_in MAX_INTERVAL ds (both MAX_INTERVAL ds some (within_more n MAX_INTERVAL ds is.1 most)))

@@ -4,6 +4,7 @@ use Rattle.std.specs.Prelude.{unsigned_abs, negsuc, FitsSigned}
 use Rattle.std.specs.List.{AllByRecursion}
 use Rattle.std.specs.Int.{w16, cast_signed, cast_unsigned}
 use Rattle.std.proofs.lemmas.Int.{fits_signed_from_abs, to_z-of_z}
+use Rattle.lemmas.specs.Bits.{in_two_bytes}
 use Rattle.byteorder.specs.Numbers.{little_number-reads_back}
 use Rattle.pcm_front.specs.declared.side.Side.{Side}
 use Rattle.pcm_front.specs.declared.side.Side.TheVariants.{High, Low}
@@ -11,10 +12,6 @@ use Rattle.pcm_front.specs.Runs.{joined}
 use Rattle.pcm_front.specs.Samples.{bytes_of, sample_bytes, sample_in, samples_of}
 use Rattle.pcm_front.specs.Side.{other_side, upward}
 use Rattle.pcm_front.specs.Sound.{sound, sound_runs}
-
-in_two_bytes : (sample : ℤ) → FitsSigned w16 sample → cast_unsigned w16 sample < 256 ^ 2
-in_two_bytes (pos n) fits = omega (arith, fits.sfits)
-in_two_bytes (negsuc n) fits = omega arith
 
 one_back : (sample : ℤ) → FitsSigned w16 sample → sample_in (sample_bytes sample) ≡ sample
 one_back sample fits = ap (cast_signed w16) (little_number-reads_back 2 (cast_unsigned w16 sample) [] (in_two_bytes sample fits)) ∙ to_z-of_z w16 sample fits

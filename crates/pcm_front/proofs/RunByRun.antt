@@ -5,6 +5,7 @@ use Rattle.std.specs.List.{AllByRecursion}
 use Rattle.std.specs.Option.{option_or}
 use Rattle.std.proofs.lemmas.Int.{ints}
 use Rattle.std.proofs.lemmas.List.{get_or_push, get_or_append_left, length_push, length-append, map-append}
+use Rattle.std.proofs.Math.IntN.{neg_ℤ-neg_ℤ}
 use Rattle.pcm_front.specs.declared.side.Side.{Side}
 use Rattle.pcm_front.specs.declared.side.Side.TheVariants.{High, Low}
 use Rattle.pcm_front.specs.declared.threshold.Threshold.TheVariants.{Fixed}
@@ -176,13 +177,9 @@ size_on_side t h Low s some above is =
     let low : int_le (neg_ℤ (pos h)) (neg_ℤ (pos t)) ≡ true = grind (arith, ints) in
     rw (is, not_high, low) refl
 
-neg-neg : (h : ℕ) → neg_ℤ (neg_ℤ (pos h)) ≡ pos h
-neg-neg zero = refl
-neg-neg (suc h) = refl
-
 size_tick : (f t h : ℕ) (side : Side) (a b : ℤ) → IsOfSize h side a → IsOfSize h (other_side side) b →
     tick_to (Some (other_side side)) f t a b ≡ tick_in_step f t (neg_ℤ (pos h)) (pos h)
-size_tick f t h High a b is is_too = rw (is, is_too, neg-neg h) refl
+size_tick f t h High a b is is_too = rw (is, is_too, neg_ℤ-neg_ℤ (pos h)) refl
 size_tick f t h Low a b is is_too = rw (is, is_too) refl
 
 map_twice : (f : ℕ) (runs : List (List ℤ)) → map (λ k. f * k) (map length runs) ≡ map (λ run. f * length run) runs

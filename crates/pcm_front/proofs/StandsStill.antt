@@ -108,7 +108,7 @@ stands_still state xs s stands =
           ∙ ap (λ ms. option_map (λ moment. moment + f) (latest_moment state.start ms)) (sym (moments-more f threshold xs s));
     }
 
-between-none : (o : Option ℕ) → between o None ≡ None
+pub between-none : (o : Option ℕ) → between o None ≡ None
 between-none None = refl
 between-none (Some x) = refl
 

@@ -11,7 +11,7 @@ use Rattle.pcm_front.specs.StandsFor.{distances_in, Finds, Stand}
 use Rattle.pcm_front.specs.State.{between, distance_at, level_in, state_after, state_of, window_after, FinderState, IsAlone, WindowState}
 use Rattle.pcm_front.specs.Sums.{sums, total}
 use Rattle.pcm_front.proofs.Sides.{stays_apart, stays_there}
-use Rattle.pcm_front.proofs.StandsStill.{brings_distance, stands_still}
+use Rattle.pcm_front.proofs.StandsStill.{brings_distance, stands_still, between-none}
 use Rattle.pcm_front.proofs.SumsStay.{alone, sums-more}
 use Rattle.pcm_front.proofs.Windows.{kept-more, sum-now}
 
@@ -83,11 +83,6 @@ runs_then a b c w v u first second distance runs more =
 
 -- ---- samples with which the sound stays on its side
 
--- between any moment and none there is nothing
-no_moment : (before : Option ℕ) → between before None ≡ None
-no_moment None = refl
-no_moment (Some before) = refl
-
 -- the sound stays on its side at this sum
 abbrev pub IsStill : FinderState → ℤ → Type 0
 IsStill state sum = stays state.side (side_of (threshold_by state.threshold (level_in state sum)) sum) ≡ true
@@ -104,7 +99,7 @@ state_still state sum is =
 none_still : (state : FinderState) (sum : ℤ) → IsStill state sum → distance_at state sum ≡ None
 none_still state sum is =
     let side = side_of (threshold_by state.threshold (level_in state sum)) sum in
-    rw (stays_apart state.side side is) (no_moment state.latest)
+    rw (stays_apart state.side side is) (between-none state.latest)
 
 -- one of them more
 pub still_on : (start state : FinderState) (window after : WindowState) (taken : List ℤ) (s y : ℤ) → 1 ≤ after.smooth

@@ -1,6 +1,7 @@
 -- What a list of samples gives: the distances of neighbouring crossings, and the intervals in which they are written.
 use Rattle.std.specs.Prelude.{ℕ, ◌-◌, ◌*◌, ◌/◌, ◌≤◌, ℤ, List, [], ◌∷◌, ◌++◌, replicate, Option, Some, None}
 use Rattle.std.specs.List.{flat_map, last_or}
+use Rattle.limits.specs.declared.recording.TheConstants.{MAX_INTERVAL}
 use Rattle.pcm_front.specs.declared.start.Start.{Start}
 use Rattle.pcm_front.specs.declared.start.Start.TheVariants.{Crossing, Tick}
 use Rattle.pcm_front.specs.declared.threshold.Threshold.{Threshold}
@@ -40,13 +41,9 @@ latest_moment Tick moments = last_or (Some 0) moments
 abbrev pub distances_by : Settings → List ℤ → List ℕ
 distances_by s samples = distances_since s.start s.fineness s.threshold (sums s.smooth samples)
 
--- the greatest interval of an interval file
-abbrev pub greatest : ℕ
-greatest = 16_777_215
-
 -- the length of an interval
 abbrev pub IsInterval : ℕ → Type 0
-IsInterval length = (1 ≤ length) × (length ≤ greatest)
+IsInterval length = (1 ≤ length) × (length ≤ MAX_INTERVAL)
 
 -- how many whole pieces of a length a distance begins with
 abbrev pub whole_pieces : ℕ → ℕ → ℕ
@@ -59,7 +56,7 @@ pieces_in length distance =
 
 -- the intervals of a distance: greatest ones, and one with the rest
 abbrev pub pieces_of : ℕ → List ℕ
-pieces_of distance = pieces_in greatest distance
+pieces_of distance = pieces_in MAX_INTERVAL distance
 
 -- the intervals of a list of samples
 abbrev pub intervals : ℕ → Threshold → List ℤ → List ℕ

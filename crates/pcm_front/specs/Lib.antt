@@ -12,3 +12,5 @@ pub mod Sound
 pub mod StandsFor
 pub mod State
 pub mod Sums
+pub mod DistanceLemmas
+pub mod SideLemmas

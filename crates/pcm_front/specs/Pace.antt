@@ -9,13 +9,14 @@ use Rattle.pcm_front.specs.declared.interval.Intervals.{Intervals}
 use Rattle.pcm_front.specs.declared.start.Start.{Start}
 use Rattle.pcm_front.specs.declared.threshold.Threshold.{Threshold}
 use Rattle.pcm_front.specs.Crossing.{moments}
-use Rattle.pcm_front.specs.Distance.{distances_by, greatest, latest_moment, pieces_in, IsInterval}
+use Rattle.limits.specs.declared.recording.TheConstants.{MAX_INTERVAL}
+use Rattle.pcm_front.specs.Distance.{distances_by, latest_moment, pieces_in, IsInterval}
 use Rattle.pcm_front.specs.Settings.{Settings}
 use Rattle.pcm_front.specs.Sums.{sums}
 
 -- the length of a whole piece
 abbrev pub longest : Pace → ℕ
-longest Ended = greatest
+longest Ended = MAX_INTERVAL
 longest (Passing length) = length
 
 -- it is that of an interval

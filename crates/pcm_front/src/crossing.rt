@@ -8,7 +8,7 @@ use crate::side::Side;
 
 /// The tick in the step from sum `a` to sum `b` in which the sound reaches the side of `b`: from 1
 /// to the fineness. Sum `a` itself may lie there already, by the lower threshold of `b`.
-#[tactic(auto, using(crate::proofs::Rounding::side_above))]
+#[tactic(auto, using(crate::specs::SideLemmas::side_above))]
 pub(crate) fn tick_to(side: Side, fineness: u32, threshold: u32, a: i32, b: i32) -> u32
     requires least { 1 ≤ fineness }
     requires most { fineness ≤ 64 }

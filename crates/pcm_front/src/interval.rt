@@ -2,9 +2,6 @@
 ghost use Rattle.std.specs.Prelude.{◌≡◌, ◌+◌, ◌*◌, ◌≤◌, ◌^◌, [], ◌∷◌, ◌++◌, replicate};
 ghost use Rattle.pcm_front.specs.Distance.{pieces_in, IsInterval};
 
-/// The greatest length of an interval, in ticks. The least is 1.
-pub const MAX_INTERVAL: u32 = 16_777_215;
-
 /// Intervals in a row: those of a distance that ended, behind what was written of it before, and those
 /// of the one that has begun.
 #[derive(Clone, Copy, Debug, PartialEq, Eq)]
@@ -20,7 +17,7 @@ pub struct Intervals {
 }
 
 /// How many whole pieces of a length a distance begins with, and the interval that follows them.
-#[tactic(auto, using(crate::proofs::InPieces::one_piece_in))]
+#[tactic(auto, using(crate::specs::DistanceLemmas::one_piece_in))]
 #[inline(always)]
 pub fn pieces(length: u32, distance: u64) -> (u64, u32)
     requires length { IsInterval length }

@@ -4,7 +4,6 @@ ghost use Rattle.std.specs.Prelude.{int_le, unsigned_abs, List, [], ◌∷◌};
 ghost use Rattle.std.specs.Prelude.{◌++◌, length, map, take, drop};
 ghost use Rattle.std.specs.Int.{w16};
 ghost use Rattle.std.specs.List.{All, AllByRecursion, sum};
-ghost use Rattle.pcm_front.specs.declared.interval.TheConstants.{MAX_INTERVAL};
 ghost use Rattle.pcm_front.specs.declared.pace.Pace.{Pace};
 ghost use Rattle.pcm_front.specs.declared.side.Side.{Side};
 ghost use Rattle.pcm_front.specs.declared.threshold.Threshold.{Threshold};
@@ -21,11 +20,6 @@ ghost use Rattle.pcm_front.specs.Samples.{bytes_of, samples_of};
 ghost use Rattle.pcm_front.specs.Settings.{from_crossing, Settings};
 ghost use Rattle.pcm_front.specs.Sound.{sound};
 ghost use Rattle.pcm_front.specs.Sums.{sums};
-
-/// The greatest length of an interval, in ticks: 24 bits.
-pub fn the_greatest_interval_is_this()
-    ensures { MAX_INTERVAL ≡ 2 ^ 24 - 1 }
-{}
 
 /// A sum has 16 samples at most, and a threshold is at most the sum of 16 samples that are 32,767.
 pub fn sums_and_thresholds_have_these_limits()

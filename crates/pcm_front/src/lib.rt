@@ -47,7 +47,7 @@ mod still;
 mod threshold;
 mod window;
 
-pub use interval::{Intervals, MAX_INTERVAL, pieces};
+pub use interval::{Intervals, pieces};
 pub use pace::Pace;
 pub use side::Side;
 pub use slicer::Slicer;

@@ -5,7 +5,8 @@ ghost use Rattle.std.specs.Option.{option_to_list};
 ghost use Rattle.pcm_front.specs.Distance.{pieces_in};
 ghost use Rattle.pcm_front.specs.Pace.{begun, begun_in, intervals_in, longest, IsPace, Passes};
 
-use crate::interval::{Intervals, MAX_INTERVAL, pieces};
+use crate::interval::{Intervals, pieces};
+use limits::MAX_INTERVAL;
 
 /// When the intervals of a distance are written, and how long they are at most.
 #[derive(Clone, Copy, Debug, PartialEq, Eq)]

@@ -1,9 +1,12 @@
--- The text of a run is a full message and pairs, eight quarter frames each, and maybe half a pair; so it is read pair by pair.
-use Rattle.std.proofs.Common.{◌≡◌, ◌<◌, ◌⊎◌, inl, inr, ℕ, ◌+◌, ◌*◌, ◌%◌, true, false, pos, neg_ℤ, List, [], ◌∷◌, ◌++◌, map, Some, refl, sym, ◌∙◌, ap}
+-- The text of a run is a full message and pairs, eight quarter frames each, and maybe half a pair; so it is read pair
+-- by pair.
+use Rattle.std.proofs.Common.{◌≡◌, ◌<◌, ◌⊎◌, inl, inr, ℕ, ◌+◌, ◌*◌, ◌%◌, true, false, pos, neg_ℤ, List, [], ◌∷◌, ◌++◌}
+use Rattle.std.proofs.Common.{map, Some, refl, sym, ◌∙◌, ap}
 use Rattle.std.proofs.Common.{subst, append_assoc, append-nil, arith}
 use Rattle.std.specs.List.{take_while}
 use Rattle.std.proofs.lemmas.Bool.Decides.{nat_tests}
 use Rattle.std.proofs.lemmas.List.Sums.{take_while-cons}
+use Rattle.lemmas.specs.Lists.{take_while-on}
 use Rattle.tc_address.specs.declared.count.Count.{Count}
 use Rattle.tc_address.specs.declared.count.Count.TheVariants.{C24, C25, C30, Drop30}
 use Rattle.tc_address.specs.declared.direction.Direction.{Direction}
@@ -16,7 +19,8 @@ use Rattle.flywheel.specs.Frames.{steps_in}
 use Rattle.mtc_reader.specs.declared.event.MtcEvent.{MtcEvent}
 use Rattle.mtc_reader.specs.declared.event.MtcEvent.TheVariants.{Full, Quarter}
 use Rattle.mtc_reader.specs.Events.{events_in}
-use Rattle.mtc_reader.specs.Laws.{all_falling, all_rising, at_no_place, falling, falling_half, quarter_events, rising, rising_half, AreLabels}
+use Rattle.mtc_reader.specs.Laws.{all_falling, all_rising, at_no_place, falling, falling_half, quarter_events, rising}
+use Rattle.mtc_reader.specs.Laws.{rising_half, AreLabels}
 use Rattle.mtc_reader.specs.Laws as read
 use Rattle.quarter_frame.specs.Message.{code_of, full_of}
 use Rattle.quarter_frame.specs.ReadAgain.{all_placed, earlier, later, pairs_read, IsNeighbour, Placed}
@@ -26,19 +30,25 @@ use Rattle.flywheel.specs.GoOn.{goes_on}
 
 -- what the reader's crate says of a run
 pub record ReadsRuns : Type 0 where
-  pub forward : (front : List ℕ) (device : ℕ) (first : Address) (labels : List Address) → device < 0x80 → IsLabel first → AreLabels labels
+  pub forward : (front : List ℕ) (device : ℕ) (first : Address) (labels : List Address) → device < 0x80 → IsLabel first
+      → AreLabels labels
       → map at_no_place (events_in (front ++ (read.full_message device first ++ all_rising labels)))
       ≡ map at_no_place (events_in front) ++ Full first 0 ∷ quarter_events Forward labels
-  pub forward_half : (front : List ℕ) (device : ℕ) (first : Address) (labels : List Address) (half : Address) → device < 0x80 → IsLabel first
+  pub forward_half : (front : List ℕ) (device : ℕ) (first : Address) (labels : List Address) (half : Address)
+      → device < 0x80 → IsLabel first
       → AreLabels labels → IsLabel half
-      → map at_no_place (events_in (front ++ (read.full_message device first ++ (all_rising labels ++ rising_half half))))
+      → map at_no_place (events_in (front ++ (read.full_message device first
+      ++ (all_rising labels ++ rising_half half))))
       ≡ map at_no_place (events_in front) ++ Full first 0 ∷ quarter_events Forward labels
-  pub backward : (front : List ℕ) (device : ℕ) (first : Address) (labels : List Address) → device < 0x80 → IsLabel first → AreLabels labels
+  pub backward : (front : List ℕ) (device : ℕ) (first : Address) (labels : List Address) → device < 0x80 → IsLabel first
+      → AreLabels labels
       → map at_no_place (events_in (front ++ (read.full_message device first ++ all_falling labels)))
       ≡ map at_no_place (events_in front) ++ Full first 0 ∷ quarter_events Backward labels
-  pub backward_half : (front : List ℕ) (device : ℕ) (first : Address) (labels : List Address) (half : Address) → device < 0x80 → IsLabel first
+  pub backward_half : (front : List ℕ) (device : ℕ) (first : Address) (labels : List Address) (half : Address)
+      → device < 0x80 → IsLabel first
       → AreLabels labels → IsLabel half
-      → map at_no_place (events_in (front ++ (read.full_message device first ++ (all_falling labels ++ falling_half half))))
+      → map at_no_place (events_in (front ++ (read.full_message device first
+      ++ (all_falling labels ++ falling_half half))))
       ≡ map at_no_place (events_in front) ++ Full first 0 ∷ quarter_events Backward labels
 
 -- ---- the messages of both crates are the same
@@ -77,18 +87,17 @@ abbrev pub IsChain : Placed → List Placed → Type 0
 IsChain first [] = Unit {0}
 IsChain first (second ∷ more) = IsLabel second.label × Follows first second × IsChain second more
 
--- a run takes a frame that goes on it
-taken_on : (frame : Frame) (more : List Frame) → goes_on frame ≡ true → take_while goes_on (frame ∷ more) ≡ frame ∷ take_while goes_on more
-taken_on frame more on = take_while-cons goes_on frame more ∙ rw on refl
-
-run_chain : (first : Placed) (more : List Frame) → GoOn (Some first) more → IsChain first (all_placed (take_while goes_on more))
+run_chain : (first : Placed) (more : List Frame) → GoOn (Some first) more
+    → IsChain first (all_placed (take_while goes_on more))
 run_chain first [] go = tt
 run_chain first (Heard label direction true tick ∷ more) go =
-    subst (λ fs. IsChain first (all_placed fs)) (sym (taken_on (Heard label direction true tick) more refl))
+    subst (λ fs. IsChain first (all_placed fs)) (sym (take_while-on goes_on
+    (Heard label direction true tick) more refl))
     (go.0, go.1 refl, run_chain (placed_at label direction) more go.2)
 run_chain first (Heard label direction false tick ∷ more) go = tt
 run_chain first (Invented label direction k tick ∷ more) go =
-    subst (λ fs. IsChain first (all_placed fs)) (sym (taken_on (Invented label direction k tick) more refl))
+    subst (λ fs. IsChain first (all_placed fs)) (sym (take_while-on goes_on
+    (Invented label direction k tick) more refl))
     (go.0, go.1, run_chain (placed_at label direction) more go.2)
 run_chain first (Gone tick ∷ more) go = tt
 
@@ -97,14 +106,17 @@ abbrev sent_from : ℕ → List Placed → List ℕ
 sent_from position [] = []
 sent_from position (f ∷ more) = four_of f.label f.direction (is_even position) ++ sent_from (position + 1) more
 
-run_sent : (position : ℕ) (more : List Frame) → quarters_from position (take_while goes_on more) ≡ sent_from position (all_placed (take_while goes_on more))
+run_sent : (position : ℕ) (more : List Frame) → quarters_from position (take_while goes_on more)
+    ≡ sent_from position (all_placed (take_while goes_on more))
 run_sent position [] = refl
 run_sent position (Heard label direction true tick ∷ more) =
-    rw (taken_on (Heard label direction true tick) more refl) (ap (λ (l : List ℕ). four_of label direction (is_even position) ++ l)
+    rw (take_while-on goes_on (Heard label direction true tick) more refl)
+    (ap (λ (l : List ℕ). four_of label direction (is_even position) ++ l)
     (run_sent (position + 1) more))
 run_sent position (Heard label direction false tick ∷ more) = refl
 run_sent position (Invented label direction k tick ∷ more) =
-    rw (taken_on (Invented label direction k tick) more refl) (ap (λ (l : List ℕ). four_of label direction (is_even position) ++ l)
+    rw (take_while-on goes_on (Invented label direction k tick) more refl)
+    (ap (λ (l : List ℕ). four_of label direction (is_even position) ++ l)
     (run_sent (position + 1) more))
 run_sent position (Gone tick ∷ more) = refl
 
@@ -125,12 +137,14 @@ sent_by_two k [] = refl
 sent_by_two k (a ∷ []) = rw (even_at k) (append-nil (four_of a.label a.direction true))
 sent_by_two k (a ∷ b ∷ more) =
     let next : 2 * k + 1 + 1 ≡ 2 * (k + 1) = omega arith in
-    rw (even_at k, odd_at k, next, sent_by_two (k + 1) more) (sym (append_assoc (four_of a.label a.direction true) (four_of b.label b.direction false)
+    rw (even_at k, odd_at k, next, sent_by_two (k + 1) more)
+    (sym (append_assoc (four_of a.label a.direction true) (four_of b.label b.direction false)
     (two_by_two more)))
 
 -- ---- neighbours
 
-neighbour : Laws → (d : Direction) (a b : Address) → IsLabel a → b ≡ step a (steps_in d 1) → before (later d a b) ≡ earlier d a b
+neighbour : Laws → (d : Direction) (a b : Address) → IsLabel a → b ≡ step a (steps_in d 1)
+    → before (later d a b) ≡ earlier d a b
 neighbour l Forward a b label is = ap before is ∙ l.sum a (pos 1) (neg_ℤ (pos 1)) ∙ l.none a label
 neighbour l Backward a b label is = sym is
 
@@ -153,21 +167,27 @@ run_on d a (b ∷ more) is chain = (chain.1.direction ∙ is, chain.0, chain.2)
 
 -- their text is that of whole pairs, or of these and half a pair
 abbrev HasPairs : (List Address → List ℕ) → (Address → List ℕ) → List ℕ → List Address → Type 0
-HasPairs whole half text labels = (text ≡ whole labels) ⊎ ((alone : Address) × IsLabel alone × (text ≡ whole labels ++ half alone))
+HasPairs whole half text labels = (text ≡ whole labels) ⊎
+    ((alone : Address) × IsLabel alone × (text ≡ whole labels ++ half alone))
 
-pub record Split (d : Direction) (whole : List Address → List ℕ) (half : Address → List ℕ) (fs : List Placed) : Type 0 where
+pub record Split (d : Direction) (whole : List Address → List ℕ) (half : Address → List ℕ)
+    (fs : List Placed) : Type 0 where
   pub labels : List Address
   pub are : AreLabels labels
   pub text : HasPairs whole half (two_by_two fs) labels
   pub events : pairs_read fs ≡ quarter_events d labels
 
-one_pair_more : (whole : List Address → List ℕ) (half : Address → List ℕ) (own pair text : List ℕ) (label : Address) (labels : List Address)
-    → own ≡ pair → whole (label ∷ labels) ≡ pair ++ whole labels → HasPairs whole half text labels → HasPairs whole half (own ++ text) (label ∷ labels)
-one_pair_more whole half own pair text label labels is grows (inl e) = inl (ap (λ (l : List ℕ). l ++ text) is ∙ ap (λ (l : List ℕ). pair ++ l) e ∙ sym grows)
+one_pair_more : (whole : List Address → List ℕ) (half : Address → List ℕ) (own pair text : List ℕ) (label : Address)
+    (labels : List Address)
+    → own ≡ pair → whole (label ∷ labels) ≡ pair ++ whole labels → HasPairs whole half text labels
+    → HasPairs whole half (own ++ text) (label ∷ labels)
+one_pair_more whole half own pair text label labels is grows (inl e) =
+    inl (ap (λ (l : List ℕ). l ++ text) is ∙ ap (λ (l : List ℕ). pair ++ l) e ∙ sym grows)
 one_pair_more whole half own pair text label labels is grows (inr e) = inr (
   e.0,
   e.1,
-  ap (λ (l : List ℕ). l ++ text) is ∙ ap (λ (l : List ℕ). pair ++ l) e.2 ∙ sym (append_assoc pair (whole labels) (half e.0))
+  ap (λ (l : List ℕ). l ++ text) is ∙ ap (λ (l : List ℕ). pair ++ l) e.2
+      ∙ sym (append_assoc pair (whole labels) (half e.0))
       ∙ ap (λ (l : List ℕ). l ++ half e.0) (sym grows),
 )
 
@@ -182,13 +202,15 @@ forward_split l (a ∷ []) run = record {
 forward_split l (a ∷ b ∷ more) run =
     let second : b.direction ≡ Forward = run.2.1.direction ∙ run.0 in
     let rest = forward_split l more (run_on Forward b more second run.2.2) in
-    let is : b.label ≡ step a.label (steps_in Forward 1) = run.2.1.label ∙ ap (λ (d : Direction). step a.label (steps_in d 1)) run.0 in
+    let is : b.label ≡ step a.label (steps_in Forward 1) = run.2.1.label
+    ∙ ap (λ (d : Direction). step a.label (steps_in d 1)) run.0 in
     let pair : four_of a.label a.direction true ++ four_of b.label b.direction false ≡ rising a.label =
     rw (run.0, second) (forward_pair a.label b.label (neighbour l Forward a.label b.label run.1 is)) in
     record {
       labels = a.label ∷ rest.labels;
       are = (run.1, rest.are);
-      text = one_pair_more all_rising rising_half _ (rising a.label) (two_by_two more) a.label rest.labels pair refl rest.text;
+      text = one_pair_more all_rising rising_half _ (rising a.label)
+          (two_by_two more) a.label rest.labels pair refl rest.text;
       events = ap (λ (d : Direction). Quarter d (earlier d a.label b.label) 0 ∷ pairs_read more) run.0
           ∙ ap (λ (es : List MtcEvent). Quarter Forward a.label 0 ∷ es) rest.events;
     }
@@ -208,13 +230,15 @@ backward_split l (a ∷ []) run = record {
 backward_split l (a ∷ b ∷ more) run =
     let second : b.direction ≡ Backward = run.2.1.direction ∙ run.0 in
     let rest = backward_split l more (run_on Backward b more second run.2.2) in
-    let is : b.label ≡ step a.label (steps_in Backward 1) = run.2.1.label ∙ ap (λ (d : Direction). step a.label (steps_in d 1)) run.0 in
+    let is : b.label ≡ step a.label (steps_in Backward 1) = run.2.1.label
+    ∙ ap (λ (d : Direction). step a.label (steps_in d 1)) run.0 in
     let pair : four_of a.label a.direction true ++ four_of b.label b.direction false ≡ falling b.label =
     rw (run.0, second) (backward_pair a.label b.label (sym is)) in
     record {
       labels = b.label ∷ rest.labels;
       are = (run.2.0, rest.are);
-      text = one_pair_more all_falling falling_half _ (falling b.label) (two_by_two more) b.label rest.labels pair refl rest.text;
+      text = one_pair_more all_falling falling_half _ (falling b.label)
+          (two_by_two more) b.label rest.labels pair refl rest.text;
       events = ap (λ (d : Direction). Quarter d (earlier d a.label b.label) 0 ∷ pairs_read more) run.0
           ∙ ap (λ (es : List MtcEvent). Quarter Backward b.label 0 ∷ es) rest.events;
     }
@@ -224,32 +248,40 @@ backward_split l (a ∷ b ∷ more) run =
 -- a full message and this text behind any bytes give the full message and these events
 abbrev IsRead : List ℕ → Address → List ℕ → List MtcEvent → Type 0
 IsRead front first text events =
-    map at_no_place (events_in (front ++ (full_of first ++ text))) ≡ map at_no_place (events_in front) ++ Full first 0 ∷ events
+    map at_no_place (events_in (front ++ (full_of first ++ text))) ≡ map at_no_place (events_in front)
+    ++ Full first 0 ∷ events
 
 with_full : (front : List ℕ) (first : Address) (text : List ℕ) (events : List MtcEvent)
-    → map at_no_place (events_in (front ++ (read.full_message 0x7f first ++ text))) ≡ map at_no_place (events_in front) ++ Full first 0 ∷ events
+    → map at_no_place (events_in (front ++ (read.full_message 0x7f first ++ text))) ≡ map at_no_place (events_in front)
+    ++ Full first 0 ∷ events
     → IsRead front first text events
-with_full front first text events is = ap (λ (m : List ℕ). map at_no_place (events_in (front ++ (m ++ text)))) (same_full first) ∙ is
+with_full front first text events is = ap (λ (m : List ℕ). map at_no_place (events_in (front ++ (m ++ text))))
+    (same_full first) ∙ is
 
-read_forward : ReadsRuns → (front : List ℕ) (first : Address) (text : List ℕ) (labels : List Address) → IsLabel first → AreLabels labels
+read_forward : ReadsRuns → (front : List ℕ) (first : Address) (text : List ℕ) (labels : List Address) → IsLabel first
+    → AreLabels labels
     → HasPairs all_rising rising_half text labels → IsRead front first text (quarter_events Forward labels)
 read_forward r front first text labels l are (inl e) =
     subst (λ (t : List ℕ). IsRead front first t (quarter_events Forward labels)) (sym e)
     (with_full front first (all_rising labels) _ (r.forward front 0x7f first labels (omega arith) l are))
 read_forward r front first text labels l are (inr e) =
     subst (λ (t : List ℕ). IsRead front first t (quarter_events Forward labels)) (sym e.2)
-    (with_full front first (all_rising labels ++ rising_half e.0) _ (r.forward_half front 0x7f first labels e.0 (omega arith) l are e.1))
+    (with_full front first (all_rising labels ++ rising_half e.0) _
+    (r.forward_half front 0x7f first labels e.0 (omega arith) l are e.1))
 
-read_backward : ReadsRuns → (front : List ℕ) (first : Address) (text : List ℕ) (labels : List Address) → IsLabel first → AreLabels labels
+read_backward : ReadsRuns → (front : List ℕ) (first : Address) (text : List ℕ) (labels : List Address) → IsLabel first
+    → AreLabels labels
     → HasPairs all_falling falling_half text labels → IsRead front first text (quarter_events Backward labels)
 read_backward r front first text labels l are (inl e) =
     subst (λ (t : List ℕ). IsRead front first t (quarter_events Backward labels)) (sym e)
     (with_full front first (all_falling labels) _ (r.backward front 0x7f first labels (omega arith) l are))
 read_backward r front first text labels l are (inr e) =
     subst (λ (t : List ℕ). IsRead front first t (quarter_events Backward labels)) (sym e.2)
-    (with_full front first (all_falling labels ++ falling_half e.0) _ (r.backward_half front 0x7f first labels e.0 (omega arith) l are e.1))
+    (with_full front first (all_falling labels ++ falling_half e.0) _
+    (r.backward_half front 0x7f first labels e.0 (omega arith) l are e.1))
 
-run_by : ReadsRuns → Laws → (d : Direction) (front : List ℕ) (first : Placed) (others : List Placed) → first.direction ≡ d → IsLabel first.label
+run_by : ReadsRuns → Laws → (d : Direction) (front : List ℕ) (first : Placed) (others : List Placed)
+    → first.direction ≡ d → IsLabel first.label
     → IsChain first others → IsRead front first.label (two_by_two (first ∷ others)) (pairs_read (first ∷ others))
 run_by r l Forward front first others is label chain =
     let s = forward_split l (first ∷ others) (is, label, chain) in
@@ -261,11 +293,15 @@ run_by r l Backward front first others is label chain =
     (read_backward r front first.label _ s.labels label s.are s.text)
 
 -- a run of frames
-pub run_of : ReadsRuns → Laws → (front : List ℕ) (first : Placed) (more : List Frame) → IsLabel first.label → GoOn (Some first) more
-    → map at_no_place (events_in (front ++ (full_of first.label ++ (four_of first.label first.direction true ++ quarters_from 1 (take_while goes_on more)))))
-    ≡ map at_no_place (events_in front) ++ Full first.label 0 ∷ pairs_read (first ∷ all_placed (take_while goes_on more))
+pub run_of : ReadsRuns → Laws → (front : List ℕ) (first : Placed) (more : List Frame) → IsLabel first.label
+    → GoOn (Some first) more
+    → map at_no_place (events_in (front ++ (full_of first.label
+    ++ (four_of first.label first.direction true ++ quarters_from 1 (take_while goes_on more)))))
+    ≡ map at_no_place (events_in front) ++ Full first.label 0 ∷ pairs_read
+    (first ∷ all_placed (take_while goes_on more))
 run_of r l front first more label go =
     let others = all_placed (take_while goes_on more) in
     subst (λ (t : List ℕ). IsRead front first.label t (pairs_read (first ∷ others)))
-    (sym (sent_by_two 0 (first ∷ others)) ∙ ap (λ (t : List ℕ). four_of first.label first.direction true ++ t) (sym (run_sent 1 more)))
+    (sym (sent_by_two 0 (first ∷ others)) ∙ ap (λ (t : List ℕ). four_of first.label first.direction true ++ t)
+    (sym (run_sent 1 more)))
     (run_by r l first.direction front first others refl label (run_chain first more go))

@@ -9,15 +9,16 @@ use Rattle.tc_address.specs.declared.system.System.TheVariants.{F24, F25, F30}
 use Rattle.tc_address.specs.Label.{Address, address}
 use Rattle.tc_bits.specs.declared.fault.FieldFault.TheVariants.{Hours}
 use Rattle.tc_bits.specs.declared.flags.Flags.{Flags}
-use Rattle.tc_bits.specs.Fields.{field_values}
+use Rattle.tc_bits.specs.Fields.{field_values, flags}
 use Rattle.ltc_word.specs.declared.word.LtcWord.{LtcWord}
 use Rattle.direction_reader.specs.declared.event.Event.TheVariants.{Word, Refused, Lost}
+use Rattle.direction_reader.specs.declared.firm_event.FirmEvent.TheVariants.{Told, Alone}
 use Rattle.flywheel.specs.declared.frame.Frame.TheVariants.{Heard, Invented, Gone}
 use Rattle.hex.specs.Hex.{encode_with}
 use Rattle.interval_file.specs.declared.header.FileVersion.TheVariants.{One}
 use Rattle.interval_file.specs.declared.header.IntervalHeader.{IntervalHeader}
 use Rattle.report_text.specs.FrameTexts.{fly_end_line, frame_line}
-use Rattle.report_text.specs.Texts.{event_line, read_end_line, speed_of}
+use Rattle.report_text.specs.Texts.{event_line, firm_event_line, read_end_line, speed_of}
 
 of_system : System → IntervalHeader
 of_system system = record { version = One; system = system; tick_rate = 48_000 }
@@ -50,29 +51,34 @@ at_30 = refl
 
 -- ---- the events of a reading
 
-flags : Bool → Bool → Bool → Bool → Bool → Flags
-flags drop colour group0 group1 group2 =
-    record { bit10 = drop; colour = colour; bgf0 = group0; bgf1 = group1; bgf2 = group2 }
-
 word_with : Address → Flags → Bool → LtcWord
 word_with label flags balanced = record { fields = field_values label flags 0xdeadbee1; balanced = balanced }
 
 a_word : event_line (of_system F25) (Word Forward (word_with (address C25 17 18 19 20)
     (flags false true false false false) true) 2_280 1_920)
     ≡ codes "word forward 17:18:19:20 user deadbee1 flags 01000 balance 1 tick 2280 length 1920 speed 1000\n"
-unfolding of_system flags word_with digits encode_with
+unfolding of_system word_with digits encode_with
 a_word = refl
 
 -- drop-frame has a semicolon; the binary group flags stand in the order 0, 1, 2
 a_word_backward : event_line (of_system F30) (Word Backward (word_with (address Drop30 0 1 0 2)
     (flags true false true false true) false) 9 800)
     ≡ codes "word backward 00:01:00;02 user deadbee1 flags 10101 balance 0 tick 9 length 800 speed 2000\n"
-unfolding of_system flags word_with digits encode_with
+unfolding of_system word_with digits encode_with
 a_word_backward = refl
 
 a_refused_word : event_line (of_system F25) (Refused Backward Hours 77) ≡ codes "refused backward hours tick 77\n"
 unfolding of_system digits
 a_refused_word = refl
+
+a_word_that_is_alone : firm_event_line (of_system F25) (Alone Backward 79) ≡ codes "refused backward alone tick 79\n"
+unfolding of_system digits
+a_word_that_is_alone = refl
+
+a_told_word : firm_event_line (of_system F25) (Told (Refused Backward Hours 77))
+    ≡ codes "refused backward hours tick 77\n"
+unfolding of_system digits
+a_told_word = refl
 
 a_break : event_line (of_system F25) (Lost 6 78) ≡ codes "lost interval 6 tick 78\n"
 unfolding of_system digits

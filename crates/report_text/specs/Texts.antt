@@ -5,6 +5,8 @@ use Rattle.tc_address.specs.Spelling.{text_of}
 use Rattle.tc_bits.specs.Fault.{name_of}
 use Rattle.direction_reader.specs.declared.event.Event.{Event}
 use Rattle.direction_reader.specs.declared.event.Event.TheVariants.{Word, Refused, Lost}
+use Rattle.direction_reader.specs.declared.firm_event.FirmEvent.{FirmEvent}
+use Rattle.direction_reader.specs.declared.firm_event.FirmEvent.TheVariants.{Told, Alone}
 use Rattle.interval_file.specs.declared.header.IntervalHeader.{IntervalHeader}
 use Rattle.line_text.specs.Line.{direction_name, flag_digit, flags_text, user_text}
 
@@ -25,6 +27,12 @@ event_line header (Refused direction fault tick) =
 event_line header (Lost interval tick) =
     codes "lost interval " ++ decimal interval ++ codes " tick " ++ decimal tick ++ codes "\n"
 
+-- the line of what is told where each word is asked for a witness: a word without one is refused
+abbrev pub firm_event_line : IntervalHeader → FirmEvent → List ℕ
+firm_event_line header (Told event) = event_line header event
+firm_event_line header (Alone direction tick) =
+    codes "refused " ++ direction_name direction ++ codes " alone tick " ++ decimal tick ++ codes "\n"
+
 -- the last line of a reading
 abbrev pub read_end_line : ℕ → ℕ → ℕ → ℕ → ℕ → List ℕ
 read_end_line intervals words refused lost ticks =
@@ -37,3 +45,8 @@ abbrev pub FitsLine : Event → Type 0
 FitsLine (Word direction word tick length) = (tick < 2 ^ 60) × (1 ≤ length) × (length < 2 ^ 32)
 FitsLine (Refused direction fault tick) = tick < 2 ^ 60
 FitsLine (Lost interval tick) = (interval < 2 ^ 40) × (tick < 2 ^ 60)
+
+-- and so are those of what is told where each word is asked for a witness
+abbrev pub FitsFirmLine : FirmEvent → Type 0
+FitsFirmLine (Told event) = FitsLine event
+FitsFirmLine (Alone direction tick) = tick < 2 ^ 60

@@ -6,9 +6,10 @@ ghost use Rattle.tc_address.specs.Spelling.{text_of};
 ghost use Rattle.interval_file.specs.IntervalHeader.{IsTickRate};
 ghost use Rattle.interval_file.specs.declared.header.IntervalHeader.{IntervalHeader};
 ghost use Rattle.direction_reader.specs.declared.event.Event.TheVariants as events;
-ghost use Rattle.report_text.specs.Texts.{event_line, speed_of, FitsLine};
+ghost use Rattle.direction_reader.specs.declared.firm_event.FirmEvent.TheVariants as firm;
+ghost use Rattle.report_text.specs.Texts.{event_line, firm_event_line, speed_of, FitsFirmLine, FitsLine};
 
-use direction_reader::Event;
+use direction_reader::{Event, FirmEvent};
 use interval_file::IntervalHeader;
 use line_text::{
     Text, direction_name, push_bytes, push_count, push_flag, push_flags, push_hexadecimal,
@@ -37,6 +38,18 @@ pub fn event_text(event: &Event, header: &IntervalHeader) -> Text
             tick,
         } => refused_text(direction, fault, tick),
         Event::Lost { interval, tick } => lost_text(interval, tick),
+    }
+}
+
+/// The line of what is told where each word is asked for a witness, for a recording with this header.
+pub fn firm_event_text(event: &FirmEvent, header: &IntervalHeader) -> Text
+    requires event { FitsFirmLine event.now }
+    requires header { IsTickRate header.now.tick_rate }
+    ensures { result.items ≡ firm_event_line header.now event.now }
+{
+    match event {
+        FirmEvent::Told(event) => event_text(event, header),
+        FirmEvent::Alone { direction, tick } => alone_text(*direction, *tick),
     }
 }
 
@@ -95,6 +108,19 @@ fn refused_text(direction: Direction, fault: FieldFault, tick: u64) -> Text
     push_bytes(&mut line, b" ");
     push_bytes(&mut line, fault.name().as_bytes());
     push_bytes(&mut line, b" tick ");
+    push_ticks(&mut line, tick);
+    push_bytes(&mut line, b"\n");
+    line
+}
+
+fn alone_text(direction: Direction, tick: u64) -> Text
+    requires { tick < 2 ^ 60 }
+    ensures { (header : IntervalHeader) → result.items ≡ firm_event_line header (firm.Alone direction tick) }
+{
+    let mut line = Text::new();
+    push_bytes(&mut line, b"refused ");
+    push_bytes(&mut line, direction_name(direction).as_bytes());
+    push_bytes(&mut line, b" alone tick ");
     push_ticks(&mut line, tick);
     push_bytes(&mut line, b"\n");
     line

@@ -4,6 +4,8 @@ use Rattle.std.proofs.Common.{subst, append_assoc, arith}
 use Rattle.std.proofs.lemmas.Bool.{false≢true}
 use Rattle.std.proofs.lemmas.Grind.{flat_map-append}
 use Rattle.std.proofs.lemmas.List.{take-append-drop, take_all}
+use Rattle.interval_file.specs.FileLemmas.{file_first}
+use Rattle.lemmas.specs.Lists.{first_items}
 use Rattle.line_file.specs.Answers.{AreAnswersOf}
 use Rattle.line_file.specs.LineFile.{reading_of}
 use Rattle.line_file.specs.Texts.{field_line}
@@ -33,14 +35,8 @@ use Rattle.signal_commands.specs.VitcRead.{along_fields, answer_lines, field_rep
 use Rattle.signal_commands.proofs.MidiLimit.{never_refused, past_within}
 use Rattle.signal_commands.proofs.PutMore.{is_pace}
 use Rattle.signal_commands.proofs.SlicedOn.{never_refused as no_fault_yet, past_within as past_samples}
-use Rattle.tc_io.specs.KeptVerdict.{fault_stays, limit_stays}
+use Rattle.tc_io.specs.VerdictLemmas.{fault_stays, limit_stays}
 use Rattle.tc_command.specs.declared.input_fault.InputFault.TheVariants.{Lines}
-
--- the first items of a list come first among those of a longer one
-pub first_items : {A : Type 0} (n : ℕ) (xs ys : List A) → (rest : List A) × (take n (xs ++ ys) ≡ take n xs ++ rest)
-first_items n [] ys = (take n ys, ap (λ l. l ++ take n ys) (sym (take_all n [] (omega arith))))
-first_items zero (x ∷ xs) ys = ([], refl)
-first_items (suc n) (x ∷ xs) ys = let more = first_items n xs ys in (more.0, ap (λ l. x ∷ l) more.1)
 
 -- ---- MIDI bytes
 
@@ -100,14 +96,6 @@ samples_first (low ∷ []) more = (samples_of (low ∷ more), refl)
 samples_first (low ∷ high ∷ front) more =
     let rest = samples_first front more in
     (rest.0, ap (λ l. sample_in (low ∷ high ∷ []) ∷ l) rest.1)
-
--- a file of intervals begins with that of the first of them
-file_first : (header : IntervalHeader) (xs more : List ℕ) → IsFront (file_of header xs) (file_of header (xs ++ more))
-file_first header xs more = (
-  intervals_bytes header.version more,
-  ap (λ l. header_bytes header ++ l) (flat_map-append (spelling header.version) xs more)
-      ∙ sym (append_assoc (header_bytes header) (intervals_bytes header.version xs) (intervals_bytes header.version more)),
-)
 
 sliced_first : IntervalsComeFirst → (s : Slices) (front more : List ℤ) → IsFront (sliced s front) (sliced s (front ++ more))
 sliced_first laws s front more =

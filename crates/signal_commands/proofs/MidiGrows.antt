@@ -4,6 +4,7 @@ use Rattle.std.specs.declared.option.Option.{Option}
 use Rattle.std.proofs.lemmas.Grind.{flat_map-append}
 use Rattle.std.proofs.lemmas.List.{take-append-drop}
 use Rattle.std.proofs.lemmas.List.Sums.{sum_by-append, sum_by-cons}
+use Rattle.lemmas.specs.Lists.{count_by-append}
 use Rattle.mtc_reader.specs.declared.event.MtcEvent.{MtcEvent}
 use Rattle.mtc_reader.specs.declared.event.MtcEvent.TheVariants.{Full, Quarter, RefusedFull, RefusedQuarter}
 use Rattle.mtc_reader.specs.Events.{events_in}
@@ -60,13 +61,10 @@ pub none_counted : (before after : MtcReport) → after.full ≡ before.full →
     → Counts before after []
 none_counted before after f q r = record { full = omega (arith, f); quarter = omega (arith, q); refused = omega (arith, r) }
 
-count_of_more : (kind : MtcEvent → Bool) (fs more : List MtcEvent) → count_by kind (fs ++ more) ≡ count_by kind fs + count_by kind more
-count_of_more kind fs more = sum_by-append (λ (e : MtcEvent). cond (kind e) 1 0) fs more
-
 both : (kind : MtcEvent → Bool) (a b : ℕ) (first more all : List MtcEvent) → all ≡ first ++ more → a ≡ count_by kind first → b ≡ a + count_by kind more
     → b ≡ count_by kind all
 both kind a b first more all is before after =
-    after ∙ ap (λ (n : ℕ). n + count_by kind more) before ∙ sym (ap (λ (es : List MtcEvent). count_by kind es) is ∙ count_of_more kind first more)
+    after ∙ ap (λ (n : ℕ). n + count_by kind more) before ∙ sym (ap (λ (es : List MtcEvent). count_by kind es) is ∙ count_by-append kind first more)
 
 -- ---- lines
 

@@ -32,7 +32,7 @@ use Rattle.tc_command.specs.declared.input_fault.InputFault.TheVariants.{HalfSam
 use Rattle.signal_commands.specs.PcmLtc.{along_samples, odd_fault, pace_for, samples_within, settings_for, sliced}
 use Rattle.signal_commands.specs.PcmLtc.{sliced_header}
 use Rattle.tc_command.specs.Stops.{Stops}
-use Rattle.tc_command.specs.KeptWorks.{first_and_rest, first_only}
+use Rattle.lemmas.specs.Lists.{first_and_rest, first_only}
 use Rattle.signal_commands.proofs.PutMore.{none_begun}
 
 -- ---- the limit

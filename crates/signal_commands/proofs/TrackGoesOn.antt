@@ -20,7 +20,7 @@ use Rattle.signal_commands.specs.KeptTrack.{AreDue, spelled}
 use Rattle.signal_commands.specs.WavLtc.{along_sound_file, track_file, track_header, track_of, track_pace}
 use Rattle.signal_commands.specs.WavLtc.{track_settings}
 use Rattle.signal_commands.proofs.PutMore.{is_pace}
-use Rattle.tc_io.specs.KeptVerdict.{fault_stays, limit_stays}
+use Rattle.tc_io.specs.VerdictLemmas.{fault_stays, limit_stays}
 use Rattle.tc_command.specs.declared.input_fault.InputFault.TheVariants.{Sound}
 
 -- ---- the file

@@ -1,56 +1,29 @@
--- Bytes that are an input of `wav-ltc` have a format, since they may end only behind one.
-use Rattle.std.proofs.Common.{◌≡◌, ℕ, Bool, true, false, List, Option, Some, None, refl, sym, ◌∙◌, ap}
-use Rattle.std.specs.Prelude.{if◌then◌else◌}
-use Rattle.std.specs.Option.{option_map}
-use Rattle.tc_command.specs.declared.input_fault.InputFault.TheVariants.{Sound}
+-- A sound file that was made of blocks is read as them, so what is written of it is the file of its track.
+use Rattle.std.proofs.Common.{◌≡◌, ℕ, List, Some, ◌∙◌, ap}
 use Rattle.tc_job.specs.WaveSlicing.{SlicesWave}
-use Rattle.wave_file.specs.declared.fault.WaveFault.{WaveFault}
 use Rattle.wave_file.specs.declared.format.WaveFormat.{WaveFormat}
-use Rattle.wave_file.specs.GoesOn.{IsWithin}
+use Rattle.wave_file.specs.Grammar.{IsMadeOf, Sample, read_whole}
+use Rattle.wave_file.specs.Grammar.{track_of as samples_in}
 use Rattle.wave_file.specs.Wave.{Reading, reading_of}
-use Rattle.signal_commands.specs.WavLtc.{SlicesTheTrack, along_sound_file, track_file, track_of}
-use Rattle.tc_command.specs.Meaning.{IsInput}
-use Rattle.interval_file.specs.Grammar.{file_of}
-use Rattle.pcm_front.specs.Pace.{intervals_at}
-use Rattle.signal_commands.specs.WavLtc.{told_wav_ltc, track_header, track_pace, track_settings}
+use Rattle.signal_commands.specs.WavLtc.{SlicesTheTrack, along_sound_file, told_wav_ltc, track_file, track_of}
 use Rattle.tc_command.specs.Command.{IsCommand}
 use Rattle.tc_command.specs.Told.{IsTold}
 
--- a fault of the end is there where the input may not end
-may_not_end : (b : Bool) (f : WaveFault) → b ≡ false → ¬ (option_map Sound (if b then None else Some f) ≡ None)
-may_not_end true f ends = absurd cc
-may_not_end false f ends = λ none. absurd cc
+-- what is made is read whole
+abbrev AreReadAsMade : Type 0
+AreReadAsMade = (track : ℕ) (format : WaveFormat) (blocks : List (List Sample)) (bytes : List ℕ)
+    → IsMadeOf track format blocks bytes → reading_of track bytes ≡ read_whole format (samples_in track blocks)
 
-pub slices_the_track : (w : SlicesWave) (bytes written : List ℕ) → ((track : ℕ) (bytes : List ℕ) → IsWithin (reading_of track bytes))
-    → IsInput (along_sound_file w) bytes → written ≡ track_of w bytes → SlicesTheTrack w bytes written
-slices_the_track w bytes written within input are = by_format (reading_of w.track bytes).format refl
-  where
-    by_format : (format : Option WaveFormat) → (reading_of w.track bytes).format ≡ format → SlicesTheTrack w bytes written
-    by_format (Some format) is = record {
-      format = format;
-      begins = is;
-      are = are ∙ ap (λ (f : Option WaveFormat). track_file w f (reading_of w.track bytes).samples) is;
-    }
-    by_format None is = absurd (may_not_end (reading_of w.track bytes).may_end _ ((within w.track bytes).ends is) input.end)
+slices_the_track : AreReadAsMade → (w : SlicesWave) (bytes written : List ℕ) → written ≡ track_of w bytes
+    → SlicesTheTrack w bytes written
+slices_the_track law w bytes written are = λ format blocks made.
+    are ∙ ap (λ (r : Reading). track_file w r.format r.samples) (law w.track format blocks bytes made)
 
--- ---- what is told of a sliced track
-
-one_format : (r : Reading) (a b : WaveFormat) → r.format ≡ Some a → r.format ≡ Some b → a ≡ b
-one_format r a b p q = cc
-
-one_track : (w : SlicesWave) (bytes a b : List ℕ) → SlicesTheTrack w bytes a → SlicesTheTrack w bytes b → a ≡ b
-one_track w bytes a b p q =
-    let r = reading_of w.track bytes in
-    p.are
-    ∙ ap (λ (f : WaveFormat). file_of (track_header w f) (intervals_at (track_pace w f) (track_settings w) r.samples))
-    (one_format r p.format q.format p.begins q.begins)
-    ∙ sym q.are
-
-pub track_is_told : ((w : SlicesWave) → IsCommand (along_sound_file w))
-    → ((track : ℕ) (bytes : List ℕ) → IsWithin (reading_of track bytes)) → (w : SlicesWave) → IsTold (told_wav_ltc w)
-track_is_told command within w = record {
+pub track_is_told : ((w : SlicesWave) → IsCommand (along_sound_file w)) → AreReadAsMade → (w : SlicesWave)
+    → IsTold (told_wav_ltc w)
+track_is_told command law w = record {
   command = command w;
-  kept = λ pulled written are input output. slices_the_track w pulled written within input output;
-  pinned = λ yes. one_track w;
+  kept = λ pulled written are input output. slices_the_track law w pulled written output;
+  pinned = λ no_text. absurd cc;
   unlimited = λ none input spent. spent;
 }

@@ -11,7 +11,7 @@ use Rattle.line_file.specs.StandsFor.{IsTold}
 use Rattle.signal_commands.specs.declared.vitc_read.FieldReport.{FieldReport}
 use Rattle.tc_command.specs.Meaning.{Meaning, Shows}
 use Rattle.signal_commands.specs.VitcRead.{along_fields, answer_lines, is_agreed, is_conflict, is_nothing}
-use Rattle.tc_io.specs.KeptVerdict.{good_too}
+use Rattle.tc_io.specs.VerdictLemmas.{good_too}
 use Rattle.tc_command.specs.declared.input_fault.InputFault.TheVariants.{Lines}
 
 -- one field more, of its kind

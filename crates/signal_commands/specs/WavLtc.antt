@@ -12,6 +12,8 @@ use Rattle.interval_file.specs.Grammar.{file_of}
 use Rattle.tc_job.specs.Pace.{pace_of}
 use Rattle.tc_job.specs.WaveSlicing.{SlicesWave}
 use Rattle.wave_file.specs.declared.format.WaveFormat.{WaveFormat}
+use Rattle.wave_file.specs.Grammar.{IsMadeOf, Sample}
+use Rattle.wave_file.specs.Grammar.{track_of as samples_in}
 use Rattle.wave_file.specs.Wave.{end_fault_of, reading_of}
 use Rattle.tc_io.specs.Verdict.{verdict_as}
 use Rattle.tc_command.specs.Meaning.{Meaning}
@@ -39,11 +41,12 @@ track_file w (Some format) samples =
 abbrev pub track_of : SlicesWave → List ℕ → List ℕ
 track_of w bytes = track_file w (reading_of w.track bytes).format (reading_of w.track bytes).samples
 
--- what was written is the file of the distances of the track's samples, whose first one runs from tick 0
-pub record SlicesTheTrack (w : SlicesWave) (bytes written : List ℕ) : Type 0 where
-  pub format : WaveFormat
-  pub begins : (reading_of w.track bytes).format ≡ Some format
-  pub are : written ≡ file_of (track_header w format) (intervals_at (track_pace w format) (track_settings w) (reading_of w.track bytes).samples)
+-- of a sound file that was made of these blocks, what was written is the file of the distances of the track's samples,
+-- whose first one runs from tick 0
+abbrev pub SlicesTheTrack : SlicesWave → List ℕ → List ℕ → Type 0
+SlicesTheTrack w bytes written = (format : WaveFormat) (blocks : List (List Sample)) → IsMadeOf w.track format blocks bytes
+    → written ≡ file_of (track_header w format)
+    (intervals_at (track_pace w format) (track_settings w) (samples_in w.track blocks))
 
 -- what it takes and what it writes: the header stands where the data begin
 abbrev pub along_sound_file : SlicesWave → Meaning
@@ -61,6 +64,6 @@ abbrev pub told_wav_ltc : SlicesWave → Told
 told_wav_ltc w = record {
   meaning = along_sound_file w;
   promise = SlicesTheTrack w;
-  is_pinned = true;
+  is_pinned = false;
   has_own_limit = false;
 }

@@ -5,13 +5,12 @@ ghost use Rattle.pcm_front.specs.Distance.{IsInterval};
 ghost use Rattle.pcm_front.specs.Pace.{intervals_in};
 ghost use Rattle.interval_file.specs.declared.header.FileVersion.{FileVersion};
 ghost use Rattle.interval_file.specs.Grammar.{intervals_bytes};
-ghost use Rattle.interval_file.specs.Piece.{spelling};
 ghost use Rattle.tc_io.specs.Sink.{AppendsFront};
 ghost use Rattle.tc_command.specs.Causes.{HasOutCause};
 ghost use Rattle.tc_command.specs.KeptGathered.{IsPut};
 
-use byteorder::{BigEndian, ByteOrder};
-use pcm_front::{Intervals, MAX_INTERVAL};
+use interval_file::four_bytes;
+use pcm_front::Intervals;
 use tc_command::{Gathered, Stop};
 use tc_io::Sink;
 
@@ -53,7 +52,7 @@ fn spell_whole<K: Sink>(
     ensures cause { HasOutCause (K.faults out.old) (K.faults out.new) result }
 {
     'pieces: for _done in 0..count {
-        gathered.put(&interval_bytes(length), out)?;
+        gathered.put(&four_bytes(length), out)?;
     }
     Ok(())
 }
@@ -70,18 +69,7 @@ fn spell_rest<K: Sink>(gathered: &mut Gathered, rest: Option<u32>, out: &mut K) 
     ensures cause { HasOutCause (K.faults out.old) (K.faults out.new) result }
 {
     match rest {
-        Some(rest) => gathered.put(&interval_bytes(rest), out),
+        Some(rest) => gathered.put(&four_bytes(rest), out),
         None => Ok(()),
     }
-}
-
-/// The bytes of an interval.
-fn interval_bytes(x: u32) -> [u8; 4]
-    requires least { 1 ≤ x }
-    requires most { x ≤ MAX_INTERVAL }
-    ensures { result ≡ spelling FileVersion.One x }
-{
-    let mut bytes = [0; 4];
-    BigEndian::write_u32(&mut bytes, x);
-    bytes
 }

@@ -28,7 +28,7 @@ use pcm_front::{Pace, Slicer};
 use tc_command::{Engine, Gathered, InputFault, Stop, work};
 use tc_io::{Sink, Source};
 use tc_job::WaveSlicing;
-use wave_file::laws::{samples_are_few_and_behind_a_format, what_a_sound_file_shows_stays};
+use wave_file::laws::{a_file_is_read_as_it_was_written, samples_are_few_and_behind_a_format};
 use wave_file::{Taken, WaveDecoder, WaveFormat};
 
 /// So many ticks has a sample.
@@ -50,12 +50,12 @@ pub fn slice_track<S: Source, K: Sink>(
     work(&mut SlicedTrack::new(slicing), source, out)
 }
 
-/// What is told of `wav-ltc` holds: what is pulled has a format, and what is written is the file of its track.
+/// What is told of `wav-ltc` holds: a sound file that was made is read as it was made.
 fn a_sliced_track_is_told()
     ensures { (slicing : SlicesWave) → IsTold (told_wav_ltc slicing) }
 {
     each_signal_makes_a_command();
-    samples_are_few_and_behind_a_format();
+    a_file_is_read_as_it_was_written();
 }
 
 /// A sound file on its way into intervals.

@@ -4,7 +4,7 @@ use Rattle.std.proofs.Common.{Some}
 use Rattle.std.proofs.Common.{ap, subst, ◌∙◌, mul-pos, arith}
 use Rattle.std.specs.List.{AllByRecursion}
 use Rattle.biphase.specs.declared.cell.Cell.{Cell}
-use Rattle.biphase.specs.declared.cell.TheConstants.{MAX_INTERVALS}
+use Rattle.limits.specs.declared.recording.TheConstants.{MAX_INTERVALS}
 use Rattle.biphase.specs.declared.profile.Profile.{Profile}
 use Rattle.direction_reader.specs.declared.event.Event.{Event}
 use Rattle.direction_reader.specs.Events.{is_lost, is_refused}

@@ -4,25 +4,16 @@ use Rattle.std.proofs.Common.{replicate}
 use Rattle.std.proofs.Common.{ap, ap₂, refl, ◌∙◌, arith}
 use Rattle.std.specs.List.{flat_map, AllByRecursion}
 use Rattle.std.proofs.Math.Nat.{div-eq_of_lt}
+use Rattle.pcm_front.specs.DistanceLemmas.{written_whole as fits_whole}
 use Rattle.pcm_front.specs.declared.pace.Pace.TheVariants.{Ended, Passing}
-use Rattle.pcm_front.specs.Distance.{distances_by, greatest, intervals_by, pieces_of, whole_pieces, IsInterval}
+use Rattle.limits.specs.declared.recording.TheConstants.{MAX_INTERVAL}
+use Rattle.pcm_front.specs.Distance.{distances_by, intervals_by, pieces_of, whole_pieces, IsInterval}
 use Rattle.pcm_front.specs.Pace.{intervals_at, passed_by}
 use Rattle.pcm_front.specs.Settings.{Settings}
 use Rattle.tc_address.specs.declared.system.System.{System}
 use Rattle.tc_address.specs.Count.{rate_of}
 use Rattle.tc_job.specs.Pace.{pace_of, quarter_frame}
 use Rattle.sound_report.specs.Whole.{AreWhole}
-
-one_piece : (distance : ℕ) → IsInterval distance → pieces_of distance ≡ distance ∷ []
-one_piece distance is =
-    let below : distance - 1 < greatest = omega (arith, is.0, is.1) in
-    let none : whole_pieces greatest distance ≡ 0 = div-eq_of_lt below in
-    ap (λ (k : ℕ). replicate k greatest ++ (distance - greatest * k) ∷ []) none
-    ∙ ap (λ (rest : ℕ). rest ∷ []) (omega arith)
-
-pieces_whole : (distances : List ℕ) → AllByRecursion IsInterval distances → flat_map pieces_of distances ≡ distances
-pieces_whole [] are = refl
-pieces_whole (distance ∷ distances) are = ap₂ ◌++◌ (one_piece distance are.0) (pieces_whole distances are.1)
 
 -- what the law of short distances says
 pub record PaceLaws : Type 0 where
@@ -50,4 +41,4 @@ pub written_whole : PaceLaws → (live : Bool) (system : System) (tick_rate : �
     → AllByRecursion IsInterval (distances_by settings samples)
     → intervals_at (pace_of live system tick_rate) settings samples ≡ distances_by settings samples
 written_whole laws live system tick_rate settings samples some whole fit =
-    by_pace laws live system tick_rate settings samples some whole ∙ pieces_whole (distances_by settings samples) fit
+    by_pace laws live system tick_rate settings samples some whole ∙ fits_whole (distances_by settings samples) fit

@@ -1,3 +1,5 @@
+pub mod OneSpan
+pub mod TwoRuns
 pub mod Whole
 pub mod WordsReport
 pub mod WordsSpans

@@ -1,5 +1,5 @@
 //! What is sliced of a sound with a margin is reported as the tape.
-ghost use Rattle.std.specs.Prelude.{◌≡◌, ◌+◌, ◌*◌, ℕ, List, ◌∷◌, true, false, Some, take};
+ghost use Rattle.std.specs.Prelude.{◌≡◌, ◌+◌, ◌*◌, ℕ, List, ◌∷◌, true, false, Some, take, drop};
 ghost use Rattle.biphase.specs.declared.cell.Cell.{Cell};
 ghost use Rattle.biphase.specs.declared.profile.Profile.{Profile};
 ghost use Rattle.biphase.specs.Chain.{bits};
@@ -8,22 +8,27 @@ ghost use Rattle.direction_reader.specs.Played.{Played, AreSpelled, bits_of_word
 ghost use Rattle.frame_commands.specs.LtcSpans.{spanned_recording};
 ghost use Rattle.interval_commands.specs.LtcRead.{report};
 ghost use Rattle.interval_engine.specs.Along.{along_intervals};
+ghost use Rattle.interval_file.specs.declared.header.IntervalHeader.{IntervalHeader};
 ghost use Rattle.pcm_front.specs.Distance.{distances, distances_from_start};
 ghost use Rattle.pcm_front.specs.Samples.{samples_of};
 ghost use Rattle.pcm_front.specs.Sums.{sums};
 ghost use Rattle.signal_commands.specs.PcmLtc.{along_samples, settings_for, sliced_header};
 ghost use Rattle.signal_commands.specs.WavLtc.{along_sound_file, track_header, track_settings};
+ghost use Rattle.sound_report.specs.OneSpan.{CountOn, KeepPace, TellsOneSpan};
+ghost use Rattle.sound_report.specs.TwoRuns.{report_under, Piped, SoundsWords, TrackSoundsWords};
 ghost use Rattle.sound_report.specs.Whole.{AreWhole};
 ghost use Rattle.sound_report.specs.WordsReport.{ReportsWords};
 ghost use Rattle.sound_report.specs.WordsSpans.{TellsSpans};
 ghost use Rattle.tape_sound.specs.Heard.{BeginsLate, FitsAFile, FitsBehindASilence, HasMargin};
 ghost use Rattle.tc_command.specs.Meaning.{Meaning};
 ghost use Rattle.tc_job.specs.declared.flight.Flight.{Flight};
+ghost use Rattle.tc_job.specs.declared.job.Job.{Job};
 ghost use Rattle.tc_job.specs.Slicing.{Slices, IsSlicing};
 ghost use Rattle.tc_job.specs.WaveSlicing.{SlicesWave};
 ghost use Rattle.wave_file.specs.declared.format.WaveFormat.{WaveFormat};
 ghost use Rattle.wave_file.specs.Wave.{reading_of};
 
+use flywheel::laws::the_next_word_fits;
 use interval_file::laws::a_file_is_read_as_it_was_written;
 use pcm_front::laws::short_distances_are_whole;
 use tape_sound::laws::{
@@ -110,4 +115,70 @@ pub fn the_spans_of_a_track_are_told()
     short_distances_are_whole();
     the_open_span_has_the_last_line();
     the_rate_of_a_format_is_judged();
+}
+
+/// One span. Where the labels of the words count on, and each word lasts less than one and a half of the
+/// one before it, the spans of these words are one: from the first word to the last, all of them heard and
+/// none bridged.
+pub fn words_that_count_on_are_one_span()
+    ensures { (header : IntervalHeader) (flight : Flight) (delay tick : ℕ) (tape : List Cell) (first : Played)
+        (more : List Played) (intervals text : List ℕ)
+        → TellsSpans header flight delay tick tape (first ∷ more) intervals text → CountOn first more
+        → KeepPace delay (drop 2 tape) (first ∷ more)
+        → TellsOneSpan header delay tick tape first more intervals text }
+{
+    the_next_word_fits();
+}
+
+/// `pcm-ltc`, and then `ltc-read`, `ltc-worn`, `ltc-rough` or `ltc-spans`: of samples with a margin for a
+/// tape, the second run writes the report of its words, or their spans, and nothing else. Where the
+/// labels count on, it is one span.
+pub fn the_words_of_a_sound_come_out_of_two_runs()
+    ensures report { (profile : Profile) (s : Slices) (tape : List Cell) (words : List Played) (sound text : List ℕ)
+        → (is : SoundsWords profile s tape words sound)
+        → Piped (Job.PcmLtc s) (report_under profile) sound text
+        → ReportsWords (sliced_header s) is.margin.delay (duration (take 2 tape)) tape words
+        (distances s.fineness s.threshold (sums s.smooth (samples_of sound))) text }
+    ensures spans { (flight : Flight) (s : Slices) (tape : List Cell) (words : List Played) (sound text : List ℕ)
+        → (is : SoundsWords flight.profile s tape words sound)
+        → Piped (Job.PcmLtc s) (Job.LtcSpans flight) sound text
+        → TellsSpans (sliced_header s) flight is.margin.delay (duration (take 2 tape)) tape words
+        (distances s.fineness s.threshold (sums s.smooth (samples_of sound))) text }
+    ensures one_span { (flight : Flight) (s : Slices) (tape : List Cell) (first : Played) (more : List Played)
+        (sound text : List ℕ) → (is : SoundsWords flight.profile s tape (first ∷ more) sound)
+        → CountOn first more → KeepPace is.margin.delay (drop 2 tape) (first ∷ more)
+        → Piped (Job.PcmLtc s) (Job.LtcSpans flight) sound text
+        → TellsOneSpan (sliced_header s) is.margin.delay (duration (take 2 tape)) tape first more
+        (distances s.fineness s.threshold (sums s.smooth (samples_of sound))) text }
+{
+    what_is_sliced_of_a_margin_is_reported();
+    the_spans_of_a_margin_are_told();
+    words_that_count_on_are_one_span();
+}
+
+/// `wav-ltc`, and then one of these: the same of a track of a sound file.
+pub fn the_words_of_a_track_come_out_of_two_runs()
+    ensures report { (profile : Profile) (w : SlicesWave) (format : WaveFormat) (tape : List Cell) (words : List Played)
+        (file text : List ℕ) → (is : TrackSoundsWords profile w format tape words file)
+        → Piped (Job.WavLtc w) (report_under profile) file text
+        → ReportsWords (track_header w format) is.margin.delay (is.margin.start + duration (take 2 tape)) tape words
+        (distances_from_start 16 w.threshold (sums w.smooth (reading_of w.track file).samples)) text }
+    ensures spans { (flight : Flight) (w : SlicesWave) (format : WaveFormat) (tape : List Cell) (words : List Played)
+        (file text : List ℕ) → (is : TrackSoundsWords flight.profile w format tape words file)
+        → Piped (Job.WavLtc w) (Job.LtcSpans flight) file text
+        → TellsSpans (track_header w format) flight is.margin.delay (is.margin.start + duration (take 2 tape)) tape
+        words
+        (distances_from_start 16 w.threshold (sums w.smooth (reading_of w.track file).samples)) text }
+    ensures one_span { (flight : Flight) (w : SlicesWave) (format : WaveFormat) (tape : List Cell) (first : Played)
+        (more : List Played) (file text : List ℕ)
+        → (is : TrackSoundsWords flight.profile w format tape (first ∷ more) file)
+        → CountOn first more → KeepPace is.margin.delay (drop 2 tape) (first ∷ more)
+        → Piped (Job.WavLtc w) (Job.LtcSpans flight) file text
+        → TellsOneSpan (track_header w format) is.margin.delay (is.margin.start + duration (take 2 tape)) tape first
+        more
+        (distances_from_start 16 w.threshold (sums w.smooth (reading_of w.track file).samples)) text }
+{
+    what_is_sliced_of_a_track_is_reported();
+    the_spans_of_a_track_are_told();
+    words_that_count_on_are_one_span();
 }

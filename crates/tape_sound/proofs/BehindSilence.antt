@@ -9,7 +9,7 @@ use Rattle.biphase.specs.declared.cell.Cell.{Cell}
 use Rattle.biphase.specs.declared.cell.Cell.TheVariants.{Zero, One}
 use Rattle.biphase.specs.declared.profile.Profile.{Profile}
 use Rattle.biphase.specs.Latest.{Latest}
-use Rattle.biphase.specs.Kinds.{chain_kinds}
+use Rattle.biphase.specs.KindLemmas.{chain_kinds}
 use Rattle.biphase.specs.Chain.{flat, kept_of, IsChain}
 use Rattle.cell_tracker.specs.ChainPiece.{IsPiece, cells_from, stretch_of_piece}
 use Rattle.cell_tracker.specs.Lock.{IsLock, IsUnequalAt}

@@ -13,7 +13,7 @@ use Rattle.tape_sound.specs.Margin.{noise_in_step, reach_moment, reaches, tick_t
 use Rattle.tape_sound.specs.Margin.{ComeBehind, ComeWithin, HasRoom}
 use Rattle.tape_sound.proofs.CrossingsAreTurns.{crossings_are_turns, is_on, is_on_itself, lies_on, lies_there}
 use Rattle.tape_sound.proofs.CrossingsAreTurns.{moment_to, on_is}
-use Rattle.tape_sound.proofs.CrossingsAreTurns.{side_above}
+use Rattle.pcm_front.specs.SideLemmas.{side_above}
 use Rattle.tape_sound.proofs.NoLater.{lower_reached, near_upward, other_way, reach, reached, tick_less, tick_within}
 use Rattle.tape_sound.proofs.TurnsInOrder.{Leads, turns_behind}
 

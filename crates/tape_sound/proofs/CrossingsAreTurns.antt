@@ -72,19 +72,6 @@ crossings_are_turns f threshold sound a (suc k) side stand =
 
 -- ---- the side of a sample, seen so that it lies above
 
-side_above_by : (high low : Bool) (t : ℕ) (b : ℤ) (side : Side) → int_le (pos t) b ≡ high
-    → int_le b (neg_ℤ (pos t)) ≡ low
-    → cond high (Some High) (cond low (Some Low) None) ≡ Some side → pos t ≤ℤ upward side b
-side_above_by true low t b High is is_low found = grind (arith, ints)
-side_above_by true low t b Low is is_low found = absurd (cc)
-side_above_by false true t b Low is is_low found = grind (arith, ints)
-side_above_by false true t b High is is_low found = absurd (cc)
-side_above_by false false t b side is is_low found = absurd (cc)
-
--- a sample that lies on a side is at the threshold or above
-pub side_above : (t : ℕ) (b : ℤ) (side : Side) → side_of t b ≡ Some side → pos t ≤ℤ upward side b
-side_above t b side found = side_above_by (int_le (pos t) b) (int_le b (neg_ℤ (pos t))) t b side refl refl found
-
 -- and the other way round
 pub lies_there : (t : ℕ) (x : ℤ) (side : Side) → 1 ≤ t → pos t ≤ℤ upward side x → side_of t x ≡ Some side
 lies_there t x High some above = let high : int_le (pos t) x ≡ true = grind (arith, ints) in rw high refl

@@ -5,16 +5,12 @@ use Rattle.std.proofs.Common.{arith}
 use Rattle.std.specs.Prelude.{◌+ℤ◌}
 use Rattle.std.specs.List.{AllByRecursion}
 use Rattle.std.proofs.lemmas.Int.{ints}
+use Rattle.lemmas.specs.Lists.{front_keeps}
 use Rattle.pcm_front.specs.declared.level.Level.{Level}
 use Rattle.pcm_front.specs.declared.threshold.Threshold.{Threshold}
 use Rattle.pcm_front.specs.declared.threshold.Threshold.TheVariants.{Fixed, Follow, Deep}
 use Rattle.pcm_front.specs.Level.{least_of, level_of, threshold_at, threshold_by}
 use Rattle.tape_sound.specs.Margin.{noise_in_step, StaysBetween}
-
-front_keeps : (P : ℤ → Type 0) (n : ℕ) (xs : List ℤ) → AllByRecursion P xs → AllByRecursion P (take n xs)
-front_keeps P zero xs all = tt
-front_keeps P (suc n) [] all = tt
-front_keeps P (suc n) (x ∷ xs) all = (all.0, front_keeps P n xs all.1)
 
 by_level : (threshold : Threshold) (most : ℕ) (level : Level) → level.peak ≤ most
     → (least_of threshold ≤ threshold_by threshold level)

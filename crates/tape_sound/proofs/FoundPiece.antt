@@ -2,6 +2,7 @@
 -- may be thought to be found in time.
 use Rattle.std.proofs.Common.{◌≡◌, ℕ, suc, ◌-◌, List, [], ◌∷◌, ◌++◌, length, drop, refl, ap, sym, subst, ◌∙◌}
 use Rattle.std.proofs.Common.{arith}
+use Rattle.pcm_front.specs.DistanceLemmas.{gaps-front}
 use Rattle.biphase.specs.declared.cell.Cell.{Cell}
 use Rattle.biphase.specs.declared.profile.Profile.{Profile}
 use Rattle.biphase.specs.Chain.{flat}
@@ -32,15 +33,6 @@ gaps_after-drop b (c ∷ bs) ys = gaps_after-drop c bs ys
 gaps-drop : (bs ys : List ℕ) → drop (length bs) (gaps (bs ++ ys)) ≡ gaps ys
 gaps-drop [] ys = refl
 gaps-drop (b ∷ bs) ys = gaps_after-drop b bs ys
-
-gaps_after-front : (x : ℕ) (ms more : List ℕ) → (rest : List ℕ) × (gaps_after x (ms ++ more) ≡ gaps_after x ms ++ rest)
-gaps_after-front x [] more = (gaps_after x more, refl)
-gaps_after-front x (y ∷ ms) more = let later = gaps_after-front y ms more in
-    (later.0, ap (λ (ds : List ℕ). (y - x) ∷ ds) later.1)
-
-pub gaps-front : (ms more : List ℕ) → (rest : List ℕ) × (gaps (ms ++ more) ≡ gaps ms ++ rest)
-gaps-front [] more = (gaps more, refl)
-gaps-front (x ∷ ms) more = gaps_after-front x ms more
 
 -- a tape as it is heard: its cells as they are found, of which the distances are a piece
 pub record HeardPiece (profile : Profile) (delay : ℕ) (tape : List Cell) (cut : ℕ) (moments : List ℕ) : Type 0 where

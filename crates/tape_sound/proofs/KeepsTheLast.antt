@@ -6,7 +6,7 @@ use Rattle.biphase.specs.declared.cell.Cell.TheVariants.{Zero, One}
 use Rattle.biphase.specs.declared.profile.Profile.{Profile}
 use Rattle.biphase.specs.declared.profile.Profile.TheVariants.{Normal, Worn, Rough}
 use Rattle.biphase.specs.Chain.{Follow, FollowOn, IsCell}
-use Rattle.biphase.specs.Laws.{kept_anew}
+use Rattle.biphase.specs.ToleranceLemmas.{kept_anew}
 use Rattle.biphase.specs.Profile.{IsWithin}
 use Rattle.biphase.specs.Tolerance.{LooksAtLast, kept_at_lock, length_of, IsNext}
 use Rattle.tape_sound.specs.Late.{drift_from, AreFoundAs, IsFoundAs, IsSteady, Outlasts, RunOn}

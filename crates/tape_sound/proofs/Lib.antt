@@ -20,7 +20,6 @@ pub mod NeededParts
 pub mod NoLater
 pub mod NoneBefore
 pub mod PartIsFound
-pub mod Rounded
 pub mod SamePiece
 pub mod ScaledTape
 pub mod SilenceFirst

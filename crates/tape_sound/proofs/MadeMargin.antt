@@ -5,6 +5,7 @@ use Rattle.std.proofs.Common.{ap, sym, subst, ◌∙◌, arith}
 use Rattle.std.specs.Prelude.{◌+ℤ◌}
 use Rattle.std.specs.List.{AllByRecursion}
 use Rattle.std.proofs.lemmas.Int.{ints}
+use Rattle.std.proofs.Math.IntN.{neg_ℤ-neg_ℤ}
 use Rattle.biphase.specs.declared.cell.Cell.{Cell}
 use Rattle.biphase.specs.declared.cell.Cell.TheVariants.{Zero, One}
 use Rattle.biphase.specs.declared.profile.Profile.{Profile}
@@ -25,7 +26,7 @@ use Rattle.tape_sound.specs.Margin.{tick_to_bound, turns, ComeBehind, ComeWithin
 use Rattle.tape_sound.specs.Margin.{StaysBetween}
 use Rattle.tape_sound.proofs.FollowedLevel.{stays_between, PeakLaw}
 use Rattle.tape_sound.proofs.LastsLong.{half_drift, lasts, steady_rest}
-use Rattle.tape_sound.proofs.MadeTurns.{neg-neg, sound_turns}
+use Rattle.tape_sound.proofs.MadeTurns.{sound_turns}
 use Rattle.tape_sound.proofs.NoLater.{tick_within}
 use Rattle.tape_sound.proofs.ScaledTape.{flat_scaled, steady_scaled}
 
@@ -71,7 +72,7 @@ made_goes_over f size low high tape some low_is high_is long =
       side = Low;
       first = 0;
       there = omega arith;
-      stands = ap (int_le high) (neg-neg size) ∙ high_is.above;
+      stands = ap (int_le high) (neg_ℤ-neg_ℤ (pos size)) ∙ high_is.above;
       before = λ place less. absurd (omega (arith, less));
       no_sooner = subst (ComeBehind (turns f (λ place. low) made Low (0 + 1) count)) (sym from)
           (subst (λ (l : List ℕ). ComeBehind l (0 ∷ transitions_after 0 xs))

@@ -9,6 +9,7 @@ use Rattle.std.specs.List.{AllByRecursion}
 use Rattle.std.proofs.lemmas.List.{get_or_append_left, get_or-append_right, get_or-replicate, length-append}
 use Rattle.std.proofs.lemmas.List.{length_push}
 use Rattle.std.proofs.lemmas.List.{length-replicate}
+use Rattle.std.proofs.Math.IntN.{neg_ℤ-neg_ℤ}
 use Rattle.pcm_front.specs.declared.side.Side.{Side}
 use Rattle.pcm_front.specs.declared.side.Side.TheVariants.{High, Low}
 use Rattle.pcm_front.specs.Runs.{joined}
@@ -17,10 +18,6 @@ use Rattle.pcm_front.specs.Sound.{sound, sound_runs}
 use Rattle.tape_sound.specs.Heard.{transitions_after}
 use Rattle.tape_sound.specs.Margin.{reach_moment, reaches, tick_to_bound, turns}
 
-pub neg-neg : (h : ℕ) → neg_ℤ (neg_ℤ (pos h)) ≡ pos h
-neg-neg zero = refl
-neg-neg (suc h) = refl
-
 -- a sample of the other side, and one of its own
 seen_other : (side : Side) (h : ℕ) → upward (other_side side) (upward side (pos h)) ≡ neg_ℤ (pos h)
 seen_other High h = refl
@@ -28,7 +25,7 @@ seen_other Low h = refl
 
 seen_own : (side : Side) (h : ℕ) → upward side (upward side (pos h)) ≡ pos h
 seen_own High h = refl
-seen_own Low h = neg-neg h
+seen_own Low h = neg_ℤ-neg_ℤ (pos h)
 
 module _ (f h : ℕ) (bound : ℤ) (below : int_le bound (neg_ℤ (pos h)) ≡ false) (above : int_le bound (pos h) ≡ true)
   where

@@ -10,7 +10,7 @@ use Rattle.pcm_front.specs.declared.side.Side.TheVariants.{High, Low}
 use Rattle.pcm_front.specs.Crossing.{apart}
 use Rattle.pcm_front.specs.Side.{upward}
 use Rattle.tape_sound.specs.Margin.{tick_to_bound}
-use Rattle.tape_sound.proofs.Rounded.{quotient_least, quotient_most, quotient_within}
+use Rattle.lemmas.specs.Quotients.{quotient_least, quotient_most, quotient_within}
 
 -- a line that reaches less from nearer, and goes as far beyond, reaches it no later
 part_less : (f k r o q p : ℕ) → k ≤ f → f * r ≤ k * (r + o) → q ≤ r → o ≤ p → f * q ≤ k * (q + p)

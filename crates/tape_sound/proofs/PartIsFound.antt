@@ -13,7 +13,8 @@ use Rattle.tc_address.specs.declared.system.System.{System}
 use Rattle.tape_sound.specs.Heard.{AreHeard}
 use Rattle.tape_sound.specs.Margin.{moments_in, ComeWithin}
 use Rattle.tape_sound.specs.Part.{FindThePart, PartHasMargin}
-use Rattle.tape_sound.proofs.FoundPiece.{gaps-front, heard_piece}
+use Rattle.tape_sound.proofs.FoundPiece.{heard_piece}
+use Rattle.pcm_front.specs.DistanceLemmas.{gaps-front}
 use Rattle.tape_sound.proofs.BetweenTheBounds.{part_within}
 use Rattle.tape_sound.proofs.ThreeParts.{parts}
 use Rattle.tape_sound.proofs.SamePiece.{same_piece}

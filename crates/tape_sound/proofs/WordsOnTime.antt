@@ -2,6 +2,7 @@
 -- begin.
 use Rattle.std.proofs.Common.{◌≡◌, ℕ, zero, suc, ◌+◌, ◌≤◌, List, [], ◌∷◌, take, drop, refl, arith}
 use Rattle.std.proofs.lemmas.List.Sums.{sum_by-cons}
+use Rattle.direction_reader.specs.PlayedLemmas.{duration-cons}
 use Rattle.biphase.specs.declared.cell.Cell.{Cell}
 use Rattle.biphase.specs.declared.cell.Cell.TheVariants.{Zero, One}
 use Rattle.biphase.specs.Chain.{flat}
@@ -11,13 +12,6 @@ use Rattle.direction_reader.specs.Played.{Played, events_of_words}
 use Rattle.tape_sound.specs.Late.{AreFoundAs}
 use Rattle.tape_sound.specs.OnTime.{AreOnTime}
 use Rattle.tape_sound.proofs.FoundLength.{length_found}
-
-duration_more : (cell : Cell) (cells : List Cell) → duration (cell ∷ cells) ≡ length_of cell + duration cells
-duration_more (Zero c) cells = sum_by-cons (λ n. n) c (flat cells)
-duration_more (One a b) cells =
-    let first = sum_by-cons (λ n. n) a (b ∷ flat cells) in
-    let second = sum_by-cons (λ n. n) b (flat cells) in
-    omega (arith, first, second)
 
 -- behind some cells: how late the transition there is, and how long they last
 pub record Behind (delay first : ℕ) (tape cells : List Cell) (count : ℕ) : Type 0 where
@@ -39,7 +33,7 @@ behind delay first (suc count) (cell ∷ tape) (x ∷ cells) early found =
       late = more.late;
       small = more.small;
       rest = more.rest;
-      lasts = omega (arith, more.lasts, one, duration_more x (take count cells), duration_more cell (take count tape));
+      lasts = omega (arith, more.lasts, one, duration-cons x (take count cells), duration-cons cell (take count tape));
     }
 
 -- where the tick is as late as the transition, less how late the first one was

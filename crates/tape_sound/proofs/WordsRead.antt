@@ -4,7 +4,7 @@ use Rattle.std.proofs.Common.{◌≡◌, ℕ, ◌≤◌, true, false, ℤ, List,
 use Rattle.std.proofs.Common.{ap, sym, subst, ◌∙◌, arith}
 use Rattle.std.specs.List.{AllByRecursion}
 use Rattle.biphase.specs.declared.cell.Cell.{Cell}
-use Rattle.biphase.specs.declared.cell.TheConstants.{MAX_INTERVALS}
+use Rattle.limits.specs.declared.recording.TheConstants.{MAX_INTERVALS}
 use Rattle.biphase.specs.declared.profile.Profile.{Profile}
 use Rattle.biphase.specs.Chain.{bits, flat, IsChain}
 use Rattle.direction_reader.specs.declared.event.Event.{Event}

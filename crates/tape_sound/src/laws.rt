@@ -4,7 +4,7 @@ ghost use Rattle.std.specs.Prelude.{◌-◌, take, drop, ℤ, pos, neg_ℤ, ◌+
 ghost use Rattle.std.specs.List.{AllByRecursion};
 ghost use Rattle.biphase.specs.declared.cell.Cell.{Cell};
 ghost use Rattle.biphase.specs.declared.cell.Cell.TheVariants.{One};
-ghost use Rattle.biphase.specs.declared.cell.TheConstants.{MAX_INTERVALS};
+ghost use Rattle.limits.specs.declared.recording.TheConstants.{MAX_INTERVALS};
 ghost use Rattle.biphase.specs.declared.profile.Profile.{Profile};
 ghost use Rattle.biphase.specs.declared.profile.Profile.TheVariants.{Normal, Worn, Rough};
 ghost use Rattle.biphase.specs.Chain.{bits, flat, IsChain};

@@ -1,8 +1,8 @@
 //! Values from outside.
 use biphase::{
-    Cell, LatestFour, MAX_INTERVAL, PairKind, Profile, ShapeFault, Shaper, is_one, is_zero, kind,
-    may_begin_one,
+    Cell, LatestFour, PairKind, Profile, ShapeFault, Shaper, is_one, is_zero, kind, may_begin_one,
 };
+use limits::MAX_INTERVAL;
 use std::test::Fail;
 
 const ROUGH: Profile = Profile::Rough;

@@ -1,6 +1,7 @@
 //! Windows and recordings whose events are known from outside.
-use biphase::{MAX_INTERVAL, MAX_INTERVALS, Profile};
+use biphase::Profile;
 use direction_reader::{Brought, DirectionReader, Event, Events, window_events};
+use limits::{MAX_INTERVAL, MAX_INTERVALS};
 use ltc_word::LtcWord;
 use std::test::Fail;
 use tc_address::{Count, Direction, Label, System};
@@ -26,11 +27,11 @@ fn a_window_that_ends_both_ways_is_refused_twice(rt: HostRuntime) {
 #[test]
 fn a_word_is_read_one_way_or_none(rt: HostRuntime) -> Result<(), Fail> {
     let flags = Flags {
-        bit10: false,
-        colour: false,
-        bgf0: false,
-        bgf1: false,
-        bgf2: false,
+        drop_frame: false,
+        colour_frame: false,
+        group_flag_zero: false,
+        group_flag_one: false,
+        group_flag_two: false,
     };
     let label = Label::new(Count::C25, 1, 0, 0, 0)?;
     let word = LtcWord {

@@ -6,6 +6,7 @@ use Rattle.std.proofs.lemmas.List.FromFn.{fill_by_all}
 use Rattle.std.specs.Str.{bytes_eq}
 use Rattle.std.proofs.lemmas.Slice.Eq.{bytes_eq-Decides}
 use Rattle.std.proofs.lemmas.Bool.Decides.{nat_tests}
+use Rattle.tc_address.specs.LabelLemmas.{label_is}
 use Rattle.tc_address.specs.declared.count.Count.{Count}
 use Rattle.tc_address.specs.declared.count.Count.TheVariants.{C24, C25, C30, Drop30}
 use Rattle.tc_address.specs.Count.{rate_of, system_with}
@@ -84,11 +85,6 @@ no_wrong_place c text place a l e t w =
     let wrong = w.wrong in
     cc
 
-is_label_true : (a : Address) → IsLabel a → is_label a ≡ true
-is_label_true a l =
-    let counted = l.counted in
-    grind (arith, nat_tests)
-
 label_from_test : (a : Address) → is_label a ≡ true → IsLabel a
 label_from_test a e =
     record {
@@ -103,7 +99,7 @@ label_from_test a e =
 pub label_in-text_of : (c : Count) (text : List ℕ) (a : Address) → IsLabel a → a.count ≡ c → text ≡ text_of a → label_in c text ≡ Some a
 label_in-text_of c text a l e t =
     let back : address_in c text ≡ a = ap (λ d. address_in d text) (sym e) ∙ ap (address_in a.count) t ∙ address_in-text_of a in
-    let label : is_label (address_in c text) ≡ true = ap is_label back ∙ is_label_true a l in
+    let label : is_label (address_in c text) ≡ true = ap is_label back ∙ label_is a l in
     let same : text ≡ text_of (address_in c text) = t ∙ ap text_of (sym back) in
     let test : bytes_eq text (text_of (address_in c text)) ≡ true = (bytes_eq-Decides text (text_of (address_in c text))).1 same in
     rw (label, test) (ap (λ b. Some b) back)

@@ -4,3 +4,4 @@ pub mod DropFrame
 pub mod Label
 pub mod Numbering
 pub mod Spelling
+pub mod LabelLemmas

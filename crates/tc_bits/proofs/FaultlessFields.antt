@@ -73,7 +73,7 @@ faultless_says system raw none =
     let minute_tens = not_above raw.minute_tens 5 six.0 in
     let hour_units = not_above raw.hour_units 9 seven.0 in
     let hours = not_above (10 * raw.hour_tens + raw.hour_units) 23 eight.0 in
-    let of = of_system system raw.flags.bit10 in
+    let of = of_system system raw.flags.drop_frame in
     record {
       valid = record {
         label = record {
@@ -83,7 +83,7 @@ faultless_says system raw none =
           frames = rw of frames;
           counted = nine.0;
         };
-        flag = flag_agrees system raw.flags.bit10;
+        flag = flag_agrees system raw.flags.drop_frame;
       };
       count = of;
       digits = rw (

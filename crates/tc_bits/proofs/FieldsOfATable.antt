@@ -1,9 +1,11 @@
 -- What the places of a table hold are the digits, flags and user bits that they say, and their numbers are a row.
 use Rattle.std.proofs.Common.{◌≡◌, ℕ, ◌+◌, ◌-◌, ◌*◌, ◌/◌, ◌^◌, ◌<◌, ◌≤◌, Bool, true, false, refl, sym, ap, lit<, arith}
 use Rattle.std.specs.Prelude.{◌&&◌, nat_le, [], ◌∷◌}
-use Rattle.std.proofs.lemmas.Bool.{eqb-true, eqb-false, leb-true}
+use Rattle.std.proofs.lemmas.Bool.{eqb-true, eqb-false, leb-true, and_parts}
 use Rattle.std.proofs.lemmas.List.Sums.{AllPass-from_list_all}
 use Rattle.std.proofs.lemmas.Nat.{mod_below}
+use Rattle.tc_bits.specs.FieldLemmas.{also, digit_below}
+use Rattle.tc_address.specs.LabelLemmas.{rate_within}
 use Rattle.tc_address.specs.declared.system.System.{System}
 use Rattle.tc_address.specs.declared.system.System.TheVariants.{F24, F25, F30}
 use Rattle.tc_address.specs.Count.{rate_of, system_with}
@@ -13,18 +15,18 @@ use Rattle.tc_bits.specs.declared.place.Place.{Place}
 use Rattle.tc_bits.specs.declared.raw.RawFields.{RawFields}
 use Rattle.tc_bits.specs.declared.table.Table.{Table}
 use Rattle.tc_bits.specs.Fields.{FieldValues, IsFields, Says}
+use Rattle.tc_bits.specs.Fields.{flags as flags_with}
 use Rattle.tc_bits.specs.Reading.{flags_in, raw_in, user_in}
 use Rattle.tc_bits.specs.Register.{field, is_set}
 use Rattle.tc_bits.specs.Row.{Fit, Holds}
 use Rattle.tc_bits.specs.Spelling.{AreExact, SpellsFields, SpellsFlags, SpellsUserBits}
 use Rattle.tc_bits.specs.Table.{IsTable, digit, is_table, place, places_in, row_of}
 use Rattle.tc_bits.specs.UserBits.{group, number_of_groups}
-use Rattle.tc_bits.proofs.SideBySide.{both}
 
 -- ---- the test of a table
 
 from_test : (first width : ℕ) → (nat_le 1 width && nat_le (first + width) 100) ≡ true → first + width ≤ 100
-from_test first width e = leb-true (first + width) 100 (both (nat_le 1 width) (nat_le (first + width) 100) e).1
+from_test first width e = leb-true (first + width) 100 (and_parts (nat_le 1 width) (nat_le (first + width) 100) e).1
 
 pub table_is : (t : Table) → is_table t ≡ true → IsTable t
 table_is t e =
@@ -145,17 +147,14 @@ said system t c bits says =
         hour_tens = sym (ap (λ (raw : RawFields). raw.hour_tens) e);
       };
       flags = record {
-        drop_frame = sym (ap (λ (f : Flags). f.bit10) flags);
-        colour_frame = sym (ap (λ (f : Flags). f.colour) flags);
-        group_flag_zero = sym (ap (λ (f : Flags). f.bgf0) flags);
-        group_flag_one = sym (ap (λ (f : Flags). f.bgf1) flags);
-        group_flag_two = sym (ap (λ (f : Flags). f.bgf2) flags);
+        drop_frame = sym (ap (λ (f : Flags). f.drop_frame) flags);
+        colour_frame = sym (ap (λ (f : Flags). f.colour_frame) flags);
+        group_flag_zero = sym (ap (λ (f : Flags). f.group_flag_zero) flags);
+        group_flag_one = sym (ap (λ (f : Flags). f.group_flag_one) flags);
+        group_flag_two = sym (ap (λ (f : Flags). f.group_flag_two) flags);
       };
       user = user_spelled t c.user bits (ap (λ (raw : RawFields). raw.user) e);
     }
-
-abbrev flags_with : Bool → Bool → Bool → Bool → Bool → Flags
-flags_with p q r s t = record { bit10 = p; colour = q; bgf0 = r; bgf1 = s; bgf2 = t }
 
 same_flags : (p q r s t p' q' r' s' t' : Bool) → p ≡ p' → q ≡ q' → r ≡ r' → s ≡ s' → t ≡ t'
     → flags_with p q r s t ≡ flags_with p' q' r' s' t'
@@ -182,7 +181,7 @@ same_raw a b c d e f g h flags user a' b' c' d' e' f' g' h' flags' user' ha hb h
 
 flags_read : (t : Table) (flags : Flags) (bits : ℕ) → SpellsFlags t flags bits → flags ≡ flags_in t bits
 flags_read t flags bits s =
-    same_flags flags.bit10 flags.colour flags.bgf0 flags.bgf1 flags.bgf2 _ _ _ _ _
+    same_flags flags.drop_frame flags.colour_frame flags.group_flag_zero flags.group_flag_one flags.group_flag_two _ _ _ _ _
     (sym s.drop_frame) (sym s.colour_frame) (sym s.group_flag_zero) (sym s.group_flag_one) (sym s.group_flag_two)
 
 says : (system : System) (t : Table) (c : FieldValues) (bits : ℕ) → IsFields c → system_with c.label.count ≡ system
@@ -244,11 +243,11 @@ held t c bits eight (
     hour_tens = ht;
   };
   flags = record {
-    drop_frame = flag_read bits t.drop_frame c.flags.bit10 drop;
-    colour_frame = flag_read bits t.colour_frame c.flags.colour colour;
-    group_flag_zero = flag_read bits t.group_flag_zero c.flags.bgf0 zero;
-    group_flag_one = flag_read bits t.group_flag_one c.flags.bgf1 one;
-    group_flag_two = flag_read bits t.group_flag_two c.flags.bgf2 two;
+    drop_frame = flag_read bits t.drop_frame c.flags.drop_frame drop;
+    colour_frame = flag_read bits t.colour_frame c.flags.colour_frame colour;
+    group_flag_zero = flag_read bits t.group_flag_zero c.flags.group_flag_zero zero;
+    group_flag_one = flag_read bits t.group_flag_one c.flags.group_flag_one one;
+    group_flag_two = flag_read bits t.group_flag_two c.flags.group_flag_two two;
   };
   user = record {
     one = u1;
@@ -270,9 +269,6 @@ flag_held bits first false e =
     let low = mod_below (bits / 2 ^ first) (2 ^ 1) (lit< tt) in
     grind arith
 
-also : {Held Rest : Type 0} → Held → Rest → Held × Rest
-also held rest = (held, rest)
-
 holds : (t : Table) (c : FieldValues) (bits : ℕ) → SpellsFields t c bits → Holds (row_of t c) bits
 holds t c bits s =
     let a = s.address in
@@ -280,25 +276,16 @@ holds t c bits s =
     let u = s.user in
     also a.frame_units (also a.frame_tens (also a.second_units (also a.second_tens
     (also a.minute_units (also a.minute_tens (also a.hour_units (also a.hour_tens
-    (also (flag_held bits t.drop_frame c.flags.bit10 f.drop_frame)
-    (also (flag_held bits t.colour_frame c.flags.colour f.colour_frame)
-    (also (flag_held bits t.group_flag_zero c.flags.bgf0 f.group_flag_zero)
-    (also (flag_held bits t.group_flag_one c.flags.bgf1 f.group_flag_one)
-    (also (flag_held bits t.group_flag_two c.flags.bgf2 f.group_flag_two)
+    (also (flag_held bits t.drop_frame c.flags.drop_frame f.drop_frame)
+    (also (flag_held bits t.colour_frame c.flags.colour_frame f.colour_frame)
+    (also (flag_held bits t.group_flag_zero c.flags.group_flag_zero f.group_flag_zero)
+    (also (flag_held bits t.group_flag_one c.flags.group_flag_one f.group_flag_one)
+    (also (flag_held bits t.group_flag_two c.flags.group_flag_two f.group_flag_two)
     (also u.one (also u.two (also u.three (also u.four
     (also u.five (also u.six (also u.seven (also u.eight tt))))))))))))))))))))
 
-digit_below : (flag : Bool) → digit flag < 2
-digit_below true = lit< tt
-digit_below false = lit< tt
-
 group_below : (number user : ℕ) → group number user < 16
 group_below number user = mod_below (user / 2 ^ (4 * (number - 1))) (2 ^ 4) (lit< tt)
-
-rate_within : (system : System) → rate_of system ≤ 30
-rate_within F24 = omega arith
-rate_within F25 = omega arith
-rate_within F30 = omega arith
 
 fit : (t : Table) (c : FieldValues) → IsLabel c.label → Fit (row_of t c)
 fit t c label =
@@ -310,9 +297,9 @@ fit t c label =
     let u = c.user in
     also (omega arith) (also (omega arith) (also (omega arith) (also (omega arith)
     (also (omega arith) (also (omega arith) (also (omega arith) (also (omega arith)
-    (also (digit_below c.flags.bit10) (also (digit_below c.flags.colour)
-    (also (digit_below c.flags.bgf0) (also (digit_below c.flags.bgf1)
-    (also (digit_below c.flags.bgf2)
+    (also (digit_below c.flags.drop_frame) (also (digit_below c.flags.colour_frame)
+    (also (digit_below c.flags.group_flag_zero) (also (digit_below c.flags.group_flag_one)
+    (also (digit_below c.flags.group_flag_two)
     (also (group_below 1 u) (also (group_below 2 u) (also (group_below 3 u) (also (group_below 4 u)
     (also (group_below 5 u) (also (group_below 6 u) (also (group_below 7 u)
     (also (group_below 8 u) tt))))))))))))))))))))

@@ -5,7 +5,7 @@ use Rattle.std.specs.Prelude.{◌&&◌, ◌==◌, nat_le, nat_lt, count_by}
 use Rattle.std.specs.List.{list_all, range_with_len}
 use Rattle.std.specs.Int.{bit_at}
 use Rattle.std.proofs.Math.Nat.{div-eq_of_lt, div-lt_iff_lt-mul, mod-eq_of_lt}
-use Rattle.std.proofs.lemmas.Bool.{cases_lt, eqb-true, leb-true, ltb-true, le-leb, lt-ltb}
+use Rattle.std.proofs.lemmas.Bool.{cases_lt, eqb-true, leb-true, ltb-true, le-leb, lt-ltb, and_parts}
 use Rattle.std.proofs.lemmas.List.Sums.{sum_by-cons}
 use Rattle.std.proofs.lemmas.Nat.{pow_pos, shr-shr, mod_below}
 use Rattle.std.proofs.lemmas.Nat.Bits.{same_from_bits_below}
@@ -16,19 +16,14 @@ use Rattle.tc_bits.proofs.AroundAField.{Replaces, put_together, parts_of, other_
 
 -- ---- what a test of all numbers below a bound tells
 
-pub both : (a b : Bool) → (a && b) ≡ true → (a ≡ true) × (b ≡ true)
-both true true e = (refl, refl)
-both true false e = absurd cc
-both false b e = absurd cc
-
 tested : (f : ℕ → Bool) (a n : ℕ) → list_all f (range_with_len a n) ≡ true → (i : ℕ) → i < n → f (a + i) ≡ true
 tested f a zero e i lt = absurd (omega arith)
 tested f a (suc n) e zero lt =
     let k : a + zero ≡ a = omega arith in
-    rw k (both (f a) (list_all f (range_with_len (a + 1) n)) e).0
+    rw k (and_parts (f a) (list_all f (range_with_len (a + 1) n)) e).0
 tested f a (suc n) e (suc i) lt =
     let k : a + suc i ≡ a + 1 + i = omega arith in
-    rw k (tested f (a + 1) n (both (f a) (list_all f (range_with_len (a + 1) n)) e).1 i (omega arith))
+    rw k (tested f (a + 1) n (and_parts (f a) (list_all f (range_with_len (a + 1) n)) e).1 i (omega arith))
 
 -- ---- places that have no bit in common
 
@@ -172,9 +167,9 @@ apart_from p e row some some_too none =
 inside : (count : ℕ) (e : Entry) (row : List Entry) → are_within count (places_of (e ∷ row)) ≡ true
     → (1 ≤ e.place.width) × (e.place.first + e.place.width ≤ count) × (are_within count (places_of row) ≡ true)
 inside count e row within =
-    let a = both (nat_le 1 e.place.width && nat_le (e.place.first + e.place.width) count)
+    let a = and_parts (nat_le 1 e.place.width && nat_le (e.place.first + e.place.width) count)
     (are_within count (places_of row)) within in
-    let b = both (nat_le 1 e.place.width) (nat_le (e.place.first + e.place.width) count) a.0 in
+    let b = and_parts (nat_le 1 e.place.width) (nat_le (e.place.first + e.place.width) count) a.0 in
     (leb-true 1 e.place.width b.0, leb-true (e.place.first + e.place.width) count b.1, a.1)
 
 all_apart : (count : ℕ) (p : Place) (row : List Entry) → 1 ≤ p.width → are_within count (places_of row) ≡ true
@@ -193,7 +188,7 @@ separate count [] few within fit = tt
 separate count (e ∷ row) few within fit =
     let w = inside count e row within in
     let below : (i : ℕ) → is_in i e.place ≡ true → i < count = λ i is.
-    let h = ltb-true i (e.place.first + e.place.width) (both (nat_le e.place.first i)
+    let h = ltb-true i (e.place.first + e.place.width) (and_parts (nat_le e.place.first i)
     (nat_lt i (e.place.first + e.place.width)) is).1 in
     omega (arith, h, w.1) in (
       w.1,
@@ -221,7 +216,7 @@ same_bit (e ∷ row) a b i x y one = by_place (is_in i e.place) refl (same_bit r
         → bit_at a i ≡ bit_at b i
     by_place true is rest =
         let p = e.place in
-        let parts = both (nat_le p.first i) (nat_lt i (p.first + p.width)) is in
+        let parts = and_parts (nat_le p.first i) (nat_lt i (p.first + p.width)) is in
         let from = leb-true p.first i parts.0 in
         let to = ltb-true i (p.first + p.width) parts.1 in
         let k : p.first + (i - p.first) ≡ i = omega arith in

@@ -16,6 +16,16 @@ pub record FieldValues : Type 0 where
   pub flags : Flags
   pub user : ℕ
 
+-- flags in the order of a report: drop-frame, colour-frame, binary group flags 0, 1 and 2
+abbrev pub flags : Bool → Bool → Bool → Bool → Bool → Flags
+flags drop_frame colour_frame zero one two = record {
+  drop_frame = drop_frame;
+  colour_frame = colour_frame;
+  group_flag_zero = zero;
+  group_flag_one = one;
+  group_flag_two = two;
+}
+
 abbrev pub field_values : Address → Flags → ℕ → FieldValues
 field_values label flags user = record { label = label; flags = flags; user = user }
 
@@ -29,7 +39,7 @@ agrees Drop30 flag = flag
 -- the address is a label, and the drop-frame flag agrees with its count
 pub record IsFields (c : FieldValues) : Type 0 where
   pub label : IsLabel c.label
-  pub flag : agrees c.label.count c.flags.bit10 ≡ true
+  pub flag : agrees c.label.count c.flags.drop_frame ≡ true
 
 -- the units and tens of the address, with the flags and the user bits
 abbrev pub digits_of : FieldValues → RawFields
@@ -67,7 +77,7 @@ pub record FitsDigits (raw : RawFields) : Type 0 where
 -- the address that the digits say
 abbrev pub address_of : System → RawFields → Address
 address_of system raw = record {
-  count = count_in system raw.flags.bit10;
+  count = count_in system raw.flags.drop_frame;
   hours = 10 * raw.hour_tens + raw.hour_units;
   minutes = 10 * raw.minute_tens + raw.minute_units;
   seconds = 10 * raw.second_tens + raw.second_units;

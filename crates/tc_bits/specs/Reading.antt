@@ -9,11 +9,11 @@ use Rattle.tc_bits.specs.UserBits.{number_of_groups}
 -- the flags that stand in the bits
 abbrev pub flags_in : Table → ℕ → Flags
 flags_in t bits = record {
-  bit10 = field bits t.drop_frame 1 == 1;
-  colour = field bits t.colour_frame 1 == 1;
-  bgf0 = field bits t.group_flag_zero 1 == 1;
-  bgf1 = field bits t.group_flag_one 1 == 1;
-  bgf2 = field bits t.group_flag_two 1 == 1;
+  drop_frame = field bits t.drop_frame 1 == 1;
+  colour_frame = field bits t.colour_frame 1 == 1;
+  group_flag_zero = field bits t.group_flag_zero 1 == 1;
+  group_flag_one = field bits t.group_flag_one 1 == 1;
+  group_flag_two = field bits t.group_flag_two 1 == 1;
 }
 
 -- the user bits that stand in the bits

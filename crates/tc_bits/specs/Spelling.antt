@@ -25,11 +25,11 @@ pub record SpellsAddress (t : Table) (a : Address) (bits : ℕ) : Type 0 where
 
 -- each flag stands in its place
 pub record SpellsFlags (t : Table) (flags : Flags) (bits : ℕ) : Type 0 where
-  pub drop_frame : is_set (place t.drop_frame 1) bits ≡ flags.bit10
-  pub colour_frame : is_set (place t.colour_frame 1) bits ≡ flags.colour
-  pub group_flag_zero : is_set (place t.group_flag_zero 1) bits ≡ flags.bgf0
-  pub group_flag_one : is_set (place t.group_flag_one 1) bits ≡ flags.bgf1
-  pub group_flag_two : is_set (place t.group_flag_two 1) bits ≡ flags.bgf2
+  pub drop_frame : is_set (place t.drop_frame 1) bits ≡ flags.drop_frame
+  pub colour_frame : is_set (place t.colour_frame 1) bits ≡ flags.colour_frame
+  pub group_flag_zero : is_set (place t.group_flag_zero 1) bits ≡ flags.group_flag_zero
+  pub group_flag_one : is_set (place t.group_flag_one 1) bits ≡ flags.group_flag_one
+  pub group_flag_two : is_set (place t.group_flag_two 1) bits ≡ flags.group_flag_two
 
 -- each of the eight user groups stands in its place
 pub record SpellsUserBits (t : Table) (user bits : ℕ) : Type 0 where

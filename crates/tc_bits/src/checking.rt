@@ -58,7 +58,7 @@ pub fn check_fields(system: System, raw: &RawFields) -> Result<Fields, FieldFaul
     if hours > 23 {
         return Err(FieldFault::Hours);
     }
-    let count = count_of(system, raw.flags.bit10);
+    let count = count_of(system, raw.flags.drop_frame);
     match Label::new(count, hours, minutes, seconds, frames) {
         Ok(label) => Ok(Fields {
             label,

@@ -40,13 +40,13 @@ impl Fields {
     /// the drop-frame flag is set, or the count is 30 drop-frame and the flag is not set.
     pub fn new(label: Label, flags: Flags, user: UserBits) -> Result<Fields, DropFlag>
         ensures reads { IfOk result (λ fields. fields ≡ field_values label flags user) }
-        ensures agrees { IfOk result (λ fields. agrees label.count flags.bit10 ≡ true) }
-        ensures refuses { IfErr result (λ fault. agrees label.count flags.bit10 ≡ false) }
+        ensures agrees { IfOk result (λ fields. agrees label.count flags.drop_frame ≡ true) }
+        ensures refuses { IfErr result (λ fault. agrees label.count flags.drop_frame ≡ false) }
     {
         let is_told = match label.count() {
             Count::C24 | Count::C25 => true,
-            Count::C30 => !flags.bit10,
-            Count::Drop30 => flags.bit10,
+            Count::C30 => !flags.drop_frame,
+            Count::Drop30 => flags.drop_frame,
         };
         if is_told {
             Ok(Fields { label, flags, user })

@@ -5,13 +5,13 @@
 pub struct Flags {
     /// The drop-frame flag: bit 10 of an LTC word, bit 14 of a VITC line. At 30 frames it says
     /// that labels are dropped, and at 24 and 25 it has no effect.
-    pub bit10: bool,
+    pub drop_frame: bool,
     /// The colour-frame flag: bit 11 of an LTC word, bit 15 of a VITC line. It has no effect.
-    pub colour: bool,
+    pub colour_frame: bool,
     /// Binary group flag 0.
-    pub bgf0: bool,
+    pub group_flag_zero: bool,
     /// Binary group flag 1.
-    pub bgf1: bool,
+    pub group_flag_one: bool,
     /// Binary group flag 2.
-    pub bgf2: bool,
+    pub group_flag_two: bool,
 }

@@ -33,11 +33,11 @@ fn flags_at(table: &Table, bits: u128) -> Flags
     ensures { result ≡ flags_in table.now bits }
 {
     Flags {
-        bit10: is_set_at(bits, table.drop_frame),
-        colour: is_set_at(bits, table.colour_frame),
-        bgf0: is_set_at(bits, table.group_flag_zero),
-        bgf1: is_set_at(bits, table.group_flag_one),
-        bgf2: is_set_at(bits, table.group_flag_two),
+        drop_frame: is_set_at(bits, table.drop_frame),
+        colour_frame: is_set_at(bits, table.colour_frame),
+        group_flag_zero: is_set_at(bits, table.group_flag_zero),
+        group_flag_one: is_set_at(bits, table.group_flag_one),
+        group_flag_two: is_set_at(bits, table.group_flag_two),
     }
 }
 

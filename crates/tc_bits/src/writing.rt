@@ -52,11 +52,11 @@ fn flag_bits(table: &Table, flags: Flags) -> u128
     ensures within { result < 2 ^ 106 }
     ensures sum { result ≡ sum_of (flag_row table.now flags) }
 {
-    holding_flag(table.drop_frame, flags.bit10)
-        + holding_flag(table.colour_frame, flags.colour)
-        + holding_flag(table.group_flag_zero, flags.bgf0)
-        + holding_flag(table.group_flag_one, flags.bgf1)
-        + holding_flag(table.group_flag_two, flags.bgf2)
+    holding_flag(table.drop_frame, flags.drop_frame)
+        + holding_flag(table.colour_frame, flags.colour_frame)
+        + holding_flag(table.group_flag_zero, flags.group_flag_zero)
+        + holding_flag(table.group_flag_one, flags.group_flag_one)
+        + holding_flag(table.group_flag_two, flags.group_flag_two)
 }
 
 /// The user groups in their places.

@@ -3,11 +3,6 @@ use Rattle.std.proofs.Common.{Fits, w8, suc, ℕ, List, [], ◌∷◌, ◌++◌,
 use Rattle.std.proofs.Math.Facts.{Fits-lt-pow}
 use Rattle.tc_io.specs.Bytes.{AreBytes}
 
--- those of a slice
-pub are_bytes : (list : List ℕ) → ((i : ℕ) → Fits w8 (get_or list i 0)) → AreBytes list
-are_bytes [] fits = tt
-are_bytes (x ∷ more) fits = (Fits-lt-pow (fits 0), are_bytes more (λ i. fits (suc i)))
-
 -- and those of more pulls
 pub are_more : (front more : List ℕ) → AreBytes front → AreBytes more → AreBytes (front ++ more)
 are_more [] more first last = last

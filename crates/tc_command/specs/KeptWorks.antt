@@ -58,31 +58,6 @@ works_on start mid after old between new bytes more first second = λ front outp
           (subst (λ (b : List ℕ). after b ((output ++ f.0) ++ s.0)) joined s.2),
     )
 
--- a list is what stands before a place, and the rest
-pub cut_at : (k : ℕ) (xs : List ℕ) → k ≤ length xs → take k xs ++ take (length xs - k) (drop k xs) ≡ xs
-cut_at k xs within = grind (arith, common_steps)
-
--- what is taken of the rest is no more than that
-pub within_rest : (k n : ℕ) (xs : List ℕ) → k ≤ length xs → n ≤ length (take (length xs - k) (drop k xs))
-    → k + n ≤ length xs
-within_rest k n xs within less = grind (arith, common_steps)
-
--- and what is taken of the rest
-pub cut_more : (k n : ℕ) (xs : List ℕ) → k ≤ length xs → k + n ≤ length xs
-    → take k xs ++ take n (take (length xs - k) (drop k xs)) ≡ take (k + n) xs
-cut_more k n xs within less =
-    let all : take (length xs - k) (drop k xs) ≡ drop k xs = grind (arith, common_steps) in
-    let cut = take-append-drop k (take (k + n) xs) in
-    let behind = drop-take k n xs in
-    let front : take k (take (k + n) xs) ≡ take k xs = grind (arith, common_steps) in
-    rw (all, ← behind, ← front) cut
-
--- what an error that is passed on says
-pub through : {T : Type 0} {P Q : Stop → Type 0} (result : Result T Stop) → IsErrAnd result P
-    → ((stop : Stop) → P stop → Q stop) → IfErr result Q
-through (Ok done) says to = absurd says
-through (Err stop) says to = to stop says
-
 -- a fact of a success, and of an error, that follows from another
 pub on_ok : {P Q : Type 0} (result : Result (Unit {0}) Stop) → OnOk result P → (P → Q) → OnOk result Q
 on_ok (Ok done) says to = to says
@@ -141,16 +116,6 @@ along_at_end m (Refused fault) left bytes output end is = inr ((λ reads. end), 
 along_at_end m ReadFault left bytes output end is = absurd is
 along_at_end m WriteFault left bytes output end is = inr ((λ reads. end), is)
 along_at_end m Limit left bytes output end is = absurd is
-
--- a list that is not empty is its first item and the rest
-pub first_and_rest : (xs : List ℕ) → 0 < length xs → get_or xs 0 0 ∷ drop 1 xs ≡ xs
-first_and_rest [] some = absurd (omega (arith, some))
-first_and_rest (x ∷ xs) some = refl
-
--- and its front of one
-pub first_only : (xs : List ℕ) → 0 < length xs → get_or xs 0 0 ∷ [] ≡ take 1 xs
-first_only [] some = absurd (omega (arith, some))
-first_only (x ∷ xs) some = refl
 
 -- what was consumed is a front
 pub front_of_all : (all bytes : List ℕ) (left : Option (List ℕ)) → Consumes (Some all) left bytes

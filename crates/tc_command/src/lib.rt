@@ -38,7 +38,7 @@ pub use input_fault::InputFault;
 pub use intake::{PULLED, work};
 pub use making::{Maker, give_all, make};
 pub use notes::{push_note, stop_note, usage_note};
-pub use piece::{PIECE, Piece, put_bytes, put_interval};
+pub use piece::{PIECE, Piece, put_interval};
 pub use pushing::{push_line, push_piece};
 pub use status::Status;
 pub use stop::Stop;

@@ -4,4 +4,5 @@ pub mod Sink
 pub mod Memory
 pub mod Adapters
 pub mod Verdict
-pub mod KeptVerdict
+pub mod VerdictLemmas
+pub mod ByteLemmas

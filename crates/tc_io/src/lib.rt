@@ -14,10 +14,11 @@
 //!   `ends_after`).
 //! - `push_all` appends all bytes, in order, or fails by its sink's fault with a front of them
 //!   appended (`specs/Sink.antt`, `AppendsFront`).
+//! - `put_bytes` puts all bytes at the end of fixed room.
 //! - The sources and the sink in memory answer each call exactly (`specs/Memory.antt`), fail where
 //!   they are told to, and take no memory after they are made.
 //!
-//! Read `failed`, `source` and `sink`, then `memory_source`, `steady_source` and `memory_sink`, and
+//! Read `failed`, `source`, `sink` and `room`, then `memory_source`, `steady_source` and `memory_sink`, and
 //! last `adapters`, with the files of `specs/` beside them. `adapters` is the trusted edge: what a
 //! real reader or writer does is known only by what it answers, so those two tell no bytes.
 //! That a pull is one read and a push one write, and that none is tried again after an error, no
@@ -29,6 +30,7 @@ mod adapters;
 mod failed;
 mod memory_sink;
 mod memory_source;
+mod room;
 mod sink;
 mod source;
 mod steady_source;
@@ -37,6 +39,7 @@ pub use adapters::{ReadSource, WriteSink};
 pub use failed::Failed;
 pub use memory_sink::MemorySink;
 pub use memory_source::MemorySource;
+pub use room::put_bytes;
 pub use sink::{Sink, push_all};
 pub use source::Source;
 pub use steady_source::SteadySource;

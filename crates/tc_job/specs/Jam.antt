@@ -2,7 +2,7 @@
 use Rattle.std.specs.Prelude.{ℕ, ◌≤◌}
 use Rattle.biphase.specs.Shape.{IsShaped}
 use Rattle.tc_job.specs.declared.flight.Flight.{Flight}
-use Rattle.tc_job.specs.declared.stripe.TheConstants.{MAX_TICK_RATE}
+use Rattle.limits.specs.declared.recording.TheConstants.{MAX_TICK_RATE}
 
 -- frames that are had so, in cells of so many ticks of a clock of so many ticks a second
 pub record Jamming : Type 0 where

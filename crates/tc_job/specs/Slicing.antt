@@ -5,7 +5,7 @@ use Rattle.pcm_front.specs.declared.window.TheConstants.{MAX_SMOOTH}
 use Rattle.pcm_front.specs.State.{IsThreshold}
 use Rattle.tc_address.specs.declared.system.System.{System}
 use Rattle.tc_job.specs.declared.slicing.TheConstants.{MAX_FINENESS}
-use Rattle.tc_job.specs.declared.stripe.TheConstants.{MAX_TICK_RATE}
+use Rattle.limits.specs.declared.recording.TheConstants.{MAX_TICK_RATE}
 
 -- time code of a system, in sound of so many samples a second, at a threshold of sums, so many ticks a sample, in sums
 -- of so many samples; and whether its distances are written as they pass

@@ -3,7 +3,8 @@ use Rattle.std.specs.Prelude.{ℕ, ◌≤◌}
 use Rattle.biphase.specs.Shape.{Shape, IsShape}
 use Rattle.tc_address.specs.declared.direction.Direction.{Direction}
 use Rattle.tc_address.specs.Label.{Address, IsLabel}
-use Rattle.tc_job.specs.declared.stripe.TheConstants.{MAX_FRAMES, MAX_TICK_RATE}
+use Rattle.tc_job.specs.declared.stripe.TheConstants.{MAX_FRAMES}
+use Rattle.limits.specs.declared.recording.TheConstants.{MAX_TICK_RATE}
 
 -- so many frames from a label on in a direction, with cells of a shape, in ticks of a clock of so many ticks a second
 pub record Striping : Type 0 where

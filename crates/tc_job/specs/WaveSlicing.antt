@@ -4,7 +4,7 @@ use Rattle.pcm_front.specs.declared.threshold.Threshold.{Threshold}
 use Rattle.pcm_front.specs.declared.window.TheConstants.{MAX_SMOOTH}
 use Rattle.pcm_front.specs.State.{IsThreshold}
 use Rattle.tc_address.specs.declared.system.System.{System}
-use Rattle.tc_job.specs.declared.wave_slicing.TheConstants.{MAX_TRACKS}
+use Rattle.limits.specs.declared.sound_file.TheConstants.{MAX_TRACKS}
 
 -- time code of a system, in a track, at a threshold of sums, in sums of so many samples; and whether its distances are
 -- written as they pass

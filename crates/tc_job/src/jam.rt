@@ -54,7 +54,7 @@ impl Jam {
         self.cell
     }
 
-    /// Ticks a second, from 1 to `MAX_TICK_RATE`.
+    /// Ticks a second, from 1 to `MAX_TICK_RATE` of `limits`.
     pub fn tick_rate(&self) -> u32
         ensures value { result ≡ self.now.tick_rate }
         ensures valid { IsJamming self.now }

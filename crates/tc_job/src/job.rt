@@ -8,6 +8,7 @@ use crate::slicing::Slicing;
 use crate::sound_level::SoundLevel;
 use crate::stripe::Stripe;
 use crate::wave_slicing::WaveSlicing;
+use crate::witness::Witness;
 use interval_file::FileVersion;
 use tc_address::Label;
 
@@ -28,8 +29,9 @@ pub enum Job {
     LtcRead,
     /// `ltc-worn`: the same under the tolerance of worn recordings.
     LtcWorn,
-    /// `ltc-rough`: the same under the tolerance of hissy and dull recordings.
-    LtcRough,
+    /// `ltc-rough [firm]`: the same under the tolerance of hissy and dull recordings; and each word is asked for a
+    /// witness, or not.
+    LtcRough { witness: Witness },
     /// `ltc-fly LIMIT [worn|rough]`: reads an interval file, and writes a line for each frame of its words, with
     /// at most so many invented frames in a row.
     LtcFly { flight: Flight },

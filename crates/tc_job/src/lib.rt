@@ -7,7 +7,7 @@
 //! `specs/`, as `IsStripe` of `Stripe.antt`), and gives back what it was made of.
 //!
 //! Read `fault`, `job`, `stripe`, `flight`, `jam`, `chase_run`, `line_stripe`, `load_run`, `pace`, `slicing`,
-//! `sound_level` and `wave_slicing`, with `specs/` beside them, and `usages`, the table that `help` prints.
+//! `sound_level`, `wave_slicing` and `witness`, with `specs/` beside them, and `usages`, the table that `help` prints.
 //! `tc_words`, which reads words as tasks, and `tc_command` stand on this crate. Nothing here allocates or fails.
 //!
 //! A later command joins in these places:
@@ -29,6 +29,7 @@ mod sound_level;
 mod stripe;
 pub mod usages;
 mod wave_slicing;
+mod witness;
 
 pub use chase_run::{ChaseRun, MAX_SLIP};
 pub use fault::WordsFault;
@@ -39,5 +40,6 @@ pub use line_stripe::LineStripe;
 pub use load_run::{LoadRun, MAX_WORDS};
 pub use slicing::{MAX_FINENESS, MAX_LEVEL, Slicing};
 pub use sound_level::SoundLevel;
-pub use stripe::{MAX_FRAMES, MAX_TICK_RATE, Stripe};
-pub use wave_slicing::{MAX_TRACKS, WaveSlicing};
+pub use stripe::{MAX_FRAMES, Stripe};
+pub use wave_slicing::WaveSlicing;
+pub use witness::Witness;

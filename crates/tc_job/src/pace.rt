@@ -5,7 +5,8 @@ ghost use Rattle.pcm_front.specs.Distance.{IsInterval};
 ghost use Rattle.pcm_front.specs.Pace.{IsPace};
 ghost use Rattle.tc_job.specs.Pace.{pace_of, quarter_frame};
 
-use pcm_front::{MAX_INTERVAL, Pace};
+use limits::MAX_INTERVAL;
+use pcm_front::Pace;
 use tc_address::{System, rate};
 
 /// When the intervals of a distance are written: as it passes where the recording is live.

@@ -101,7 +101,7 @@ impl Slicing {
         self.smooth
     }
 
-    /// Ticks a second, from 1 to `MAX_TICK_RATE`.
+    /// Ticks a second, from 1 to `MAX_TICK_RATE` of `limits`.
     pub fn tick_rate(&self) -> u32
         ensures value { result ≡ self.now.rate * self.now.fineness }
         ensures valid { IsSlicing self.now }

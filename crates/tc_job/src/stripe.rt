@@ -10,9 +10,6 @@ use tc_address::{Direction, Label};
 /// The greatest number of frames that one run makes.
 pub const MAX_FRAMES: u32 = 1_000_000;
 
-/// The greatest tick rate of a recording that is made, in ticks a second.
-pub const MAX_TICK_RATE: u32 = 100_000_000;
-
 /// A stripe of linear time code: its labels, and its cells.
 #[derive(Clone, Copy)]
 pub struct Stripe {
@@ -100,7 +97,7 @@ impl Stripe {
         self.shaper
     }
 
-    /// Ticks of the recorder's clock in a second, from 1 to `MAX_TICK_RATE`.
+    /// Ticks of the recorder's clock in a second, from 1 to `MAX_TICK_RATE` of `limits`.
     pub fn tick_rate(&self) -> u32
         ensures value { result ≡ self.now.tick_rate }
         ensures valid { IsStripe self.now }

@@ -5,7 +5,7 @@
 pub const USAGES: [(&str, &str); 22] = [
     ("ltc-read", ""),
     ("ltc-worn", ""),
-    ("ltc-rough", ""),
+    ("ltc-rough", " [firm]"),
     ("ltc-fly", " LIMIT [worn|rough]"),
     ("ltc-spans", " LIMIT [worn|rough]"),
     ("ltc-mtc", " LIMIT [worn|rough]"),

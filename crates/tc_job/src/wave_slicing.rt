@@ -10,9 +10,6 @@ use pcm_front::{Pace, Threshold};
 use std::marker::Model;
 use tc_address::System;
 
-/// The greatest number of tracks in a sound file.
-pub const MAX_TRACKS: u32 = 64;
-
 /// A track of a sound file, and how it is sliced.
 #[derive(Clone, Copy)]
 pub struct WaveSlicing {
@@ -70,7 +67,7 @@ impl WaveSlicing {
         self.system
     }
 
-    /// The track, from 1 to `MAX_TRACKS`.
+    /// The track, from 1 to `MAX_TRACKS` of `limits`.
     pub fn track(&self) -> u32
         ensures value { result ≡ self.now.track }
         ensures valid { IsWaveSlicing self.now }

@@ -1,3 +1,4 @@
+mod Examples
 mod LabelsHeard
 mod LinesAreInput
 mod ReadOn

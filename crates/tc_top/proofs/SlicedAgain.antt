@@ -5,7 +5,7 @@ use Rattle.std.proofs.Common.{subst, ap, ap₂, sym, ◌∙◌, append-nil, arit
 use Rattle.std.proofs.lemmas.Grind.{flat_map-append}
 use Rattle.std.proofs.lemmas.List.{length-take, take-append-drop}
 use Rattle.std.specs.List.{flat_map, AllByRecursion}
-use Rattle.biphase.specs.declared.cell.TheConstants.{MAX_INTERVALS}
+use Rattle.limits.specs.declared.recording.TheConstants.{MAX_INTERVALS}
 use Rattle.pcm_front.specs.declared.threshold.Threshold.{Threshold}
 use Rattle.pcm_front.specs.declared.threshold.Threshold.TheVariants.{Fixed, Follow}
 use Rattle.pcm_front.specs.Distance.{distances, distances_from_start, intervals, intervals_by, pieces_of, IsInterval}
@@ -19,7 +19,7 @@ use Rattle.tc_io.specs.Bytes.{AreBytes}
 use Rattle.interval_file.specs.Grammar.{AreIntervals, IsFile, file_of}
 use Rattle.interval_file.specs.Recording.{Recording, end_fault_of, recording_of}
 use Rattle.tc_io.specs.Verdict.{good}
-use Rattle.tc_io.specs.KeptVerdict.{ends_whole, is_good}
+use Rattle.tc_io.specs.VerdictLemmas.{ends_whole, is_good}
 use Rattle.interval_engine.specs.Along.{IsWholeOf, along_intervals}
 use Rattle.interval_commands.specs.LtcPcm.{made_sound}
 use Rattle.tc_command.specs.Meaning.{IsInput}

@@ -1,6 +1,6 @@
 -- What `ltc-read` reports of the clean recording that `ltc-jam` writes.
 use Rattle.std.specs.Prelude.{◌≡◌, ℕ, ◌≤◌, List, ◌++◌, length}
-use Rattle.biphase.specs.declared.cell.TheConstants.{MAX_INTERVALS}
+use Rattle.limits.specs.declared.recording.TheConstants.{MAX_INTERVALS}
 use Rattle.ltc_jam.specs.Cells.{clean_events}
 use Rattle.interval_file.specs.Recording.{recording_of}
 use Rattle.tc_job.specs.declared.job.Job.TheVariants.{LtcRead}

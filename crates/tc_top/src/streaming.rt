@@ -14,14 +14,14 @@ ghost use Rattle.tc_top.specs.Commands.{meaning_of, told_of};
 use crate::reading_on::it_is_read_on;
 use biphase::Profile;
 use frame_commands::{chase_code, fly_along, jam_sync, send_time_code, tell_spans};
-use interval_commands::{convert_recording, read_recording, sound_recording};
+use interval_commands::{convert_recording, read_firmly, read_recording, sound_recording};
 use made_commands::{
     make_lines, make_recording, tell_help, tell_label, tell_load, tell_number, tell_version,
 };
 use signal_commands::{read_fields, read_midi, slice_sound, slice_track};
 use tc_command::{Status, Stop, push_note, stop_note};
 use tc_io::{Sink, Source};
-use tc_job::Job;
+use tc_job::{Job, Witness};
 
 /// Works a job along its input, in fixed memory. It never answers `Usage` or `Memory`.
 pub fn stream<S: Source, K: Sink, N: Sink>(
@@ -77,7 +77,12 @@ fn work_on<S: Source, K: Sink>(job: &Job, source: &mut S, out: &mut K) -> Result
     match job {
         Job::LtcRead => read_recording(Profile::Normal, source, out),
         Job::LtcWorn => read_recording(Profile::Worn, source, out),
-        Job::LtcRough => read_recording(Profile::Rough, source, out),
+        Job::LtcRough {
+            witness: Witness::NotAsked,
+        } => read_recording(Profile::Rough, source, out),
+        Job::LtcRough {
+            witness: Witness::Asked,
+        } => read_firmly(Profile::Rough, source, out),
         Job::LtcFly { flight } => fly_along(*flight, source, out),
         Job::LtcSpans { flight } => tell_spans(*flight, source, out),
         Job::LtcMtc { flight } => send_time_code(*flight, source, out),

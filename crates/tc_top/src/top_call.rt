@@ -7,12 +7,12 @@ ghost use Rattle.tc_job.specs.declared.fault.WordsFault.{WordsFault};
 ghost use Rattle.tc_address.specs.Label.{Address};
 ghost use Rattle.tc_job.specs.declared.job.Job.{Job};
 ghost use Rattle.tc_job.specs.declared.job.Task.{Task};
-ghost use Rattle.tc_words.specs.Words.{answer_to};
+ghost use Rattle.tc_words.specs.Words.{answer_to, IsRefusedAtOnce};
 ghost use Rattle.tc_top.specs.Answer.{IsRunAnswer};
 ghost use Rattle.tc_command.specs.WholeInput.{HasStatus};
 ghost use Rattle.tc_command.specs.Causes.{SourceCause, OutCause};
 ghost use Rattle.tc_command.specs.Ends.{EndsSeen};
-ghost use Rattle.chase_command.specs.Chase.{ChaseSeesOneEnd, chase_status_on};
+ghost use Rattle.chase_command.specs.Chase.{ChaseSeesOneEnd, IsUnreadOrWhole, chase_status_on};
 ghost use Rattle.tc_top.specs.Commands.{meaning_of};
 ghost use Rattle.tc_command.specs.Exchange.{Exchange, IsPulled, IsNoted};
 ghost use Rattle.tc_command.specs.Meaning.{Meaning};
@@ -42,13 +42,16 @@ pub fn run<S: Source, K: Sink, N: Sink>(
         × IsRunAnswer (map string_bytes words.now) result e }
     ensures no_note { result ≡ Status.Done → notes.new ≡ notes.old }
 
-    // Words that name no task begin nothing, and so does want of memory, but where a script was pulled.
+    // Words that name no task begin nothing, and so does want of memory, but where a script was pulled to its end. No
+    // memory is wanted for no words, and for words of which one begins with a dash.
+    ensures at_once { IsRefusedAtOnce (map string_bytes words.now) → result ≡ Status.Usage }
     ensures usage { (fault : WordsFault) → answer_to (map string_bytes words.now) ≡ Err fault
         → (result ≡ Status.Usage) ⊎ (result ≡ Status.Memory) }
     ensures no_usage { result ≡ Status.Usage → (source.new ≡ source.old) × (out.new ≡ out.old) }
     ensures no_memory { result ≡ Status.Memory → out.new ≡ out.old }
     ensures unread { result ≡ Status.Memory → (source.new ≡ source.old)
-        ⊎ ((label : Address) × (answer_to (map string_bytes words.now) ≡ Ok (Task.Chase label))) }
+        ⊎ ((label : Address) × (answer_to (map string_bytes words.now) ≡ Ok (Task.Chase label))
+        × IsUnreadOrWhole S.ends source.old source.new) }
 
     // A read fault and a write fault come only where a count of faults rose.
     ensures source { SourceCause result (S.faults source.old) (S.faults source.new) }

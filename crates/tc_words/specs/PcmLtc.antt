@@ -9,7 +9,7 @@ use Rattle.tc_job.specs.declared.fault.WordsFault.TheVariants.{Value}
 use Rattle.tc_job.specs.declared.job.Job.{Job}
 use Rattle.tc_job.specs.declared.job.Job.TheVariants.{PcmLtc}
 use Rattle.tc_job.specs.declared.slicing.TheConstants.{MAX_FINENESS, MAX_LEVEL}
-use Rattle.tc_job.specs.declared.stripe.TheConstants.{MAX_TICK_RATE}
+use Rattle.limits.specs.declared.recording.TheConstants.{MAX_TICK_RATE}
 use Rattle.tc_job.specs.Slicing.{slicing_of}
 use Rattle.tc_job.specs.SoundLevel.{IsLevel}
 use Rattle.tc_words.specs.Values.{Word, between, read_or, system_in, value_in, value_or}

@@ -9,8 +9,6 @@ use Rattle.biphase.specs.declared.profile.Profile.{Profile}
 use Rattle.biphase.specs.declared.profile.Profile.TheVariants.{Worn, Rough}
 use Rattle.tc_address.specs.declared.count.Count.{Count}
 use Rattle.tc_address.specs.declared.count.Count.TheVariants.{C24, C25, C30, Drop30}
-use Rattle.tc_address.specs.declared.direction.Direction.{Direction}
-use Rattle.tc_address.specs.declared.direction.Direction.TheVariants.{Forward, Backward}
 use Rattle.tc_address.specs.declared.system.System.{System}
 use Rattle.tc_address.specs.declared.system.System.TheVariants.{F24, F25, F30}
 use Rattle.tc_address.specs.Label.{Address, labels}
@@ -18,6 +16,8 @@ use Rattle.interval_file.specs.declared.header.FileVersion.{FileVersion}
 use Rattle.interval_file.specs.declared.header.FileVersion.TheVariants.{One, Two}
 use Rattle.tc_job.specs.declared.fault.WordsFault.{WordsFault}
 use Rattle.tc_job.specs.declared.fault.WordsFault.TheVariants.{Value}
+use Rattle.tc_job.specs.declared.witness.Witness.{Witness}
+use Rattle.tc_job.specs.declared.witness.Witness.TheVariants.{Asked}
 
 -- the bytes of a word
 abbrev pub Word : Type 0
@@ -58,10 +58,6 @@ between least greatest word =
 unfoldable pub tolerance_in : Word → Option Profile
 tolerance_in word = value_in ((codes "worn", Worn) ∷ (codes "rough", Rough) ∷ []) word
 
--- `forward` or `backward`
-unfoldable pub direction_in : Word → Option Direction
-direction_in word = value_in ((codes "forward", Forward) ∷ (codes "backward", Backward) ∷ []) word
-
 -- a version of the interval file: `1` or `2`
 unfoldable pub version_in : Word → Option FileVersion
 version_in word = value_in ((codes "1", One) ∷ (codes "2", Two) ∷ []) word
@@ -69,6 +65,10 @@ version_in word = value_in ((codes "1", One) ∷ (codes "2", Two) ∷ []) word
 -- the label that has this number in the day of the count
 unfoldable pub numbered : Count → Word → Option Address
 numbered count word = option_and_then (slice_get (labels count)) (number_spelled word)
+
+-- `firm`: each word that is read is asked for a witness
+unfoldable pub witness_in : Word → Option Witness
+witness_in word = value_in ((codes "firm", Asked) ∷ []) word
 
 -- what a word says that need not be there: this, where it is not
 abbrev pub read_or : {X : Type 0} → X → (Word → Option X) → Option Word → Option X

@@ -8,7 +8,7 @@ use Rattle.tc_job.specs.declared.fault.WordsFault.TheVariants.{Value}
 use Rattle.tc_job.specs.declared.job.Job.{Job}
 use Rattle.tc_job.specs.declared.job.Job.TheVariants.{WavLtc}
 use Rattle.tc_job.specs.declared.slicing.TheConstants.{MAX_LEVEL}
-use Rattle.tc_job.specs.declared.wave_slicing.TheConstants.{MAX_TRACKS}
+use Rattle.limits.specs.declared.sound_file.TheConstants.{MAX_TRACKS}
 use Rattle.tc_job.specs.WaveSlicing.{wave_slicing_of}
 use Rattle.tc_words.specs.PcmLtc.{of_sums}
 use Rattle.tc_words.specs.Values.{Word, between, read_or, system_in, value_in, value_or}

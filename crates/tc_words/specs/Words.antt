@@ -13,11 +13,13 @@ use Rattle.tc_job.specs.declared.job.Task.TheVariants.{Stream, Chase}
 use Rattle.tc_job.specs.declared.fault.WordsFault.{WordsFault}
 use Rattle.tc_job.specs.declared.fault.WordsFault.TheVariants.{Dash, Command, CountOfWords}
 use Rattle.tc_job.specs.declared.slicing.TheConstants.{MAX_LEVEL}
-use Rattle.tc_job.specs.declared.stripe.TheConstants.{MAX_FRAMES, MAX_TICK_RATE}
+use Rattle.tc_job.specs.declared.stripe.TheConstants.{MAX_FRAMES}
+use Rattle.limits.specs.declared.recording.TheConstants.{MAX_TICK_RATE}
 use Rattle.tc_job.specs.Jam.{jamming_of}
 use Rattle.tc_job.specs.LineStripe.{line_stripe_of}
 use Rattle.tc_job.specs.declared.load_run.TheConstants.{MAX_WORDS}
 use Rattle.tc_job.specs.LoadRun.{loading_of}
+use Rattle.tc_job.specs.declared.witness.Witness.TheVariants.{NotAsked}
 use Rattle.vitc_reader.specs.declared.line_length.TheConstants.{MAX_LINE_LENGTH, MIN_LINE_LENGTH}
 use Rattle.tc_words.specs.LtcChase.{chased}
 use Rattle.tc_words.specs.Flight.{flight_in}
@@ -25,7 +27,7 @@ use Rattle.tc_words.specs.LtcMake.{striped}
 use Rattle.tc_words.specs.PcmLtc.{sliced}
 use Rattle.tc_words.specs.Live.{before_live, ends_live}
 use Rattle.tc_words.specs.Values.{Word, between, count_in, count_with_lines, map_ok, number_spelled, numbered, read_or}
-use Rattle.tc_words.specs.Values.{tolerance_in, value_or, version_in}
+use Rattle.tc_words.specs.Values.{tolerance_in, value_or, version_in, witness_in}
 use Rattle.tc_words.specs.WavLtc.{sliced_track}
 
 -- ---- the commands: the values of each, and how each is read
@@ -34,6 +36,12 @@ use Rattle.tc_words.specs.WavLtc.{sliced_track}
 abbrev pub no_values : Job → List Word → Result Job WordsFault
 no_values job [] = Ok job
 no_values job _ = Err CountOfWords
+
+-- `ltc-rough [firm]`: without the word none is asked for a witness
+unfoldable pub ltc_rough : List Word → Result Job WordsFault
+ltc_rough words =
+    if nat_lt 1 (length words) then Err CountOfWords
+    else value_or 1 (read_or NotAsked witness_in (slice_get words 0)) (λ w. Ok (jobs.LtcRough w))
 
 -- `ltc-jam LIMIT CELL TICK-RATE [worn|rough]`: without the last word it is the normal tolerance
 unfoldable pub ltc_jam : List Word → Result Job WordsFault
@@ -118,7 +126,7 @@ abbrev pub job_of : Word → List Word → Result Job WordsFault
 job_of command values =
     if bytes_eq command (codes "ltc-read") then no_values jobs.LtcRead values
     else if bytes_eq command (codes "ltc-worn") then no_values jobs.LtcWorn values
-    else if bytes_eq command (codes "ltc-rough") then no_values jobs.LtcRough values
+    else if bytes_eq command (codes "ltc-rough") then ltc_rough values
     else if bytes_eq command (codes "ltc-fly") then map_ok (λ flight. jobs.LtcFly flight) (flight_in values)
     else if bytes_eq command (codes "ltc-spans") then map_ok (λ flight. jobs.LtcSpans flight) (flight_in values)
     else if bytes_eq command (codes "ltc-mtc") then map_ok (λ flight. jobs.LtcMtc flight) (flight_in values)

@@ -6,9 +6,11 @@ ghost use Rattle.biphase.specs.declared.shaper.TheConstants.{MIN_SHAPED, MAX_SHA
 ghost use Rattle.tc_words.specs.LtcMake.{striped};
 ghost use Rattle.tc_words.specs.Values.{between, read_or};
 
-use crate::values::{between, count_in, direction_in, spelled, word_at};
+use crate::values::{between, count_in, spelled, word_at};
 use biphase::{MAX_SHAPED, MIN_SHAPED, Shaper};
-use tc_job::{Job, MAX_FRAMES, MAX_TICK_RATE, Stripe, WordsFault};
+use limits::MAX_TICK_RATE;
+use line_text::direction_named;
+use tc_job::{Job, MAX_FRAMES, Stripe, WordsFault};
 
 /// The job of six words, and of the two behind them where they are there.
 #[tactic(auto, unfolding(crate::specs::LtcMake::striped))]
@@ -27,7 +29,7 @@ pub(crate) fn striped(
     let Some(count) = count_in(count) else {
         return Err(WordsFault::Value(1));
     };
-    let Some(direction) = direction_in(direction) else {
+    let Some(direction) = direction_named(direction.as_bytes()) else {
         return Err(WordsFault::Value(2));
     };
     let Some(label) = spelled(count, label) else {

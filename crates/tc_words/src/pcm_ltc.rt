@@ -8,8 +8,9 @@ ghost use Rattle.tc_words.specs.PcmLtc.{fineness_in, following_in, of_sums, slic
 ghost use Rattle.tc_words.specs.Values.{between, read_or};
 
 use crate::values::{between, system_in, word_at};
+use limits::MAX_TICK_RATE;
 use pcm_front::{MAX_SMOOTH, Threshold};
-use tc_job::{Job, MAX_FINENESS, MAX_LEVEL, MAX_TICK_RATE, Slicing, WordsFault};
+use tc_job::{Job, MAX_FINENESS, MAX_LEVEL, Slicing, WordsFault};
 
 /// The job of three words, and of those behind them that are there, of which there are three at most.
 #[tactic(auto, unfolding(crate::specs::PcmLtc::sliced))]

@@ -1,11 +1,9 @@
 //! The values of the words, one by one. Next: `tc_address/src/spelling.rt`, which reads labels.
 ghost use Rattle.std.specs.Prelude.{◌≡◌, ◌≤◌, IfSome, map, slice_get};
 ghost use Rattle.std.specs.Option.{option_copied};
-ghost use Rattle.std.specs.Char.{is_ascii_digit};
-ghost use Rattle.std.specs.List.{list_all};
-ghost use Rattle.tc_words.specs.Values.{between, count_in, count_with_lines, direction_in, is_number};
+ghost use Rattle.tc_words.specs.Values.{between, count_in, count_with_lines, is_number};
 ghost use Rattle.tc_words.specs.Values.{number_spelled, numbered, read_or};
-ghost use Rattle.tc_words.specs.Values.{system_in, tolerance_in, version_in};
+ghost use Rattle.tc_words.specs.Values.{system_in, tolerance_in, version_in, witness_in};
 ghost use Rattle.tc_address.specs.Count.{system_with};
 ghost use Rattle.tc_address.specs.Label.{IsLabel};
 ghost use Rattle.tc_address.specs.Spelling.{label_in};
@@ -13,7 +11,9 @@ ghost use Rattle.vitc_line.specs.Places.{HasLines};
 
 use biphase::Profile;
 use interval_file::FileVersion;
-use tc_address::{Count, Direction, Label, System, day_labels, label_at, read_text};
+use line_text::are_digits;
+use tc_address::{Count, Label, System, day_labels, label_at, read_text};
+use tc_job::Witness;
 
 /// A word that need not be there.
 pub fn word_at<'a>(words: &[&'a str], i: usize) -> Option<&'a str>
@@ -81,12 +81,6 @@ fn is_number(digits: &[u8]) -> bool
     !digits.is_empty() && digits.len() <= 20 && are_digits(digits)
 }
 
-fn are_digits(bytes: &[u8]) -> bool
-    ensures { result ≡ list_all is_ascii_digit bytes.now }
-{
-    bytes.iter().all(|byte| byte.is_ascii_digit())
-}
-
 /// A number of frames from 0 to 255.
 pub fn limit_in(word: &str) -> Option<u8>
     ensures { result ≡ between 0 255 word.now }
@@ -118,15 +112,24 @@ pub fn tolerance_or_normal(word: Option<&str>) -> Option<Profile>
     }
 }
 
-/// A way of the tape: `forward` or `backward`.
-#[tactic(auto, unfolding(crate::specs::Values::direction_in))]
-pub fn direction_in(word: &str) -> Option<Direction>
-    ensures { result ≡ direction_in word.now }
+/// That each word that is read is asked for a witness: `firm`.
+#[tactic(auto, unfolding(crate::specs::Values::witness_in))]
+pub fn witness_in(word: &str) -> Option<Witness>
+    ensures { result ≡ witness_in word.now }
 {
     match word {
-        "forward" => Some(Direction::Forward),
-        "backward" => Some(Direction::Backward),
+        "firm" => Some(Witness::Asked),
         _ => None,
+    }
+}
+
+/// What a word says of witnesses: without it none is asked for.
+pub fn witness_or_none(word: Option<&str>) -> Option<Witness>
+    ensures { result ≡ read_or Witness.NotAsked witness_in (option_copied word.entry) }
+{
+    match word {
+        None => Some(Witness::NotAsked),
+        Some(word) => witness_in(word),
     }
 }
 

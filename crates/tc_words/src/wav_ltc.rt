@@ -8,8 +8,9 @@ ghost use Rattle.tc_words.specs.WavLtc.{deep_in, sliced_track};
 
 use crate::pcm_ltc::{of_sums, smooth_or_one};
 use crate::values::{between, system_in, word_at};
+use limits::MAX_TRACKS;
 use pcm_front::Threshold;
-use tc_job::{Job, MAX_LEVEL, MAX_TRACKS, WaveSlicing, WordsFault};
+use tc_job::{Job, MAX_LEVEL, WaveSlicing, WordsFault};
 
 /// The job of three words, and of those behind them that are there, of which there are two at most.
 #[tactic(auto, unfolding(crate::specs::WavLtc::sliced_track))]

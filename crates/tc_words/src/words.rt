@@ -10,7 +10,7 @@ ghost use Rattle.tc_job.specs.declared.job.Job.TheVariants as jobs;
 ghost use Rattle.tc_words.specs.Flight.{flight_in};
 ghost use Rattle.tc_words.specs.Values.{map_ok};
 ghost use Rattle.tc_words.specs.Words.{answer_to, without_dashes, IsRefusedAtOnce, job_of, no_values};
-ghost use Rattle.tc_words.specs.Words.{ltc_jam, ltc_chase, number, label_of, ltc_make};
+ghost use Rattle.tc_words.specs.Words.{ltc_rough, ltc_jam, ltc_chase, number, label_of, ltc_make};
 ghost use Rattle.tc_words.specs.Words.{ltc_convert, pcm_ltc, wav_ltc, ltc_pcm, task_of, chase, ltc_load, vitc_make};
 
 use crate::flight::flight_in;
@@ -20,16 +20,15 @@ use crate::ltc_make::striped;
 use crate::pcm_ltc::sliced;
 use crate::values::{
     between, count_in, limit_in, number_spelled, numbered, spelled, tolerance_or_normal,
-    version_in, word_at,
+    version_in, witness_or_none, word_at,
 };
 use crate::vitc_make::in_lines;
 use crate::wav_ltc::sliced_track;
 use biphase::{MAX_SHAPED, MIN_SHAPED};
 use command_words::CommandLine;
+use limits::MAX_TICK_RATE;
 use std::alloc::Global;
-use tc_job::{
-    Flight, Jam, Job, LoadRun, MAX_LEVEL, MAX_TICK_RATE, MAX_WORDS, SoundLevel, Task, WordsFault,
-};
+use tc_job::{Flight, Jam, Job, LoadRun, MAX_LEVEL, MAX_WORDS, SoundLevel, Task, WordsFault};
 
 /// The task of the words, or their first fault. Word 0 is the command.
 pub fn read_words(alloc: Global, words: &[String]) -> Result<Task, WordsFault>
@@ -107,7 +106,7 @@ fn job_of(command: &str, values: &[&str]) -> Result<Job, WordsFault>
     match command {
         "ltc-read" => no_values(values, Job::LtcRead),
         "ltc-worn" => no_values(values, Job::LtcWorn),
-        "ltc-rough" => no_values(values, Job::LtcRough),
+        "ltc-rough" => ltc_rough(values),
         "ltc-fly" => ltc_fly(values),
         "ltc-spans" => ltc_spans(values),
         "ltc-mtc" => ltc_mtc(values),
@@ -138,6 +137,20 @@ fn no_values(values: &[&str], job: Job) -> Result<Job, WordsFault>
         [] => Ok(job),
         _ => Err(WordsFault::CountOfWords),
     }
+}
+
+// `ltc-rough [firm]`
+#[tactic(auto, unfolding(crate::specs::Words::ltc_rough))]
+fn ltc_rough(values: &[&str]) -> Result<Job, WordsFault>
+    ensures { result ≡ ltc_rough (map (λ v. v.now) values.now) }
+{
+    if values.len() > 1 {
+        return Err(WordsFault::CountOfWords);
+    }
+    let Some(witness) = witness_or_none(word_at(values, 0)) else {
+        return Err(WordsFault::Value(1));
+    };
+    Ok(Job::LtcRough { witness })
 }
 
 // `ltc-fly LIMIT [worn|rough]`

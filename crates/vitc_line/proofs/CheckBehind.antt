@@ -5,6 +5,7 @@ use Rattle.std.specs.List.{filter, range_with_len, list_all}
 use Rattle.std.specs.Int.{bit_at}
 use Rattle.std.proofs.lemmas.Nat.{shr-shr, shr_high, mod_below}
 use Rattle.std.proofs.lemmas.Nat.Bits.{bit_at_cat_low, bit_at-lt, same_from_bits_below}
+use Rattle.std.proofs.lemmas.Bool.{and_parts}
 use Rattle.vitc_line.specs.CheckBits.{bits_of_residue, residue}
 use Rattle.vitc_line.specs.Spelled.{check_sum}
 use Rattle.vitc_line.proofs.FoldedCheck.{each_residue, sum_at, residue_is_parity, bit_at-behind}
@@ -29,14 +30,10 @@ sum_at-last b (j ∷ is) i = let h = sum_at-last b is i in omega (arith, h)
 split_sum : (b : ℕ → ℕ) (all is : List ℕ) (i : ℕ) → all ≡ is ++ i ∷ [] → sum_at b all ≡ sum_at b is + b i
 split_sum b all is i e = ap (sum_at b) e ∙ sum_at-last b is i
 
-both_true : (p q : Bool) → (p && q) ≡ true → (p ≡ true) × (q ≡ true)
-both_true true q e = (refl, e)
-both_true _ q e = absurd cc
-
 same_sum : (b g : ℕ → ℕ) (is : List ℕ) → ((i : ℕ) → i < 82 → b i ≡ g i) → list_all (λ i. nat_lt i 82) is ≡ true → sum_at b is ≡ sum_at g is
 same_sum b g [] same all = refl
 same_sum b g (i ∷ is) same all =
-    let h = both_true (nat_lt i 82) (list_all (λ i. nat_lt i 82) is) all in
+    let h = and_parts (nat_lt i 82) (list_all (λ i. nat_lt i 82) is) all in
     let lt : i < 82 = grind (arith, h.0) in
     ap₂ (λ (x y : ℕ). x + y) (same i lt) (same_sum b g is same h.1)
 

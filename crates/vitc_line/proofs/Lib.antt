@@ -3,6 +3,5 @@ pub mod FoldedCheck
 pub mod LineOfAWord
 pub mod OneSpelling
 pub mod RowOfALine
-pub mod Searches
 pub mod SpellsOrFaulty
 pub mod UnderSyncPairs

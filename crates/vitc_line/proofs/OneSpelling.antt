@@ -3,7 +3,8 @@ use Rattle.std.proofs.Common.{◌≡◌, ℕ, ◌+◌, ◌*◌, ◌/◌, ◌%◌
 use Rattle.std.proofs.Common.{arith, None, not}
 use Rattle.std.specs.Int.{bit_at}
 use Rattle.std.proofs.lemmas.Nat.{mod_below}
-use Rattle.std.proofs.lemmas.Bool.{eqb-true, eq-eqb}
+use Rattle.std.proofs.lemmas.Bool.{eqb-true, eq-eqb, not-false}
+use Rattle.lemmas.specs.Searches.{find_none, none_found}
 use Rattle.tc_address.specs.declared.system.System.{System}
 use Rattle.tc_address.specs.declared.count.Count.{Count}
 use Rattle.tc_address.specs.Count.{system_with, rate_of}
@@ -26,7 +27,6 @@ use Rattle.vitc_line.specs.Spelling.{Spells}
 use Rattle.vitc_line.proofs.CheckBehind.{one_check}
 use Rattle.vitc_line.proofs.FoldedCheck.{each_residue, sum_at, residue_is_parity}
 use Rattle.vitc_line.proofs.RowOfALine.{is_sum}
-use Rattle.vitc_line.proofs.Searches.{find_none, none_found, not_false}
 
 -- no sync pair is wrong exactly where each is the bits 1 and 0
 pub pairs_from_none : (bits : ℕ) → wrong_sync_pair bits ≡ None → (pair : ℕ) → pair < 9
@@ -34,7 +34,7 @@ pub pairs_from_none : (bits : ℕ) → wrong_sync_pair bits ≡ None → (pair :
 unfolding wrong_sync_pair
 pairs_from_none bits e pair lt =
     let k : 0 + pair ≡ pair = omega arith in
-    eqb-true (number_in (sync_pair_place pair) bits) 1 (not_false _
+    eqb-true (number_in (sync_pair_place pair) bits) 1 (not-false _
     (rw k at (find_none (is_wrong_pair bits) 0 9 e pair lt)))
 
 pub none_from_pairs : (bits : ℕ) → ((pair : ℕ) → pair < 9 → number_in (sync_pair_place pair) bits ≡ 1)
@@ -49,7 +49,7 @@ pub check_from_none : (bits : ℕ) → wrong_residue bits ≡ None → (r : ℕ)
 unfolding wrong_residue
 check_from_none bits e r lt =
     let k : 0 + r ≡ r = omega arith in
-    eqb-true (residue r bits) 0 (not_false _ (rw k at (find_none (is_wrong_residue bits) 0 8 e r lt)))
+    eqb-true (residue r bits) 0 (not-false _ (rw k at (find_none (is_wrong_residue bits) 0 8 e r lt)))
 
 pub none_from_check : (bits : ℕ) → ((r : ℕ) → r < 8 → residue r bits ≡ 0) → wrong_residue bits ≡ None
 unfolding wrong_residue
@@ -148,16 +148,3 @@ pub one_spelling : OnlySumHolds → AreExact → (system : System) (word : VitcW
     → Spells system word b → a ≡ b
 one_spelling law exact system word a b p q =
     alike a b _ p.width (is_sum law exact system word a p) (is_sum law exact system word b q) p.check q.check
-
--- the parts of a word and its digits, each compared
-pub said : {system : System} {count : Count} {hours minutes seconds frames : ℕ} {flags : Flags} {user : ℕ} {raw : RawFields}
-    → hours < 24 → minutes < 60 → seconds < 60 → frames < rate_of (system_with count)
-    → is_dropped (address count hours minutes seconds frames) ≡ false
-    → agrees count flags.bit10 ≡ true → system_with count ≡ system
-    → digits_of (field_values (address count hours minutes seconds frames) flags user) ≡ raw
-    → Says system raw (field_values (address count hours minutes seconds frames) flags user)
-said h m s f counted flag count digits = record {
-  valid = record { label = record { hours = h; minutes = m; seconds = s; frames = f; counted = counted }; flag = flag };
-  count = count;
-  digits = digits;
-}

@@ -1,6 +1,7 @@
 -- The numbers of a line share out its 90 bits, so their sum by weights spells it, and nothing else does.
 use Rattle.std.proofs.Common.{◌≡◌, ℕ, zero, suc, ◌/◌, ◌^◌, ◌<◌, Bool, true, false, refl, lit<, arith}
 use Rattle.std.proofs.lemmas.Nat.{mod_below}
+use Rattle.tc_bits.specs.FieldLemmas.{also, digit_below}
 use Rattle.tc_address.specs.declared.system.System.{System}
 use Rattle.tc_address.specs.declared.system.System.TheVariants.{F24, F25, F30}
 use Rattle.tc_address.specs.Count.{system_with}
@@ -21,13 +22,6 @@ pub table_is : (system : System) → is_table (table_of system) ≡ true
 table_is F24 = refl
 table_is F25 = refl
 table_is F30 = refl
-
-digit_below : (flag : Bool) → digit flag < 2
-digit_below true = lit< tt
-digit_below false = lit< tt
-
-also : {Held Rest : Type 0} → Held → Rest → Held × Rest
-also held rest = (held, rest)
 
 fits : (system : System) (c : FieldValues) (mark : Bool) (check : ℕ) → check < 2 ^ 8 → Fit (row_of (table_of system) c)
     → Fit (row_with system c mark check)

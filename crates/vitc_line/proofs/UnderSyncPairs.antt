@@ -3,7 +3,7 @@ use Rattle.std.proofs.Common.{◌≡◌, ℕ, ◌*◌, ◌/◌, ◌%◌, ◌^◌
 use Rattle.std.specs.Prelude.{◌==◌, ◌&&◌, bit_and}
 use Rattle.std.specs.List.{list_all, range_with_len}
 use Rattle.std.proofs.Math.Nat.{mod-eq_of_lt}
-use Rattle.std.proofs.lemmas.Bool.{eqb-true}
+use Rattle.std.proofs.lemmas.Bool.{eqb-true, and_parts, true_from_ne_false}
 use Rattle.std.proofs.lemmas.List.Folds.{list_all_at}
 use Rattle.std.proofs.lemmas.List.FromFn.{get_or-range_with_len}
 use Rattle.std.proofs.lemmas.Nat.{and_mask, and_mod, and_shr, mod_below}
@@ -27,20 +27,11 @@ are_under : list_all is_under (range_with_len 0 9) ≡ true
 unfolding is_under
 are_under = refl
 
-passes : (b : Bool) → (b ≡ false → ⊥) → b ≡ true
-passes true not_false = refl
-passes false not_false = absurd (not_false refl)
-
-both : (a b : Bool) → (a && b) ≡ true → (a ≡ true) × (b ≡ true)
-both true true e = (refl, refl)
-both true false e = absurd cc
-both false b e = absurd cc
-
 under : (pair : ℕ) → pair < 9 → (field UNDER_SYNC_PAIRS (10 * pair) 2 ≡ 3) × (field ALL_SYNC_PAIRS (10 * pair) 2 ≡ 1)
 unfolding is_under
 under pair few =
     let at : get_or (range_with_len 0 9) pair 0 ≡ pair = get_or-range_with_len 0 9 pair 0 few ∙ omega arith in
-    let tests = both _ _ (passes (is_under pair) (λ fails.
+    let tests = and_parts _ _ (true_from_ne_false (is_under pair) (λ fails.
     let none = list_all_at is_under (range_with_len 0 9) pair 0 few (rw at fails) in
     let all = are_under in absurd cc)) in
     (eqb-true _ 3 tests.0, eqb-true _ 1 tests.1)

@@ -30,8 +30,3 @@ pub record Spells (system : System) (word : VitcWord) (bits : ℕ) : Type 0 wher
 abbrev pub word_with : Count → ℕ → ℕ → ℕ → ℕ → Flags → ℕ → Bool → VitcWord
 word_with count hours minutes seconds frames flags user mark =
     record { fields = field_values (address count hours minutes seconds frames) flags user; field_mark = mark }
-
--- flags in the order of a report: drop-frame, colour-frame, binary group flags 0, 1 and 2
-abbrev pub flags : Bool → Bool → Bool → Bool → Bool → Flags
-flags drop_frame colour zero one two =
-    record { bit10 = drop_frame; colour = colour; bgf0 = zero; bgf1 = one; bgf2 = two }

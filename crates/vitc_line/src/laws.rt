@@ -11,7 +11,8 @@ ghost use Rattle.vitc_line.specs.declared.word.LineFault.{LineFault};
 ghost use Rattle.vitc_line.specs.declared.word.VitcWord.{VitcWord};
 ghost use Rattle.vitc_line.specs.Places.{are_shared_out, places_of};
 ghost use Rattle.vitc_line.specs.Spelled.{line_of};
-ghost use Rattle.vitc_line.specs.Spelling.{Spells, word_with, flags};
+ghost use Rattle.vitc_line.specs.Spelling.{Spells, word_with};
+ghost use Rattle.tc_bits.specs.Fields.{flags};
 ghost use Rattle.vitc_line.specs.Fault.{first_fault};
 
 use tc_bits::laws::{a_row_is_its_sum, digits_are_exact, fields_are_exact};

@@ -5,7 +5,7 @@ use Rattle.std.proofs.Math.Nat.{div-mul-le_self, div-add-mod, mod-eq-sub-div-mul
 use Rattle.std.proofs.lemmas.Bool.{cases_lt}
 use Rattle.std.proofs.lemmas.Nat.{mul-le}
 use Rattle.vitc_reader.specs.KeptLine.{factor_on}
-use Rattle.tc_bits.specs.KeptQuotients.{behind, by_product}
+use Rattle.lemmas.specs.Quotients.{behind, by_product}
 
 -- on a line of n ticks
 pub by_factor : (n x : ℕ) → 1 ≤ n → n ≤ 65535 → x < 2 ^ 25 → x * (2 ^ 43 / (4 * n) + 1) / 2 ^ 43 ≡ x / (4 * n)

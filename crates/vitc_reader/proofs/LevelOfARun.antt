@@ -5,9 +5,7 @@ use Rattle.std.proofs.Math.Nat.{div-eq_of_lt, pow-le-pow_right}
 use Rattle.std.proofs.lemmas.Bool.{cases_lt}
 use Rattle.std.proofs.lemmas.Nat.{pow-add, pow_pos, mod_below, mul-le, shr_split}
 use Rattle.std.proofs.lemmas.Nat.Bits.{bit_at-trailing_zeros, bit_at-trailing_ones, same_from_bits_below, bit_at_cat_low, bit_at_ones, bit_at-zero}
-
-low_bits : (n k i : ℕ) → i < k → bit_at (n % 2 ^ k) i ≡ bit_at n i
-low_bits n k i lt = let h = bit_at_cat_low (n / 2 ^ k) k (n % 2 ^ k) i lt in sym (rw (shr_split n k) at h)
+use Rattle.lemmas.specs.Bits.{bit_at_low}
 
 -- what the lowest k bits say, where they are all of one level
 pub record Level (n k level_bits : ℕ) : Type 0 where
@@ -26,12 +24,12 @@ all_ones : (n k : ℕ) → ((i : ℕ) → i < k → bit_at n i ≡ 1) → n % 2 
 all_ones n k ones =
     let some = pow_pos k in
     same_from_bits_below k (n % 2 ^ k) (2 ^ k - 1) (mod_below n (2 ^ k) some) (omega (arith, some))
-    (λ i lt. low_bits n k i lt ∙ ones i lt ∙ sym (bit_at_ones k i lt))
+    (λ i lt. bit_at_low n k i lt ∙ ones i lt ∙ sym (bit_at_ones k i lt))
 
 all_zeros : (n k : ℕ) → ((i : ℕ) → i < k → bit_at n i ≡ 0) → n % 2 ^ k ≡ 0
 all_zeros n k zeros =
     let some = pow_pos k in
-    same_from_bits_below k (n % 2 ^ k) 0 (mod_below n (2 ^ k) some) some (λ i lt. low_bits n k i lt ∙ zeros i lt ∙ sym (bit_at-zero i))
+    same_from_bits_below k (n % 2 ^ k) 0 (mod_below n (2 ^ k) some) some (λ i lt. bit_at_low n k i lt ∙ zeros i lt ∙ sym (bit_at-zero i))
 
 one_or_more : (n k lowest : ℕ) → bit_at n k ≡ lowest → (n % 2 ≡ lowest → ⊥) → 1 ≤ k
 one_or_more n zero lowest at not_lowest = absurd (not_lowest (omega (arith, at)))

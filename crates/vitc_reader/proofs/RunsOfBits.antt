@@ -9,7 +9,7 @@ use Rattle.vitc_reader.specs.Runs.{MayBeLine, StandFor, HaveCells, bits_of, bits
 use Rattle.vitc_reader.specs.Written.{run_length, cells_in, runs_in}
 use Rattle.vitc_reader.proofs.BitsOfCells.{level_after, odd_runs}
 use Rattle.vitc_reader.proofs.LevelOfARun.{ones_level, zeros_level, not_odd}
-use Rattle.vitc_reader.proofs.WrittenSoFar.{runs_are_cells}
+use Rattle.vitc_reader.proofs.WrittenSoFar.{runs_are_cells, few_runs, turned, ended}
 
 -- a run at the bottom of bits, and the level of what stands above it
 pub record Run (level : Bool) (bits k : ℕ) : Type 0 where
@@ -59,14 +59,6 @@ above_less bits m k width le =
           absurd (omega (arith, whole, far, split, width))
     ]
 
-turned : (m : ℕ) (level : Bool) → ((m % 2 ≡ 1) ↔ (level ≡ false)) → ((m % 2 ≡ 1) ↔ (not level ≡ true))
-turned m true h = (λ e. let f : true ≡ false = h.0 e in absurd cc, λ e. absurd cc)
-turned m false h = (λ e. refl, λ e. h.1 refl)
-
-ended : (m : ℕ) (level : Bool) → ((m % 2 ≡ 1) ↔ (level ≡ false)) → m ≡ 0 → not level ≡ false
-ended m true h z = refl
-ended m false h z = let e = h.1 refl in absurd (omega (arith, e, z))
-
 joined : (low high k bits run tail : ℕ) → high * 2 ^ k + low ≡ bits → low ≡ run → tail ≡ high → run + 2 ^ k * tail ≡ bits
 joined low high k bits run tail split same is = rw (is, ← same, ← split) (grind arith)
 
@@ -112,10 +104,6 @@ all_runs bits width odd = runs_of_bits 90 90 true bits width (omega arith) (omeg
 runs_number : (n at : ℕ) (cells : List ℕ) → length (runs_from n at cells) ≡ length cells
 runs_number n at [] = refl
 runs_number n at (k ∷ cells) = let h = runs_number n (at + k) cells in omega (arith, h)
-
-few_runs : (cells : List ℕ) → HaveCells cells → length cells ≤ total cells
-few_runs [] have = omega arith
-few_runs (k ∷ cells) have = let h = few_runs cells have.1 in let one = have.0 in omega (arith, h, one)
 
 pub may_be_line : (n bits : ℕ) → bits < 2 ^ 90 → bits % 2 ≡ 1 → MayBeLine (runs_in n bits)
 may_be_line n bits width odd =

@@ -4,17 +4,13 @@ use Rattle.std.specs.Prelude.{◌&&◌}
 use lib.Dec.{eqb}
 use mathlib.Core.Bool.{beq}
 use denote.Enum.Bare.{sameb, same_true, true_same}
-use Rattle.std.proofs.lemmas.Bool.{eqb-true, eq-eqb}
+use Rattle.std.proofs.lemmas.Bool.{eqb-true, eq-eqb, and_parts}
 use Rattle.tc_address.specs.declared.count.Count.{Count}
 use Rattle.tc_address.specs.contracts.count.Count.{the_type}
 use Rattle.tc_address.specs.Label.{address}
 use Rattle.tc_bits.specs.declared.flags.Flags.{Flags}
 use Rattle.tc_bits.specs.Fields.{field_values}
 use Rattle.vitc_line.specs.declared.word.VitcWord.{VitcWord}
-
-both : (p q : Bool) → (p && q) ≡ true → (p ≡ true) × (q ≡ true)
-both true q e = (refl, e)
-both false q e = absurd cc
 
 beq_same : (a b : Bool) → beq a b ≡ true → a ≡ b
 beq_same true true e = refl
@@ -33,16 +29,16 @@ same_parts a b =
     && (eqb a.fields.label.hours b.fields.label.hours
     && (eqb a.fields.label.minutes b.fields.label.minutes
     && (eqb a.fields.label.seconds b.fields.label.seconds && eqb a.fields.label.frames b.fields.label.frames))))
-    && ((beq a.fields.flags.bit10 b.fields.flags.bit10
-    && (beq a.fields.flags.colour b.fields.flags.colour
-    && (beq a.fields.flags.bgf0 b.fields.flags.bgf0
-    && (beq a.fields.flags.bgf1 b.fields.flags.bgf1 && beq a.fields.flags.bgf2 b.fields.flags.bgf2))))
+    && ((beq a.fields.flags.drop_frame b.fields.flags.drop_frame
+    && (beq a.fields.flags.colour_frame b.fields.flags.colour_frame
+    && (beq a.fields.flags.group_flag_zero b.fields.flags.group_flag_zero
+    && (beq a.fields.flags.group_flag_one b.fields.flags.group_flag_one && beq a.fields.flags.group_flag_two b.fields.flags.group_flag_two))))
     && eqb a.fields.user b.fields.user))
     && beq a.field_mark b.field_mark
 
 abbrev word_by : Count → ℕ → ℕ → ℕ → ℕ → Bool → Bool → Bool → Bool → Bool → ℕ → Bool → VitcWord
 word_by count h m s f drop colour zero one two user mark =
-    let flags : Flags = record { bit10 = drop; colour = colour; bgf0 = zero; bgf1 = one; bgf2 = two } in
+    let flags : Flags = record { drop_frame = drop; colour_frame = colour; group_flag_zero = zero; group_flag_one = one; group_flag_two = two } in
     record { fields = field_values (address count h m s f) flags user; field_mark = mark }
 
 same_by : (count : Count) (h m s f : ℕ) (drop colour zero one two : Bool) (user : ℕ) (mark : Bool)
@@ -54,19 +50,19 @@ same_by count h m s f drop colour zero one two user mark count' h' m' s' f' drop
 
 pub parts_same : (a b : VitcWord) → same_parts a b ≡ true → a ≡ b
 parts_same a b e =
-    let mark = both _ (beq a.field_mark b.field_mark) e in
-    let label = both _ _ mark.0 in
-    let count = both _ _ label.0 in
-    let hours = both _ _ count.1 in
-    let minutes = both _ _ hours.1 in
-    let seconds = both _ _ minutes.1 in
-    let user = both _ _ label.1 in
-    let drop = both _ _ user.0 in
-    let colour = both _ _ drop.1 in
-    let zero = both _ _ colour.1 in
-    let one = both _ _ zero.1 in
+    let mark = and_parts _ (beq a.field_mark b.field_mark) e in
+    let label = and_parts _ _ mark.0 in
+    let count = and_parts _ _ label.0 in
+    let hours = and_parts _ _ count.1 in
+    let minutes = and_parts _ _ hours.1 in
+    let seconds = and_parts _ _ minutes.1 in
+    let user = and_parts _ _ label.1 in
+    let drop = and_parts _ _ user.0 in
+    let colour = and_parts _ _ drop.1 in
+    let zero = and_parts _ _ colour.1 in
+    let one = and_parts _ _ zero.1 in
     same_by a.fields.label.count a.fields.label.hours a.fields.label.minutes a.fields.label.seconds a.fields.label.frames
-    a.fields.flags.bit10 a.fields.flags.colour a.fields.flags.bgf0 a.fields.flags.bgf1 a.fields.flags.bgf2 a.fields.user a.field_mark
+    a.fields.flags.drop_frame a.fields.flags.colour_frame a.fields.flags.group_flag_zero a.fields.flags.group_flag_one a.fields.flags.group_flag_two a.fields.user a.field_mark
     _ _ _ _ _ _ _ _ _ _ _ _
     (same_true the_type (search rules) _ _ count.0) (eqb-true _ _ hours.0) (eqb-true _ _ minutes.0) (eqb-true _ _ seconds.0) (eqb-true _ _ seconds.1)
     (beq_same _ _ drop.0) (beq_same _ _ colour.0) (beq_same _ _ zero.0) (beq_same _ _ one.0) (beq_same _ _ one.1) (eqb-true _ _ user.1) (beq_same _ _ mark.1)
@@ -79,11 +75,11 @@ same_with_itself a =
       eq-eqb a.fields.label.minutes _ refl,
       eq-eqb a.fields.label.seconds _ refl,
       eq-eqb a.fields.label.frames _ refl,
-      same_beq a.fields.flags.bit10,
-      same_beq a.fields.flags.colour,
-      same_beq a.fields.flags.bgf0,
-      same_beq a.fields.flags.bgf1,
-      same_beq a.fields.flags.bgf2,
+      same_beq a.fields.flags.drop_frame,
+      same_beq a.fields.flags.colour_frame,
+      same_beq a.fields.flags.group_flag_zero,
+      same_beq a.fields.flags.group_flag_one,
+      same_beq a.fields.flags.group_flag_two,
       eq-eqb a.fields.user _ refl,
       same_beq a.field_mark,
     ) refl

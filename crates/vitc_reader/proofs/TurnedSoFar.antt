@@ -109,11 +109,6 @@ not_read n runs i run line (Run j) bits some t lt is no_run stand = no_cells n r
 not_read n runs i run line (TooLong j) bits some t lt is too_far stand =
     too_many n runs i t.value line.cells too_far.1 bits t.is_high some t.so_far lt (rw is at too_far.2) too_far.3 stand
 
--- a fault that is passed on
-pub passed_on : {P Q : RunFault → Type 0} (result : Result ℕ RunFault) → IsErrAnd result P → ((fault : RunFault) → P fault → Q fault) → IfErr result Q
-passed_on (Ok bits) says to = absurd says
-passed_on (Err fault) says to = to fault says
-
 -- what is said of a success that is told by a test
 pub told_success : {P : ℕ → Type 0} (result : Result ℕ RunFault) (is_read : Bool) → is_read ≡ is_ok result → IfOk result P → is_read ≡ true
     → (bits : ℕ) × P bits

@@ -8,6 +8,7 @@ use Rattle.std.proofs.Math.Nat.{pow-le-pow_right}
 use Rattle.std.proofs.lemmas.Bool.{cases_lt, ne_eqb}
 use Rattle.std.proofs.lemmas.Nat.{pow-add, shr_split, mul-le}
 use Rattle.std.proofs.lemmas.List.{take_more_set, length-set, drop-set-lt, drop-drop}
+use Rattle.lemmas.specs.Lists.{length-last}
 use Rattle.vitc_reader.specs.Runs.{total, bits_of_run, bits_of, IsCells, AreCells, StandFor, runs_from, HaveCells, AreRunsOf}
 use Rattle.vitc_reader.specs.Written.{run_length, cells_in, runs_in}
 use Rattle.vitc_reader.proofs.BitsOfCells.{level_after, level_after-last, bits_of-last, odd_runs}
@@ -34,12 +35,8 @@ HaveCells-last : (cells : List ℕ) (k : ℕ) → HaveCells cells → 1 ≤ k �
 HaveCells-last [] k have some = (some, tt)
 HaveCells-last (j ∷ cells) k have some = (have.0, HaveCells-last cells k have.1 some)
 
-length-last : (cells : List ℕ) (k : ℕ) → length (cells ++ k ∷ []) ≡ length cells + 1
-length-last [] k = refl
-length-last (j ∷ cells) k = let h = length-last cells k in omega (arith, h)
-
 -- runs are no more than their cells
-few_runs : (cells : List ℕ) → HaveCells cells → length cells ≤ total cells
+pub few_runs : (cells : List ℕ) → HaveCells cells → length cells ≤ total cells
 few_runs [] have = omega arith
 few_runs (k ∷ cells) have = let h = few_runs cells have.1 in let one = have.0 in omega (arith, h, one)
 
@@ -86,11 +83,11 @@ value_with bits list rest high low cell k run e split same =
     let p = pow-add 2 cell k in
     rw (e, ← split, same, p) (grind arith)
 
-turned : (m : ℕ) (b : Bool) → ((m % 2 ≡ 1) ↔ (b ≡ false)) → ((m % 2 ≡ 1) ↔ (not b ≡ true))
+pub turned : (m : ℕ) (b : Bool) → ((m % 2 ≡ 1) ↔ (b ≡ false)) → ((m % 2 ≡ 1) ↔ (not b ≡ true))
 turned m true h = (λ e. let f : true ≡ false = h.0 e in absurd cc, λ e. absurd cc)
 turned m false h = (λ e. refl, λ e. h.1 refl)
 
-ended : (m : ℕ) (b : Bool) → ((m % 2 ≡ 1) ↔ (b ≡ false)) → m ≡ 0 → not b ≡ false
+pub ended : (m : ℕ) (b : Bool) → ((m % 2 ≡ 1) ↔ (b ≡ false)) → m ≡ 0 → not b ≡ false
 ended m true h z = refl
 ended m false h z = let e = h.1 refl in absurd (omega (arith, e, z))
 

@@ -29,11 +29,13 @@ use Rattle.wave_file.specs.Format.{samples_at, unless, IsTakenFor}
 use Rattle.wave_file.specs.Grammar.{Sample, OtherChunk, IsBlock, IsOther, AreParts, behind_head, chunk_text, data_text}
 use Rattle.wave_file.specs.Grammar.{format_text, head_text}
 use Rattle.wave_file.specs.Grammar.{file_of, long_file_of, others_text, read_whole, sizes_text, track_of}
+use Rattle.wave_file.specs.Grammar.{IsMadeOf, TellsALongSize, TellsItsSize, TellsNoSize}
 use Rattle.wave_file.specs.Stage.{extent_behind, HasBytes}
 use Rattle.wave_file.specs.Step.{with_samples}
 use Rattle.wave_file.specs.Wave.{bad, behind_form, bytes_inside, chunk_at, chunks_at, data_at, file_at}
-use Rattle.wave_file.specs.Wave.{may_end_at, padded, taken}
+use Rattle.wave_file.specs.Wave.{may_end_at, padded, reading_of, taken}
 use Rattle.tc_io.specs.Verdict.{good, past_limit}
+use Rattle.wave_file.proofs.Decoding.{within_file}
 use Rattle.wave_file.proofs.Blocks.{blocks_more, none_inside, same_reading}
 use Rattle.wave_file.proofs.Pieces.{chunks_skip, format_brings, head_brings, piece_whole, sizes_bring}
 use Rattle.wave_file.proofs.WrittenSamples.{data_length, samples_read}
@@ -389,3 +391,21 @@ long_told_file track form file_size before format blocks tail parts some is less
     announced : (n : ℕ) → 1 ≤ n → long_extent (Some n) ≡ Some (Announced n)
     announced zero some = absurd (omega (arith, some))
     announced (suc n) some = refl
+
+-- ---- any of them, of no more bytes than are read
+
+pub made_file : (track : ℕ) (format : WaveFormat) (blocks : List (List Sample)) (bytes : List ℕ)
+    → IsMadeOf track format blocks bytes → reading_of track bytes ≡ read_whole format (track_of track blocks)
+made_file track format blocks bytes file = within_file track bytes file.within ∙ by_form file.made
+  where
+    by_form : TellsItsSize track format blocks bytes ⊎ TellsNoSize track format blocks bytes
+        ⊎ TellsALongSize track format blocks bytes → file_at track bytes ≡ read_whole format (track_of track blocks)
+    by_form (inl f) =
+        ap (file_at track) f.are
+        ∙ told_file track f.file_size f.before format blocks f.tail f.parts f.some f.fits f.told
+    by_form (inr (inl f)) =
+        ap (file_at track) f.are
+        ∙ streamed_file track f.file_size f.size f.before format blocks f.parts f.fits.0 f.fits.1 f.untold
+    by_form (inr (inr f)) =
+        ap (file_at track) f.are
+        ∙ long_told_file track f.form f.file_size f.before format blocks f.tail f.parts f.some f.long f.told

@@ -11,6 +11,7 @@ use Rattle.std.proofs.lemmas.Int.{to_z-of_z}
 use Rattle.std.proofs.lemmas.List.{length-append, drop-drop, get_or-drop}
 use Rattle.std.proofs.Math.Nat.{suc-mul}
 use Rattle.std.proofs.Math.Seq.{take-append_seam, drop-append_seam}
+use Rattle.lemmas.specs.Bits.{in_two_bytes}
 use Rattle.byteorder.specs.Endian.{little_bytes, little_number}
 use Rattle.byteorder.specs.Numbers.{length-bytes_low_first, little_number-reads_back}
 use Rattle.wave_file.specs.declared.format.WaveFormat.{WaveFormat}
@@ -61,10 +62,6 @@ sample_at w zero (s ∷ block) d all less = all.0
 sample_at w (suc k) (s ∷ block) d all less = sample_at w k block d all.1 (omega (arith, less))
 
 -- ---- a sample
-
-in_two_bytes : (sample : ℤ) → FitsSigned w16 sample → cast_unsigned w16 sample < 256 ^ 2
-in_two_bytes (pos n) fits = omega (arith, fits.sfits)
-in_two_bytes (negsuc n) fits = omega arith
 
 read_at : (format : WaveFormat) (track : ℕ) (bytes rest : List ℕ) (s : Sample) → 1 ≤ track
     → IsOfWidth (sample_width format) s

@@ -8,7 +8,8 @@ use Rattle.byteorder.specs.Endian.{little_number}
 use Rattle.wave_file.specs.declared.fault.WaveFault.{WaveFault}
 use Rattle.wave_file.specs.declared.fault.WaveFault.TheVariants as fault
 use Rattle.wave_file.specs.declared.format.WaveFormat.{WaveFormat}
-use Rattle.wave_file.specs.declared.format.TheConstants.{MAX_TRACKS, MAX_RATE}
+use Rattle.wave_file.specs.declared.format.TheConstants.{MAX_RATE}
+use Rattle.limits.specs.declared.sound_file.TheConstants.{MAX_TRACKS}
 
 -- ---- the format
 

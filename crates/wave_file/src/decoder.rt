@@ -18,6 +18,7 @@ use crate::sample::sample_in;
 use crate::stage::{MAX_BYTES, Stage, Step, behind, data_stage, passed, step_over, width_of};
 use arrayvec::ArrayVec;
 use std::marker::Model;
+use tc_io::put_bytes;
 
 /// The most bytes of a piece: a block of 64 samples of 32 bits.
 pub const PIECE_ROOM: usize = 256;
@@ -100,13 +101,27 @@ impl WaveDecoder {
             self.place += count as u64;
             return Taken::Nothing(count);
         }
-        let width = width_of(&self.stage);
-        let before = self.part.len();
-        let want = width - before;
+        let want = width_of(&self.stage) - self.part.len();
         if length < want {
-            push(&mut self.part, &bytes[..length]);
+            put_bytes(&mut self.part, &bytes[..length]);
             return Taken::Nothing(length);
         }
+        self.take_piece(want, bytes)
+    }
+
+    /// Takes the next piece, of which so many of the bytes are wanted.
+    #[inline(always)]
+    fn take_piece(&mut self, want: usize, bytes: &[u8]) -> Taken
+        requires some { 1 ≤ want }
+        requires there { want ≤ length bytes.now }
+        requires waiting { IsWaiting self.old.stage }
+        requires whole { length self.old.part + want ≡ width_of self.old.stage }
+        requires within { bytes_taken self.old + want ≤ MAX_BYTES }
+        ensures takes { AddsTaken self.old self.new bytes.now result }
+        ensures stops { (front : List ℕ) (samples : List ℤ) → StandsFor self.old front samples
+            → StopsAt self.old (front ++ bytes.now) samples result }
+    {
+        let width = self.part.len() + want;
         let (notes, stage) = (self.notes, self.stage);
         match step_with(
             self.track,
@@ -227,7 +242,7 @@ fn step_with(
     ensures left { IsLeft result part.old.items part.new.items }
 {
     let before = part.len();
-    push(part, bytes);
+    put_bytes(part, bytes);
     let step = step_over(track, notes, stage, place, part);
     match step {
         Step::Fault(_) | Step::Limit => part.truncate(before),
@@ -333,12 +348,4 @@ fn read_blocks(format: &WaveFormat, track: u32, blocks: &[u8], places: &mut [i16
         places[place] = sample_in(format, track, &blocks[at..next]);
         at = next;
     }
-}
-
-/// Appends bytes for which there is room.
-fn push(part: &mut Part, bytes: &[u8])
-    requires { length part.old.items + length bytes.now ≤ PIECE_ROOM }
-    ensures { part.new.items ≡ part.old.items ++ bytes.now }
-{
-    let _fits = part.try_extend_from_slice(bytes);
 }

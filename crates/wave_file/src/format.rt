@@ -5,9 +5,7 @@ ghost use Rattle.wave_file.specs.Format.{is_sample_size, is_track_count, is_rate
 
 use crate::fault::WaveFault;
 use byteorder::{ByteOrder, LittleEndian};
-
-/// The most tracks of a file, and the greatest number of a track.
-pub const MAX_TRACKS: u32 = 64;
+use limits::MAX_TRACKS;
 
 /// The highest rate, in samples a second: 16 ticks a sample make 100,000,000 ticks a second.
 pub const MAX_RATE: u32 = 6_250_000;

@@ -1,26 +1,24 @@
 //! The numbers that code and definitions share, as the standards give them; and what follows from the
 //! definitions alone.
-ghost use Rattle.std.specs.Prelude.{◌≡◌, ◌⊎◌, ◌≤◌, ◌<◌, ◌+◌, ◌-◌, ◌^◌, ℕ, ℤ, true, false, List, [], ◌∷◌, ◌++◌};
+ghost use Rattle.std.specs.Prelude.{◌≡◌, ◌≤◌, ◌-◌, ◌^◌, ℕ, ℤ, true, false, List, [], ◌∷◌, ◌++◌};
 ghost use Rattle.std.specs.Prelude.{codes, length, Some};
 ghost use Rattle.byteorder.specs.Endian.{big_number};
 ghost use Rattle.wave_file.specs.declared.chunk.TheConstants as chunk;
 ghost use Rattle.wave_file.specs.declared.format.WaveFormat.{WaveFormat};
-ghost use Rattle.wave_file.specs.declared.format.TheConstants.{MAX_RATE, MAX_TRACKS};
+ghost use Rattle.wave_file.specs.declared.format.TheConstants.{MAX_RATE};
 ghost use Rattle.wave_file.specs.declared.names.TheConstants as names;
 ghost use Rattle.wave_file.specs.declared.stage.TheConstants.{MAX_BYTES, MAX_SAMPLES};
 ghost use Rattle.wave_file.specs.Chunk.{is_open, is_open_size, no_notes};
 ghost use Rattle.wave_file.specs.GoesOn.{GoesOn, IsWithin};
-ghost use Rattle.wave_file.specs.Grammar.{AreParts, OtherChunk, Sample, data_text, file_of, long_file_of};
-ghost use Rattle.wave_file.specs.Grammar.{others_text, read_whole, track_of};
+ghost use Rattle.wave_file.specs.Grammar.{IsMadeOf, Sample, read_whole, track_of};
 ghost use Rattle.wave_file.specs.StandsFor.{Decoding, StandsFor, IsDecoding, IsTold, format_in_decoding};
 ghost use Rattle.wave_file.specs.Wave.{reading_of};
 ghost use Rattle.tc_io.specs.Verdict.{good};
 
-/// 2 to the 40th samples, and 2 to the 62nd bytes; 64 tracks, and 6,250,000 samples a second.
+/// 2 to the 40th samples, and 2 to the 62nd bytes; 6,250,000 samples a second.
 pub fn the_limits_are_these()
     ensures samples { MAX_SAMPLES ≡ 2 ^ 40 }
     ensures bytes { MAX_BYTES ≡ 2 ^ 62 }
-    ensures tracks { MAX_TRACKS ≡ 64 }
     ensures rate { MAX_RATE ≡ 6250000 }
 {}
 
@@ -86,21 +84,8 @@ pub fn samples_are_few_and_behind_a_format()
 /// format and behind its data, and the input may end there: in RIFF where the size of its data stands in it, and
 /// where it tells no length and nothing follows the data; in RF64 and BW64 where the size stands in `ds64`.
 pub fn a_file_is_read_as_it_was_written()
-    ensures told { (track file_size : ℕ) (before : List OtherChunk) (format : WaveFormat) (blocks : List (List Sample))
-        (tail : List ℕ) → let size = length (data_text blocks) in
-        let file = file_of file_size before format size blocks tail in
-        AreParts track before format blocks → 1 ≤ length blocks → file_size < 2 ^ 32 → size < 2 ^ 31 - 2 ^ 16
-        → length file ≤ MAX_BYTES → reading_of track file ≡ read_whole format (track_of track blocks) }
-    ensures streamed { (track file_size size : ℕ) (before : List OtherChunk) (format : WaveFormat)
-        (blocks : List (List Sample)) → let file = file_of file_size before format size blocks [] in
-        AreParts track before format blocks → file_size < 2 ^ 32 → size < 2 ^ 32
-        → is_open (no_notes false file_size) (36 + length (others_text before)) size ≡ true
-        → length file ≤ MAX_BYTES → reading_of track file ≡ read_whole format (track_of track blocks) }
-    ensures long { (track form file_size : ℕ) (before : List OtherChunk) (format : WaveFormat)
-        (blocks : List (List Sample)) (tail : List ℕ) → let size = length (data_text blocks) in
-        let file = long_file_of form file_size size before format blocks tail in
-        AreParts track before format blocks → 1 ≤ length blocks → (form ≡ chunk.RF64) ⊎ (form ≡ chunk.BW64)
-        → size < 2 ^ 64 → length file ≤ MAX_BYTES → reading_of track file ≡ read_whole format (track_of track blocks) }
+    ensures { (track : ℕ) (format : WaveFormat) (blocks : List (List Sample)) (bytes : List ℕ)
+        → IsMadeOf track format blocks bytes → reading_of track bytes ≡ read_whole format (track_of track blocks) }
 {}
 
 /// A format was judged before its data: its rate is from 1 to 6,250,000.

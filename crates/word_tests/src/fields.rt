@@ -16,11 +16,11 @@ fn fault_of(system: System, drop_frame: bool, digits: [u32; 8]) -> Option<FieldF
         frame_tens: digits[6] % 8,
         frame_units: digits[7] % 16,
         flags: Flags {
-            bit10: drop_frame,
-            colour: false,
-            bgf0: false,
-            bgf1: false,
-            bgf2: false,
+            drop_frame: drop_frame,
+            colour_frame: false,
+            group_flag_zero: false,
+            group_flag_one: false,
+            group_flag_two: false,
         },
         user: UserBits::new(0),
     };
@@ -129,11 +129,11 @@ fn the_drop_frame_flag_tells_the_count_at_30(rt: HostRuntime) -> Result<(), Fail
     for (count, drop_frame, agrees) in rows {
         let label = Label::new(count, 1, 2, 3, 4)?;
         let flags = Flags {
-            bit10: drop_frame,
-            colour: true,
-            bgf0: false,
-            bgf1: true,
-            bgf2: false,
+            drop_frame: drop_frame,
+            colour_frame: true,
+            group_flag_zero: false,
+            group_flag_one: true,
+            group_flag_two: false,
         };
         let fields = Fields::new(label, flags, UserBits::new(0x89ab_cdef));
         assert_eq!(rt; fields.is_ok(), agrees);

@@ -12,14 +12,20 @@ type Row = (Count, [u32; 4], u32, [bool; 5], bool, u128);
 
 fn word_of(row: Row) -> Result<LtcWord, Fail> {
     let (count, [hours, minutes, seconds, frames], user, flags, balanced, _) = row;
-    let [bit10, colour, bgf0, bgf1, bgf2] = flags;
+    let [
+        drop_frame,
+        colour_frame,
+        group_flag_zero,
+        group_flag_one,
+        group_flag_two,
+    ] = flags;
     let label = Label::new(count, hours, minutes, seconds, frames)?;
     let flags = Flags {
-        bit10,
-        colour,
-        bgf0,
-        bgf1,
-        bgf2,
+        drop_frame,
+        colour_frame,
+        group_flag_zero,
+        group_flag_one,
+        group_flag_two,
     };
     let fields = Fields::new(label, flags, UserBits::new(user))?;
     Ok(LtcWord { fields, balanced })

@@ -1,4 +1,4 @@
-use Rattle.biphase.specs.OneChain.{comparable}
+use Rattle.biphase.specs.ChainLemmas.{comparable}
 use Rattle.biphase.proofs.laws.chains_at_one_place_agree.Goals as goal
 
 pub returns : goal.returns

@@ -1,4 +1,4 @@
-use Rattle.biphase.specs.Kinds.{chain_kinds}
+use Rattle.biphase.specs.KindLemmas.{chain_kinds}
 use Rattle.biphase.proofs.laws.kinds_are_as_the_cells_say.Goals as goal
 
 pub returns : goal.returns

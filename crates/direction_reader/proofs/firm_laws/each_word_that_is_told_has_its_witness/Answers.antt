@@ -1,5 +1,8 @@
-use Rattle.direction_reader.proofs.FirmJudges.{all_witness}
+use Rattle.direction_reader.proofs.FirmJudges.{all_witness, list_witnessed}
 use Rattle.direction_reader.proofs.firm_laws.each_word_that_is_told_has_its_witness.Goals as goal
 
-pub returns : goal.returns
-returns c = all_witness
+pub returns-clause-cells : goal.returns-clause-cells
+returns-clause-cells c = all_witness
+
+pub returns-clause-list : goal.returns-clause-list
+returns-clause-list c = list_witnessed

@@ -2,7 +2,7 @@ use Rattle.std.proofs.Common.{◌≡◌, ◌∙◌, Some, ap, sym, subst}
 use Rattle.interval_file.specs.declared.header.IntervalHeader.{IntervalHeader}
 use Rattle.interval_file.specs.Recording.{Recording}
 use Rattle.interval_engine.specs.Along.{IsWholeOf}
-use Rattle.tc_io.specs.KeptVerdict.{ends_whole, is_good}
+use Rattle.tc_io.specs.VerdictLemmas.{ends_whole, is_good}
 use Rattle.interval_commands.specs.LtcConvert.{conversion}
 use Rattle.interval_commands.proofs.laws.converting_keeps_the_recording.Goals as goal
 use Rattle.tc_command.specs.declared.input_fault.InputFault.TheVariants.{Intervals}

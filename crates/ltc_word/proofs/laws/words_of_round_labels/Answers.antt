@@ -1,7 +1,8 @@
 use Rattle.std.proofs.Common.{refl, lit<}
 use Rattle.std.specs.Int.RustNames.{count_ones}
 use Rattle.ltc_word.proofs.CountedByBytes.{ones_in_bytes, even, odd}
-use Rattle.ltc_word.proofs.OneSpelling.{spelled, said}
+use Rattle.ltc_word.proofs.OneSpelling.{spelled}
+use Rattle.tc_bits.specs.FieldLemmas.{said}
 use Rattle.ltc_word.proofs.laws.words_of_round_labels.Goals as goal
 
 pub returns-clause-zero_at_30 : goal.returns-clause-zero_at_30

@@ -1,7 +1,8 @@
 use Rattle.std.proofs.Common.{◌≡◌, ◌∙◌, ◌+◌, ◌-◌, ◌/◌, ◌++◌, ℕ, List, Bool, ap, sym, arith}
 use Rattle.direction_reader.specs.Played.{low_bits}
 use Rattle.made_commands.specs.KeptStriping.{cell_bytes}
-use Rattle.made_commands.proofs.MadeInPieces.{cell_pushed, low_bits-more}
+use Rattle.made_commands.proofs.MadeInPieces.{cell_pushed}
+use Rattle.direction_reader.specs.PlayedLemmas.{low_bits-more}
 use Rattle.made_commands.proofs.ltc_make.write_bits.Goals as goal
 
 -- one bit more

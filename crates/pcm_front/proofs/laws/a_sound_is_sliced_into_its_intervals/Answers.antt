@@ -1,7 +1,7 @@
 use Rattle.std.proofs.Common.{ap, ◌∙◌}
 use Rattle.std.specs.List.{flat_map}
 use Rattle.pcm_front.specs.Distance.{pieces_of}
-use Rattle.pcm_front.proofs.InPieces.{written_whole}
+use Rattle.pcm_front.specs.DistanceLemmas.{written_whole}
 use Rattle.pcm_front.proofs.SlicedAgain.{sliced_again, one_times}
 use Rattle.pcm_front.proofs.laws.a_sound_is_sliced_into_its_intervals.Goals as goal
 

@@ -2,7 +2,7 @@ use Rattle.std.proofs.Common.{ap, ◌∙◌, map, length}
 use Rattle.std.specs.List.{flat_map}
 use Rattle.pcm_front.specs.Distance.{pieces_of}
 use Rattle.pcm_front.proofs.RunByRun.{whole_runs}
-use Rattle.pcm_front.proofs.InPieces.{written_whole}
+use Rattle.pcm_front.specs.DistanceLemmas.{written_whole}
 use Rattle.pcm_front.proofs.laws.runs_are_sliced_into_their_lengths.Goals as goal
 
 pub returns-clause-distances : goal.returns-clause-distances

@@ -21,7 +21,7 @@ returns-in_err-put-clause-front g c =
 pub pieces-preserved : goal.pieces-preserved
 pieces-preserved g c =
     let i = c.pieces.invariant in
-    let e = rw c.interval_bytes.ensures at c.in_ok-put.ensures in
+    let e = rw c.four_bytes.ensures at c.in_ok-put.ensures in
     record {
       put = put_more _ _ _ c.args.gathered.now.room.items (intervals_bytes One (replicate c.pieces._done c.args.length)) c.pieces.gathered.room.items
           (spelling One c.args.length) c.put.new.self.room.items (intervals_bytes One (replicate (c.pieces._done + 1) c.args.length)) i.put e.all

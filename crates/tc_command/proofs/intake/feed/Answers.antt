@@ -1,6 +1,7 @@
 use Rattle.std.proofs.Common.{arith, ◌∙◌, subst}
-use Rattle.tc_command.specs.KeptWorks.{Works, works_on, cut_more, within_rest}
-use Rattle.tc_command.proofs.BytesPulled.{are_bytes}
+use Rattle.tc_command.specs.KeptWorks.{Works, works_on}
+use Rattle.lemmas.specs.Lists.{cut_more, within_rest}
+use Rattle.tc_io.specs.ByteLemmas.{are_bytes}
 use Rattle.tc_command.proofs.intake.feed.Goals as goal
 
 -- the bytes before these were worked on, and then these
@@ -11,7 +12,7 @@ bytes-preserved g c =
     let n = c.in_ok-at.field-0 in
     let bytes = c.args.bytes.now in
     let inside = within_rest c.bytes.at n bytes i.within e.count.1 in
-    let cut = cut_more c.bytes.at n bytes i.within inside in
+    let cut = cut_more c.bytes.at n bytes in
     record {
       within = inside;
       going = e.going;

@@ -1,6 +1,7 @@
 use Rattle.std.proofs.Common.{◌++◌, ◌∙◌, take, arith, refl}
 use Rattle.std.proofs.KnownBytes.{Appends-trans, Consumes-trans}
-use Rattle.tc_command.specs.KeptWorks.{ended_at, on_ok, if_err, through, along, along_at_end, still_consumed}
+use Rattle.tc_command.specs.KeptWorks.{ended_at, on_ok, if_err, along, along_at_end, still_consumed}
+use Rattle.lemmas.specs.Results.{through}
 use Rattle.tc_command.proofs.BytesPulled.{are_more}
 use Rattle.tc_command.proofs.OneEnd.{at_the_end, brought_before, failed_before, seen_at_end, seen_by, unseen_by}
 use Rattle.tc_command.proofs.intake.pull_all.Goals as goal

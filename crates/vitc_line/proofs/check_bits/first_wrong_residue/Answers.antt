@@ -1,7 +1,7 @@
 use Rattle.std.proofs.Common.{◌≡◌, ◌+◌, ap, ◌∙◌, not, arith}
 use Rattle.std.specs.Prelude.{◌==◌}
 use Rattle.vitc_line.specs.CheckBits.{is_set_bit, first_set_bit, is_wrong_residue, wrong_residue}
-use Rattle.vitc_line.proofs.Searches.{same_found}
+use Rattle.lemmas.specs.Searches.{same_found}
 use Rattle.vitc_line.proofs.check_bits.first_wrong_residue.Goals as goal
 
 -- the bits of the folded line are the exclusive ors

@@ -1,6 +1,7 @@
 use Rattle.std.proofs.Common.{refl, lit<}
 use Rattle.vitc_line.specs.Fault.{wrong_sync_pair}
-use Rattle.vitc_line.proofs.OneSpelling.{spelled, said, check_by_sums}
+use Rattle.vitc_line.proofs.OneSpelling.{spelled, check_by_sums}
+use Rattle.tc_bits.specs.FieldLemmas.{said}
 use Rattle.vitc_line.proofs.laws.lines_of_a_round_label.Goals as goal
 
 pub returns-clause-zero_at_30 : goal.returns-clause-zero_at_30

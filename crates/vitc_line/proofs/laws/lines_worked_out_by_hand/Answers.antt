@@ -1,6 +1,7 @@
 use Rattle.std.proofs.Common.{refl, lit<}
 use Rattle.vitc_line.specs.Fault.{wrong_sync_pair}
-use Rattle.vitc_line.proofs.OneSpelling.{spelled, said, check_by_sums}
+use Rattle.vitc_line.proofs.OneSpelling.{spelled, check_by_sums}
+use Rattle.tc_bits.specs.FieldLemmas.{said}
 use Rattle.vitc_line.proofs.laws.lines_worked_out_by_hand.Goals as goal
 
 pub returns-clause-first_at_25 : goal.returns-clause-first_at_25

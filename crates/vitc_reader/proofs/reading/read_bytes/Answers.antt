@@ -4,7 +4,8 @@ use Rattle.byteorder.specs.Endian.{big_number}
 use Rattle.vitc_reader.specs.Runs.{runs_of_bytes}
 use Rattle.vitc_reader.proofs.ReadSoFar.{below_ninety, only}
 use Rattle.vitc_reader.proofs.RunsOfBytes.{count_of, pair_at}
-use Rattle.vitc_reader.proofs.TurnedSoFar.{below, not_read, passed_on, refused_at, turned_by, turned_stands}
+use Rattle.vitc_reader.proofs.TurnedSoFar.{below, not_read, refused_at, turned_by, turned_stands}
+use Rattle.lemmas.specs.Results.{through}
 use Rattle.vitc_reader.proofs.reading.read_bytes.Goals as goal
 
 pub with-requires-clause-bits : goal.with-requires-clause-bits
@@ -17,7 +18,7 @@ returns-in_err-line-clause-refuses c =
     let lt : c.runs.index < length (runs_of_bytes bytes) = rw (count_of bytes) there in
     let run : c.read_u16-run.result ≡ get_or (runs_of_bytes bytes) c.runs.index 0 =
     c.read_u16-run.ensures ∙ ap (big_number 2) (take_rest bytes (2 * c.runs.index)) ∙ pair_at c.runs.index bytes there in
-    passed_on c.from_residual.result c.from_residual.ensures.1 (λ fault same.
+    through c.from_residual.result c.from_residual.ensures.1 (λ fault same.
     rw same (refused_at c.args.length (runs_of_bytes bytes) c.runs.index c.read_u16-run.result c.runs.line c.in_err-line.field-0.0 c.runs.invariant lt run
     c.in_err-line.ensures.refuses))
 

@@ -1,6 +1,7 @@
 use Rattle.std.proofs.Common.{ℕ, Ok, refl, ap, arith}
 use Rattle.vitc_reader.proofs.ReadSoFar.{below_ninety, only}
-use Rattle.vitc_reader.proofs.TurnedSoFar.{below, not_read, passed_on, refused_at, turned_by, turned_stands}
+use Rattle.vitc_reader.proofs.TurnedSoFar.{below, not_read, refused_at, turned_by, turned_stands}
+use Rattle.lemmas.specs.Results.{through}
 use Rattle.vitc_reader.proofs.reading.read_runs.Goals as goal
 
 pub with-requires-clause-bits : goal.with-requires-clause-bits
@@ -14,7 +15,7 @@ returns-in_err-line-clause-only c = λ bits stand.
 
 pub returns-in_err-line-clause-refuses : goal.returns-in_err-line-clause-refuses
 returns-in_err-line-clause-refuses c =
-    passed_on c.from_residual.result c.from_residual.ensures.1 (λ fault same.
+    through c.from_residual.result c.from_residual.ensures.1 (λ fault same.
     rw same (refused_at c.args.length c.args.runs.now c.runs.index _ c.runs.line c.in_err-line.field-0.0 c.runs.invariant c.runs-test.true refl
     c.in_err-line.ensures.refuses))
 

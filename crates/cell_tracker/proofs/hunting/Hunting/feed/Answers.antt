@@ -2,7 +2,7 @@ use Rattle.biphase.specs.Tolerance.{IsFirstHalf}
 use Rattle.std.proofs.Common.{◌≡◌, Bool, false, IsTrue, [], ◌∷◌, ◌++◌, ◌-◌, length, refl, subst, sym}
 use Rattle.biphase.specs.Pair.{AreUnequal}
 use Rattle.biphase.specs.Tolerance.{kept_at_lock}
-use Rattle.biphase.specs.Laws.{other_kind}
+use Rattle.biphase.specs.ToleranceLemmas.{other_kind}
 use Rattle.cell_tracker.specs.State.{AtCellState, MidCellState, at_cell_with, mid_cell_with}
 use Rattle.cell_tracker.specs.Stretch.{begun, with_break}
 use Rattle.cell_tracker.specs.StandsFor.{HuntingStandsFor, AtCellStandsFor, MidCellStandsFor}
@@ -34,7 +34,8 @@ returns-then-before-x-clause-stands c = λ intervals stretches stands.
     let profile = c.self.inside.profile in
     let state : AtCellState = record { profile = profile; latest = kept_at_lock profile c.args.x } in
     let same : state ≡ at_cell_with c.new.result c.at_lock.new.four = rw (c.new.ensures, c.at_lock.ensures.kept) refl in
-    subst (λ state. AtCellStandsFor state (intervals ++ c.args.x ∷ []) stretches (begun (length intervals) c.args.x)) same
+    subst (λ state. AtCellStandsFor state (intervals ++ c.args.x ∷ []) stretches
+    (begun (length intervals) c.args.x)) same
     (start_at _ intervals stretches c.in-Some.before c.args.x is c.in-Some.is c.in-Step.ensures c.if-before-x.true)
 
 pub returns-then-may_begin_one-clause-stands : goal.returns-then-may_begin_one-clause-stands

@@ -4,7 +4,7 @@ use Rattle.direction_reader.specs.Beside.{is_firm_before, is_sync_behind}
 use Rattle.direction_reader.specs.Firm.{judged}
 use Rattle.direction_reader.specs.FirmStandsFor.{KeptFirm, FirmCellsStandFor}
 use Rattle.direction_reader.specs.FirmStep.{heard, WaitsWithin}
-use Rattle.direction_reader.proofs.FirmAdds.{add_within, add_stands}
+use Rattle.direction_reader.proofs.FirmAdds.{add_in_turn, add_within, add_stands}
 use Rattle.direction_reader.proofs.SyncInTime.{WordLaws}
 use Rattle.direction_reader.proofs.firm_cells.FirmCells.add.Goals as goal
 
@@ -14,6 +14,14 @@ returns-clause-within c = λ before late within.
     let waits = subst (λ (k : KeptFirm). WaitsWithin before k.waits) (sym c.self.view_is) within in
     rw (c.hear-heard.ensures, c.judge_found-forward.ensures) (add_within before c.args.tick c.self.inside.waits
     c.is_firm_before.result c.is_sync_behind-sync.result c.find-found.result late waits c.find-found.ensures.found)
+
+-- in turn
+pub returns-clause-in_turn : goal.returns-clause-in_turn
+returns-clause-in_turn c = λ before late within.
+    let waits = subst (λ (k : KeptFirm). WaitsWithin before k.waits) (sym c.self.view_is) within in
+    rw (← c.self.view_is, c.hear-heard.ensures, c.judge_found-forward.ensures) (add_in_turn before c.args.tick
+    c.self.inside.waits c.is_firm_before.result c.is_sync_behind-sync.result c.find-found.result late waits
+    c.find-found.ensures.found)
 
 -- and what is kept stands for one cell more
 pub returns-clause-stands : goal.returns-clause-stands

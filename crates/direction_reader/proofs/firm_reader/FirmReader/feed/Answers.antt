@@ -1,4 +1,7 @@
-use Rattle.std.proofs.Common.{◌-◌, ◌+◌, arith, subst, sym, refl, ap}
+use Rattle.std.proofs.Common.{◌-◌, ◌+◌, arith, map, subst, sym, refl, ap}
+use Rattle.direction_reader.specs.Firm.{told_tick}
+use Rattle.direction_reader.specs.FirmStep.{firm_list}
+use Rattle.direction_reader.proofs.FirmAdds.{begins_in_turn}
 use Rattle.direction_reader.specs.FirmReader.{FirmState, FirmStandsFor}
 use Rattle.direction_reader.proofs.CellsEnd.{cell_fits, cell_ended}
 use Rattle.direction_reader.proofs.FirmSteps.{nothing_ended, begins_now, begins_before, broken, cell_told}
@@ -71,6 +74,15 @@ returns-in-FirstZero-clause-stands c = λ l told stands.
     })
     (rw c.begin.ensures at c.add-in-FirstZero.ensures.stands)
     is (c.in-FirstZero.ensures.stands l is.earlier is.open_yet is.tracker)
+
+-- in turn, where the interval before is the first zero
+pub returns-in-ZeroBefore-clause-in_turn : goal.returns-in-ZeroBefore-clause-in_turn
+returns-in-ZeroBefore-clause-in_turn c =
+    let law = rw c.begin-in-ZeroBefore.ensures at c.add-in-ZeroBefore.ensures.in_turn in
+    let ticks = map told_tick (firm_list c.add-in-ZeroBefore.result) in
+    rw (← c.self.view_is) (begins_in_turn c.self.inside.tick (c.self.inside.tick + c.from.result)
+    c.self.inside.cells.waits c.add-in-ZeroBefore.new.self.waits ticks (omega arith) c.self.invariant.waits
+    (λ from first. law from first tt))
 
 -- the interval before is
 pub returns-in-ZeroBefore-clause-stands : goal.returns-in-ZeroBefore-clause-stands

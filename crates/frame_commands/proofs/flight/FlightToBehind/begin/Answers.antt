@@ -4,7 +4,7 @@ use Rattle.tc_address.specs.declared.system.System.{System}
 use Rattle.direction_reader.specs.ListEvents.{AreEvents}
 use Rattle.direction_reader.specs.Tracker.{profile_of}
 use Rattle.tc_job.specs.declared.flight.Flight.{Flight}
-use Rattle.tc_command.specs.KeptWorks.{through}
+use Rattle.lemmas.specs.Results.{through}
 use Rattle.frame_commands.proofs.flight.FlightToBehind.begin.Goals as goal
 
 -- what stands first was written, and there is no frame yet

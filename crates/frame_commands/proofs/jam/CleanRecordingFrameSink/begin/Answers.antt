@@ -5,7 +5,7 @@ use Rattle.tc_io.specs.Sink.{AppendsFront}
 use Rattle.interval_file.specs.IntervalHeader.{header_bytes}
 use Rattle.ltc_jam.specs.Cells.{intervals_of_lead}
 use Rattle.frame_commands.specs.LtcJam.{clean_file, clean_header}
-use Rattle.tc_command.specs.KeptWorks.{through}
+use Rattle.lemmas.specs.Results.{through}
 use Rattle.frame_commands.proofs.FramesAnew.{file_begins}
 use Rattle.frame_commands.proofs.jam.CleanRecordingFrameSink.begin.Goals as goal
 

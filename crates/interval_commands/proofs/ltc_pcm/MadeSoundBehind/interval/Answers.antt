@@ -2,7 +2,7 @@ use Rattle.std.proofs.Common.{◌++◌, pos, replicate, ap, refl, sym, ◌∙◌
 use Rattle.pcm_front.specs.declared.side.Side.TheVariants.{High, Low}
 use Rattle.pcm_front.specs.Samples.{bytes_of}
 use Rattle.pcm_front.specs.Side.{other_side, upward}
-use Rattle.tc_command.specs.KeptWorks.{through}
+use Rattle.lemmas.specs.Results.{through}
 use Rattle.interval_commands.proofs.SoundGrows.{grown, part_due}
 use Rattle.interval_commands.proofs.ltc_pcm.MadeSoundBehind.interval.Goals as goal
 

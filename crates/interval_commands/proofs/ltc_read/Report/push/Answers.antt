@@ -1,7 +1,7 @@
 use Rattle.std.proofs.Common.{◌≤◌, ◌+◌, ◌*◌, ◌∙◌, [], List, ℕ, subst, sym, ap, append-nil, arith}
 use Rattle.std.proofs.KnownBytes.{Appends-trans}
 use Rattle.std.specs.Io.KnownBytes.{Appends}
-use Rattle.biphase.specs.declared.cell.TheConstants.{MAX_INTERVALS}
+use Rattle.limits.specs.declared.recording.TheConstants.{MAX_INTERVALS}
 use Rattle.direction_reader.specs.Events.{listed}
 use Rattle.tc_command.specs.KeptWorks.{on_ok, on_err, at_err}
 use Rattle.tc_command.specs.KeptPushed.{front_of_piece}

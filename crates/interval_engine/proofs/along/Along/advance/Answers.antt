@@ -1,8 +1,10 @@
 use Rattle.std.proofs.Common.{◌++◌, ◌∙◌, [], List, ℕ, arith, drop, subst}
 use Rattle.interval_engine.specs.KeptAlong.{Advanced, Halts, IsHalt, Stands}
-use Rattle.tc_command.specs.KeptWorks.{first_and_rest, first_only, stops_on}
+use Rattle.tc_command.specs.KeptWorks.{stops_on}
+use Rattle.lemmas.specs.Lists.{first_and_rest, first_only}
 use Rattle.interval_engine.proofs.ByteMore.{advanced_on}
-use Rattle.interval_engine.proofs.PassedOn.{done_is_no_pull, passed_on, retold}
+use Rattle.interval_engine.proofs.PassedOn.{done_is_no_pull, retold}
+use Rattle.lemmas.specs.Results.{passed_on}
 use Rattle.interval_engine.proofs.along.Along.advance.Goals as goal
 
 -- whole intervals that stand first stop the command

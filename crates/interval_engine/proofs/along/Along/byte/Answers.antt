@@ -8,7 +8,8 @@ use Rattle.interval_engine.proofs.AnItemMore.{interval_stops, by_byte}
 use Rattle.interval_engine.proofs.ByteMore.{fault_is_no_pull, fault_keeps, goes_on, header_late, header_stays}
 use Rattle.interval_engine.proofs.ByteMore.{next_taken}
 use Rattle.interval_engine.proofs.ByteMore.{none_before}
-use Rattle.interval_engine.proofs.PassedOn.{done_is_no_pull, failed_push_is_no_pull, passed_on}
+use Rattle.interval_engine.proofs.PassedOn.{done_is_no_pull, failed_push_is_no_pull}
+use Rattle.lemmas.specs.Results.{passed_on}
 use Rattle.interval_engine.proofs.along.Along.byte.Goals as goal
 
 -- the byte completes nothing

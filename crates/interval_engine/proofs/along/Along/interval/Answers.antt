@@ -1,7 +1,8 @@
 use Rattle.std.proofs.Common.{arith, refl}
 use Rattle.std.proofs.KnownBytes.{Appends-nil}
 use Rattle.interval_engine.proofs.PassedOn.{done_is_no_pull, failed_push_is_no_limit, failed_push_is_no_pull}
-use Rattle.interval_engine.proofs.PassedOn.{limit_is_no_pull, passed_on}
+use Rattle.interval_engine.proofs.PassedOn.{limit_is_no_pull}
+use Rattle.lemmas.specs.Results.{passed_on}
 use Rattle.interval_engine.proofs.RunOfIntervals.{behind_stops, behind_takes}
 use Rattle.interval_engine.proofs.along.Along.interval.Goals as goal
 

@@ -1,6 +1,6 @@
 use Rattle.std.proofs.Common.{refl, ◌≡◌, ◌+◌, ◌-◌, ◌++◌, ◌≤◌, ◌<◌, [], take, drop, length, arith, subst, List, ℕ, ◌∙◌, Some}
 use Rattle.std.proofs.KnownBytes.{Appends-nil}
-use Rattle.biphase.specs.declared.cell.TheConstants.{MAX_INTERVALS}
+use Rattle.limits.specs.declared.recording.TheConstants.{MAX_INTERVALS}
 use Rattle.interval_file.specs.Progress.{Progress}
 use Rattle.interval_file.specs.Decoding.{decoding_of}
 use Rattle.interval_file.specs.Recording.{recording_of}
@@ -11,7 +11,8 @@ use Rattle.tc_command.specs.Stops.{IsStop, Stops}
 use Rattle.interval_engine.specs.KeptAlong.{Halts, IsHalt, Stands}
 use Rattle.tc_command.specs.KeptWorks.{Works, stops_on, works_on}
 use Rattle.interval_engine.proofs.ByteMore.{so_many}
-use Rattle.interval_engine.proofs.PassedOn.{done_is_no_pull, failed_push_is_no_pull, passed_on, refusal_is_no_pull}
+use Rattle.interval_engine.proofs.PassedOn.{done_is_no_pull, failed_push_is_no_pull, refusal_is_no_pull}
+use Rattle.lemmas.specs.Results.{passed_on}
 use Rattle.interval_engine.proofs.AnItemMore.{an_interval, a_write_fault, more_whole, by_number, by_bad_number, passed_over}
 use Rattle.interval_engine.proofs.RunOfIntervals.{a_refusal, behind_stops, within_window, cut_window, cut_through}
 use Rattle.interval_engine.proofs.along.Along.run.Goals.{else-run-test, then-run-test+in-Short}

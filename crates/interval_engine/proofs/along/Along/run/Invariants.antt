@@ -1,6 +1,6 @@
 use Rattle.std.proofs.Common.{◌≡◌, ◌+◌, ◌-◌, ◌≤◌, take, length}
 use Rattle.std.specs.Prelude.{Some}
-use Rattle.biphase.specs.declared.cell.TheConstants.{MAX_INTERVALS}
+use Rattle.limits.specs.declared.recording.TheConstants.{MAX_INTERVALS}
 use Rattle.interval_file.specs.Piece.{MayBeWhole}
 use Rattle.interval_file.specs.Decoding.{FitsBytes}
 use Rattle.interval_engine.specs.KeptAlong.{FitsBehind, Stands}

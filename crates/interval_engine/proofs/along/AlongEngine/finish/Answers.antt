@@ -4,7 +4,7 @@ use Rattle.interval_file.specs.Decoding.{fault_at_end}
 use Rattle.interval_file.specs.Recording.{recording_of}
 use Rattle.tc_command.specs.declared.input_fault.InputFault.TheVariants.{Intervals}
 use Rattle.interval_engine.specs.KeptAlong.{printed_well}
-use Rattle.tc_io.specs.KeptVerdict.{good_too}
+use Rattle.tc_io.specs.VerdictLemmas.{good_too}
 use Rattle.tc_command.specs.KeptWorks.{if_err, on_ok}
 use Rattle.interval_engine.proofs.AtTheEnd.{ends_with, last_refused, last_taken}
 use Rattle.interval_engine.proofs.PassedOn.{only_a_push, refusal_is_no_pull}

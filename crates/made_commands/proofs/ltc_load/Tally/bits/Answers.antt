@@ -6,7 +6,7 @@ use Rattle.direction_reader.specs.Played.{low_bits}
 use Rattle.made_commands.specs.declared.chance.Chance.{Chance}
 use Rattle.made_commands.specs.KeptLoad.{HasRead}
 use Rattle.made_commands.specs.Load.{behind, cells_by}
-use Rattle.made_commands.proofs.MadeInPieces.{low_bits-more}
+use Rattle.direction_reader.specs.PlayedLemmas.{low_bits-more}
 use Rattle.made_commands.proofs.ltc_load.Tally.bits.Goals as goal
 
 -- one bit more

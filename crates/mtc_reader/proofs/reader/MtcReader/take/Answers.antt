@@ -1,6 +1,7 @@
 use Rattle.std.proofs.Common.{◌+◌, [], sym, ap, subst, ◌∙◌, append-nil, arith}
 use Rattle.mtc_reader.specs.declared.reader.MtcReader.{MtcReader}
-use Rattle.mtc_reader.proofs.PieceByPiece.{behind_passed, nothing_yet, no_event, passes_none, passes_rest, within_rest, Passes}
+use Rattle.mtc_reader.proofs.PieceByPiece.{behind_passed, nothing_yet, no_event, passes_none, passes_rest, Passes}
+use Rattle.lemmas.specs.Lists.{within_rest}
 use Rattle.mtc_reader.proofs.reader.MtcReader.take.Goals as goal
 
 -- no window was taken
@@ -41,7 +42,8 @@ bytes-preserved c =
     record {
       within = within_rest (c.bytes.at + c.passed-at.result) c.next-count.result.0 c.args.bytes.now passed e.most;
       count = omega (arith, e.count, p.count, i.count);
-      passes = passes_none c.args.self.now c.next-count.new.self _ event (no_event event (sym c.is_some.ensures ∙ c.if-is_some.false)) gives;
+      passes = passes_none c.args.self.now c.next-count.new.self _ event
+          (no_event event (sym c.is_some.ensures ∙ c.if-is_some.false)) gives;
     }
 
 -- the window and its event

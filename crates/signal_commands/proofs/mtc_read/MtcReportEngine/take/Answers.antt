@@ -5,7 +5,7 @@ use Rattle.mtc_reader.specs.Texts.{event_line}
 use Rattle.signal_commands.specs.declared.mtc_read.MtcReport.{MtcReport}
 use Rattle.signal_commands.specs.declared.mtc_read.TheConstants.{MAX_BYTES}
 use Rattle.signal_commands.specs.MtcRead.{event_lines}
-use Rattle.tc_command.specs.KeptWorks.{through}
+use Rattle.lemmas.specs.Results.{through}
 use Rattle.signal_commands.proofs.MidiGrows.{grown, grown_part, none_counted, one_counted}
 use Rattle.signal_commands.proofs.MidiLimit.{is_past, lines_at_limit}
 use Rattle.signal_commands.proofs.mtc_read.MtcReportEngine.take.Goals as goal

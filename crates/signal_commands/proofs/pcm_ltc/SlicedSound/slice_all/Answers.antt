@@ -2,7 +2,9 @@ use Rattle.std.proofs.Common.{◌-◌, ◌++◌, List, ℕ, take, drop, length, 
 use Rattle.std.proofs.lemmas.List.{length-take}
 use Rattle.signal_commands.specs.KeptSlices.{Slices}
 use Rattle.signal_commands.specs.PcmLtc.{along_samples, pace_for}
-use Rattle.tc_command.specs.KeptWorks.{Works, cut_at, cut_more, stops_on, through, within_rest, works_on}
+use Rattle.tc_command.specs.KeptWorks.{Works, stops_on, works_on}
+use Rattle.lemmas.specs.Results.{through}
+use Rattle.lemmas.specs.Lists.{cut_at, cut_more, within_rest}
 use Rattle.tc_command.specs.Stops.{IsStop, Stops}
 use Rattle.signal_commands.proofs.NothingYet.{works_nothing}
 use Rattle.signal_commands.proofs.pcm_ltc.SlicedSound.slice_all.Goals as goal
@@ -36,7 +38,7 @@ runs-preserved g c =
     let n = c.in_ok-at.field-0 in
     let bytes = c.args.bytes.now in
     let inside = within_rest c.runs.at n bytes i.within e.count.1 in
-    let cut = cut_more c.runs.at n bytes i.within inside in
+    let cut = cut_more c.runs.at n bytes in
     record {
       within = inside;
       some = λ one. omega (arith, e.count.0);

@@ -2,7 +2,7 @@ use Rattle.std.proofs.Common.{◌+◌, ◌/◌, ◌≤◌, take, length, sym, ap
 use Rattle.std.specs.Prelude.{IfSome}
 use Rattle.pcm_front.specs.Distance.{IsInterval}
 use Rattle.pcm_front.specs.Settings.{Settings}
-use Rattle.tc_command.specs.KeptWorks.{through}
+use Rattle.lemmas.specs.Results.{through}
 use Rattle.signal_commands.proofs.SlicedOn.{grown, grown_part, grows, still_going, ticks_fit, two_at_least, two_each}
 use Rattle.signal_commands.proofs.pcm_ltc.SlicedSound.slice_run.Goals as goal
 

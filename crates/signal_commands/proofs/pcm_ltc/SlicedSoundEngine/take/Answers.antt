@@ -7,7 +7,8 @@ use Rattle.std.specs.Option.{option_to_list}
 use Rattle.signal_commands.specs.KeptSlices.{Slices}
 use Rattle.signal_commands.specs.PcmLtc.{along_samples}
 use Rattle.tc_command.specs.Stops.{Stops}
-use Rattle.tc_command.specs.KeptWorks.{first_only, through}
+use Rattle.lemmas.specs.Results.{through}
+use Rattle.lemmas.specs.Lists.{first_only}
 use Rattle.signal_commands.proofs.SlicedOn.{any_half, err_to, falls, falls_by_half, half_first}
 use Rattle.signal_commands.proofs.SlicedOn.{half_then, no_half, ok_to, with_three}
 use Rattle.signal_commands.proofs.pcm_ltc.SlicedSoundEngine.take.Goals as goal

@@ -2,7 +2,7 @@ use Rattle.std.proofs.Common.{◌++◌, ◌∙◌, [], List, ℕ, refl, ap, ap�
 use Rattle.std.proofs.KnownBytes.{Appends-nil}
 use Rattle.signal_commands.specs.VitcRead.{field_report, last_field_line}
 use Rattle.tc_command.specs.KeptWorks.{err_both, if_err, on_ok}
-use Rattle.tc_io.specs.KeptVerdict.{good_too}
+use Rattle.tc_io.specs.VerdictLemmas.{good_too}
 use Rattle.signal_commands.proofs.FieldsGrow.{ends_badly, ends_well, last_line_is}
 use Rattle.signal_commands.proofs.vitc_read.FieldReportEngine.finish.Goals as goal
 use Rattle.tc_command.specs.declared.input_fault.InputFault.TheVariants.{Lines}

@@ -3,7 +3,7 @@ use Rattle.std.proofs.KnownBytes.{Appends-nil}
 use Rattle.std.proofs.lemmas.List.{take-append-drop}
 use Rattle.line_file.specs.Texts.{field_line}
 use Rattle.signal_commands.specs.declared.vitc_read.FieldReport.{FieldReport}
-use Rattle.tc_command.specs.KeptWorks.{through}
+use Rattle.lemmas.specs.Results.{through}
 use Rattle.signal_commands.proofs.FieldsGrow.{fits_more, less_to_come, none_more, one_more_part, printed}
 use Rattle.signal_commands.proofs.vitc_read.FieldReportEngine.take.Goals as goal
 use Rattle.tc_io.specs.Verdict.{verdict_as}

@@ -1,6 +1,6 @@
 use Rattle.std.proofs.Common.{take, refl, ap, ◌∙◌}
 use Rattle.signal_commands.specs.KeptTrack.{pace_in}
-use Rattle.tc_command.specs.KeptWorks.{through}
+use Rattle.lemmas.specs.Results.{through}
 use Rattle.signal_commands.proofs.SlicedTracks.{Slices, decodes_more, slice_stop, sliced_on, ticks_fit}
 use Rattle.signal_commands.proofs.wav_ltc.SlicedTrack.take_blocks.Goals as goal
 

@@ -1,7 +1,7 @@
 use Rattle.std.specs.Int.{w16}
 use Rattle.std.proofs.Common.{FitsSigned, rules, to_z-of_z, [], ◌∷◌, take, refl, ap, ◌∙◌}
 use Rattle.signal_commands.specs.KeptTrack.{pace_in}
-use Rattle.tc_command.specs.KeptWorks.{through}
+use Rattle.lemmas.specs.Results.{through}
 use Rattle.signal_commands.proofs.SlicedTracks.{Slices, begun, decodes_more, fault_stop, gathered_stop, limit_stop}
 use Rattle.signal_commands.proofs.SlicedTracks.{passed_on, slice_stop, sliced_on, ticks_fit}
 use Rattle.signal_commands.proofs.wav_ltc.SlicedTrack.take_piece.Goals as goal

@@ -1,0 +1,130 @@
+-- The candidates of a window bear the tick at its end, and windows end one after another.
+use Rattle.std.proofs.Common.{◌≡◌, ◌<◌, ◌≤◌, ◌⊎◌, ℕ, zero, suc, ◌+◌, ◌-◌, Bool, true, false, List, [], ◌∷◌, ◌++◌, length}
+use Rattle.std.proofs.Common.{take, drop, map, sum, All, Option, Some, None, inl, inr}
+use Rattle.std.proofs.Common.{ap, sym, ◌∙◌, arith, refl, subst}
+use Rattle.std.proofs.lemmas.List.{take_all}
+use Rattle.std.proofs.lemmas.List.Elements.{All-nil, All-cons, All-append, All-head, All-tail}
+use Rattle.biphase.specs.declared.cell.Cell.{Cell}
+use Rattle.ltc_word.specs.Reading.{fault_in}
+use Rattle.ltc_word.specs.Reversal.{reversed_bits, ends_in_sync}
+use Rattle.tc_address.specs.declared.direction.Direction.{Direction}
+use Rattle.tc_address.specs.declared.direction.Direction.TheVariants.{Forward, Backward}
+use Rattle.tc_address.specs.declared.system.System.{System}
+use Rattle.tc_bits.specs.declared.fault.FieldFault.{FieldFault}
+use Rattle.direction_reader.specs.declared.event.Event.{Event}
+use Rattle.direction_reader.specs.declared.event.Event.TheVariants.{Word, Refused, Lost}
+use Rattle.direction_reader.specs.declared.firm_event.FirmEvent.{FirmEvent}
+use Rattle.direction_reader.specs.Candidate.{event_of, candidate_in}
+use Rattle.direction_reader.specs.Events.{tick_of}
+use Rattle.direction_reader.specs.Firm.{is_firm, judged, candidate_at, firm_candidate_at, firm_events_at, told_tick}
+use Rattle.direction_reader.specs.FirmStandsFor.{spans}
+use Rattle.direction_reader.specs.FirmTold.{end_of_window}
+use Rattle.direction_reader.specs.ListEvents.{bits_in, duration}
+use Rattle.direction_reader.proofs.AsLists.{by_fault}
+use Rattle.direction_reader.proofs.FirmJudges.{event_by}
+use Rattle.direction_reader.proofs.WindowsFromCells.{duration_of}
+
+-- ---- the tick of an event
+
+pub judged_tick : (firm : Bool) (event : Event) → told_tick (judged firm event) ≡ tick_of event
+judged_tick true (Word d w t n) = refl
+judged_tick false (Word d w t n) = refl
+judged_tick firm (Refused d f t) = refl
+judged_tick firm (Lost p t) = refl
+
+tick_by : (system : System) (d : Direction) (bits end n : ℕ) (o : Option FieldFault)
+    → tick_of (event_by system d bits end n o) ≡ end
+tick_by system d bits end n None = refl
+tick_by system d bits end n (Some f) = refl
+
+event_tick : (system : System) (d : Direction) (bits end n : ℕ) → tick_of (event_of system d bits end n) ≡ end
+event_tick system d bits end n =
+    let o = fault_in system bits in
+    subst (λ (e : Event). tick_of e ≡ end)
+    (by_fault system d bits end n (event_by system d bits end n o) o refl refl) (tick_by system d bits end n o)
+
+abbrev EndsAt : ℕ → Event → Type 0
+EndsAt end event = tick_of event ≡ end
+
+-- bits are one candidate, or none
+pub one_at_most : (system : System) (d : Direction) (bits end n : ℕ) (sync : Bool) → ends_in_sync bits ≡ sync
+    → (candidate_in system d bits end n ≡ []) ⊎ ((e : Event) × (candidate_in system d bits end n ≡ e ∷ []))
+one_at_most system d bits end n true is = inr (event_of system d bits end n, rw is refl)
+one_at_most system d bits end n false is = inl (rw is refl)
+
+found_ticks : (system : System) (d : Direction) (bits end n : ℕ) (sync : Bool) → ends_in_sync bits ≡ sync
+    → All (EndsAt end) (candidate_in system d bits end n)
+found_ticks system d bits end n true is =
+    rw is (All-cons (EndsAt end) (event_of system d bits end n) [] (event_tick system d bits end n)
+    (All-nil (EndsAt end)))
+found_ticks system d bits end n false is = rw is (All-nil (EndsAt end))
+
+pub candidate_ticks : (system : System) (tick : ℕ) (cells : List Cell) (k : ℕ) (d : Direction)
+    → All (λ (e : Event). tick_of e ≡ end_of_window tick cells k) (candidate_at system tick cells k d)
+candidate_ticks system tick cells k Forward =
+    let window = take 80 (drop k cells) in
+    found_ticks system Forward (bits_in window) (end_of_window tick cells k) (duration window)
+    (ends_in_sync (bits_in window)) refl
+candidate_ticks system tick cells k Backward =
+    let window = take 80 (drop k cells) in
+    let bits = reversed_bits (bits_in window) in
+    found_ticks system Backward bits (end_of_window tick cells k) (duration window) (ends_in_sync bits) refl
+
+-- the first candidate of a window
+pub first_tick : (system : System) (tick : ℕ) (cells : List Cell) (k : ℕ) (d : Direction) (e : Event) (more : List Event)
+    → candidate_at system tick cells k d ≡ e ∷ more → tick_of e ≡ end_of_window tick cells k
+first_tick system tick cells k d e more is =
+    let end = end_of_window tick cells k in
+    All-head (EndsAt end) e more
+    (subst (λ (es : List Event). All (EndsAt end) es) is (candidate_ticks system tick cells k d))
+
+-- ---- windows from a tick on
+
+-- it is told of that tick or later
+abbrev pub IsFrom : ℕ → FirmEvent → Type 0
+IsFrom until event = until ≤ told_tick event
+
+all_judged : (until end : ℕ) (firm : Bool) (es : List Event) → until ≤ end → All (EndsAt end) es
+    → All (IsFrom until) (map (judged firm) es)
+all_judged until end firm [] from is = All-nil (IsFrom until)
+all_judged until end firm (e ∷ es) from is =
+    let same : tick_of e ≡ end = All-head (EndsAt end) e es is in
+    let told = judged_tick firm e in
+    All-cons (IsFrom until) (judged firm e) (map (judged firm) es) (omega (arith, same, told, from))
+    (all_judged until end firm es from (All-tail (EndsAt end) e es is))
+
+pub candidate_from : (system : System) (tick : ℕ) (cells : List Cell) (k until : ℕ) (d : Direction)
+    → until ≤ end_of_window tick cells k → All (IsFrom until) (firm_candidate_at system tick cells k d)
+candidate_from system tick cells k until d from =
+    all_judged until (end_of_window tick cells k) (is_firm d cells k) (candidate_at system tick cells k d) from
+    (candidate_ticks system tick cells k d)
+
+window_from : (system : System) (tick : ℕ) (cells : List Cell) (k until : ℕ) → until ≤ end_of_window tick cells k
+    → All (IsFrom until) (firm_events_at system tick cells k)
+unfolding firm_events_at
+window_from system tick cells k until from =
+    All-append (IsFrom until) (firm_candidate_at system tick cells k Forward)
+    (firm_candidate_at system tick cells k Backward) (candidate_from system tick cells k until Forward from)
+    (candidate_from system tick cells k until Backward from)
+
+-- a front of more cells lasts as long or longer
+pub front_lasts : (cells : List Cell) (a b : ℕ) → a ≤ b → duration (take a cells) ≤ duration (take b cells)
+front_lasts [] a b less =
+    let none : List Cell = [] in
+    let one : take a none ≡ none = take_all a none (omega arith) in
+    let two : take b none ≡ none = take_all b none (omega arith) in
+    rw (one, two) (omega arith)
+front_lasts (c ∷ cells) zero b less = omega arith
+front_lasts (c ∷ cells) (suc a) zero less = absurd (omega arith)
+front_lasts (c ∷ cells) (suc a) (suc b) less =
+    omega (arith, duration_of c (take a cells), duration_of c (take b cells), front_lasts cells a b (omega arith))
+
+-- so windows from a place on end no sooner than the first of them
+pub spans_from : (system : System) (tick : ℕ) (cells : List Cell) (a n until : ℕ) → until ≤ end_of_window tick cells a
+    → All (IsFrom until) (spans system tick cells a n)
+spans_from system tick cells a zero until from = All-nil (IsFrom until)
+spans_from system tick cells a (suc n) until from =
+    let longer = front_lasts cells (a + 80) (a + 1 + 80) (omega arith) in
+    All-append (IsFrom until) (firm_events_at system tick cells a) (spans system tick cells (a + 1) n)
+    (window_from system tick cells a until from)
+    (spans_from system tick cells (a + 1) n until (omega (arith, from, longer)))
