@@ -91,9 +91,12 @@ flown flight made has f next sink after choice header intervals written x own mo
         wheel = wheel;
         sent = sent.0;
         are = ap (λ (l : List ℕ). l ++ sent.1.0) s.are ∙ sym sent.1.1;
-        heard = counts.heard ∙ ap (λ (n : ℕ). n + count_by is_heard more) s.heard ∙ sym (count_by-append is_heard s.given more);
-        invented = counts.invented ∙ ap (λ (n : ℕ). n + count_by is_invented more) s.invented ∙ sym (count_by-append is_invented s.given more);
-        gone = counts.gone ∙ ap (λ (n : ℕ). n + count_by is_gone more) s.gone ∙ sym (count_by-append is_gone s.given more);
+        heard = counts.heard ∙ ap (λ (n : ℕ). n + count_by is_heard more) s.heard
+            ∙ sym (count_by-append is_heard s.given more);
+        invented = counts.invented ∙ ap (λ (n : ℕ). n + count_by is_invented more) s.invented
+            ∙ sym (count_by-append is_invented s.given more);
+        gone = counts.gone ∙ ap (λ (n : ℕ). n + count_by is_gone more) s.gone
+            ∙ sym (count_by-append is_gone s.given more);
       },
     )
 

@@ -58,7 +58,8 @@ label_of system (Gone tick) is = tt
 
 have_labels : (system : System) (fs : List Frame) → AreFramesOf system fs → (i : ℕ) (frame : Frame) → slice_get fs i ≡ Some frame → HasLabel frame
 have_labels system [] are i frame at = absurd (cc)
-have_labels system (f ∷ fs) are zero frame at = subst (λ (g : Frame). HasLabel g) (same_Some f frame at) (label_of system f are.0)
+have_labels system (f ∷ fs) are zero frame at = subst (λ (g : Frame). HasLabel g) (same_Some f frame at)
+    (label_of system f are.0)
 have_labels system (f ∷ fs) are (suc i) frame at = have_labels system fs are.1 i frame at
 
 -- ---- the first of them

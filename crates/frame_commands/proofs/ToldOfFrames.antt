@@ -6,9 +6,9 @@ use Rattle.tc_job.specs.ChaseRun.{Chasing}
 use Rattle.tc_job.specs.Jam.{Jamming}
 use Rattle.tc_job.specs.declared.flight.Flight.{Flight}
 use Rattle.tc_command.specs.Command.{IsCommand}
-use Rattle.tc_command.specs.KeptTold.{meaning_is_told}
+use Rattle.tc_command.specs.KeptTold.{meaning_is_lawful}
 use Rattle.tc_command.specs.Meaning.{Meaning}
-use Rattle.tc_command.specs.Told.{IsTold}
+use Rattle.tc_command.specs.Told.{IsLawful, IsTold}
 use Rattle.interval_engine.specs.Along.{along_intervals}
 use Rattle.interval_engine.specs.KeptCommand.{PrintsInOrder, RecordingsGrow, along_is_command, never_spent}
 use Rattle.frame_commands.specs.KeptFrames.{AddsInOrder}
@@ -39,42 +39,57 @@ unlimited flight made few input =
     never_spent (along_frames flight made)
     (λ header intervals (spent : IsFlightSpent flight made header intervals). few _ spent.too_many) (recording_of input)
 
-pub fly_is_told : AlongLaws → AddsInOrder lines_of_frames → FramesLaws → (flight : Flight) → IsTold (told_ltc_fly flight)
-fly_is_told laws adds marked flight = record {
+pub fly_is_lawful : AlongLaws → AddsInOrder lines_of_frames → (flight : Flight) → IsLawful (told_ltc_fly flight)
+fly_is_lawful laws adds flight = record {
   command = command laws flight lines_of_frames adds;
-  kept = λ pulled written are input output. shows_the_frames marked flight pulled written output;
-  pinned = λ yes. one_flight laws.one_list flight;
+  pinned = one_flight laws.one_list flight;
   unlimited = λ none. unlimited flight lines_of_frames (λ frames many. many);
 }
 
-pub spans_are_told : AlongLaws → AddsInOrder lines_of_spans → SpansLaws → (flight : Flight)
-    → IsTold (told_ltc_spans flight)
-spans_are_told laws adds shared flight = record {
+pub fly_is_told : FramesLaws → (flight : Flight) → IsLawful (told_ltc_fly flight) → IsTold (told_ltc_fly flight)
+fly_is_told marked flight lawful = record {
+  lawful = lawful;
+  kept = λ pulled written are input output. shows_the_frames marked flight pulled written output;
+}
+
+pub spans_are_lawful : AlongLaws → AddsInOrder lines_of_spans → (flight : Flight) → IsLawful (told_ltc_spans flight)
+spans_are_lawful laws adds flight = record {
   command = command laws flight lines_of_spans adds;
-  kept = λ pulled written are input output. shows_the_spans shared flight pulled written output;
-  pinned = λ yes. one_tape laws.one_list flight;
+  pinned = one_tape laws.one_list flight;
   unlimited = λ none. unlimited flight lines_of_spans (λ frames many. many);
 }
 
-pub messages_are_told : AlongLaws → AddsInOrder messages_of_frames → (flight : Flight) → IsTold (told_ltc_mtc flight)
-messages_are_told laws adds flight =
-    meaning_is_told (along_intervals (along_frames flight messages_of_frames)) (command laws flight messages_of_frames adds)
-    (unlimited flight messages_of_frames (λ frames many. many))
+pub spans_are_told : SpansLaws → (flight : Flight) → IsLawful (told_ltc_spans flight)
+    → IsTold (told_ltc_spans flight)
+spans_are_told shared flight lawful = record {
+  lawful = lawful;
+  kept = λ pulled written are input output. shows_the_spans shared flight pulled written output;
+}
 
-pub copy_is_told : AlongLaws → (j : Jamming) → AddsInOrder (file_of_frames j) → CleansTheInput j
-    → IsTold (told_ltc_jam j)
-copy_is_told laws j adds cleans = record {
+pub messages_are_lawful : AlongLaws → AddsInOrder messages_of_frames → (flight : Flight)
+    → IsLawful (told_ltc_mtc flight)
+messages_are_lawful laws adds flight =
+    meaning_is_lawful (along_intervals (along_frames flight messages_of_frames))
+    (command laws flight messages_of_frames adds) (unlimited flight messages_of_frames (λ frames many. many))
+
+pub copy_is_lawful : AlongLaws → (j : Jamming) → AddsInOrder (file_of_frames j) → IsLawful (told_ltc_jam j)
+copy_is_lawful laws j adds = record {
   command = command laws j.flight (file_of_frames j) adds;
-  kept = λ pulled written are input output. cleans pulled written output;
-  pinned = λ yes pulled. one_copy laws.one_list j (recording_of pulled);
+  pinned = λ pulled. one_copy laws.one_list j (recording_of pulled);
   unlimited = λ none. unlimited j.flight (file_of_frames j) (λ frames many. many);
 }
 
-pub trace_is_told : AlongLaws → (c : Chasing) → AddsInOrder (lines_of_steps c) → ChasesTheInput c
-    → IsTold (told_ltc_chase c)
-trace_is_told laws c adds follows = record {
+pub copy_is_told : (j : Jamming) → IsLawful (told_ltc_jam j) → CleansTheInput j → IsTold (told_ltc_jam j)
+copy_is_told j lawful cleans =
+    record { lawful = lawful; kept = λ pulled written are input output. cleans pulled written output }
+
+pub trace_is_lawful : AlongLaws → (c : Chasing) → AddsInOrder (lines_of_steps c) → IsLawful (told_ltc_chase c)
+trace_is_lawful laws c adds = record {
   command = command laws c.flight (lines_of_steps c) adds;
-  kept = λ pulled written are input output. follows pulled written output;
-  pinned = λ yes pulled. one_trace laws.one_list c (recording_of pulled);
+  pinned = λ pulled. one_trace laws.one_list c (recording_of pulled);
   unlimited = λ none. absurd cc;
 }
+
+pub trace_is_told : (c : Chasing) → IsLawful (told_ltc_chase c) → ChasesTheInput c → IsTold (told_ltc_chase c)
+trace_is_told c lawful follows =
+    record { lawful = lawful; kept = λ pulled written are input output. follows pulled written output }

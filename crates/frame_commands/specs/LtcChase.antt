@@ -89,6 +89,5 @@ abbrev pub told_ltc_chase : Chasing → Told
 told_ltc_chase c = record {
   meaning = along_intervals (chased_recording c);
   promise = λ pulled. FollowsTheCode c (recording_of pulled);
-  is_pinned = true;
   has_own_limit = true;
 }

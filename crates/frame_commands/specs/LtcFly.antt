@@ -50,6 +50,5 @@ abbrev pub told_ltc_fly : Flight → Told
 told_ltc_fly flight = record {
   meaning = along_intervals (flown_recording flight);
   promise = ShowsTheFrames flight;
-  is_pinned = true;
   has_own_limit = false;
 }

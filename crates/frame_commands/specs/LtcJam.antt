@@ -57,6 +57,5 @@ abbrev pub told_ltc_jam : Jamming → Told
 told_ltc_jam j = record {
   meaning = along_intervals (clean_recording j);
   promise = λ pulled. IsClean j (recording_of pulled);
-  is_pinned = true;
   has_own_limit = false;
 }

@@ -58,6 +58,5 @@ abbrev pub told_ltc_spans : Flight → Told
 told_ltc_spans flight = record {
   meaning = along_intervals (spanned_recording flight);
   promise = ShowsTheSpans flight;
-  is_pinned = true;
   has_own_limit = false;
 }

@@ -4,7 +4,8 @@ ghost use Rattle.std.specs.Prelude.{◌≡◌, ◌≤◌, ◌+◌, ◌*◌, ◌+
 ghost use Rattle.arrayvec.specs.ArrayVec.{array_vec_len};
 ghost use Rattle.interval_file.specs.declared.header.FileVersion.TheVariants.{One};
 ghost use Rattle.interval_file.specs.Grammar.{intervals_bytes};
-ghost use Rattle.tc_command.specs.Told.{IsTold, WorksAsTold};
+ghost use Rattle.tc_job.specs.Jam.{Jamming};
+ghost use Rattle.tc_command.specs.Told.{IsLawful, IsTold, WorksAsTold};
 ghost use Rattle.frame_commands.specs.LtcJam.{told_ltc_jam};
 
 use crate::flight::{FlightTo, FrameReader};
@@ -36,12 +37,19 @@ pub fn jam_sync<S: Source, K: Sink>(jam: Jam, source: &mut S, out: &mut K) -> Re
 fn a_copy_is_told(jam: Jam)
     ensures { IsTold (told_ltc_jam jam) }
 {
+    copies_are_lawful();
+    what_is_jammed_is_read();
+    let _cell = jam.cell();
+}
+
+/// What is told of `ltc-jam` is lawful.
+pub fn copies_are_lawful()
+    ensures { (jam : Jamming) → IsLawful (told_ltc_jam jam) }
+{
     recordings_grow();
     what_is_made_of_frames_is_in_order();
     each_sink_of_frames_adds_in_order();
     a_list_has_one_list_of_events();
-    what_is_jammed_is_read();
-    let _cell = jam.cell();
 }
 
 /// A clean recording of frames, in the cells that it was told.

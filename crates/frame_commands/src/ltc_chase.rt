@@ -4,7 +4,8 @@ ghost use Rattle.std.specs.Prelude.{◌≡◌, ◌<◌, ◌+◌};
 ghost use Rattle.chase_script.specs.TraceText.{step_line};
 ghost use Rattle.code_chase.specs.CodeTrace.{next_line};
 ghost use Rattle.frame_commands.specs.KeptSteps.{stepped};
-ghost use Rattle.tc_command.specs.Told.{IsTold, WorksAsTold};
+ghost use Rattle.tc_job.specs.ChaseRun.{Chasing};
+ghost use Rattle.tc_command.specs.Told.{IsLawful, IsTold, WorksAsTold};
 ghost use Rattle.frame_commands.specs.LtcChase.{told_ltc_chase};
 
 use crate::flight::{FlightTo, FrameReader};
@@ -48,12 +49,19 @@ pub fn chase_code<S: Source, K: Sink>(
 fn a_trace_is_told(run: ChaseRun)
     ensures { IsTold (told_ltc_chase run) }
 {
+    traces_are_lawful();
+    what_is_chased_follows_the_code();
+    let _label = run.label();
+}
+
+/// What is told of `ltc-chase` is lawful.
+pub fn traces_are_lawful()
+    ensures { (run : Chasing) → IsLawful (told_ltc_chase run) }
+{
     recordings_grow();
     what_is_made_of_frames_is_in_order();
     each_sink_of_frames_adds_in_order();
     a_list_has_one_list_of_events();
-    what_is_chased_follows_the_code();
-    let _label = run.label();
 }
 
 /// The lines of the steps of a chase.

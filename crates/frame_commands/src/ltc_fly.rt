@@ -1,5 +1,5 @@
 //! What `ltc-fly` makes of frames: a line of each. Next: `report_text/src/frame.rt`.
-ghost use Rattle.tc_command.specs.Told.{IsTold, WorksAsTold};
+ghost use Rattle.tc_command.specs.Told.{IsLawful, IsTold, WorksAsTold};
 ghost use Rattle.frame_commands.specs.LtcFly.{told_ltc_fly};
 ghost use Rattle.tc_job.specs.declared.flight.Flight.{Flight};
 
@@ -35,11 +35,18 @@ pub fn fly_along<S: Source, K: Sink>(
 fn flown_frames_are_told()
     ensures { (flight : Flight) → IsTold (told_ltc_fly flight) }
 {
+    flown_frames_are_lawful();
+    invention_is_bounded_and_marked();
+}
+
+/// What is told of `ltc-fly` is lawful.
+pub fn flown_frames_are_lawful()
+    ensures { (flight : Flight) → IsLawful (told_ltc_fly flight) }
+{
     recordings_grow();
     what_is_made_of_frames_is_in_order();
     each_sink_of_frames_adds_in_order();
     a_list_has_one_list_of_events();
-    invention_is_bounded_and_marked();
 }
 
 /// The lines of frames. The choice is how the frames are had.

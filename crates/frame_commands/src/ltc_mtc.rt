@@ -1,5 +1,5 @@
 //! What `ltc-mtc` makes of frames: MIDI Time Code. Next: `quarter_frame/src/writer.rt`.
-ghost use Rattle.tc_command.specs.Told.{IsTold, WorksAsTold};
+ghost use Rattle.tc_command.specs.Told.{IsLawful, WorksAsTold};
 ghost use Rattle.frame_commands.specs.LtcMtc.{told_ltc_mtc};
 ghost use Rattle.tc_job.specs.declared.flight.Flight.{Flight};
 
@@ -25,13 +25,13 @@ pub fn send_time_code<S: Source, K: Sink>(
     ensures { WorksAsTold (told_ltc_mtc flight) S.left S.ends S.faults K.written K.faults source.old source.new
         out.old out.new result }
 {
-    messages_are_told();
+    messages_are_lawful();
     work_along::<FlightTo<FrameMessages>, S, K>(flight, source, out)
 }
 
-/// What is told of `ltc-mtc` holds.
-fn messages_are_told()
-    ensures { (flight : Flight) → IsTold (told_ltc_mtc flight) }
+/// What is told of `ltc-mtc` is lawful.
+pub fn messages_are_lawful()
+    ensures { (flight : Flight) → IsLawful (told_ltc_mtc flight) }
 {
     recordings_grow();
     what_is_made_of_frames_is_in_order();

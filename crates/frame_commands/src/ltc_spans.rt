@@ -6,7 +6,7 @@ ghost use Rattle.tape_spans.specs.StandsFor.{cut_lines, ended_lines, gap_lines};
 ghost use Rattle.tape_spans.specs.Tape.{FitsCut, FitsSpan};
 ghost use Rattle.tc_io.specs.Sink.{AppendsFront};
 ghost use Rattle.tc_command.specs.Causes.{HasOutCause};
-ghost use Rattle.tc_command.specs.Told.{IsTold, WorksAsTold};
+ghost use Rattle.tc_command.specs.Told.{IsLawful, IsTold, WorksAsTold};
 ghost use Rattle.frame_commands.specs.LtcSpans.{told_ltc_spans};
 ghost use Rattle.tc_job.specs.declared.flight.Flight.{Flight};
 
@@ -46,14 +46,21 @@ pub fn tell_spans<S: Source, K: Sink>(
 fn spans_are_told()
     ensures { (flight : Flight) → IsTold (told_ltc_spans flight) }
 {
-    recordings_grow();
-    what_is_made_of_frames_is_in_order();
-    each_sink_of_frames_adds_in_order();
-    a_list_has_one_list_of_events();
+    spans_are_lawful();
     invention_is_bounded_and_marked();
     a_frame_that_goes_on_is_the_next();
     spans_share_the_frames_out();
     the_open_span_has_the_last_line();
+}
+
+/// What is told of `ltc-spans` is lawful.
+pub fn spans_are_lawful()
+    ensures { (flight : Flight) → IsLawful (told_ltc_spans flight) }
+{
+    recordings_grow();
+    what_is_made_of_frames_is_in_order();
+    each_sink_of_frames_adds_in_order();
+    a_list_has_one_list_of_events();
 }
 
 /// The lines of spans, which say the speed at the header's tick rate and system.

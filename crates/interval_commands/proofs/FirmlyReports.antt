@@ -15,15 +15,18 @@ use Rattle.interval_engine.specs.Along.{IsWholeOf}
 use Rattle.interval_engine.specs.KeptBehind.{IsWholeBehind}
 use Rattle.interval_engine.specs.KeptCommand.{PrintsInOrder, RecordingsGrow, along_is_command, never_spent}
 use Rattle.interval_engine.specs.KeptPinned.{one_behind, one_header}
-use Rattle.tc_command.specs.Told.{IsTold}
+use Rattle.tc_command.specs.Told.{IsLawful, IsTold}
 use Rattle.interval_commands.specs.FirmReport.{firm_last_line, firm_lines, firm_report}
 use Rattle.interval_commands.specs.FirmTape.{FirmlyReportsTheTape, told_ltc_firm}
 use Rattle.interval_commands.proofs.ReportsTheTape.{TellTheTape}
 
+-- the events of a list under witnesses are one
+abbrev pub HaveOneFirmList : Type 0
+HaveOneFirmList = (system : System) (profile : Profile) (intervals : List ℕ) (events others : List FirmEvent)
+    → AreFirmEvents system profile intervals events → AreFirmEvents system profile intervals others → events ≡ others
+
 -- what the laws of events under witnesses say
 pub record FirmLaws : Type 0 where
-  pub one : (system : System) (profile : Profile) (intervals : List ℕ) (events others : List FirmEvent)
-      → AreFirmEvents system profile intervals events → AreFirmEvents system profile intervals others → events ≡ others
   pub judged : (system : System) (profile : Profile) (intervals : List ℕ) (events : List Event) (told : List FirmEvent)
       → AreEvents system profile intervals events → AreFirmEvents system profile intervals told
       → AllZip IsJudged events told
@@ -62,23 +65,29 @@ firmly_reports : FirmLaws → (profile : Profile) (bytes written : List ℕ)
     → IsWholeOf (firm_report profile) (recording_of bytes) written → FirmlyReportsTheTape profile bytes written
 firmly_reports laws profile bytes written output = behind laws profile bytes written _ refl output
 
-one_report : FirmLaws → (profile : Profile) (bytes a b : List ℕ) → FirmlyReportsTheTape profile bytes a
+one_report : HaveOneFirmList → (profile : Profile) (bytes a b : List ℕ) → FirmlyReportsTheTape profile bytes a
     → FirmlyReportsTheTape profile bytes b → a ≡ b
-one_report laws profile bytes a b p q =
+one_report one_list profile bytes a b p q =
     let list = (recording_of bytes).intervals in
     let one = p.whole in
     let two = q.whole in
     let header = one_header (recording_of bytes) p.header q.header p.begins q.begins in
     let events = one_behind (λ (h : IntervalHeader) (es : List FirmEvent). AreFirmEvents h.system profile list es)
-    (λ h. laws.one h.system profile list) p.header q.header one.events two.events header one.are_events two.are_events in
+    (λ h. one_list h.system profile list) p.header q.header one.events two.events header one.are_events two.are_events in
     one.are ∙ ap₂ (λ (h : IntervalHeader) (es : List FirmEvent). firm_lines h es ++ firm_last_line list es) header events
     ∙ sym two.are
 
-pub firm_report_is_told : RecordingsGrow → ((profile : Profile) → PrintsInOrder (firm_report profile)) → FirmLaws
-    → (profile : Profile) → IsTold (told_ltc_firm profile)
-firm_report_is_told grow prints laws profile = record {
-  command = along_is_command grow (firm_report profile) (prints profile);
+pub firm_report_is_told : FirmLaws → (profile : Profile) → IsLawful (told_ltc_firm profile)
+    → IsTold (told_ltc_firm profile)
+firm_report_is_told laws profile lawful = record {
+  lawful = lawful;
   kept = λ pulled written are input output. firmly_reports laws profile pulled written output;
-  pinned = λ yes. one_report laws profile;
+}
+
+pub firm_report_is_lawful : RecordingsGrow → ((profile : Profile) → PrintsInOrder (firm_report profile)) → HaveOneFirmList
+    → (profile : Profile) → IsLawful (told_ltc_firm profile)
+firm_report_is_lawful grow prints one_list profile = record {
+  command = along_is_command grow (firm_report profile) (prints profile);
+  pinned = one_report one_list profile;
   unlimited = λ none input. never_spent (firm_report profile) (λ header intervals spent. spent) (recording_of input);
 }

@@ -60,9 +60,12 @@ more_printed r next profile header intervals written x own old new s same takes 
       are_events = subst (λ (p : Profile). AreEvents header.system p (intervals ++ x ∷ []) all) keeps
           (subst (λ (y : System). AreEvents y (profile_of next.reader.tracker) (intervals ++ x ∷ []) all) system (law next.reader _ all reader));
       are = ap (λ (h : IntervalHeader). written ++ lines h (event_list own)) s.says ∙ lines_of_more header s.events (event_list own) written s.are;
-      words = prints.words ∙ ap (λ (n : ℕ). n + count_by is_word (event_list own)) s.words ∙ sym (count_by-append is_word s.events (event_list own));
-      refused = prints.refused ∙ ap (λ (n : ℕ). n + count_by is_refused (event_list own)) s.refused ∙ sym (count_by-append is_refused s.events (event_list own));
-      lost = prints.lost ∙ ap (λ (n : ℕ). n + count_by is_lost (event_list own)) s.lost ∙ sym (count_by-append is_lost s.events (event_list own));
+      words = prints.words ∙ ap (λ (n : ℕ). n + count_by is_word (event_list own)) s.words
+          ∙ sym (count_by-append is_word s.events (event_list own));
+      refused = prints.refused ∙ ap (λ (n : ℕ). n + count_by is_refused (event_list own)) s.refused
+          ∙ sym (count_by-append is_refused s.events (event_list own));
+      lost = prints.lost ∙ ap (λ (n : ℕ). n + count_by is_lost (event_list own)) s.lost
+          ∙ sym (count_by-append is_lost s.events (event_list own));
     }
 
 -- the part that is due with one interval more

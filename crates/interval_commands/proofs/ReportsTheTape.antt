@@ -16,7 +16,7 @@ use Rattle.interval_commands.specs.LtcRead.{last_line, lines}
 use Rattle.interval_commands.specs.Tape.{told_ltc_read}
 use Rattle.interval_engine.specs.KeptCommand.{PrintsInOrder, RecordingsGrow, along_is_command, never_spent}
 use Rattle.interval_engine.specs.KeptPinned.{one_behind, one_header}
-use Rattle.tc_command.specs.Told.{IsTold}
+use Rattle.tc_command.specs.Told.{IsLawful, IsTold}
 
 -- the events of a list tell the tape, find it again behind damage, and mirror it
 pub record TellTheTape : Type 0 where
@@ -64,11 +64,17 @@ one_report one_list profile bytes a b p q =
     (λ h. one_list h.system profile list) p.header q.header one.events two.events header one.are_events two.are_events in
     one.are ∙ ap₂ (λ (h : IntervalHeader) (es : List Event). lines h es ++ last_line list es) header events ∙ sym two.are
 
-pub report_is_told : RecordingsGrow → ((profile : Profile) → PrintsInOrder (report profile)) → TellTheTape → HaveOneList
-    → (profile : Profile) → IsTold (told_ltc_read profile)
-report_is_told grow prints tell one_list profile = record {
+pub report_is_lawful : RecordingsGrow → ((profile : Profile) → PrintsInOrder (report profile)) → HaveOneList
+    → (profile : Profile) → IsLawful (told_ltc_read profile)
+report_is_lawful grow prints one_list profile = record {
   command = along_is_command grow (report profile) (prints profile);
-  kept = λ pulled written are input output. reports_the_tape tell profile pulled written output;
-  pinned = λ yes. one_report one_list profile;
+  pinned = one_report one_list profile;
   unlimited = λ none input. never_spent (report profile) (λ header intervals spent. spent) (recording_of input);
+}
+
+pub report_is_told : TellTheTape → (profile : Profile) → IsLawful (told_ltc_read profile)
+    → IsTold (told_ltc_read profile)
+report_is_told tell profile lawful = record {
+  lawful = lawful;
+  kept = λ pulled written are input output. reports_the_tape tell profile pulled written output;
 }

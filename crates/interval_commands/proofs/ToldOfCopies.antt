@@ -5,9 +5,9 @@ use Rattle.interval_file.specs.declared.header.IntervalHeader.{IntervalHeader}
 use Rattle.interval_file.specs.Grammar.{IsFile, file_of}
 use Rattle.interval_file.specs.Recording.{recording_of}
 use Rattle.tc_io.specs.Bytes.{AreBytes}
-use Rattle.tc_command.specs.KeptTold.{meaning_is_told}
+use Rattle.tc_command.specs.KeptTold.{meaning_is_lawful}
 use Rattle.tc_command.specs.Meaning.{Meaning, IsInput}
-use Rattle.tc_command.specs.Told.{IsTold}
+use Rattle.tc_command.specs.Told.{IsLawful, IsTold}
 use Rattle.interval_engine.specs.Along.{along_intervals}
 use Rattle.interval_engine.specs.KeptCommand.{PrintsInOrder, RecordingsGrow, along_is_command, never_spent}
 use Rattle.interval_commands.specs.LtcConvert.{ConvertsTheFile, conversion, in_version, told_ltc_convert}
@@ -32,19 +32,25 @@ KeepTheRecording = (version : FileVersion) (bytes written : List ℕ) → AreByt
     → (header : IntervalHeader) × (intervals : List ℕ)
     × IsFile bytes header intervals × IsFile written (in_version version header) intervals
 
-pub conversion_is_told : RecordingsGrow → ((version : FileVersion) → PrintsInOrder (conversion version)) → KeepTheRecording
-    → AreOneFile → (version : FileVersion) → IsTold (told_ltc_convert version)
-conversion_is_told grow prints keeps one version = record {
+pub conversion_is_lawful : RecordingsGrow → ((version : FileVersion) → PrintsInOrder (conversion version)) → AreOneFile
+    → (version : FileVersion) → IsLawful (told_ltc_convert version)
+conversion_is_lawful grow prints one version = record {
   command = along_is_command grow (conversion version) (prints version);
-  kept = λ pulled written are input output.
-      let files = keeps version pulled written are input output in
-      record { header = files.0; intervals = files.1; from = files.2; to = files.3 };
-  pinned = λ yes. one_conversion one version;
+  pinned = one_conversion one version;
   unlimited = λ none input. never_spent (conversion version) (λ header intervals spent. spent) (recording_of input);
 }
 
-pub sound_is_told : RecordingsGrow → ((level : ℕ) → PrintsInOrder (made_sound level)) → (level : ℕ)
-    → IsTold (told_ltc_pcm level)
-sound_is_told grow prints level =
-    meaning_is_told (along_intervals (made_sound level)) (along_is_command grow (made_sound level) (prints level))
+pub conversion_is_told : KeepTheRecording → (version : FileVersion) → IsLawful (told_ltc_convert version)
+    → IsTold (told_ltc_convert version)
+conversion_is_told keeps version lawful = record {
+  lawful = lawful;
+  kept = λ pulled written are input output.
+      let files = keeps version pulled written are input output in
+      record { header = files.0; intervals = files.1; from = files.2; to = files.3 };
+}
+
+pub sound_is_lawful : RecordingsGrow → ((level : ℕ) → PrintsInOrder (made_sound level)) → (level : ℕ)
+    → IsLawful (told_ltc_pcm level)
+sound_is_lawful grow prints level =
+    meaning_is_lawful (along_intervals (made_sound level)) (along_is_command grow (made_sound level) (prints level))
     (λ input. never_spent (made_sound level) (λ header intervals spent. spent) (recording_of input))

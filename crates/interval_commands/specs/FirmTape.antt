@@ -37,6 +37,5 @@ abbrev pub told_ltc_firm : Profile → Told
 told_ltc_firm profile = record {
   meaning = along_intervals (firm_report profile);
   promise = FirmlyReportsTheTape profile;
-  is_pinned = true;
   has_own_limit = false;
 }

@@ -32,6 +32,5 @@ abbrev pub told_ltc_convert : FileVersion → Told
 told_ltc_convert version = record {
   meaning = along_intervals (conversion version);
   promise = ConvertsTheFile version;
-  is_pinned = true;
   has_own_limit = false;
 }

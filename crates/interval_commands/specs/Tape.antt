@@ -33,6 +33,5 @@ abbrev pub told_ltc_read : Profile → Told
 told_ltc_read profile = record {
   meaning = along_intervals (report profile);
   promise = ReportsTheTape profile;
-  is_pinned = true;
   has_own_limit = false;
 }

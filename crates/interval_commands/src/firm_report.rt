@@ -1,6 +1,6 @@
 //! The engine of `ltc-rough firm`: what is told of the intervals where each word is asked for a witness
 //! becomes lines. Next: `direction_reader/src/firm_reader.rt`, and with what it tells `counts`.
-ghost use Rattle.tc_command.specs.Told.{IsTold, WorksAsTold};
+ghost use Rattle.tc_command.specs.Told.{IsLawful, IsTold, WorksAsTold};
 ghost use Rattle.biphase.specs.declared.profile.Profile.{Profile};
 ghost use Rattle.interval_commands.specs.FirmTape.{told_ltc_firm};
 
@@ -41,9 +41,7 @@ pub fn read_firmly<S: Source, K: Sink>(
 fn a_firm_report_is_told()
     ensures { (profile : Profile) → IsTold (told_ltc_firm profile) }
 {
-    recordings_grow();
-    what_is_printed_is_in_order();
-    a_list_has_one_list_of_firm_events();
+    firm_reports_are_lawful();
     a_witness_changes_words_alone();
     each_word_that_is_told_has_its_witness();
     firm_events_tell_the_tape();
@@ -51,6 +49,15 @@ fn a_firm_report_is_told()
     events_tell_the_tape();
     events_find_the_tape_again();
     events_mirror_the_tape();
+}
+
+/// What is told of such a report is lawful.
+pub fn firm_reports_are_lawful()
+    ensures { (profile : Profile) → IsLawful (told_ltc_firm profile) }
+{
+    recordings_grow();
+    what_is_printed_is_in_order();
+    a_list_has_one_list_of_firm_events();
 }
 
 /// The report of a recording: its header, its reader, and how many events of each kind were printed.

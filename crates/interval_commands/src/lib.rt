@@ -24,7 +24,7 @@ mod ltc_convert;
 mod ltc_pcm;
 mod ltc_read;
 
-pub use firm_report::read_firmly;
-pub use ltc_convert::convert_recording;
-pub use ltc_pcm::sound_recording;
-pub use ltc_read::read_recording;
+pub use firm_report::{firm_reports_are_lawful, read_firmly};
+pub use ltc_convert::{conversions_are_lawful, convert_recording};
+pub use ltc_pcm::{made_sound_is_lawful, sound_recording};
+pub use ltc_read::{read_recording, reports_are_lawful};

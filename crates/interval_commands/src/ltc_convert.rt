@@ -1,7 +1,7 @@
 //! The engine of `ltc-convert`: each interval is spelled in the asked version. Next:
 //! `interval_file/src/piece.rt`, and then `tc_command/src/gathered.rt`.
 ghost use Rattle.interval_commands.specs.LtcConvert.{conversion};
-ghost use Rattle.tc_command.specs.Told.{IsTold, WorksAsTold};
+ghost use Rattle.tc_command.specs.Told.{IsLawful, IsTold, WorksAsTold};
 ghost use Rattle.interval_commands.specs.LtcConvert.{told_ltc_convert};
 ghost use Rattle.interval_file.specs.declared.header.FileVersion.{FileVersion};
 
@@ -31,9 +31,16 @@ pub fn convert_recording<S: Source, K: Sink>(
 fn a_conversion_is_told()
     ensures { (version : FileVersion) → IsTold (told_ltc_convert version) }
 {
+    conversions_are_lawful();
+    converting_keeps_the_recording();
+}
+
+/// What is told of `ltc-convert` is lawful.
+pub fn conversions_are_lawful()
+    ensures { (version : FileVersion) → IsLawful (told_ltc_convert version) }
+{
     recordings_grow();
     what_is_printed_is_in_order();
-    converting_keeps_the_recording();
     a_file_is_read_as_it_was_written();
 }
 

@@ -7,7 +7,7 @@ ghost use Rattle.pcm_front.specs.Side.{upward};
 ghost use Rattle.tc_io.specs.Sink.{AppendsFront};
 ghost use Rattle.tc_command.specs.Causes.{HasOutCause};
 ghost use Rattle.interval_commands.specs.LtcPcm.{made_sound};
-ghost use Rattle.tc_command.specs.Told.{IsTold, WorksAsTold};
+ghost use Rattle.tc_command.specs.Told.{IsLawful, WorksAsTold};
 ghost use Rattle.interval_commands.specs.LtcPcm.{told_ltc_pcm};
 
 use crate::laws::what_is_printed_is_in_order;
@@ -31,13 +31,13 @@ pub fn sound_recording<S: Source, K: Sink>(
     ensures { WorksAsTold (told_ltc_pcm level) S.left S.ends S.faults K.written K.faults source.old source.new
         out.old out.new result }
 {
-    made_sound_is_told();
+    made_sound_is_lawful();
     work_along::<MadeSound, S, K>(level, source, out)
 }
 
-/// What is told of `ltc-pcm` holds.
-fn made_sound_is_told()
-    ensures { (level : ℕ) → IsTold (told_ltc_pcm level) }
+/// What is told of `ltc-pcm` is lawful.
+pub fn made_sound_is_lawful()
+    ensures { (level : ℕ) → IsLawful (told_ltc_pcm level) }
 {
     recordings_grow();
     what_is_printed_is_in_order();

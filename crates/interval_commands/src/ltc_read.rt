@@ -16,7 +16,7 @@ ghost use Rattle.tc_io.specs.Source.{Rose};
 ghost use Rattle.tc_command.specs.Causes.{HasOutCause};
 ghost use Rattle.interval_commands.specs.LtcRead.{lines, report};
 ghost use Rattle.interval_commands.specs.KeptReport.{counted, all_counted, Feeds, FitLines, FitsReport, Prints, Stands};
-ghost use Rattle.tc_command.specs.Told.{IsTold, WorksAsTold};
+ghost use Rattle.tc_command.specs.Told.{IsLawful, IsTold, WorksAsTold};
 ghost use Rattle.interval_commands.specs.Tape.{told_ltc_read};
 ghost use Rattle.biphase.specs.declared.profile.Profile.{Profile};
 
@@ -54,12 +54,19 @@ pub fn read_recording<S: Source, K: Sink>(
 fn a_report_is_told()
     ensures { (profile : Profile) → IsTold (told_ltc_read profile) }
 {
-    recordings_grow();
-    what_is_printed_is_in_order();
-    a_list_has_one_list_of_events();
+    reports_are_lawful();
     events_tell_the_tape();
     events_find_the_tape_again();
     events_mirror_the_tape();
+}
+
+/// What is told of the reports is lawful.
+pub fn reports_are_lawful()
+    ensures { (profile : Profile) → IsLawful (told_ltc_read profile) }
+{
+    recordings_grow();
+    what_is_printed_is_in_order();
+    a_list_has_one_list_of_events();
 }
 
 /// The report of a recording: its header, its reader, and how many events of each kind were printed.

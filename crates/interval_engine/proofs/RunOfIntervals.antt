@@ -1,5 +1,7 @@
 -- A run of whole intervals within the limit, each looked at through a window of bytes.
 use Rattle.std.proofs.Common.{◌≡◌, ℕ, ◌+◌, ◌-◌, ◌<◌, ◌≤◌, List, [], ◌∷◌, ◌++◌, length, take, drop, Some, refl, sym, ◌∙◌, subst, arith}
+use Rattle.std.proofs.Common.{Result, Ok, Err}
+use Rattle.std.specs.Prelude.{fold}
 use Rattle.std.proofs.lemmas.Bool.{lt-ltb}
 use Rattle.std.proofs.lemmas.Grind.{common_steps}
 use Rattle.std.proofs.lemmas.List.{take-take}
@@ -9,9 +11,11 @@ use Rattle.std.specs.declared.option.Option.{Option}
 use Rattle.tc_io.specs.Sink.{AppendsFront}
 use Rattle.limits.specs.declared.recording.TheConstants.{MAX_INTERVALS}
 use Rattle.interval_file.specs.declared.fault.IntervalFileFault.{IntervalFileFault}
-use Rattle.interval_file.specs.declared.decoder.Taken.TheVariants.{Fault}
+use Rattle.interval_file.specs.declared.decoder.Taken.TheVariants.{Interval, Fault}
+use Rattle.interval_file.specs.declared.header.FileVersion.{FileVersion}
 use Rattle.interval_file.specs.declared.header.IntervalHeader.{IntervalHeader}
-use Rattle.interval_file.specs.Decoding.{ReadsWhatIsSaid}
+use Rattle.interval_file.specs.Decoding.{ReadsWhatIsSaid, IsBetween, decoding_of, with_byte, with_number}
+use Rattle.interval_file.specs.Next.{Makes}
 use Rattle.interval_file.specs.Progress.{Progress}
 use Rattle.tc_command.specs.declared.input_fault.InputFault.TheVariants.{Intervals}
 use Rattle.tc_command.specs.declared.stop.Stop.{Stop}
@@ -20,7 +24,8 @@ use Rattle.interval_engine.specs.Along.{Printing}
 use Rattle.interval_engine.specs.KeptBehind.{IsPartBehind}
 use Rattle.interval_engine.specs.KeptAlong.{FitsBehind, IntervalStops, IsHalt, Stands, TakesInterval, stop_at}
 use Rattle.lemmas.specs.Lists.{cut_more}
-use Rattle.interval_engine.proofs.AnItemMore.{Completes, Relation, a_fault, cut_some}
+use Rattle.tc_command.specs.KeptWorks.{After, Works, stops_on, works_on}
+use Rattle.interval_engine.proofs.AnItemMore.{Completes, Relation, a_fault, by_bad_number, by_number, cut_some}
 
 -- what stands first in a window of m bytes stands first in the rest
 in_window : (k n m : ℕ) (bytes : List ℕ) → k + m ≤ length bytes → n ≤ m
@@ -32,17 +37,65 @@ in_window k n m bytes within less =
 pub within_window : (k n m : ℕ) (bytes : List ℕ) → n ≤ length (take m (drop k bytes)) → n ≤ m
 within_window k n m bytes less = grind (arith, common_steps)
 
-pub cut_window : (k n m : ℕ) (bytes : List ℕ) → k + m ≤ length bytes → n ≤ m
+cut_window : (k n m : ℕ) (bytes : List ℕ) → k + m ≤ length bytes → n ≤ m
     → take k bytes ++ take n (take m (drop k bytes)) ≡ take (k + n) bytes
 cut_window k n m bytes within less =
     subst (λ (l : List ℕ). take k bytes ++ l ≡ take (k + n) bytes) (in_window k n m bytes within less)
     (cut_more k n bytes)
 
-pub cut_through : (k n m : ℕ) (bytes : List ℕ) → k + m ≤ length bytes → n ≤ m
+cut_through : (k n m : ℕ) (bytes : List ℕ) → k + m ≤ length bytes → n ≤ m
     → take k bytes ++ (take n (take m (drop k bytes)) ++ drop n (take (length bytes - k) (drop k bytes))) ≡ bytes
 cut_through k n m bytes within less =
     subst (λ (l : List ℕ). take k bytes ++ (l ++ drop n (take (length bytes - k) (drop k bytes))) ≡ bytes) (in_window k n m bytes within less)
     (cut_some k n bytes (omega (arith, within)))
+
+-- what stops in the next interval of a run stops behind the intervals before it, which were worked on
+pub stops_in_window : (is start mid : List ℕ → List ℕ → Type 0) (old between new : Option (List ℕ)) (k n m : ℕ)
+    (bytes : List ℕ) → k + m ≤ length bytes → n ≤ length (take m (drop k bytes))
+    → Works start mid old between (take k bytes)
+    → ((front output : List ℕ) → mid front output → After is between new
+    (front ++ (take n (take m (drop k bytes)) ++ drop n (take (length bytes - k) (drop k bytes)))) output)
+    → (front output : List ℕ) → start front output → After is old new (front ++ bytes) output
+stops_in_window is start mid old between new k n m bytes within less works stops front output stands =
+    let window = take n (take m (drop k bytes)) in
+    let rest = drop n (take (length bytes - k) (drop k bytes)) in
+    subst (λ (b : List ℕ). After is old new (front ++ b) output)
+    (cut_through k n m bytes within (within_window k n m bytes less))
+    (stops_on is start mid old between new (take k bytes) (window ++ rest) works stops front output stands)
+
+-- and so is the next interval worked on
+pub works_in_window : (start mid after : List ℕ → List ℕ → Type 0) (old between new : Option (List ℕ)) (k n m : ℕ)
+    (bytes : List ℕ) → k + m ≤ length bytes → n ≤ length (take m (drop k bytes))
+    → Works start mid old between (take k bytes) → Works mid after between new (take n (take m (drop k bytes)))
+    → Works start after old new (take (k + n) bytes)
+works_in_window start mid after old between new k n m bytes within less first second =
+    subst (λ (b : List ℕ). Works start after old new b) (cut_window k n m bytes within (within_window k n m bytes less))
+    (works_on start mid after old between new (take k bytes) (take n (take m (drop k bytes))) first second)
+
+-- what the bytes of an interval make of a decoder that stands before them, as it is said of the bytes before
+made_of : (decoder : Progress) (version : FileVersion) (place width : ℕ) (window front : List ℕ)
+    (result : Result ℕ IntervalFileFault)
+    → Makes version place window width result → IsBetween decoder → decoder.version ≡ version → place ≡ decoder.taken
+    → decoder ≡ (decoding_of front).progress
+    → fold with_byte (decoding_of front) (take width window) ≡ with_number (decoding_of front) width result
+made_of decoder version place width window front result makes between is at same =
+    makes (decoding_of front) (rw (← same) between) (rw (← same) is) (rw (← same) (sym at))
+
+pub an_interval_is_whole : ReadsWhatIsSaid → (decoder : Progress) (version : FileVersion) (place width x : ℕ)
+    (window front : List ℕ) → Makes version place window width (Ok x) → IsBetween decoder → decoder.version ≡ version
+    → place ≡ decoder.taken → decoder ≡ (decoding_of front).progress
+    → Completes front (take width window) (Interval x) (record decoder { taken = decoder.taken + width })
+an_interval_is_whole said decoder version place width x window front makes between is at same =
+    by_number said decoder front (take width window) width x same
+    (made_of decoder version place width window front (Ok x) makes between is at same)
+
+pub an_interval_is_bad : ReadsWhatIsSaid → (decoder : Progress) (version : FileVersion) (place width : ℕ)
+    (f : IntervalFileFault) (window front : List ℕ) → Makes version place window width (Err f) → IsBetween decoder
+    → decoder.version ≡ version → place ≡ decoder.taken → decoder ≡ (decoding_of front).progress
+    → Completes front (take width window) (Fault f) (record decoder { taken = decoder.taken + width; fault = Some f })
+an_interval_is_bad said decoder version place width f window front makes between is at same =
+    by_bad_number said decoder front (take width window) width f same
+    (made_of decoder version place width window front (Err f) makes between is at same)
 
 -- within the limit an interval out of range is refused
 pub a_refusal : ReadsWhatIsSaid → {B C : Type 0} (p : Printing) (stands : Relation B C)

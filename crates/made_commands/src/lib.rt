@@ -23,5 +23,6 @@ mod vitc_make;
 
 pub use about::{MANUAL, VERSION, tell_help, tell_version};
 pub use labels::{tell_label, tell_load, tell_number};
-pub use ltc_make::make_recording;
-pub use vitc_make::make_lines;
+pub use ltc_load::loads_are_lawful;
+pub use ltc_make::{make_recording, stripes_are_lawful};
+pub use vitc_make::{line_stripes_are_lawful, make_lines};

@@ -17,7 +17,8 @@ ghost use Rattle.made_commands.specs.KeptDivisors.{AreFactors};
 ghost use Rattle.made_commands.specs.KeptLoad.{FitsTally, HasRead, first_or, line_with, no_counts, total, with_event};
 ghost use Rattle.made_commands.specs.Load.{IsAllRead, IsChance, behind, cells_by, first_label, label_text, load_text};
 ghost use Rattle.made_commands.specs.Load.{load_word, told_ltc_load};
-ghost use Rattle.tc_command.specs.Told.{IsTold};
+ghost use Rattle.tc_job.specs.LoadRun.{Loading};
+ghost use Rattle.tc_command.specs.Told.{IsLawful, IsTold};
 
 use crate::chance::Chance;
 use crate::divisors::Divisors;
@@ -235,8 +236,14 @@ fn is_all_read(run: &LoadRun)
 pub(crate) fn a_load_is_told(run: &LoadRun)
     ensures { IsTold (told_ltc_load run.now) }
 {
+    loads_are_lawful();
     is_all_read(run);
 }
+
+/// What is told of `ltc-load` is lawful.
+pub fn loads_are_lawful()
+    ensures { (run : Loading) → IsLawful (told_ltc_load run) }
+{}
 
 /// The line of a run, whose words were made and read.
 pub(crate) fn load_text(run: &LoadRun) -> Text

@@ -8,7 +8,8 @@ ghost use Rattle.interval_file.specs.declared.header.FileVersion.TheVariants.{On
 ghost use Rattle.interval_file.specs.Grammar.{intervals_bytes};
 ghost use Rattle.made_commands.specs.KeptStriping.{cell_bytes, rest_of};
 ghost use Rattle.made_commands.specs.Made.{made};
-ghost use Rattle.tc_command.specs.Told.{IsTold, WorksAsTold};
+ghost use Rattle.tc_job.specs.Stripe.{Striping};
+ghost use Rattle.tc_command.specs.Told.{IsLawful, IsTold, WorksAsTold};
 ghost use Rattle.made_commands.specs.Made.{told_ltc_make};
 
 use crate::laws::what_is_made_is_read_whole;
@@ -41,9 +42,15 @@ pub fn make_recording<S: Source, K: Sink>(
 fn a_stripe_is_told(stripe: &Stripe)
     ensures { IsTold (told_ltc_make stripe.now) }
 {
+    stripes_are_lawful();
     what_is_made_is_read_whole();
     let _frames = stripe.frames();
 }
+
+/// What is told of `ltc-make` is lawful.
+pub fn stripes_are_lawful()
+    ensures { (stripe : Striping) → IsLawful (told_ltc_make stripe) }
+{}
 
 /// A recording that is still to be made.
 #[derive(Drop)]

@@ -12,7 +12,8 @@ ghost use Rattle.vitc_line.specs.Places.{HasLines};
 ghost use Rattle.vitc_line.specs.Spelled.{line_of};
 ghost use Rattle.vitc_reader.specs.Runs.{IsLineLength};
 ghost use Rattle.vitc_reader.specs.Written.{runs_in};
-ghost use Rattle.tc_command.specs.Told.{IsTold, WorksAsTold};
+ghost use Rattle.tc_job.specs.LineStripe.{LineStriping};
+ghost use Rattle.tc_command.specs.Told.{IsLawful, IsTold, WorksAsTold};
 ghost use Rattle.made_commands.specs.MadeLines.{told_vitc_make};
 
 use crate::laws::lines_that_are_made_are_read_back;
@@ -56,9 +57,15 @@ pub fn make_lines<S: Source, K: Sink>(
 fn a_line_stripe_is_told(stripe: &LineStripe)
     ensures { IsTold (told_vitc_make stripe.now) }
 {
+    line_stripes_are_lawful();
     lines_that_are_made_are_read_back();
     let _frames = stripe.frames();
 }
+
+/// What is told of `vitc-make` is lawful.
+pub fn line_stripes_are_lawful()
+    ensures { (stripe : LineStriping) → IsLawful (told_vitc_make stripe) }
+{}
 
 /// A line file that is still to be made.
 #[derive(Drop)]

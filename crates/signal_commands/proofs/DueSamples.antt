@@ -20,10 +20,6 @@ use Rattle.signal_commands.specs.KeptTrack.{AreDue, spelled}
 abbrev pub due_at : Intervals → List ℕ
 due_at brought = intervals_bytes One (intervals_in brought)
 
--- no samples bring nothing
-pub none_due : (pace : Pace) (s : Settings) (front : List ℤ) → AreDue pace s front [] []
-none_due pace s front = ap (spelled pace s) (append-nil front) ∙ sym (append-nil (spelled pace s front))
-
 -- a run more
 pub due_more : (pace : Pace) (s : Settings) (front before run : List ℤ) (due : List ℕ) (brought : Intervals) → AreDue pace s front before due
     → intervals_at pace s ((front ++ before) ++ run) ≡ intervals_at pace s (front ++ before) ++ intervals_in brought

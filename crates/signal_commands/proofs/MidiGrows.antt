@@ -64,7 +64,8 @@ none_counted before after f q r = record { full = omega (arith, f); quarter = om
 both : (kind : MtcEvent → Bool) (a b : ℕ) (first more all : List MtcEvent) → all ≡ first ++ more → a ≡ count_by kind first → b ≡ a + count_by kind more
     → b ≡ count_by kind all
 both kind a b first more all is before after =
-    after ∙ ap (λ (n : ℕ). n + count_by kind more) before ∙ sym (ap (λ (es : List MtcEvent). count_by kind es) is ∙ count_by-append kind first more)
+    after ∙ ap (λ (n : ℕ). n + count_by kind more) before
+    ∙ sym (ap (λ (es : List MtcEvent). count_by kind es) is ∙ count_by-append kind first more)
 
 -- ---- lines
 

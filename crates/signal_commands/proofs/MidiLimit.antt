@@ -7,10 +7,10 @@ use Rattle.tc_io.specs.Verdict.{Verdict, good, refused, past_limit}
 use Rattle.mtc_reader.specs.Events.{events_in}
 use Rattle.signal_commands.specs.MtcRead.{event_lines, lines_within, verdict_within}
 
-abbrev verdict_by : Bool → Verdict InputFault
+abbrev pub verdict_by : Bool → Verdict InputFault
 verdict_by b = cond b past_limit good
 
-not_refused : (b : Bool) (f : InputFault) → ¬ (verdict_by b ≡ refused f)
+pub not_refused : (b : Bool) (f : InputFault) → ¬ (verdict_by b ≡ refused f)
 not_refused true f e = absurd cc
 not_refused false f e = absurd cc
 
@@ -18,7 +18,7 @@ not_refused false f e = absurd cc
 pub never_refused : (most : ℕ) (bytes : List ℕ) (f : InputFault) → ¬ (verdict_within most bytes ≡ refused f)
 never_refused most bytes f e = not_refused (nat_lt most (length bytes)) f e
 
-past_by : (most n : ℕ) (b : Bool) → nat_lt most n ≡ b → verdict_by b ≡ past_limit → most < n
+pub past_by : (most n : ℕ) (b : Bool) → nat_lt most n ≡ b → verdict_by b ≡ past_limit → most < n
 past_by most n true is e = ltb-true most n is
 past_by most n false is e = absurd cc
 

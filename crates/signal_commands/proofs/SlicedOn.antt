@@ -24,6 +24,7 @@ use Rattle.signal_commands.specs.declared.pcm_ltc.SlicedSound.{SlicedSound}
 use Rattle.signal_commands.specs.declared.pcm_ltc.TheConstants.{MAX_SAMPLES}
 use Rattle.std.specs.Prelude.{IfErr, IfOk, OnOk, Ok, Err}
 use Rattle.std.specs.declared.result.Result.{Result}
+use Rattle.signal_commands.proofs.MidiLimit.{verdict_by, not_refused, past_by}
 use Rattle.tc_command.specs.declared.stop.Stop.{Stop}
 use Rattle.tc_command.specs.declared.stop.Stop.TheVariants as stops
 use Rattle.signal_commands.specs.KeptSlices.{IsGoing, Slices, Stands, half_is_none, length-samples, samples_of-append}
@@ -37,20 +38,9 @@ use Rattle.signal_commands.proofs.PutMore.{none_begun}
 
 -- ---- the limit
 
-abbrev verdict_by : Bool → Verdict InputFault
-verdict_by b = cond b past_limit good
-
-not_refused : (b : Bool) (f : InputFault) → ¬ (verdict_by b ≡ refused f)
-not_refused true f e = absurd cc
-not_refused false f e = absurd cc
-
 -- nothing is refused before the end
 pub never_refused : (most : ℕ) (bytes : List ℕ) (f : InputFault) → ¬ (samples_within most bytes ≡ refused f)
 never_refused most bytes f e = not_refused (nat_lt most (length (samples_of bytes))) f e
-
-past_by : (most n : ℕ) (b : Bool) → nat_lt most n ≡ b → verdict_by b ≡ past_limit → most < n
-past_by most n true is e = ltb-true most n is
-past_by most n false is e = absurd cc
 
 is_past : (most : ℕ) (bytes : List ℕ) → most < length (samples_of bytes) → samples_within most bytes ≡ past_limit
 is_past most bytes more = ap verdict_by (lt-ltb most (length (samples_of bytes)) more)

@@ -1,5 +1,5 @@
 -- A sound file that was made of blocks is read as them, so what is written of it is the file of its track.
-use Rattle.std.proofs.Common.{◌≡◌, ℕ, List, Some, ◌∙◌, ap}
+use Rattle.std.proofs.Common.{◌≡◌, ℕ, List, Some, sym, ◌∙◌, ap}
 use Rattle.tc_job.specs.WaveSlicing.{SlicesWave}
 use Rattle.wave_file.specs.declared.format.WaveFormat.{WaveFormat}
 use Rattle.wave_file.specs.Grammar.{IsMadeOf, Sample, read_whole}
@@ -7,7 +7,7 @@ use Rattle.wave_file.specs.Grammar.{track_of as samples_in}
 use Rattle.wave_file.specs.Wave.{Reading, reading_of}
 use Rattle.signal_commands.specs.WavLtc.{SlicesTheTrack, along_sound_file, told_wav_ltc, track_file, track_of}
 use Rattle.tc_command.specs.Command.{IsCommand}
-use Rattle.tc_command.specs.Told.{IsTold}
+use Rattle.tc_command.specs.Told.{IsLawful, IsTold}
 
 -- what is made is read whole
 abbrev AreReadAsMade : Type 0
@@ -16,14 +16,23 @@ AreReadAsMade = (track : ℕ) (format : WaveFormat) (blocks : List (List Sample)
 
 slices_the_track : AreReadAsMade → (w : SlicesWave) (bytes written : List ℕ) → written ≡ track_of w bytes
     → SlicesTheTrack w bytes written
-slices_the_track law w bytes written are = λ format blocks made.
-    are ∙ ap (λ (r : Reading). track_file w r.format r.samples) (law w.track format blocks bytes made)
+slices_the_track law w bytes written are = record {
+  are = are;
+  made = λ format blocks made.
+      are ∙ ap (λ (r : Reading). track_file w r.format r.samples) (law w.track format blocks bytes made);
+}
 
-pub track_is_told : ((w : SlicesWave) → IsCommand (along_sound_file w)) → AreReadAsMade → (w : SlicesWave)
-    → IsTold (told_wav_ltc w)
-track_is_told command law w = record {
+-- ---- what is told of a sliced track
+
+pub track_is_lawful : ((w : SlicesWave) → IsCommand (along_sound_file w)) → (w : SlicesWave) → IsLawful (told_wav_ltc w)
+track_is_lawful command w = record {
   command = command w;
-  kept = λ pulled written are input output. slices_the_track law w pulled written output;
-  pinned = λ no_text. absurd cc;
+  pinned = λ bytes a b p q. p.are ∙ sym q.are;
   unlimited = λ none input spent. spent;
+}
+
+pub track_is_told : AreReadAsMade → (w : SlicesWave) → IsLawful (told_wav_ltc w) → IsTold (told_wav_ltc w)
+track_is_told law w lawful = record {
+  lawful = lawful;
+  kept = λ pulled written are input output. slices_the_track law w pulled written output;
 }

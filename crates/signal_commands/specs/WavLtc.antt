@@ -41,12 +41,13 @@ track_file w (Some format) samples =
 abbrev pub track_of : SlicesWave → List ℕ → List ℕ
 track_of w bytes = track_file w (reading_of w.track bytes).format (reading_of w.track bytes).samples
 
--- of a sound file that was made of these blocks, what was written is the file of the distances of the track's samples,
--- whose first one runs from tick 0
-abbrev pub SlicesTheTrack : SlicesWave → List ℕ → List ℕ → Type 0
-SlicesTheTrack w bytes written = (format : WaveFormat) (blocks : List (List Sample)) → IsMadeOf w.track format blocks bytes
-    → written ≡ file_of (track_header w format)
-    (intervals_at (track_pace w format) (track_settings w) (samples_in w.track blocks))
+-- what was written is the file of the track that is read. And of a sound file that was made of these blocks, it is the
+-- file of the distances of the track's samples, whose first one runs from tick 0
+pub record SlicesTheTrack (w : SlicesWave) (bytes written : List ℕ) : Type 0 where
+  pub are : written ≡ track_of w bytes
+  pub made : (format : WaveFormat) (blocks : List (List Sample)) → IsMadeOf w.track format blocks bytes
+      → written ≡ file_of (track_header w format)
+      (intervals_at (track_pace w format) (track_settings w) (samples_in w.track blocks))
 
 -- what it takes and what it writes: the header stands where the data begin
 abbrev pub along_sound_file : SlicesWave → Meaning
@@ -64,6 +65,5 @@ abbrev pub told_wav_ltc : SlicesWave → Told
 told_wav_ltc w = record {
   meaning = along_sound_file w;
   promise = SlicesTheTrack w;
-  is_pinned = false;
   has_own_limit = false;
 }

@@ -24,4 +24,4 @@ mod wav_ltc;
 pub use mtc_read::{MAX_BYTES, read_midi};
 pub use pcm_ltc::{MAX_SAMPLES, slice_sound};
 pub use vitc_read::read_fields;
-pub use wav_ltc::slice_track;
+pub use wav_ltc::{slice_track, sliced_tracks_are_lawful};

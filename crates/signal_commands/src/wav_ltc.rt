@@ -15,7 +15,7 @@ ghost use Rattle.wave_file.specs.StandsFor.{bytes_taken};
 ghost use Rattle.signal_commands.specs.KeptTrack.{AreDue, IsGoing, Stands, pace_in};
 ghost use Rattle.signal_commands.specs.WavLtc.{along_sound_file, track_header};
 ghost use Rattle.interval_file.specs.IntervalHeader.{header_bytes};
-ghost use Rattle.tc_command.specs.Told.{IsTold, WorksAsTold};
+ghost use Rattle.tc_command.specs.Told.{IsLawful, IsTold, WorksAsTold};
 ghost use Rattle.signal_commands.specs.WavLtc.{told_wav_ltc};
 ghost use Rattle.tc_job.specs.WaveSlicing.{SlicesWave};
 
@@ -54,8 +54,15 @@ pub fn slice_track<S: Source, K: Sink>(
 fn a_sliced_track_is_told()
     ensures { (slicing : SlicesWave) → IsTold (told_wav_ltc slicing) }
 {
-    each_signal_makes_a_command();
+    sliced_tracks_are_lawful();
     a_file_is_read_as_it_was_written();
+}
+
+/// What is told of `wav-ltc` is lawful.
+pub fn sliced_tracks_are_lawful()
+    ensures { (slicing : SlicesWave) → IsLawful (told_wav_ltc slicing) }
+{
+    each_signal_makes_a_command();
 }
 
 /// A sound file on its way into intervals.

@@ -10,19 +10,22 @@ pub record Told : Type 1 where
   pub meaning : Meaning
   -- what it promises of a run that came to its end, of the bytes that were pulled and those that were written
   pub promise : List ℕ → List ℕ → Type 0
-  -- the promise names the bytes: no others keep it
-  pub is_pinned : Bool
   -- it may pass a limit of the command's own
   pub has_own_limit : Bool
 
+-- what is told is lawful, whatever values the command was given
+pub record IsLawful (t : Told) : Type 0 where
+  pub command : IsCommand t.meaning
+  -- the promise names the bytes: no others keep it
+  pub pinned : (pulled a b : List ℕ) → t.promise pulled a → t.promise pulled b → a ≡ b
+  pub unlimited : t.has_own_limit ≡ false → (input : List ℕ) → ¬ t.meaning.spent input
+
 -- what is told holds
 pub record IsTold (t : Told) : Type 0 where
-  pub command : IsCommand t.meaning
+  pub lawful : IsLawful t
   -- what it writes of an input keeps the promise
   pub kept : (pulled written : List ℕ) → AreBytes pulled → IsInput t.meaning pulled → t.meaning.output pulled written
       → t.promise pulled written
-  pub pinned : t.is_pinned ≡ true → (pulled a b : List ℕ) → t.promise pulled a → t.promise pulled b → a ≡ b
-  pub unlimited : t.has_own_limit ≡ false → (input : List ℕ) → ¬ t.meaning.spent input
 
 -- it was worked as it is told, and what is told holds
 pub record WorksAsTold {S K : Type 0} (t : Told) (left : S → Option (List ℕ)) (at_end pulls_failed : S → ℕ)
@@ -33,13 +36,10 @@ pub record WorksAsTold {S K : Type 0} (t : Told) (left : S → Option (List ℕ)
 
 -- ---- commands of which no more is to be told
 
--- the meaning says all: each line or interval is what the definition of a crate below makes of the bytes pulled
-abbrev pub SaysNoMore : List ℕ → List ℕ → Type 0
-SaysNoMore pulled written = Unit {0}
-
--- of a command that promises no more than its meaning, and has no limit of its own
+-- of a command that promises what its meaning says, where each line or interval is what the definition of a crate below
+-- makes of the bytes pulled, and that has no limit of its own
 abbrev pub told_by_meaning : Meaning → Told
-told_by_meaning m = record { meaning = m; promise = SaysNoMore; is_pinned = false; has_own_limit = false }
+told_by_meaning m = record { meaning = m; promise = m.output; has_own_limit = false }
 
 -- of one that reads nothing and writes this
 abbrev pub told_text : List ℕ → Told
@@ -47,5 +47,4 @@ told_text text = told_by_meaning (writes text)
 
 -- of one that reads nothing, writes this, and promises this of it
 abbrev pub told_made : List ℕ → (List ℕ → Type 0) → Told
-told_made text promise =
-    record { meaning = writes text; promise = λ pulled. promise; is_pinned = true; has_own_limit = false }
+told_made text promise = record { meaning = writes text; promise = λ pulled. promise; has_own_limit = false }

@@ -26,8 +26,6 @@ pub fn push_piece<K: Sink>(out: &mut K, bytes: &[u8]) -> Result<(), Stop>
     ensures why { IfErr result (λ stop. stop ≡ Stop.WriteFault) }
     ensures cause { HasOutCause (K.faults out.old) (K.faults out.new) result }
 {
-    match push_all(out, bytes) {
-        Ok(()) => Ok(()),
-        Err(_) => Err(Stop::WriteFault),
-    }
+    push_all(out, bytes)?;
+    Ok(())
 }

@@ -1,5 +1,6 @@
 //! Why a job stopped before its end. Next: `status`.
 use crate::input_fault::InputFault;
+use tc_io::Failed;
 
 /// Why a job stopped before its end.
 #[derive(Clone, Copy)]
@@ -12,4 +13,16 @@ pub enum Stop {
     WriteFault,
     /// The input is longer than the command takes.
     Limit,
+}
+
+// Of a push that failed. A pull that failed stops a job as `ReadFault`.
+impl From<Failed> for Stop {
+    ghost use Rattle.std.specs.Prelude.{◌≡◌};
+    ghost use Rattle.tc_command.specs.declared.stop.Stop.TheVariants as stops;
+
+    ghost from_gives = { λ _ stop. stop ≡ stops.WriteFault };
+
+    fn from(_: Failed) -> Stop {
+        Stop::WriteFault
+    }
 }

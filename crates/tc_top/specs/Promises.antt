@@ -4,7 +4,6 @@ use Rattle.tc_io.specs.Bytes.{AreBytes}
 use Rattle.tc_job.specs.declared.job.Job.{Job}
 use Rattle.tc_job.specs.declared.job.Job.TheVariants.{LtcMtc, LtcJam, LtcPcm}
 use Rattle.tc_command.specs.Meaning.{Meaning, IsInput}
-use Rattle.tc_command.specs.Told.{SaysNoMore}
 use Rattle.tc_top.specs.CleanCopy.{IsReportedClean}
 use Rattle.tc_top.specs.Commands.{meaning_of, told_of}
 use Rattle.tc_top.specs.SentAgain.{SendsTheFrames}
@@ -16,7 +15,7 @@ abbrev pub ReadsOn : Job → List ℕ → List ℕ → Type 0
 ReadsOn (LtcMtc flight) = SendsTheFrames flight
 ReadsOn (LtcJam jam) = IsReportedClean jam
 ReadsOn (LtcPcm level) = IsSlicedAgain level
-ReadsOn _ = SaysNoMore
+ReadsOn _ = λ pulled written. Unit {0}
 
 -- the promise of its command, and what a further command makes of it
 pub record Promise (job : Job) (pulled written : List ℕ) : Type 0 where

@@ -7,7 +7,8 @@ ghost use Rattle.tc_job.specs.Stripe.{IsStripe, Striping};
 ghost use Rattle.vitc_reader.specs.declared.field.FieldAnswer.{FieldAnswer};
 ghost use Rattle.tc_command.specs.declared.status.Status.{Status};
 ghost use Rattle.tc_command.specs.Meaning.{Meaning, IsInput};
-ghost use Rattle.tc_command.specs.Told.{IsTold, Told};
+ghost use Rattle.tc_command.specs.Command.{IsCommand};
+ghost use Rattle.tc_command.specs.Told.{Told};
 ghost use Rattle.tc_command.specs.WholeInput.{HasStatus, status_by};
 ghost use Rattle.interval_commands.specs.LtcRead.{last_line, lines};
 ghost use Rattle.made_commands.specs.Made.{made, made_cells, made_events, made_header};
@@ -18,6 +19,7 @@ ghost use Rattle.tc_top.specs.declared.exit.TheConstants.{NO_ARGUMENTS};
 ghost use Rattle.tc_top.specs.Exit.{exit_number};
 ghost use Rattle.tc_top.specs.Commands.{meaning_of, told_of};
 
+use crate::streaming::each_job_is_lawful;
 use direction_reader::laws::a_list_has_one_list_of_events;
 use line_file::laws::bytes_have_one_list_of_answers;
 use made_commands::laws::{lines_that_are_made_are_read_back, what_is_made_is_read_whole};
@@ -35,16 +37,34 @@ pub fn exit_numbers_are_these()
     ensures eight { NO_ARGUMENTS ≡ 8 }
 {}
 
+/// What holds of every command holds of each job: what it writes of some bytes comes first, whatever bytes
+/// follow, each input has an output, and no other, in whatever pieces it comes, and a fault and the limits stay.
+pub fn each_job_is_a_command()
+    ensures { (job : Job) → IsCommand (meaning_of job) }
+{
+    each_job_is_lawful();
+}
+
+/// The promise of a job alone names the bytes: whoever keeps it for an input has written the same. So a body that
+/// says a line or an interval otherwise breaks its promise.
+pub fn a_promise_names_one_text()
+    ensures { (job : Job) (pulled a b : List ℕ) → Told.promise (told_of job) pulled a
+        → Told.promise (told_of job) pulled b → a ≡ b }
+{
+    each_job_is_lawful();
+}
+
 /// An input leaves a job one status where no call fails. A limit of the command's own comes first, and
 /// where it has none, the grammar and the limit of the file settle it alone.
 pub fn an_input_has_one_status()
     ensures one { (job : Job) (input : List ℕ) (a b : Status) → HasStatus (meaning_of job) input a
         → HasStatus (meaning_of job) input b → a ≡ b }
-    ensures file { (job : Job) (input : List ℕ) (status : Status) → IsTold (told_of job)
-        → Told.has_own_limit (told_of job) ≡ false
+    ensures file { (job : Job) (input : List ℕ) (status : Status) → Told.has_own_limit (told_of job) ≡ false
         → HasStatus (meaning_of job) input status
         → status ≡ status_by (Meaning.verdict (meaning_of job) input) (Meaning.end_fault (meaning_of job) input) }
-{}
+{
+    each_job_is_lawful();
+}
 
 /// The report of `ltc-read` of what `ltc-make` makes is known: a line a frame, with its word, and the last
 /// line.

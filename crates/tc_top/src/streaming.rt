@@ -7,18 +7,27 @@ ghost use Rattle.tc_command.specs.Ends.{EndsSeen};
 ghost use Rattle.tc_command.specs.Exchange.{Exchange, IsPulled, IsNoted};
 ghost use Rattle.tc_command.specs.Meaning.{Meaning};
 ghost use Rattle.tc_command.specs.WholeInput.{HasStatus};
+ghost use Rattle.tc_job.specs.declared.job.Job.{Job};
 ghost use Rattle.tc_top.specs.Answer.{IsAnswer};
-ghost use Rattle.tc_command.specs.Told.{IsTold, WorksAsTold};
+ghost use Rattle.tc_command.specs.Told.{IsLawful, IsTold, WorksAsTold};
 ghost use Rattle.tc_top.specs.Commands.{meaning_of, told_of};
 
 use crate::reading_on::it_is_read_on;
 use biphase::Profile;
-use frame_commands::{chase_code, fly_along, jam_sync, send_time_code, tell_spans};
-use interval_commands::{convert_recording, read_firmly, read_recording, sound_recording};
-use made_commands::{
-    make_lines, make_recording, tell_help, tell_label, tell_load, tell_number, tell_version,
+use frame_commands::{
+    chase_code, copies_are_lawful, flown_frames_are_lawful, fly_along, jam_sync,
+    messages_are_lawful, send_time_code, spans_are_lawful, tell_spans, traces_are_lawful,
 };
-use signal_commands::{read_fields, read_midi, slice_sound, slice_track};
+use interval_commands::{
+    conversions_are_lawful, convert_recording, firm_reports_are_lawful, made_sound_is_lawful,
+    read_firmly, read_recording, reports_are_lawful, sound_recording,
+};
+use made_commands::{
+    line_stripes_are_lawful, loads_are_lawful, make_lines, make_recording, stripes_are_lawful,
+    tell_help, tell_label, tell_load, tell_number, tell_version,
+};
+use signal_commands::laws::each_signal_makes_a_command;
+use signal_commands::{read_fields, read_midi, slice_sound, slice_track, sliced_tracks_are_lawful};
 use tc_command::{Status, Stop, push_note, stop_note};
 use tc_io::{Sink, Source};
 use tc_job::{Job, Witness};
@@ -38,8 +47,8 @@ pub fn stream<S: Source, K: Sink, N: Sink>(
         × IsAnswer job.now result e }
     ensures no_note { result ≡ Status.Done → notes.new ≡ notes.old }
 
-    // What is told of the job's command holds: it is a command as any other, whose promise names one text, where it
-    // is said to, and which passes no limit of its own, where it is said to have none.
+    // What is told of the job's command holds: it is a command as any other, whose promise is kept and names one text,
+    // and which passes no limit of its own, where it is said to have none.
     ensures told { IsTold (told_of job.now) }
 
     // A read fault and a write fault come only where a count of faults rose.
@@ -67,6 +76,26 @@ pub fn stream<S: Source, K: Sink, N: Sink>(
             Status::of_stop(stop)
         }
     }
+}
+
+/// What is told of each job is lawful, whatever values it has.
+pub(crate) fn each_job_is_lawful()
+    ensures { (job : Job) → IsLawful (told_of job) }
+{
+    reports_are_lawful();
+    firm_reports_are_lawful();
+    flown_frames_are_lawful();
+    spans_are_lawful();
+    messages_are_lawful();
+    copies_are_lawful();
+    traces_are_lawful();
+    stripes_are_lawful();
+    conversions_are_lawful();
+    loads_are_lawful();
+    made_sound_is_lawful();
+    sliced_tracks_are_lawful();
+    each_signal_makes_a_command();
+    line_stripes_are_lawful();
 }
 
 /// Works a job to its end, or to where it stops.

@@ -2,11 +2,7 @@ use Rattle.frame_commands.proofs.ToldOfFrames.{fly_is_told}
 use Rattle.frame_commands.proofs.ltc_fly.flown_frames_are_told.Goals as goal
 
 pub returns : goal.returns
-returns c = fly_is_told (record {
-  grow = c.recordings_grow.ensures;
-  frames = c.what_is_made_of_frames_is_in_order.ensures;
-  one_list = c.a_list_has_one_list_of_events.ensures;
-}) c.each_sink_of_frames_adds_in_order.ensures.lines (record {
+returns c = λ flight. fly_is_told (record {
   marked = c.invention_is_bounded_and_marked.ensures.marked;
   heard = c.invention_is_bounded_and_marked.ensures.heard;
-})
+}) flight (c.flown_frames_are_lawful.ensures flight)

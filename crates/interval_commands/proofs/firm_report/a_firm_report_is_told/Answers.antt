@@ -2,8 +2,7 @@ use Rattle.interval_commands.proofs.FirmlyReports.{firm_report_is_told}
 use Rattle.interval_commands.proofs.firm_report.a_firm_report_is_told.Goals as goal
 
 pub returns : goal.returns
-returns c = firm_report_is_told c.recordings_grow.ensures c.what_is_printed_is_in_order.ensures.firm (record {
-  one = c.a_list_has_one_list_of_firm_events.ensures.one;
+returns c = λ profile. firm_report_is_told (record {
   judged = c.a_witness_changes_words_alone.ensures;
   witnessed = c.each_word_that_is_told_has_its_witness.ensures.list;
   tape = c.firm_events_tell_the_tape.ensures;
@@ -13,4 +12,4 @@ returns c = firm_report_is_told c.recordings_grow.ensures c.what_is_printed_is_i
     damage = c.events_find_the_tape_again.ensures;
     mirror = c.events_mirror_the_tape.ensures;
   };
-})
+}) profile (c.firm_reports_are_lawful.ensures profile)

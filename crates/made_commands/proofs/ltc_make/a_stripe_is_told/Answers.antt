@@ -1,7 +1,6 @@
-use Rattle.std.proofs.Common.{◌∙◌, sym}
 use Rattle.tc_command.specs.KeptTold.{made_is_told}
 use Rattle.made_commands.proofs.ltc_make.a_stripe_is_told.Goals as goal
 
 pub returns : goal.returns
 returns c = made_is_told _ _ (c.what_is_made_is_read_whole.ensures.back c.args.stripe.now c.frames-frames.ensures.valid)
-    (λ a b p q. p.file.are ∙ sym q.file.are)
+    (c.stripes_are_lawful.ensures c.args.stripe.now)

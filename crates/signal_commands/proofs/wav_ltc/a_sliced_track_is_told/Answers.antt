@@ -2,4 +2,5 @@ use Rattle.signal_commands.proofs.TrackOfAFile.{track_is_told}
 use Rattle.signal_commands.proofs.wav_ltc.a_sliced_track_is_told.Goals as goal
 
 pub returns : goal.returns
-returns c = track_is_told c.each_signal_makes_a_command.ensures.tracks c.a_file_is_read_as_it_was_written.ensures
+returns c = λ slicing. track_is_told c.a_file_is_read_as_it_was_written.ensures slicing
+    (c.sliced_tracks_are_lawful.ensures slicing)

@@ -27,7 +27,7 @@ returns-in-Ok-clause-answer g c =
           };
           note = refl;
         };
-        first = first_at_end (meaning_of c.args.job.now) c.in-Ok.ensures.told.command went e.5 e.7;
+        first = first_at_end (meaning_of c.args.job.now) c.in-Ok.ensures.told.lawful.command went e.5 e.7;
       },
     )
 
@@ -41,18 +41,19 @@ returns-in-Err-clause-answer g c =
       e.3,
       record { front = c.push_note.ensures.front; all = c.push_note.ensures.all },
       rw c.of_stop.ensures
-          (answer_of c.args.job.now c.in-Err.ensures.told.command c.in-Err.stop went e.4 c.stop_note.ensures),
+          (answer_of c.args.job.now c.in-Err.ensures.told.lawful.command c.in-Err.stop went e.4 c.stop_note.ensures),
     )
 
 -- the end of an input is the end of the whole input
 pub returns-in-Ok-clause-status : goal.returns-in-Ok-clause-status
 returns-in-Ok-clause-status g c = λ input told no_read no_write.
     let e = c.in-Ok.ensures.worked.ends in
-    done_is_final (meaning_of c.args.job.now) c.in-Ok.ensures.told.command _ input e.0 (rw told at e.2) e.5 e.6
+    done_is_final (meaning_of c.args.job.now) c.in-Ok.ensures.told.lawful.command _ input e.0 (rw told at e.2) e.5 e.6
 
 -- a stop among some bytes is that of the whole input
 pub returns-in-Err-clause-status : goal.returns-in-Err-clause-status
 returns-in-Err-clause-status g c = λ input told no_read no_write.
     let e = c.in-Err.ensures.worked.stops in
-    rw c.of_stop.ensures (stop_is_final (meaning_of c.args.job.now) c.in-Err.ensures.told.command c.in-Err.stop _ input e.0 e.1
+    rw c.of_stop.ensures
+    (stop_is_final (meaning_of c.args.job.now) c.in-Err.ensures.told.lawful.command c.in-Err.stop _ input e.0 e.1
     _ _ _ _ (rw told at e.2) e.4 c.in-Err.ensures.worked.source c.in-Err.ensures.worked.out no_read no_write)

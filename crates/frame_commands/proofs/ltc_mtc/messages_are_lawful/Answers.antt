@@ -1,8 +1,8 @@
-use Rattle.frame_commands.proofs.ToldOfFrames.{messages_are_told}
-use Rattle.frame_commands.proofs.ltc_mtc.messages_are_told.Goals as goal
+use Rattle.frame_commands.proofs.ToldOfFrames.{messages_are_lawful}
+use Rattle.frame_commands.proofs.ltc_mtc.messages_are_lawful.Goals as goal
 
 pub returns : goal.returns
-returns c = messages_are_told (record {
+returns c = messages_are_lawful (record {
   grow = c.recordings_grow.ensures;
   frames = c.what_is_made_of_frames_is_in_order.ensures;
   one_list = c.a_list_has_one_list_of_events.ensures;
