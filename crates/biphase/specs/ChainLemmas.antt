@@ -1,6 +1,7 @@
 -- Laws of chains, for the proofs of the crates above: each next cell is fixed by the intervals, so of two chains at the
 -- front of one list one is a front of the other; and a cell has an interval. No promise rests on these proofs.
-use Rattle.std.proofs.Common.{◌≡◌, ℕ, ◌+◌, ◌≤◌, List, [], ◌∷◌, ◌++◌, length, length-append, ◌⊎◌, inl, inr, refl, ap, sym}
+use Rattle.std.proofs.Common.{◌≡◌, ℕ, ◌+◌, ◌≤◌, List, [], ◌∷◌, ◌++◌, length, length-append}
+use Rattle.std.proofs.Common.{◌⊎◌, inl, inr, refl, ap, sym}
 use Rattle.std.proofs.Common.{◌∙◌, arith}
 use Rattle.biphase.specs.declared.profile.Profile.{Profile}
 use Rattle.biphase.specs.declared.cell.Cell.{Cell}
@@ -25,7 +26,8 @@ comparable_after profile c (Zero x ∷ one) (Zero y ∷ two) rest other ones two
     let head : x ≡ y = cc in
     let tail : flat one ++ rest ≡ flat two ++ other = cc in
     let twos_too : Follow profile (kept_next profile c x) two = rw head twos.2 in
-    rw (← head) (front_with (Zero x) one two (comparable_after profile (kept_next profile c x) one two rest other ones.2 twos_too tail))
+    let more = comparable_after profile (kept_next profile c x) one two rest other ones.2 twos_too tail in
+    rw (← head) (front_with (Zero x) one two more)
 comparable_after profile c (Zero x ∷ one) (One a b ∷ two) rest other ones twos same =
     let head : a ≡ x = cc in
     absurd (zero_is_no_half profile c x ones.0 ones.1 (rw (← head) (first_half profile c a b (twos.1, twos.0.2))))

@@ -1,5 +1,5 @@
--- Laws of mirrored cells, for the proofs of the crates above: the kinds of its pairs tell the cells of a list, in either
--- order, once one cell is known. All of this is proved here, and no promise rests on it.
+-- Lemmas of mirrored cells, for the proofs of the crates above: the kinds of its pairs tell the cells of a list, in
+-- either order, once one cell is known. All of this is proved here, and no promise rests on it.
 use Rattle.std.proofs.Common.{◌≡◌, ℕ, List, [], ◌∷◌, ◌++◌, map, reverse, ◌⊎◌, inl, inr, refl, ap, sym, ◌∙◌, arith}
 use Rattle.std.proofs.Common.{append-nil, append_assoc, subst}
 use Rattle.std.proofs.lemmas.Grind.{flat_map-append, reverse_onto}
@@ -81,7 +81,8 @@ kinds_onto profile cell [] others kinds too joins =
     in_front profile (mirror_of cell) others (inner_turned profile cell kinds) joins too
 kinds_onto profile cell (next ∷ cells) others kinds too joins =
     let more = kinds_onto profile next cells (mirror_of cell ∷ others) kinds.2
-    (in_front profile (mirror_of cell) others (inner_turned profile cell kinds.0) joins too) (meets_turned profile cell next kinds.1) in
+    (in_front profile (mirror_of cell) others (inner_turned profile cell kinds.0) joins too)
+    (meets_turned profile cell next kinds.1) in
     let same : mirrored (cell ∷ next ∷ cells) ++ others ≡ mirrored (next ∷ cells) ++ mirror_of cell ∷ others =
     ap (λ (cs : List Cell). cs ++ others) (mirrored_cons cell (next ∷ cells))
     ∙ append_assoc (mirrored (next ∷ cells)) (mirror_of cell ∷ []) others in
@@ -110,7 +111,8 @@ comparable_kinds profile cell (Zero x ∷ one) (Zero y ∷ two) rest other ones 
     let head : x ≡ y = cc in
     let tail : flat one ++ rest ≡ flat two ++ other = cc in
     let twos_too : Kinds profile (Zero x ∷ two) = subst (λ v. Kinds profile (Zero v ∷ two)) (sym head) twos.2 in
-    rw (← head) (front_with (Zero x) one two (comparable_kinds profile (Zero x) one two rest other ones.2 twos_too tail))
+    let more = comparable_kinds profile (Zero x) one two rest other ones.2 twos_too tail in
+    rw (← head) (front_with (Zero x) one two more)
 comparable_kinds profile cell (Zero x ∷ one) (One a b ∷ two) rest other ones twos same =
     let head : x ≡ a = cc in absurd (differ profile cell x a b ones.1 twos.1 head)
 comparable_kinds profile cell (One a b ∷ one) (Zero x ∷ two) rest other ones twos same =

@@ -15,7 +15,7 @@ use Rattle.chase_script.specs.Script.{Script}
 use Rattle.chase_command.specs.Chase.{IsChaseAnswer, IsScript, IsWhole, chase_output, chase_text}
 use Rattle.chase_command.specs.KeptScript.{IsChaseOutput, IsChaseStop, IsTraced}
 use Rattle.tc_command.specs.Exchange.{Exchange, WritesAFront}
-use Rattle.tc_command.specs.KeptFirst.{whole_input}
+use Rattle.tc_command.specs.FirstLemmas.{whole_input}
 use Rattle.tc_command.specs.KeptWorks.{all_at_end}
 use Rattle.chase_command.specs.Stop.{note_of}
 use Rattle.chase_command.specs.Stop.{status_of}

@@ -65,9 +65,6 @@ later_words tick (event ∷ events) later =
     (later_word tick event (All-head (λ event. tick ≤ tick_of event) event events later))
     (later_words tick events (All-tail (λ event. tick ≤ tick_of event) event events later))
 
-sum_of_more : (front more : List ℕ) → sum (front ++ more) ≡ sum front + sum more
-sum_of_more front more = sum_by-append (λ n. n) front more
-
 pub frames_first : FrameLaws → (limit : ℕ) (system : System) (profile : Profile) (front more : List ℕ) (es all : List Event)
     → AreEvents system profile front es
     → AreEvents system profile (front ++ more) all → (rest : List Frame) × (frames_of limit (front ++ more) all ≡ frames_of limit front es ++ rest)
@@ -75,7 +72,7 @@ frames_first laws limit system profile front more es all are too =
     let first = laws.events system profile front more es all are too in
     let later = laws.later system profile front more es first.0 are (subst (λ l. AreEvents system profile (front ++ more) l) first.1 too) in
     let words : words_heard all ≡ words_heard es ++ words_heard first.0 = ap words_heard first.1 ∙ flat_map-append heard_in es first.0 in
-    let total = sum_of_more front more in
+    let total = sum_by-append (λ n. n) front more in
     let given = laws.frames limit (sum front) (sum (front ++ more)) (words_heard es) (words_heard first.0) (omega (arith, total))
     (later_words (sum front) first.0 later) in
     (given.0, ap (λ ws. frames limit ws (sum (front ++ more))) words ∙ given.1)

@@ -13,7 +13,7 @@ use Rattle.interval_file.specs.declared.header.IntervalHeader.{IntervalHeader}
 use Rattle.frame_commands.specs.declared.flight.FrameReader.{FrameReader}
 use Rattle.frame_commands.specs.KeptFlight.{counted, frames_counted, Counts, Sends, SendsFront}
 use Rattle.frame_commands.specs.OfFrames.{FrameText}
-use Rattle.tc_command.specs.KeptPushed.{front_of_piece}
+use Rattle.tc_command.specs.PushLemmas.{front_of_piece}
 
 -- ---- counts
 

@@ -3,7 +3,7 @@ use Rattle.std.proofs.Common.{List, ◌++◌, refl, sym, ◌∙◌, ap, subst}
 use Rattle.direction_reader.specs.declared.event.Event.{Event}
 use Rattle.tc_job.specs.declared.flight.Flight.{Flight}
 use Rattle.tc_io.specs.Sink.{IsFront}
-use Rattle.tc_command.specs.KeptFirst.{front_of_more}
+use Rattle.tc_command.specs.FirstLemmas.{front_of_more}
 use Rattle.interval_engine.specs.KeptCommand.{PrintsInOrder}
 use Rattle.frame_commands.specs.KeptFrames.{AddsInOrder}
 use Rattle.frame_commands.specs.OfFrames.{FrameText, along_frames, frames_of}

@@ -11,7 +11,7 @@ use Rattle.tc_address.specs.declared.system.System.{System}
 use Rattle.tc_job.specs.ChaseRun.{Chasing}
 use Rattle.tc_job.specs.Jam.{Jamming}
 use Rattle.tc_job.specs.declared.flight.Flight.{Flight}
-use Rattle.interval_engine.specs.KeptPinned.{one_behind, one_header}
+use Rattle.interval_engine.specs.PinnedLemmas.{one_behind, one_header}
 use Rattle.frame_commands.specs.declared.ltc_chase.TheConstants.{MAX_FRAMES}
 use Rattle.frame_commands.specs.LtcChase.{FollowsTheCode, first_steps}
 use Rattle.frame_commands.specs.LtcFly.{ShowsTheFrames, frame_lines, last_fly_line}

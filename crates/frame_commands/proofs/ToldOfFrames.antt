@@ -6,7 +6,7 @@ use Rattle.tc_job.specs.ChaseRun.{Chasing}
 use Rattle.tc_job.specs.Jam.{Jamming}
 use Rattle.tc_job.specs.declared.flight.Flight.{Flight}
 use Rattle.tc_command.specs.Command.{IsCommand}
-use Rattle.tc_command.specs.KeptTold.{meaning_is_lawful}
+use Rattle.tc_command.specs.ToldLemmas.{meaning_is_lawful}
 use Rattle.tc_command.specs.Meaning.{Meaning}
 use Rattle.tc_command.specs.Told.{IsLawful, IsTold}
 use Rattle.interval_engine.specs.Along.{along_intervals}

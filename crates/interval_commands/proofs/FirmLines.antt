@@ -15,7 +15,7 @@ use Rattle.direction_reader.specs.Tracker.{profile_of}
 use Rattle.interval_engine.specs.KeptCommand.{PrintsInOrder}
 use Rattle.interval_file.specs.declared.header.IntervalHeader.{IntervalHeader}
 use Rattle.report_text.specs.Texts.{firm_event_line, read_end_line}
-use Rattle.tc_command.specs.KeptFirst.{front_of_more}
+use Rattle.tc_command.specs.FirstLemmas.{front_of_more}
 use Rattle.tc_io.specs.Sink.{IsFront}
 use Rattle.interval_commands.specs.declared.counts.Counts.{Counts}
 use Rattle.interval_commands.specs.FirmReport.{firm_last_line, firm_lines, firm_report, IsFirmWhole}

@@ -14,7 +14,7 @@ use Rattle.interval_file.specs.Recording.{recording_of}
 use Rattle.interval_engine.specs.Along.{IsWholeOf}
 use Rattle.interval_engine.specs.KeptBehind.{IsWholeBehind}
 use Rattle.interval_engine.specs.KeptCommand.{PrintsInOrder, RecordingsGrow, along_is_command, never_spent}
-use Rattle.interval_engine.specs.KeptPinned.{one_behind, one_header}
+use Rattle.interval_engine.specs.PinnedLemmas.{one_behind, one_header}
 use Rattle.tc_command.specs.Told.{IsLawful, IsTold}
 use Rattle.interval_commands.specs.FirmReport.{firm_last_line, firm_lines, firm_report}
 use Rattle.interval_commands.specs.FirmTape.{FirmlyReportsTheTape, told_ltc_firm}
@@ -73,7 +73,8 @@ one_report one_list profile bytes a b p q =
     let two = q.whole in
     let header = one_header (recording_of bytes) p.header q.header p.begins q.begins in
     let events = one_behind (λ (h : IntervalHeader) (es : List FirmEvent). AreFirmEvents h.system profile list es)
-    (λ h. one_list h.system profile list) p.header q.header one.events two.events header one.are_events two.are_events in
+    (λ h. one_list h.system profile list) p.header q.header one.events two.events header one.are_events
+    two.are_events in
     one.are ∙ ap₂ (λ (h : IntervalHeader) (es : List FirmEvent). firm_lines h es ++ firm_last_line list es) header events
     ∙ sym two.are
 
@@ -84,8 +85,8 @@ firm_report_is_told laws profile lawful = record {
   kept = λ pulled written are input output. firmly_reports laws profile pulled written output;
 }
 
-pub firm_report_is_lawful : RecordingsGrow → ((profile : Profile) → PrintsInOrder (firm_report profile)) → HaveOneFirmList
-    → (profile : Profile) → IsLawful (told_ltc_firm profile)
+pub firm_report_is_lawful : RecordingsGrow → ((profile : Profile) → PrintsInOrder (firm_report profile))
+    → HaveOneFirmList → (profile : Profile) → IsLawful (told_ltc_firm profile)
 firm_report_is_lawful grow prints one_list profile = record {
   command = along_is_command grow (firm_report profile) (prints profile);
   pinned = one_report one_list profile;

@@ -14,7 +14,7 @@ use Rattle.direction_reader.specs.StandsFor.{StandsFor}
 use Rattle.direction_reader.specs.Tracker.{profile_of}
 use Rattle.interval_file.specs.declared.header.IntervalHeader.{IntervalHeader}
 use Rattle.report_text.specs.Texts.{event_line, read_end_line}
-use Rattle.tc_command.specs.KeptPushed.{front_of_more}
+use Rattle.tc_command.specs.PushLemmas.{front_of_more}
 use Rattle.tc_io.specs.Sink.{AppendsFront}
 use Rattle.interval_commands.specs.declared.ltc_read.Report.{Report}
 use Rattle.interval_commands.specs.KeptReport.{Feeds, Prints, Stands}

@@ -15,7 +15,7 @@ use Rattle.interval_file.specs.IntervalHeader.{header_bytes}
 use Rattle.interval_file.specs.Piece.{spelling}
 use Rattle.report_text.specs.Texts.{event_line}
 use Rattle.tc_io.specs.Sink.{IsFront}
-use Rattle.tc_command.specs.KeptFirst.{front_of_more}
+use Rattle.tc_command.specs.FirstLemmas.{front_of_more}
 use Rattle.interval_engine.specs.KeptCommand.{PrintsInOrder}
 use Rattle.interval_commands.specs.LtcConvert.{conversion, in_version}
 use Rattle.interval_commands.specs.LtcPcm.{but_the_last, made_sound}

@@ -15,7 +15,7 @@ use Rattle.interval_commands.specs.Tape.{ReportsTheTape}
 use Rattle.interval_commands.specs.LtcRead.{last_line, lines}
 use Rattle.interval_commands.specs.Tape.{told_ltc_read}
 use Rattle.interval_engine.specs.KeptCommand.{PrintsInOrder, RecordingsGrow, along_is_command, never_spent}
-use Rattle.interval_engine.specs.KeptPinned.{one_behind, one_header}
+use Rattle.interval_engine.specs.PinnedLemmas.{one_behind, one_header}
 use Rattle.tc_command.specs.Told.{IsLawful, IsTold}
 
 -- the events of a list tell the tape, find it again behind damage, and mirror it

@@ -5,7 +5,7 @@ use Rattle.interval_file.specs.declared.header.IntervalHeader.{IntervalHeader}
 use Rattle.interval_file.specs.Grammar.{IsFile, file_of}
 use Rattle.interval_file.specs.Recording.{recording_of}
 use Rattle.tc_io.specs.Bytes.{AreBytes}
-use Rattle.tc_command.specs.KeptTold.{meaning_is_lawful}
+use Rattle.tc_command.specs.ToldLemmas.{meaning_is_lawful}
 use Rattle.tc_command.specs.Meaning.{Meaning, IsInput}
 use Rattle.tc_command.specs.Told.{IsLawful, IsTold}
 use Rattle.interval_engine.specs.Along.{along_intervals}

@@ -2,4 +2,4 @@ pub mod Along
 pub mod KeptAlong
 pub mod KeptBehind
 pub mod KeptCommand
-pub mod KeptPinned
+pub mod PinnedLemmas

@@ -59,8 +59,8 @@ they_bring front bytes header intervals are is =
         let width = piece_width version bytes in
         let some = least version bytes in
         let low = range.0 in
-        brings (Interval x width)
-        (rw (le-leb width (length bytes) whole) (ap (next_with width) (in_range_is version (length front) bytes range))) (
+        let is_next = ap (next_with width) (in_range_is version (length front) bytes range) in
+        brings (Interval x width) (rw (le-leb width (length bytes) whole) is_next) (
           whole,
           file_more front (take width bytes) header intervals x is (is_spelled version bytes whole are range)
               (omega (arith, some, low)) range.1,

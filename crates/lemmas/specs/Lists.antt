@@ -1,11 +1,12 @@
--- Fronts of lists, cuts, and what is counted along them.
-use Rattle.std.proofs.Common.{◌≡◌, ℕ, zero, suc, ◌+◌, ◌-◌, ◌<◌, ◌≤◌, Bool, true, cond, List, [], ◌∷◌, ◌++◌, length, take}
+-- Fronts of lists, cuts, what is counted along them, and facts of each item.
+use Rattle.std.proofs.Common.{◌≡◌, ℕ, zero, suc, ◌+◌, ◌-◌, ◌<◌, ◌≤◌, Bool, true, cond}
+use Rattle.std.proofs.Common.{List, [], ◌∷◌, ◌++◌, length, take}
 use Rattle.std.proofs.Common.{drop, get_or, length-append, take-add, refl, sym, ap, ◌∙◌, arith}
 use Rattle.std.specs.Prelude.{count_by}
 use Rattle.std.specs.List.{AllByRecursion, take_while}
 use Rattle.std.proofs.lemmas.Grind.{common_steps}
 use Rattle.std.proofs.lemmas.List.{take_all, take_rest}
-use Rattle.std.proofs.lemmas.List.Sums.{sum_by-append, take_while-cons}
+use Rattle.std.proofs.lemmas.List.Sums.{sum_by-append, sum_by-cons, take_while-cons}
 
 -- ---- one item more, and the first one
 
@@ -31,7 +32,8 @@ first_items zero (x ∷ xs) ys = ([], refl)
 first_items (suc n) (x ∷ xs) ys = let more = first_items n xs ys in (more.0, ap (λ l. x ∷ l) more.1)
 
 -- what holds of each item holds of each in front
-pub front_keeps : {A : Type 0} (P : A → Type 0) (n : ℕ) (xs : List A) → AllByRecursion P xs → AllByRecursion P (take n xs)
+pub front_keeps : {A : Type 0} (P : A → Type 0) (n : ℕ) (xs : List A) → AllByRecursion P xs
+    → AllByRecursion P (take n xs)
 front_keeps P zero xs all = tt
 front_keeps P (suc n) [] all = tt
 front_keeps P (suc n) (x ∷ xs) all = (all.0, front_keeps P n xs all.1)
@@ -62,3 +64,14 @@ cut_more k n xs = ap (λ (l : List ℕ). take k xs ++ take n l) (take_rest xs k)
 pub count_by-append : {A : Type 0} (p : A → Bool) (xs ys : List A)
     → count_by p (xs ++ ys) ≡ count_by p xs + count_by p ys
 count_by-append {A} p xs ys = sum_by-append (λ (x : A). cond (p x) 1 0) xs ys
+
+-- and of one item more in front
+pub count_by-cons : {A : Type 0} (p : A → Bool) (x : A) (xs : List A)
+    → count_by p (x ∷ xs) ≡ cond (p x) 1 0 + count_by p xs
+count_by-cons {A} p x xs = sum_by-cons (λ (y : A). cond (p y) 1 0) x xs
+
+-- ---- facts of each item
+
+-- of one item, and of those behind it
+pub also : {Held Rest : Type 0} → Held → Rest → Held × Rest
+also held rest = (held, rest)

@@ -74,10 +74,6 @@ bit_at-turned k n i lt =
     let high : turned k n / 2 ^ i ≡ turned (j + 1) n = rw e at (turned_high (j + 1) i n) in
     rw high (turned_one_more j n)
 
-mod_two : (n j : ℕ) → 0 < j → n % 2 ^ j % 2 ≡ n % 2
-mod_two n zero lt = absurd (omega arith)
-mod_two n (suc j) lt = let e : j + 1 ≡ suc j = omega arith in let h = rw e at (mod-pow-add n j 1) in omega arith
-
 bit_back : (n k i : ℕ) → i < k → bit_at n (k - 1 - (k - 1 - i)) ≡ bit_at (n % 2 ^ k) i
 bit_back n k i lt = let e : k - 1 - (k - 1 - i) ≡ i = omega arith in rw e (sym (bit_at_low n k i lt))
 

@@ -45,10 +45,6 @@ gives_then old mid new a b event first second = λ front stands.
           ∙ ap (λ (es : List MtcEvent). es ++ events_of event) one.1,
     )
 
-pub gives_none : (old new : MtcReader) (bytes : List ℕ) → Passes old new bytes → Gives old new bytes None
-gives_none old new bytes passes = λ front stands. let is = passes front stands in
-    (is.0, is.1 ∙ sym (append-nil (events_in front)))
-
 pub passes_none : (old new : MtcReader) (bytes : List ℕ) (event : Option MtcEvent) → event ≡ None
     → Gives old new bytes event → Passes old new bytes
 passes_none old new bytes event none gives = λ front stands.

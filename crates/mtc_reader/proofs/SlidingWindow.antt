@@ -5,6 +5,7 @@ use Rattle.std.proofs.Common.{◌≡◌, ◌≢◌, ◌<◌, ℕ, ◌+◌, List,
 use Rattle.std.proofs.Common.{arith}
 use Rattle.std.proofs.Common.{append_assoc}
 use Rattle.std.specs.List.{remove, AllByRecursion}
+use Rattle.lemmas.specs.Lists.{also}
 use Rattle.mtc_reader.specs.declared.event.MtcEvent.{MtcEvent}
 use Rattle.mtc_reader.specs.declared.message.Message.{Message}
 use Rattle.mtc_reader.specs.declared.message.Message.TheVariants.{QuarterFrame}
@@ -152,9 +153,6 @@ inner_of piece number low high is =
     ((λ e. absurd (omega (arith, low, is.is_piece, e))), (λ e. absurd (omega (arith, high, is.is_piece, e))))
 
 -- ---- eight of them, and six
-
-also : {Held Rest : Type 0} → Held → Rest → Held × Rest
-also held rest = (held, rest)
 
 pub four_numbers : (a b c d : ℕ) → IsNumber a → IsNumber b → IsNumber c → IsNumber d → AreNumbers (a ∷ b ∷ c ∷ d ∷ [])
 four_numbers a b c d one two three four = also one (also two (also three (also four tt)))

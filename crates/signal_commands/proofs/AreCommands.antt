@@ -26,7 +26,7 @@ use Rattle.tc_io.specs.Sink.{IsFront}
 use Rattle.tc_job.specs.Slicing.{Slices}
 use Rattle.vitc_reader.specs.declared.field.FieldAnswer.{FieldAnswer}
 use Rattle.tc_command.specs.Command.{IsCommand}
-use Rattle.tc_command.specs.KeptFirst.{front_of_more}
+use Rattle.tc_command.specs.FirstLemmas.{front_of_more}
 use Rattle.signal_commands.specs.declared.mtc_read.TheConstants.{MAX_BYTES}
 use Rattle.signal_commands.specs.declared.pcm_ltc.TheConstants.{MAX_SAMPLES}
 use Rattle.signal_commands.specs.MtcRead.{along_midi, event_lines, last_mtc_line}

@@ -1,7 +1,7 @@
 -- Events that are words on time are as many words, and none of them is refused or lost, so the last line says so.
-use Rattle.std.proofs.Common.{◌≡◌, ℕ, ◌+◌, Bool, cond, List, [], ◌∷◌, length, count_by, take, drop, refl, ap, ◌∙◌}
+use Rattle.std.proofs.Common.{◌≡◌, ℕ, ◌+◌, List, [], ◌∷◌, length, count_by, take, drop, refl, ap, ◌∙◌}
 use Rattle.std.proofs.Common.{arith}
-use Rattle.std.proofs.lemmas.List.Sums.{sum_by-cons}
+use Rattle.lemmas.specs.Lists.{count_by-cons}
 use Rattle.biphase.specs.declared.cell.Cell.{Cell}
 use Rattle.direction_reader.specs.declared.event.Event.{Event}
 use Rattle.direction_reader.specs.declared.event.Event.TheVariants.{Word, Refused, Lost}
@@ -16,11 +16,6 @@ pub record AreWords (words : ℕ) (events : List Event) : Type 0 where
   pub none_refused : count_by is_refused events ≡ 0
   pub none_lost : count_by is_lost events ≡ 0
 
--- an event more is counted, or not
-counted : (kind : Event → Bool) (event : Event) (events : List Event)
-    → count_by kind (event ∷ events) ≡ cond (kind event) 1 0 + count_by kind events
-counted kind event events = sum_by-cons (λ e. cond (kind e) 1 0) event events
-
 pub counts : (delay tick : ℕ) (cells : List Cell) (words : List Played) (events : List Event)
     → AreOnTime delay events (events_of_words tick cells words) → AreWords (length words) events
 unfolding events_of_words
@@ -32,7 +27,7 @@ counts delay tick cells (p ∷ words) (Lost interval at ∷ events) on_time = ab
 counts delay tick cells (p ∷ words) (Word way word at long ∷ events) on_time =
     let more = counts delay (tick + duration (take 80 cells)) (drop 80 cells) words events on_time.1 in
     record {
-      all = counted is_word (Word way word at long) events ∙ ap (λ (n : ℕ). 1 + n) more.all ∙ (omega arith);
-      none_refused = counted is_refused (Word way word at long) events ∙ ap (λ (n : ℕ). 0 + n) more.none_refused;
-      none_lost = counted is_lost (Word way word at long) events ∙ ap (λ (n : ℕ). 0 + n) more.none_lost;
+      all = count_by-cons is_word (Word way word at long) events ∙ ap (λ (n : ℕ). 1 + n) more.all ∙ (omega arith);
+      none_refused = count_by-cons is_refused (Word way word at long) events ∙ ap (λ (n : ℕ). 0 + n) more.none_refused;
+      none_lost = count_by-cons is_lost (Word way word at long) events ∙ ap (λ (n : ℕ). 0 + n) more.none_lost;
     }

@@ -2,7 +2,8 @@
 use Rattle.std.proofs.Common.{◌≡◌, ℕ, zero, suc, ◌+◌, Bool, true, false, cond, List, [], ◌∷◌, ◌++◌, map, length}
 use Rattle.std.proofs.Common.{count_by, refl, ap, ap₂, ◌∙◌, arith}
 use Rattle.std.specs.List.{fold, list_any, take_while}
-use Rattle.std.proofs.lemmas.List.Sums.{sum_by-cons, take_while-cons}
+use Rattle.std.proofs.lemmas.List.Sums.{take_while-cons}
+use Rattle.lemmas.specs.Lists.{count_by-cons}
 use Rattle.flywheel.specs.declared.frame.Frame.{Frame}
 use Rattle.flywheel.specs.declared.frame.Frame.TheVariants.{Heard, Invented, Gone}
 use Rattle.flywheel.specs.declared.heard.HeardWord.{HeardWord}
@@ -54,10 +55,6 @@ taken_off : (frame : Frame) (more : List Frame) → goes_on frame ≡ false → 
 taken_off frame more off =
     take_while-cons goes_on frame more ∙ ap (λ (b : Bool). cond b (frame ∷ taken more) []) off
 
-counted : (frame : Frame) (more : List Frame)
-    → count_by is_heard (frame ∷ more) ≡ cond (is_heard frame) 1 0 + count_by is_heard more
-counted frame more = sum_by-cons (λ (f : Frame). cond (is_heard f) 1 0) frame more
-
 -- frames behind a mark begin no span. What the open span takes of them ends in a mark, has so many that were heard,
 -- and none that was invented before one of these
 record GoesTo (mark : Mark) (frames : List Frame) (last : Mark) (heard : ℕ) : Type 0 where
@@ -96,7 +93,8 @@ stays mark (Invented label direction step tick ∷ more) none =
     record {
       none_begin = later.none_begin;
       ends = ap (fold latest_of mark) on ∙ later.ends;
-      counts = ap (count_by is_heard) on ∙ counted frame (taken more) ∙ ap (λ (n : ℕ). 0 + n) later.counts;
+      counts = ap (count_by is_heard) on ∙ count_by-cons is_heard frame (taken more)
+          ∙ ap (λ (n : ℕ). 0 + n) later.counts;
       bridges = ap bridged_in on ∙ bridged_none frame (taken more) (unheard more none) later.bridges;
     }
 stays mark (Gone tick ∷ more) none =
@@ -121,7 +119,8 @@ goes_to word (next ∷ more) rest none =
     record {
       none_begin = later.none_begin;
       ends = ap (fold latest_of (mark_there word)) on ∙ later.ends;
-      counts = ap (count_by is_heard) on ∙ counted frame (taken behind) ∙ ap (λ (n : ℕ). 1 + n) later.counts
+      counts = ap (count_by is_heard) on ∙ count_by-cons is_heard frame (taken behind)
+          ∙ ap (λ (n : ℕ). 1 + n) later.counts
           ∙ (omega arith);
       bridges = ap bridged_in on ∙ bridged_heard next (taken behind) later.bridges;
     }

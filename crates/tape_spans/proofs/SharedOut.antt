@@ -5,8 +5,8 @@ use Rattle.std.proofs.Common.{sym, ◌∙◌, ap, ap₂, subst, arith, count_by}
 use Rattle.std.specs.List.{filter, flat_map, sum_by, take_while}
 use Rattle.std.proofs.lemmas.List.Concat.{flat_map-cons}
 use Rattle.std.proofs.lemmas.List.Elements.{All-cons, All-nil}
-use Rattle.std.proofs.lemmas.List.Sums.{sum_by-append, sum_by-cons, take_while-cons}
-use Rattle.lemmas.specs.Lists.{take_while-on}
+use Rattle.std.proofs.lemmas.List.Sums.{sum_by-cons, take_while-cons}
+use Rattle.lemmas.specs.Lists.{count_by-append, count_by-cons, take_while-on}
 use Rattle.tc_address.specs.declared.direction.Direction.{Direction}
 use Rattle.tc_address.specs.Label.{Address}
 use Rattle.flywheel.specs.declared.frame.Frame.{Frame}
@@ -113,18 +113,10 @@ hold_together (Gone tick ∷ more) before on = hold_together more _ on.1
 
 -- ---- and the frames that were heard are counted
 
-count-cons : (frame : Frame) (frames : List Frame) → count_by is_heard (frame ∷ frames)
-    ≡ cond (is_heard frame) 1 0 + count_by is_heard frames
-count-cons frame frames = sum_by-cons (λ (f : Frame). cond (is_heard f) 1 0) frame frames
-
-count-append : (frames more : List Frame) → count_by is_heard (frames ++ more)
-    ≡ count_by is_heard frames + count_by is_heard more
-count-append frames more = sum_by-append (λ (f : Frame). cond (is_heard f) 1 0) frames more
-
 count-more : (frame : Frame) (a b : List Frame) → count_by is_heard a ≡ count_by is_heard b
     → count_by is_heard (frame ∷ a) ≡ count_by is_heard (frame ∷ b)
-count-more frame a b same = count-cons frame a ∙ ap (λ (n : ℕ). cond (is_heard frame) 1 0 + n) same
-    ∙ sym (count-cons frame b)
+count-more frame a b same = count_by-cons is_heard frame a ∙ ap (λ (n : ℕ). cond (is_heard frame) 1 0 + n) same
+    ∙ sym (count_by-cons is_heard frame b)
 
 count-present : (frames : List Frame) → count_by is_heard (present frames) ≡ count_by is_heard frames
 count-present [] = refl
@@ -133,14 +125,15 @@ count-present (Heard label direction joined tick ∷ more) =
 count-present (Invented label direction step tick ∷ more) =
     count-more (Invented label direction step tick) (present more) more (count-present more)
 count-present (Gone tick ∷ more) =
-    let one = count-cons (Gone tick) more in let same = count-present more in omega (arith, one, same)
+    let one = count_by-cons is_heard (Gone tick) more in let same = count-present more in omega (arith, one, same)
 
 count-spans : (all : List SpanFrames) → count_by is_heard (flat_map frames_in all)
     ≡ sum_by (λ span. span.heard) (map span_of all)
 count-spans [] = refl
 count-spans (s ∷ more) =
-    ap (count_by is_heard) (flat_map-cons frames_in s more) ∙ count-append (frames_in s) (flat_map frames_in more)
-    ∙ ap₂ (λ (a b : ℕ). a + b) (count-cons (first_frame s.first) s.more) (count-spans more)
+    ap (count_by is_heard) (flat_map-cons frames_in s more)
+    ∙ count_by-append is_heard (frames_in s) (flat_map frames_in more)
+    ∙ ap₂ (λ (a b : ℕ). a + b) (count_by-cons is_heard (first_frame s.first) s.more) (count-spans more)
     ∙ sym (sum_by-cons (λ (span : Span). span.heard) (span_of s) (map span_of more))
 
 pub all_heard : (frames : List Frame) → GoOn None frames

@@ -4,7 +4,8 @@ use Rattle.std.specs.Prelude.{◌&&◌, nat_le, [], ◌∷◌}
 use Rattle.std.proofs.lemmas.Bool.{eqb-true, eqb-false, leb-true, and_parts}
 use Rattle.std.proofs.lemmas.List.Sums.{AllPass-from_list_all}
 use Rattle.std.proofs.lemmas.Nat.{mod_below}
-use Rattle.tc_bits.specs.FieldLemmas.{also, digit_below}
+use Rattle.lemmas.specs.Lists.{also}
+use Rattle.tc_bits.specs.FieldLemmas.{digit_below}
 use Rattle.tc_address.specs.LabelLemmas.{rate_within}
 use Rattle.tc_address.specs.declared.system.System.{System}
 use Rattle.tc_address.specs.declared.system.System.TheVariants.{F24, F25, F30}
@@ -181,8 +182,9 @@ same_raw a b c d e f g h flags user a' b' c' d' e' f' g' h' flags' user' ha hb h
 
 flags_read : (t : Table) (flags : Flags) (bits : ℕ) → SpellsFlags t flags bits → flags ≡ flags_in t bits
 flags_read t flags bits s =
-    same_flags flags.drop_frame flags.colour_frame flags.group_flag_zero flags.group_flag_one flags.group_flag_two _ _ _ _ _
-    (sym s.drop_frame) (sym s.colour_frame) (sym s.group_flag_zero) (sym s.group_flag_one) (sym s.group_flag_two)
+    same_flags flags.drop_frame flags.colour_frame flags.group_flag_zero flags.group_flag_one flags.group_flag_two
+    _ _ _ _ _ (sym s.drop_frame) (sym s.colour_frame) (sym s.group_flag_zero) (sym s.group_flag_one)
+    (sym s.group_flag_two)
 
 says : (system : System) (t : Table) (c : FieldValues) (bits : ℕ) → IsFields c → system_with c.label.count ≡ system
     → SpellsFields t c bits → Says system (raw_in t bits) c

@@ -14,10 +14,6 @@ pub digit_below : (flag : Bool) → digit flag < 2
 digit_below true = lit< tt
 digit_below false = lit< tt
 
--- a place that holds, and the rest of them
-pub also : {Held Rest : Type 0} → Held → Rest → Held × Rest
-also held rest = (held, rest)
-
 -- the parts of a word and its digits, each compared
 pub said : {system : System} {count : Count} {hours minutes seconds frames : ℕ} {flags : Flags} {user : ℕ}
     {raw : RawFields}

@@ -66,7 +66,8 @@ address_row t a =
 abbrev pub flag_row : Table → Flags → List Entry
 flag_row t f =
     entry (place t.drop_frame 1) (digit f.drop_frame) ∷ entry (place t.colour_frame 1) (digit f.colour_frame)
-    ∷ entry (place t.group_flag_zero 1) (digit f.group_flag_zero) ∷ entry (place t.group_flag_one 1) (digit f.group_flag_one)
+    ∷ entry (place t.group_flag_zero 1) (digit f.group_flag_zero)
+    ∷ entry (place t.group_flag_one 1) (digit f.group_flag_one)
     ∷ entry (place t.group_flag_two 1) (digit f.group_flag_two) ∷ []
 
 -- and the user groups

@@ -7,7 +7,7 @@ use Rattle.tc_top.specs.Answer.{EndsBy, IsAnswer}
 use Rattle.tc_top.specs.Commands.{meaning_of}
 use Rattle.tc_command.specs.Command.{IsCommand}
 use Rattle.tc_command.specs.Exchange.{Exchange}
-use Rattle.tc_command.specs.KeptFirst.{first_at_stop}
+use Rattle.tc_command.specs.FirstLemmas.{first_at_stop}
 use Rattle.tc_command.specs.Notes.{stop_note}
 use Rattle.tc_command.specs.Status.{status_of}
 use Rattle.tc_command.specs.Stops.{StopsAlong}

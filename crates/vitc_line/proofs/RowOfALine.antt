@@ -1,7 +1,8 @@
 -- The numbers of a line share out its 90 bits, so their sum by weights spells it, and nothing else does.
 use Rattle.std.proofs.Common.{◌≡◌, ℕ, zero, suc, ◌/◌, ◌^◌, ◌<◌, Bool, true, false, refl, lit<, arith}
 use Rattle.std.proofs.lemmas.Nat.{mod_below}
-use Rattle.tc_bits.specs.FieldLemmas.{also, digit_below}
+use Rattle.lemmas.specs.Lists.{also}
+use Rattle.tc_bits.specs.FieldLemmas.{digit_below}
 use Rattle.tc_address.specs.declared.system.System.{System}
 use Rattle.tc_address.specs.declared.system.System.TheVariants.{F24, F25, F30}
 use Rattle.tc_address.specs.Count.{system_with}

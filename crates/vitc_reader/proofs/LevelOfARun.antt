@@ -29,7 +29,8 @@ all_ones n k ones =
 all_zeros : (n k : ℕ) → ((i : ℕ) → i < k → bit_at n i ≡ 0) → n % 2 ^ k ≡ 0
 all_zeros n k zeros =
     let some = pow_pos k in
-    same_from_bits_below k (n % 2 ^ k) 0 (mod_below n (2 ^ k) some) some (λ i lt. bit_at_low n k i lt ∙ zeros i lt ∙ sym (bit_at-zero i))
+    same_from_bits_below k (n % 2 ^ k) 0 (mod_below n (2 ^ k) some) some
+    (λ i lt. bit_at_low n k i lt ∙ zeros i lt ∙ sym (bit_at-zero i))
 
 one_or_more : (n k lowest : ℕ) → bit_at n k ≡ lowest → (n % 2 ≡ lowest → ⊥) → 1 ≤ k
 one_or_more n zero lowest at not_lowest = absurd (not_lowest (omega (arith, at)))

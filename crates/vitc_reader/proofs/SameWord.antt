@@ -32,21 +32,30 @@ same_parts a b =
     && ((beq a.fields.flags.drop_frame b.fields.flags.drop_frame
     && (beq a.fields.flags.colour_frame b.fields.flags.colour_frame
     && (beq a.fields.flags.group_flag_zero b.fields.flags.group_flag_zero
-    && (beq a.fields.flags.group_flag_one b.fields.flags.group_flag_one && beq a.fields.flags.group_flag_two b.fields.flags.group_flag_two))))
+    && (beq a.fields.flags.group_flag_one b.fields.flags.group_flag_one
+    && beq a.fields.flags.group_flag_two b.fields.flags.group_flag_two))))
     && eqb a.fields.user b.fields.user))
     && beq a.field_mark b.field_mark
 
 abbrev word_by : Count → ℕ → ℕ → ℕ → ℕ → Bool → Bool → Bool → Bool → Bool → ℕ → Bool → VitcWord
 word_by count h m s f drop colour zero one two user mark =
-    let flags : Flags = record { drop_frame = drop; colour_frame = colour; group_flag_zero = zero; group_flag_one = one; group_flag_two = two } in
+    let flags : Flags = record {
+      drop_frame = drop;
+      colour_frame = colour;
+      group_flag_zero = zero;
+      group_flag_one = one;
+      group_flag_two = two;
+    } in
     record { fields = field_values (address count h m s f) flags user; field_mark = mark }
 
 same_by : (count : Count) (h m s f : ℕ) (drop colour zero one two : Bool) (user : ℕ) (mark : Bool)
     (count' : Count) (h' m' s' f' : ℕ) (drop' colour' zero' one' two' : Bool) (user' : ℕ) (mark' : Bool)
-    → count ≡ count' → h ≡ h' → m ≡ m' → s ≡ s' → f ≡ f' → drop ≡ drop' → colour ≡ colour' → zero ≡ zero' → one ≡ one' → two ≡ two'
-    → user ≡ user' → mark ≡ mark'
-    → word_by count h m s f drop colour zero one two user mark ≡ word_by count' h' m' s' f' drop' colour' zero' one' two' user' mark'
-same_by count h m s f drop colour zero one two user mark count' h' m' s' f' drop' colour' zero' one' two' user' mark' a b c d e g i j k l n o = cc
+    → count ≡ count' → h ≡ h' → m ≡ m' → s ≡ s' → f ≡ f'
+    → drop ≡ drop' → colour ≡ colour' → zero ≡ zero' → one ≡ one' → two ≡ two' → user ≡ user' → mark ≡ mark'
+    → word_by count h m s f drop colour zero one two user mark
+    ≡ word_by count' h' m' s' f' drop' colour' zero' one' two' user' mark'
+same_by count h m s f drop colour zero one two user mark count' h' m' s' f' drop' colour' zero' one' two' user' mark'
+    a b c d e g i j k l n o = cc
 
 pub parts_same : (a b : VitcWord) → same_parts a b ≡ true → a ≡ b
 parts_same a b e =
@@ -62,10 +71,11 @@ parts_same a b e =
     let zero = and_parts _ _ colour.1 in
     let one = and_parts _ _ zero.1 in
     same_by a.fields.label.count a.fields.label.hours a.fields.label.minutes a.fields.label.seconds a.fields.label.frames
-    a.fields.flags.drop_frame a.fields.flags.colour_frame a.fields.flags.group_flag_zero a.fields.flags.group_flag_one a.fields.flags.group_flag_two a.fields.user a.field_mark
-    _ _ _ _ _ _ _ _ _ _ _ _
-    (same_true the_type (search rules) _ _ count.0) (eqb-true _ _ hours.0) (eqb-true _ _ minutes.0) (eqb-true _ _ seconds.0) (eqb-true _ _ seconds.1)
-    (beq_same _ _ drop.0) (beq_same _ _ colour.0) (beq_same _ _ zero.0) (beq_same _ _ one.0) (beq_same _ _ one.1) (eqb-true _ _ user.1) (beq_same _ _ mark.1)
+    a.fields.flags.drop_frame a.fields.flags.colour_frame a.fields.flags.group_flag_zero a.fields.flags.group_flag_one
+    a.fields.flags.group_flag_two a.fields.user a.field_mark _ _ _ _ _ _ _ _ _ _ _ _
+    (same_true the_type (search rules) _ _ count.0) (eqb-true _ _ hours.0) (eqb-true _ _ minutes.0)
+    (eqb-true _ _ seconds.0) (eqb-true _ _ seconds.1) (beq_same _ _ drop.0) (beq_same _ _ colour.0)
+    (beq_same _ _ zero.0) (beq_same _ _ one.0) (beq_same _ _ one.1) (eqb-true _ _ user.1) (beq_same _ _ mark.1)
 
 same_with_itself : (a : VitcWord) → same_parts a a ≡ true
 same_with_itself a =

@@ -1,4 +1,4 @@
-use Rattle.tc_command.specs.KeptTold.{meaning_is_told}
+use Rattle.tc_command.specs.ToldLemmas.{meaning_is_told}
 use Rattle.frame_commands.proofs.ltc_mtc.send_time_code.Goals as goal
 
 pub returns : goal.returns

@@ -1,4 +1,4 @@
-use Rattle.tc_command.specs.KeptTold.{text_is_told}
+use Rattle.tc_command.specs.ToldLemmas.{text_is_told}
 use Rattle.made_commands.proofs.about.tell_version.Goals as goal
 
 pub returns : goal.returns

@@ -1,5 +1,5 @@
 use Rattle.std.proofs.Common.{◌∙◌, sym}
-use Rattle.tc_command.specs.KeptTold.{made_is_lawful}
+use Rattle.tc_command.specs.ToldLemmas.{made_is_lawful}
 use Rattle.made_commands.proofs.ltc_make.stripes_are_lawful.Goals as goal
 
 pub returns : goal.returns

@@ -1,4 +1,4 @@
-use Rattle.tc_command.specs.KeptTold.{made_is_told}
+use Rattle.tc_command.specs.ToldLemmas.{made_is_told}
 use Rattle.made_commands.proofs.vitc_make.a_line_stripe_is_told.Goals as goal
 
 pub returns : goal.returns

@@ -1,4 +1,4 @@
-use Rattle.tc_command.specs.KeptTold.{meaning_is_lawful, meaning_is_told}
+use Rattle.tc_command.specs.ToldLemmas.{meaning_is_lawful, meaning_is_told}
 use Rattle.signal_commands.proofs.pcm_ltc.slice_sound.Goals as goal
 
 -- the choice of the engine is that of the words

@@ -1,7 +1,7 @@
 use Rattle.std.proofs.Common.{◌++◌, ◌∙◌}
 use Rattle.std.proofs.KnownBytes.{Appends-trans}
 use Rattle.tc_command.specs.KeptWorks.{at_err}
-use Rattle.tc_command.specs.KeptPushed.{front_of_piece, piece_pushed}
+use Rattle.tc_command.specs.PushLemmas.{front_of_piece, piece_pushed}
 use Rattle.tc_command.proofs.making.give_all.Goals as goal
 
 -- a front of the piece was pushed

@@ -1,4 +1,4 @@
-use Rattle.tc_command.specs.KeptStatus.{by_file, one_status}
+use Rattle.tc_command.specs.StatusLemmas.{by_file, one_status}
 use Rattle.tc_top.specs.Commands.{meaning_of}
 use Rattle.tc_top.proofs.laws.an_input_has_one_status.Goals as goal
 

@@ -1,8 +1,8 @@
 use Rattle.std.proofs.Common.{[], refl}
 use Rattle.std.proofs.KnownBytes.{Appends-nil}
 use Rattle.tc_command.specs.Exchange.{Exchange}
-use Rattle.tc_command.specs.KeptFirst.{first_at_end}
-use Rattle.tc_command.specs.KeptStatus.{done_is_final, stop_is_final}
+use Rattle.tc_command.specs.FirstLemmas.{first_at_end}
+use Rattle.tc_command.specs.StatusLemmas.{done_is_final, stop_is_final}
 use Rattle.tc_top.specs.Commands.{meaning_of}
 use Rattle.tc_top.proofs.StoppedAnswer.{answer_of}
 use Rattle.tc_top.proofs.streaming.stream.Goals as goal

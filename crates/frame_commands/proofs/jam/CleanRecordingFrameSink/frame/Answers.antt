@@ -4,7 +4,7 @@ use Rattle.tc_job.specs.Jam.{Jamming}
 use Rattle.frame_commands.specs.LtcJam.{clean_file}
 use Rattle.tc_command.specs.KeptWorks.{on_ok, on_err}
 use Rattle.frame_commands.proofs.FramesAnew.{bytes_of_frames, bytes_of_one, file_grows, piece_is}
-use Rattle.tc_command.specs.KeptPushed.{front_of_more}
+use Rattle.tc_command.specs.PushLemmas.{front_of_more}
 use Rattle.frame_commands.proofs.jam.CleanRecordingFrameSink.frame.Goals as goal
 
 -- its cells were pushed

@@ -3,7 +3,7 @@ use Rattle.std.proofs.KnownBytes.{Appends-nil}
 use Rattle.frame_commands.specs.KeptSteps.{HasFollowed, Stepping}
 use Rattle.frame_commands.specs.declared.ltc_chase.TheConstants.{MAX_FRAMES}
 use Rattle.tc_command.specs.KeptWorks.{on_ok, on_err}
-use Rattle.tc_command.specs.KeptPushed.{front_of_more}
+use Rattle.tc_command.specs.PushLemmas.{front_of_more}
 use Rattle.frame_commands.proofs.StepsGrow.{TraceLaws, line_added, lines_grow, lines_within, no_line_added, not_followed, step_followed}
 use Rattle.frame_commands.proofs.ltc_chase.StepLinesFrameSink.frame.Goals as goal
 

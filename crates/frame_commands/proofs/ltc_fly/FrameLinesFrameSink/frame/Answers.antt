@@ -2,7 +2,7 @@ use Rattle.std.proofs.Common.{◌++◌}
 use Rattle.frame_commands.specs.LtcFly.{frame_lines}
 use Rattle.tc_command.specs.KeptWorks.{on_ok, on_err}
 use Rattle.frame_commands.proofs.LinesOfFrames.{lines_and_more, lines_and_one}
-use Rattle.tc_command.specs.KeptPushed.{front_of_more}
+use Rattle.tc_command.specs.PushLemmas.{front_of_more}
 use Rattle.frame_commands.proofs.ltc_fly.FrameLinesFrameSink.frame.Goals as goal
 
 -- its line was pushed

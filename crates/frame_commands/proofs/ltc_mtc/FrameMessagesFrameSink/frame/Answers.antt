@@ -2,7 +2,7 @@ use Rattle.std.proofs.Common.{◌∙◌, ◌++◌, ◌∷◌, [], ℕ, List, ap,
 use Rattle.quarter_frame.specs.Runs.{mtc_of}
 use Rattle.quarter_frame.specs.StandsFor.{text_to_come}
 use Rattle.tc_command.specs.KeptWorks.{on_ok, on_err}
-use Rattle.tc_command.specs.KeptPushed.{front_of_more}
+use Rattle.tc_command.specs.PushLemmas.{front_of_more}
 use Rattle.frame_commands.proofs.ltc_mtc.FrameMessagesFrameSink.frame.Goals as goal
 
 -- its messages were pushed

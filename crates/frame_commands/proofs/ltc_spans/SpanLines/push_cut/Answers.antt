@@ -2,7 +2,7 @@ use Rattle.std.proofs.Common.{◌++◌, refl, sym, append-nil}
 use Rattle.std.proofs.KnownBytes.{Appends-trans}
 use Rattle.tape_spans.specs.StandsFor.{ended_lines, gap_lines}
 use Rattle.tc_command.specs.KeptWorks.{at_err, on_ok, on_err}
-use Rattle.tc_command.specs.KeptPushed.{front_of_more, front_of_piece}
+use Rattle.tc_command.specs.PushLemmas.{front_of_more, front_of_piece}
 use Rattle.frame_commands.proofs.ltc_spans.SpanLines.push_cut.Goals as goal
 
 -- both lines were pushed

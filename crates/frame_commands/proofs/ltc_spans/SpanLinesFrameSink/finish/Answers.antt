@@ -4,7 +4,7 @@ use Rattle.std.proofs.KnownBytes.{Appends-trans}
 use Rattle.tape_spans.specs.StandsFor.{ended_lines}
 use Rattle.tc_io.specs.Sink.{AppendsFront}
 use Rattle.tc_command.specs.KeptWorks.{at_err, on_ok, on_err}
-use Rattle.tc_command.specs.KeptPushed.{front_of_more, front_of_piece}
+use Rattle.tc_command.specs.PushLemmas.{front_of_more, front_of_piece}
 use Rattle.frame_commands.specs.LtcSpans.{spans_counted}
 use Rattle.frame_commands.proofs.SpansOfFrames.{counted_is, open_is}
 use Rattle.frame_commands.proofs.ltc_spans.SpanLinesFrameSink.finish.Goals as goal

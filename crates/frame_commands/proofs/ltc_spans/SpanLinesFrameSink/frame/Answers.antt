@@ -1,7 +1,7 @@
 use Rattle.std.proofs.Common.{◌++◌}
 use Rattle.tape_spans.specs.StandsFor.{cut_lines}
 use Rattle.tc_command.specs.KeptWorks.{on_ok, on_err}
-use Rattle.tc_command.specs.KeptPushed.{front_of_more}
+use Rattle.tc_command.specs.PushLemmas.{front_of_more}
 use Rattle.frame_commands.proofs.SpansOfFrames.{cut_added, cut_first}
 use Rattle.frame_commands.proofs.ltc_spans.SpanLinesFrameSink.frame.Goals as goal
 

@@ -4,7 +4,7 @@ use Rattle.std.specs.Io.KnownBytes.{Appends}
 use Rattle.limits.specs.declared.recording.TheConstants.{MAX_INTERVALS}
 use Rattle.direction_reader.specs.FirmStep.{firm_listed}
 use Rattle.tc_command.specs.KeptWorks.{on_ok, on_err, at_err}
-use Rattle.tc_command.specs.KeptPushed.{front_of_more, front_of_piece}
+use Rattle.tc_command.specs.PushLemmas.{front_of_more, front_of_piece}
 use Rattle.tc_io.specs.Sink.{AppendsFront}
 use Rattle.interval_commands.specs.declared.counts.Counts.{Counts}
 use Rattle.interval_commands.specs.FirmReport.{firm_lines}

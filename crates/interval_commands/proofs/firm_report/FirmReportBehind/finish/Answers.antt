@@ -2,7 +2,7 @@ use Rattle.std.proofs.Common.{[], ◌++◌, ◌∙◌, ap, append-nil, refl, sym
 use Rattle.std.proofs.KnownBytes.{Appends-trans}
 use Rattle.direction_reader.specs.FirmStep.{firm_list}
 use Rattle.report_text.specs.Texts.{read_end_line}
-use Rattle.tc_command.specs.KeptPushed.{front_of_more, front_of_piece}
+use Rattle.tc_command.specs.PushLemmas.{front_of_more, front_of_piece}
 use Rattle.lemmas.specs.Results.{through}
 use Rattle.tc_command.specs.KeptWorks.{on_ok, if_err, err_both}
 use Rattle.interval_commands.specs.declared.counts.Counts.{Counts}

@@ -3,7 +3,7 @@ use Rattle.std.proofs.Math.Seq.{take-append_seam}
 use Rattle.interval_file.specs.Piece.{spelling}
 use Rattle.tc_command.specs.KeptWorks.{err_both, if_err, on_ok}
 use Rattle.interval_commands.proofs.Converted.{part_due, put_behind}
-use Rattle.tc_command.specs.KeptPushed.{front_of_more}
+use Rattle.tc_command.specs.PushLemmas.{front_of_more}
 use Rattle.interval_commands.proofs.ltc_convert.ConversionBehind.interval.Goals as goal
 
 -- the interval was put behind what is gathered

@@ -12,8 +12,8 @@ returns-in-Next-clause-takes c =
     let d = c.self.inside in
     let st = c.in-Next.ensures.step in
     rw (← c.self.view_is, c.in-Next.ensures.left) (
-      next_added d.track d.notes c.in-Next.notes d.place d.stage c.in-Next.stage d.part.items c.args.bytes.now c.args.want
-          _ [] (rw c.len.ensures.value refl) c.requires.some c.requires.there st.0,
+      next_added d.track d.notes c.in-Next.notes d.place d.stage c.in-Next.stage d.part.items c.args.bytes.now
+          c.args.want _ [] (rw c.len.ensures.value refl) c.requires.some c.requires.there st.0,
       st.2 ∙ sym st.1,
     )
 

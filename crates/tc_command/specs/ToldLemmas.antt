@@ -1,9 +1,8 @@
 -- What is told of a command that promises no more than its meaning, or than what names its text, holds. No promise
--- speaks of these lemmas, which the
--- crates of the commands cite.
+-- speaks of these lemmas, which the crates of the commands cite.
 use Rattle.std.proofs.Common.{◌≡◌, ℕ, List, sym, subst}
 use Rattle.tc_command.specs.Command.{IsCommand}
-use Rattle.tc_command.specs.KeptText.{text_is_command}
+use Rattle.tc_command.specs.TextLemmas.{text_is_command}
 use Rattle.tc_command.specs.Meaning.{Meaning, writes}
 use Rattle.tc_command.specs.Told.{IsLawful, IsTold, told_by_meaning, told_made, told_text}
 
