@@ -100,7 +100,8 @@ pub all_read : ReadsRuns → Laws → (fresh : Bool) (since : Option Placed) (fr
 all_read r l fresh since front [] is go = nothing front
 all_read r l true None front (Heard label direction joined tick ∷ more) is go =
     run_and_more r l front label direction joined tick more go.0 go.2
-    (all_read r l false (Some (placed_at label direction)) _ more refl go.2)
+    (all_read r l false (Some (placed_at label direction))
+    (front ++ run_text (Heard label direction joined tick) (take_while goes_on more)) more refl go.2)
 all_read r l true None front (Invented label direction k tick ∷ more) is go = absurd go.1
 all_read r l true None front (Gone tick ∷ more) is go = all_read r l true None front more refl go
 all_read r l true (Some f) front (frame ∷ more) is go = cc
@@ -109,7 +110,8 @@ all_read r l false (Some f) front (Heard label direction true tick ∷ more) is 
     all_read r l false (Some (placed_at label direction)) front more refl go.2
 all_read r l false (Some f) front (Heard label direction false tick ∷ more) is go =
     run_and_more r l front label direction false tick more go.0 go.2
-    (all_read r l false (Some (placed_at label direction)) _ more refl go.2)
+    (all_read r l false (Some (placed_at label direction))
+    (front ++ run_text (Heard label direction false tick) (take_while goes_on more)) more refl go.2)
 all_read r l false (Some f) front (Invented label direction k tick ∷ more) is go =
     all_read r l false (Some (placed_at label direction)) front more refl go.2
 all_read r l false (Some f) front (Gone tick ∷ more) is go = all_read r l true None front more refl go
