@@ -5,11 +5,15 @@ mod FollowsTheFrames
 mod FramesAnew
 mod FramesFirst
 mod FramesInOrder
+mod HeardInTurn
+mod HeardLabels
+mod HeardWords
 mod LinesOfFrames
 mod MadeInOrder
 mod MarkedLines
 mod NextFrame
 mod OneText
+mod Ready
 mod SpansOfFrames
 mod SpansOfTheTape
 mod StepsGrow

@@ -37,7 +37,8 @@ unlimited : (flight : Flight) (made : FrameText) → ((frames : List Frame) → 
     → (input : List ℕ) → ¬ Meaning.spent (along_intervals (along_frames flight made)) input
 unlimited flight made few input =
     never_spent (along_frames flight made)
-    (λ header intervals (spent : IsFlightSpent flight made header intervals). few _ spent.too_many) (recording_of input)
+    (λ header intervals (spent : IsFlightSpent flight.witness flight made header intervals). few _ spent.too_many)
+    (recording_of input)
 
 pub fly_is_lawful : AlongLaws → AddsInOrder lines_of_frames → (flight : Flight) → IsLawful (told_ltc_fly flight)
 fly_is_lawful laws adds flight = record {

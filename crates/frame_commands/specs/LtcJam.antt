@@ -8,6 +8,7 @@ use Rattle.interval_file.specs.declared.header.IntervalHeader.{IntervalHeader}
 use Rattle.interval_file.specs.Grammar.{IsFile, file_of}
 use Rattle.tc_job.specs.Jam.{Jamming}
 use Rattle.interval_engine.specs.Along.{IsWholeOf, Printing, along_intervals}
+use Rattle.frame_commands.specs.Heard.{AreHeard}
 use Rattle.frame_commands.specs.OfFrames.{FrameText, along_frames, frames_of}
 use Rattle.biphase.specs.declared.profile.Profile.TheVariants.{Normal}
 use Rattle.direction_reader.specs.declared.event.Event.{Event}
@@ -41,7 +42,7 @@ pub record IsClean (j : Jamming) (input : Recording) (written : List ℕ) : Type
   pub header : IntervalHeader
   pub begins : input.header ≡ Some header
   pub events : List Event
-  pub are_events : AreEvents header.system j.flight.profile input.intervals events
+  pub are_events : AreHeard j.flight.witness header.system j.flight.profile input.intervals events
   pub frames : List Frame
   pub are_frames : frames ≡ frames_of j.flight.limit input.intervals events
   pub file : IsFile written (clean_header j header) (clean_intervals j frames)

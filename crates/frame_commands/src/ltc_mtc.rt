@@ -3,10 +3,11 @@ ghost use Rattle.tc_command.specs.Told.{IsLawful, WorksAsTold};
 ghost use Rattle.frame_commands.specs.LtcMtc.{told_ltc_mtc};
 ghost use Rattle.tc_job.specs.declared.flight.Flight.{Flight};
 
-use crate::flight::{FlightTo, FrameReader};
+use crate::flight::FlightTo;
 use crate::frame_sink::FrameSink;
-use crate::laws::{each_sink_of_frames_adds_in_order, what_is_made_of_frames_is_in_order};
-use direction_reader::laws::a_list_has_one_list_of_events;
+use crate::frames::Frames;
+use crate::laws::{each_sink_of_frames_adds_in_order, what_is_heard_is_in_order, what_is_made_of_frames_is_in_order};
+use direction_reader::{DirectionReader, FirmReader};
 use flywheel::Frame;
 use interval_engine::laws::recordings_grow;
 use interval_engine::work_along;
@@ -14,7 +15,7 @@ use interval_file::IntervalHeader;
 use quarter_frame::QuarterWriter;
 use tc_command::{Stop, push_piece};
 use tc_io::{Sink, Source};
-use tc_job::Flight;
+use tc_job::{Flight, Witness};
 
 /// Works `ltc-mtc`: the frames of a recording, where they are had so, as MIDI Time Code.
 pub fn send_time_code<S: Source, K: Sink>(
@@ -26,7 +27,10 @@ pub fn send_time_code<S: Source, K: Sink>(
         out.old out.new result }
 {
     messages_are_lawful();
-    work_along::<FlightTo<FrameMessages>, S, K>(flight, source, out)
+    match flight.witness {
+        Witness::NotAsked => work_along::<FlightTo<DirectionReader, FrameMessages>, S, K>(flight, source, out),
+        Witness::Asked => work_along::<FlightTo<FirmReader, FrameMessages>, S, K>(flight, source, out),
+    }
 }
 
 /// What is told of `ltc-mtc` is lawful.
@@ -36,7 +40,7 @@ pub fn messages_are_lawful()
     recordings_grow();
     what_is_made_of_frames_is_in_order();
     each_sink_of_frames_adds_in_order();
-    a_list_has_one_list_of_events();
+    what_is_heard_is_in_order();
 }
 
 /// The messages of frames. The choice is how the frames are had.
@@ -86,7 +90,13 @@ impl FrameSink for FrameMessages {
         false
     }
 
-    fn finish<K: Sink>(&self, _reader: &FrameReader, _out: &mut K) -> Result<(), Stop> {
+    fn finish<K: Sink>(
+        &self,
+        _frames: &Frames,
+        _intervals: u64,
+        _ticks: u64,
+        _out: &mut K,
+    ) -> Result<(), Stop> {
         Ok(())
     }
 }

@@ -86,7 +86,8 @@ behind law have flight bytes written (Some header) begins is =
     let fs = frames_of flight.limit intervals is.events in
     let read : events_in written ≡ read_of fs =
     ap events_in (is.are ∙ append-nil (mtc_of fs))
-    ∙ law flight.limit (sum intervals) (words_heard is.events) (labels_heard have header.system flight.profile intervals is.events is.are_events) in
+    ∙ law flight.limit (sum intervals) (words_heard is.events) (labels_heard have flight.witness header.system flight.profile
+    intervals is.events is.are_events) in
     record {
       header = header;
       begins = begins;

@@ -1,4 +1,9 @@
 use Rattle.frame_commands.proofs.ltc_fly.fly_along.Goals as goal
 
-pub returns : goal.returns
-returns g c = record { told = c.flown_frames_are_told.ensures c.args.flight; worked = c.work_along.ensures }
+pub returns-in-NotAsked : goal.returns-in-NotAsked
+returns-in-NotAsked g c =
+    record { told = c.flown_frames_are_told.ensures c.args.flight; worked = rw c.in-NotAsked.is c.work_along.ensures }
+
+pub returns-in-Asked : goal.returns-in-Asked
+returns-in-Asked g c =
+    record { told = c.flown_frames_are_told.ensures c.args.flight; worked = rw c.in-Asked.is c.work_along-in-Asked.ensures }
