@@ -14,9 +14,9 @@ ghost use Rattle.frame_commands.specs.KeptFlight.{CountsAll, FitsFlight, Sends, 
 ghost use Rattle.frame_commands.specs.OfFrames.{AreTooMany, FrameText};
 
 use crate::frames::Frames;
-use limits::MAX_INTERVALS;
 use flywheel::Frame;
 use interval_file::IntervalHeader;
+use limits::MAX_INTERVALS;
 use tc_command::Stop;
 use tc_io::Sink;
 use tc_job::Flight;

@@ -22,9 +22,9 @@ ghost use Rattle.frame_commands.specs.KeptFlight.{
 };
 
 use crate::words::Words;
-use limits::MAX_INTERVALS;
 use flywheel::laws::{frames_come_in_order, frames_of_a_front_come_first};
 use flywheel::{Flywheel, Frame};
+use limits::MAX_INTERVALS;
 use line_text::Text;
 use report_text::fly_end_text;
 

@@ -14,10 +14,10 @@ ghost use Rattle.frame_commands.specs.OfFrames.{words_heard};
 
 use crate::words::Words;
 use biphase::Profile;
-use limits::MAX_INTERVAL;
 use direction_reader::firm_laws::a_reader_has_told_what_no_further_interval_changes;
 use direction_reader::laws::a_reader_gives_the_events_of_its_list;
 use direction_reader::{Brought, DirectionReader, FirmEvents, FirmReader};
+use limits::MAX_INTERVAL;
 use tc_address::System;
 
 /// What hears the words of a recording.

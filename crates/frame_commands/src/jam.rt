@@ -11,7 +11,10 @@ ghost use Rattle.frame_commands.specs.LtcJam.{told_ltc_jam};
 use crate::flight::FlightTo;
 use crate::frame_sink::FrameSink;
 use crate::frames::Frames;
-use crate::laws::{each_sink_of_frames_adds_in_order, what_is_heard_is_in_order, what_is_jammed_is_read, what_is_made_of_frames_is_in_order};
+use crate::laws::{
+    each_sink_of_frames_adds_in_order, what_is_heard_is_in_order, what_is_jammed_is_read,
+    what_is_made_of_frames_is_in_order,
+};
 use direction_reader::{DirectionReader, FirmReader};
 use flywheel::Frame;
 use interval_engine::laws::recordings_grow;
@@ -30,8 +33,12 @@ pub fn jam_sync<S: Source, K: Sink>(jam: Jam, source: &mut S, out: &mut K) -> Re
 {
     a_copy_is_told(jam);
     match jam.flight().witness {
-        Witness::NotAsked => work_along::<FlightTo<DirectionReader, CleanRecording>, S, K>(jam, source, out),
-        Witness::Asked => work_along::<FlightTo<FirmReader, CleanRecording>, S, K>(jam, source, out),
+        Witness::NotAsked => work_along::<FlightTo<DirectionReader, CleanRecording>, S, K>(
+            jam, source, out,
+        ),
+        Witness::Asked => work_along::<FlightTo<FirmReader, CleanRecording>, S, K>(
+            jam, source, out,
+        ),
     }
 }
 

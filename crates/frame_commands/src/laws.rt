@@ -27,8 +27,8 @@ ghost use Rattle.frame_commands.specs.OfFrames.{FrameText, along_frames};
 use biphase::laws::shaped_cells_are_a_chain;
 use code_chase::laws::{a_frame_adds_a_line, each_loss_has_a_cause, whole_code_keeps_the_lock};
 use direction_reader::firm_laws::{
-    a_list_has_one_list_of_firm_events, a_list_has_one_list_of_told_events, a_witness_changes_words_alone,
-    told_events_come_first,
+    a_list_has_one_list_of_firm_events, a_list_has_one_list_of_told_events,
+    a_witness_changes_words_alone, told_events_come_first,
 };
 use direction_reader::laws::{
     a_list_has_one_list_of_events, each_list_has_events, events_of_a_front_come_first,

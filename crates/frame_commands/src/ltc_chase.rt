@@ -11,7 +11,10 @@ ghost use Rattle.frame_commands.specs.LtcChase.{told_ltc_chase};
 use crate::flight::FlightTo;
 use crate::frame_sink::FrameSink;
 use crate::frames::Frames;
-use crate::laws::{each_sink_of_frames_adds_in_order, what_is_chased_follows_the_code, what_is_heard_is_in_order, what_is_made_of_frames_is_in_order};
+use crate::laws::{
+    each_sink_of_frames_adds_in_order, what_is_chased_follows_the_code, what_is_heard_is_in_order,
+    what_is_made_of_frames_is_in_order,
+};
 use chase_script::{step_end_text, step_text};
 use code_chase::CodeChase;
 use code_chase::laws::a_frame_adds_a_line;
@@ -41,7 +44,9 @@ pub fn chase_code<S: Source, K: Sink>(
 {
     a_trace_is_told(run);
     match run.flight().witness {
-        Witness::NotAsked => work_along::<FlightTo<DirectionReader, StepLines>, S, K>(run, source, out),
+        Witness::NotAsked => work_along::<FlightTo<DirectionReader, StepLines>, S, K>(
+            run, source, out,
+        ),
         Witness::Asked => work_along::<FlightTo<FirmReader, StepLines>, S, K>(run, source, out),
     }
 }

@@ -6,7 +6,10 @@ ghost use Rattle.tc_job.specs.declared.flight.Flight.{Flight};
 use crate::flight::FlightTo;
 use crate::frame_sink::FrameSink;
 use crate::frames::Frames;
-use crate::laws::{each_sink_of_frames_adds_in_order, what_is_heard_is_in_order, what_is_made_of_frames_is_in_order};
+use crate::laws::{
+    each_sink_of_frames_adds_in_order, what_is_heard_is_in_order,
+    what_is_made_of_frames_is_in_order,
+};
 use direction_reader::{DirectionReader, FirmReader};
 use flywheel::Frame;
 use flywheel::laws::invention_is_bounded_and_marked;
@@ -29,7 +32,9 @@ pub fn fly_along<S: Source, K: Sink>(
 {
     flown_frames_are_told();
     match flight.witness {
-        Witness::NotAsked => work_along::<FlightTo<DirectionReader, FrameLines>, S, K>(flight, source, out),
+        Witness::NotAsked => work_along::<FlightTo<DirectionReader, FrameLines>, S, K>(
+            flight, source, out,
+        ),
         Witness::Asked => work_along::<FlightTo<FirmReader, FrameLines>, S, K>(flight, source, out),
     }
 }

@@ -6,7 +6,10 @@ ghost use Rattle.tc_job.specs.declared.flight.Flight.{Flight};
 use crate::flight::FlightTo;
 use crate::frame_sink::FrameSink;
 use crate::frames::Frames;
-use crate::laws::{each_sink_of_frames_adds_in_order, what_is_heard_is_in_order, what_is_made_of_frames_is_in_order};
+use crate::laws::{
+    each_sink_of_frames_adds_in_order, what_is_heard_is_in_order,
+    what_is_made_of_frames_is_in_order,
+};
 use direction_reader::{DirectionReader, FirmReader};
 use flywheel::Frame;
 use interval_engine::laws::recordings_grow;
@@ -28,8 +31,12 @@ pub fn send_time_code<S: Source, K: Sink>(
 {
     messages_are_lawful();
     match flight.witness {
-        Witness::NotAsked => work_along::<FlightTo<DirectionReader, FrameMessages>, S, K>(flight, source, out),
-        Witness::Asked => work_along::<FlightTo<FirmReader, FrameMessages>, S, K>(flight, source, out),
+        Witness::NotAsked => work_along::<FlightTo<DirectionReader, FrameMessages>, S, K>(
+            flight, source, out,
+        ),
+        Witness::Asked => work_along::<FlightTo<FirmReader, FrameMessages>, S, K>(
+            flight, source, out,
+        ),
     }
 }
 
