@@ -18,3 +18,4 @@ mod SpansOfFrames
 mod SpansOfTheTape
 mod StepsGrow
 mod ToldOfFrames
+mod WorkedBy

@@ -17,7 +17,7 @@ returns-clause-ends g c =
     let second = c.end_text.result.items in
     on_ok c.push_line.result c.push_line.ensures.all (λ pushed choice header list frames was counts.
     let opened = open_is s.tape s.tick_rate s.system header frames first was (c.current.ensures.line frames s.tick_rate s.system was.stands) in
-    let counted = counted_is c.args.frames.now frames list second c.args.intervals c.args.ticks counts
+    let counted = counted_is c.args._frames.now frames list second c.args.intervals c.args.ticks counts
     (c.end_text.ensures frames was.stands) in
     subst (λ (l : List ℕ). Appends (g.K.Sink.written c.args.out.now) (g.K.Sink.written c.push_line.new.out) l)
     (ap₂ (λ (a b : List ℕ). a ++ b) opened counted) (Appends-trans _ _ _ first second c.in_ok-push_span.ensures.all pushed))
@@ -40,7 +40,7 @@ returns-clause-front g c =
     let second = c.end_text.result.items in
     on_err c.push_line.result c.push_line.ensures.front (λ front choice header list frames was counts.
     let opened = open_is s.tape s.tick_rate s.system header frames first was (c.current.ensures.line frames s.tick_rate s.system was.stands) in
-    let counted = counted_is c.args.frames.now frames list second c.args.intervals c.args.ticks counts
+    let counted = counted_is c.args._frames.now frames list second c.args.intervals c.args.ticks counts
     (c.end_text.ensures frames was.stands) in
     subst (λ (l : List ℕ). AppendsFront (g.K.Sink.written c.args.out.now) (g.K.Sink.written c.push_line.new.out) l)
     (ap₂ (λ (a b : List ℕ). a ++ b) opened counted)
