@@ -12,6 +12,7 @@ pub mod Hundredth
 pub mod KeepsTheKinds
 pub mod KeepsTheLast
 pub mod KeepsTheSum
+pub mod LastTransition
 pub mod LastsLong
 pub mod LaterEvents
 pub mod MadeMargin

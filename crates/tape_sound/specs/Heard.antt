@@ -8,7 +8,7 @@ use Rattle.biphase.specs.Chain.{flat}
 use Rattle.biphase.specs.Tolerance.{length_of}
 use Rattle.pcm_front.specs.declared.threshold.Threshold.{Threshold}
 use Rattle.tape_sound.specs.Late.{IsSteady}
-use Rattle.tape_sound.specs.Margin.{ComeWithin, GoesOverAt, IsNoisy, StaysBetween}
+use Rattle.tape_sound.specs.Margin.{ComeWithin, GoesOverAt, GoesOverToItsEnd, IsNoisy, StaysBetween}
 
 -- the transitions behind one at a tick, where these are the intervals between them
 abbrev pub transitions_after : ℕ → List ℕ → List ℕ
@@ -45,6 +45,23 @@ pub record HasMargin (profile : Profile) (fineness : ℕ) (threshold : Threshold
   pub noisy : IsNoisy noise clean sound
   pub stays : StaysBetween low high noise threshold sound
   pub goes_over : GoesOverAt fineness low high delay (transitions start tape) clean
+  pub steady : IsSteady profile delay tape
+
+-- the same of a sound that ends while it goes over at the tape's last transition
+pub record HasMarginToItsEnd (profile : Profile) (fineness : ℕ) (threshold : Threshold) (tape : List Cell)
+    (sound : List ℤ) : Type 0 where
+  pub delay : ℕ
+  pub start : ℕ
+  pub noise : ℕ → ℕ
+  pub low : ℕ → ℤ
+  pub high : ℕ → ℤ
+  pub clean : List ℤ
+  pub noisy : IsNoisy noise clean sound
+  pub stays : StaysBetween low high noise threshold sound
+  pub from : List ℕ
+  pub last : ℕ
+  pub are : transitions start tape ≡ from ++ last ∷ []
+  pub goes_over : GoesOverToItsEnd fineness low high delay from last clean
   pub steady : IsSteady profile delay tape
 
 -- the tape's intervals are none too long and none too many for a file, also where each is found late

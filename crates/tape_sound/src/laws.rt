@@ -24,18 +24,19 @@ ghost use Rattle.pcm_front.specs.Level.{least_of, threshold_at};
 ghost use Rattle.pcm_front.specs.Sound.{sound};
 ghost use Rattle.tc_address.specs.declared.system.System.{System};
 ghost use Rattle.tape_sound.specs.Heard.{AreHeard, BeginsLate, FitsAFile, FitsBehindASilence, HasMargin};
+ghost use Rattle.tape_sound.specs.Heard.{transitions, HasMarginToItsEnd};
 ghost use Rattle.tape_sound.specs.Late.{delays_of, drift_from, AreFoundAs, IsSteady, IsWithinAHundredth};
 ghost use Rattle.tape_sound.specs.Made.{scaled};
 ghost use Rattle.tape_sound.specs.Margin.{noise_in_step, turns, ComeBehind, ComeWithin, GoesOverAt, HasRoom};
 ghost use Rattle.tape_sound.specs.Margin.{IsNoisy, StaysBetween};
 ghost use Rattle.tape_sound.specs.OnTime.{told, untimed, AreOnTime};
-ghost use Rattle.tape_sound.specs.Part.{FindThePart, PartHasMargin};
+ghost use Rattle.tape_sound.specs.Part.{FindThePart, FindThePartBehindOnes, PartHasMargin};
 ghost use Rattle.tape_sound.specs.Ramps.{high_along, low_along, noise_along, AreRamps, MovesOneWay, Ramp};
 
 use cell_tracker::laws::a_recording_within_the_tolerance_is_one_stretch;
 use direction_reader::laws::{
-    a_list_has_one_list_of_events, events_find_the_tape_again, events_tell_the_tape,
-    played_words_are_read,
+    a_list_has_one_list_of_events, events_find_the_tape_again,
+    events_find_the_tape_behind_even_ones, events_tell_the_tape, played_words_are_read,
 };
 use pcm_front::laws::{levels_are_bounded, the_first_distance_leads_to_the_first_crossing};
 
@@ -229,6 +230,18 @@ pub fn a_silence_before_the_tape_costs_no_word()
     the_first_distance_leads_to_the_first_crossing();
 }
 
+/// A sound that ends while it goes over at the tape's last transition, and may not reach the high bound any
+/// more, is heard too: each of its crossings comes within the delay of its own transition, and at most the
+/// last one is missing.
+pub fn a_sound_that_ends_while_it_goes_over_is_heard()
+    ensures heard { (profile : Profile) (fineness : ℕ) (threshold : Threshold) (tape : List Cell) (sound : List ℤ)
+        → 1 ≤ fineness → (margin : HasMarginToItsEnd profile fineness threshold tape sound)
+        → AreHeard profile margin.delay tape 0 (moments fineness threshold sound) }
+    ensures many { (profile : Profile) (fineness : ℕ) (threshold : Threshold) (tape : List Cell) (sound : List ℤ)
+        → 1 ≤ fineness → (margin : HasMarginToItsEnd profile fineness threshold tape sound)
+        → length (transitions margin.start tape) ≤ length (moments fineness threshold sound) + 1 }
+{}
+
 /// Between damage, under the normal and the worn tolerance: where a part of a sound has a margin for a
 /// part of a tape, whatever stands before and behind it, the events find this part of the tape.
 pub fn a_part_with_a_margin_is_found()
@@ -239,6 +252,18 @@ pub fn a_part_with_a_margin_is_found()
         → FindThePart system profile fineness threshold tape cut sound first count events }
 {
     events_find_the_tape_again();
+}
+
+/// Between damage, under the rough tolerance: the same behind a run of even ones and its zero, as a sync
+/// word has them, so also behind hiss before the tape.
+pub fn a_rough_part_with_a_margin_is_found_behind_even_ones()
+    ensures { (system : System) (fineness : ℕ) (threshold : Threshold) (tape : List Cell) (cut : ℕ) (sound : List ℤ)
+        (first count : ℕ) (events : List Event) → 1 ≤ fineness
+        → PartHasMargin Rough fineness threshold tape cut sound first count
+        → AreEvents system Rough (distances fineness threshold sound) events
+        → FindThePartBehindOnes system fineness threshold tape cut sound first count events }
+{
+    events_find_the_tape_behind_even_ones();
 }
 
 /// The sound that `ltc-pcm` makes of a steady tape has a margin: of its size less the threshold, where that
