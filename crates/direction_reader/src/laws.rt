@@ -163,8 +163,9 @@ pub fn events_find_the_tape_again()
 /// within it that has even ones between two zeros, as a sync word has, from the next unequal pair behind
 /// them to its end the events are those of the tape's own windows.
 pub fn events_find_the_tape_behind_even_ones()
-    ensures { (system : System) (intervals : List ℕ) (events : List Event)
-        → AreEvents system Rough intervals events → FindsTheTapeBehindOnes system intervals events }
+    ensures { (system : System) (profile : Profile) (intervals : List ℕ) (events : List Event)
+        → AreEvents system profile intervals events
+        → FindsTheTapeBehindOnes system profile intervals events }
 {
     a_recording_is_found_again_behind_even_ones();
     each_list_has_events();

@@ -81,8 +81,8 @@ part_is_found finds system profile f threshold tape cut sound first count events
     }
 
 -- the same under the rough tolerance, behind even ones
-pub part_is_found_behind_ones : ((system : System) (intervals : List ℕ) (events : List Event)
-    → AreEvents system Rough intervals events → FindsTheTapeBehindOnes system intervals events)
+pub part_is_found_behind_ones : ((system : System) (profile : Profile) (intervals : List ℕ) (events : List Event)
+    → AreEvents system profile intervals events → FindsTheTapeBehindOnes system profile intervals events)
     → (system : System) (f : ℕ) (threshold : Threshold) (tape : List Cell) (cut : ℕ) (sound : List ℤ) (first count : ℕ)
     (events : List Event) → 1 ≤ f → PartHasMargin Rough f threshold tape cut sound first count
     → AreEvents system Rough (distances f threshold sound) events
@@ -117,6 +117,6 @@ part_is_found_behind_ones finds system f threshold tape cut sound first count ev
       cells = cells.cells;
       bits_are = bits_found m.delay cells.late tape cells.cells cells.are;
       piece = cells.piece;
-      tell = λ end second run next. finds system (distances f threshold sound) events are split.0 (gaps own) split.1
-          cells.cells cut end second list cells.piece run next;
+      tell = λ end second run next. finds system Rough (distances f threshold sound) events are split.0 (gaps own)
+          split.1 cells.cells cut end second list cells.piece run next;
     }
