@@ -4,6 +4,7 @@ pub mod BetweenTheBounds
 pub mod CrossingsAreTurns
 pub mod FitsAFile
 pub mod FollowedLevel
+pub mod FourTogether
 pub mod FoundCells
 pub mod FoundIsAChain
 pub mod FoundLength

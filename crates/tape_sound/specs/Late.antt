@@ -73,3 +73,9 @@ RunWithinAHundredth delays delay before (cell ∷ tape) =
 abbrev pub IsWithinAHundredth : ℕ → ℕ → List Cell → Type 0
 IsWithinAHundredth delays delay [] = Unit {0}
 IsWithinAHundredth delays delay (cell ∷ tape) = RunWithinAHundredth delays delay (length_of cell) (cell ∷ tape)
+
+-- a tape that runs evenly: each zero lasts two halves, and each half of a one lasts as long
+abbrev pub RunsEvenly : ℕ → List Cell → Type 0
+RunsEvenly half [] = Unit {0}
+RunsEvenly half (Zero c ∷ tape) = (c ≡ 2 * half) × RunsEvenly half tape
+RunsEvenly half (One a b ∷ tape) = (a ≡ half) × (b ≡ half) × RunsEvenly half tape

@@ -91,8 +91,8 @@ pub record GoesOverAt (fineness : ℕ) (low high : ℕ → ℤ) (delay : ℕ) (f
   pub no_sooner : ComeBehind (turns fineness low clean side (first + 1) (length clean - (first + 1))) from
   pub within : ComeWithin delay from (turns fineness high clean side (first + 1) (length clean - (first + 1)))
 
--- the same of a clean sound that ends while it goes over for the last time. Behind the last moment it need not reach the
--- high bound, and its last sample comes within the delay behind that moment
+-- the same of a clean sound that ends while it goes over for the last time. Behind the last moment it need not reach
+-- the high bound, and its last sample comes within the delay behind that moment
 pub record GoesOverToItsEnd (fineness : ℕ) (low high : ℕ → ℤ) (delay : ℕ) (from : List ℕ) (last : ℕ) (clean : List ℤ)
     : Type 0 where
   pub side : Side

@@ -3,12 +3,12 @@ ghost use Rattle.std.specs.Prelude.{◌≡◌, ℕ, ◌+◌, ◌*◌, ◌/◌, �
 ghost use Rattle.std.specs.Prelude.{◌-◌, take, drop, ℤ, pos, neg_ℤ, ◌+ℤ◌, ◌-ℤ◌, unsigned_abs, length};
 ghost use Rattle.std.specs.List.{AllByRecursion};
 ghost use Rattle.biphase.specs.declared.cell.Cell.{Cell};
-ghost use Rattle.biphase.specs.declared.cell.Cell.TheVariants.{One};
+ghost use Rattle.biphase.specs.declared.cell.Cell.TheVariants.{Zero, One};
 ghost use Rattle.limits.specs.declared.recording.TheConstants.{MAX_INTERVALS};
 ghost use Rattle.biphase.specs.declared.profile.Profile.{Profile};
 ghost use Rattle.biphase.specs.declared.profile.Profile.TheVariants.{Normal, Worn, Rough};
-ghost use Rattle.biphase.specs.Chain.{bits, flat, IsChain};
-ghost use Rattle.biphase.specs.Tolerance.{LooksAtLast};
+ghost use Rattle.biphase.specs.Chain.{bits, flat, Follow, IsChain};
+ghost use Rattle.biphase.specs.Tolerance.{latest_with, length_of, LooksAtLast};
 ghost use Rattle.cell_tracker.specs.ChainPiece.{cells_from};
 ghost use Rattle.cell_tracker.specs.Lock.{IsLock};
 ghost use Rattle.direction_reader.specs.declared.event.Event.{Event};
@@ -26,6 +26,7 @@ ghost use Rattle.tc_address.specs.declared.system.System.{System};
 ghost use Rattle.tape_sound.specs.Heard.{AreHeard, BeginsLate, FitsAFile, FitsBehindASilence, HasMargin};
 ghost use Rattle.tape_sound.specs.Heard.{transitions, HasMarginToItsEnd};
 ghost use Rattle.tape_sound.specs.Late.{delays_of, drift_from, AreFoundAs, IsSteady, IsWithinAHundredth};
+ghost use Rattle.tape_sound.specs.Late.{RunsEvenly};
 ghost use Rattle.tape_sound.specs.Made.{scaled};
 ghost use Rattle.tape_sound.specs.Margin.{noise_in_step, turns, ComeBehind, ComeWithin, GoesOverAt, HasRoom};
 ghost use Rattle.tape_sound.specs.Margin.{IsNoisy, StaysBetween};
@@ -82,6 +83,20 @@ pub fn the_numbers_of_steadiness_are_the_least()
         × AreFoundAs 10 0 (One 118 118 ∷ []) (One 128 108 ∷ []) × ¬ IsChain Worn (One 128 108 ∷ []) }
     ensures rough_delays { (8 * drift_from 96 (One 48 48) + 9 * 10 < 96)
         × AreFoundAs 10 0 (One 48 48 ∷ []) (One 58 38 ∷ []) × ¬ IsChain Rough (One 58 38 ∷ []) }
+{}
+
+/// Behind its first four cells a rough stretch bears a wider delay: of a tape that runs evenly each further
+/// cell follows as it is found where 47 delays last no longer than eight cells, since four cells together
+/// are found as late as the last one, less the first. With 46 it may not.
+pub fn a_rough_stretch_bears_more_behind_four_cells()
+    ensures follow { (half delay first : ℕ) (tape : List Cell) (a b c d : Cell) (cells : List Cell) → 1 ≤ half
+        → 47 * delay ≤ 16 * half → RunsEvenly half tape → first ≤ delay
+        → AreFoundAs delay first tape (a ∷ b ∷ c ∷ d ∷ cells)
+        → Follow Rough (latest_with (length_of d) (length_of c) (length_of b) (length_of a)) cells }
+    ensures fewer { (46 * 8 ≤ 16 * 23) × RunsEvenly 23 (Zero 46 ∷ Zero 46 ∷ Zero 46 ∷ Zero 46 ∷ One 23 23 ∷ [])
+        × AreFoundAs 8 8 (Zero 46 ∷ Zero 46 ∷ Zero 46 ∷ Zero 46 ∷ One 23 23 ∷ [])
+        (Zero 38 ∷ Zero 46 ∷ Zero 46 ∷ Zero 46 ∷ One 31 15 ∷ [])
+        × ¬ Follow Rough (latest_with 46 46 46 38) (One 31 15 ∷ []) }
 {}
 
 /// Noise moves no crossing past the delay. Where a clean sound goes over once at each of some moments,

@@ -17,8 +17,10 @@
 //!   others (`specs/Margin.antt`, `GoesOverAt` and `ComeWithin`), at a threshold that is fixed or follows
 //!   the level, at each fineness. Threshold and noise may be told part by part (`specs/Ramps.antt`).
 //! - Of a sound with a margin (`specs/Heard.antt`, `HasMargin`) the events are the words of the tape, each
-//!   on time (`specs/OnTime.antt`, `told` and `AreOnTime`), also behind a silence; and a part of a sound
-//!   between damage is found (`specs/Part.antt`, `FindThePart`).
+//!   on time (`specs/OnTime.antt`, `told` and `AreOnTime`), also behind a silence. A part of a sound
+//!   between damage is found (`specs/Part.antt`, `FindThePart`), under the rough tolerance behind even
+//!   ones (`FindThePartBehindOnes`). Where the sound ends while it goes over for the last time, at most
+//!   that crossing is missing (`HasMarginToItsEnd`).
 //! - Sound that is made of a steady tape has a margin (`specs/Made.antt`).
 //!
 //! Read `specs/Late.antt`, `Margin`, `Ramps`, `Heard`, `OnTime`, `Part` and `Made`, in this order, and
