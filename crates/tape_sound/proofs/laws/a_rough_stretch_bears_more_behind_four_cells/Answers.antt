@@ -1,5 +1,20 @@
+use Rattle.std.proofs.Common.{refl, arith}
 use Rattle.tape_sound.proofs.FourTogether.{follows_four}
 use Rattle.tape_sound.proofs.laws.a_rough_stretch_bears_more_behind_four_cells.Goals as goal
 
 pub returns-clause-follow : goal.returns-clause-follow
 returns-clause-follow c = follows_four
+
+-- the first zero is found 8 ticks too short, and the half behind the four too long for what is left of them
+pub returns-clause-fewer : goal.returns-clause-fewer
+returns-clause-fewer c = (
+  omega arith,
+  (refl, (refl, (refl, (refl, (refl, refl, tt))))),
+  (
+    0,
+    omega arith,
+    refl,
+    (0, omega arith, refl, (0, omega arith, refl, (0, omega arith, refl, (0, omega arith, (8, omega arith, refl, refl), tt)))),
+  ),
+  λ follow. let half = follow.1.0.1 in omega (arith, half),
+)
