@@ -1,10 +1,10 @@
 -- Four cells together are found as late as the last one of them, less the first. So under the rough tolerance, which
 -- compares with their sum, the next cell may be found later than it may behind a lock.
-use Rattle.std.proofs.Common.{◌≡◌, ℕ, ◌+◌, ◌*◌, ◌≤◌, List, [], ◌∷◌, arith}
+use Rattle.std.proofs.Common.{◌≡◌, ℕ, ◌+◌, ◌*◌, ◌≤◌, List, [], ◌∷◌, take, arith}
 use Rattle.biphase.specs.declared.cell.Cell.{Cell}
 use Rattle.biphase.specs.declared.cell.Cell.TheVariants.{Zero, One}
 use Rattle.biphase.specs.declared.profile.Profile.TheVariants.{Rough}
-use Rattle.biphase.specs.Chain.{Follow}
+use Rattle.biphase.specs.Chain.{Follow, FollowOn}
 use Rattle.biphase.specs.Tolerance.{latest_with, length_of}
 use Rattle.tape_sound.specs.Late.{AreFoundAs, RunsEvenly}
 use Rattle.tape_sound.proofs.FoundLength.{length_found}
@@ -100,3 +100,18 @@ follows_four half delay first (k ∷ l ∷ m ∷ n ∷ tape) a b c d cells some 
     (length_of d) tape cells some wide even_n.1 small found.1 found.3.1 found.3.3.1 found.3.3.3.1
     (omega (arith, one, even_k.0)) (omega (arith, two, even_l.0)) (omega (arith, three, even_m.0))
     (omega (arith, four, even_n.0)) found.3.3.3.3
+
+-- so a tape whose first four cells are found to follow follows to its end
+pub follow_on_four : (half delay first : ℕ) (tape cells : List Cell) → 1 ≤ half → 47 * delay ≤ 16 * half
+    → RunsEvenly half tape → first ≤ delay → AreFoundAs delay first tape cells → FollowOn Rough (take 4 cells)
+    → FollowOn Rough cells
+follow_on_four half delay first tape [] some wide even small found four = four
+follow_on_four half delay first tape (a ∷ []) some wide even small found four = four
+follow_on_four half delay first tape (a ∷ b ∷ []) some wide even small found four = four
+follow_on_four half delay first tape (a ∷ b ∷ c ∷ []) some wide even small found four = four
+follow_on_four half delay first tape (a ∷ b ∷ c ∷ d ∷ cells) some wide even small found four =
+    let rest = follows_four half delay first tape a b c d cells some wide even small found in
+    let second = four.1 in
+    let third = second.2 in
+    let fourth = third.2 in
+    (four.0, (second.0, second.1, (third.0, third.1, (fourth.0, fourth.1, rest))))

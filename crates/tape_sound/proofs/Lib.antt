@@ -5,6 +5,7 @@ pub mod CrossingsAreTurns
 pub mod FitsAFile
 pub mod FollowedLevel
 pub mod FourTogether
+pub mod FromTheLock
 pub mod FoundCells
 pub mod FoundIsAChain
 pub mod FoundLength

@@ -7,7 +7,7 @@ use Rattle.biphase.specs.declared.profile.Profile.{Profile}
 use Rattle.biphase.specs.Chain.{flat}
 use Rattle.biphase.specs.Tolerance.{length_of}
 use Rattle.pcm_front.specs.declared.threshold.Threshold.{Threshold}
-use Rattle.tape_sound.specs.Late.{IsSteady}
+use Rattle.tape_sound.specs.Late.{AreFoundAs, IsSteady}
 use Rattle.tape_sound.specs.Margin.{ComeWithin, GoesOverAt, GoesOverToItsEnd, IsNoisy, StaysBetween}
 
 -- the transitions behind one at a tick, where these are the intervals between them
@@ -30,6 +30,18 @@ pub record AreHeard (profile : Profile) (delay : ℕ) (tape : List Cell) (cut : 
   pub are : transitions start tape ≡ before ++ (heard ++ behind)
   pub place : length before ≡ cut
   pub within : ComeWithin delay heard moments
+
+-- each interval of a tape lasts two delays or more, so that no transition is found behind the next one
+abbrev pub LastTwoDelays : ℕ → List Cell → Type 0
+LastTwoDelays delay tape = AllByRecursion (λ interval. 2 * delay ≤ interval) (flat tape)
+
+-- these distances are the intervals of the cells of a tape as they are found
+pub record AreFoundCells (delay : ℕ) (tape : List Cell) (distances : List ℕ) : Type 0 where
+  pub first : ℕ
+  pub small : first ≤ delay
+  pub cells : List Cell
+  pub are : AreFoundAs delay first tape cells
+  pub same : distances ≡ flat cells
 
 -- a sound has a margin for a tape: it is a clean sound and some noise, its threshold stays between two bounds with room
 -- for the noise, and the clean sound goes over at each transition of the tape within the delay. The tape runs steadily
