@@ -12,7 +12,9 @@
 //!   (`specs/Late.antt`, `IsSteady` and `AreFoundAs`). A cell has to outlast so many drifts and so many
 //!   delays together, so that steadiness and delay trade against each other (`Outlasts`). Where nothing
 //!   drifts by more than a hundredth, 40 delays are enough under the normal tolerance, 28 under the worn
-//!   and 11 under the rough one; 38, 27 and 10 are not.
+//!   and 11 under the rough one; 38, 27 and 10 are not. Under the rough one 12 drifts and 9 delays are
+//!   enough from a lock on (`IsSteadyFromALock`), and behind four cells of a tape without drift 47 delays
+//!   in eight cells.
 //! - Of a sound with noise each crossing comes within the delay of its own moment, and there are no
 //!   others (`specs/Margin.antt`, `GoesOverAt` and `ComeWithin`), at a threshold that is fixed or follows
 //!   the level, at each fineness. Threshold and noise may be told part by part (`specs/Ramps.antt`).
