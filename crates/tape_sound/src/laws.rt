@@ -7,8 +7,8 @@ ghost use Rattle.biphase.specs.declared.cell.Cell.TheVariants.{Zero, One};
 ghost use Rattle.limits.specs.declared.recording.TheConstants.{MAX_INTERVALS};
 ghost use Rattle.biphase.specs.declared.profile.Profile.{Profile};
 ghost use Rattle.biphase.specs.declared.profile.Profile.TheVariants.{Normal, Worn, Rough};
-ghost use Rattle.biphase.specs.Chain.{bits, flat, Follow, FollowOn, IsChain};
-ghost use Rattle.biphase.specs.Tolerance.{latest_with, length_of, LooksAtLast};
+ghost use Rattle.biphase.specs.Chain.{bits, flat, IsChain};
+ghost use Rattle.biphase.specs.Tolerance.{LooksAtLast};
 ghost use Rattle.cell_tracker.specs.ChainPiece.{cells_from};
 ghost use Rattle.cell_tracker.specs.Lock.{IsLock};
 ghost use Rattle.direction_reader.specs.declared.event.Event.{Event};
@@ -26,7 +26,6 @@ ghost use Rattle.tc_address.specs.declared.system.System.{System};
 ghost use Rattle.tape_sound.specs.Heard.{AreHeard, BeginsLate, FitsAFile, FitsBehindASilence, HasMargin};
 ghost use Rattle.tape_sound.specs.Heard.{transitions, AreFoundCells, HasMarginToItsEnd, LastTwoDelays};
 ghost use Rattle.tape_sound.specs.Late.{delays_of, drift_from, AreFoundAs, IsSteady, IsWithinAHundredth};
-ghost use Rattle.tape_sound.specs.Late.{IsSteadyFromALock, RunsEvenly};
 ghost use Rattle.tape_sound.specs.Made.{scaled};
 ghost use Rattle.tape_sound.specs.Margin.{noise_in_step, turns, ComeBehind, ComeWithin, GoesOverAt, HasRoom};
 ghost use Rattle.tape_sound.specs.Margin.{IsNoisy, StaysBetween};
@@ -38,7 +37,6 @@ use cell_tracker::laws::a_recording_within_the_tolerance_is_one_stretch;
 use direction_reader::laws::{
     a_list_has_one_list_of_events, events_find_the_tape_again,
     events_find_the_tape_behind_even_ones, events_tell_the_tape, played_words_are_read,
-    words_behind_a_lock_are_read,
 };
 use pcm_front::laws::{levels_are_bounded, the_first_distance_leads_to_the_first_crossing};
 
@@ -85,48 +83,6 @@ pub fn the_numbers_of_steadiness_are_the_least()
     ensures rough_delays { (8 * drift_from 96 (One 48 48) + 9 * 10 < 96)
         × AreFoundAs 10 0 (One 48 48 ∷ []) (One 58 38 ∷ []) × ¬ IsChain Rough (One 58 38 ∷ []) }
 {}
-
-/// From a lock on, where the reader does not lock again, the rough tolerance asks 12 drifts and 9 delays of
-/// a cell, and no more: so the words of such a tape are read, each on time, where the reader locks at its
-/// first cell. That a reader may lock at each zero is what asks for 10. With 8 delays a cell may not follow.
-pub fn a_rough_tape_bears_more_from_a_lock_on()
-    ensures follow { (delay first : ℕ) (tape cells : List Cell) → first ≤ delay → IsSteadyFromALock delay tape
-        → AreFoundAs delay first tape cells → FollowOn Rough cells }
-    ensures words { (system : System) (delay : ℕ) (tape : List Cell) (intervals : List ℕ) (words : List Played)
-        (events : List Event) → IsSteadyFromALock delay tape → AreFoundCells delay tape intervals
-        → IsLock Rough intervals 0 0 → bits tape ≡ false ∷ true ∷ bits_of_words words → AreSpelled system words
-        → AreEvents system Rough intervals events
-        → AreOnTime delay events (events_of_words (duration (take 2 tape)) (drop 2 tape) words) }
-    ensures fewer { (8 * 9 < 80) × AreFoundAs 9 9 (Zero 80 ∷ Zero 80 ∷ []) (Zero 71 ∷ Zero 89 ∷ [])
-        × ¬ FollowOn Rough (Zero 71 ∷ Zero 89 ∷ []) }
-{
-    a_list_has_one_list_of_events();
-    words_behind_a_lock_are_read();
-}
-
-/// Behind its first four cells a rough stretch bears a wider delay still: of a tape that runs evenly each
-/// further cell follows as it is found where 47 delays last no longer than eight cells, since four cells
-/// together are found as late as the last one, less the first. So where the reader locks at the first cell,
-/// and the first four are found to follow, each word is read, on time. With 46 a cell may not follow.
-pub fn a_rough_stretch_bears_more_behind_four_cells()
-    ensures follow { (half delay first : ℕ) (tape : List Cell) (a b c d : Cell) (cells : List Cell) → 1 ≤ half
-        → 47 * delay ≤ 16 * half → RunsEvenly half tape → first ≤ delay
-        → AreFoundAs delay first tape (a ∷ b ∷ c ∷ d ∷ cells)
-        → Follow Rough (latest_with (length_of d) (length_of c) (length_of b) (length_of a)) cells }
-    ensures words { (system : System) (half delay : ℕ) (tape : List Cell) (intervals : List ℕ) (words : List Played)
-        (events : List Event) → 1 ≤ half → 47 * delay ≤ 16 * half → RunsEvenly half tape
-        → (found : AreFoundCells delay tape intervals) → FollowOn Rough (take 4 found.cells)
-        → IsLock Rough intervals 0 0 → bits tape ≡ false ∷ true ∷ bits_of_words words → AreSpelled system words
-        → AreEvents system Rough intervals events
-        → AreOnTime delay events (events_of_words (duration (take 2 tape)) (drop 2 tape) words) }
-    ensures fewer { (46 * 8 ≤ 16 * 23) × RunsEvenly 23 (Zero 46 ∷ Zero 46 ∷ Zero 46 ∷ Zero 46 ∷ One 23 23 ∷ [])
-        × AreFoundAs 8 8 (Zero 46 ∷ Zero 46 ∷ Zero 46 ∷ Zero 46 ∷ One 23 23 ∷ [])
-        (Zero 38 ∷ Zero 46 ∷ Zero 46 ∷ Zero 46 ∷ One 31 15 ∷ [])
-        × ¬ Follow Rough (latest_with 46 46 46 38) (One 31 15 ∷ []) }
-{
-    a_list_has_one_list_of_events();
-    words_behind_a_lock_are_read();
-}
 
 /// Noise moves no crossing past the delay. Where a clean sound goes over once at each of some moments,
 /// all the way from the low bound to the high one within the delay, so does the sound with noise: each

@@ -1,7 +1,7 @@
 use Rattle.std.proofs.Common.{refl, arith}
 use Rattle.tape_sound.proofs.FromTheLock.{steady_locked}
 use Rattle.tape_sound.proofs.KeepsTheSum.{from_a_lock}
-use Rattle.tape_sound.proofs.laws.a_rough_tape_bears_more_from_a_lock_on.Goals as goal
+use Rattle.tape_sound.proofs.rough_laws.a_rough_tape_bears_more_from_a_lock_on.Goals as goal
 
 pub returns-clause-follow : goal.returns-clause-follow
 returns-clause-follow c = from_a_lock

@@ -1,7 +1,7 @@
 use Rattle.std.proofs.Common.{refl, arith}
 use Rattle.tape_sound.proofs.FourTogether.{follows_four}
 use Rattle.tape_sound.proofs.FromTheLock.{even_locked}
-use Rattle.tape_sound.proofs.laws.a_rough_stretch_bears_more_behind_four_cells.Goals as goal
+use Rattle.tape_sound.proofs.rough_laws.a_rough_stretch_bears_more_behind_four_cells.Goals as goal
 
 pub returns-clause-follow : goal.returns-clause-follow
 returns-clause-follow c = follows_four
