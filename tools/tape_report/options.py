@@ -79,6 +79,7 @@ def archive_parser() -> argparse.ArgumentParser:
     words.add_argument("--part", metavar="K/N", type=part, help="each N-th tape from the K-th on, and no table")
     words.add_argument("--edl", action="store_true", help="the spans as edit decision lists too (CMX 3600)")
     words.add_argument("--ale", action="store_true", help="the spans as Avid logs too")
+    words.add_argument("--margin", action="store_true", help="the margin in each report, as tc-tape tells it")
     return words
 
 
@@ -117,6 +118,11 @@ def reading_of(options: argparse.Namespace) -> dict[str, Any]:
     """The words that say how a tape is read."""
     names = ("track", "system", "rate", "limit", "all_words", "threshold", "smooth", "deep")
     return {name: getattr(options, name) for name in names}
+
+
+def archive_reading_of(options: argparse.Namespace) -> dict[str, Any]:
+    """The same of an archive, with the word for margins where it is said."""
+    return reading_of(options) | ({"margin": True} if options.margin else {})
 
 
 def wanted_of(reading: dict[str, Any]) -> tuple[Wanted, Fraction | None]:

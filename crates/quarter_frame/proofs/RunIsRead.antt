@@ -207,7 +207,8 @@ forward_split l (a ∷ b ∷ more) run =
       are = (run.1, rest.are);
       text = one_pair_more all_rising rising_half _ (rising a.label)
           (two_by_two more) a.label rest.labels pair refl rest.text;
-      events = λ at. ap (λ (d : Direction). Quarter d (earlier d a.label b.label) (at + 15) ∷ pairs_read (at + 16) more) run.0
+      events = λ at. ap (λ (d : Direction).
+          Quarter d (earlier d a.label b.label) (at + 15) ∷ pairs_read (at + 16) more) run.0
           ∙ ap (λ (es : List MtcEvent). Quarter Forward a.label (at + 15) ∷ es) (rest.events (at + 16));
     }
 
@@ -235,7 +236,8 @@ backward_split l (a ∷ b ∷ more) run =
       are = (run.2.0, rest.are);
       text = one_pair_more all_falling falling_half _ (falling b.label)
           (two_by_two more) b.label rest.labels pair refl rest.text;
-      events = λ at. ap (λ (d : Direction). Quarter d (earlier d a.label b.label) (at + 15) ∷ pairs_read (at + 16) more) run.0
+      events = λ at. ap (λ (d : Direction).
+          Quarter d (earlier d a.label b.label) (at + 15) ∷ pairs_read (at + 16) more) run.0
           ∙ ap (λ (es : List MtcEvent). Quarter Backward b.label (at + 15) ∷ es) (rest.events (at + 16));
     }
 

@@ -1,6 +1,6 @@
 -- The runs of frames that go on are read one after another.
-use Rattle.std.proofs.Common.{◌≡◌, ℕ, ◌+◌, ◌*◌, Bool, true, false, List, [], ◌∷◌, ◌++◌, length, Option, Some, None, refl, sym}
-use Rattle.std.proofs.Common.{◌∙◌, ap, subst, append_assoc, append-nil, length-append, arith}
+use Rattle.std.proofs.Common.{◌≡◌, ℕ, ◌+◌, ◌*◌, Bool, true, false, List, [], ◌∷◌, ◌++◌, length, Option, Some, None}
+use Rattle.std.proofs.Common.{refl, sym, ◌∙◌, ap, subst, append_assoc, append-nil, length-append, arith}
 use Rattle.std.specs.List.{take_while}
 use Rattle.tc_address.specs.declared.direction.Direction.{Direction}
 use Rattle.tc_address.specs.declared.direction.Direction.TheVariants.{Forward, Backward}
@@ -65,8 +65,8 @@ behind_run front label direction joined tick others =
 abbrev IsReadAs : List ℕ → List ℕ → List MtcEvent → Type 0
 IsReadAs front text events = events_in (front ++ text) ≡ events_in front ++ events
 
-both : (front one two : List ℕ) (first second : List MtcEvent) → IsReadAs front one first → IsReadAs (front ++ one) two second
-    → IsReadAs front (one ++ two) (first ++ second)
+both : (front one two : List ℕ) (first second : List MtcEvent) → IsReadAs front one first
+    → IsReadAs (front ++ one) two second → IsReadAs front (one ++ two) (first ++ second)
 both front one two first second a b =
     ap events_in (sym (append_assoc front one two)) ∙ b ∙ ap (λ (es : List MtcEvent). es ++ second) a
     ∙ append_assoc (events_in front) first second
@@ -119,12 +119,13 @@ all_read r l false (Some f) front (Gone tick ∷ more) is go = all_read r l true
 -- the frames of words
 pub frames_are_read : ReadsRuns → Laws → (limit last : ℕ) (words : List HeardWord) → AreLabelled words
     → events_in (mtc_of (frames limit words last)) ≡ read_of (frames limit words last)
-frames_are_read r l limit last words are = all_read r l true None [] (frames limit words last) refl (frames_go_on l limit words last are)
+frames_are_read r l limit last words are =
+    all_read r l true None [] (frames limit words last) refl (frames_go_on l limit words last are)
 
 -- ---- two frames that follow each other
 
-neighbours_in : Laws → (since : Option Placed) (front rest : List Frame) (first second : Frame) → GoOn since (front ++ first ∷ second ∷ rest)
-    → goes_on second ≡ true → (a b : Placed) × (placed first ≡ a ∷ []) × (placed second ≡ b ∷ []) × IsNeighbour a b
+neighbours_in : Laws → (since : Option Placed) (front rest : List Frame) (first second : Frame)
+    → GoOn since (front ++ first ∷ second ∷ rest) → goes_on second ≡ true → (a b : Placed) × (placed first ≡ a ∷ []) × (placed second ≡ b ∷ []) × IsNeighbour a b
 neighbours_in l since [] rest (Heard label direction joined tick) (Heard next way other later) go on =
     (placed_at label direction, placed_at next way, refl, refl, one_before l _ _ go.0 (go.2.1 on))
 neighbours_in l since [] rest (Heard label direction joined tick) (Invented next way k later) go on =
@@ -138,12 +139,15 @@ neighbours_in l since [] rest (Invented label direction n tick) (Gone later) go 
 neighbours_in l since [] rest (Gone tick) (Heard next way other later) go on = absurd (go.1 on)
 neighbours_in l since [] rest (Gone tick) (Invented next way k later) go on = absurd go.1
 neighbours_in l since [] rest (Gone tick) (Gone later) go on = cc
-neighbours_in l since (Heard label direction joined tick ∷ front) rest first second go on = neighbours_in l _ front rest first second go.2 on
-neighbours_in l since (Invented label direction k tick ∷ front) rest first second go on = neighbours_in l _ front rest first second go.2 on
+neighbours_in l since (Heard label direction joined tick ∷ front) rest first second go on =
+    neighbours_in l _ front rest first second go.2 on
+neighbours_in l since (Invented label direction k tick ∷ front) rest first second go on =
+    neighbours_in l _ front rest first second go.2 on
 neighbours_in l since (Gone tick ∷ front) rest first second go on = neighbours_in l _ front rest first second go on
 
-pub frames_are_neighbours : Laws → (limit last : ℕ) (words : List HeardWord) (front rest : List Frame) (first second : Frame) → AreLabelled words
-    → frames limit words last ≡ front ++ first ∷ second ∷ rest → goes_on second ≡ true
+pub frames_are_neighbours : Laws → (limit last : ℕ) (words : List HeardWord) (front rest : List Frame)
+    (first second : Frame) → AreLabelled words → frames limit words last ≡ front ++ first ∷ second ∷ rest → goes_on second ≡ true
     → (a b : Placed) × (placed first ≡ a ∷ []) × (placed second ≡ b ∷ []) × IsNeighbour a b
 frames_are_neighbours l limit last words front rest first second are is on =
-    neighbours_in l None front rest first second (subst (λ fs. GoOn None fs) is (frames_go_on l limit words last are)) on
+    neighbours_in l None front rest first second
+    (subst (λ fs. GoOn None fs) is (frames_go_on l limit words last are)) on

@@ -39,14 +39,16 @@ none_in_pairs at [] = refl
 none_in_pairs at (first ∷ []) = refl
 none_in_pairs at (first ∷ second ∷ more) = none_in_pairs (at + 16) more
 
-none_in_full : (at : ℕ) (list : List Placed) → count_by is_refused (map (λ (f : Placed). Full f.label (at + 9)) list) ≡ 0
+none_in_full : (at : ℕ) (list : List Placed)
+    → count_by is_refused (map (λ (f : Placed). Full f.label (at + 9)) list) ≡ 0
 none_in_full at [] = refl
 none_in_full at (f ∷ more) = none_in_full at more
 
 abbrev one_if : (MtcEvent → Bool) → MtcEvent → ℕ
 one_if p e = cond (p e) 1 0
 
-none_in_both : (a b : List MtcEvent) → count_by is_refused a ≡ 0 → count_by is_refused b ≡ 0 → count_by is_refused (a ++ b) ≡ 0
+none_in_both : (a b : List MtcEvent) → count_by is_refused a ≡ 0 → count_by is_refused b ≡ 0
+    → count_by is_refused (a ++ b) ≡ 0
 none_in_both a b first second = sum_by-append (one_if is_refused) a b ∙ ap₂ (λ (n m : ℕ). n + m) first second
 
 none_in_run : (at : ℕ) (first : Frame) (others : List Frame) → count_by is_refused (run_read at first others) ≡ 0
@@ -75,19 +77,21 @@ last_is : (bytes : List ℕ) (fs : List Frame) → events_in bytes ≡ read_of f
     → last_mtc_line bytes (events_in bytes) ≡ none_refused bytes (read_of fs)
 last_is bytes fs read =
     ap (last_mtc_line bytes) read
-    ∙ ap (end_line (length bytes) (count_by is_full (read_of fs)) (count_by is_quarter (read_of fs))) (none_from 0 true fs)
+    ∙ ap (end_line (length bytes) (count_by is_full (read_of fs)) (count_by is_quarter (read_of fs)))
+    (none_from 0 true fs)
 
 behind : AreReadBack → HaveLabels → (flight : Flight) (bytes written : List ℕ) (header : Option IntervalHeader)
     → (recording_of bytes).header ≡ header
-    → IsWholeBehind (time_code flight) header (recording_of bytes).intervals written → SendsTheFrames flight bytes written
+    → IsWholeBehind (time_code flight) header (recording_of bytes).intervals written
+    → SendsTheFrames flight bytes written
 behind law have flight bytes written None begins is = absurd is
 behind law have flight bytes written (Some header) begins is =
     let intervals = (recording_of bytes).intervals in
     let fs = frames_of flight.limit intervals is.events in
     let read : events_in written ≡ read_of fs =
     ap events_in (is.are ∙ append-nil (mtc_of fs))
-    ∙ law flight.limit (sum intervals) (words_heard is.events) (labels_heard have flight.witness header.system flight.profile
-    intervals is.events is.are_events) in
+    ∙ law flight.limit (sum intervals) (words_heard is.events)
+    (labels_heard have flight.witness header.system flight.profile intervals is.events is.are_events) in
     record {
       header = header;
       begins = begins;
@@ -96,7 +100,8 @@ behind law have flight bytes written (Some header) begins is =
       labels = read_of fs;
       are_labels = refl;
       read = read;
-      report = λ text output. output ∙ ap₂ (λ (es : List MtcEvent) (l : List ℕ). event_lines es ++ l) read (last_is written fs read);
+      report = λ text output. output
+          ∙ ap₂ (λ (es : List MtcEvent) (l : List ℕ). event_lines es ++ l) read (last_is written fs read);
     }
 
 pub sends_the_frames : AreReadBack → HaveLabels → (flight : Flight) (bytes written : List ℕ)
