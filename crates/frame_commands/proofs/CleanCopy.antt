@@ -30,6 +30,7 @@ use Rattle.interval_engine.specs.KeptBehind.{IsWholeBehind}
 use Rattle.frame_commands.specs.LtcJam.{CleansTheInput, IsClean, clean_file, clean_header, clean_intervals, clean_recording}
 use Rattle.frame_commands.specs.OfFrames.{frames_of, words_heard}
 use Rattle.interval_file.specs.KeptIntervals.{ShapesAreIntervals, in_range}
+use Rattle.frame_commands.proofs.MarkedLines.{FramesLaws}
 
 -- what the laws of the crates below say
 pub record CleanLaws : Type 1 where
@@ -40,6 +41,7 @@ pub record CleanLaws : Type 1 where
   pub events : (witness : Witness) (system : System) (profile : Profile) (list : List ℕ) (es : List Event)
       → AreHeard witness system profile list es → AreEventsOf system es
   pub frames : (system : System) (limit : ℕ) (words : List HeardWord) (last : ℕ) → AreHeardOf system words → AreFramesOf system (frames limit words last)
+  pub heard : FramesLaws
 
 -- the words that are heard are those of the events
 pub words_are : (system : System) (es : List Event) → AreEventsOf system es → AreHeardOf system (words_heard es)
@@ -80,6 +82,10 @@ behind laws j is input (Some header) written e whole =
       are_events = whole.are_events;
       frames = fs;
       are_frames = refl;
+      heard = laws.heard.heard j.flight.limit (sum input.intervals) (words_heard whole.events);
+      marked = laws.heard.marked j.flight.limit (sum input.intervals) (words_heard whole.events);
+      tape = laws.heard.tape j.flight.witness header.system j.flight.profile input.intervals whole.events
+          whole.are_events;
       file = file;
       read = read;
     }

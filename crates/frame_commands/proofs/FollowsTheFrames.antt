@@ -30,6 +30,7 @@ use Rattle.interval_engine.specs.KeptBehind.{IsSpentBehind, IsWholeBehind}
 use Rattle.frame_commands.specs.LtcChase.{ChasesTheInput, FollowsTheCode, LosesWithCause, chased_recording}
 use Rattle.frame_commands.specs.OfFrames.{frames_of, frames_until, words_heard}
 use Rattle.frame_commands.proofs.CleanCopy.{words_are}
+use Rattle.frame_commands.proofs.MarkedLines.{FramesLaws}
 
 -- what the laws of the crates below say
 pub record ChaseLaws : Type 1 where
@@ -37,6 +38,7 @@ pub record ChaseLaws : Type 1 where
       → AreHeard witness system profile list es → AreEventsOf system es
   pub labels : (system : System) (limit : ℕ) (words : List HeardWord) (last : ℕ) → AreHeardOf system words → AreFramesOf system (frames limit words last)
   pub go_on : (limit last : ℕ) (words : List HeardWord) → GoOn None (frames limit words last)
+  pub heard : FramesLaws
   pub cause : (label : Address) (seed bound : ℕ) (fs : List Frame) (j : ℕ) (line : Traced) (loss : Loss) → IsLabel label → HaveLabels fs → GoOn None fs
       → slice_get (code_trace label seed bound fs) j ≡ Some line → line.report.loss ≡ Some loss → HasCauseOfLoss label seed bound fs j loss
   pub no_code : (label : Address) (seed bound : ℕ) (fs : List Frame) (i : ℕ) (leaves line : Traced) (frame : Frame)
@@ -104,6 +106,10 @@ behind laws c is input (Some header) written e whole =
       begins = e;
       events = whole.events;
       are_events = whole.are_events;
+      heard = laws.heard.heard c.flight.limit (sum input.intervals) (words_heard whole.events);
+      marked = laws.heard.marked c.flight.limit (sum input.intervals) (words_heard whole.events);
+      tape = laws.heard.tape c.flight.witness header.system c.flight.profile input.intervals whole.events
+          whole.are_events;
       all = λ unspent yet until are. elim (cases_lt MAX_FRAMES (length (frames_until c.flight.limit yet until))) [
         | inl many ↦ absurd (unspent (subst (λ (h : Option IntervalHeader).
             IsSpentBehind (chased_recording c) h input.intervals) (sym e)

@@ -14,8 +14,10 @@ mod MarkedLines
 mod NextFrame
 mod OneText
 mod Ready
+mod SentWords
 mod SpansOfFrames
 mod SpansOfTheTape
 mod StepsGrow
+mod TapeIsHeard
 mod ToldOfFrames
 mod WorkedBy

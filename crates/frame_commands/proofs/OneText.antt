@@ -5,6 +5,7 @@ use Rattle.direction_reader.specs.declared.event.Event.{Event}
 use Rattle.flywheel.specs.declared.frame.Frame.{Frame}
 use Rattle.interval_file.specs.declared.header.IntervalHeader.{IntervalHeader}
 use Rattle.interval_file.specs.Recording.{Recording, recording_of}
+use Rattle.quarter_frame.specs.Runs.{mtc_of}
 use Rattle.tc_job.specs.ChaseRun.{Chasing}
 use Rattle.tc_job.specs.Jam.{Jamming}
 use Rattle.tc_job.specs.declared.flight.Flight.{Flight}
@@ -16,6 +17,7 @@ use Rattle.frame_commands.specs.declared.ltc_chase.TheConstants.{MAX_FRAMES}
 use Rattle.frame_commands.specs.LtcChase.{FollowsTheCode, first_steps}
 use Rattle.frame_commands.specs.LtcFly.{ShowsTheFrames, frame_lines, last_fly_line}
 use Rattle.frame_commands.specs.LtcJam.{IsClean, clean_file}
+use Rattle.frame_commands.specs.LtcMtc.{SendsTheWords}
 use Rattle.frame_commands.specs.LtcSpans.{ShowsTheSpans, span_lines, spans_counted}
 use Rattle.frame_commands.specs.OfFrames.{frames_of}
 
@@ -49,6 +51,15 @@ one_tape laws flight bytes a b p q =
     let frames = p.are_frames ∙ ap (frames_of flight.limit list) events ∙ sym q.are_frames in
     p.are ∙ ap₂ (λ (h : IntervalHeader) (fs : List Frame). span_lines h fs ++ spans_counted list fs) header frames
     ∙ sym q.are
+
+pub one_sending : HaveOneList → (flight : Flight) (bytes a b : List ℕ) → SendsTheWords flight bytes a
+    → SendsTheWords flight bytes b → a ≡ b
+one_sending laws flight bytes a b p q =
+    let list = (recording_of bytes).intervals in
+    let header = one_header (recording_of bytes) p.header q.header p.begins q.begins in
+    let events = same_events laws flight list p.header q.header p.events q.events header p.are_events q.are_events in
+    let frames = p.are_frames ∙ ap (frames_of flight.limit list) events ∙ sym q.are_frames in
+    p.are ∙ ap mtc_of frames ∙ sym q.are
 
 pub one_copy : HaveOneList → (j : Jamming) (input : Recording) (a b : List ℕ) → IsClean j input a → IsClean j input b
     → a ≡ b

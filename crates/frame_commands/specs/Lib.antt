@@ -1,4 +1,5 @@
 pub mod Heard
+pub mod HeardTape
 pub mod Hearing
 pub mod KeptFlight
 pub mod KeptHeard

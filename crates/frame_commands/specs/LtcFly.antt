@@ -10,6 +10,7 @@ use Rattle.interval_file.specs.Recording.{recording_of}
 use Rattle.tc_job.specs.declared.flight.Flight.{Flight}
 use Rattle.interval_engine.specs.Along.{Printing, along_intervals}
 use Rattle.frame_commands.specs.Heard.{AreHeard}
+use Rattle.frame_commands.specs.HeardTape.{HearsTheTape}
 use Rattle.frame_commands.specs.OfFrames.{FrameText, along_frames, frames_of, words_heard}
 use Rattle.flywheel.specs.Kinds.{is_gone, is_heard, is_invented}
 use Rattle.tc_command.specs.Told.{Told}
@@ -33,7 +34,8 @@ flown_recording flight = along_frames flight lines_of_frames
 
 -- what was written are the lines of the frames of the recording, and the line that counts them. The heard frames are
 -- its words under the tolerance of the flight, one after another, each with its label, its direction and its tick;
--- between two of them, and after the last, at most so many frames are invented, and each has its step in its line
+-- between two of them, and after the last, at most so many frames are invented, and each has its step in its line. And
+-- these words tell the tape
 pub record ShowsTheFrames (flight : Flight) (bytes written : List ℕ) : Type 0 where
   pub header : IntervalHeader
   pub begins : (recording_of bytes).header ≡ Some header
@@ -44,6 +46,7 @@ pub record ShowsTheFrames (flight : Flight) (bytes written : List ℕ) : Type 0 
   pub are : written ≡ frame_lines frames ++ last_fly_line (recording_of bytes).intervals frames
   pub heard : words_in frames ≡ map word_of (words_heard events)
   pub marked : AreMarked flight.limit None frames
+  pub tape : HearsTheTape flight.witness header.system flight.profile (recording_of bytes).intervals events
 
 -- what is told of it
 abbrev pub told_ltc_fly : Flight → Told

@@ -12,6 +12,7 @@ use Rattle.interval_file.specs.Recording.{recording_of}
 use Rattle.tc_job.specs.declared.flight.Flight.{Flight}
 use Rattle.interval_engine.specs.Along.{Printing, along_intervals}
 use Rattle.frame_commands.specs.Heard.{AreHeard}
+use Rattle.frame_commands.specs.HeardTape.{HearsTheTape}
 use Rattle.frame_commands.specs.OfFrames.{FrameText, along_frames, frames_of, words_heard}
 use Rattle.tc_command.specs.Told.{Told}
 
@@ -40,7 +41,7 @@ spanned_recording flight = along_frames flight lines_of_spans
 -- what was written are the lines of the spans of the recording's frames, and the line that counts them. The heard
 -- frames are its words under the tolerance of the flight. Each frame that was heard or invented stands in exactly one
 -- span, in order; a span begins with a heard frame that does not join, and each further frame of it goes on from the
--- one before
+-- one before. And these words tell the tape
 pub record ShowsTheSpans (flight : Flight) (bytes written : List ℕ) : Type 0 where
   pub header : IntervalHeader
   pub begins : (recording_of bytes).header ≡ Some header
@@ -52,6 +53,7 @@ pub record ShowsTheSpans (flight : Flight) (bytes written : List ℕ) : Type 0 w
   pub heard : words_in frames ≡ map word_of (words_heard events)
   pub all : present frames ≡ flat_map frames_in (frames_of_spans frames)
   pub together : All HoldsTogether (frames_of_spans frames)
+  pub tape : HearsTheTape flight.witness header.system flight.profile (recording_of bytes).intervals events
 
 -- what is told of it
 abbrev pub told_ltc_spans : Flight → Told

@@ -7,7 +7,7 @@ use crate::flight::FlightTo;
 use crate::frame_sink::FrameSink;
 use crate::frames::Frames;
 use crate::laws::{
-    each_sink_of_frames_adds_in_order, what_is_heard_is_in_order,
+    each_sink_of_frames_adds_in_order, what_is_heard_is_in_order, what_is_heard_tells_the_tape,
     what_is_made_of_frames_is_in_order,
 };
 use direction_reader::{DirectionReader, FirmReader};
@@ -46,6 +46,7 @@ fn flown_frames_are_told()
 {
     flown_frames_are_lawful();
     invention_is_bounded_and_marked();
+    what_is_heard_tells_the_tape();
 }
 
 /// What is told of `ltc-fly` is lawful.

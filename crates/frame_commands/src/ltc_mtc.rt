@@ -1,5 +1,5 @@
 //! What `ltc-mtc` makes of frames: MIDI Time Code. Next: `quarter_frame/src/writer.rt`.
-ghost use Rattle.tc_command.specs.Told.{IsLawful, WorksAsTold};
+ghost use Rattle.tc_command.specs.Told.{IsLawful, IsTold, WorksAsTold};
 ghost use Rattle.frame_commands.specs.LtcMtc.{told_ltc_mtc};
 ghost use Rattle.tc_job.specs.declared.flight.Flight.{Flight};
 
@@ -7,11 +7,12 @@ use crate::flight::FlightTo;
 use crate::frame_sink::FrameSink;
 use crate::frames::Frames;
 use crate::laws::{
-    each_sink_of_frames_adds_in_order, what_is_heard_is_in_order,
+    each_sink_of_frames_adds_in_order, what_is_heard_is_in_order, what_is_heard_tells_the_tape,
     what_is_made_of_frames_is_in_order,
 };
 use direction_reader::{DirectionReader, FirmReader};
 use flywheel::Frame;
+use flywheel::laws::invention_is_bounded_and_marked;
 use interval_engine::laws::recordings_grow;
 use interval_engine::work_along;
 use interval_file::IntervalHeader;
@@ -29,7 +30,7 @@ pub fn send_time_code<S: Source, K: Sink>(
     ensures { WorksAsTold (told_ltc_mtc flight) S.left S.ends S.faults K.written K.faults source.old source.new
         out.old out.new result }
 {
-    messages_are_lawful();
+    messages_are_told();
     match flight.witness {
         Witness::NotAsked => work_along::<FlightTo<DirectionReader, FrameMessages>, S, K>(
             flight, source, out,
@@ -38,6 +39,15 @@ pub fn send_time_code<S: Source, K: Sink>(
             flight, source, out,
         ),
     }
+}
+
+/// What is told of `ltc-mtc` holds: what is sent are the words of the file, and invented frames that are bounded.
+fn messages_are_told()
+    ensures { (flight : Flight) → IsTold (told_ltc_mtc flight) }
+{
+    messages_are_lawful();
+    invention_is_bounded_and_marked();
+    what_is_heard_tells_the_tape();
 }
 
 /// What is told of `ltc-mtc` is lawful.

@@ -14,7 +14,7 @@ use crate::flight::FlightTo;
 use crate::frame_sink::FrameSink;
 use crate::frames::Frames;
 use crate::laws::{
-    each_sink_of_frames_adds_in_order, what_is_heard_is_in_order,
+    each_sink_of_frames_adds_in_order, what_is_heard_is_in_order, what_is_heard_tells_the_tape,
     what_is_made_of_frames_is_in_order,
 };
 use direction_reader::{DirectionReader, FirmReader};
@@ -60,6 +60,7 @@ fn spans_are_told()
     a_frame_that_goes_on_is_the_next();
     spans_share_the_frames_out();
     the_open_span_has_the_last_line();
+    what_is_heard_tells_the_tape();
 }
 
 /// What is told of `ltc-spans` is lawful.
