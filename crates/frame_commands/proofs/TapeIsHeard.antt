@@ -7,7 +7,7 @@ use Rattle.direction_reader.specs.declared.firm_event.FirmEvent.{FirmEvent}
 use Rattle.direction_reader.specs.Firm.{AreFirmEvents}
 use Rattle.direction_reader.specs.FirmTape.{AreWitnessed, IsJudged}
 use Rattle.direction_reader.specs.ListEvents.{AreEvents}
-use Rattle.direction_reader.specs.Tape.{FindsTheTape, TellsTheTape}
+use Rattle.direction_reader.specs.Tape.{FindsTheTape, FindsTheTapeBehindOnes, TellsTheTape}
 use Rattle.tc_address.specs.declared.system.System.{System}
 use Rattle.tc_job.specs.declared.witness.Witness.{Witness}
 use Rattle.tc_job.specs.declared.witness.Witness.TheVariants.{NotAsked, Asked}
@@ -27,6 +27,8 @@ pub record TapeLaws : Type 0 where
       → AreEvents system profile intervals events → TellsTheTape system profile intervals events
   pub damage : (system : System) (profile : Profile) (intervals : List ℕ) (events : List Event)
       → AreEvents system profile intervals events → FindsTheTape system profile intervals events
+  pub rough_damage : (system : System) (profile : Profile) (intervals : List ℕ) (events : List Event)
+      → AreEvents system profile intervals events → FindsTheTapeBehindOnes system profile intervals events
   pub judged : (system : System) (profile : Profile) (intervals : List ℕ) (events : List Event)
       (told : List FirmEvent) → AreEvents system profile intervals events
       → AreFirmEvents system profile intervals told → AllZip IsJudged events told
@@ -40,6 +42,7 @@ tape_is_heard laws NotAsked system profile intervals events are = record {
   heard = refl;
   truth = laws.truth system profile intervals events are;
   damage = laws.damage system profile intervals events are;
+  rough_damage = laws.rough_damage system profile intervals events are;
 }
 tape_is_heard laws Asked system profile intervals events are =
     let plain = laws.some system profile intervals in
@@ -54,4 +57,5 @@ tape_is_heard laws Asked system profile intervals events are =
       );
       truth = laws.truth system profile intervals plain.0 plain.1;
       damage = laws.damage system profile intervals plain.0 plain.1;
+      rough_damage = laws.rough_damage system profile intervals plain.0 plain.1;
     }

@@ -6,7 +6,7 @@ use Rattle.direction_reader.specs.declared.event.Event.{Event}
 use Rattle.direction_reader.specs.declared.firm_event.FirmEvent.{FirmEvent}
 use Rattle.direction_reader.specs.FirmTape.{AreWitnessed, IsJudged}
 use Rattle.direction_reader.specs.ListEvents.{AreEvents}
-use Rattle.direction_reader.specs.Tape.{FindsTheTape, TellsTheTape}
+use Rattle.direction_reader.specs.Tape.{FindsTheTape, FindsTheTapeBehindOnes, TellsTheTape}
 use Rattle.tc_address.specs.declared.system.System.{System}
 use Rattle.tc_job.specs.declared.witness.Witness.{Witness}
 use Rattle.tc_job.specs.declared.witness.Witness.TheVariants.{NotAsked, Asked}
@@ -21,7 +21,8 @@ AreHeardOf Asked system profile intervals plain events = (told : List FirmEvent)
 
 -- what is heard are events that tell the tape, or those among them that have a witness: where the intervals keep the
 -- tolerance, the events are the whole words of the tape, good or refused, from the first unequal pair on, and no break;
--- and where a part of the intervals keeps it, between damage, they are so from its second unequal pair to its end
+-- and where a part of the intervals keeps it, between damage, they are so from its second unequal pair to its end, or,
+-- if it is rough, from behind even ones
 pub record HearsTheTape (witness : Witness) (system : System) (profile : Profile) (intervals : List ℕ)
     (events : List Event) : Type 0 where
   pub plain : List Event
@@ -29,3 +30,4 @@ pub record HearsTheTape (witness : Witness) (system : System) (profile : Profile
   pub heard : AreHeardOf witness system profile intervals plain events
   pub truth : TellsTheTape system profile intervals plain
   pub damage : FindsTheTape system profile intervals plain
+  pub rough_damage : FindsTheTapeBehindOnes system profile intervals plain

@@ -33,7 +33,7 @@ use direction_reader::firm_laws::{
 };
 use direction_reader::laws::{
     a_list_has_one_list_of_events, each_list_has_events, events_find_the_tape_again,
-    events_of_a_front_come_first, events_tell_the_tape,
+    events_find_the_tape_behind_even_ones, events_of_a_front_come_first, events_tell_the_tape,
 };
 use flywheel::laws::{
     a_frame_that_goes_on_is_the_next, frames_of_a_front_come_first, invention_is_bounded_and_marked,
@@ -78,6 +78,7 @@ pub fn what_is_heard_tells_the_tape()
     each_list_has_events();
     events_tell_the_tape();
     events_find_the_tape_again();
+    events_find_the_tape_behind_even_ones();
     a_witness_changes_words_alone();
     each_word_that_is_told_has_its_witness();
 }
