@@ -1,3 +1,4 @@
+pub mod CellsNext
 pub mod GateJudges
 pub mod GroupNext
 pub mod HeldNext

@@ -75,3 +75,8 @@ abbrev pub GivesStep : StepsState → List ℤ → List Sounds → Option Heard 
 GivesStep new samples given None = StepsStandFor new samples given × (given ≡ sounds_of new.grid new.hold.least samples)
 GivesStep new samples given (Some heard) =
     (latest : Sounds) × (heard ≡ heard_at latest given) × StepsStandFor new samples (latest ∷ given)
+
+-- one step fewer is left
+pub record TakesStep (old new : StepsState) : Type 0 where
+  pub left : old.left ≡ new.left + 1
+  pub count : new.levels.count ≡ old.levels.count + 1
