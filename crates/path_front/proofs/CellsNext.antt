@@ -1,9 +1,8 @@
 -- A cell is measured in the sound of its own steps, whatever steps come behind it.
-use Rattle.std.proofs.Common.{◌≡◌, ℕ, suc, ◌+◌, ◌-◌, ◌/◌, ◌≤◌, ℤ, List, [], ◌∷◌, ◌++◌, Option, Some, None, length}
-use Rattle.std.proofs.Common.{map, take}
-use Rattle.std.proofs.Common.{drop, replicate, refl, ap, ap₂, subst, sym, ◌∙◌, arith}
+use Rattle.std.proofs.Common.{◌≡◌, ℕ, suc, ◌+◌, ◌-◌, ◌/◌, ◌≤◌, ℤ, List, [], ◌∷◌, ◌++◌, length}
+use Rattle.std.proofs.Common.{take}
+use Rattle.std.proofs.Common.{drop, replicate, refl, ap, ap₂, ◌∙◌, arith}
 use Rattle.std.proofs.lemmas.List.{length-append}
-use Rattle.cell_path.specs.declared.cell.Sign.{Sign}
 use Rattle.cell_path.specs.declared.placed.Decided.{Decided}
 use Rattle.cell_path.specs.declared.placed.Placed.{Placed}
 use Rattle.cell_path.specs.Decided.{end_behind, jumps, latest_of}
@@ -12,7 +11,6 @@ use Rattle.cell_path.specs.declared.lengths.TheConstants.{LENGTHS}
 use Rattle.cell_path.specs.Lengths.{length_in}
 use Rattle.cell_path.specs.Path.{signed}
 use Rattle.path_front.specs.declared.group.Sounds.{Sounds}
-use Rattle.path_front.specs.declared.measured.Measured.{Measured}
 use Rattle.std.specs.Option.{option_to_list}
 use Rattle.path_front.specs.declared.grid.Grid.{Grid}
 use Rattle.path_front.specs.declared.grid.Grid.TheVariants.{Repeat, Sum}
@@ -22,7 +20,7 @@ use Rattle.path_front.specs.Hold.{held_at}
 use Rattle.path_front.specs.Steps.{sounds_of, with_held}
 use Rattle.path_front.specs.Cells.{cell_behind, measured_cells, plain, EndWithin}
 use Rattle.path_front.specs.Latest.{part, squares_of, sum_of}
-use Rattle.path_front.specs.Measured.{first_sign, half_of, measured_at, measured_of}
+use Rattle.path_front.specs.Measured.{first_sign, measured_at, measured_of}
 
 -- steps that come behind are passed over
 drop_front : (front xs : List ℤ) (k : ℕ) → drop (length front + k) (front ++ xs) ≡ drop k xs

@@ -1,13 +1,12 @@
 -- What is written goes on with the intervals of each cell that is judged.
-use Rattle.std.proofs.Common.{◌≡◌, ℕ, ℤ, List, [], ◌∷◌, ◌++◌, length, reverse, get_or, drop, true, false, refl, ap, ap₂, subst, sym, ◌∙◌, arith, ◌<◌}
+use Rattle.std.proofs.Common.{◌≡◌, ℕ, ℤ, List, [], ◌∷◌, ◌++◌, length, reverse, get_or, drop, false, refl, ap, ap₂, subst, sym, ◌∙◌, arith, ◌<◌}
 use Rattle.std.specs.List.{flat_map}
 use Rattle.std.proofs.lemmas.List.{append_assoc, append-nil, reverse-reverse}
-use Rattle.cell_path.specs.Decided.{AreDecidedInAll}
 use Rattle.path_front.specs.declared.gate.Judged.{Judged}
 use Rattle.path_front.specs.declared.judging.Phase.{Phase}
 use Rattle.path_front.specs.declared.judging.Phase.TheVariants.{Sound, Rest, Drain}
 use Rattle.path_front.specs.declared.measured.Measured.{Measured}
-use Rattle.path_front.specs.Cells.{measured_cells, sounds_in, CellsState}
+use Rattle.path_front.specs.Cells.{measured_cells, sounds_in}
 use Rattle.path_front.specs.Front.{intervals_before, judgements, AreIntervals, FrontState, FrontStandsFor}
 use Rattle.path_front.specs.Front.{IsAllGiven, IsFrontSettled}
 use Rattle.path_front.specs.Gate.{breaks, GateState}

@@ -1,10 +1,9 @@
 -- A cell more is judged, or waits, and those judged and those ahead stay all that were given, in the order of time.
-use Rattle.std.proofs.Common.{◌≡◌, ℕ, ◌+◌, ◌<◌, ◌≤◌, ℤ, List, [], ◌∷◌, ◌++◌, length, reverse, Bool, true, false, Some, None, refl, ap}
-use Rattle.std.proofs.Common.{ap₂, subst, sym, ◌∙◌, arith}
+use Rattle.std.proofs.Common.{◌≡◌, ◌+◌, ◌<◌, ◌≤◌, ℤ, List, [], ◌∷◌, ◌++◌, length, reverse, Bool, true, false, Option, Some, None, IfSome, refl, ap}
+use Rattle.std.proofs.Common.{ap₂, sym, ◌∙◌, arith}
 use Rattle.std.proofs.lemmas.Bool.{false≢true}
 use Rattle.std.proofs.lemmas.List.{append_assoc, append-nil, length-append, reverse-append}
 use Rattle.cell_path.specs.declared.placed.Placed.{Placed}
-use Rattle.cell_path.specs.Decided.{AreDecidedInAll}
 use Rattle.path_front.specs.declared.gate.Judged.{Judged}
 use Rattle.path_front.specs.declared.judging.Phase.{Phase}
 use Rattle.path_front.specs.declared.judging.Phase.TheVariants.{Sound, Rest, Drain}
@@ -12,10 +11,10 @@ use Rattle.path_front.specs.declared.measured.Measured.{Measured}
 use Rattle.path_front.specs.Cells.{cell_behind, measured_cells, sounds_in, CellsEndFor, CellsState, CellsStandFor, GivesCell}
 use Rattle.path_front.specs.Cells.{cells_left, GivesLastCell, SameSound}
 use Rattle.path_front.specs.Gate.{breaks, GateState, GateStandsFor, Judges}
-use Rattle.path_front.specs.Judging.{closed, is_drain, CellsIn, ForMore, GivesJudged, GivesNone, IsJudgedIn, JudgingState}
-use Rattle.path_front.specs.Judging.{JudgingStandFor, Moves}
+use Rattle.path_front.specs.Judging.{closed, is_drain, CellsIn, ForMore, GivesJudged, GivesNone, JudgingState}
+use Rattle.path_front.specs.Judging.{judging_left, Moves}
 use Rattle.path_front.specs.Measured.{IsMeasured}
-use Rattle.path_front.specs.Steps.{path_steps, sounds_of}
+use Rattle.path_front.specs.Steps.{sounds_of}
 
 abbrev pub judging : CellsState → GateState → Phase → JudgingState
 judging cells gate phase = record { cells = cells; gate = gate; phase = phase }
@@ -94,6 +93,13 @@ waits phase cells now gate next cell opened gives rest same least ahead stays le
       };
 }
 
+-- one cell fewer is left, and one more is ahead
+pub waits_less : (phase : Phase) (cells now : CellsState) (gate next : GateState) (cell : Measured)
+    → next.ahead ≡ gate.ahead ++ cell ∷ [] → cells_left now + 2 ≤ cells_left cells
+    → judging_left (judging now next phase) < judging_left (judging cells gate phase)
+waits_less phase cells now gate next cell ahead less =
+    let many = ap length ahead ∙ length-append gate.ahead (cell ∷ []) in omega (arith, many, less)
+
 -- what was judged goes on with a cell from the front of those ahead
 order_judged : (judged ahead rest all : List Measured) (cell : Measured) → ahead ≡ cell ∷ rest
     → reverse judged ++ ahead ≡ all → reverse (cell ∷ judged) ++ rest ≡ all
@@ -168,6 +174,7 @@ is_sound Rest = false
 is_sound Drain = false
 
 pub not_rest : (phase : Phase) → closed phase ≡ Rest → ⊥
+unfolding is_sound
 not_rest Sound is = absurd (false≢true (sym (ap is_sound is)))
 not_rest Rest is = absurd (false≢true (sym (ap is_drain is)))
 not_rest Drain is = absurd (false≢true (sym (ap is_drain is)))
@@ -232,6 +239,11 @@ judged_after old now new answer first second = record {
   judges = λ samples judged stand. second.judges samples judged (first.stands samples judged stand);
   stands = λ samples judged stand. second.stands samples judged (first.stands samples judged stand);
 }
+
+pub judged_if : (old now new : JudgingState) (answer : Option Judged) → GivesNone old now
+    → IfSome answer (λ a. GivesJudged now new a) → IfSome answer (λ a. GivesJudged old new a)
+judged_if old now new None first second = tt
+judged_if old now new (Some answer) first second = judged_after old now new answer first second
 
 pub none_after : (old now new : JudgingState) → GivesNone old now → GivesNone now new → GivesNone old new
 none_after old now new first second = record {

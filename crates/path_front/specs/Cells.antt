@@ -1,8 +1,7 @@
 -- The cells of a sound, from its samples. Lists begin with the latest.
 use Rattle.std.specs.Prelude.{◌≡◌, ℕ, ◌+◌, ◌*◌, ◌^◌, ◌≤◌, ℤ, List, [], ◌∷◌, length, map, Option, Some, None}
-use Rattle.cell_path.specs.declared.placed.Decided.{Decided}
 use Rattle.cell_path.specs.declared.placed.Placed.{Placed}
-use Rattle.cell_path.specs.Decided.{end_behind, jumps, latest_of, AreDecided, AreDecidedInAll}
+use Rattle.cell_path.specs.Decided.{end_behind, jumps, latest_of, AreDecidedInAll}
 use Rattle.cell_path.specs.Decisions.{last_end, DecisionsState, DecisionsEndFor, DecisionsStandFor}
 use Rattle.path_front.specs.declared.group.Sounds.{Sounds}
 use Rattle.path_front.specs.declared.measured.Measured.{Measured}
@@ -17,8 +16,11 @@ plain sounds = map (λ (s : Sounds). s.clipped) sounds
 -- a decided cell behind others, measured in the sound
 abbrev pub cell_behind : List Sounds → Placed → List Placed → Measured
 cell_behind sounds placed before =
-    measured_of (record { placed = placed; jumps =
-    jumps (latest_of before) placed }) (end_behind 0 before) (plain sounds)
+    measured_of (record {
+      placed = placed;
+      jumps =
+          jumps (latest_of before) placed;
+    }) (end_behind 0 before) (plain sounds)
 
 -- all of them
 unfoldable pub measured_cells : List Sounds → List Placed → List Measured

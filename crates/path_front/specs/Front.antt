@@ -1,13 +1,12 @@
 -- The intervals of the best path of a sound. Lists of samples, of steps and of cells begin with the latest, lists of
 -- intervals with the first.
-use Rattle.std.specs.Prelude.{◌≡◌, ℕ, ◌+◌, ◌*◌, ◌^◌, ◌<◌, ◌≤◌, ℤ, List, [], ◌∷◌, ◌++◌, length, Option, Some, None}
+use Rattle.std.specs.Prelude.{◌≡◌, ℕ, ◌+◌, ◌*◌, ◌^◌, ◌≤◌, ℤ, List, [], ◌∷◌, ◌++◌, length, Option, Some, None}
 use Rattle.std.specs.List.{flat_map}
 use Rattle.cell_path.specs.declared.placed.Placed.{Placed}
 use Rattle.cell_path.specs.Decided.{AreDecidedInAll}
 use Rattle.path_front.specs.declared.gate.Judged.{Judged}
 use Rattle.path_front.specs.declared.grid.Grid.{Grid}
-use Rattle.path_front.specs.declared.judging.Phase.{Phase}
-use Rattle.path_front.specs.declared.judging.Phase.TheVariants.{Sound, Rest, Drain}
+use Rattle.path_front.specs.declared.judging.Phase.TheVariants.{Sound, Drain}
 use Rattle.path_front.specs.declared.measured.Measured.{Measured}
 use Rattle.path_front.specs.Cells.{measured_cells, IsIdle, SameSound}
 use Rattle.path_front.specs.Gate.{breaks}

@@ -1,6 +1,6 @@
 -- The steps of a sound: for the path, and as they are without the hold. Lists begin with the latest.
-use Rattle.std.specs.Prelude.{◌≡◌, ℕ, ◌+◌, ◌*◌, ◌^◌, ◌<◌, ◌≤◌, ℤ, pos, unsigned_abs}
-use Rattle.std.specs.Prelude.{List, [], ◌∷◌, ◌++◌, length, map, replicate, Option, Some, None}
+use Rattle.std.specs.Prelude.{◌≡◌, ℕ, ◌+◌, ◌<◌, ℤ, unsigned_abs}
+use Rattle.std.specs.Prelude.{List, [], ◌∷◌, ◌++◌, map, replicate, Option, Some, None}
 use Rattle.cell_path.specs.declared.cell.Step.{Step}
 use Rattle.path_front.specs.declared.grid.Grid.{Grid}
 use Rattle.path_front.specs.declared.grid.Grid.TheVariants.{Repeat, Sum}

@@ -1,5 +1,5 @@
 use Rattle.std.proofs.Common.{◌≡◌, ◌++◌, replicate, ap, subst, sym, ◌∙◌}
-use Rattle.path_front.specs.Cells.{plain, sounds_in, CellsState, CellsStandFor}
+use Rattle.path_front.specs.Cells.{plain, CellsState, CellsStandFor}
 use Rattle.path_front.specs.Latest.{LatestStandFor}
 use Rattle.path_front.specs.Steps.{path_steps, sounds_of}
 use Rattle.cell_path.specs.Decisions.{DecisionsEndFor}

@@ -1,4 +1,4 @@
-use Rattle.std.proofs.Common.{◌≡◌, ◌≤◌, ◌∷◌, ◌++◌, length, replicate, ap, subst, sym, ◌∙◌, arith}
+use Rattle.std.proofs.Common.{◌≡◌, ◌≤◌, length, replicate, ap, subst, sym, ◌∙◌, arith}
 use Rattle.cell_path.specs.Decided.{end_behind}
 use Rattle.cell_path.specs.Decisions.{last_end}
 use Rattle.path_front.specs.Cells.{cell_behind, plain, CellsEndFor, CellsStandFor}

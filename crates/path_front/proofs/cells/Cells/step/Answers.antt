@@ -1,6 +1,5 @@
-use Rattle.std.proofs.Common.{rules, ◌≡◌, ◌∷◌, length, FitsSigned, to_z-of_z, ap, subst, sym, ◌∙◌, arith}
+use Rattle.std.proofs.Common.{rules, ◌∷◌, length, FitsSigned, to_z-of_z, ap, subst, sym, arith}
 use Rattle.std.specs.Int.{w32}
-use Rattle.cell_path.specs.declared.cell.Step.{Step}
 use Rattle.cell_path.specs.Decisions.{DecisionsStandFor}
 use Rattle.path_front.specs.declared.steps.Heard.{Heard}
 use Rattle.path_front.specs.Cells.{plain, CellsStandFor}

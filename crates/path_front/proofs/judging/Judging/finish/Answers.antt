@@ -1,6 +1,6 @@
-use Rattle.std.proofs.Common.{◌≡◌, reverse, ap, ap₂, subst, sym, ◌∙◌}
+use Rattle.std.proofs.Common.{◌≡◌, reverse, ap, subst, sym, ◌∙◌}
 use Rattle.path_front.specs.declared.judging.Phase.TheVariants.{Sound}
-use Rattle.path_front.specs.Cells.{measured_cells, sounds_in, CellsStandFor}
+use Rattle.path_front.specs.Cells.{measured_cells, CellsStandFor}
 use Rattle.path_front.specs.Gate.{GateStandsFor}
 use Rattle.path_front.specs.Judging.{CellsIn, ForMore, JudgingState, JudgingStandFor}
 use Rattle.path_front.proofs.JudgingNext.{same_sounds}
