@@ -15,7 +15,7 @@ use Rattle.path_front.specs.Judging.{JudgingStandFor}
 use Rattle.path_front.specs.Tiles.{tiles_of}
 
 -- the intervals go on with those of the next cell
-flat_pushed : (ticks : ℕ) (cells : List Judged) (cell : Judged)
+pub flat_pushed : (ticks : ℕ) (cells : List Judged) (cell : Judged)
     → flat_map (tiles_of ticks) (cells ++ cell ∷ []) ≡ flat_map (tiles_of ticks) cells ++ tiles_of ticks cell
 flat_pushed ticks [] cell = append-nil (tiles_of ticks cell)
 flat_pushed ticks (c ∷ cells) cell =

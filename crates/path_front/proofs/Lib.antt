@@ -3,6 +3,7 @@ pub mod FrontNext
 pub mod GateJudges
 pub mod GroupNext
 pub mod HeldNext
+pub mod IntervalsCover
 pub mod JudgingNext
 pub mod LatestSizes
 pub mod LatestSound

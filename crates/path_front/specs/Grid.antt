@@ -43,6 +43,11 @@ on_grid (Repeat repeats) (latest ∷ before) = replicate repeats latest ++ on_gr
 on_grid (Sum summed) (latest ∷ before) =
     option_to_list (due summed (latest ∷ before)) ++ on_grid (Sum summed) before
 
+-- so many steps are made of so many samples: as many of each, or one of as many as are summed, where fewer may be left
+abbrev pub AreStepsOf : Grid → ℕ → ℕ → Type 0
+AreStepsOf (Repeat repeats) samples steps = steps ≡ samples * repeats
+AreStepsOf (Sum summed) samples steps = (steps * summed ≤ samples) × (samples < (steps + 1) * summed)
+
 -- sounds of 16 bits, also with half of a mean size added
 pub record IsSounds (sounds : Sounds) : Type 0 where
   pub clipped : unsigned_abs sounds.clipped ≤ 2 ^ 15
