@@ -11,11 +11,10 @@ use Rattle.std.proofs.lemmas.List.{length-append, length-replicate}
 use Rattle.std.proofs.lemmas.List.Sums.{sum_by-append}
 use Rattle.cell_path.specs.declared.cell.Bit.{Bit}
 use Rattle.cell_path.specs.declared.cell.Bit.TheVariants.{Zero, One}
+use Rattle.cell_path.specs.declared.cell.Step.{Step}
 use Rattle.cell_path.specs.declared.placed.Placed.{Placed}
-use Rattle.cell_path.specs.Decided.{end_behind}
+use Rattle.cell_path.specs.Decided.{end_behind, AreDecidedInAll}
 use Rattle.cell_path.specs.Spaced.{AreApart}
-use Rattle.cell_path.proofs.CellsCover.{cells_cover}
-use Rattle.cell_path.proofs.OneDecision.{one_in_all}
 use Rattle.path_front.specs.declared.gate.Judged.{Judged}
 use Rattle.path_front.specs.declared.grid.Grid.{Grid}
 use Rattle.path_front.specs.declared.grid.Grid.TheVariants.{Repeat, Sum}
@@ -32,9 +31,18 @@ use Rattle.path_front.proofs.FrontNext.{flat_pushed}
 
 -- ---- one list
 
-pub one_list : (grid : Grid) (ticks least : ℕ) (samples : List ℤ) (intervals others : List ℕ)
+-- what is decided in all is one list, and covers the steps
+abbrev pub IsOneList : Type 0
+IsOneList = (steps : List Step) (all others : List Placed) → AreDecidedInAll steps all → AreDecidedInAll steps others
+    → all ≡ others
+
+abbrev pub TheyCover : Type 0
+TheyCover = (steps : List Step) (all : List Placed) → AreDecidedInAll steps all
+    → AreApart all × (end_behind 0 all ≤ length steps) × (length steps ≤ end_behind 0 all + 24)
+
+pub one_list : IsOneList → (grid : Grid) (ticks least : ℕ) (samples : List ℤ) (intervals others : List ℕ)
     → AreIntervals grid ticks least samples intervals → AreIntervals grid ticks least samples others → intervals ≡ others
-one_list grid ticks least samples intervals others are like =
+one_list one_in_all grid ticks least samples intervals others are like =
     let sounds = sounds_of grid least samples in
     are.intervals_are
     ∙ ap (λ c. intervals_before ticks least (measured_cells sounds c) [])
@@ -92,11 +100,11 @@ unfolding path_steps
 steps_length [] = refl
 steps_length (s ∷ sounds) = ap suc (steps_length sounds)
 
-pub they_cover : (grid : Grid) (ticks least : ℕ) (samples : List ℤ) (intervals : List ℕ) → 2 ≤ ticks
+pub they_cover : TheyCover → (grid : Grid) (ticks least : ℕ) (samples : List ℤ) (intervals : List ℕ) → 2 ≤ ticks
     → AreIntervals grid ticks least samples intervals
     → (sum intervals ≤ ticks * length (sounds_of grid least samples))
     × (ticks * length (sounds_of grid least samples) ≤ sum intervals + 24 * ticks)
-they_cover grid ticks least samples intervals some are =
+they_cover cells_cover grid ticks least samples intervals some are =
     let sounds = sounds_of grid least samples in
     let cover = cells_cover (path_steps sounds) are.cells are.decided in
     let many = steps_length sounds in

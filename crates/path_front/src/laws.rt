@@ -15,6 +15,8 @@ ghost use Rattle.path_front.specs.Grid.{AreStepsOf, IsGrid};
 ghost use Rattle.path_front.specs.Steps.{sounds_of};
 ghost use Rattle.path_front.specs.Tiles.{tiles_of};
 
+use cell_path::laws::{one_list_is_decided_in_all, the_cells_cover_the_sound};
+
 /// Of how many sounds a mean size is, where samples are clipped, how finely levels are counted, and
 /// at how many neighbours the gate looks.
 pub fn the_numbers_are_these()
@@ -39,7 +41,9 @@ pub fn a_sound_has_one_list_of_intervals()
     ensures { (grid : Grid) (ticks least : ℕ) (samples : List ℤ) (intervals others : List ℕ)
         → AreIntervals grid ticks least samples intervals → AreIntervals grid ticks least samples others
         → intervals ≡ others }
-{}
+{
+    one_list_is_decided_in_all();
+}
 
 /// The intervals of a sound last as long as its steps, or less than 25 steps shorter: so their ends are places in
 /// the sound, from its first sample on. Of samples there are as many steps as the grid says.
@@ -50,4 +54,6 @@ pub fn the_intervals_of_a_sound_last_as_long()
         × (ticks * length (sounds_of grid least samples) ≤ sum intervals + 24 * ticks) }
     ensures steps { (grid : Grid) (least : ℕ) (samples : List ℤ) → IsGrid grid
         → AreStepsOf grid (length samples) (length (sounds_of grid least samples)) }
-{}
+{
+    the_cells_cover_the_sound();
+}
