@@ -17,14 +17,17 @@
 //!   it where it jumps, where the sound from the middle of the cell before it to its own is too faint, or
 //!   where a half does not fit (`Gate::feed`, `Gate::drain`; `specs/Gate.antt`, `breaks`;
 //!   `specs/Levels.antt`, `specs/Fit.antt`). What cells come behind these neighbours changes nothing.
-//! - All is kept in fixed room, and no number overflows in 2^40 steps.
+//! - Samples go in one by one, and the intervals of the best path come out: at the end those of the definition
+//!   over the list of all samples, and before it those of the cells that were judged so far, whenever they are
+//!   asked for (`Front::feed`, `Front::finish`, `Front::next`; `specs/Front.antt`, `AreIntervals`, `FrontStandsFor`).
+//!   A sound has one list of intervals, which last as long as its steps, or less than 25 steps shorter (`laws`).
+//! - All is kept in fixed room, and no number overflows in 2^40 steps: 2^37 samples of eight steps each.
 //! - The intervals of a cell: a zero is one, a one two halves, and a tick is cut off their front where the
 //!   stretch breaks (`tiled`; `specs/Tiles.antt`). Joined again they last as long as the cell (`laws`).
 //!
 //! Read `sizes`, `clip`, `hold`, `grid`, `group` and `steps`, in this order, then `latest`, `measured`,
-//! `levels`, `fit`, `gate`, `tile` and `cells`, and the file of the same name in `specs/` beside each. Lists of samples and
-//! of steps begin with the latest. Nothing here allocates or fails. What puts these rooms together does
-//! not stand here yet.
+//! `levels`, `fit`, `gate`, `tile`, `cells`, `judging` and `front`, and the file of the same name in `specs/` beside
+//! each. Lists of samples and of steps begin with the latest. Nothing here allocates or fails.
 #![tactic(auto)]
 
 mod cells;
