@@ -1,6 +1,7 @@
 pub mod BestBeginning
 pub mod BestEnd
 pub mod BestOfAll
+pub mod CellsCover
 pub mod DecidesNext
 pub mod EndOfSteps
 pub mod Examples
