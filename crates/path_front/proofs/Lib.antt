@@ -1,6 +1,7 @@
 pub mod CellsNext
 pub mod FrontNext
 pub mod GateJudges
+pub mod GivenFirst
 pub mod GroupNext
 pub mod HeldNext
 pub mod IntervalsCover

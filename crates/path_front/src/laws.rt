@@ -1,5 +1,5 @@
 //! What follows from the definitions alone.
-ghost use Rattle.std.specs.Prelude.{◌≡◌, ℕ, ◌+◌, ◌*◌, ◌≤◌, ℤ, List, length};
+ghost use Rattle.std.specs.Prelude.{◌≡◌, ℕ, ◌+◌, ◌*◌, ◌≤◌, ℤ, List, ◌++◌, length};
 ghost use Rattle.std.specs.List.{sum};
 ghost use Rattle.path_front.specs.declared.clip.TheConstants.{CLIP};
 ghost use Rattle.path_front.specs.declared.gate.TheConstants.{NEIGHBOURS};
@@ -10,12 +10,16 @@ ghost use Rattle.path_front.specs.declared.levels.TheConstants.{FINE};
 ghost use Rattle.path_front.specs.declared.sizes.TheConstants.{MEANS};
 ghost use Rattle.path_front.specs.declared.tile.TheConstants.{MAX_TICKS};
 ghost use Rattle.path_front.specs.declared.grid.Grid.{Grid};
-ghost use Rattle.path_front.specs.Front.{AreIntervals};
+ghost use Rattle.path_front.specs.declared.judging.Phase.TheVariants.{Sound};
+ghost use Rattle.path_front.specs.Front.{AreIntervals, FrontStandsFor, FrontState};
 ghost use Rattle.path_front.specs.Grid.{AreStepsOf, IsGrid};
 ghost use Rattle.path_front.specs.Steps.{sounds_of};
 ghost use Rattle.path_front.specs.Tiles.{tiles_of};
 
-use cell_path::laws::{one_list_is_decided_in_all, the_cells_cover_the_sound};
+use cell_path::laws::{
+    one_list_is_decided, one_list_is_decided_in_all, the_cells_cover_the_sound,
+    what_is_decided_stays,
+};
 
 /// Of how many sounds a mean size is, where samples are clipped, how finely levels are counted, and
 /// at how many neighbours the gate looks.
@@ -56,4 +60,15 @@ pub fn the_intervals_of_a_sound_last_as_long()
         → AreStepsOf grid (length samples) (length (sounds_of grid least samples)) }
 {
     the_cells_cover_the_sound();
+}
+
+/// What is given of a sound comes first among its intervals, however it goes on.
+pub fn what_is_given_comes_first()
+    ensures { (state : FrontState) (samples more : List ℤ) (given intervals : List ℕ) → state.judging.phase ≡ Sound
+        → FrontStandsFor state samples given
+        → AreIntervals state.judging.cells.steps.grid state.ticks state.judging.cells.steps.hold.least
+        (more ++ samples) intervals → (rest : List ℕ) × (intervals ≡ given ++ rest) }
+{
+    what_is_decided_stays();
+    one_list_is_decided();
 }
