@@ -3,6 +3,7 @@ for tool in tc-tape tc-archive
     complete -c $tool -l track -x -d 'this track, and no other'
     complete -c $tool -l system -x -a '24 25 30' -d 'this system, and no other'
     complete -c $tool -l rate -x -a '23.976 24 25 29.97 30' -d 'these frames a second'
+    complete -c $tool -l all-words -d 'words without a witness too'
     complete -c $tool -l limit -x -d 'frames that are bridged in a row'
     complete -c $tool -l threshold -x -d 'the least height of code'
     complete -c $tool -l smooth -x -d 'sums of so many samples'

@@ -119,7 +119,7 @@ impl Behind for FirmReport {
     }
 
     /// A word that waits stands at the edge of its stretch.
-    fn finish<K: Sink>(&self, out: &mut K) -> Result<(), Stop> {
+    fn finish<K: Sink>(&mut self, out: &mut K) -> Result<(), Stop> {
         let mut counts = self.counts;
         counts.push(&self.reader.finish(), &self.header, out)?;
         push_line(

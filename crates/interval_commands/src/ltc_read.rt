@@ -255,7 +255,7 @@ impl Behind for Report {
         false
     }
 
-    fn finish<K: Sink>(&self, out: &mut K) -> Result<(), Stop> {
+    fn finish<K: Sink>(&mut self, out: &mut K) -> Result<(), Stop> {
         push_line(out, &self.end_text())
     }
 }

@@ -91,7 +91,7 @@ behind law have flight bytes written (Some header) begins is =
     let read : events_in written ≡ read_of fs =
     ap events_in (is.are ∙ append-nil (mtc_of fs))
     ∙ law flight.limit (sum intervals) (words_heard is.events)
-    (labels_heard have header.system flight.profile intervals is.events is.are_events) in
+    (labels_heard have flight.witness header.system flight.profile intervals is.events is.are_events) in
     record {
       header = header;
       begins = begins;

@@ -1,7 +1,6 @@
 -- What `ltc-mtc` sends of a recording is what `mtc-read` reads in it: the frames of the recording.
 use Rattle.std.specs.Prelude.{◌≡◌, ℕ, List, ◌++◌, length, count_by, Some}
 use Rattle.direction_reader.specs.declared.event.Event.{Event}
-use Rattle.direction_reader.specs.ListEvents.{AreEvents}
 use Rattle.mtc_reader.specs.declared.event.MtcEvent.{MtcEvent}
 use Rattle.mtc_reader.specs.Events.{events_in}
 use Rattle.mtc_reader.specs.Texts.{end_line}
@@ -13,6 +12,7 @@ use Rattle.tc_job.specs.declared.job.Job.TheVariants.{MtcRead}
 use Rattle.tc_top.specs.Commands.{meaning_of}
 use Rattle.tc_command.specs.Meaning.{Meaning}
 use Rattle.signal_commands.specs.MtcRead.{event_lines, is_full, is_quarter}
+use Rattle.frame_commands.specs.Heard.{AreHeard}
 use Rattle.frame_commands.specs.OfFrames.{frames_of}
 
 -- the last line of `mtc-read`, of bytes in which these labels are read, and no address is refused
@@ -27,7 +27,7 @@ pub record SendsTheFrames (flight : Flight) (bytes written : List ℕ) : Type 0 
   pub header : IntervalHeader
   pub begins : (recording_of bytes).header ≡ Some header
   pub events : List Event
-  pub are_events : AreEvents header.system flight.profile (recording_of bytes).intervals events
+  pub are_events : AreHeard flight.witness header.system flight.profile (recording_of bytes).intervals events
   pub labels : List MtcEvent
   pub are_labels : labels ≡ read_of (frames_of flight.limit (recording_of bytes).intervals events)
   pub read : events_in written ≡ labels
