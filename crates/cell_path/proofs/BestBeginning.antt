@@ -227,10 +227,6 @@ jump_best lengths steps place from sign end e some best =
           ];
     }
 
-in_list : (lengths : List ℕ) (steps : List Step) (cell : Cell) (path : List Cell) → IsPath lengths steps (cell ∷ path)
-    → cell.place < length lengths
-in_list lengths steps cell path is = is.1
-
 pub way_is_low : (way : Way) → rank_of_way way < 4
 way_is_low Same = omega arith
 way_is_low Shorter = omega arith
