@@ -1,5 +1,5 @@
 -- What is written goes on with the intervals of each cell that is judged.
-use Rattle.std.proofs.Common.{◌≡◌, ℕ, ℤ, List, [], ◌∷◌, ◌++◌, length, reverse, get_or, drop, false, refl, ap, ap₂, subst, sym, ◌∙◌, arith, ◌<◌}
+use Rattle.std.proofs.Common.{◌≡◌, ℕ, ℤ, List, [], ◌∷◌, ◌++◌, reverse, false, refl, ap, ap₂, subst, sym, ◌∙◌}
 use Rattle.std.specs.List.{flat_map}
 use Rattle.std.proofs.lemmas.List.{append_assoc, append-nil, reverse-reverse}
 use Rattle.path_front.specs.declared.gate.Judged.{Judged}
@@ -193,8 +193,3 @@ goes_along old new ticks tiles samples more given gate phase opened goes stand =
           (subst (λ p. ForMore p (λ m. given ++ tiles
           ≡ intervals_before ticks old.gate.least judged (old.gate.ahead ++ m))) phase stand.out));
     }
-
-pub first_tile : (tiles : List ℕ) (tile : ℕ) → 0 < length tiles → tile ≡ get_or tiles 0 tile
-    → tiles ≡ tile ∷ drop 1 tiles
-first_tile [] tile some is = absurd (omega arith)
-first_tile (t ∷ tiles) tile some is = ap (λ x. x ∷ tiles) (sym is)

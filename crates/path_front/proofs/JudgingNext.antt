@@ -204,21 +204,6 @@ none_left phase cells now gate opened gives rest same most = record {
   };
 }
 
--- nothing changes
-pub stays_so : (state : JudgingState) → GivesNone state state
-stays_so state = record {
-  most = omega arith;
-  moves = record {
-    came = [];
-    moved = append-nil state.gate.ahead;
-    drained = λ drain. refl;
-    stays = λ sound. sound;
-    goes = λ sound. sound;
-    keeps = λ drain. drain;
-  };
-  stands = λ samples judged stand. stand;
-}
-
 -- one after the other
 moves_on : (old now new : JudgingState) (gone : List Measured) → Moves old now [] → Moves now new gone → Moves old new gone
 moves_on old now new gone first second = record {
@@ -244,40 +229,3 @@ pub judged_if : (old now new : JudgingState) (answer : Option Judged) → GivesN
     → IfSome answer (λ a. GivesJudged now new a) → IfSome answer (λ a. GivesJudged old new a)
 judged_if old now new None first second = tt
 judged_if old now new (Some answer) first second = judged_after old now new answer first second
-
-pub none_after : (old now new : JudgingState) → GivesNone old now → GivesNone now new → GivesNone old new
-none_after old now new first second = record {
-  most = omega (arith, first.most, second.most);
-  moves = moves_on old now new [] first.moves second.moves;
-  stands = λ samples judged stand. second.stands samples judged (first.stands samples judged stand);
-}
-
--- one of the last cells is judged
-pub drains : (phase : Phase) (cells : CellsState) (gate next : GateState) (answer : Judged) → is_drain phase ≡ true
-    → next.least ≡ gate.least → gate.ahead ≡ answer.cell ∷ next.ahead
-    → ((judged : List Measured) → GateStandsFor gate judged [] → Judges gate.least gate.ahead next judged [] answer)
-    → IsMeasured answer.cell → GivesJudged (judging cells gate phase) (judging cells next phase) answer
-drains Sound cells gate next answer drained least front judges measured = absurd (false≢true drained)
-drains Rest cells gate next answer drained least front judges measured = absurd (false≢true drained)
-drains Drain cells gate next answer drained least front judges measured = record {
-  less = let many = ap length front in omega (arith, many);
-  measured = measured;
-  moves = record {
-    came = [];
-    moved = append-nil gate.ahead ∙ front;
-    drained = λ drain. refl;
-    stays = λ sound. sound;
-    goes = λ sound. sound;
-    keeps = λ drain. drain;
-  };
-  judges = λ samples judged stand.
-      (judges judged stand.gate).breaks_is ∙ ap (λ n. breaks n judged answer.cell (next.ahead ++ [])) (sym least);
-  stands = λ samples judged stand. record {
-    given = stand.given;
-    cells = stand.cells;
-    gate = (judges judged stand.gate).stands;
-    least = least ∙ stand.least;
-    order = order_judged judged gate.ahead next.ahead
-        (reverse (measured_cells (sounds_in cells samples) stand.given)) answer.cell front stand.order;
-  };
-}
