@@ -137,6 +137,9 @@ fn values(command: &str, d: &mut Draws) -> Vec<String> {
         _ => {}
     }
     words.retain(|word| !word.is_empty());
+    if words.last().is_some_and(|word| word == "worn" || word == "rough") && d.one_in(2) {
+        words.push("firm".into());
+    }
     words
 }
 

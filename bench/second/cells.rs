@@ -88,9 +88,15 @@ fn latest_four(cells: &[Cell]) -> u64 {
     (0..4).map(|back| cells[cells.len().saturating_sub(1 + back)].ticks).sum()
 }
 
-/// The events of intervals, in order. With `is_firm`, words without a witness are refused as `alone`, and those
-/// that still wait for theirs where the file does not end are left out, with all that comes behind them.
-pub fn events(tolerance: Tolerance, system: u64, intervals: &[u64], is_firm: bool, is_ended: bool) -> Vec<Event> {
+/// What is told of intervals: the events in order, and the tick up to which all is told.
+pub struct Told {
+    pub events: Vec<Event>,
+    pub until: u64,
+}
+
+/// The events of intervals. With `is_firm`, words without a witness are refused as `alone`; where the file does not
+/// end, a word that still waits for its own is left out, with all that comes behind it.
+pub fn events(tolerance: Tolerance, system: u64, intervals: &[u64], is_firm: bool, is_ended: bool) -> Told {
     let mut told: Vec<Event> = Vec::new();
     let mut stretches: Vec<Vec<Cell>> = Vec::new();
     let (mut open, mut half, mut before, mut tick) = (false, None, None, 0);
@@ -130,7 +136,9 @@ pub fn events(tolerance: Tolerance, system: u64, intervals: &[u64], is_firm: boo
             }
         }
     }
-    if is_firm { firm(told, &stretches, open && !is_ended) } else { told }
+    let waits = open && !is_ended;
+    let told = Told { events: told, until: tick };
+    if is_firm { firm(told, &stretches, waits) } else { told }
 }
 
 /// Tells what the last 80 cells of a stretch say.
@@ -205,9 +213,9 @@ fn fields(system: u64, bits: &[u8]) -> Result<(Label, u32, [bool; 5]), &'static 
 
 /// Asks each word for its witness. Where the last stretch may go on, a backward word that has fewer than 16 cells
 /// behind it still waits, and so does all that was told behind it.
-fn firm(told: Vec<Event>, stretches: &[Vec<Cell>], may_go_on: bool) -> Vec<Event> {
+fn firm(told: Told, stretches: &[Vec<Cell>], may_go_on: bool) -> Told {
     let mut firmly = Vec::new();
-    for event in told {
+    for event in told.events {
         let Event::Word(word) = event else {
             firmly.push(event);
             continue;
@@ -220,7 +228,7 @@ fn firm(told: Vec<Event>, stretches: &[Vec<Cell>], may_go_on: bool) -> Vec<Event
                 let behind = word.first + 80;
                 let is_there = cells.len() >= behind + 16;
                 if !is_there && may_go_on && word.stretch + 1 == stretches.len() {
-                    break;
+                    return Told { events: firmly, until: word.tick };
                 }
                 is_there && (0..16).any(|k| bit(behind + k) != SYNC[15 - k])
             }
@@ -230,7 +238,7 @@ fn firm(told: Vec<Event>, stretches: &[Vec<Cell>], may_go_on: bool) -> Vec<Event
             false => Event::Word(word),
         });
     }
-    firmly
+    Told { events: firmly, until: told.until }
 }
 
 /// The report of `ltc-read` and its like: the lines of the events, and the last line where the file ended well.

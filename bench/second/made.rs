@@ -66,7 +66,7 @@ pub fn load(seed: u64, words: u64) -> String {
             cell(bit, draw(), &mut intervals);
         }
     }
-    let told = events(Tolerance::Normal, 25, &intervals, false, true);
+    let told = events(Tolerance::Normal, 25, &intervals, false, true).events;
     let labels: Vec<String> = told
         .iter()
         .filter_map(|event| match event {

@@ -1,5 +1,5 @@
 //! The words of a command line, and what the run of them is to end with.
-use crate::cells::{Event, Tolerance, events, report};
+use crate::cells::{Told, Tolerance, events, report};
 use crate::frames::{Frame, frames, jam, lines, midi, spans};
 use crate::intervals::{File, MOST_RATE, convert, read};
 use crate::labels::{Count, Label, Way};
@@ -67,7 +67,7 @@ impl<'a> Words<'a> {
         self.value(|word| ["24", "25", "30"].contains(&word).then(|| word.parse().expect("it is a number")))
     }
 
-    /// `worn`, `rough` or nothing, at the end.
+    /// `worn`, `rough` or nothing at the end, and `firm` behind one of them.
     fn hearing(&mut self) -> Read<Hearing> {
         if self.next().is_none() {
             return Ok(PLAIN);
@@ -77,7 +77,11 @@ impl<'a> Words<'a> {
             "rough" => Some(Tolerance::Rough),
             _ => None,
         })?;
-        Ok(Hearing { tolerance, is_firm: false })
+        let is_firm = self.next().is_some();
+        if is_firm {
+            self.value(|word| (word == "firm").then_some(()))?;
+        }
+        Ok(Hearing { tolerance, is_firm })
     }
 }
 
@@ -120,8 +124,8 @@ pub fn run(words: &[String], input: &[u8]) -> Run {
     ran.unwrap_or_else(Run::usage)
 }
 
-/// The events of a recording, and whether its file ended well.
-fn heard(hearing: Hearing, file: &File) -> Vec<Event> {
+/// What is told of a recording.
+fn heard(hearing: Hearing, file: &File) -> Told {
     let system = file.header.map_or(25, |header| header.system);
     events(hearing.tolerance, system, &file.intervals, hearing.is_firm, file.end == End::Done)
 }
@@ -129,7 +133,7 @@ fn heard(hearing: Hearing, file: &File) -> Vec<Event> {
 fn read_with(hearing: Hearing, input: &[u8]) -> Run {
     let file = read(input);
     let Some(header) = file.header else { return Run::text(String::new(), file.end) };
-    let events = heard(hearing, &file);
+    let events = heard(hearing, &file).events;
     let is_done = file.end == End::Done;
     Run::text(report(header.rate, header.system, &events, &file.intervals, is_done), file.end)
 }
@@ -144,11 +148,12 @@ fn rough(words: &[String], input: &[u8]) -> Read<Run> {
 }
 
 fn frames_of(limit: u64, hearing: Hearing, file: &File) -> Vec<Frame> {
-    frames(limit, &heard(hearing, file), file.intervals.iter().sum())
+    let told = heard(hearing, file);
+    frames(limit, &told.events, told.until)
 }
 
 fn along(words: &[String], input: &[u8]) -> Read<Run> {
-    let mut w = Words::of(words, 1, 2)?;
+    let mut w = Words::of(words, 1, 3)?;
     let (limit, hearing) = (w.number(0, 255)?, w.hearing()?);
     let file = read(input);
     let Some(header) = file.header else { return Ok(Run::text(String::new(), file.end)) };
@@ -163,7 +168,7 @@ fn along(words: &[String], input: &[u8]) -> Read<Run> {
 }
 
 fn copy(words: &[String], input: &[u8]) -> Read<Run> {
-    let mut w = Words::of(words, 3, 4)?;
+    let mut w = Words::of(words, 3, 5)?;
     let (limit, cell, rate) = (w.number(0, 255)?, w.number(16, 8_388_607)?, w.number(1, MOST_RATE)?);
     let hearing = w.hearing()?;
     let file = read(input);
@@ -172,7 +177,7 @@ fn copy(words: &[String], input: &[u8]) -> Read<Run> {
 }
 
 fn follow(words: &[String], input: &[u8]) -> Read<Run> {
-    let mut w = Words::of(words, 5, 6)?;
+    let mut w = Words::of(words, 5, 7)?;
     let count = w.count()?;
     let label = w.label(count)?;
     let (limit, seed, bound) = (w.number(0, 255)?, w.number(0, u64::MAX)?, w.number(0, 1_000)?);

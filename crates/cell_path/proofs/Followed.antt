@@ -98,12 +98,12 @@ too_new delay count done cell new = ap (λ b. b && ltb (done + length_in LENGTHS
     (lt-leb (cell.end + delay) count new)
 
 -- one that is not far enough behind what was decided
-too_near : (delay count done : ℕ) (cell : Placed) → cell.end ≤ done + length_in LENGTHS cell.cell.place / 4
+pub too_near : (delay count done : ℕ) (cell : Placed) → cell.end ≤ done + length_in LENGTHS cell.cell.place / 4
     → is_decided delay count done cell ≡ false
 too_near delay count done cell near = ap (λ b. leb (cell.end + delay) count && b)
     (le-ltb (done + length_in LENGTHS cell.cell.place / 4) cell.end near) ∙ and_no (leb (cell.end + delay) count)
 
-old_enough : (delay count done : ℕ) (cell : Placed) → cell.end + delay ≤ count
+pub old_enough : (delay count done : ℕ) (cell : Placed) → cell.end + delay ≤ count
     → done + length_in LENGTHS cell.cell.place / 4 < cell.end → is_decided delay count done cell ≡ true
 old_enough delay count done cell old far = ap₂ (λ a b. a && b) (le-leb (cell.end + delay) count old)
     (lt-ltb (done + length_in LENGTHS cell.cell.place / 4) cell.end far)
@@ -135,7 +135,7 @@ left-pushed delay count done ago cell rest old =
     (further count ago n)
 
 -- nothing is left of a path that ends where the cells before did, or before them
-none_behind : (delay count done end : ℕ) (rest : List Cell) → end ≤ done
+pub none_behind : (delay count done end : ℕ) (rest : List Cell) → end ≤ done
     → filter (is_decided delay count done) (placed end rest) ≡ []
 unfolding placed
 none_behind delay count done end [] before = refl

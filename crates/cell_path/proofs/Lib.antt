@@ -1,6 +1,8 @@
 pub mod BestBeginning
 pub mod BestEnd
+pub mod BestExists
 pub mod BestOfAll
+pub mod CellsCover
 pub mod DecidesNext
 pub mod EndOfSteps
 pub mod Examples

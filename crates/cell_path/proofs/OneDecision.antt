@@ -10,6 +10,7 @@ use Rattle.cell_path.specs.declared.lengths.TheConstants.{LENGTHS}
 use Rattle.cell_path.specs.declared.placed.Placed.{Placed}
 use Rattle.cell_path.specs.Best.{IsBestOfAll}
 use Rattle.cell_path.specs.Decided.{end_behind, in_time, is_due, joined, jumps, latest_of, newly, Adds, AreDecided}
+use Rattle.cell_path.specs.Decided.{AreDecidedInAll}
 use Rattle.cell_path.specs.Path.{score}
 use Rattle.cell_path.proofs.OneBest.{same_winner}
 
@@ -35,6 +36,16 @@ one_decision [] all others are like = are ∙ sym like
 one_decision (step ∷ steps) all others are like =
     adds_one (step ∷ steps) are.0 like.0 all others (is_due (length (step ∷ steps))) refl
     (one_decision steps are.0 like.0 are.1 like.1) are.2 like.2
+
+-- when the sound ends, too
+pub one_in_all : (steps : List Step) (all others : List Placed) → AreDecidedInAll steps all
+    → AreDecidedInAll steps others → all ≡ others
+one_in_all [] all others are like = are ∙ sym like
+one_in_all (step ∷ steps) all others are like =
+    let now = step ∷ steps in
+    are.4 ∙ ap (λ p. newly 0 (length now) (end_behind 0 are.0) p ++ are.0) (one_of_all now are.2 like.2 are.3 like.3)
+    ∙ ap (λ l. newly 0 (length now) (end_behind 0 l) like.2 ++ l) (one_decision now are.0 like.0 are.1 like.1)
+    ∙ sym like.4
 
 -- ---- nothing before the first decision
 

@@ -1,5 +1,5 @@
 -- Cells that are gathered one before another end apart by their lengths.
-use Rattle.std.proofs.Common.{◌≡◌, ℕ, ◌+◌, ◌≤◌, List, [], ◌∷◌, ◌++◌, length, refl, subst, sym, arith}
+use Rattle.std.proofs.Common.{◌≡◌, ℕ, ◌+◌, ◌*◌, ◌≤◌, List, [], ◌∷◌, ◌++◌, length, refl, arith}
 use Rattle.cell_path.specs.declared.placed.Placed.{Placed}
 use Rattle.cell_path.specs.Decided.{end_behind}
 use Rattle.cell_path.specs.Spaced.{AreSpaced}
@@ -38,6 +38,13 @@ spaced_behind done from [] are behind near = tt
 spaced_behind done from (cell ∷ []) are behind near = (behind.0, omega (arith, are.1), tt)
 spaced_behind done from (cell ∷ c ∷ waiting) are behind near =
     (are.0, omega (arith, are.1), spaced_behind done from (c ∷ waiting) are.2 behind.1 near)
+
+-- so there are not many of them
+pub spaced_many : (most from : ℕ) (waiting : List Placed) → AreSpaced most from waiting
+    → 2 * length waiting + from ≤ end_behind from waiting
+spaced_many most from [] are = omega arith
+spaced_many most from (cell ∷ waiting) are =
+    let before = spaced_many most from waiting are.2 in omega (arith, before, are.0)
 
 -- the earliest of those that wait
 pub earliest_is_near : (most from : ℕ) (waiting : List Placed) (cell : Placed)

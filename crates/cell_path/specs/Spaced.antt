@@ -9,3 +9,8 @@ abbrev pub AreSpaced : ℕ → ℕ → List Placed → Type 0
 AreSpaced most done [] = Unit {0}
 AreSpaced most done (cell ∷ before) =
     (end_behind done before + 2 ≤ cell.end) × (cell.end ≤ end_behind done before + most) × AreSpaced most done before
+
+-- each ends two steps behind the one before it at least, and the earliest two steps behind the beginning
+abbrev pub AreApart : List Placed → Type 0
+AreApart [] = Unit {0}
+AreApart (cell ∷ before) = (end_behind 0 before + 2 ≤ cell.end) × AreApart before

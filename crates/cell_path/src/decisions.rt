@@ -1,5 +1,5 @@
 //! The cells of a sound, decided while it goes on. Next: `laws`.
-ghost use Rattle.std.specs.Prelude.{◌≡◌, ℕ, ◌+◌, ◌^◌, ◌<◌, IfSome, IfNone, None, List, [], ◌∷◌};
+ghost use Rattle.std.specs.Prelude.{◌≡◌, ℕ, ◌+◌, ◌^◌, ◌<◌, ◌≤◌, IfSome, IfNone, None, List, [], ◌∷◌, length};
 ghost use Rattle.cell_path.specs.declared.cell.Step.{Step};
 ghost use Rattle.cell_path.specs.declared.placed.Placed.{Placed};
 ghost use Rattle.cell_path.specs.Decided.{TakesEarliest};
@@ -71,6 +71,7 @@ impl Decisions {
             → DecisionsStandFor self.new (step ∷ steps) given }
         ensures count { self.new.count ≡ self.old.count + 1 }
         ensures last { self.new.last ≡ self.old.last }
+        ensures many { length self.new.waiting ≤ 1_024 }
     {
         self.paths.feed(step);
         self.count += 1;
@@ -92,6 +93,7 @@ impl Decisions {
             → DecisionsEndFor self.new steps given }
         ensures count { self.new.count ≡ self.old.count }
         ensures last { self.new.last ≡ self.old.last }
+        ensures many { length self.new.waiting ≤ 1_024 }
     {
         if 0 < self.count {
             decide(

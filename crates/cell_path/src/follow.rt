@@ -77,6 +77,7 @@ pub(crate) fn decide(paths: &Paths, delay: u64, count: u64, done: &mut u64, wait
     ensures decided { (steps : List Step) → PathsStandFor paths.now steps → 0 < length steps
         → (path : List Cell) × IsBestOfAll LENGTHS steps path × (waiting.new ≡ newly delay count done.old path) }
     ensures done { done.new ≡ end_behind done.old waiting.new }
+    ensures many { length waiting.new ≤ 1_024 }
     ensures near { count ≤ done.new + delay + 119 }
     ensures behind { done.new ≤ count }
     ensures spaced { AreSpaced 120 done.old waiting.new }

@@ -1,5 +1,5 @@
 //! What follows from the definitions alone.
-ghost use Rattle.std.specs.Prelude.{◌≡◌, ℕ, ◌+◌, ◌-◌, ◌*◌, ◌^◌, ◌<◌, List, [], ◌∷◌, ◌++◌, pos, drop, length, reverse};
+ghost use Rattle.std.specs.Prelude.{◌≡◌, ℕ, ◌+◌, ◌-◌, ◌*◌, ◌^◌, ◌<◌, ◌≤◌, List, [], ◌∷◌, ◌++◌, pos, drop, length, reverse};
 ghost use Rattle.cell_path.specs.declared.cell.Cell.{Cell};
 ghost use Rattle.cell_path.specs.declared.cell.Sign.{Sign};
 ghost use Rattle.cell_path.specs.declared.cell.Step.{Step};
@@ -8,9 +8,10 @@ ghost use Rattle.cell_path.specs.declared.lengths.TheConstants.{EARLY, JUMP, LEN
 ghost use Rattle.cell_path.specs.declared.numbers.TheConstants.{PLACES};
 ghost use Rattle.cell_path.specs.declared.placed.Placed.{Placed};
 ghost use Rattle.cell_path.specs.declared.waiting.TheConstants.{ROOM};
-ghost use Rattle.cell_path.specs.Best.{EndsIn, IsBest};
-ghost use Rattle.cell_path.specs.Decided.{in_time, joined, latest_of, AreDecided};
+ghost use Rattle.cell_path.specs.Best.{EndsIn, IsBest, IsBestOfAll};
+ghost use Rattle.cell_path.specs.Decided.{end_behind, in_time, joined, latest_of, AreDecided, AreDecidedInAll};
 ghost use Rattle.cell_path.specs.Lengths.{length_in, spelled};
+ghost use Rattle.cell_path.specs.Spaced.{AreApart};
 
 /// The lengths: from 4 to 24 each, from 26 to 48 each second, from 52 to 96 each fourth.
 pub fn the_lengths_are_these()
@@ -63,4 +64,25 @@ pub fn what_is_decided_stays()
 pub fn what_is_decided_comes_in_time()
     ensures { (new before : List Placed)
         → in_time (new ++ before) ≡ in_time before ++ joined (latest_of before) (reverse new) }
+{}
+
+/// When a sound ends, one list of cells is decided in all.
+pub fn one_list_is_decided_in_all()
+    ensures { (steps : List Step) (all others : List Placed) → AreDecidedInAll steps all → AreDecidedInAll steps others
+        → all ≡ others }
+{}
+
+/// The cells that are decided in all cover the sound: each ends two steps behind the one before it at least, and the
+/// last with the sound, or less than 25 steps before, a quarter of the longest cell.
+pub fn the_cells_cover_the_sound()
+    ensures { (steps : List Step) (all : List Placed) → AreDecidedInAll steps all
+        → AreApart all × (end_behind 0 all ≤ length steps) × (length steps ≤ end_behind 0 all + 24) }
+{}
+
+/// Each sound has a best path, and its cells are decided, as it goes on and when it ends.
+pub fn cells_are_decided_of_each_sound()
+    ensures best { (step : Step) (steps : List Step)
+        → (path : List Cell) × IsBestOfAll LENGTHS (step ∷ steps) path }
+    ensures decided { (steps : List Step) → (all : List Placed) × AreDecided steps all }
+    ensures in_all { (steps : List Step) → (all : List Placed) × AreDecidedInAll steps all }
 {}

@@ -25,14 +25,15 @@
 //! - No score overflows in 2^40 steps, since a step adds 2^22 in the mean at most (`specs/Kept.antt`,
 //!   `limit`).
 //! - A sound has one best path for each end, and what stands before the latest cell of a best path is a
-//!   best path itself; what is decided stays, and what is decided later stands behind it (`laws`).
+//!   best path itself; what is decided stays, and what is decided later stands behind it. When it ends, one list
+//!   of cells is decided in all, and covers it to within a quarter of a cell (`laws`).
 //!
 //! Read `lengths` and `cell` with `specs/Path.antt` and `specs/Best.antt`, then `scores` with
 //! `specs/Number.antt` and `specs/StandsFor.antt`, `paths` with `specs/KeptMarks.antt`, and `decisions`
 //! with `specs/Decided.antt`; below them stand `end`, `best` and `start`, which try one length each, and
 //! `follow`. Lists of steps and of cells begin with the latest.
-//! Nothing here allocates or refuses. What makes the steps of samples, and what tells cells from noise, does
-//! not stand here yet.
+//! Nothing here allocates or refuses. What makes the steps of samples, and what tells cells from noise, stands in
+//! path_front.
 #![tactic(auto)]
 
 mod best;

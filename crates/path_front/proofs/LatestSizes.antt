@@ -1,7 +1,7 @@
 -- The sizes in the ring are those of the latest sounds, and their sum is kept with each that comes.
-use Rattle.std.proofs.Common.{◌≡◌, ℕ, zero, suc, ◌+◌, ◌-◌, ◌*◌, ◌/◌, ◌%◌, ◌^◌, ◌<◌, ◌≤◌, min, List, [], ◌∷◌, length}
-use Rattle.std.proofs.Common.{get_or, replicate, take, refl, ap, ap₂, subst, sym, ◌∙◌, arith}
-use Rattle.std.specs.List.{sum, sum_by, All}
+use Rattle.std.proofs.Common.{◌≡◌, ℕ, zero, suc, ◌+◌, ◌-◌, ◌%◌, ◌^◌, ◌<◌, ◌≤◌, min, List, [], ◌∷◌, length}
+use Rattle.std.proofs.Common.{get_or, replicate, take, refl, ap, sym, ◌∙◌, arith}
+use Rattle.std.specs.List.{sum, All}
 use Rattle.std.specs.Prelude.{set}
 use Rattle.std.proofs.lemmas.List.{get_or-replicate, get_or-set_same, get_or-set_other, length-set, length-take}
 use Rattle.std.proofs.lemmas.List.Sums.{get_or-le-sum_by, sum_by-cons, sum_by-le, sum_by-set}

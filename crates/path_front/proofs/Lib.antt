@@ -1,6 +1,11 @@
+pub mod CellsNext
+pub mod FrontNext
 pub mod GateJudges
+pub mod GivenFirst
 pub mod GroupNext
 pub mod HeldNext
+pub mod IntervalsCover
+pub mod JudgingNext
 pub mod LatestSizes
 pub mod LatestSound
 pub mod Means

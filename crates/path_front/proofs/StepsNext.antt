@@ -1,7 +1,6 @@
 -- One sample more brings its steps, and each that is given leaves the others.
-use Rattle.std.proofs.Common.{◌≡◌, ℕ, zero, suc, ◌+◌, ℤ, List, [], ◌∷◌, ◌++◌, Some, None, map, replicate, refl, ap, ap₂}
+use Rattle.std.proofs.Common.{◌≡◌, ℕ, zero, suc, ℤ, List, [], ◌∷◌, ◌++◌, Some, None, replicate, refl, ap}
 use Rattle.std.proofs.Common.{subst, sym, ◌∙◌}
-use Rattle.std.specs.Prelude.{unsigned_abs}
 use Rattle.std.specs.Option.{option_to_list}
 use Rattle.path_front.specs.declared.grid.Grid.{Grid}
 use Rattle.path_front.specs.declared.grid.Grid.TheVariants.{Repeat, Sum}
@@ -10,7 +9,7 @@ use Rattle.path_front.specs.Clip.{clip_at, clipped, clipped_to, sizes_of}
 use Rattle.path_front.specs.Grid.{due, on_grid, GroupState, GroupStandsFor}
 use Rattle.path_front.specs.Hold.{held_at, HoldState, HoldStandsFor}
 use Rattle.path_front.specs.KeptSizes.{SizesState, SizesStandFor}
-use Rattle.path_front.specs.Steps.{sounds_of, with_held, GroupStands, StepsState, StepsStandFor}
+use Rattle.path_front.specs.Steps.{with_held, GroupStands, StepsState, StepsStandFor}
 
 none_on : (grid : Grid) → on_grid grid [] ≡ []
 unfolding on_grid

@@ -1,5 +1,5 @@
 -- How well the halves of a cell fit those of its neighbours, in squares of levels. The rule is this project's own.
-use Rattle.std.specs.Prelude.{ℕ, ◌+◌, ◌-◌, ◌*◌, ◌/◌, ◌^◌, ◌≤◌, min, max, ltb, ◌||◌, Bool, cond, ℤ, pos, int_lt}
+use Rattle.std.specs.Prelude.{ℕ, ◌+◌, ◌-◌, ◌*◌, ◌/◌, ◌^◌, ◌≤◌, min, max, ltb, ◌||◌, Bool, cond, pos, int_lt}
 use Rattle.std.specs.Prelude.{unsigned_abs, Option, Some, None}
 use Rattle.path_front.specs.declared.fit.Fit.{Fit}
 use Rattle.path_front.specs.declared.fit.HalfFit.{HalfFit}

@@ -1,5 +1,5 @@
 -- How samples become steps. Lists begin with the latest. The rule is this project's own.
-use Rattle.std.specs.Prelude.{◌≡◌, ℕ, ◌+◌, ◌*◌, ◌/◌, ◌^◌, ◌<◌, ◌≤◌, ◌==◌, cond, ℤ, pos, ◌+ℤ◌, int_div, unsigned_abs}
+use Rattle.std.specs.Prelude.{◌≡◌, ℕ, ◌+◌, ◌*◌, ◌^◌, ◌<◌, ◌≤◌, ◌==◌, cond, ℤ, pos, ◌+ℤ◌, int_div, unsigned_abs}
 use Rattle.std.specs.Prelude.{List, [], ◌∷◌, ◌++◌, length, map, replicate, Option, Some, None}
 use Rattle.std.specs.Option.{option_to_list}
 use Rattle.path_front.specs.declared.grid.Grid.{Grid}
@@ -42,6 +42,11 @@ on_grid grid [] = []
 on_grid (Repeat repeats) (latest ∷ before) = replicate repeats latest ++ on_grid (Repeat repeats) before
 on_grid (Sum summed) (latest ∷ before) =
     option_to_list (due summed (latest ∷ before)) ++ on_grid (Sum summed) before
+
+-- so many steps are made of so many samples: as many of each, or one of as many as are summed, where fewer may be left
+abbrev pub AreStepsOf : Grid → ℕ → ℕ → Type 0
+AreStepsOf (Repeat repeats) samples steps = steps ≡ samples * repeats
+AreStepsOf (Sum summed) samples steps = (steps * summed ≤ samples) × (samples < (steps + 1) * summed)
 
 -- sounds of 16 bits, also with half of a mean size added
 pub record IsSounds (sounds : Sounds) : Type 0 where

@@ -1,8 +1,11 @@
+pub mod Cells
 pub mod Clip
 pub mod Fit
+pub mod Front
 pub mod Gate
 pub mod Grid
 pub mod Hold
+pub mod Judging
 pub mod KeptSizes
 pub mod Latest
 pub mod Levels

@@ -1,6 +1,6 @@
 -- What is measured of a decided cell. Lists begin with the latest.
-use Rattle.std.specs.Prelude.{◌≡◌, ℕ, ◌+◌, ◌-◌, ◌*◌, ◌/◌, ◌^◌, ◌<◌, ◌≤◌, ◌<ℤ◌, ℤ, pos, cond, int_le, unsigned_abs}
-use Rattle.std.specs.Prelude.{◌+ℤ◌, List, [], ◌∷◌, ◌++◌, length}
+use Rattle.std.specs.Prelude.{ℕ, ◌+◌, ◌-◌, ◌*◌, ◌/◌, ◌^◌, ◌≤◌, ℤ, unsigned_abs}
+use Rattle.std.specs.Prelude.{List, ◌++◌, length}
 use Rattle.cell_path.specs.declared.cell.Bit.{Bit}
 use Rattle.cell_path.specs.declared.cell.Bit.TheVariants.{Zero, One}
 use Rattle.cell_path.specs.declared.cell.Sign.{Sign}

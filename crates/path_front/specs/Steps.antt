@@ -1,6 +1,6 @@
 -- The steps of a sound: for the path, and as they are without the hold. Lists begin with the latest.
-use Rattle.std.specs.Prelude.{◌≡◌, ℕ, ◌+◌, ◌*◌, ◌^◌, ◌<◌, ◌≤◌, ℤ, pos, unsigned_abs}
-use Rattle.std.specs.Prelude.{List, [], ◌∷◌, ◌++◌, length, map, replicate, Option, Some, None}
+use Rattle.std.specs.Prelude.{◌≡◌, ℕ, ◌+◌, ◌<◌, ℤ, unsigned_abs}
+use Rattle.std.specs.Prelude.{List, [], ◌∷◌, ◌++◌, map, replicate, Option, Some, None}
 use Rattle.cell_path.specs.declared.cell.Step.{Step}
 use Rattle.path_front.specs.declared.grid.Grid.{Grid}
 use Rattle.path_front.specs.declared.grid.Grid.TheVariants.{Repeat, Sum}
@@ -75,3 +75,8 @@ abbrev pub GivesStep : StepsState → List ℤ → List Sounds → Option Heard 
 GivesStep new samples given None = StepsStandFor new samples given × (given ≡ sounds_of new.grid new.hold.least samples)
 GivesStep new samples given (Some heard) =
     (latest : Sounds) × (heard ≡ heard_at latest given) × StepsStandFor new samples (latest ∷ given)
+
+-- one step fewer is left
+pub record TakesStep (old new : StepsState) : Type 0 where
+  pub left : old.left ≡ new.left + 1
+  pub count : new.levels.count ≡ old.levels.count + 1

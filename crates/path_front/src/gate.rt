@@ -183,6 +183,8 @@ impl Gate {
         ensures waits { IfNone result (self.new.ahead ≡ self.old.ahead ++ cell ∷ []) }
         ensures stands { IfNone result ((judged more : List Measured) → GateStandsFor self.old judged (cell ∷ more)
             → GateStandsFor self.new judged more) }
+        ensures front { IfSome result (λ answer. self.old.ahead ++ cell ∷ [] ≡ answer.cell ∷ self.new.ahead) }
+        ensures cell { IfSome result (λ answer. IsMeasured answer.cell) }
         ensures judges { IfSome result (λ answer. (judged more : List Measured)
             → GateStandsFor self.old judged (cell ∷ more)
             → Judges self.old.least (self.old.ahead ++ cell ∷ []) self.new judged more answer) }
@@ -200,7 +202,9 @@ impl Gate {
         requires room { length self.old.ahead ≤ 8 }
         ensures least { self.new.least ≡ self.old.least }
         ensures room { length self.new.ahead ≤ 8 }
-        ensures none { IfNone result (self.old.ahead ≡ []) }
+        ensures none { IfNone result ((self.new ≡ self.old) × (self.old.ahead ≡ [])) }
+        ensures front { IfSome result (λ answer. self.old.ahead ≡ answer.cell ∷ self.new.ahead) }
+        ensures cell { IfSome result (λ answer. IsMeasured answer.cell) }
         ensures judges { IfSome result (λ answer. (judged : List Measured) → GateStandsFor self.old judged []
             → Judges self.old.least self.old.ahead self.new judged [] answer) }
     {
@@ -216,6 +220,7 @@ impl Gate {
         requires some { 0 < length self.old.ahead }
         ensures least { self.new.least ≡ self.old.least }
         ensures front { self.old.ahead ≡ result.cell ∷ self.new.ahead }
+        ensures cell { IsMeasured result.cell }
         ensures judges { (judged more : List Measured)
             → take NEIGHBOURS (drop 1 self.old.ahead ++ more) ≡ drop 1 self.old.ahead
             → GateStandsFor self.old judged more

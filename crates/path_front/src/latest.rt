@@ -9,7 +9,7 @@ pub const KEPT: usize = 4_096;
 
 /// The sound of the latest steps, in a ring.
 #[derive(Drop)]
-pub struct Latest {
+pub(crate) struct Latest {
     ring: [i32; KEPT],
     count: u64,
 }
@@ -26,7 +26,7 @@ impl Model for Latest {
 
 impl Latest {
     /// Before the first step.
-    pub fn new() -> Latest
+    pub(crate) fn new() -> Latest
         ensures stands { LatestStandFor result [] }
         ensures count { result.count ≡ 0 }
     {
@@ -37,7 +37,7 @@ impl Latest {
     }
 
     /// Takes the next step.
-    pub fn push(&mut self, sound: i32)
+    pub(crate) fn push(&mut self, sound: i32)
         requires sound { unsigned_abs sound ≤ 2 ^ 15 }
         requires room { self.old.count < 2 ^ 40 }
         ensures stands { (sounds : List ℤ) → LatestStandFor self.old sounds
@@ -49,7 +49,7 @@ impl Latest {
     }
 
     /// How many steps have come.
-    pub fn count(&self) -> u64
+    pub(crate) fn count(&self) -> u64
         ensures { result ≡ self.now.count }
     {
         self.count
@@ -65,7 +65,7 @@ impl Latest {
     }
 
     /// The sum of so many steps up to the one so long ago.
-    pub fn sum(&self, ago: usize, many: usize) -> i64
+    pub(crate) fn sum(&self, ago: usize, many: usize) -> i64
         requires many { many ≤ 96 }
         requires within { ago + many ≤ 4_096 }
         ensures value { (sounds : List ℤ) → LatestStandFor self.now sounds → result ≡ sum_of (part ago many sounds) }
@@ -79,7 +79,7 @@ impl Latest {
     }
 
     /// The sum of their squares.
-    pub fn squares(&self, ago: usize, many: usize) -> u64
+    pub(crate) fn squares(&self, ago: usize, many: usize) -> u64
         requires many { many ≤ 96 }
         requires within { ago + many ≤ 4_096 }
         ensures value { (sounds : List ℤ) → LatestStandFor self.now sounds

@@ -1,5 +1,5 @@
 //! What follows from the definitions alone.
-ghost use Rattle.std.specs.Prelude.{◌≡◌, ℕ, ◌*◌, ◌≤◌};
+ghost use Rattle.std.specs.Prelude.{◌≡◌, ℕ, ◌+◌, ◌*◌, ◌≤◌, ℤ, List, ◌++◌, length};
 ghost use Rattle.std.specs.List.{sum};
 ghost use Rattle.path_front.specs.declared.clip.TheConstants.{CLIP};
 ghost use Rattle.path_front.specs.declared.gate.TheConstants.{NEIGHBOURS};
@@ -9,7 +9,17 @@ ghost use Rattle.path_front.specs.declared.latest.TheConstants.{KEPT};
 ghost use Rattle.path_front.specs.declared.levels.TheConstants.{FINE};
 ghost use Rattle.path_front.specs.declared.sizes.TheConstants.{MEANS};
 ghost use Rattle.path_front.specs.declared.tile.TheConstants.{MAX_TICKS};
+ghost use Rattle.path_front.specs.declared.grid.Grid.{Grid};
+ghost use Rattle.path_front.specs.declared.judging.Phase.TheVariants.{Sound};
+ghost use Rattle.path_front.specs.Front.{AreIntervals, FrontStandsFor, FrontState};
+ghost use Rattle.path_front.specs.Grid.{AreStepsOf, IsGrid};
+ghost use Rattle.path_front.specs.Steps.{sounds_of};
 ghost use Rattle.path_front.specs.Tiles.{tiles_of};
+
+use cell_path::laws::{
+    one_list_is_decided, one_list_is_decided_in_all, the_cells_cover_the_sound,
+    what_is_decided_stays,
+};
 
 /// Of how many sounds a mean size is, where samples are clipped, how finely levels are counted, and
 /// at how many neighbours the gate looks.
@@ -29,3 +39,36 @@ pub fn the_intervals_of_a_cell_last_as_long()
     ensures long { (ticks : ℕ) (judged : Judged) → 2 ≤ ticks → 2 ≤ judged.cell.span
         → sum (tiles_of ticks judged) ≡ judged.cell.span * ticks }
 {}
+
+/// The samples of a sound have one list of intervals.
+pub fn a_sound_has_one_list_of_intervals()
+    ensures { (grid : Grid) (ticks least : ℕ) (samples : List ℤ) (intervals others : List ℕ)
+        → AreIntervals grid ticks least samples intervals → AreIntervals grid ticks least samples others
+        → intervals ≡ others }
+{
+    one_list_is_decided_in_all();
+}
+
+/// The intervals of a sound last as long as its steps, or less than 25 steps shorter: so their ends are places in
+/// the sound, from its first sample on. Of samples there are as many steps as the grid says.
+pub fn the_intervals_of_a_sound_last_as_long()
+    ensures long { (grid : Grid) (ticks least : ℕ) (samples : List ℤ) (intervals : List ℕ) → 2 ≤ ticks
+        → AreIntervals grid ticks least samples intervals
+        → (sum intervals ≤ ticks * length (sounds_of grid least samples))
+        × (ticks * length (sounds_of grid least samples) ≤ sum intervals + 24 * ticks) }
+    ensures steps { (grid : Grid) (least : ℕ) (samples : List ℤ) → IsGrid grid
+        → AreStepsOf grid (length samples) (length (sounds_of grid least samples)) }
+{
+    the_cells_cover_the_sound();
+}
+
+/// What is given of a sound comes first among its intervals, however it goes on.
+pub fn what_is_given_comes_first()
+    ensures { (state : FrontState) (samples more : List ℤ) (given intervals : List ℕ) → state.judging.phase ≡ Sound
+        → FrontStandsFor state samples given
+        → AreIntervals state.judging.cells.steps.grid state.ticks state.judging.cells.steps.hold.least
+        (more ++ samples) intervals → (rest : List ℕ) × (intervals ≡ given ++ rest) }
+{
+    what_is_decided_stays();
+    one_list_is_decided();
+}

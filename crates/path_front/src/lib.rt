@@ -8,30 +8,37 @@
 //!
 //! What this crate promises:
 //! - The steps that are given are those of the samples so far, each as a function of the list
-//!   (`Steps::feed`, `Steps::next`; `specs/Steps.antt`, `sounds_of`, `heard_at`), whatever is asked for when.
-//! - A decided cell is measured in the sound of its own steps (`measure`; `specs/Measured.antt`,
-//!   `measured_of`).
+//!   (`specs/Steps.antt`, `sounds_of`, `heard_at`).
+//! - The cells that are given are those that the steps of the samples decide, as the sound goes on and when
+//!   it ends, each measured in the sound of its own steps (`Cells::feed`, `Cells::finish`, `Cells::next`;
+//!   `specs/Cells.antt`, `GivesCell`, `GivesLastCell`; `specs/Measured.antt`, `measured_of`), whatever is
+//!   asked for when.
 //! - Each cell is judged by its eight neighbours on either side: the stretch of code breaks in front of
 //!   it where it jumps, where the sound from the middle of the cell before it to its own is too faint, or
 //!   where a half does not fit (`Gate::feed`, `Gate::drain`; `specs/Gate.antt`, `breaks`;
 //!   `specs/Levels.antt`, `specs/Fit.antt`). What cells come behind these neighbours changes nothing.
-//! - All is kept in fixed room, and no number overflows in 2^40 samples and steps.
-//!
+//! - Samples go in one by one, and the intervals of the best path come out: at the end those of the definition
+//!   over the list of all samples, and before it those of the cells that were judged so far, whenever they are
+//!   asked for (`Front::feed`, `Front::finish`, `Front::next`; `specs/Front.antt`, `AreIntervals`, `FrontStandsFor`).
+//!   A sound has one list of intervals, which last as long as its steps, or less than 25 steps shorter (`laws`).
+//! - All is kept in fixed room, and no number overflows in 2^40 steps: 2^37 samples of eight steps each.
 //! - The intervals of a cell: a zero is one, a one two halves, and a tick is cut off their front where the
 //!   stretch breaks (`tiled`; `specs/Tiles.antt`). Joined again they last as long as the cell (`laws`).
 //!
 //! Read `sizes`, `clip`, `hold`, `grid`, `group` and `steps`, in this order, then `latest`, `measured`,
-//! `levels`, `fit`, `gate` and `tile`, and the file of the same name in `specs/` beside each. Lists of samples and of steps
-//! begin with the latest. Nothing here allocates or fails. What puts these rooms together does
-//! not stand here yet.
+//! `levels`, `fit`, `gate`, `tile`, `cells`, `judging` and `front`, and the file of the same name in `specs/` beside
+//! each. Lists of samples and of steps begin with the latest. Nothing here allocates or fails.
 #![tactic(auto)]
 
+mod cells;
 mod clip;
 mod fit;
+mod front;
 mod gate;
 mod grid;
 mod group;
 mod hold;
+mod judging;
 mod latest;
 pub mod laws;
 mod levels;
@@ -40,15 +47,18 @@ mod sizes;
 mod steps;
 mod tile;
 
+pub use cells::Cells;
 pub use clip::CLIP;
 pub use fit::{Fit, HalfFit, Range, Usual};
+pub use front::Front;
 pub use gate::{Gate, Judged, NEIGHBOURS};
 pub use grid::{Grid, MAX_REPEATS, MAX_SUMMED};
 pub use group::Sounds;
 pub use hold::{Loudness, Side};
-pub use latest::{KEPT, Latest};
+pub use judging::{Phase, Taken};
+pub use latest::KEPT;
 pub use levels::FINE;
-pub use measured::{Half, Measured, measure};
+pub use measured::{Half, Measured};
 pub use sizes::MEANS;
-pub use steps::{Heard, Steps};
+pub use steps::Heard;
 pub use tile::{MAX_TICKS, Tiles, tiled};

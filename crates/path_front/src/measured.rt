@@ -94,7 +94,7 @@ fn measure_half(
 }
 
 /// Measures a cell that is decided. All steps up to its end have come, and so many in all.
-pub fn measure(latest: &Latest, ended: u64, decided: Decided) -> Measured
+pub(crate) fn measure(latest: &Latest, ended: u64, decided: Decided) -> Measured
     requires place { decided.placed.cell.place < 45 }
     requires come { decided.placed.end ≤ latest.now.count }
     requires near { latest.now.count ≤ decided.placed.end + 2_048 }

@@ -1,8 +1,9 @@
 //! The steps of a sound. Next: `latest`.
-ghost use Rattle.std.specs.Prelude.{◌≡◌, ◌+◌, ◌*◌, ◌^◌, ◌<◌, ◌≤◌, ℤ, IfSome, List, [], ◌∷◌};
+ghost use Rattle.std.specs.Prelude.{◌≡◌, ◌+◌, ◌*◌, ◌^◌, ◌<◌, ◌≤◌, ℤ, unsigned_abs, IfSome, IfNone, OnSome, List, []};
+ghost use Rattle.std.specs.Prelude.{◌∷◌};
 ghost use Rattle.cell_path.specs.Scores.{IsStep};
 ghost use Rattle.path_front.specs.Grid.{IsGrid};
-ghost use Rattle.path_front.specs.Steps.{GivesStep, StepsStandFor};
+ghost use Rattle.path_front.specs.Steps.{GivesStep, StepsStandFor, TakesStep};
 ghost use Rattle.path_front.specs.declared.group.Sounds.{Sounds};
 
 use crate::clip::clip;
@@ -22,7 +23,7 @@ pub struct Heard {
 
 /// Samples on their way into steps.
 #[derive(Drop)]
-pub struct Steps {
+pub(crate) struct Steps {
     grid: Grid,
     clip: Sizes,
     hold: Hold,
@@ -61,7 +62,7 @@ impl Model for Steps {
 
 impl Steps {
     /// Before the first sample.
-    pub fn new(grid: Grid, least: u32) -> Steps
+    pub(crate) fn new(grid: Grid, least: u32) -> Steps
         requires grid { IsGrid grid }
         requires least { least ≤ 2 ^ 15 }
         ensures stands { StepsStandFor result [] [] }
@@ -84,7 +85,7 @@ impl Steps {
     }
 
     /// Takes the next sample, when all steps of those before it have been given.
-    pub fn feed(&mut self, sample: i16)
+    pub(crate) fn feed(&mut self, sample: i16)
         requires given { self.old.left ≡ 0 }
         requires room { self.old.clip.count < 2 ^ 40 }
         ensures stands { (samples : List ℤ) (given : List Sounds) → StepsStandFor self.old samples given
@@ -93,6 +94,7 @@ impl Steps {
         ensures grid { self.new.grid ≡ self.old.grid }
         ensures count { self.new.clip.count ≡ self.old.clip.count + 1 }
         ensures steps { self.new.levels.count ≡ self.old.levels.count }
+        ensures left { self.new.left ≤ 8 }
     {
         let clipped = clip(&mut self.clip, sample);
         let held = self.hold.hold(clipped);
@@ -112,11 +114,14 @@ impl Steps {
     }
 
     /// The next step, and none where all that the samples bring have been given.
-    pub fn next(&mut self) -> Option<Heard>
-        requires room { self.old.levels.count < 2 ^ 40 }
+    pub(crate) fn next(&mut self) -> Option<Heard>
+        requires room { self.old.levels.count + self.old.left ≤ 2 ^ 40 }
         ensures gives { (samples : List ℤ) (given : List Sounds) → StepsStandFor self.old samples given
             → GivesStep self.new samples given result }
         ensures step { IfSome result (λ heard. IsStep heard.step) }
+        ensures sound { IfSome result (λ heard. unsigned_abs heard.sound ≤ 2 ^ 15) }
+        ensures takes { OnSome result (TakesStep self.old self.new) }
+        ensures none { IfNone result ((self.new ≡ self.old) × (self.old.left ≡ 0)) }
         ensures least { self.new.hold.least ≡ self.old.hold.least }
         ensures grid { self.new.grid ≡ self.old.grid }
         ensures count { self.new.clip.count ≡ self.old.clip.count }

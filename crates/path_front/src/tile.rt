@@ -1,5 +1,5 @@
-//! The intervals of cells. Next: `laws`.
-ghost use Rattle.std.specs.Prelude.{◌≡◌, ◌^◌, ◌≤◌, ◌∷◌};
+//! The intervals of cells. Next: `cells`.
+ghost use Rattle.std.specs.Prelude.{◌≡◌, ◌^◌, ◌<◌, ◌≤◌, ◌∷◌, length};
 ghost use Rattle.std.specs.Option.{option_to_list};
 ghost use Rattle.path_front.specs.Measured.{IsMeasured};
 ghost use Rattle.path_front.specs.Tiles.{cut, tiles_of};
@@ -37,7 +37,9 @@ pub fn tiled(ticks: u32, judged: &Judged) -> Tiles
     requires least { 2 ≤ ticks }
     requires most { ticks ≤ MAX_TICKS }
     requires cell { IsMeasured judged.now.cell }
-    ensures { result.items ≡ tiles_of ticks judged.now }
+    ensures value { result.items ≡ tiles_of ticks judged.now }
+    ensures some { 0 < length result.items }
+    ensures few { length result.items ≤ 3 }
 {
     let cell = &judged.cell;
     let whole = cell.span * ticks;

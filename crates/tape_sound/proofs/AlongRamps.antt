@@ -5,10 +5,10 @@ use Rattle.std.proofs.Common.{List, [], ◌∷◌, length, refl, subst, arith}
 use Rattle.std.specs.Prelude.{nat_le, nat_lt}
 use Rattle.std.proofs.lemmas.Bool.Decides.{nat_tests}
 use Rattle.pcm_front.specs.declared.threshold.Threshold.{Threshold}
-use Rattle.pcm_front.specs.Level.{least_of, level_of, threshold_at}
+use Rattle.pcm_front.specs.Level.{least_of, threshold_at}
 use Rattle.tape_sound.specs.Margin.{noise_in_step, StaysBetween}
 use Rattle.tape_sound.specs.Ramps.{along, high_along, least_in, low_along, most_in, noise_along}
-use Rattle.tape_sound.specs.Ramps.{AreRamps, IsRamp, MovesOneWay, Ramp}
+use Rattle.tape_sound.specs.Ramps.{AreRamps, MovesOneWay, Ramp}
 use Rattle.tape_sound.proofs.FollowedLevel.{above_by, at_least, below_by}
 
 -- ---- over one part

@@ -1,6 +1,6 @@
 -- A threshold that follows the level lies between its least and half of the greatest sample, since the peak is no
 -- greater than that.
-use Rattle.std.proofs.Common.{ℕ, zero, suc, ◌+◌, ◌/◌, ◌≤◌, max, ℤ, pos, ◌≤ℤ◌, ◌-ℤ◌, List, [], ◌∷◌, take, unsigned_abs}
+use Rattle.std.proofs.Common.{ℕ, ◌+◌, ◌/◌, ◌≤◌, max, ℤ, pos, ◌≤ℤ◌, ◌-ℤ◌, List, take, unsigned_abs}
 use Rattle.std.proofs.Common.{arith}
 use Rattle.std.specs.Prelude.{◌+ℤ◌}
 use Rattle.std.specs.List.{AllByRecursion}

@@ -74,11 +74,6 @@ two_halves : (half : ℕ) (cell : Cell) (tape : List Cell) → RunsEvenly half (
 two_halves half (Zero c) tape even = (even.0, even.1)
 two_halves half (One a b) tape even = (omega (arith, even.0, even.1), even.2)
 
--- and is found so
-found_late : (half delay first last : ℕ) (cell found : Cell) → length_of cell ≡ 2 * half
-    → length_of cell + last ≡ first + length_of found → IsLate half first (length_of found) last
-found_late half delay first last cell found long lasts = omega (arith, long, lasts)
-
 pub follows_four : (half delay first : ℕ) (tape : List Cell) (a b c d : Cell) (cells : List Cell) → 1 ≤ half
     → 47 * delay ≤ 16 * half → RunsEvenly half tape → first ≤ delay
     → AreFoundAs delay first tape (a ∷ b ∷ c ∷ d ∷ cells)

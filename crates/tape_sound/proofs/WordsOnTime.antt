@@ -1,12 +1,8 @@
 -- A word ends as late as the transition at its end is found, and lasts longer by what this is later than the one at its
 -- begin.
 use Rattle.std.proofs.Common.{◌≡◌, ℕ, zero, suc, ◌+◌, ◌≤◌, List, [], ◌∷◌, take, drop, refl, arith}
-use Rattle.std.proofs.lemmas.List.Sums.{sum_by-cons}
 use Rattle.direction_reader.specs.PlayedLemmas.{duration-cons}
 use Rattle.biphase.specs.declared.cell.Cell.{Cell}
-use Rattle.biphase.specs.declared.cell.Cell.TheVariants.{Zero, One}
-use Rattle.biphase.specs.Chain.{flat}
-use Rattle.biphase.specs.Tolerance.{length_of}
 use Rattle.direction_reader.specs.ListEvents.{duration}
 use Rattle.direction_reader.specs.Played.{Played, events_of_words}
 use Rattle.tape_sound.specs.Late.{AreFoundAs}

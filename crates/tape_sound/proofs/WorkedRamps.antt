@@ -1,6 +1,5 @@
 -- A sound whose threshold rises over six samples and falls over four, with the bounds that this gives.
 use Rattle.std.proofs.Common.{◌≡◌, ℕ, zero, suc, ◌+◌, ◌<◌, ◌≤◌, ℤ, pos, neg_ℤ, List, [], ◌∷◌, refl, arith}
-use Rattle.pcm_front.specs.declared.threshold.Threshold.{Threshold}
 use Rattle.pcm_front.specs.declared.threshold.Threshold.TheVariants.{Follow}
 use Rattle.pcm_front.specs.Level.{threshold_at}
 use Rattle.tape_sound.specs.Ramps.{high_along, low_along, AreRamps, Ramp}

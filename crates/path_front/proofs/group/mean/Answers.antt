@@ -1,4 +1,4 @@
-use Rattle.std.proofs.Common.{rules, ◌≡◌, ◌*◌, ◌+◌, ◌^◌, ◌≤◌, pos, FitsSigned, to_z-of_z, refl, arith}
+use Rattle.std.proofs.Common.{rules, ◌≡◌, ◌+◌, ◌^◌, ◌≤◌, pos, FitsSigned, to_z-of_z, refl, arith}
 use Rattle.std.specs.Int.{w32, w64}
 use Rattle.std.specs.Prelude.{int_div, unsigned_abs}
 use Rattle.std.proofs.lemmas.Int.{fits_signed_from_abs}

@@ -1,6 +1,5 @@
-use Rattle.std.proofs.Common.{rules, ◌≡◌, ◌<◌, ◌≤◌, ◌^◌, ◌∷◌, ◌++◌, ◌||◌, Bool, List, length, take, drop, ap, ap₂}
+use Rattle.std.proofs.Common.{◌≡◌, ◌<◌, ◌≤◌, ◌^◌, ◌∷◌, ◌++◌, ◌||◌, Bool, List, length, take, drop, ap, ap₂}
 use Rattle.std.proofs.Common.{subst, sym, ◌∙◌}
-use Rattle.path_front.specs.declared.gate.Judged.{Judged}
 use Rattle.path_front.specs.declared.measured.Measured.{Measured}
 use Rattle.path_front.specs.Gate.{AreGated, long_of, refuses, usual_by, GateState, GateStandsFor, Judges}
 use Rattle.path_front.specs.Levels.{slowly}

@@ -1,4 +1,4 @@
-use Rattle.std.proofs.Common.{rules, ◌≡◌, ◌+◌, ◌^◌, ◌+ℤ◌, ◌∷◌, FitsSigned, to_z-of_z, ap, subst, sym, ◌∙◌, arith, refl}
+use Rattle.std.proofs.Common.{rules, ◌≡◌, ◌+◌, ◌^◌, ◌∷◌, FitsSigned, to_z-of_z, ap, subst, sym, arith}
 use Rattle.std.specs.Int.{w32, w64}
 use Rattle.path_front.specs.Grid.{GroupState, GroupStandsFor}
 use Rattle.path_front.proofs.GroupNext.{goes, is_due, still_waits, sum_fits, sums_within}

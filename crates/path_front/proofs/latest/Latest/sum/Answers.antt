@@ -1,7 +1,6 @@
-use Rattle.std.proofs.Common.{rules, ◌≡◌, ◌+◌, FitsSigned, to_z-of_z, ◌+ℤ◌, ap, ap₂, sym, subst, ◌∙◌, arith}
+use Rattle.std.proofs.Common.{rules, FitsSigned, to_z-of_z, ◌+ℤ◌, ap₂, sym, ◌∙◌, arith}
 use Rattle.std.specs.Int.{w64}
 use Rattle.std.proofs.lemmas.Int.{fits_signed_from_abs}
-use Rattle.path_front.specs.Latest.{sound_ago}
 use Rattle.path_front.proofs.LatestSound.{more_sum, no_steps, still_within}
 use Rattle.path_front.proofs.latest.Latest.sum.Goals as goal
 

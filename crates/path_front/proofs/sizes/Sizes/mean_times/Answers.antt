@@ -1,5 +1,5 @@
-use Rattle.std.proofs.Common.{◌*◌, ◌/◌, min, ap, ap₂, subst, sym, ◌∙◌}
-use Rattle.path_front.specs.KeptSizes.{SizesState, SizesStandFor}
+use Rattle.std.proofs.Common.{◌*◌, ◌/◌, min, ap, ap₂, sym, ◌∙◌}
+use Rattle.path_front.specs.KeptSizes.{SizesState}
 use Rattle.path_front.proofs.LatestSizes.{many-latest}
 use Rattle.path_front.proofs.sizes.Sizes.mean_times.Goals as goal
 

@@ -1,4 +1,4 @@
-use Rattle.std.proofs.Common.{ap, subst, sym, ◌+◌, ◌<◌, ◌^◌, arith}
+use Rattle.std.proofs.Common.{ap, subst, sym, arith}
 use Rattle.path_front.specs.KeptSizes.{SizesState, SizesStandFor}
 use Rattle.path_front.proofs.LatestSizes.{sizes_next, still_sizes}
 use Rattle.path_front.proofs.sizes.Sizes.push.Goals as goal

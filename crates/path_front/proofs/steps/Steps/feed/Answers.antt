@@ -1,9 +1,7 @@
-use Rattle.std.proofs.Common.{rules, ◌≡◌, ◌∷◌, Some, None, List, ℤ, FitsSigned, to_z-of_z, ap, subst, sym, ◌∙◌}
+use Rattle.std.proofs.Common.{rules, ◌≡◌, ◌∷◌, FitsSigned, to_z-of_z, ap, subst, sym, ◌∙◌}
 use Rattle.std.specs.Int.{w16, w32}
 use Rattle.path_front.specs.declared.grid.Grid.TheVariants.{Repeat, Sum}
 use Rattle.path_front.specs.declared.group.Sounds.{Sounds}
-use Rattle.path_front.specs.Clip.{sizes_of}
-use Rattle.path_front.specs.Grid.{due, GroupStandsFor}
 use Rattle.path_front.specs.Steps.{StepsState, StepsStandFor}
 use Rattle.path_front.proofs.StepsNext.{brings_mean, brings_none, brings_repeats, fed}
 use Rattle.path_front.proofs.steps.Steps.feed.Goals as goal

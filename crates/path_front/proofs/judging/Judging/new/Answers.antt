@@ -1,0 +1,13 @@
+use Rattle.std.proofs.Common.{[], sym, ◌∙◌}
+use Rattle.path_front.specs.Cells.{measured_cells}
+use Rattle.path_front.proofs.judging.Judging.new.Goals as goal
+
+pub returns-clause-stands : goal.returns-clause-stands
+unfolding measured_cells
+returns-clause-stands c = record {
+  given = [];
+  cells = c.new.ensures.stands;
+  gate = c.new-2.ensures.stands;
+  least = c.new-2.ensures.least ∙ sym c.new.ensures.least;
+  order = c.new-2.ensures.ahead;
+}
