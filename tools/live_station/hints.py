@@ -27,7 +27,7 @@ def without_code(code: Code, track: int, level: float, levels: list[float]) -> s
         return f"{begun} on track {track}, level {level:.0f} dB: is it the right track?{other}"
     if code.state == NONE and code.refused and not code.words:
         return f"no code on track {track}: words came, and none had a label. Is it another frame rate?"
-    return f"{begun} on track {track}, level {level:.0f} dB: is it time code, and not programme sound?{other}"
+    return f"{begun} on track {track}, level {level:.0f} dB: is it time code?{other}"
 
 
 def with_code(code: Code, system: System, level: float, is_clipped: bool) -> str:

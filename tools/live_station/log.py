@@ -3,7 +3,6 @@ import os
 import queue
 import stat
 import threading
-import time
 from collections.abc import Callable
 
 from tape_report.faults import NoTarget
@@ -69,11 +68,11 @@ class Log:
         """What is written of an event: of many in a minute their number."""
         minute = int(event.at) // 60
         told = ""
+        if self.more and (minute != self.minute or event.kind == events.ENDS):
+            told = Event(event.at, events.LOG, "", f"{self.more} more events in this minute").record()
+            self.more = 0
         if minute != self.minute:
-            if self.more:
-                rest = Event(event.at, events.LOG, "", f"{self.more} more events in the minute before")
-                told = rest.record()
-            self.minute, self.lines, self.more = minute, 0, 0
+            self.minute, self.lines = minute, 0
         self.lines += 1
         if self.lines > LINES_A_MINUTE and event.kind not in (events.BEGINS, events.ENDS, events.CARD):
             self.more += 1
@@ -94,8 +93,6 @@ class Log:
 
     def close(self) -> None:
         """Writes what waits, for a short while."""
-        if self.more:
-            self.put(Event(time.time(), events.LOG, "", f"{self.more} more events"))
         try:
             self.waiting.put(None, timeout=END_SECONDS)
         except queue.Full:
