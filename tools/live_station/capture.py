@@ -95,10 +95,12 @@ class Streamed(Capture):
 class Played(Capture):
     """A file at its own pace, or so many times that."""
 
-    def __init__(self, name: str, form: Form, source: Input, left: int | None, pace: float) -> None:
+    def __init__(
+        self, name: str, form: Form, source: Input, left: int | None, pace: float, begun: bytes = b""
+    ) -> None:
         reading, writing = os.pipe()
         super().__init__(name, form, reading)
-        self.source = source
+        self.rest = begun
         words = (source, writing, form, left, pace)
         self.thread = threading.Thread(target=play, args=words, name="player", daemon=True)
         self.thread.start()
@@ -140,6 +142,8 @@ def card(name: str, rate: int, tracks: int) -> Capture:
 
 def jack(port: str, rate: int | None) -> Capture:
     """A port of JACK."""
+    # Nobody who listens starts a server.
+    os.environ.setdefault("JACK_NO_START_SERVER", "1")
     form = Form(rate or jack_rate(), 1)
     return Recorder(f"JACK {shown(port)}", form, ["jack-stdout", "-q", port])
 
@@ -197,4 +201,8 @@ def standard_input(rate: int, tracks: int) -> Capture:
             form, left = wave_header(stream) if letters in WAVES else (Form(rate, tracks), None)
         except OSError as fault:
             raise NoSound((fault.strerror or "it can't be read").lower()) from fault
-    return Streamed(form, stream, left, b"" if letters in WAVES else letters)
+    begun = b"" if letters in WAVES else letters
+    if stat.S_ISREG(os.fstat(0).st_mode):
+        # A file has no pace of its own.
+        return Played("standard input", form, Input(file=stream), left, 1.0, begun)
+    return Streamed(form, stream, left, begun)

@@ -17,6 +17,13 @@ def loudest(levels: list[float], track: int) -> str:
     return f" Track {number} has {level:.0f} dB." if number and level >= here + LOUDER else ""
 
 
+def without_samples(source: str) -> str:
+    """The card or the server is gone. It is opened again by itself."""
+    if source.startswith("JACK"):
+        return f"no samples from {source}: does the JACK server run?"
+    return f"no samples from {source}: is its cable in, and its power on?"
+
+
 def without_code(code: Code, track: int, level: float, levels: list[float]) -> str:
     """Nothing is heard."""
     begun = "no code" if code.state == NONE else "the code is gone"

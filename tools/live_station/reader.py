@@ -82,11 +82,11 @@ class Reader:
         if self.state != ASKING:
             return None
         self.request += piece
-        if b"\r\n\r\n" in self.request:
-            return self.request
-        if len(self.request) > MOST_ASKED:
+        end = self.request.find(b"\r\n\r\n")
+        if end > MOST_ASKED or end < 0 and len(self.request) > MOST_ASKED:
             self.give(refusal(431))
-        return None
+            return None
+        return None if end < 0 else self.request
 
     def give(self, data: bytes) -> None:
         """A whole answer, behind which it is left."""

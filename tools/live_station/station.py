@@ -240,7 +240,7 @@ class Station:
         """What to do, in a line; empty where all is well."""
         it, level = self.board.shown, self.board.shown.level
         if it.state == shown.CARD_LOST:
-            return f"no samples: is the cable of {it.source} in, and its power on? It is opened again as soon as it is there"
+            return hints.without_samples(it.source)
         if it.state == shown.WAITING or self.code is None or level is None:
             return f"no samples from {it.source} yet"
         if it.state in (code.HEARD, code.INVENTED):

@@ -71,7 +71,7 @@ class Supply:
             minute = int(time.monotonic()) // 60
             self.told = self.told + 1 if minute == self.minute else 1
             self.minute = minute
-            if self.comes and self.told <= NOTES and self.note:
+            if (self.comes or not self.has_come) and self.told <= NOTES and self.note:
                 self.board.happen(NOTE, "", self.note)
         if self.notes.is_ended:
             self.loop.forget(self.notes.descriptor)

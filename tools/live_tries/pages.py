@@ -1,9 +1,12 @@
 """The page for the room, by curl, by sockets, and in a browser without a window."""
+import base64
+import contextlib
 import json
 import os
-import shutil
 import signal
 import socket
+import subprocess
+import urllib.request
 
 import time
 
@@ -14,7 +17,6 @@ from .stage import Runs, free_port, silence, tape, wait_for, words
 # Where the pictures are kept; nowhere without a name.
 pictures = None
 SIZES = {"room": (1280, 720), "phone": (390, 844)}
-
 
 class Served:
     """A station with a page."""
@@ -53,10 +55,8 @@ class Served:
             fields = file.read().rsplit(")", 1)[1].split()
         return (int(fields[11]) + int(fields[12])) / os.sysconf("SC_CLK_TCK")
 
-
 def minute(room):
     return tape(room, words("25", "10:00:00:00", 1500))
-
 
 def try_paths(room):
     """Its three paths are answered, by GET alone; headers are bounded, and who asks nothing is dropped."""
@@ -84,7 +84,6 @@ def try_paths(room):
         assert mute.recv(100) == b"" and time.monotonic() - began < 7
     served.end()
 
-
 def listened(there, seconds):
     """What a follower gets for so long, and the messages with a label."""
     data, end = b"", time.monotonic() + seconds
@@ -95,7 +94,6 @@ def listened(there, seconds):
         except TimeoutError:
             continue
     return [json.loads(line[6:]) for line in data.split(b"\n") if line.startswith(b"data: {")]
-
 
 def try_fifty_readers(room):
     """Fifty readers get each label, and cost next to nothing; one that stalls is dropped, and the others go on."""
@@ -113,20 +111,27 @@ def try_fifty_readers(room):
     for there in crowd[1:]:
         there.setblocking(False)
         assert len(there.recv(1 << 20)) > 5_000
-    wait_for(lambda: listened(crowd[1], 0.5) and is_dropped(stalled), 60, "the end of one that stalls")
+    assert wait_for(lambda: listened(crowd[1], 12), 20, "messages")
+    assert is_dropped(stalled), "one that stalls is not dropped"
     assert len(listened(crowd[1], 1)) >= 20, "the others do not go on"
     for there in crowd:
         there.close()
     served.end()
     return f"{100 * alone:.0f} % of a processor without readers, {100 * with_all:.0f} % with 50"
 
-
 def is_dropped(there):
     """The other side has closed it: what was on the way is there, and then its end."""
-    info = there.getsockopt(socket.IPPROTO_TCP, socket.TCP_INFO, 1)
-    # Neither established nor on the way to that.
-    return info[0] not in (1, 2, 3)
-
+    end = time.monotonic() + 2
+    there.settimeout(0.2)
+    while time.monotonic() < end:
+        try:
+            if not there.recv(65_536):
+                return True
+        except TimeoutError:
+            continue
+        except OSError:
+            return True
+    return False
 
 def try_too_many_readers(room):
     """Beyond two hundred a reader is refused, and there is room again when they leave."""
@@ -138,7 +143,6 @@ def try_too_many_readers(room):
         there.close()
     wait_for(lambda: served.curl("/state")[0] == 200, 5, "room")
     served.end()
-
 
 def try_other_address(room):
     """Another address is served with --bind alone, with a warning; a port that is taken ends it in words."""
@@ -154,25 +158,66 @@ def try_other_address(room):
     ended, _, notes = Runs("--file", path, "--page", "8801", "--bind", "no such address").end()
     assert ended == 3 and "can't be served" in notes, notes
 
+class Browser:
+    """A browser without a window, by the protocol of WebDriver."""
+
+    def __init__(self, room):
+        want("chromium", "chromedriver")
+        self.port = free_port()
+        self.driver = subprocess.Popen(["chromedriver", f"--port={self.port}"], stdout=subprocess.DEVNULL)
+        wait_for(self.is_there, what="chromedriver")
+        options = ["--headless", "--no-sandbox", "--disable-gpu", "--hide-scrollbars", f"--user-data-dir={room}/browser"]
+        wanted = {"capabilities": {"alwaysMatch": {"goog:chromeOptions": {"args": options}}}}
+        self.session = f"/session/{self.asks('POST', '/session', wanted)['sessionId']}"
+
+    def is_there(self):
+        with contextlib.suppress(OSError):
+            return self.asks("GET", "/status")["ready"]
+
+    def asks(self, method, path, data=None):
+        body = json.dumps(data or {}).encode() if method == "POST" else None
+        request = urllib.request.Request(f"http://127.0.0.1:{self.port}{path}", body, method=method)
+        with urllib.request.urlopen(request, timeout=60) as answer:
+            return json.load(answer)["value"]
+
+    def opens(self, url, wide, high):
+        # The size of a phone is none that a window can have.
+        size = {"width": wide, "height": high, "deviceScaleFactor": 1, "mobile": wide < 500}
+        words_of = {"cmd": "Emulation.setDeviceMetricsOverride", "params": size}
+        self.asks("POST", f"{self.session}/goog/cdp/execute", words_of)
+        self.asks("POST", f"{self.session}/url", {"url": url})
+
+    def says(self, script):
+        return self.asks("POST", f"{self.session}/execute/sync", {"script": f"return {script}", "args": []})
+
+    def picture(self):
+        return base64.b64decode(self.asks("GET", f"{self.session}/screenshot"))
+
+    def end(self):
+        with contextlib.suppress(OSError):
+            self.asks("DELETE", self.session)
+        self.driver.terminate()
+        self.driver.wait()
 
 def try_browser(room):
-    """The page in a browser, at two sizes: its text is that of the display, and its picture has the colours of it."""
-    browser = next((name for name in ("chromium", "chromium-browser", "google-chrome") if shutil.which(name)), None)
-    want(browser or "chromium")
-    parts = [words("25", "10:00:00:00", 100), silence(0.5), words("25", "11:00:00:00", 1200)]
-    served = Served(tape(room, *parts))
-    time.sleep(6)
-    sizes = []
-    for name, (wide, high) in SIZES.items():
-        target = os.path.join(pictures or room, f"live-{name}.png")
-        words_of = [browser, "--headless", "--no-sandbox", "--disable-gpu", "--hide-scrollbars", "--timeout=2500"]
-        words_of += [f"--user-data-dir={room}/browser", f"--window-size={wide},{high}"]
-        ended, _, notes = run(*words_of, f"--screenshot={target}", f"http://127.0.0.1:{served.port}/", timeout=60)
-        assert ended == 0 and os.path.getsize(target) > 10_000, notes[-500:]
-        sizes.append(os.path.getsize(target))
-        ended, page, notes = run(*words_of, "--dump-dom", f"http://127.0.0.1:{served.port}/", timeout=60)
-        has(page, 'id="label" class="heard">11:00:', ">HEARD<", ">forward<", ">jump<", "level -11.2 dB")
-    served.end()
-    return f"pictures of {' and '.join(str(size) for size in sizes)} bytes"
-
-
+    """The page in a browser, at two sizes: what it says is what the display says, big, and beside nothing."""
+    browser = Browser(room)
+    try:
+        parts = [words("25", "10:00:00:00", 100), silence(0.5), words("25", "11:00:00:00", 1200)]
+        served, sizes = Served(tape(room, *parts)), []
+        wait_for(lambda: '"jump"' in served.curl("/state")[1], 20, "a jump")
+        for name, (wide, high) in SIZES.items():
+            browser.opens(f"http://127.0.0.1:{served.port}/", wide, high)
+            wait_for(lambda: browser.says("document.body.innerText").count("HEARD") == 1, what="the display")
+            # The line of the speed takes a while to be one.
+            time.sleep(3)
+            text = browser.says("document.body.innerText")
+            has(text, "11:00:", "HEARD", "forward", "speed 1000", "level -11.2 dB", "jump" if wide > 600 else "from 10:00:03:")
+            assert browser.says("document.documentElement.scrollWidth") <= wide, "wider than the window"
+            with open(os.path.join(pictures or room, f"live-{name}.png"), "wb") as file:
+                file.write(browser.picture())
+            sizes.append(browser.says("document.getElementById('label').offsetHeight / window.innerHeight"))
+        served.end()
+    finally:
+        browser.end()
+    return f"the label has {' and '.join(f'{100 * size:.0f} %' for size in sizes)} of the height"

@@ -160,7 +160,7 @@ def try_card(room):
         there.until(r"HEARD")
         os.kill(recorder(there), signal.SIGKILL)
         lost = there.until(r"CARD LOST")
-        has(lost, "no samples: is the cable of card tape in, and its power on?")
+        has(lost, "no samples from card tape: is its cable in, and its power on?")
         there.until(r"card tape is back")
         there.until(r"HEARD")
         card.is_still = True
@@ -211,7 +211,7 @@ def try_no_card(room):
 @contextlib.contextmanager
 def jack_server(name):
     """A server of JACK without a card, that ends with the block."""
-    want("jackd", "jack-stdin", "jack-stdout", "jack_samplerate")
+    want("jackd", "jack-stdin", "jack-stdout", "jack_samplerate", "jack_lsp")
     words_of = ["jackd", "-n", name, "-r", "-d", "dummy", "-r", str(RATE), "-p", "512"]
     server = subprocess.Popen(words_of, stdout=subprocess.DEVNULL, stderr=subprocess.DEVNULL)
     there = {**os.environ, "JACK_DEFAULT_SERVER": name, "JACK_NO_START_SERVER": "1"}
@@ -229,24 +229,26 @@ def jack_server(name):
 
 
 def try_jack(room):
-    """A port of JACK; a server that ends is told, and waited for."""
-    name = f"try{os.getpid()}"
+    """Code that another program plays into JACK is heard; a server that ends is told, and waited for."""
+    name, path = f"try{os.getpid()}", os.path.join(room, "raw")
     env = {"JACK_DEFAULT_SERVER": name, "JACK_NO_START_SERVER": "1"}
-    with jack_server(name) as server:
-        play = subprocess.Popen(["jack-stdin", "-q", "system:playback_1"], stdin=subprocess.PIPE,
-                                stderr=subprocess.DEVNULL, env={**os.environ, **env})
-        there = on_terminal("--jack", "system:capture_1", more=env)
+    with open(path, "wb") as file:
+        file.write(raw(words("25", "10:00:00:00", 500)))
+    with jack_server(name) as server, open(path, "rb") as sound:
+        player = subprocess.Popen(
+            ["jack-stdin", "-q", "system:playback_1"], stdin=sound, stderr=subprocess.DEVNULL, env={**os.environ, **env}
+        )
         try:
-            there.until(r"JACK system:capture_1  track 1  48000 samples a second[\s\S]*NO CODE")
+            wait_for(lambda: "jstdin:input1" in run("jack_lsp", env={**os.environ, **env})[1], what="the player")
+            there = on_terminal("--jack", "jstdin:input1", "--system", "25", columns=140, more=env)
+            there.until(r"JACK jstdin:input1  track 1  48000 samples a second[\s\S]*HEARD")
             server.terminate()
-            there.until(r"CARD LOST")
-            has(there.grid.text(), "JACK system:capture_1 is lost, jack-stdout ended with")
+            lost = there.until(r"CARD LOST")
+            has(lost, "JACK jstdin:input1 is lost, jack-stdout ended with", "does the JACK server run?")
             there.send(signal.SIGINT)
             assert there.end() == 130
         finally:
-            play.kill()
-            play.wait()
+            player.kill()
+            player.wait()
     ended, _, notes = runs("--jack", "none", more=env)
     assert ended == 3 and "no JACK server runs" in notes, notes
-
-
