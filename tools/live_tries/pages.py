@@ -6,9 +6,8 @@ import os
 import signal
 import socket
 import subprocess
-import urllib.request
-
 import time
+import urllib.request
 
 from tape_tries.running import has, run, want
 
@@ -17,6 +16,7 @@ from .stage import Runs, free_port, silence, tape, wait_for, words
 # Where the pictures are kept; nowhere without a name.
 pictures = None
 SIZES = {"room": (1280, 720), "phone": (390, 844)}
+
 
 class Served:
     """A station with a page."""
@@ -55,8 +55,10 @@ class Served:
             fields = file.read().rsplit(")", 1)[1].split()
         return (int(fields[11]) + int(fields[12])) / os.sysconf("SC_CLK_TCK")
 
+
 def minute(room):
     return tape(room, words("25", "10:00:00:00", 1500))
+
 
 def try_paths(room):
     """Its three paths are answered, by GET alone; headers are bounded, and who asks nothing is dropped."""
@@ -84,6 +86,7 @@ def try_paths(room):
         assert mute.recv(100) == b"" and time.monotonic() - began < 7
     served.end()
 
+
 def listened(there, seconds):
     """What a follower gets for so long, and the messages with a label."""
     data, end = b"", time.monotonic() + seconds
@@ -94,6 +97,7 @@ def listened(there, seconds):
         except TimeoutError:
             continue
     return [json.loads(line[6:]) for line in data.split(b"\n") if line.startswith(b"data: {")]
+
 
 def try_fifty_readers(room):
     """Fifty readers get each label, and cost next to nothing; one that stalls is dropped, and the others go on."""
@@ -119,6 +123,7 @@ def try_fifty_readers(room):
     served.end()
     return f"{100 * alone:.0f} % of a processor without readers, {100 * with_all:.0f} % with 50"
 
+
 def is_dropped(there):
     """The other side has closed it: what was on the way is there, and then its end."""
     end = time.monotonic() + 2
@@ -133,6 +138,7 @@ def is_dropped(there):
             return True
     return False
 
+
 def try_too_many_readers(room):
     """Beyond two hundred a reader is refused, and there is room again when they leave."""
     want("curl")
@@ -143,6 +149,7 @@ def try_too_many_readers(room):
         there.close()
     wait_for(lambda: served.curl("/state")[0] == 200, 5, "room")
     served.end()
+
 
 def try_other_address(room):
     """Another address is served with --bind alone, with a warning; a port that is taken ends it in words."""
@@ -157,6 +164,7 @@ def try_other_address(room):
     has(notes, f"the page can't be served on 127.0.0.1 port {port}: address already in use")
     ended, _, notes = Runs("--file", path, "--page", "8801", "--bind", "no such address").end()
     assert ended == 3 and "can't be served" in notes, notes
+
 
 class Browser:
     """A browser without a window, by the protocol of WebDriver."""
@@ -198,6 +206,7 @@ class Browser:
             self.asks("DELETE", self.session)
         self.driver.terminate()
         self.driver.wait()
+
 
 def try_browser(room):
     """The page in a browser, at two sizes: what it says is what the display says, big, and beside nothing."""
