@@ -3,12 +3,12 @@
 
     bench/live_hours.py [HOURS [PACE [RATE]]]      8, 8 and 48000 where none are named
 
-The code goes to `tools/live -` in blocks, PACE times as fast as it would be played, with a drop-out of three frames each
-20 seconds, a silence of two each minute, and a jump each ten, when the same tape begins again. The station draws on a
-pseudo terminal, sends MIDI into a FIFO, writes a log, and serves its page: to three readers that stay, and to one that
-comes and goes. Each half minute a line tells of the station: the hours of code that it read, resident memory in KiB,
-threads, descriptors, processes, and the resident memory of all that it started. At the end: how the second half of the
-lines differs from the first; the frames that were heard, invented and gone; the bytes of the log and of MIDI.
+The code goes to `tools/live -` in blocks, PACE times as fast as it would be played, with a drop-out of three frames
+each 20 seconds, a silence of two each minute, and a jump each ten, when the same tape begins again. The station draws
+on a pseudo terminal, sends MIDI into a FIFO, writes a log, and serves its page: to three readers that stay, and to one
+that comes and goes. Each half minute a line tells of the station: the hours of code that it read, resident memory in
+KiB, threads, descriptors, processes, and the resident memory of all that it started. At the end: how the second half of
+the lines differs from the first; the frames that were heard, invented and gone; the bytes of the log and of MIDI.
 """
 import contextlib
 import fcntl
@@ -160,12 +160,14 @@ def main():
             log = file.read()
         print(f"status {status}, {seconds:.0f} s, of which the machine was late {late:.0f} s")
         print(f"log {len(log)} bytes, {log.splitlines()[-1]}")
-        print(f"midi {station.midi.count} bytes, page {[it.count for it in readers]} bytes, screen {station.screen.count} bytes")
+        counts = [station.midi.count, *(it.count for it in readers), station.screen.count]
+        print("bytes to MIDI {}, to readers of the page {} {} {}, on the screen {}".format(*counts))
     half = len(rows) // 2
     for name, at in (("resident", 1), ("threads", 2), ("descriptors", 3), ("processes", 4), ("resident of these", 5)):
         first, second = ([row[at] for row in part] for part in (rows[1:half], rows[half:]))
         if first and second:
-            print(f"{name}: median {statistics.median(first):.0f}, then {statistics.median(second):.0f}; at most {max(first + second)}")
+            early, late = statistics.median(first), statistics.median(second)
+            print(f"{name}: median {early:.0f}, then {late:.0f}; at most {max(first + second)}")
 
 
 if __name__ == "__main__":

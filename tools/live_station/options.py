@@ -9,7 +9,7 @@ from .capture import STANDARD_INPUT
 from .page import LOOPBACK
 
 CARD_RATE = 48_000
-# With a limit that a machine follows well: beyond it no frame is invented.
+# A machine runs on over so many frames that are missing, and then stops.
 LIMIT, THRESHOLD = 5, 250
 
 

@@ -97,7 +97,8 @@ class Page:
         self.readers: dict[int, Reader] = {}
         self.is_over = False
         # What the last message was of, and when it went out.
-        self.sent, self.sent_at, self.told = self.read(), 0.0, ()
+        self.sent, self.sent_at = self.read(), 0.0
+        self.told = self.sent.events
         self.thread = threading.Thread(target=self.work, name="page", daemon=True)
         self.thread.start()
 
@@ -149,6 +150,8 @@ class Page:
         try:
             connection, _ = self.socket.accept()
         except OSError:
+            # There are no descriptors left, or it went away again.
+            time.sleep(APART)
             return
         reader = Reader(connection)
         self.readers[connection.fileno()] = reader

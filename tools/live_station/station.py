@@ -1,6 +1,9 @@
 """The loop of the station: samples in, lines out, and what is shown of them."""
 import argparse
+import sys
+import threading
 import time
+from functools import partial
 
 from tape_report.endings import BY_SIGNAL
 from tape_report.names import shown as shown_name
@@ -27,6 +30,7 @@ LOOKED_AFTER, LEVELS_SECONDS = 0.1, 1.0
 AGAIN, END_SECONDS = 1.0, 10.0
 # What to do is told when nothing was heard for so long.
 HINT_SECONDS = 1.0
+GIVES_WAY = 0.001
 BROKEN_PIPE = BY_SIGNAL + 13
 
 
@@ -49,7 +53,7 @@ class Station:
         self.capture: Capture | None = None
         self.track = options.track
         self.block, self.levels, self.next_levels = b"", [FLOOR], 0.0
-        self.next_reading, self.ends_at = 0.0, 0.0
+        self.next_look, self.next_reading, self.ends_at = 0.0, 0.0, 0.0
         self.status: int | None = None
 
     def run(self) -> int:
@@ -58,7 +62,10 @@ class Station:
             self.begin()
             while self.status is None:
                 self.loop.wait(LOOKED_AFTER)
-                self.look()
+                self.balance()
+                if time.monotonic() >= self.next_look:
+                    self.next_look = time.monotonic() + LOOKED_AFTER
+                    self.look()
             return self.status
         finally:
             self.close()
@@ -67,8 +74,12 @@ class Station:
 
     def begin(self) -> None:
         options = self.options
+        threading.excepthook = self.complain
+        # One who draws or serves gives way to the samples within so many seconds.
+        sys.setswitchinterval(GIVES_WAY)
         if options.midi:
-            self.midi = Midi(self.loop, options.midi, options.limit, lambda text: self.board.happen(events.MIDI, "", text))
+            told = partial(self.board.happen, events.MIDI, "")
+            self.midi = Midi(self.loop, options.midi, options.limit, told)
         if options.page:
             self.page = Page(options.bind or LOOPBACK, options.page, self.board.read)
             self.board.wakes.append(self.page.wake)
@@ -83,6 +94,11 @@ class Station:
         self.board.happen(events.BEGINS, "", text)
         self.display = display(self.board.read, self.leave, options.quiet, options.plain)
         self.display.begin()
+
+    def complain(self, fault: threading.ExceptHookArgs) -> None:
+        """A thread ended by a fault of this tool: the others go on."""
+        name = fault.thread.name if fault.thread else "a thread"
+        self.board.report(events.NOTE, f"a fault of this tool, {name} has ended: {fault.exc_value!r}")
 
     def leave(self) -> None:
         """Nobody reads standard output any more."""
@@ -181,10 +197,14 @@ class Station:
         self.look_at_chain()
         if self.midi is not None and not self.ends_at:
             self.midi.tick()
-        is_full = any(each is not None and each.is_full for each in (self.chain and self.chain.feed, self.midi))
-        self.supply.hold(is_full)
         self.show_code()
         self.show_rest()
+
+    def balance(self) -> None:
+        """Takes no more samples than are read, where they come faster than that."""
+        is_read = self.chain is None or not self.chain.feed.is_full
+        is_sent = self.midi is None or not self.midi.is_full
+        self.supply.hold(not (is_read and is_sent))
 
     def look_at_chain(self) -> None:
         now = time.monotonic()

@@ -32,7 +32,8 @@ class Served:
 
     def curl(self, path, *more):
         """The status of an answer, and its text."""
-        ended, out, notes = run("curl", "-sS", "-m", "5", "-w", "\n%{http_code}", *more, f"http://127.0.0.1:{self.port}{path}")
+        words_of = ["curl", "-sS", "-m", "5", "-w", "\n%{http_code}", *more, f"http://127.0.0.1:{self.port}{path}"]
+        _, out, notes = run(*words_of)
         text, _, status = out.rpartition("\n")
         return int(status), text, notes
 
@@ -174,7 +175,8 @@ class Browser:
         self.port = free_port()
         self.driver = subprocess.Popen(["chromedriver", f"--port={self.port}"], stdout=subprocess.DEVNULL)
         wait_for(self.is_there, what="chromedriver")
-        options = ["--headless", "--no-sandbox", "--disable-gpu", "--hide-scrollbars", f"--user-data-dir={room}/browser"]
+        options = ["--headless", "--no-sandbox", "--disable-gpu", "--hide-scrollbars"]
+        options.append(f"--user-data-dir={room}/browser")
         wanted = {"capabilities": {"alwaysMatch": {"goog:chromeOptions": {"args": options}}}}
         self.session = f"/session/{self.asks('POST', '/session', wanted)['sessionId']}"
 
@@ -221,7 +223,8 @@ def try_browser(room):
             # The line of the speed takes a while to be one.
             time.sleep(3)
             text = browser.says("document.body.innerText")
-            has(text, "11:00:", "HEARD", "forward", "speed 1000", "level -11.2 dB", "jump" if wide > 600 else "from 10:00:03:")
+            has(text, "11:00:", "HEARD", "forward", "speed 1000", "level -11.2 dB")
+            has(text, "jump" if wide > 600 else "from 10:00:03:")
             assert browser.says("document.documentElement.scrollWidth") <= wide, "wider than the window"
             with open(os.path.join(pictures or room, f"live-{name}.png"), "wb") as file:
                 file.write(browser.picture())

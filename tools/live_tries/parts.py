@@ -61,7 +61,7 @@ def try_what_happened(_room):
 
 
 def try_system(_room):
-    """The frames a second are those of the last frame of a second, forward and backward, and change where two say so."""
+    """The last frame of a second says how many a second has, forward and backward; two that differ change it."""
     for last, wanted in ((23, 24), (24, 25), (29, 30)):
         there = System(None)
         assert not there.take(word(f"10:00:09:{last - 1}", 0))

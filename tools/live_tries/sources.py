@@ -36,7 +36,8 @@ def try_other_system(room):
 def try_standard_input(room):
     """A WAV file and raw samples on standard input; chunks behind the samples are none."""
     samples = words("25", "10:00:00:00", 40)
-    path = wav(os.path.join(room, "tape.wav"), RATE, [samples], chunks=b"junk\3\0\0\0abc\0", behind=b"list" + bytes(400))
+    path, junk = os.path.join(room, "tape.wav"), b"junk\3\0\0\0abc\0"
+    wav(path, RATE, [samples], chunks=junk, behind=b"list" + bytes(400))
     with open(path, "rb") as file:
         ended, out, notes = runs("-", stdin=file)
     assert ended == 0, notes
@@ -59,7 +60,7 @@ def both(samples):
 
 
 def try_files(room):
-    """The track that is asked for, of files of 16 and 24 bits and of those that ffmpeg reads; and a hint at the right one."""
+    """The track that is asked for, also of files of 24 bits and of those that ffmpeg reads; a hint at the right one."""
     samples = words("25", "10:00:00:00", 60)
     path = wav(os.path.join(room, "tape.wav"), RATE, [[0] * len(samples), samples], bits=24)
     ended, out, _ = runs("--file", path, "--track", "2")

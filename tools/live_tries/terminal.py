@@ -21,7 +21,7 @@ class Grid:
         self.cells = [[" "] * columns for _ in range(lines)]
         self.row = self.column = 0
         self.rest = ""
-        # Whether anything was written beside the screen; whether the other screen is shown; and what was written behind it.
+        # Whether anything was written beside the screen; whether the other screen is shown; what was written behind.
         self.has_left, self.is_other, self.behind = False, False, None
 
     def write(self, text):

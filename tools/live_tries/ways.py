@@ -50,8 +50,10 @@ def try_midi(room):
     ended, out, _ = runs("--file", path, "--system", "25", "--midi", fifo)
     came = listener.leave()
     with open(path, "rb") as sound:
-        sliced = subprocess.run([TC, "wav-ltc", "25", "1", "250", "live"], stdin=sound, stdout=subprocess.PIPE, check=True)
-    wanted = subprocess.run([TC, "ltc-mtc", "5", "rough"], input=sliced.stdout, stdout=subprocess.PIPE, check=True).stdout
+        slicing = [TC, "wav-ltc", "25", "1", "250", "live"]
+        sliced = subprocess.run(slicing, stdin=sound, stdout=subprocess.PIPE, check=True).stdout
+    sending = [TC, "ltc-mtc", "5", "rough"]
+    wanted = subprocess.run(sending, input=sliced, stdout=subprocess.PIPE, check=True).stdout
     assert ended == 0 and came == wanted, f"{len(came)} bytes for {len(wanted)}"
     has(out, f"sending to {fifo}")
     return f"{len(came)} bytes"
