@@ -99,8 +99,8 @@ class Station:
     def __init__(self, room, rate):
         self.fifo, self.log = os.path.join(room, "midi"), os.path.join(room, "log")
         os.mkfifo(self.fifo)
-        self.midi = Drain(os.open(self.fifo, os.O_RDONLY | os.O_NONBLOCK))
-        os.set_blocking(self.midi.handle, True)
+        # With a writer of its own it has no end before the station writes.
+        self.midi = Drain(os.open(self.fifo, os.O_RDWR))
         with socket.socket() as free:
             free.bind(("127.0.0.1", 0))
             self.port = free.getsockname()[1]

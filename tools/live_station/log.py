@@ -21,6 +21,8 @@ END_SECONDS = 2.0
 
 def opened(path: str) -> int:
     """The log, at its end. A file that is no log is left as it is."""
+    if os.path.isdir(path):
+        raise NoTarget(f"{shown(path)}: it is a folder")
     try:
         handle = os.open(path, os.O_RDWR | os.O_APPEND | os.O_CREAT | os.O_NONBLOCK | os.O_CLOEXEC | os.O_NOCTTY, 0o666)
     except OSError as fault:
