@@ -76,7 +76,9 @@ class Log:
         if minute != self.minute:
             self.minute, self.lines = minute, 0
         self.lines += 1
-        if self.lines > LINES_A_MINUTE and event.kind not in (events.BEGINS, events.ENDS, events.CARD):
+        # A card that is lost among much else is told all the same.
+        most = LINES_A_MINUTE * (2 if event.kind == events.CARD else 1)
+        if self.lines > most and event.kind not in (events.BEGINS, events.ENDS):
             self.more += 1
             return told
         return told + event.record()

@@ -20,8 +20,9 @@ from .feed import Feed
 from .form import Form
 from .loop import Loop
 
-# So often a port that is not there is tried, and so long a process may take nothing, in seconds.
-AGAIN, PATIENCE = 1.0, 2.0
+# So often a port that is not there is tried, and so long a process may take nothing, in seconds. A port that failed
+# is there again when it has taken what came for so long.
+AGAIN, PATIENCE, SURE = 1.0, 2.0, 2.0
 
 
 def refuse(path: str) -> None:
@@ -46,7 +47,7 @@ class Midi:
         self.port: int | None = None
         self.feed: Feed | None = None
         self.processes: list = []
-        self.next = 0.0
+        self.next, self.opened, self.has_failed = 0.0, 0.0, False
         self.state = "waiting for code"
 
     def begin(self, form: Form, slicer: list[str]) -> None:
@@ -65,6 +66,9 @@ class Midi:
             fault = self.fault(self.port)
             if fault:
                 self.lose(fault)
+            elif self.has_failed and time.monotonic() >= self.opened + SURE:
+                self.has_failed = False
+                self.say(f"sending to {shown(self.path)}")
 
     def fault(self, port: int) -> str:
         """Why nothing can be sent; empty where it can."""
@@ -78,6 +82,7 @@ class Midi:
 
     def lose(self, fault: str) -> None:
         self.close()
+        self.has_failed = True
         self.say(f"{shown(self.path)} {fault}; it is tried each second")
 
     def say(self, text: str) -> None:
@@ -100,7 +105,9 @@ class Midi:
             self.say(f"{shown(self.path)}: {reason}; it is tried each second")
             return
         self.start()
-        self.say(f"sending to {shown(self.path)}")
+        self.opened = time.monotonic()
+        if not self.has_failed:
+            self.say(f"sending to {shown(self.path)}")
 
     def start(self) -> None:
         assert self.slicer is not None and self.form is not None and self.port is not None

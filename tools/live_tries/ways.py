@@ -93,6 +93,9 @@ def try_midi_reader_that_stalls(room):
     there = on_terminal("--file", tape(room, words("25", "10:00:00:00", 200)), "--system", "25", "--midi", fifo)
     text = there.until(r"midi took no more; it is tried each second")
     has(text, "HEARD")
+    # It is told once, however often it is tried.
+    there.look(3)
+    assert there.grid.text().count("took no more") == 2, there.grid.text()
     there.send(signal.SIGINT)
     assert there.end() == 130
     os.close(stalled)
