@@ -12,7 +12,7 @@ UNKNOWN_FROM = 2_147_418_112
 WAVES = (b"RIFF", b"RF64", b"BW64")
 PLAIN, EXTENSIBLE = 1, 65_534
 MOST_OF_A_CHUNK = 1 << 24
-MOST_TRACKS = 64
+MOST_TRACKS, MOST_RATE = 64, 6_250_000
 
 
 @dataclass(frozen=True)
@@ -55,7 +55,7 @@ def form_in(chunk: bytes) -> Form:
     kind, tracks, rate, _, block, bits = struct.unpack_from("<HHIIHH", chunk)
     if kind == EXTENSIBLE and len(chunk) >= 26:
         kind = struct.unpack_from("<H", chunk, 24)[0]
-    is_taken = kind == PLAIN and 1 <= tracks <= MOST_TRACKS and bits in (8, 16, 24, 32) and rate > 0
+    is_taken = kind == PLAIN and 1 <= tracks <= MOST_TRACKS and bits in (8, 16, 24, 32) and 0 < rate <= MOST_RATE
     if not is_taken or 8 * block != tracks * bits:
         raise NoSound("its samples are of a form that tc does not take")
     return Form(rate, tracks, bits)

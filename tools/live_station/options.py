@@ -6,6 +6,7 @@ from tape_report.choice import SYSTEMS
 from tape_report.options import number_from, parser_of
 
 from .capture import STANDARD_INPUT
+from .form import MOST_RATE, MOST_TRACKS
 from .page import LOOPBACK
 
 CARD_RATE = 48_000
@@ -27,9 +28,9 @@ def parser() -> argparse.ArgumentParser:
     source.add_argument("--file", metavar="TAPE", help="a sound or video file, at its own pace")
     source.add_argument("--jack", metavar="PORT", help="a port of JACK, which jack_lsp lists")
     source.add_argument("input", nargs="?", choices=[STANDARD_INPUT], metavar="-", help="standard input")
-    words.add_argument("--rate", type=number_from(1, 6_250_000), help="samples a second (48000; JACK's own)")
-    words.add_argument("--tracks", type=number_from(1, 64), help="tracks of the card, or of raw samples")
-    words.add_argument("--track", type=number_from(1, 64), default=1, help="the track with the code (1)")
+    words.add_argument("--rate", type=number_from(1, MOST_RATE), help="samples a second (48000; JACK's own)")
+    words.add_argument("--tracks", type=number_from(1, MOST_TRACKS), help="tracks of the card, or of raw samples")
+    words.add_argument("--track", type=number_from(1, MOST_TRACKS), default=1, help="the track with the code (1)")
     words.add_argument("--system", type=int, choices=SYSTEMS, help="frames a second; found without it")
     words.add_argument("--limit", type=number_from(0, 255), default=LIMIT, help=f"frames invented in a row ({LIMIT})")
     words.add_argument(

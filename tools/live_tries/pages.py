@@ -3,6 +3,7 @@ import base64
 import contextlib
 import json
 import os
+import random
 import signal
 import socket
 import subprocess
@@ -81,6 +82,12 @@ def try_paths(room):
     with socket.create_connection(("127.0.0.1", served.port)) as rude:
         rude.sendall(b"\x16\x03\x01\r\n\r\n")
         assert rude.recv(100).startswith(b"HTTP/1.1 400")
+    chance = random.Random(61)
+    for _ in range(200):
+        with socket.create_connection(("127.0.0.1", served.port)) as noise, contextlib.suppress(OSError):
+            noise.sendall(chance.choice((b"", b"GET ", b"GET /state HTTP/1.1\r\n")) + chance.randbytes(200))
+            noise.sendall(chance.choice((b"", b"\r\n\r\n")))
+    wait_for(lambda: served.curl("/state")[0] == 200, 8, "an answer behind noise")
     with socket.create_connection(("127.0.0.1", served.port)) as mute:
         began = time.monotonic()
         mute.settimeout(10)

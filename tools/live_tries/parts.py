@@ -1,5 +1,8 @@
 """The parts of the station that need no program."""
+import io
 import os
+import random
+import struct
 import sys
 
 from tape_tries.making import TOP
@@ -7,10 +10,12 @@ from tape_tries.making import TOP
 sys.path.insert(0, os.path.join(TOP, "tools"))
 from live_station import digits, screen, shown
 from live_station.code import Code
+from live_station.form import Form, wave_header
 from live_station.lines import Gone, Heard, Invented, Word, line_of
 from live_station.reader import asked
 from live_station.screen import Style
 from live_station.system import System
+from tape_report.faults import NoSound
 
 FRAME = 16 * 1920
 
@@ -93,6 +98,24 @@ def try_every_size(_room):
                 assert not is_plain or all(row.isascii() for row in drawn), drawn
     assert digits.scale_for(78, 13) == 2 and digits.scale_for(198, 39) == 5 and digits.scale_for(36, 30) == 0
     assert len(digits.big("00:00:00:00", 2)) == 5 and len(digits.big("00:00:00:00", 1)) == 3
+
+
+def try_headers_by_chance(_room):
+    """Headers of sound with bytes changed by chance are read or refused, and nothing else."""
+    chance, counts = random.Random(61), {True: 0, False: 0}
+    good = Form(48_000, 2, 24).header()
+    for _ in range(3_000):
+        text = bytearray(good[:36] + b"junk" + struct.pack("<I", chance.choice((0, 3, 400))) + bytes(4) + good[36:])
+        for _ in range(chance.choice((1, 2, 8))):
+            text[chance.randrange(4, len(text))] = chance.choice((0, 1, 2, 127, 255, chance.randrange(256)))
+        del text[chance.randrange(len(text) // 2, 3 * len(text)) :]
+        try:
+            form, _ = wave_header(io.BytesIO(text[4:]))
+            assert form.block > 0 and 0 < form.rate <= 6_250_000 and form.tracks <= 64, form
+            counts[True] += 1
+        except NoSound:
+            counts[False] += 1
+    return f"{counts[True]} read, {counts[False]} refused"
 
 
 def try_requests(_room):

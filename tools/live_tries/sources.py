@@ -9,7 +9,7 @@ import time
 from tape_tries.making import code, intervals, wav
 from tape_tries.running import NotTried, has, run, want
 
-from .stage import RATE, Runs, marked, on_terminal, raw, read_of, runs, tape, wait_for, words
+from .stage import RATE, Runs, marked, none_left, on_terminal, raw, read_of, runs, tape, wait_for, words
 
 CARD = 'pcm.tape {{ type file slave.pcm "null" file "/dev/null" infile "{}" format "raw" }}\n'
 
@@ -196,6 +196,22 @@ def try_card_often(room):
     finally:
         card.end()
     return f"{counts[0][0]} descriptors and {counts[0][1]} threads, ten times"
+
+
+def try_kill_with_card(room):
+    """`kill -9` of the station ends the program that reads the card, also while the card gives nothing."""
+    card = Card(room)
+    try:
+        for is_still in (False, True):
+            run_of = Runs("--card", "tape", "--tracks", "1", "--system", "25", "--quiet", more=card.home)
+            wait_for(lambda: recorder(run_of) and len(marked(run_of.mark)) >= 4, what="the card")
+            card.is_still = is_still
+            time.sleep(0.5)
+            run_of.process.kill()
+            run_of.process.communicate()
+            none_left(run_of.mark)
+    finally:
+        card.end()
 
 
 def try_no_card(room):
