@@ -1,11 +1,13 @@
 """The ways out of the station beside the screen: MIDI and the log."""
 import contextlib
 import os
+import pty
 import re
 import signal
 import subprocess
 import threading
 import time
+import tty
 
 from tape_tries.making import TC
 from tape_tries.running import has
@@ -58,6 +60,25 @@ def try_midi(room):
     assert ended == 0 and came == wanted, f"{len(came)} bytes for {len(wanted)}"
     has(out, f"sending to {fifo}")
     return f"{len(came)} bytes"
+
+
+def try_midi_device(room):
+    """A device that is no FIFO, here a terminal, gets the same; when its other end is closed, that is told."""
+    outer, inner = pty.openpty()
+    tty.setraw(inner)
+    name = os.ttyname(inner)
+    os.close(inner)
+    there = on_terminal("--file", tape(room, words("25", "10:00:00:00", 250)), "--system", "25", "--midi", name)
+    there.until(rf"MIDI: sending to {name}")
+    came = b""
+    while len(came) < 200:
+        came += os.read(outer, 4096)
+        there.look(0.05)
+    assert came[:4] == b"\xf0\x7f\x7f\x01" and came[10:11] == b"\xf1", came[:20]
+    os.close(outer)
+    has(there.until(rf"MIDI: {name} is gone; it is tried each second"), "HEARD")
+    there.send(signal.SIGINT)
+    assert there.end() == 130
 
 
 def try_midi_port_that_vanishes(room):
