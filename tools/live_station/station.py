@@ -1,11 +1,13 @@
 """The loop of the station: samples in, lines out, and what is shown of them."""
 import argparse
+import signal
 import sys
 import threading
 import time
 from functools import partial
+from types import FrameType
 
-from tape_report.endings import BY_SIGNAL
+from tape_report.endings import BY_SIGNAL, CAUGHT
 from tape_report.names import shown as shown_name
 from tape_report.programs import version
 
@@ -55,11 +57,15 @@ class Station:
         self.block, self.levels, self.next_levels = b"", [FLOOR], 0.0
         self.next_look, self.next_reading, self.ends_at = 0.0, 0.0, 0.0
         self.status: int | None = None
+        self.is_begun = False
 
     def run(self) -> int:
         """Runs until the input has ended or nobody looks any more."""
         try:
+            for number in CAUGHT:
+                signal.signal(number, self.end_by)
             self.begin()
+            self.is_begun = True
             while self.status is None:
                 self.loop.wait(LOOKED_AFTER)
                 self.balance()
@@ -71,6 +77,14 @@ class Station:
             self.close()
 
     # ---- the beginning and the end
+
+    def end_by(self, number: int, _frame: FrameType | None) -> None:
+        """Ends with the next turn of the loop: an exception in the middle of anything may get lost there. Where it waits
+        for its beginning, or was told before, it ends at once.
+        """
+        was_told, self.status = self.status is not None, BY_SIGNAL + number
+        if was_told or not self.is_begun:
+            raise SystemExit(self.status)
 
     def begin(self) -> None:
         options = self.options
@@ -85,15 +99,16 @@ class Station:
             self.board.wakes.append(self.page.wake)
         self.board.shown = shown.Shown(track=options.track)
         self.supply.open()
-        if options.log:
-            self.log = Log(options.log, lambda text: self.board.report(events.LOG, text))
-            self.board.listeners.append(self.log.put)
-        capture = self.capture
-        assert capture is not None
-        text = f"{capture.name}, track {options.track}, {capture.form.rate} samples a second, version {version()}"
-        self.board.happen(events.BEGINS, "", text)
         self.display = display(self.board.read, self.leave, options.quiet, options.plain)
         self.display.begin()
+
+    def begin_log(self, capture: Capture) -> None:
+        """The run begins with a capture: what comes after stands behind that in the log."""
+        if self.options.log:
+            self.log = Log(self.options.log, partial(self.board.report, events.LOG))
+            self.board.listeners.append(self.log.put)
+        text = f"{capture.name}, track {self.options.track}, {capture.form.rate} samples a second, version {version()}"
+        self.board.happen(events.BEGINS, "", text)
 
     def complain(self, fault: threading.ExceptHookArgs) -> None:
         """A thread ended by a fault of this tool: the others go on."""
@@ -106,14 +121,14 @@ class Station:
 
     def close(self) -> None:
         """Ends all that was started, whatever happened."""
+        for number in CAUGHT:
+            signal.signal(number, signal.SIG_IGN)
         if self.code is not None:
             self.board.happen(events.ENDS, self.code.label, self.code.counted())
         if self.display is not None:
             self.display.close(f"{self.code.counted()}\n" if self.code else "")
         self.supply.close()
-        self.stop_reading()
-        if self.midi is not None:
-            self.midi.close()
+        self.leave_reading()
         if self.page is not None:
             self.page.close()
         if self.log is not None:
@@ -127,6 +142,7 @@ class Station:
         self.capture, self.track = capture, track
         self.meter = Meter(capture.form, track)
         if self.code is None:
+            self.begin_log(capture)
             self.code = Code(capture.form.rate)
         self.code.rate, self.code.state = capture.form.rate, code.NONE
         self.begin_chain()
@@ -176,12 +192,17 @@ class Station:
 
     def stop_reading(self) -> None:
         """The capture ended. Of a file or of standard input what was given is read to its end."""
-        if self.supply.is_ended and self.status is None and self.chain is not None:
-            self.ends_at = time.monotonic() + END_SECONDS
-            self.chain.feed.end()
-            if self.midi is not None and self.midi.feed is not None:
-                self.midi.feed.end()
+        if not self.supply.is_ended:
+            self.leave_reading()
             return
+        self.ends_at = time.monotonic() + END_SECONDS
+        if self.chain is not None:
+            self.chain.feed.end()
+        if self.midi is not None and self.midi.feed is not None:
+            self.midi.feed.end()
+
+    def leave_reading(self) -> None:
+        """Ends the pipes as they stand."""
         if self.chain is not None:
             self.chain.close()
         self.chain = None

@@ -14,26 +14,30 @@ TIMES = 25
 
 
 def try_kill_at_random(room):
-    """Ended by chance in its first second, by each signal in turn, it leaves nothing behind."""
-    path, fifo = tape(room, words("25", "10:00:00:00", 250)), os.path.join(room, "midi")
+    """Ended by chance in its first second and later, by each signal in turn, it leaves nothing behind."""
+    # Longer than it is waited for.
+    path, fifo = tape(room, words("25", "10:00:00:00", 1000)), os.path.join(room, "midi")
     os.mkfifo(fifo)
     listener = Listener(fifo)
-    chance, most = random.Random(61), 0
+    chance, most, slowest = random.Random(61), 0, 0.0
     for turn in range(TIMES):
         number = NUMBERS[turn % len(NUMBERS)]
         more = ("--midi", fifo, "--page", str(free_port()), "--log", os.path.join(room, "log"))
         run = Runs("--file", path, "--system", "25", "--quiet", *more)
-        time.sleep(chance.random() if turn % 2 else 0.4 + chance.random() / 5)
+        if turn % 2:
+            wait_for(lambda: len(marked(run.mark)) >= 6, 30, "all its processes")
+        time.sleep(chance.random())
         most = max(most, len(marked(run.mark)))
         run.process.send_signal(number)
-        run.process.communicate(timeout=10)
-        ended = run.process.returncode
+        began = time.monotonic()
+        run.process.communicate(timeout=30)
+        slowest, ended = max(slowest, time.monotonic() - began), run.process.returncode
         # In its first moments, while Python begins, a signal ends it as it ends any program.
         assert ended in (128 + number, -number), f"{number!r} ended it with {ended}"
         none_left(run.mark)
     listener.leave()
     assert most >= 6, f"{most} processes at most"
-    return f"{TIMES} times, of up to {most} processes"
+    return f"{TIMES} times, of up to {most} processes, within {slowest:.1f} s"
 
 
 def try_kill_of_its_parts(room):

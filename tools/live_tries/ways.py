@@ -50,8 +50,10 @@ def try_midi(room):
     fifo = os.path.join(room, "midi")
     os.mkfifo(fifo)
     listener = Listener(fifo)
-    ended, out, _ = runs("--file", path, "--system", "25", "--midi", fifo)
+    log = os.path.join(room, "log")
+    ended, out, _ = runs("--file", path, "--system", "25", "--midi", fifo, "--log", log)
     came = listener.leave()
+    assert [line.split()[1] for line in read_of(log).splitlines()][:2] == ["begins", "midi"], read_of(log)
     with open(path, "rb") as sound:
         slicing = [TC, "wav-ltc", "25", "1", "250", "live"]
         sliced = subprocess.run(slicing, stdin=sound, stdout=subprocess.PIPE, check=True).stdout
