@@ -4,6 +4,7 @@
 once for all readers. One that does not take it misses it, and is dropped where it takes nothing at all.
 """
 import contextlib
+import ipaddress
 import json
 import os
 import selectors
@@ -36,6 +37,13 @@ def listening(address: str, port: int) -> socket.socket:
     except (OSError, UnicodeError) as fault:
         reason = (getattr(fault, "strerror", None) or "it is no address of this machine").lower()
         raise Fault(f"the page can't be served on {address} port {port}: {reason}") from fault
+
+
+def is_loopback(address: str) -> bool:
+    """Only this machine reaches it."""
+    with contextlib.suppress(ValueError):
+        return ipaddress.ip_address(address).is_loopback
+    return address == "localhost"
 
 
 def state_of(it: Shown, now: float) -> dict[str, Any]:

@@ -9,7 +9,7 @@ from tape_report.programs import program
 from . import capture
 from .capture import Capture
 from .options import CARD_RATE, options_of
-from .page import LOOPBACK
+from .page import is_loopback
 from .station import Station
 
 
@@ -17,7 +17,7 @@ def main(arguments: Sequence[str]) -> int:
     options = options_of(arguments)
     try:
         program()
-        if options.bind and options.bind != LOOPBACK:
+        if options.bind and not is_loopback(options.bind):
             say(f"the page is served on {options.bind}: whoever reaches that address sees the display")
         station = Station(options, lambda: opened(options))
         return station.run()

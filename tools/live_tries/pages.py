@@ -28,8 +28,9 @@ class Served:
         wait_for(self.is_there, what="the page")
 
     def is_there(self):
-        with socket.socket() as there:
-            return there.connect_ex(("127.0.0.1", self.port)) == 0
+        with contextlib.suppress(OSError), socket.create_connection(("localhost", self.port), 1):
+            return True
+        return False
 
     def curl(self, path, *more):
         """The status of an answer, and its text."""
@@ -165,6 +166,9 @@ def try_other_address(room):
     ended, _, notes = Runs("--file", path, "--page", str(port), "--bind", "0.0.0.0", "--quiet").end()
     assert ended == 0
     has(notes, "the page is served on 0.0.0.0: whoever reaches that address sees the display")
+    for address in ("::1", "localhost"):
+        served = Served(path, "--bind", address)
+        served.end()
     with socket.create_server(("127.0.0.1", 0)) as taken:
         port = taken.getsockname()[1]
         ended, _, notes = Runs("--file", path, "--page", str(port)).end()
