@@ -22,13 +22,13 @@ SIZES = {"room": (1280, 720), "phone": (390, 844)}
 class Served:
     """A station with a page."""
 
-    def __init__(self, path, *options):
-        self.port = free_port()
+    def __init__(self, path, *options, address="127.0.0.1"):
+        self.port, self.address = free_port(), address
         self.run = Runs("--file", path, "--page", str(self.port), "--quiet", *options)
         wait_for(self.is_there, what="the page")
 
     def is_there(self):
-        with contextlib.suppress(OSError), socket.create_connection(("localhost", self.port), 1):
+        with contextlib.suppress(OSError), socket.create_connection((self.address, self.port), 1):
             return True
         return False
 
@@ -160,6 +160,14 @@ def try_too_many_readers(room):
     served.end()
 
 
+def can_bind(address):
+    """Whether the machine has this address."""
+    with contextlib.suppress(OSError):
+        socket.create_server((address, 0), family=socket.AF_INET6 if ":" in address else socket.AF_INET).close()
+        return True
+    return False
+
+
 def try_other_address(room):
     """Another address is served with --bind alone, with a warning; a port that is taken ends it in words."""
     path, port = tape(room, words("25", "10:00:00:00", 50)), free_port()
@@ -167,8 +175,8 @@ def try_other_address(room):
     assert ended == 0
     has(notes, "the page is served on 0.0.0.0: whoever reaches that address sees the display")
     for address in ("::1", "localhost"):
-        served = Served(path, "--bind", address)
-        served.end()
+        if can_bind(address):
+            Served(tape(room, words("25", "10:00:00:00", 750)), "--bind", address, address=address).end()
     with socket.create_server(("127.0.0.1", 0)) as taken:
         port = taken.getsockname()[1]
         ended, _, notes = Runs("--file", path, "--page", str(port)).end()
