@@ -6,6 +6,7 @@ as those of another system than the one that the slicer was told.
 import os
 import struct
 from collections.abc import Callable
+from dataclasses import dataclass
 
 from tape_report.programs import program
 from tape_report.spans import FINENESS
@@ -24,8 +25,18 @@ PIECE = 65_536
 PATIENCE = 5.0
 
 
-def slicer_words(system: int, track: int, threshold: int) -> list[str]:
-    return [program(), "wav-ltc", str(system), str(track), str(threshold), "live"]
+@dataclass(frozen=True)
+class Slicing:
+    """How a track is sliced: the least height of code, how many samples a sum has, and a lower threshold."""
+
+    threshold: int
+    smooth: int
+    is_deep: bool
+
+    def words(self, system: int, track: int) -> list[str]:
+        """The slicer of a track."""
+        words = [program(), "wav-ltc", str(system), str(track), str(self.threshold), str(self.smooth)]
+        return [*words, *(["deep"] if self.is_deep else []), "live"]
 
 
 def header_of(form: Form, system: int) -> bytes:

@@ -14,7 +14,7 @@ from tape_report.programs import version
 from . import code, events, hints, shown
 from .board import Board
 from .capture import Capture
-from .chain import Chain, slicer_words
+from .chain import Chain, Slicing
 from .code import Code
 from .level import FLOOR, Meter, levels_of
 from .lines import Line, Word
@@ -79,8 +79,8 @@ class Station:
     # ---- the beginning and the end
 
     def end_by(self, number: int, _frame: FrameType | None) -> None:
-        """Ends with the next turn of the loop: an exception in the middle of anything may get lost there. Where it waits
-        for its beginning, or was told before, it ends at once.
+        """Ends with the next turn of the loop: an exception in the middle of anything may get lost there. Where it
+        waits for its beginning, or was told before, it ends at once.
         """
         was_told, self.status = self.status is not None, BY_SIGNAL + number
         if was_told or not self.is_begun:
@@ -149,7 +149,8 @@ class Station:
         self.board.show(source=capture.name, rate=capture.form.rate)
 
     def slicer(self, system: int) -> list[str]:
-        return slicer_words(system, self.track, self.options.threshold)
+        options = self.options
+        return Slicing(options.threshold, options.smooth, options.deep).words(system, self.track)
 
     def begin_chain(self) -> None:
         assert self.capture is not None and self.code is not None

@@ -1,6 +1,8 @@
 """Where the sound comes from: files, standard input, a card that is lost and found again, JACK."""
 import contextlib
 import os
+import random
+import re
 import signal
 import subprocess
 import threading
@@ -77,6 +79,19 @@ def try_files(room):
     ended, out, _ = runs("--file", flac, "--track", "2")
     assert ended == 0, out
     has(out, "10:00:01:00 25 frames a second")
+
+
+def try_hiss(room):
+    """Code in hiss is read by sums, and `--deep` reads it too."""
+    chance, heard = random.Random(61), {}
+    noisy = [sample + round(chance.gauss(0, 3_500)) for sample in words("25", "10:00:00:00", 60)]
+    path = tape(room, [max(-32_768, min(32_767, sample)) for sample in noisy])
+    for options in ((), ("--smooth", "3"), ("--smooth", "3", "--deep")):
+        ended, out, _ = runs("--file", path, "--system", "25", *options)
+        heard[options] = int(re.search(r"(\d+) frames heard", out)[1])
+        assert ended == 0
+    assert heard[("--smooth", "3")] >= 58 and heard[("--smooth", "3", "--deep")] >= 55, heard
+    return ", ".join(f"{' '.join(options) or 'without'}: {count}" for options, count in heard.items())
 
 
 def try_wrong_words(room):
