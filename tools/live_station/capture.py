@@ -25,7 +25,7 @@ from .form import WAVES, Form, wave_header, whole
 BLOCK_TIME, KEPT_TIME = 10_000, 500_000
 # Of a file: how many samples a block has.
 FILE_BLOCK = 512
-PIECE = 65_536
+PIECE = 8_192
 ANSWER_SECONDS = 5
 STANDARD_INPUT = "-"
 

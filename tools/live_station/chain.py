@@ -20,7 +20,7 @@ from .loop import Loop
 # An interval file of version 1: its header, and the bytes of an interval.
 HEADER, INTERVAL = 12, 4
 TOLERANCE = "rough"
-PIECE = 65_536
+PIECE = 8_192
 # A process that takes nothing for so many seconds is given up.
 PATIENCE = 5.0
 

@@ -3,7 +3,7 @@ import os
 from collections.abc import Iterator
 from dataclasses import dataclass
 
-PIECE = 65_536
+PIECE = 8_192
 
 
 @dataclass(frozen=True)

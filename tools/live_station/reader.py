@@ -9,7 +9,7 @@ MOST_ASKED, ASKING_SECONDS = 8_192, 5.0
 STALLED_SECONDS, KEPT = 5.0, 32_768
 # After an answer, so long is what it still sends passed over, so that the answer comes whole.
 LEAVING_SECONDS = 1.0
-PIECE = 65_536
+PIECE = 4_096
 ASKING, ANSWERED, FOLLOWING, LEAVING, GONE = range(5)
 REASONS = {
     200: "OK",
