@@ -1,5 +1,5 @@
 # make               proves and builds bin/tc
-# make check         the quick checks, in a few minutes: doors, documents, trail, made pages, constants, exit numbers, examples and tapes on bin/tc
+# make check         the quick checks, in a few minutes: doors, documents, trail, made pages, constants, exit numbers, examples, tapes and the station on bin/tc
 # make gate          the gate (tools/check_sources, then rt ci): looks through the documents, proves every crate, tries the must-fail edits, runs tests and program
 # make dist          tc-VERSION.tar.gz of the last commit, which builds, tests and installs by itself
 # make deb           dist/tc-timecode_VERSION-1_amd64.deb, a Debian package of the built program and its tools
@@ -19,7 +19,7 @@ BASHDIR = $(PREFIX)/share/bash-completion/completions
 ZSHDIR = $(PREFIX)/share/zsh/site-functions
 FISHDIR = $(PREFIX)/share/fish/vendor_completions.d
 DOCDIR = $(PREFIX)/share/doc/$(PROGRAM)
-# The tools for tapes and archives, as PROGRAM-tape and PROGRAM-archive, and their parts.
+# The tools for tapes, archives and live code, as PROGRAM-tape, PROGRAM-archive and PROGRAM-live, and their parts.
 LIBDIR = $(PREFIX)/lib/$(PROGRAM)
 EXAMPLES = $(wildcard examples/*)
 # README.md, docs/, examples/ and conformance/ lie to each other as in the repository; the scripts of tools/ that draw and that turn
@@ -30,16 +30,16 @@ TOOLS = tools/draw_report tools/plot_chase tools/line_runs tools/line_rows
 # The name under which it is installed, in place of tc where the text speaks of the program.
 RENAME = sed -e 's/_tc\b/_$(PROGRAM)/g' -e 's/\b_tc_/_$(PROGRAM)_/g' -e 's/^\#compdef tc$$/\#compdef $(PROGRAM)/' \
 	-e 's/\(complete .*\) tc$$/\1 $(PROGRAM)/' -e 's/complete -c tc\b/complete -c $(PROGRAM)/g' -e 's/completion of tc:/completion of $(PROGRAM):/' \
-	-e 's/\btc-\(tape\|archive\)\b/$(PROGRAM)-\1/g'
+	-e 's/\btc-\(tape\|archive\|live\)\b/$(PROGRAM)-\1/g'
 UPPER = $(shell echo $(PROGRAM) | tr a-z A-Z)
 # tc as a word of its own, and not where a note begins with it.
 RENAME_MAN = sed -e 's/^\.Dt TC/.Dt $(UPPER)/' -e 's/\(^\|\\fB\|[ \x27]\)tc\( \|\\fP\|$$\)/\1$(PROGRAM)\2/g' \
-	-e 's/^\(\.Nm\|\.Xr\) tc-\(formats\|tape\|archive\)/\1 $(PROGRAM)-\2/' -e 's/tc-\(tape\|archive\) --/$(PROGRAM)-\1 --/g'
+	-e 's/^\(\.Nm\|\.Xr\) tc-\(formats\|tape\|archive\|live\)/\1 $(PROGRAM)-\2/' -e 's/tc-\(tape\|archive\|live\) --/$(PROGRAM)-\1 --/g'
 
 # The examples of the documents name the program and its tools as they are installed, and where they run; of the README only
 # what needs no sources.
 SHOWN = -e '/^    /s/\(^\|[ (|]\)\(bin\/\)\?tc \([a-z$$]\)/\1$(PROGRAM) \3/g' \
-	-e '/^    /s/\btools\/\(tape\|archive\) /$(PROGRAM)-\1 /g' -e '/^    /s/\btools\/\(draw_report\|plot_chase\|line_r[a-z]*\)/examples\/&/g'
+	-e '/^    /s/\btools\/\(tape\|archive\|live\) /$(PROGRAM)-\1 /g' -e '/^    /s/\btools\/\(draw_report\|plot_chase\|line_r[a-z]*\)/examples\/&/g'
 RENAME_DOCUMENTS = sed -i $(SHOWN) -e 's@at the top of the repository,\? after `./build`@in $(DOCDIR)@'
 RENAME_README = sed -i -e '/^    \$$ /s/bin\/tc /$(PROGRAM) /g'
 
@@ -60,6 +60,7 @@ check:
 	tools/run_examples
 	@if command -v rustc > /dev/null; then bench/cases 1000; else echo "bench/cases: not run, for want of rustc"; fi
 	tools/try_tapes
+	tools/try_live
 
 gate:
 	.ci/run
@@ -79,7 +80,7 @@ install:
 	@[ -x bin/tc ] || { echo "bin/tc is not built: run make first" >&2; exit 1; }
 	install -d "$(DESTDIR)$(BINDIR)" "$(DESTDIR)$(MANDIR)/man1" "$(DESTDIR)$(MANDIR)/man5" "$(DESTDIR)$(BASHDIR)" \
 	    "$(DESTDIR)$(ZSHDIR)" "$(DESTDIR)$(FISHDIR)" "$(DESTDIR)$(DOCDIR)/examples" "$(DESTDIR)$(DOCDIR)/examples/tools" \
-	    "$(DESTDIR)$(LIBDIR)/tape_report"
+	    "$(DESTDIR)$(LIBDIR)/tape_report" "$(DESTDIR)$(LIBDIR)/live_station"
 	$(INSTALL_PROGRAM) bin/tc "$(DESTDIR)$(BINDIR)/$(PROGRAM)"
 	$(RENAME_MAN) man/tc.1 > "$(DESTDIR)$(MANDIR)/man1/$(PROGRAM).1"
 	$(RENAME_MAN) man/tc-formats.5 > "$(DESTDIR)$(MANDIR)/man5/$(PROGRAM)-formats.5"
@@ -91,6 +92,9 @@ install:
 	$(RENAME) completions/_tc-tape > "$(DESTDIR)$(ZSHDIR)/_$(PROGRAM)-tape"
 	$(RENAME) completions/tc-tape.fish > "$(DESTDIR)$(FISHDIR)/$(PROGRAM)-tape.fish"
 	ln -sf $(PROGRAM)-tape.fish "$(DESTDIR)$(FISHDIR)/$(PROGRAM)-archive.fish"
+	$(RENAME) completions/tc-live.bash > "$(DESTDIR)$(BASHDIR)/$(PROGRAM)-live"
+	$(RENAME) completions/_tc-live > "$(DESTDIR)$(ZSHDIR)/_$(PROGRAM)-live"
+	$(RENAME) completions/tc-live.fish > "$(DESTDIR)$(FISHDIR)/$(PROGRAM)-live.fish"
 	chmod 644 "$(DESTDIR)$(MANDIR)/man1/$(PROGRAM).1" "$(DESTDIR)$(MANDIR)/man5/$(PROGRAM)-formats.5" \
 	    "$(DESTDIR)$(BASHDIR)/$(PROGRAM)" "$(DESTDIR)$(ZSHDIR)/_$(PROGRAM)" "$(DESTDIR)$(FISHDIR)/$(PROGRAM).fish"
 	install -m 644 README.md CHANGELOG.md VERSION "$(DESTDIR)$(DOCDIR)"
@@ -99,13 +103,16 @@ install:
 	$(RENAME_DOCUMENTS) "$(DESTDIR)$(DOCDIR)"/docs/guide/*.md "$(DESTDIR)$(DOCDIR)"/docs/reference/*.md "$(DESTDIR)$(DOCDIR)/examples/README.md"
 	$(RENAME_README) "$(DESTDIR)$(DOCDIR)/README.md"
 	install -m 755 $(TOOLS) "$(DESTDIR)$(DOCDIR)/examples/tools"
-	install -m 755 tools/tape tools/archive tools/draw_report "$(DESTDIR)$(LIBDIR)"
+	install -m 755 tools/tape tools/archive tools/live tools/draw_report "$(DESTDIR)$(LIBDIR)"
 	install -m 644 $(wildcard tools/tape_report/*.*) "$(DESTDIR)$(LIBDIR)/tape_report"
+	install -m 644 $(wildcard tools/live_station/*.*) "$(DESTDIR)$(LIBDIR)/live_station"
 	install -m 644 VERSION "$(DESTDIR)$(LIBDIR)"
 	ln -sf ../lib/$(PROGRAM)/tape "$(DESTDIR)$(BINDIR)/$(PROGRAM)-tape"
 	ln -sf ../lib/$(PROGRAM)/archive "$(DESTDIR)$(BINDIR)/$(PROGRAM)-archive"
+	ln -sf ../lib/$(PROGRAM)/live "$(DESTDIR)$(BINDIR)/$(PROGRAM)-live"
 	$(RENAME_MAN) man/tc-tape.1 > "$(DESTDIR)$(MANDIR)/man1/$(PROGRAM)-tape.1"
 	$(RENAME_MAN) man/tc-archive.1 > "$(DESTDIR)$(MANDIR)/man1/$(PROGRAM)-archive.1"
+	$(RENAME_MAN) man/tc-live.1 > "$(DESTDIR)$(MANDIR)/man1/$(PROGRAM)-live.1"
 
 install-strip:
 	$(MAKE) INSTALL_PROGRAM="install -s -m 755" install
@@ -117,4 +124,6 @@ uninstall:
 	    "$(DESTDIR)$(FISHDIR)/$(PROGRAM)-tape.fish" "$(DESTDIR)$(FISHDIR)/$(PROGRAM)-archive.fish"
 	rm -f "$(DESTDIR)$(BINDIR)/$(PROGRAM)-tape" "$(DESTDIR)$(BINDIR)/$(PROGRAM)-archive" \
 	    "$(DESTDIR)$(MANDIR)/man1/$(PROGRAM)-tape.1" "$(DESTDIR)$(MANDIR)/man1/$(PROGRAM)-archive.1"
+	rm -f "$(DESTDIR)$(BINDIR)/$(PROGRAM)-live" "$(DESTDIR)$(MANDIR)/man1/$(PROGRAM)-live.1" "$(DESTDIR)$(BASHDIR)/$(PROGRAM)-live" \
+	    "$(DESTDIR)$(ZSHDIR)/_$(PROGRAM)-live" "$(DESTDIR)$(FISHDIR)/$(PROGRAM)-live.fish"
 	rm -rf "$(DESTDIR)$(DOCDIR)" "$(DESTDIR)$(LIBDIR)"

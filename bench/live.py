@@ -2,6 +2,7 @@
 """How long after its time a line or a quarter frame comes, where code is read as it is played.
 
     bench/live.py [PROGRAM [LONGEST]]      bin/tc and 60 where none are named
+    bench/live.py --station [PROGRAM]      what the station adds (`live_display.py`)
 
 Sound of code, a silence, and code again are written to `pcm-ltc` and to `wav-ltc` at the time at which a sound card
 would give them, in blocks of 64, 256, 1,024 and 4,096 samples, with `live` behind the words and without; `ltc-fly 10`
@@ -24,6 +25,8 @@ import subprocess
 import sys
 import threading
 import time
+
+import live_display
 
 TOP = os.path.dirname(os.path.dirname(os.path.abspath(__file__)))
 RATE, SYSTEM, FINENESS, FRAMES = 48_000, 25, 16, 25
@@ -170,6 +173,8 @@ def tell(seconds, block, live, way, lines, quarters):
 
 
 def main():
+    if "--station" in sys.argv[1:2]:
+        sys.exit(live_display.main(sys.argv[2] if len(sys.argv) > 2 else os.path.join(TOP, "bin", "tc")))
     program = sys.argv[1] if len(sys.argv) > 1 else os.path.join(TOP, "bin", "tc")
     longest = float(sys.argv[2]) if len(sys.argv) > 2 else 60.0
     before, behind = code(program, "10:00:00:00"), code(program, "11:00:00:00")

@@ -37,6 +37,8 @@ def try_installed_names(room):
             assert ended == 0 and out == f"{program}-{tool} {version}\n", out
             ended, _, notes = run(name)
             has(notes, f"usage: {program}-{tool} ", f"{program}-{tool}: error:")
+        ended, out, _ = run(os.path.join(bin_folder, f"{program}-live"), "--version")
+        assert ended == 0 and out == f"{program}-live {version}\n", out
         ended, out, notes = run(
             os.path.join(bin_folder, f"{program}-tape"), path, env={**there, "PATH": "/usr/bin:/bin"}
         )
