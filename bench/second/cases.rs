@@ -82,13 +82,21 @@ fn count(d: &mut Draws) -> Count {
 /// A label, often near midnight or a minute in which labels are dropped.
 fn label(count: Count, d: &mut Draws) -> Label {
     let day = count.day();
-    let near = match d.below(4) {
-        0 => d.below(40),
-        1 => day - 1 - d.below(40),
-        2 => (d.below(1440) * 60 * count.rate() + d.below(80)).min(day - 1),
-        _ => d.below(day),
-    };
-    Label::at(count, near)
+    match d.below(4) {
+        0 => Label::at(count, d.below(40)),
+        1 => Label::at(count, day - 1 - d.below(40)),
+        2 => minute(count, d),
+        _ => Label::at(count, d.below(day)),
+    }
+}
+
+/// A label in the first frames of a minute, of a tenth one as often as of another.
+fn minute(count: Count, d: &mut Draws) -> Label {
+    let tenth = 10 * d.below(6);
+    let minutes = if d.one_in(2) { tenth } else { tenth + d.from_to(1, 9) };
+    let first = Label { count, hours: d.below(24), minutes, seconds: 0, frames: 0 };
+    let frames = if first.is_dropped() { 2 + d.below(3) } else { d.below(4) };
+    Label { frames, ..first }
 }
 
 fn way(d: &mut Draws) -> Way {

@@ -230,10 +230,10 @@ fn sound(words: &[String], input: &[u8]) -> Read<Run> {
     Ok(Run { output: make(level as i16, &file), end: file.end })
 }
 
-/// Takes `live` off the end.
+/// Takes `live` off the end, behind the command and its three values.
 fn without_live(words: &[String]) -> (&[String], bool) {
     match words.split_last() {
-        Some((last, front)) if last == "live" => (front, true),
+        Some((last, front)) if last == "live" && front.len() > 3 => (front, true),
         _ => (words, false),
     }
 }
