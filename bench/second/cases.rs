@@ -167,10 +167,17 @@ fn slicing(d: &mut Draws) -> Vec<String> {
             }
         }
     }
-    if d.one_in(3) {
-        words.push("live".into());
-    }
+    last_word(&mut words, d);
     words
+}
+
+/// `live` one time in three, and now and then a word that may not stand there.
+fn last_word(words: &mut Vec<String>, d: &mut Draws) {
+    match d.below(30) {
+        0..=9 => words.push("live".into()),
+        10 => words.push(d.pick(&["Live", "deep", "2"]).into()),
+        _ => {}
+    }
 }
 
 fn of_a_track(d: &mut Draws) -> Vec<String> {
@@ -182,9 +189,7 @@ fn of_a_track(d: &mut Draws) -> Vec<String> {
             words.push("deep".into());
         }
     }
-    if d.one_in(3) {
-        words.push("live".into());
-    }
+    last_word(&mut words, d);
     words
 }
 
@@ -192,7 +197,7 @@ fn of_a_track(d: &mut Draws) -> Vec<String> {
 fn tape_bits(count: Count, words: u64, d: &mut Draws) -> Vec<bool> {
     let (mut bits, mut way, mut now) = (vec![false, true], way(d), label(count, d));
     for _ in 0..words {
-        match d.below(14) {
+        match d.below(15) {
             0 => now = label(count, d),
             1 => {
                 way = if way == Way::Forward { Way::Backward } else { Way::Forward };
@@ -209,6 +214,7 @@ fn tape_bits(count: Count, words: u64, d: &mut Draws) -> Vec<bool> {
                 bits.extend(&word[..d.below(80) as usize]);
             }
             5 => bits.extend((0..d.below(120)).map(|_| false)),
+            6 => now = now.step((count.day() / 2) as i64),
             _ => {}
         }
         let user = if d.one_in(2) { 0 } else { d.next() as u32 };
@@ -284,7 +290,12 @@ fn recording(d: &mut Draws) -> Vec<u8> {
     let bits = tape_bits(count, words, d);
     let intervals = tape(&bits, d);
     let rate = d.pick(&[48_000, 768_000, 1, 100_000_000, 44_100]);
-    spelled(d.pick(&[1, 2]), count.rate(), rate, &intervals)
+    let mut bytes = spelled(d.pick(&[1, 2]), count.rate(), rate, &intervals);
+    if d.one_in(40) {
+        bytes.extend([0, 0]);
+        bytes.extend((65_530 + d.below(12) as u32).to_be_bytes());
+    }
+    bytes
 }
 
 /// An interval file whose sound is not long.
