@@ -1,4 +1,5 @@
 """A terminal for the tries: what a program draws on it, as lines of letters."""
+import codecs
 import contextlib
 import fcntl
 import os
@@ -75,6 +76,8 @@ class Terminal:
         self.grid = Grid(columns, lines)
         # Each screen that stood, with the time; and all bytes.
         self.screens, self.data = [], b""
+        # A letter may come in two pieces.
+        self.decoder = codecs.getincrementaldecoder("utf-8")("replace")
         self.pid, self.handle = pty.fork()
         if self.pid == 0:
             with contextlib.suppress(BaseException):
@@ -105,7 +108,7 @@ class Terminal:
             if not piece:
                 return False
             self.data += piece
-            self.grid.write(piece.decode("utf-8", "replace"))
+            self.grid.write(self.decoder.decode(piece))
             self.screens.append((time.monotonic() - self.began, self.grid.text()))
         return True
 
