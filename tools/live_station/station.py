@@ -7,7 +7,7 @@ import time
 from functools import partial
 from types import FrameType
 
-from tape_report.endings import BY_SIGNAL, CAUGHT
+from tape_report.endings import BY_SIGNAL, CAUGHT, end_if_told
 from tape_report.names import shown as shown_name
 from tape_report.programs import version
 
@@ -64,6 +64,7 @@ class Station:
         try:
             for number in CAUGHT:
                 signal.signal(number, self.end_by)
+            end_if_told()
             self.begin()
             self.is_begun = True
             while self.status is None:

@@ -18,13 +18,22 @@ CAUGHT = (
     signal.SIGUSR2,
     signal.SIGALRM,
 )
+# The status of a signal that came. Where it comes in the middle of a callback of Python's, the exception is lost.
+told: list[int] = []
 
 
 def end_by(number: int, _frame: FrameType | None) -> None:
     """Ends in order, so that half-written files are taken away."""
     for caught in CAUGHT:
         signal.signal(caught, signal.SIG_IGN)
-    raise SystemExit(BY_SIGNAL + number)
+    told.append(BY_SIGNAL + number)
+    end_if_told()
+
+
+def end_if_told() -> None:
+    """Ends where a signal came."""
+    if told:
+        raise SystemExit(told[0])
 
 
 def run(main: Callable[[Sequence[str]], int]) -> int:
@@ -37,7 +46,7 @@ def run(main: Callable[[Sequence[str]], int]) -> int:
     try:
         status = main(sys.argv[1:])
         sys.stdout.flush()
-        return status
+        return told[0] if told else status
     except BrokenPipeError:
         # Who read the output went away. What is left of it is for nobody.
         os.dup2(os.open(os.devnull, os.O_WRONLY), sys.stdout.fileno())
