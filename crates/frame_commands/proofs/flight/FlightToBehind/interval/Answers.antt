@@ -54,8 +54,8 @@ give-requires-clause-ready g c =
     let now = g.R.Hearing.hearer c.step-brought.new.self in
     let count = c.requires.fits.0 in (
       2 * (count + 1),
-      rw c.until-until.ensures.value (ready_for (g.R.Hearing.hearer s.reader) now s.frames (g.T.FrameSink.taken s.sink)
-          count c.args.x c.requires.fits.2 c.requires.fits.1 c.step-brought.ensures.next
+      rw c.until-until.ensures.value (ready_for (g.R.Hearing.hearer s.reader) now s.frames c.words.new.words
+          (g.T.FrameSink.taken s.sink) count c.args.x c.requires.fits.2 c.requires.fits.1 c.step-brought.ensures.next
           (rw (← c.until-until.ensures.value) c.until-until.ensures.below)),
     )
 
@@ -79,7 +79,7 @@ returns-in-Ok-clause-fits g c = λ count fits.
     let room = c.requires.fits.1 in
     let below = rw c.until-until.ensures.value at c.until-until.ensures.below in
     let room_here : count < MAX_INTERVALS = omega (arith, own, here, room) in
-    let ready = ready_for h now s.frames (g.T.FrameSink.taken s.sink) count c.args.x fits room_here
+    let ready = ready_for h now s.frames c.words.new.words (g.T.FrameSink.taken s.sink) count c.args.x fits room_here
     c.step-brought.ensures.next below in
     let sink = rw c.until-until.ensures.value at c.in-Ok.ensures.fits in
     rw c.in-Ok.ensures.reader (given_fits h now s.frames after.frames (g.T.FrameSink.taken s.sink)
