@@ -37,6 +37,7 @@ gaps-drop (b ∷ bs) ys = gaps_after-drop b bs ys
 -- a tape as it is heard: its cells as they are found, of which the distances are a piece
 pub record HeardPiece (profile : Profile) (delay : ℕ) (tape : List Cell) (cut : ℕ) (moments : List ℕ) : Type 0 where
   pub late : ℕ
+  pub small : late ≤ delay
   pub cells : List Cell
   pub are : AreFoundAs delay late tape cells
   pub piece : IsPiece profile (gaps moments) cells cut
@@ -54,6 +55,7 @@ heard_piece profile delay tape cut moments heard =
     let front = gaps-front moments heard.behind in
     record {
       late = found.late;
+      small = found.small;
       cells = found.cells;
       are = found.are;
       piece = record {
