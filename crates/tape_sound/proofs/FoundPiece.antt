@@ -1,6 +1,6 @@
 -- Some neighbouring transitions of a tape, as they are heard, are a piece of its cells as they are found: the others
 -- may be thought to be found in time.
-use Rattle.std.proofs.Common.{◌≡◌, ℕ, suc, List, [], ◌∷◌, ◌++◌, length, drop, refl, ap, sym, subst, ◌∙◌}
+use Rattle.std.proofs.Common.{◌≡◌, ℕ, suc, ◌≤◌, List, [], ◌∷◌, ◌++◌, length, drop, refl, ap, sym, subst, ◌∙◌}
 use Rattle.std.proofs.Common.{arith}
 use Rattle.pcm_front.specs.DistanceLemmas.{gaps-front}
 use Rattle.biphase.specs.declared.cell.Cell.{Cell}
