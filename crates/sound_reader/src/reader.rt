@@ -1,5 +1,5 @@
 //! A reader of sound. Next: `laws`.
-ghost use Rattle.std.specs.Prelude.{◌≡◌, ◌+◌, ◌≤◌, ◌<◌, ◌×◌, ◌↔◌, ℤ, List, [], length, take, true, false};
+ghost use Rattle.std.specs.Prelude.{◌≡◌, ◌+◌, ◌≤◌, ◌<◌, ◌↔◌, IsTrue, [], length, take, false};
 ghost use Rattle.direction_reader.specs.Events.{event_list, no_events};
 ghost use Rattle.limits.specs.declared.recording.TheConstants.{MAX_INTERVAL, MAX_INTERVALS};
 ghost use Rattle.sound_reader.specs.Settings.{AreInRange};
@@ -167,7 +167,7 @@ impl SoundReader {
 
 /// Tells whether there is no event.
 fn are_none(events: &Events) -> bool
-    ensures { result ≡ true ↔ events.now ≡ no_events }
+    ensures { IsTrue result ↔ events.now ≡ no_events }
 {
     events.first.is_none() && events.second.is_none()
 }

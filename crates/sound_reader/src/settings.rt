@@ -1,5 +1,5 @@
 //! How a sound is read. Next: `waiting`.
-ghost use Rattle.std.specs.Prelude.{◌≡◌, ◌↔◌, true};
+ghost use Rattle.std.specs.Prelude.{IsTrue, ◌↔◌};
 ghost use Rattle.pcm_front.specs.Pace.{IsPace};
 ghost use Rattle.pcm_front.specs.State.{IsThreshold};
 ghost use Rattle.sound_reader.specs.Settings.{AreInRange};
@@ -29,7 +29,7 @@ pub struct SoundSettings {
 impl SoundSettings {
     /// Tells whether each of them is in its range.
     pub fn are_in_range(&self) -> bool
-        ensures { result ≡ true ↔ AreInRange self.now }
+        ensures { IsTrue result ↔ AreInRange self.now }
     {
         is_threshold(self.threshold)
             && self.fineness >= 1
@@ -41,7 +41,7 @@ impl SoundSettings {
 }
 
 fn is_threshold(threshold: Threshold) -> bool
-    ensures { result ≡ true ↔ IsThreshold threshold }
+    ensures { IsTrue result ↔ IsThreshold threshold }
 {
     match threshold {
         Threshold::Fixed(least) | Threshold::Follow(least) | Threshold::Deep(least) =>
@@ -50,7 +50,7 @@ fn is_threshold(threshold: Threshold) -> bool
 }
 
 fn is_pace(pace: Pace) -> bool
-    ensures { result ≡ true ↔ IsPace pace }
+    ensures { IsTrue result ↔ IsPace pace }
 {
     match pace {
         Pace::Ended => true,

@@ -1,5 +1,5 @@
 //! The functions that C calls. Next: `laws`.
-ghost use Rattle.std.specs.Prelude.{◌≡◌, ◌+◌, ◌≤◌, ◌×◌, [], length, take, drop, true, false};
+ghost use Rattle.std.specs.Prelude.{◌≡◌, ◌+◌, ◌≤◌, [], length, take, drop, true, false};
 ghost use Rattle.sound_reader.specs.declared.settings.SoundSettings.{SoundSettings};
 ghost use Rattle.sound_reader.specs.Settings.{AreInRange};
 ghost use Rattle.sound_reader.specs.Sound.{is_full, IsSettled, StandsFor};

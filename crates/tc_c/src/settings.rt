@@ -1,5 +1,5 @@
 //! Settings in numbers. Next: `write`.
-ghost use Rattle.std.specs.Prelude.{◌≡◌, ◌≤◌, ◌×◌, Some, IfSome};
+ghost use Rattle.std.specs.Prelude.{◌≡◌, ◌≤◌, Some, IfSome};
 ghost use Rattle.biphase.specs.declared.profile.Profile.{Profile};
 ghost use Rattle.pcm_front.specs.declared.pace.Pace.{Pace};
 ghost use Rattle.pcm_front.specs.declared.threshold.Threshold.{Threshold};

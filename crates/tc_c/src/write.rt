@@ -1,5 +1,5 @@
 //! Samples in, and events out in numbers. Next: `handle`.
-ghost use Rattle.std.specs.Prelude.{◌≡◌, ◌+◌, ◌≤◌, ◌<◌, ◌×◌, ◌++◌, length, take, drop, map, false};
+ghost use Rattle.std.specs.Prelude.{◌≡◌, ◌+◌, ◌≤◌, ◌<◌, ◌++◌, length, take, drop, map, false};
 ghost use Rattle.direction_reader.specs.Events.{listed};
 ghost use Rattle.sound_reader.specs.Sound.{is_full, IsSettled};
 ghost use Rattle.tc_c.specs.CEvent.{c_event};
