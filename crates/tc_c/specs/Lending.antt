@@ -1,7 +1,7 @@
 -- What the reader of a handle leaves in the handle.
 use Rattle.std.specs.Borrow.{Lends, MutBor, Fml}
 use Rattle.sound_reader.specs.Sound.{SoundState}
-use Rattle.sound_reader.specs.contracts.reader.SoundReader as reader
+use Rattle.tc_c.specs.contracts.kept.KeptReader as reader
 use Rattle.tc_c.specs.declared.handle.TcReader.{TcReader}
 use Rattle.tc_c.specs.contracts.handle.TcReader as handle
 

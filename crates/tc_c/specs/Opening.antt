@@ -4,7 +4,7 @@ use Rattle.std.specs.Ptr.{lies_at, room_at}
 use base.Fml.{fsep, fex}
 use denote.RawPtr.{Ptr}
 use Rattle.sound_reader.specs.Sound.{SoundState}
-use Rattle.sound_reader.specs.contracts.reader.SoundReader as reader
+use Rattle.tc_c.specs.contracts.kept.KeptReader as reader
 use Rattle.tc_c.specs.contracts.handle.TcReader as handle
 
 -- room for both

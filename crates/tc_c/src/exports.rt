@@ -8,6 +8,7 @@ ghost use Rattle.tc_c.specs.Write.{Goes};
 
 use crate::event::TcEvent;
 use crate::handle::TcReader;
+use crate::kept::KeptReader;
 use crate::settings::TcSettings;
 use crate::write::{TcTaken, write};
 use sound_reader::SoundReader;
@@ -26,13 +27,13 @@ pub extern "C" fn tc_abi() -> u32
 /// How many bytes a reader takes.
 #[unsafe(no_mangle)]
 pub extern "C" fn tc_reader_bytes() -> usize {
-    std::mem::size_of::<SoundReader>()
+    std::mem::size_of::<KeptReader>()
 }
 
 /// On what boundary they begin.
 #[unsafe(no_mangle)]
 pub extern "C" fn tc_reader_boundary() -> usize {
-    std::mem::align_of::<SoundReader>()
+    std::mem::align_of::<KeptReader>()
 }
 
 /// Begins anew with these settings, where they mean some, and tells whether they do.
@@ -45,7 +46,7 @@ pub extern "C" fn tc_reader_start_(handle: &mut TcReader, settings: &TcSettings)
 {
     match settings.meaning() {
         Some(settings) => {
-            *handle.reader() = SoundReader::new(settings);
+            handle.reader().reader = SoundReader::new(settings);
             true
         }
         None => false,
@@ -69,5 +70,5 @@ pub extern "C" fn tc_reader_write_s16_(
         → (result.used ≡ length samples.now) × IsSettled handle.new.value }
     ensures full { result.full ≡ is_full handle.new.value }
 {
-    write(handle.reader(), samples, events)
+    write(&mut handle.reader().reader, samples, events)
 }

@@ -1,8 +1,8 @@
 //! A handle for C: where a reader lies in the caller's memory. Next: `opening`.
 ghost use Rattle.sound_reader.specs.Sound.{SoundState};
-ghost use Rattle.sound_reader.specs.contracts.reader.SoundReader.{the_row};
+ghost use Rattle.tc_c.specs.contracts.kept.KeptReader.{the_row};
 
-use sound_reader::SoundReader;
+use crate::kept::KeptReader;
 use std::marker::Model;
 
 /// A reader that lies in memory of the caller's.
@@ -17,7 +17,7 @@ impl Model for TcReader {
     ghost use Rattle.std.specs.Borrow.{full_share};
     ghost use Rattle.std.specs.Ptr.{lies_at};
     ghost use Rattle.sound_reader.specs.Sound.{SoundState};
-    ghost use Rattle.sound_reader.specs.contracts.reader.SoundReader.{the_row};
+    ghost use Rattle.tc_c.specs.contracts.kept.KeptReader.{the_row};
 
     ghost also_owns = { λ h. lies_at the_row full_share h.at h.value };
 }
@@ -28,10 +28,10 @@ impl TcReader {
     ghost use Rattle.tc_c.specs.Lending.{LendsReader};
 
     /// The reader.
-    pub(crate) fn reader(&mut self) -> &mut SoundReader
+    pub(crate) fn reader(&mut self) -> &mut KeptReader
         ensures* writes_back { sem 𝓛 (LendsReader self.entry result) }
         ensures value { result.now ≡ self.old.value }
     {
-        unsafe { &mut *self.at.cast::<SoundReader>() }
+        unsafe { &mut *self.at.cast::<KeptReader>() }
     }
 }

@@ -18,13 +18,14 @@
 //! What a caller in C has to keep stands as `requires` and in the header: pointers to as many elements as
 //! they are said to have, which do not overlap, and one call at a time on one reader.
 //!
-//! Read `event`, `settings`, `write`, `handle`, `opening` and `exports`, in this order, and the files of
+//! Read `event`, `settings`, `kept`, `write`, `handle`, `opening` and `exports`, in this order, and the files of
 //! specs/ beside them. `sound_reader` is what is called.
 #![tactic(auto)]
 
 mod event;
 mod exports;
 mod handle;
+mod kept;
 pub mod laws;
 mod opening;
 mod settings;
@@ -32,5 +33,6 @@ mod write;
 
 pub use event::TcEvent;
 pub use handle::TcReader;
+pub use kept::KeptReader;
 pub use settings::TcSettings;
 pub use write::TcTaken;

@@ -5,6 +5,7 @@ ghost use Rattle.sound_reader.specs.Sound.{StandsFor};
 ghost use Rattle.tc_c.specs.Opening.{HasReader, HasRoom};
 
 use crate::handle::TcReader;
+use crate::kept::KeptReader;
 use biphase::Profile;
 use pcm_front::{Pace, Threshold};
 use sound_reader::{SoundReader, SoundSettings};
@@ -18,21 +19,23 @@ pub unsafe extern "C" fn tc_reader_at(room: *mut u8, handle: *mut TcReader)
 {
     let reader = blank();
     unsafe {
-        room.cast::<SoundReader>().write(reader);
+        room.cast::<KeptReader>().write(reader);
         handle.write(TcReader { at: room });
     }
 }
 
 /// One of 25 frames a second that was given nothing.
-fn blank() -> SoundReader
+fn blank() -> KeptReader
     ensures { StandsFor result [] [] }
 {
-    SoundReader::new(SoundSettings {
-        system: System::F25,
-        profile: Profile::Normal,
-        threshold: Threshold::Fixed(1),
-        fineness: 1,
-        smooth: 1,
-        pace: Pace::Ended,
-    })
+    KeptReader {
+        reader: SoundReader::new(SoundSettings {
+            system: System::F25,
+            profile: Profile::Normal,
+            threshold: Threshold::Fixed(1),
+            fineness: 1,
+            smooth: 1,
+            pace: Pace::Ended,
+        }),
+    }
 }

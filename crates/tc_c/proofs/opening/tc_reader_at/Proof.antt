@@ -37,8 +37,8 @@ use Rattle.sound_reader.specs.Sound.{SoundState}
 use Rattle.tc_c.specs.Opening.{HasRoom}
 use Rattle.tc_c.specs.declared.handle.TcReader.{TcReader}
 use Rattle.tc_c.specs.contracts.handle.TcReader as handle
-use Rattle.sound_reader.specs.contracts.reader.SoundReader as reader
-use Rattle.sound_reader.proofs.reader.SoundReader.TheLaws as laws
+use Rattle.tc_c.specs.contracts.kept.KeptReader as reader
+use Rattle.tc_c.proofs.kept.KeptReader.TheLaws as laws
 use Rattle.tc_c.specs.contracts.opening.blank as of
 use Rattle.tc_c.proofs.opening.blank.Symbol.{name as #blank}
 use Rattle.tc_c.proofs.opening.blank.Met as of_thm

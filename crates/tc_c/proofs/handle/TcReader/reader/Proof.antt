@@ -36,7 +36,7 @@ use Rattle.sound_reader.specs.Sound.{SoundState}
 use Rattle.tc_c.specs.Lending.{with_reader}
 use Rattle.tc_c.specs.declared.handle.TcReader.{TcReader}
 use Rattle.tc_c.specs.contracts.handle.TcReader as handle
-use Rattle.sound_reader.specs.contracts.reader.SoundReader as reader
+use Rattle.tc_c.specs.contracts.kept.KeptReader as reader
 use Rattle.tc_c.specs.contracts.handle.TcReader.reader.Key.{name as #self}
 use Rattle.tc_c.specs.contracts.handle.TcReader.reader as f
 use Rattle.tc_c.proofs.handle.TcReader.reader.Statement as stated
