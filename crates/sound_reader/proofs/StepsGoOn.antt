@@ -1,5 +1,5 @@
 -- The steps of a reader of sound go on, one after another: it stands for the samples of all of them, with their events.
-use Rattle.std.proofs.Common.{◌≡◌, ℕ, ℤ, ◌+◌, ◌-◌, ◌≤◌, List, [], ◌∷◌, ◌++◌, length, take, drop, Some}
+use Rattle.std.proofs.Common.{◌≡◌, ℕ, zero, suc, ℤ, ◌+◌, ◌-◌, ◌≤◌, List, [], ◌∷◌, ◌++◌, length, take, drop, Some}
 use Rattle.std.proofs.Common.{refl, sym, ap, subst, ◌∙◌, append_assoc, append-nil, arith}
 use Rattle.std.proofs.lemmas.List.{take_rest}
 use Rattle.std.proofs.Math.Seq.{take-add}
@@ -90,3 +90,20 @@ pub brings_over : (a b c : SoundState) (at n : ℕ) (s : List ℤ) → Brings a 
 brings_over a b c at n s first second =
     rw (front_longer at n s)
     (brings_on a b c (take at s) (take n (take (length s - at) (drop at s))) [] [] first second)
+
+-- the front of a front
+pub front_of_front : (n most : ℕ) (s : List ℤ) → n ≤ most → take n (take most s) ≡ take n s
+front_of_front zero most s less = refl
+front_of_front (suc n) zero s less = absurd (omega arith)
+front_of_front (suc n) (suc most) [] less = refl
+front_of_front (suc n) (suc most) (x ∷ s) less =
+    ap (λ (l : List ℤ). x ∷ l) (front_of_front n most s (omega arith))
+
+-- what does not read stays
+pub rest_on : (a b old new : SoundState) (left : Intervals) → old ≡ b
+    → b ≡ record a { reader = b.reader; waiting = b.waiting }
+    → new ≡ record old { reader = new.reader; waiting = left }
+    → new ≡ record a { reader = new.reader; waiting = new.waiting }
+rest_on a b old new left view before is =
+    subst (λ (t : SoundState). t ≡ record a { reader = t.reader; waiting = t.waiting }) (sym is)
+    (ap (λ (t : SoundState). record t { reader = new.reader; waiting = left }) (view ∙ before))
