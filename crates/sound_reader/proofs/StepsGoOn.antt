@@ -99,6 +99,13 @@ front_of_front (suc n) (suc most) [] less = refl
 front_of_front (suc n) (suc most) (x ∷ s) less =
     ap (λ (l : List ℤ). x ∷ l) (front_of_front n most s (omega arith))
 
+pub within_front : (n most : ℕ) (s : List ℤ) → n ≤ length (take most s) → n ≤ most
+within_front n zero s less = less
+within_front n (suc most) [] less = omega (arith, less)
+within_front zero (suc most) (x ∷ s) less = omega arith
+within_front (suc n) (suc most) (x ∷ s) less =
+    let more = within_front n most s (omega (arith, less)) in omega (arith, more)
+
 -- what does not read stays
 pub rest_on : (a b old new : SoundState) (left : Intervals) → old ≡ b
     → b ≡ record a { reader = b.reader; waiting = b.waiting }

@@ -157,8 +157,9 @@ impl SoundReader {
         } else {
             room as usize
         };
-        let (count, intervals) =
-            self.slicer.intervals_of_samples(self.settings.pace, &samples[..most]);
+        let (count, intervals) = self
+            .slicer
+            .intervals_of_samples(self.settings.pace, &samples[..most]);
         self.samples += count as u64;
         self.waiting = intervals;
         count

@@ -44,8 +44,8 @@ fn is_threshold(threshold: Threshold) -> bool
     ensures { IsTrue result ↔ IsThreshold threshold }
 {
     match threshold {
-        Threshold::Fixed(least) | Threshold::Follow(least) | Threshold::Deep(least) =>
-            least >= 1 && least <= MAX_THRESHOLD,
+        Threshold::Fixed(least) | Threshold::Follow(least) | Threshold::Deep(least) => least >= 1
+            && least <= MAX_THRESHOLD,
     }
 }
 

@@ -1,4 +1,4 @@
-use Rattle.std.proofs.Common.{[], ◌≡◌, ap, subst, ◌∙◌, arith}
+use Rattle.std.proofs.Common.{[], ◌≡◌, refl, ap, subst, ◌∙◌, arith}
 use Rattle.std.proofs.lemmas.Grind.{common_steps}
 use Rattle.direction_reader.specs.declared.event.Events.{Events}
 use Rattle.direction_reader.specs.Events.{event_list, no_events}
@@ -9,7 +9,7 @@ use Rattle.sound_reader.proofs.reader.SoundReader.read.Goals as goal
 -- what waited brought nothing, and more samples were sliced
 pub reading-preserved : goal.reading-preserved
 reading-preserved c =
-    let none : c.read_waiting-events.result ≡ no_events = ? in
+    let none : c.read_waiting-events.result ≡ no_events = c.if-not-are_none.ensures.0 refl in
     let waited = subst
     (λ (e : Events). Brings c.reading.self c.read_waiting-events.new.self [] (event_list e)) none
     c.read_waiting-events.ensures.brings in

@@ -1,4 +1,4 @@
-use Rattle.std.proofs.Common.{[], ◌≡◌, subst}
+use Rattle.std.proofs.Common.{[], ◌≡◌, refl, subst}
 use Rattle.direction_reader.specs.declared.event.Events.{Events}
 use Rattle.direction_reader.specs.Events.{event_list, no_events}
 use Rattle.sound_reader.specs.Sound.{Brings, SoundState}
@@ -17,7 +17,7 @@ returns-then-not-are_none-clause-brings c =
 -- where it brought nothing
 pub waiting-preserved : goal.waiting-preserved
 waiting-preserved c =
-    let none : c.feed-events.result ≡ no_events = ? in
+    let none : c.feed-events.result ≡ no_events = c.if-not-are_none.ensures.0 refl in
     let own = event_list c.feed-events.result in
     let step = reads_on (the_view c.self.inside) c.feed-events.new.self c.next.new.waiting c.in-Some.x own
     c.in-Some.ensures.value c.feed-events.ensures.rest c.feed-events.ensures.reads in
