@@ -58,6 +58,7 @@ check:
 	@[ -x bin/tc ] || { echo "bin/tc is not built: run make first" >&2; exit 1; }
 	tools/try_status
 	tools/run_examples
+	@if command -v rustc > /dev/null; then bench/cases 1000; else echo "bench/cases: not run, for want of rustc"; fi
 	tools/try_tapes
 
 gate:

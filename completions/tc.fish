@@ -34,5 +34,8 @@ complete -c tc -n '__fish_seen_subcommand_from wav-ltc; and test (count (command
 complete -c tc -n '__fish_seen_subcommand_from wav-ltc; and test (count (commandline -opc)) -ge 5' -a live
 complete -c tc -n '__fish_seen_subcommand_from ltc-rough; and test (count (commandline -opc)) -eq 2' -a firm
 complete -c tc -n '__fish_seen_subcommand_from ltc-jam; and test (count (commandline -opc)) -eq 5' -a 'worn rough'
+complete -c tc -n '__fish_seen_subcommand_from ltc-jam; and test (count (commandline -opc)) -eq 6' -a firm
 complete -c tc -n '__fish_seen_subcommand_from ltc-chase; and test (count (commandline -opc)) -eq 7' -a 'worn rough'
+complete -c tc -n '__fish_seen_subcommand_from ltc-chase; and test (count (commandline -opc)) -eq 8' -a firm
 complete -c tc -n '__fish_seen_subcommand_from ltc-fly ltc-spans ltc-mtc; and test (count (commandline -opc)) -eq 3' -a 'worn rough'
+complete -c tc -n '__fish_seen_subcommand_from ltc-fly ltc-spans ltc-mtc; and test (count (commandline -opc)) -eq 4' -a firm

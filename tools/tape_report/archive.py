@@ -42,7 +42,7 @@ def work(options: argparse.Namespace) -> int:
     if not os.path.isdir(options.folder):
         raise Fault("it is no folder")
     program()
-    run = Run(os.path.abspath(options.folder), os.path.abspath(options.out), words.reading_of(options))
+    run = Run(os.path.abspath(options.folder), os.path.abspath(options.out), words.archive_reading_of(options))
     store.prepare(run, options.resume or options.part is not None, options.force)
     store.put_run(run)
     names = tapes_under(run.folder, run.out)

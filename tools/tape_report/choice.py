@@ -34,6 +34,7 @@ class Wanted:
     system: int | None = None
     limit: int = 2
     front: FrontEnd | None = None
+    all_words: bool = False
 
     @property
     def systems(self) -> Sequence[int]:
@@ -131,7 +132,10 @@ def choose(sound: Sound, wanted: Wanted, room: str, progress: Progress | None = 
     """Each track and each system, or the given ones; the best reading. Its words stay in the room."""
     tracks = [wanted.track] if wanted.track else range(1, sound.tracks + 1)
     first = wanted.front or front_ends.PLAIN
-    found = {track: read_track(sound, track, wanted.systems, first, wanted.limit, room, progress) for track in tracks}
+    words = wanted.all_words
+    found = {
+        track: read_track(sound, track, wanted.systems, first, wanted.limit, room, words, progress) for track in tracks
+    }
     is_well = any(is_code(it) and not hears_little(it) for it in map(best, found.values()))
     tried: dict[int, list[str]] = {}
     for track in sorted(found, key=lambda it: best(found[it]).merit(), reverse=True)[:MOST_TRACKS_TRIED]:
@@ -166,7 +170,7 @@ def tried_by_others(
     names = []
     for front in fronts:
         names.append(front.name)
-        found = read_track(sound, readings[0].track, wanted.systems, front, wanted.limit, room)
+        found = read_track(sound, readings[0].track, wanted.systems, front, wanted.limit, room, wanted.all_words)
         if is_code(best(found)) and best(found).merit() > best(readings).merit():
             readings = found
         if not hears_little(best(readings)) and best(readings).heard:

@@ -77,7 +77,7 @@ def work_one(run: Run, name: str) -> None:
 def read_one(run: Run, name: str) -> tuple[Told, str]:
     wanted, rate = wanted_of(run.reading)
     with opened(run.path(name)) as source, tape_read(source, name, wanted, rate) as tape:
-        text, told = tape.report(), tape.told()
+        text, told = tape.report(run.reading.get("margin", False)), tape.told()
         if tape.choice.is_found:
             path = os.path.join(run.room(name), store.PAGE)
             write_text(path, tape.page(text), force=True, tapes=[source.tape])

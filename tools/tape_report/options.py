@@ -43,6 +43,7 @@ def add_reading(words: argparse.ArgumentParser) -> None:
     words.add_argument("--system", type=int, choices=SYSTEMS, help="this system, and no other")
     words.add_argument("--rate", choices=list(RATES), help="these frames a second, whatever the speed says")
     words.add_argument("--limit", type=number_from(0, 255), default=2, help="frames that are bridged in a row (2)")
+    words.add_argument("--all-words", action="store_true", help="words without a witness too")
     words.add_argument("--threshold", type=number_from(1, 32_767), help="the least height of code (250)")
     words.add_argument("--smooth", type=number_from(1, 16), help="sums of so many samples, for hiss (1)")
     words.add_argument("--deep", action="store_true", help="a lower threshold, for dull tapes and hum")
@@ -78,6 +79,7 @@ def archive_parser() -> argparse.ArgumentParser:
     words.add_argument("--part", metavar="K/N", type=part, help="each N-th tape from the K-th on, and no table")
     words.add_argument("--edl", action="store_true", help="the spans as edit decision lists too (CMX 3600)")
     words.add_argument("--ale", action="store_true", help="the spans as Avid logs too")
+    words.add_argument("--margin", action="store_true", help="the margin in each report, as tc-tape tells it")
     return words
 
 
@@ -114,15 +116,20 @@ def archive_options(arguments: Sequence[str]) -> argparse.Namespace:
 
 def reading_of(options: argparse.Namespace) -> dict[str, Any]:
     """The words that say how a tape is read."""
-    names = ("track", "system", "rate", "limit", "threshold", "smooth", "deep")
+    names = ("track", "system", "rate", "limit", "all_words", "threshold", "smooth", "deep")
     return {name: getattr(options, name) for name in names}
+
+
+def archive_reading_of(options: argparse.Namespace) -> dict[str, Any]:
+    """The same of an archive, with the word for margins where it is said."""
+    return reading_of(options) | ({"margin": True} if options.margin else {})
 
 
 def wanted_of(reading: dict[str, Any]) -> tuple[Wanted, Fraction | None]:
     """What is to be read of a tape, and the frames a second that were given."""
     given = rate_given(reading["rate"])
     system = reading["system"] if given is None else system_of(given)
-    return Wanted(reading["track"], system, reading["limit"], front_end(reading)), given
+    return Wanted(reading["track"], system, reading["limit"], front_end(reading), reading["all_words"]), given
 
 
 def front_end(reading: dict[str, Any]) -> FrontEnd | None:

@@ -16,8 +16,9 @@ from .programs import program
 from .sound import Input, Sound
 from .spans import Reading, spans_in
 
-# Under this tolerance sound is read: the command that prints its words, and the last word of `ltc-spans`.
-READ, TOLERANCE = "ltc-rough", "rough"
+# Under this tolerance sound is read: the command that prints its words, and the word of `ltc-spans`. With the last word
+# each word is asked for a witness.
+READ, TOLERANCE, WITNESS = "ltc-rough", "rough", "firm"
 PIECE = 1 << 20
 # A decoder that ends so many seconds before the length that was said has ended early.
 EARLY_SECONDS = 0.5
@@ -27,11 +28,12 @@ Progress = Callable[[Input], None]
 class Reader:
     """`tc` reading intervals, as one system: its spans and its words."""
 
-    def __init__(self, room: str, begin: str, system: int, limit: int) -> None:
+    def __init__(self, room: str, begin: str, system: int, limit: int, all_words: bool) -> None:
         self.system = system
         self.outputs: list[str] = []
         self.readers: list[subprocess.Popen[bytes]] = []
-        for words in (["ltc-spans", str(limit), TOLERANCE], [READ]):
+        asked = [] if all_words else [WITNESS]
+        for words in (["ltc-spans", str(limit), TOLERANCE, *asked], [READ, *asked]):
             path = os.path.join(room, f"{begin}-{system}-{words[0]}")
             with open(path, "wb") as output:
                 self.readers.append(started(words, output))
@@ -131,12 +133,13 @@ def read_track(
     front: FrontEnd,
     limit: int,
     room: str,
+    all_words: bool,
     progress: Progress | None = None,
 ) -> list[Reading]:
     """A track read as each of the systems, by a front end. The lines of the words stay in the room."""
     slicing = Slicing(sound, track, front)
     begin = f"{track}-{front.name}".replace(" ", "-")
-    readers = [Reader(room, begin, system, limit) for system in systems]
+    readers = [Reader(room, begin, system, limit, all_words) for system in systems]
     is_empty = True
     try:
         for data in slicing.pieces(progress):

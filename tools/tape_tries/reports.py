@@ -98,6 +98,34 @@ def try_margin(room):
     assert "margin" not in out, out
 
 
+def try_margins_of_a_folder(room):
+    """With --margin the reports of a folder have the lines that the tool has for each tape, and else they have none."""
+    want("parallel")
+    folder = os.path.join(room, "folder")
+    os.makedirs(folder)
+    made = code(48_000, intervals("25", "10:00:00:00", 60), lead=2400)
+    frame = 48_000 // 25
+    wav(os.path.join(folder, "whole.wav"), 48_000, [made])
+    wav(os.path.join(folder, "holed.wav"), 48_000, [made[: 30 * frame] + [0] * frame + made[31 * frame :]])
+
+    def reports(out, *words):
+        ended, told, notes = run(ARCHIVE, folder, out, *words)
+        assert ended == 0, told + notes
+        rooms = os.path.join(out, "tapes")
+        return [
+            open(os.path.join(rooms, name, "report.txt"), encoding="utf-8").read()
+            for name in ("holed.wav", "whole.wav")
+        ]
+
+    out = os.path.join(room, "out")
+    assert not any("margin" in text for text in reports(out)), "a margin that was not asked for"
+    holed, whole = reports(out, "--resume", "--margin")
+    assert "margin" not in holed, holed
+    mine, _ = tape(os.path.join(folder, "whole.wav"))
+    line = re.search(r"^margin .*$", mine, re.M)
+    assert line and line[0] in whole, whole
+
+
 def heard_of(path, *words):
     """How many frames are heard as 25 a second."""
     _, out, _ = run(TAPE, path, "--csv", "--system", "25", *words)

@@ -135,17 +135,20 @@ fn other_jobs_without_values_are_read(rt: HostRuntime) -> Result<(), Fail> {
 #[test]
 fn frames_to_be_shown_are_read(rt: HostRuntime) -> Result<(), Fail> {
     let alloc = rt.alloc();
-    for (line, limit, profile) in [
-        ("ltc-fly 0", 0, Profile::Normal),
-        ("ltc-fly 255", 255, Profile::Normal),
-        ("ltc-fly 2 worn", 2, Profile::Worn),
-        ("ltc-fly 0 rough", 0, Profile::Rough),
+    for (line, limit, profile, is_asked) in [
+        ("ltc-fly 0", 0, Profile::Normal, false),
+        ("ltc-fly 255", 255, Profile::Normal, false),
+        ("ltc-fly 2 worn", 2, Profile::Worn, false),
+        ("ltc-fly 0 rough", 0, Profile::Rough, false),
+        ("ltc-fly 7 rough firm", 7, Profile::Rough, true),
     ] {
         let Job::LtcFly { flight } = job_in(alloc, line)? else {
             return Err("no frames".into());
         };
         assert_eq!(rt; flight.limit, limit, "at {line}");
         assert_eq!(rt; flight.profile, profile, "at {line}");
+        let asks = matches!(flight.witness, Witness::Asked);
+        assert_eq!(rt; asks, is_asked, "at {line}");
     }
     Ok(())
 }

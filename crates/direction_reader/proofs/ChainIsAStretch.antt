@@ -68,23 +68,15 @@ longest profile x two others more twos first chain (rest, e) =
     ] in
     omega arith
 
-one_stretch : AreAsSaid → (profile : Profile) (x a b : ℕ) (more : List Cell) → IsChain profile (Zero x ∷ One a b ∷ more)
-    → AreStretches profile (flat (Zero x ∷ One a b ∷ more)) (whole (Zero x ∷ One a b ∷ more) ∷ [])
-one_stretch said profile x a b more chain =
-    let cells : List Cell = Zero x ∷ One a b ∷ more in
+-- cells that follow one another from a lock at the first of them are one stretch
+stretch_from : (profile : Profile) (x : ℕ) (more : List Cell) → FollowOn profile (Zero x ∷ more)
+    → IsLock profile (flat (Zero x ∷ more)) 0 0
+    → AreStretches profile (flat (Zero x ∷ more)) (whole (Zero x ∷ more) ∷ [])
+stretch_from profile x more follow lock =
+    let cells : List Cell = Zero x ∷ more in
     let list = flat cells in
-    let pair = (said profile cells chain).1 in
-    let follow = behind_zero profile [] (One a b ∷ more) x chain in
-    let lock : IsLock profile list 0 0 = record {
-      pair = 0;
-      within = omega arith;
-      unequal = (omega arith, pair.0);
-      none_before = λ k le lt. absurd (omega arith);
-      rising = λ lt. absurd (omega (arith, pair.1));
-      falling = λ lt. refl;
-    } in
     let from : IsChainFrom profile list 0 cells = record {
-      first = (One a b ∷ more, refl);
+      first = (more, refl);
       chain = follow;
       front =
           ([], sym (append-nil list));
@@ -94,10 +86,31 @@ one_stretch said profile x a b more chain =
     (drop (end_of (whole cells)) list) None = rw none refl in
     let is : IsStretch profile list (whole cells) = record {
       chain = from;
-      longest = λ others c. longest profile x (One a b ∷ more) others c.first.0 follow.1 c.first.1 c.chain c.front;
+      longest = λ others c. longest profile x more others c.first.0 follow.1 c.first.1 c.chain c.front;
       broken = broken;
     } in
     (lock, is, refl)
+
+pub whole_from : (profile : Profile) (cells : List Cell) (list : List Bool) → FollowOn profile cells
+    → IsLock profile (flat cells) 0 0 → bits cells ≡ false ∷ list
+    → AreStretches profile (flat cells) (whole cells ∷ [])
+whole_from profile [] list follow lock are = absurd cc
+whole_from profile (Zero x ∷ more) list follow lock are = stretch_from profile x more follow lock
+whole_from profile (One a b ∷ more) list follow lock are = absurd cc
+
+one_stretch : AreAsSaid → (profile : Profile) (x a b : ℕ) (more : List Cell) → IsChain profile (Zero x ∷ One a b ∷ more)
+    → AreStretches profile (flat (Zero x ∷ One a b ∷ more)) (whole (Zero x ∷ One a b ∷ more) ∷ [])
+one_stretch said profile x a b more chain =
+    let pair = (said profile (Zero x ∷ One a b ∷ more) chain).1 in
+    let lock : IsLock profile (flat (Zero x ∷ One a b ∷ more)) 0 0 = record {
+      pair = 0;
+      within = omega arith;
+      unequal = (omega arith, pair.0);
+      none_before = λ k le lt. absurd (omega arith);
+      rising = λ lt. absurd (omega (arith, pair.1));
+      falling = λ lt. refl;
+    } in
+    stretch_from profile x (One a b ∷ more) (behind_zero profile [] (One a b ∷ more) x chain) lock
 
 -- and so are cells with these bits
 pub whole_is : AreAsSaid → (profile : Profile) (cells : List Cell) (list : List Bool) → IsChain profile cells

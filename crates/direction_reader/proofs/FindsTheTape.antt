@@ -13,7 +13,7 @@ use Rattle.std.proofs.lemmas.List.Elements.{All-nil, All-cons, All-append, All-h
 use Rattle.std.proofs.lemmas.List.Sums.{sum_by-append, sum_by-take-drop, sum_by-cons}
 use Rattle.biphase.specs.declared.cell.Cell.{Cell}
 use Rattle.biphase.specs.declared.profile.Profile.{Profile}
-use Rattle.biphase.specs.declared.profile.Profile.TheVariants.{Rough}
+use Rattle.biphase.specs.declared.profile.Profile.TheVariants.{Normal, Worn, Rough}
 use Rattle.biphase.specs.Latest.{Latest}
 use Rattle.biphase.specs.Tolerance.{LooksAtLast}
 use Rattle.biphase.specs.Chain.{intervals_of, flat, kept_of}
@@ -441,9 +441,12 @@ IsFoundBehindOnes = (before kept : List ℕ) (cells : List Cell) (cut end second
     → AreStretches Rough (before ++ kept) stretches
     → AreFrom (length before + second) (cells_from cells cut kept second) stretches
 
-pub finds_behind_ones : AreListed → IsFoundBehindOnes → Fronts → (system : System) (l : List ℕ) (es : List Event)
-    → AreEvents system Rough l es → FindsTheTapeBehindOnes system l es
-finds_behind_ones lists law fronts system l es are = λ before kept behind cells cut end second same piece run next.
+pub finds_behind_ones : AreListed → IsFoundBehindOnes → Fronts → (system : System) (profile : Profile) (l : List ℕ)
+    (es : List Event) → AreEvents system profile l es → FindsTheTapeBehindOnes system profile l es
+finds_behind_ones lists law fronts system Normal l es are = tt
+finds_behind_ones lists law fronts system Worn l es are = tt
+finds_behind_ones lists law fronts system Rough l es are = λ before kept behind cells cut end second same piece run
+    next.
     tells_from lists fronts system Rough l es are (before ++ kept) behind (length before + second)
     (cells_from cells cut kept second) same
     (λ ss stretches. law before kept cells cut end second ss piece run next stretches)

@@ -7,7 +7,9 @@ use Rattle.std.proofs.lemmas.List.{take-map, take_at, drop-drop, drop-map, drop_
 use Rattle.std.proofs.Math.Seq.{take-add}
 use Rattle.biphase.specs.declared.cell.Cell.{Cell}
 use Rattle.biphase.specs.declared.profile.Profile.{Profile}
-use Rattle.biphase.specs.Chain.{bit_of, bits, flat, IsChain}
+use Rattle.biphase.specs.Chain.{bit_of, bits, flat, FollowOn, IsChain}
+use Rattle.cell_tracker.specs.Lock.{IsLock}
+use Rattle.cell_tracker.specs.Stretch.{AreStretches}
 use Rattle.ltc_word.specs.declared.word.LtcWord.{LtcWord}
 use Rattle.ltc_word.specs.Reversal.{reversed_bits, EndsInSync}
 use Rattle.ltc_word.specs.Spelled.{spelling_of}
@@ -24,7 +26,7 @@ use Rattle.direction_reader.specs.Windows.{number_of, window_at, windows}
 use Rattle.direction_reader.specs.ListEvents.{duration}
 use Rattle.direction_reader.specs.Played.{Played, AreSpelled, bits_of_words, events_of_words, in_time, low_bits}
 use Rattle.direction_reader.specs.Played.{played_bits}
-use Rattle.direction_reader.proofs.ChainIsAStretch.{AreAsSaid, whole, whole_is}
+use Rattle.direction_reader.proofs.ChainIsAStretch.{AreAsSaid, whole, whole_from, whole_is}
 use Rattle.direction_reader.proofs.SyncInTime.{WordLaws, Starts, led, lead_backward, lead_forward, no_other_way}
 use Rattle.direction_reader.specs.PlayedLemmas.{length-low_bits, length-bits_of_words}
 use Rattle.direction_reader.proofs.SyncInTime.{no_way_forward, number-low_bits, plays, quiet_backward, quiet_forward}
@@ -268,12 +270,29 @@ windows_are_read laws system cells (w ∷ more) are spelled =
 
 -- ---- all events
 
+-- of cells that are one stretch
+read_of_stretch : WordLaws → (system : System) (profile : Profile) (cells : List Cell) (words : List Played)
+    → AreStretches profile (flat cells) (whole cells ∷ [])
+    → bits cells ≡ false ∷ true ∷ bits_of_words words → AreSpelled system words
+    → AreGathered system profile (flat cells) (events_of_words (duration (take 2 cells)) (drop 2 cells) words)
+read_of_stretch laws system profile cells words stretches are spelled =
+    let events = events_of_words (duration (take 2 cells)) (drop 2 cells) words in
+    let own = windows_are_read laws system cells words are spelled in
+    (whole cells ∷ [], stretches, (events, [], (events, own, sym (append-nil events)), refl, sym (append-nil events)))
+
 pub words_are_read : WordLaws → AreAsSaid → (system : System) (profile : Profile) (cells : List Cell)
     (words : List Played) → IsChain profile cells
     → bits cells ≡ false ∷ true ∷ bits_of_words words → AreSpelled system words
     → AreGathered system profile (flat cells) (events_of_words (duration (take 2 cells)) (drop 2 cells) words)
 words_are_read laws said system profile cells words chain are spelled =
-    let events = events_of_words (duration (take 2 cells)) (drop 2 cells) words in
-    let stretches = whole_is said profile cells (bits_of_words words) chain are in
-    let own = windows_are_read laws system cells words are spelled in
-    (whole cells ∷ [], stretches, (events, [], (events, own, sym (append-nil events)), refl, sym (append-nil events)))
+    read_of_stretch laws system profile cells words (whole_is said profile cells (bits_of_words words) chain are) are
+    spelled
+
+-- and of cells that follow one another from a lock
+pub locked_words_are_read : WordLaws → (system : System) (profile : Profile) (cells : List Cell)
+    (words : List Played) → FollowOn profile cells → IsLock profile (flat cells) 0 0
+    → bits cells ≡ false ∷ true ∷ bits_of_words words → AreSpelled system words
+    → AreGathered system profile (flat cells) (events_of_words (duration (take 2 cells)) (drop 2 cells) words)
+locked_words_are_read laws system profile cells words follow lock are spelled =
+    read_of_stretch laws system profile cells words
+    (whole_from profile cells (true ∷ bits_of_words words) follow lock are) are spelled

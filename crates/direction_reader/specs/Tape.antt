@@ -57,8 +57,9 @@ FindsTheTape system profile intervals events = LooksAtLast profile
 -- under the rough tolerance the events find the tape again behind even ones, as a sync word has them, whatever stands
 -- before them and whatever comes behind: from the greater interval of the next unequal pair behind the zero that ends
 -- them to the end of the piece they are those of the tape's windows, and nothing else
-abbrev pub FindsTheTapeBehindOnes : System → List ℕ → List Event → Type 0
-FindsTheTapeBehindOnes system intervals events =
+abbrev pub FindsTheTapeBehindOnes : System → Profile → List ℕ → List Event → Type 0
+FindsTheTapeBehindOnes system Rough intervals events =
     (before kept behind : List ℕ) (tape : List Cell) (cut end second : ℕ) → intervals ≡ before ++ kept ++ behind
     → IsPiece Rough kept tape cut → IsEvenRun kept tape cut end → IsLock Rough kept end second
     → TellFrom system (before ++ kept) (length before + second) (cells_from tape cut kept second) events
+FindsTheTapeBehindOnes system profile intervals events = Unit {0}

@@ -1,9 +1,10 @@
 //! What follows from the definitions alone, and the numbers that code and definitions share.
 ghost use Rattle.std.specs.Prelude.{◌≡◌, ℕ, ◌*◌, ◌^◌, ◌<◌, ◌≤◌, List, [], ◌∷◌, ◌++◌, reverse, false, true, drop, take, sum, All};
 ghost use Rattle.biphase.specs.declared.cell.Cell.{Cell};
-ghost use Rattle.biphase.specs.Chain.{bits, flat, IsChain};
+ghost use Rattle.biphase.specs.Chain.{bits, flat, FollowOn, IsChain};
 ghost use Rattle.biphase.specs.declared.profile.Profile.{Profile};
 ghost use Rattle.biphase.specs.declared.profile.Profile.TheVariants.{Normal, Worn, Rough};
+ghost use Rattle.cell_tracker.specs.Lock.{IsLock};
 ghost use Rattle.cell_tracker.specs.Recording.{recording};
 ghost use Rattle.direction_reader.specs.declared.boundaries.TheConstants.{BOUNDARIES};
 ghost use Rattle.direction_reader.specs.declared.event.Event.{Event};
@@ -163,8 +164,9 @@ pub fn events_find_the_tape_again()
 /// within it that has even ones between two zeros, as a sync word has, from the next unequal pair behind
 /// them to its end the events are those of the tape's own windows.
 pub fn events_find_the_tape_behind_even_ones()
-    ensures { (system : System) (intervals : List ℕ) (events : List Event)
-        → AreEvents system Rough intervals events → FindsTheTapeBehindOnes system intervals events }
+    ensures { (system : System) (profile : Profile) (intervals : List ℕ) (events : List Event)
+        → AreEvents system profile intervals events
+        → FindsTheTapeBehindOnes system profile intervals events }
 {
     a_recording_is_found_again_behind_even_ones();
     each_list_has_events();
@@ -239,6 +241,19 @@ pub fn played_words_are_read()
 {
     events_are_those_that_are_spelled();
     kinds_are_as_the_cells_say();
+    reversed_twice_is_the_same();
+    twelve_ones_are_the_sync_word();
+}
+
+/// The same of cells that follow one another from a lock at the first of them. That a reader could lock at
+/// other places of the chain too is not asked.
+pub fn words_behind_a_lock_are_read()
+    ensures { (system : System) (profile : Profile) (cells : List Cell) (words : List Played)
+        → FollowOn profile cells → IsLock profile (flat cells) 0 0
+        → bits cells ≡ false ∷ true ∷ bits_of_words words → AreSpelled system words
+        → AreEvents system profile (flat cells) (events_of_words (duration (take 2 cells)) (drop 2 cells) words) }
+{
+    events_are_those_that_are_spelled();
     reversed_twice_is_the_same();
     twelve_ones_are_the_sync_word();
 }

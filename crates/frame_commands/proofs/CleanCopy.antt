@@ -24,10 +24,13 @@ use Rattle.interval_file.specs.declared.header.IntervalHeader.{IntervalHeader}
 use Rattle.interval_file.specs.Grammar.{AreIntervals, IsFile}
 use Rattle.interval_file.specs.Recording.{Recording, recording_of}
 use Rattle.tc_job.specs.Jam.{IsJamming, Jamming}
+use Rattle.tc_job.specs.declared.witness.Witness.{Witness}
+use Rattle.frame_commands.specs.Heard.{AreHeard}
 use Rattle.interval_engine.specs.KeptBehind.{IsWholeBehind}
 use Rattle.frame_commands.specs.LtcJam.{CleansTheInput, IsClean, clean_file, clean_header, clean_intervals, clean_recording}
 use Rattle.frame_commands.specs.OfFrames.{frames_of, words_heard}
 use Rattle.interval_file.specs.KeptIntervals.{ShapesAreIntervals, in_range}
+use Rattle.frame_commands.proofs.MarkedLines.{FramesLaws}
 
 -- what the laws of the crates below say
 pub record CleanLaws : Type 1 where
@@ -35,8 +38,10 @@ pub record CleanLaws : Type 1 where
   pub read : (system : System) (cell : ℕ) (fs : List Frame) → IsShaped cell → AreFramesOf system fs
       → AreEvents system Normal (flat (clean_cells cell fs)) (clean_events cell fs)
   pub intervals : ShapesAreIntervals
-  pub events : (system : System) (profile : Profile) (list : List ℕ) (es : List Event) → AreEvents system profile list es → AreEventsOf system es
+  pub events : (witness : Witness) (system : System) (profile : Profile) (list : List ℕ) (es : List Event)
+      → AreHeard witness system profile list es → AreEventsOf system es
   pub frames : (system : System) (limit : ℕ) (words : List HeardWord) (last : ℕ) → AreHeardOf system words → AreFramesOf system (frames limit words last)
+  pub heard : FramesLaws
 
 -- the words that are heard are those of the events
 pub words_are : (system : System) (es : List Event) → AreEventsOf system es → AreHeardOf system (words_heard es)
@@ -62,7 +67,7 @@ behind laws j is input (Some header) written e whole =
     let fs = frames_of j.flight.limit input.intervals whole.events in
     let some = is.some_ticks in
     let most = is.not_too_fast in
-    let heard = words_are header.system whole.events (laws.events header.system j.flight.profile input.intervals whole.events whole.are_events) in
+    let heard = words_are header.system whole.events (laws.events j.flight.witness header.system j.flight.profile input.intervals whole.events whole.are_events) in
     let file : IsFile written (clean_header j header) (clean_intervals j fs) = record {
       tick_rate = (omega arith, omega arith);
       range = in_file laws j fs is;
@@ -77,6 +82,10 @@ behind laws j is input (Some header) written e whole =
       are_events = whole.are_events;
       frames = fs;
       are_frames = refl;
+      heard = laws.heard.heard j.flight.limit (sum input.intervals) (words_heard whole.events);
+      marked = laws.heard.marked j.flight.limit (sum input.intervals) (words_heard whole.events);
+      tape = laws.heard.tape j.flight.witness header.system j.flight.profile input.intervals whole.events
+          whole.are_events;
       file = file;
       read = read;
     }

@@ -1,94 +1,102 @@
 -- What was sent grows by what the frames of an interval bring, and what stands last comes after all of them.
-use Rattle.std.proofs.Common.{◌≡◌, ℕ, ◌+◌, ◌≤◌, List, [], ◌∷◌, ◌++◌, count_by, Bool, sym, ◌∙◌, ap, subst, arith, append_assoc, append-nil, cond}
-use Rattle.std.specs.Prelude.{sum}
+use Rattle.std.proofs.Common.{◌≡◌, ℕ, ◌+◌, ◌≤◌, List, [], ◌∷◌, ◌++◌, count_by, Bool, sym, ◌∙◌, ap, subst, arith}
+use Rattle.std.proofs.Common.{append_assoc, append-nil, cond, length-append}
+use Rattle.std.specs.Prelude.{sum, length}
 use Rattle.std.specs.declared.option.Option.{Option}
+use Rattle.std.specs.Io.KnownBytes.{Appends}
+use Rattle.lemmas.specs.Lists.{count_by-append}
 use Rattle.std.proofs.lemmas.List.Sums.{sum_by-append}
 use Rattle.std.proofs.lemmas.Grind.{flat_map-append}
 use Rattle.biphase.specs.declared.profile.Profile.{Profile}
 use Rattle.tc_address.specs.declared.system.System.{System}
 use Rattle.tc_io.specs.Sink.{AppendsFront}
 use Rattle.direction_reader.specs.declared.event.Event.{Event}
-use Rattle.direction_reader.specs.declared.event.Events.{Events}
-use Rattle.direction_reader.specs.Events.{event_list}
-use Rattle.direction_reader.specs.ListEvents.{AreEvents}
-use Rattle.direction_reader.specs.Reader.{ReaderState, Takes}
-use Rattle.direction_reader.specs.StandsFor as reads
-use Rattle.direction_reader.specs.Tracker.{profile_of}
 use Rattle.flywheel.specs.declared.frame.Frame.{Frame}
 use Rattle.flywheel.specs.declared.heard.HeardWord.{HeardWord}
 use Rattle.flywheel.specs.Frames.{frames}
+use Rattle.flywheel.specs.Kinds.{is_gone, is_heard, is_invented}
 use Rattle.flywheel.specs.StandsFor as flies
 use Rattle.flywheel.specs.Wheel.{Wheel}
 use Rattle.interval_file.specs.declared.header.IntervalHeader.{IntervalHeader}
-use Rattle.std.specs.Io.KnownBytes.{Appends}
-use Rattle.lemmas.specs.Lists.{count_by-append}
 use Rattle.tc_job.specs.declared.flight.Flight.{Flight}
-use Rattle.frame_commands.specs.declared.flight.FrameReader.{FrameReader}
+use Rattle.tc_job.specs.declared.witness.Witness.{Witness}
+use Rattle.frame_commands.specs.declared.frames.Frames.{Frames}
+use Rattle.frame_commands.specs.Heard.{AreHeard, AreHeardYet}
+use Rattle.frame_commands.specs.Hearing.{Hearer, HearsOn, due_at}
 use Rattle.frame_commands.specs.KeptFlight.{Counts, CountsAll, GivesAll, GivesDue, GivesFirst, Sends, SendsFront, Stands}
-use Rattle.frame_commands.specs.OfFrames.{FrameText, IsFlightPart, IsFlightWhole, frames_of, heard_in, words_heard}
+use Rattle.frame_commands.specs.OfFrames.{FrameText, IsFlightPart, IsFlightWhole, frames_of, frames_until, heard_in}
+use Rattle.frame_commands.specs.OfFrames.{words_heard}
 use Rattle.frame_commands.proofs.FramesInOrder.{Given}
-use Rattle.flywheel.specs.Kinds.{is_gone, is_heard, is_invented}
 
--- what a reader stands for are the events of its intervals
-abbrev pub TheEvents : Type 0
-TheEvents = (reader : ReaderState) (intervals : List ℕ) (events : List Event) → reads.StandsFor reader intervals events
-    → AreEvents reader.system (profile_of reader.tracker) intervals events
+-- what a reader has told are the events that are heard yet
+abbrev pub TheHeard : Witness → Hearer → Type 0
+TheHeard witness h = (intervals : List ℕ) (events : List Event) → h.stands intervals events
+    → AreHeardYet witness h.system h.profile intervals events h.until
 
 -- the reader took an interval, and these are its events
-abbrev pub Reads : ReaderState → ReaderState → ℕ → Events → Type 0
-Reads before after x own = (intervals : List ℕ) (events : List Event) → reads.StandsFor before intervals events
-    → reads.StandsFor after (intervals ++ x ∷ []) (events ++ event_list own)
+abbrev pub Reads : Hearer → Hearer → ℕ → List Event → Type 0
+Reads before now x own = (intervals : List ℕ) (events : List Event) → before.stands intervals events
+    → now.stands (intervals ++ x ∷ []) (events ++ own)
 
 -- an interval after which no word comes
 pub due_alone : (a b : Wheel) (tick : ℕ) (due : List Frame) → GivesDue a b tick due → GivesAll a b tick [] due
 due_alone a b tick due gives = λ words earlier given stands before.
-    subst (λ (ws : List HeardWord). flies.HasGivenAll b ws tick (given ++ due)) (sym (append-nil words)) (gives words earlier given stands before)
+    subst (λ (ws : List HeardWord). flies.HasGivenAll b ws tick (given ++ due)) (sym (append-nil words))
+    (gives words earlier given stands before)
 
 -- the events of the intervals with one more
-events_now : (system : System) (profile : Profile) (before next : ReaderState) (intervals : List ℕ) (events : List Event) (x : ℕ) (own : Events) → before.system ≡ system
-    → profile_of before.tracker ≡ profile → reads.StandsFor before intervals events → Takes before x next → Reads before next x own → TheEvents
-    → AreEvents system profile (intervals ++ x ∷ []) (events ++ event_list own)
-events_now system profile before next intervals events x own same keeps stands takes grows law =
-    subst (λ (p : Profile). AreEvents system p (intervals ++ x ∷ []) (events ++ event_list own)) (takes.profile ∙ keeps)
-    (subst (λ (y : System). AreEvents y (profile_of next.tracker) (intervals ++ x ∷ []) (events ++ event_list own)) (takes.system ∙ same)
-    (law next _ _ (grows intervals events stands)))
+events_now : (witness : Witness) (system : System) (profile : Profile) (before now : Hearer) (intervals : List ℕ)
+    (events : List Event) (x : ℕ) (own : List Event) → before.system ≡ system → before.profile ≡ profile
+    → before.stands intervals events → HearsOn before x now → Reads before now x own → TheHeard witness now
+    → AreHeardYet witness system profile (intervals ++ x ∷ []) (events ++ own) now.until
+events_now witness system profile before now intervals events x own same keeps stands takes grows law =
+    let all = intervals ++ x ∷ [] in
+    let es = events ++ own in
+    subst (λ (p : Profile). AreHeardYet witness system p all es now.until) (takes.profile_is ∙ keeps)
+    (subst (λ (y : System). AreHeardYet witness y now.profile all es now.until) (takes.system_is ∙ same)
+    (law all es (grows intervals events stands)))
 
 -- their words
-words_now : (events : List Event) (own : Events) → words_heard (events ++ event_list own) ≡ words_heard events ++ words_heard (event_list own)
-words_now events own = flat_map-append heard_in events (event_list own)
+words_now : (events own : List Event) → words_heard (events ++ own) ≡ words_heard events ++ words_heard own
+words_now events own = flat_map-append heard_in events own
 
--- the sum did not fall
-later : (before next : ReaderState) (intervals : List ℕ) (events : List Event) (x : ℕ)
-    → reads.StandsFor before intervals events → Takes before x next → sum intervals ≤ next.tick
-later before next intervals events x stands takes = let now = takes.tick in let sum_is = stands.sum_is in omega arith
+sum_of_one : (intervals : List ℕ) (x : ℕ) → sum (intervals ++ x ∷ []) ≡ sum intervals + x
+sum_of_one intervals x = omega (arith, sum_by-append (λ (n : ℕ). n) intervals (x ∷ []))
 
 -- one interval more
-pub flown : {S C : Type 0} (flight : C → Flight) (made : C → FrameText) (has : Given S C) (f next : FrameReader) (sink after : S) (choice : C) (header : IntervalHeader)
-    (intervals written : List ℕ) (x : ℕ) (own : Events) (more : List Frame) (old new : Option (List ℕ))
-    → Stands flight made has f sink choice header intervals written → Takes f.reader x next.reader → Reads f.reader next.reader x own → TheEvents
-    → next.wheel.limit ≡ f.wheel.limit → GivesAll f.wheel next.wheel next.reader.tick (words_heard (event_list own)) more
-    → Counts f next more
+pub flown : {S C : Type 0} (witness : Witness) (flight : C → Flight) (made : C → FrameText) (has : Given S C)
+    (h now : Hearer) (f next : Frames) (sink after : S) (choice : C) (header : IntervalHeader)
+    (intervals written : List ℕ) (x : ℕ) (own : List Event) (words : List HeardWord) (more : List Frame)
+    (old new : Option (List ℕ))
+    → Stands witness flight made has h f sink choice header intervals written → HearsOn h x now
+    → Reads h now x own → TheHeard witness now → words ≡ words_heard own → h.until ≤ due_at words now.until
+    → next.wheel.limit ≡ f.wheel.limit → GivesAll f.wheel next.wheel now.until words more → Counts f next more
     → Sends made has sink after old new more
-    → (bytes : List ℕ) × Appends old new bytes × Stands flight made has next after choice header (intervals ++ x ∷ []) (written ++ bytes)
-flown flight made has f next sink after choice header intervals written x own more old new s takes grows law same gives counts sends =
-    let reader = grows intervals s.events s.reader in
-    let given = gives (words_heard s.events) (sum intervals) s.given s.wheel.0 (later f.reader next.reader intervals s.events x s.reader takes) in
-    let limit_is : next.wheel.limit ≡ (flight choice).limit = same ∙ s.limit_is in
-    let are_events = events_now header.system (flight choice).profile f.reader next.reader intervals s.events x own s.system s.keeps s.reader takes grows law in
-    let wheel = subst (λ (ws : List HeardWord). flies.HasGivenAll next.wheel ws (sum (intervals ++ x ∷ [])) (s.given ++ more)) (sym (words_now s.events own))
-    (subst (λ (t : ℕ). flies.HasGivenAll next.wheel (words_heard s.events ++ words_heard (event_list own)) t (s.given ++ more)) reader.sum_is given) in
-    let sent = sends choice header s.given s.sent in (
+    → (bytes : List ℕ) × Appends old new bytes
+    × Stands witness flight made has now next after choice header (intervals ++ x ∷ []) (written ++ bytes)
+flown witness flight made has h now f next sink after choice header intervals written x own words more old new s takes
+    grows law is before same gives counts sends =
+    let given = gives (words_heard s.events) h.until s.given s.wheel.0 before in
+    let all = ap (λ (ws : List HeardWord). words_heard s.events ++ ws) is ∙ sym (words_now s.events own) in
+    let sent = sends choice header s.given s.sent in
+    let count = s.count in
+    let ticks = s.ticks in
+    let one = takes.count in
+    let tick = takes.tick in (
       sent.1.0,
       sent.1.2,
       record {
-        system = takes.system ∙ s.system;
-        keeps = takes.profile ∙ s.keeps;
-        limit_is = limit_is;
-        events = s.events ++ event_list own;
-        reader = reader;
-        are_events = are_events;
+        system = takes.system_is ∙ s.system;
+        keeps = takes.profile_is ∙ s.keeps;
+        count = omega (arith, count, one, length-append intervals (x ∷ []));
+        ticks = omega (arith, ticks, tick, sum_of_one intervals x);
+        limit_is = same ∙ s.limit_is;
+        events = s.events ++ own;
+        reader = grows intervals s.events s.reader;
+        are_events = events_now witness header.system (flight choice).profile h now intervals s.events x own s.system
+            s.keeps s.reader takes grows law;
         given = s.given ++ more;
-        wheel = wheel;
+        wheel = subst (λ (ws : List HeardWord). flies.HasGivenAll next.wheel ws now.until (s.given ++ more)) all given;
         sent = sent.0;
         are = ap (λ (l : List ℕ). l ++ sent.1.0) s.are ∙ sym sent.1.1;
         heard = counts.heard ∙ ap (λ (n : ℕ). n + count_by is_heard more) s.heard
@@ -100,52 +108,145 @@ flown flight made has f next sink after choice header intervals written x own mo
       },
     )
 
+-- the frames of some words more come first
+all_frames : (limit : ℕ) (wheel : Wheel) (events own : List Event) (words : List HeardWord) (until : ℕ)
+    (given more rest : List Frame) → wheel.limit ≡ limit → words ≡ words_heard own
+    → frames wheel.limit (words_heard events ++ words) until ≡ (given ++ more) ++ rest
+    → frames_until limit (events ++ own) until ≡ given ++ (more ++ rest)
+all_frames limit wheel events own words until given more rest same is comes =
+    ap (λ (n : ℕ). frames n (words_heard (events ++ own)) until) (sym same)
+    ∙ ap (λ (ws : List HeardWord). frames wheel.limit ws until)
+    (words_now events own ∙ ap (λ (ws : List HeardWord). words_heard events ++ ws) (sym is))
+    ∙ comes ∙ append_assoc given more rest
+
 -- the part that is due with one interval more, of which a front was sent
-pub flown_part : {S C : Type 0} (flight : C → Flight) (made : C → FrameText) (has : Given S C) (f : FrameReader) (next : ReaderState) (sink : S) (choice : C)
-    (header : IntervalHeader) (intervals written : List ℕ) (x : ℕ) (own : Events) (more : List Frame) (old new : Option (List ℕ))
-    → Stands flight made has f sink choice header intervals written → Takes f.reader x next → Reads f.reader next x own → TheEvents
-    → GivesFirst f.wheel next.tick (words_heard (event_list own)) more → SendsFront made has sink old new more
-    → (part : List ℕ) × IsFlightPart (flight choice) (made choice) header (intervals ++ x ∷ []) (written ++ part) × AppendsFront old new part
-flown_part flight made has f next sink choice header intervals written x own more old new s takes grows law gives sends =
-    let reader = grows intervals s.events s.reader in
-    let comes = gives (words_heard s.events) (sum intervals) s.given s.wheel.0 (later f.reader next intervals s.events x s.reader takes) in
+pub flown_part : {S C : Type 0} (witness : Witness) (flight : C → Flight) (made : C → FrameText) (has : Given S C)
+    (h now : Hearer) (f : Frames) (sink : S) (choice : C) (header : IntervalHeader)
+    (intervals written : List ℕ) (x : ℕ) (own : List Event) (words : List HeardWord) (more : List Frame)
+    (old new : Option (List ℕ))
+    → Stands witness flight made has h f sink choice header intervals written → HearsOn h x now
+    → Reads h now x own → TheHeard witness now → words ≡ words_heard own → h.until ≤ due_at words now.until
+    → GivesFirst f.wheel now.until words more → SendsFront made has sink old new more
+    → (part : List ℕ)
+    × IsFlightPart witness (flight choice) (made choice) header (intervals ++ x ∷ []) (written ++ part)
+    × AppendsFront old new part
+flown_part witness flight made has h now f sink choice header intervals written x own words more old new s takes grows
+    law is before gives sends =
+    let comes = gives (words_heard s.events) h.until s.given s.wheel.0 before in
     let sent = sends choice header s.given comes.0 s.sent in
     let text = (made choice).text header in
-    let all : frames_of (flight choice).limit (intervals ++ x ∷ []) (s.events ++ event_list own) ≡ s.given ++ (more ++ comes.0) =
-    ap (λ (n : ℕ). frames n (words_heard (s.events ++ event_list own)) (sum (intervals ++ x ∷ []))) (sym s.limit_is)
-    ∙ ap (λ (ws : List HeardWord). frames f.wheel.limit ws (sum (intervals ++ x ∷ []))) (words_now s.events own)
-    ∙ ap (λ (t : ℕ). frames f.wheel.limit (words_heard s.events ++ words_heard (event_list own)) t) (sym reader.sum_is) ∙ comes.1
-    ∙ append_assoc s.given more comes.0 in (
+    let all = all_frames (flight choice).limit f.wheel s.events own words now.until s.given more comes.0 s.limit_is is
+    comes.1 in (
       sent.0,
       record {
-        events = s.events ++ event_list own;
-        are_events = events_now header.system (flight choice).profile f.reader next intervals s.events x own s.system s.keeps s.reader takes grows law;
+        events = s.events ++ own;
+        until = now.until;
+        are_events = events_now witness header.system (flight choice).profile h now intervals s.events x own s.system
+            s.keeps s.reader takes grows law;
         are = ap (λ (l : List ℕ). l ++ sent.0) s.are ∙ sym sent.1 ∙ ap text (sym all);
       },
       sent.2,
     )
 
--- what was counted
-pub counted_all : {S C : Type 0} (flight : C → Flight) (made : C → FrameText) (has : Given S C) (f : FrameReader) (sink : S) (choice : C) (header : IntervalHeader)
-    (intervals written : List ℕ) (s : Stands flight made has f sink choice header intervals written) → CountsAll f intervals s.given
-counted_all flight made has f sink choice header intervals written s = record {
-  intervals_are = s.reader.count;
-  ticks = s.reader.sum_is;
-  heard = s.heard;
-  invented = s.invented;
-  gone = s.gone;
-}
+-- ---- the end
 
--- what stands last of the frames given stands last of all
-pub ends_with : {S C : Type 0} (flight : C → Flight) (made : C → FrameText) (has : Given S C) (f : FrameReader) (sink : S) (choice : C) (header : IntervalHeader)
-    (intervals written : List ℕ) (s : Stands flight made has f sink choice header intervals written)
-    → IsFlightWhole (flight choice) (made choice) header intervals (written ++ (made choice).last header intervals s.given)
-ends_with flight made has f sink choice header intervals written s =
-    let all : s.given ≡ frames_of (flight choice).limit intervals s.events =
-    sym (ap (λ (n : ℕ). frames n (words_heard s.events) (sum intervals)) (sym s.limit_is) ∙ s.wheel.1) in
+-- the events that are told at the end
+abbrev pub Ends : Witness → Hearer → List Event → Type 0
+Ends witness h own = (intervals : List ℕ) (events : List Event) → h.stands intervals events
+    → AreHeard witness h.system h.profile intervals (events ++ own)
+
+heard_all : {S C : Type 0} (witness : Witness) (flight : C → Flight) (made : C → FrameText) (has : Given S C)
+    (h : Hearer) (f : Frames) (sink : S) (choice : C) (header : IntervalHeader) (intervals written : List ℕ)
+    (own : List Event) → (s : Stands witness flight made has h f sink choice header intervals written)
+    → Ends witness h own → AreHeard witness header.system (flight choice).profile intervals (s.events ++ own)
+heard_all witness flight made has h f sink choice header intervals written own s ends =
+    let all = s.events ++ own in
+    subst (λ (p : Profile). AreHeard witness header.system p intervals all) s.keeps
+    (subst (λ (y : System). AreHeard witness y h.profile intervals all) s.system (ends intervals s.events s.reader))
+
+-- what was counted and sent by then
+pub record EndsWell {S C : Type 0} (witness : Witness) (flight : C → Flight) (made : C → FrameText)
+    (has : Given S C) (h : Hearer) (f next : Frames) (after : S) (choice : C) (header : IntervalHeader)
+    (intervals written : List ℕ) (old new : Option (List ℕ)) : Type 0 where
+  pub frames_given : List Frame
+  pub has_all : has after choice header frames_given
+  pub counts : CountsAll next h.count h.tick intervals frames_given
+  pub bytes : List ℕ
+  pub sent : Appends old new bytes
+  pub whole : IsFlightWhole witness (flight choice) (made choice) header intervals
+      (written ++ (bytes ++ (made choice).last header intervals frames_given))
+
+pub flown_end : {S C : Type 0} (witness : Witness) (flight : C → Flight) (made : C → FrameText) (has : Given S C)
+    (h : Hearer) (f next : Frames) (sink after : S) (choice : C) (header : IntervalHeader)
+    (intervals written : List ℕ) (own : List Event) (words : List HeardWord) (more : List Frame)
+    (old new : Option (List ℕ))
+    → Stands witness flight made has h f sink choice header intervals written → Ends witness h own
+    → words ≡ words_heard own → h.until ≤ due_at words h.tick
+    → next.wheel.limit ≡ f.wheel.limit → GivesAll f.wheel next.wheel h.tick words more → Counts f next more
+    → Sends made has sink after old new more
+    → EndsWell witness flight made has h f next after choice header intervals written old new
+flown_end witness flight made has h f next sink after choice header intervals written own words more old new s ends is
+    before same gives counts sends =
+    let given = gives (words_heard s.events) h.until s.given s.wheel.0 before in
+    let sent = sends choice header s.given s.sent in
+    let text = (made choice).text header in
+    let last = (made choice).last header intervals in
+    let limit = (flight choice).limit in
+    let all : s.given ++ more ≡ frames_of limit intervals (s.events ++ own) =
+    sym given.1 ∙ ap (λ (n : ℕ). frames n (words_heard s.events ++ words) h.tick) (same ∙ s.limit_is)
+    ∙ ap (λ (ws : List HeardWord). frames limit ws h.tick)
+    (ap (λ (ws : List HeardWord). words_heard s.events ++ ws) is ∙ sym (words_now s.events own))
+    ∙ ap (λ (t : ℕ). frames limit (words_heard (s.events ++ own)) t) s.ticks in
     record {
-      events = s.events;
-      are_events = s.are_events;
-      are = ap (λ (l : List ℕ). l ++ (made choice).last header intervals s.given) s.are
-          ∙ ap (λ (fs : List Frame). (made choice).text header fs ++ (made choice).last header intervals fs) all;
+      frames_given = s.given ++ more;
+      has_all = sent.0;
+      counts = record {
+        intervals_are = s.count;
+        ticks_are = s.ticks;
+        heard = counts.heard ∙ ap (λ (n : ℕ). n + count_by is_heard more) s.heard
+            ∙ sym (count_by-append is_heard s.given more);
+        invented = counts.invented ∙ ap (λ (n : ℕ). n + count_by is_invented more) s.invented
+            ∙ sym (count_by-append is_invented s.given more);
+        gone = counts.gone ∙ ap (λ (n : ℕ). n + count_by is_gone more) s.gone ∙ sym (count_by-append is_gone s.given more);
+      };
+      bytes = sent.1.0;
+      sent = sent.1.2;
+      whole = record {
+        events = s.events ++ own;
+        are_events = heard_all witness flight made has h f sink choice header intervals written own s ends;
+        are = sym (append_assoc written sent.1.0 (last (s.given ++ more)))
+            ∙ ap (λ (l : List ℕ). l ++ last (s.given ++ more)) (ap (λ (l : List ℕ). l ++ sent.1.0) s.are ∙ sym sent.1.1)
+            ∙ ap (λ (fs : List Frame). text fs ++ last fs) all;
+      };
     }
+
+-- a front of what is sent at the end
+pub flown_end_part : {S C : Type 0} (witness : Witness) (flight : C → Flight) (made : C → FrameText) (has : Given S C)
+    (h : Hearer) (f : Frames) (sink : S) (choice : C) (header : IntervalHeader)
+    (intervals written : List ℕ) (own : List Event) (words : List HeardWord) (more : List Frame)
+    (old new : Option (List ℕ))
+    → Stands witness flight made has h f sink choice header intervals written → Ends witness h own
+    → words ≡ words_heard own → h.until ≤ due_at words h.tick → GivesFirst f.wheel h.tick words more
+    → SendsFront made has sink old new more
+    → (first last : List ℕ) × IsFlightWhole witness (flight choice) (made choice) header intervals (written ++ (first ++ last))
+    × AppendsFront old new first
+flown_end_part witness flight made has h f sink choice header intervals written own words more old new s ends is before
+    gives sends =
+    let comes = gives (words_heard s.events) h.until s.given s.wheel.0 before in
+    let sent = sends choice header s.given comes.0 s.sent in
+    let text = (made choice).text header in
+    let limit = (flight choice).limit in
+    let all = all_frames limit f.wheel s.events own words h.tick s.given more comes.0 s.limit_is is comes.1 in
+    let whole : frames_of limit intervals (s.events ++ own) ≡ s.given ++ (more ++ comes.0) =
+    ap (λ (t : ℕ). frames limit (words_heard (s.events ++ own)) t) (sym s.ticks) ∙ all in
+    let last = (made choice).last header intervals (frames_of limit intervals (s.events ++ own)) in (
+      sent.0,
+      last,
+      record {
+        events = s.events ++ own;
+        are_events = heard_all witness flight made has h f sink choice header intervals written own s ends;
+        are = sym (append_assoc written sent.0 last)
+            ∙ ap (λ (l : List ℕ). l ++ last) (ap (λ (l : List ℕ). l ++ sent.0) s.are ∙ sym sent.1 ∙ ap text (sym whole));
+      },
+      sent.2,
+    )

@@ -12,7 +12,6 @@ use Rattle.chase_core.specs.Trace.{Traced, lock_bound}
 use Rattle.code_chase.specs.CodeTrace.{code_trace}
 use Rattle.code_chase.specs.Lock.{AreWhole, BringsNoCode, HasCauseOfLoss, HasLabel, HaveLabels}
 use Rattle.direction_reader.specs.declared.event.Event.{Event}
-use Rattle.direction_reader.specs.ListEvents.{AreEvents}
 use Rattle.flywheel.specs.declared.frame.Frame.{Frame}
 use Rattle.flywheel.specs.declared.frame.Frame.TheVariants.{Heard, Invented, Gone}
 use Rattle.flywheel.specs.declared.heard.HeardWord.{HeardWord}
@@ -24,17 +23,22 @@ use Rattle.tc_address.specs.Label.{Address, IsLabel}
 use Rattle.interval_file.specs.declared.header.IntervalHeader.{IntervalHeader}
 use Rattle.interval_file.specs.Recording.{Recording, recording_of}
 use Rattle.tc_job.specs.ChaseRun.{Chasing, IsChasing}
+use Rattle.tc_job.specs.declared.witness.Witness.{Witness}
+use Rattle.frame_commands.specs.Heard.{AreHeard}
 use Rattle.frame_commands.specs.declared.ltc_chase.TheConstants.{MAX_FRAMES}
 use Rattle.interval_engine.specs.KeptBehind.{IsSpentBehind, IsWholeBehind}
 use Rattle.frame_commands.specs.LtcChase.{ChasesTheInput, FollowsTheCode, LosesWithCause, chased_recording}
-use Rattle.frame_commands.specs.OfFrames.{frames_of, words_heard}
+use Rattle.frame_commands.specs.OfFrames.{frames_of, frames_until, words_heard}
 use Rattle.frame_commands.proofs.CleanCopy.{words_are}
+use Rattle.frame_commands.proofs.MarkedLines.{FramesLaws}
 
 -- what the laws of the crates below say
 pub record ChaseLaws : Type 1 where
-  pub events : (system : System) (profile : Profile) (list : List ℕ) (es : List Event) → AreEvents system profile list es → AreEventsOf system es
+  pub events : (witness : Witness) (system : System) (profile : Profile) (list : List ℕ) (es : List Event)
+      → AreHeard witness system profile list es → AreEventsOf system es
   pub labels : (system : System) (limit : ℕ) (words : List HeardWord) (last : ℕ) → AreHeardOf system words → AreFramesOf system (frames limit words last)
   pub go_on : (limit last : ℕ) (words : List HeardWord) → GoOn None (frames limit words last)
+  pub heard : FramesLaws
   pub cause : (label : Address) (seed bound : ℕ) (fs : List Frame) (j : ℕ) (line : Traced) (loss : Loss) → IsLabel label → HaveLabels fs → GoOn None fs
       → slice_get (code_trace label seed bound fs) j ≡ Some line → line.report.loss ≡ Some loss → HasCauseOfLoss label seed bound fs j loss
   pub no_code : (label : Address) (seed bound : ℕ) (fs : List Frame) (i : ℕ) (leaves line : Traced) (frame : Frame)
@@ -94,7 +98,7 @@ behind laws c is input None written e whole = absurd whole
 behind laws c is input (Some header) written e whole =
     let fs = frames_of c.flight.limit input.intervals whole.events in
     let first = take MAX_FRAMES fs in
-    let heard = words_are header.system whole.events (laws.events header.system c.flight.profile input.intervals whole.events whole.are_events) in
+    let heard = words_are header.system whole.events (laws.events c.flight.witness header.system c.flight.profile input.intervals whole.events whole.are_events) in
     let labels = laws.labels header.system c.flight.limit (words_heard whole.events) (sum input.intervals) heard in
     let on = laws.go_on c.flight.limit (sum input.intervals) (words_heard whole.events) in
     record {
@@ -102,9 +106,14 @@ behind laws c is input (Some header) written e whole =
       begins = e;
       events = whole.events;
       are_events = whole.are_events;
-      all = λ unspent. elim (cases_lt MAX_FRAMES (length fs)) [
-        | inl many ↦ absurd (unspent (subst (λ (h : Option IntervalHeader). IsSpentBehind (chased_recording c) h input.intervals) (sym e)
-            (record { events = whole.events; are_events = whole.are_events; too_many = many })))
+      heard = laws.heard.heard c.flight.limit (sum input.intervals) (words_heard whole.events);
+      marked = laws.heard.marked c.flight.limit (sum input.intervals) (words_heard whole.events);
+      tape = laws.heard.tape c.flight.witness header.system c.flight.profile input.intervals whole.events
+          whole.are_events;
+      all = λ unspent yet until are. elim (cases_lt MAX_FRAMES (length (frames_until c.flight.limit yet until))) [
+        | inl many ↦ absurd (unspent (subst (λ (h : Option IntervalHeader).
+            IsSpentBehind (chased_recording c) h input.intervals) (sym e)
+            (record { events = yet; until = until; are_events = are; too_many = many })))
         | inr few ↦ few
       ];
       text = whole.are;

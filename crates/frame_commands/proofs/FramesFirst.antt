@@ -9,13 +9,11 @@ use Rattle.std.proofs.lemmas.List.{take-append-le, take_all}
 use Rattle.std.proofs.lemmas.List.Elements.{All-append, All-cons, All-head, All-nil, All-tail}
 use Rattle.std.proofs.lemmas.List.Sums.{sum_by-append}
 use Rattle.lemmas.specs.Lists.{first_items}
-use Rattle.biphase.specs.declared.profile.Profile.{Profile}
 use Rattle.chase_core.specs.Trace.{Traced}
 use Rattle.chase_script.specs.TraceText.{step_line, step_lines}
 use Rattle.direction_reader.specs.declared.event.Event.{Event}
 use Rattle.direction_reader.specs.declared.event.Event.TheVariants.{Word, Refused, Lost}
 use Rattle.direction_reader.specs.Events.{tick_of}
-use Rattle.direction_reader.specs.ListEvents.{AreEvents}
 use Rattle.flywheel.specs.declared.frame.Frame.{Frame}
 use Rattle.flywheel.specs.declared.heard.HeardWord.{HeardWord}
 use Rattle.flywheel.specs.Frames.{frames}
@@ -33,17 +31,16 @@ use Rattle.frame_commands.specs.LtcSpans.{lines_of_spans}
 use Rattle.frame_commands.specs.LtcJam.{file_of_frames}
 use Rattle.frame_commands.specs.LtcMtc.{messages_of_frames}
 use Rattle.frame_commands.specs.KeptFrames.{AddsInOrder, IsAddedTo}
-use Rattle.frame_commands.specs.OfFrames.{frames_of, heard_in, words_heard}
+use Rattle.tc_job.specs.declared.witness.Witness.{Witness}
+use Rattle.frame_commands.specs.KeptHeard.{GoOnBehind, HeardInOrder}
+use Rattle.frame_commands.specs.OfFrames.{frames_until, heard_in, words_heard}
 use Rattle.frame_commands.specs.declared.ltc_chase.TheConstants.{MAX_FRAMES}
 use Rattle.frame_commands.proofs.FramesAnew.{FrameByFrame, bytes_of_frames, file_grows}
 use Rattle.frame_commands.proofs.StepsGrow.{TraceLaws}
 
 -- what the laws of events and frames say
 pub record FrameLaws : Type 0 where
-  pub events : (system : System) (profile : Profile) (front more : List ℕ) (events all : List Event) → AreEvents system profile front events
-      → AreEvents system profile (front ++ more) all → (rest : List Event) × (all ≡ events ++ rest)
-  pub later : (system : System) (profile : Profile) (front more : List ℕ) (events rest : List Event) → AreEvents system profile front events
-      → AreEvents system profile (front ++ more) (events ++ rest) → All (λ event. sum front ≤ tick_of event) rest
+  pub heard : (witness : Witness) → HeardInOrder witness
   pub frames : (limit tick last : ℕ) (words more : List HeardWord) → tick ≤ last → All (λ word. tick ≤ word.tick) more
       → (rest : List Frame) × (frames limit (words ++ more) last ≡ frames limit words tick ++ rest)
 
@@ -58,24 +55,22 @@ later_word tick (Word d w t l) later = All-cons (HeardFrom tick) _ [] later (All
 later_word tick (Refused d f t) later = All-nil (HeardFrom tick)
 later_word tick (Lost i t) later = All-nil (HeardFrom tick)
 
-later_words : (tick : ℕ) (events : List Event) → All (λ event. tick ≤ tick_of event) events → All (HeardFrom tick) (words_heard events)
+later_words : (tick : ℕ) (events : List Event) → All (λ event. tick ≤ tick_of event) events
+    → All (HeardFrom tick) (words_heard events)
 later_words tick [] later = All-nil (HeardFrom tick)
 later_words tick (event ∷ events) later =
     All-append (HeardFrom tick) (heard_in event) (words_heard events)
     (later_word tick event (All-head (λ event. tick ≤ tick_of event) event events later))
     (later_words tick events (All-tail (λ event. tick ≤ tick_of event) event events later))
 
-pub frames_first : FrameLaws → (limit : ℕ) (system : System) (profile : Profile) (front more : List ℕ) (es all : List Event)
-    → AreEvents system profile front es
-    → AreEvents system profile (front ++ more) all → (rest : List Frame) × (frames_of limit (front ++ more) all ≡ frames_of limit front es ++ rest)
-frames_first laws limit system profile front more es all are too =
-    let first = laws.events system profile front more es all are too in
-    let later = laws.later system profile front more es first.0 are (subst (λ l. AreEvents system profile (front ++ more) l) first.1 too) in
-    let words : words_heard all ≡ words_heard es ++ words_heard first.0 = ap words_heard first.1 ∙ flat_map-append heard_in es first.0 in
-    let total = sum_by-append (λ n. n) front more in
-    let given = laws.frames limit (sum front) (sum (front ++ more)) (words_heard es) (words_heard first.0) (omega (arith, total))
-    (later_words (sum front) first.0 later) in
-    (given.0, ap (λ ws. frames limit ws (sum (front ++ more))) words ∙ given.1)
+pub frames_first : FrameLaws → (limit : ℕ) (events all : List Event) (until now : ℕ) → GoOnBehind events until all now
+    → (rest : List Frame) × (frames_until limit all now ≡ frames_until limit events until ++ rest)
+frames_first laws limit events all until now goes =
+    let words : words_heard all ≡ words_heard events ++ words_heard goes.rest =
+    ap words_heard goes.are ∙ flat_map-append heard_in events goes.rest in
+    let given = laws.frames limit until now (words_heard events) (words_heard goes.rest) goes.before
+    (later_words until goes.rest goes.later) in
+    (given.0, ap (λ ws. frames limit ws now) words ∙ given.1)
 
 -- ---- each sink of frames
 

@@ -10,7 +10,7 @@ use Rattle.flywheel.specs.declared.frame.Frame.TheVariants.{Heard, Invented, Gon
 use Rattle.flywheel.specs.Kinds.{is_gone, is_heard, is_invented}
 use Rattle.flywheel.specs.Wheel.{IsPast}
 use Rattle.interval_file.specs.declared.header.IntervalHeader.{IntervalHeader}
-use Rattle.frame_commands.specs.declared.flight.FrameReader.{FrameReader}
+use Rattle.frame_commands.specs.declared.frames.Frames.{Frames}
 use Rattle.frame_commands.specs.KeptFlight.{counted, frames_counted, Counts, Sends, SendsFront}
 use Rattle.frame_commands.specs.OfFrames.{FrameText}
 use Rattle.tc_command.specs.PushLemmas.{front_of_piece}
@@ -21,7 +21,7 @@ one_of : (kind : Frame → Bool) (frame : Frame) → count_by kind (frame ∷ []
 one_of kind frame = omega (arith, sum_by-cons (λ (f : Frame). cond (kind f) 1 0) frame [])
 
 -- a frame that is counted
-pub one_counted : (before mid after : FrameReader) (frame : Frame) → mid.heard ≡ before.heard
+pub one_counted : (before mid after : Frames) (frame : Frame) → mid.heard ≡ before.heard
     → mid.invented ≡ before.invented → mid.gone ≡ before.gone → after ≡ counted frame mid
     → Counts before after (frame ∷ [])
 one_counted before mid after (Heard l d j t) h i g e =
@@ -43,11 +43,11 @@ one_counted before mid after (Gone t) h i g e =
       gone = omega (arith, g, one_of is_gone (Gone t));
     })
 
-pub none_counted : (f : FrameReader) → Counts f f []
+pub none_counted : (f : Frames) → Counts f f []
 none_counted f = record { heard = omega arith; invented = omega arith; gone = omega arith }
 
 -- one frame is counted once
-pub one_more : (before after : FrameReader) (frame : Frame) → Counts before after (frame ∷ [])
+pub one_more : (before after : Frames) (frame : Frame) → Counts before after (frame ∷ [])
     → frames_counted after ≡ frames_counted before + 1
 one_more before after (Heard l d j t) c = omega (
   arith,
@@ -78,7 +78,7 @@ one_more before after (Gone t) c = omega (
 )
 
 -- some frames and then more
-pub both_counted : (a b c : FrameReader) (fs more : List Frame)
+pub both_counted : (a b c : Frames) (fs more : List Frame)
     → Counts a b fs → Counts b c more → Counts a c (fs ++ more)
 both_counted a b c fs more first second = record {
   heard = omega (arith, first.heard, second.heard, count_by-append is_heard fs more);
@@ -141,7 +141,7 @@ sends_then_front made given a b one two three fs more first second = λ choice h
 -- ---- frames that are due
 
 -- a frame that is given where one is due is none that was heard
-pub not_heard : (frame : Frame) (tick : ℕ) (f : FrameReader) → IsPast frame tick
+pub not_heard : (frame : Frame) (tick : ℕ) (f : Frames) → IsPast frame tick
     → ((counted frame f).heard ≡ f.heard)
     × ((counted frame f).invented + (counted frame f).gone ≡ f.invented + f.gone + 1)
 not_heard (Heard l d j t) tick f past = absurd past

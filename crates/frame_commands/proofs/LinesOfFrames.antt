@@ -3,7 +3,7 @@ use Rattle.std.proofs.Common.{◌≡◌, ℕ, List, [], ◌∷◌, ◌++◌, sym
 use Rattle.std.proofs.lemmas.Grind.{flat_map-append}
 use Rattle.flywheel.specs.declared.frame.Frame.{Frame}
 use Rattle.report_text.specs.FrameTexts.{frame_line, fly_end_line}
-use Rattle.frame_commands.specs.declared.flight.FrameReader.{FrameReader}
+use Rattle.frame_commands.specs.declared.frames.Frames.{Frames}
 use Rattle.frame_commands.specs.KeptFlight.{CountsAll}
 use Rattle.frame_commands.specs.LtcFly.{frame_lines, last_fly_line}
 
@@ -25,7 +25,8 @@ same_line i h v g t i' h' v' g' t' same_i same_h same_v same_g same_t =
     ap (λ (n : ℕ). fly_end_line n h v g t) same_i ∙ ap (λ (n : ℕ). fly_end_line i' n v g t) same_h ∙ ap (λ (n : ℕ). fly_end_line i' h' n g t) same_v
     ∙ ap (λ (n : ℕ). fly_end_line i' h' v' n t) same_g ∙ ap (λ (n : ℕ). fly_end_line i' h' v' g' n) same_t
 
-pub last_line_is : (f : FrameReader) (intervals : List ℕ) (fs : List Frame) (line : List ℕ) → CountsAll f intervals fs
-    → line ≡ fly_end_line f.reader.intervals f.heard f.invented f.gone f.reader.tick → line ≡ last_fly_line intervals fs
-last_line_is f intervals fs line counts is =
-    is ∙ same_line _ _ _ _ _ _ _ _ _ _ counts.intervals_are counts.heard counts.invented counts.gone counts.ticks
+pub last_line_is : (f : Frames) (count ticks : ℕ) (intervals : List ℕ) (fs : List Frame) (line : List ℕ)
+    → CountsAll f count ticks intervals fs → line ≡ fly_end_line count f.heard f.invented f.gone ticks
+    → line ≡ last_fly_line intervals fs
+last_line_is f count ticks intervals fs line counts is =
+    is ∙ same_line _ _ _ _ _ _ _ _ _ _ counts.intervals_are counts.heard counts.invented counts.gone counts.ticks_are

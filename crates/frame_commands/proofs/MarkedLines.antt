@@ -11,11 +11,13 @@ use Rattle.interval_engine.specs.Along.{IsWholeOf}
 use Rattle.interval_engine.specs.KeptBehind.{IsWholeBehind}
 use Rattle.frame_commands.specs.LtcFly.{flown_recording, ShowsTheFrames}
 use Rattle.frame_commands.specs.OfFrames.{frames_of, words_heard}
+use Rattle.frame_commands.proofs.TapeIsHeard.{HearTheTape}
 
 -- the frames of words are marked, and the words stand in them
 pub record FramesLaws : Type 0 where
   pub marked : (limit last : ℕ) (words : List HeardWord) → AreMarked limit None (frames limit words last)
   pub heard : (limit last : ℕ) (words : List HeardWord) → words_in (frames limit words last) ≡ map word_of words
+  pub tape : HearTheTape
 
 behind : FramesLaws → (flight : Flight) (bytes written : List ℕ) (header : Option IntervalHeader) → (recording_of bytes).header ≡ header
     → IsWholeBehind (flown_recording flight) header (recording_of bytes).intervals written → ShowsTheFrames flight bytes written
@@ -32,6 +34,7 @@ behind laws flight bytes written (Some header) begins is =
       are = is.are;
       heard = laws.heard flight.limit (sum intervals) (words_heard is.events);
       marked = laws.marked flight.limit (sum intervals) (words_heard is.events);
+      tape = laws.tape flight.witness header.system flight.profile intervals is.events is.are_events;
     }
 
 pub shows_the_frames : FramesLaws → (flight : Flight) (bytes written : List ℕ) → IsWholeOf (flown_recording flight) (recording_of bytes) written

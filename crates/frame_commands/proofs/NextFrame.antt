@@ -1,66 +1,53 @@
 -- The next frame of an interval is the first of those that are still to come, since the words that wait come later.
-use Rattle.std.proofs.Common.{◌≡◌, ℕ, ◌^◌, ◌<◌, ◌≤◌, List, [], ◌∷◌, ◌++◌, length, length-append, ◌∙◌, ap, arith}
-use Rattle.std.proofs.Common.{append_assoc}
-use Rattle.std.specs.Prelude.{IfSome, Some, None, All}
-use Rattle.std.specs.declared.option.Option.{Option}
-use Rattle.std.proofs.lemmas.Grind.{flat_map-append}
-use Rattle.std.proofs.lemmas.List.Elements.{All-nil, All-cons, All-append, All-head, All-tail}
-use Rattle.direction_reader.specs.declared.event.Event.{Event}
-use Rattle.direction_reader.specs.declared.event.Event.TheVariants as events
-use Rattle.direction_reader.specs.declared.event.Events.{Events}
-use Rattle.direction_reader.specs.Brings.{Brings, IsLatest}
-use Rattle.direction_reader.specs.Events.{event_list, listed}
+use Rattle.std.proofs.Common.{◌≡◌, ℕ, ◌^◌, ◌<◌, ◌≤◌, List, [], ◌∷◌, ◌++◌, ◌∙◌, ap, arith, refl, sym}
+use Rattle.std.proofs.Common.{append_assoc, ◌+◌, Bool, true, false, inl, inr}
+use Rattle.std.proofs.lemmas.Bool.{cases_lt}
+use Rattle.std.specs.Prelude.{All, IfSome, None, Option, Some}
+use Rattle.std.proofs.lemmas.List.Elements.{All-nil, All-cons}
+use Rattle.direction_reader.specs.Firm.{DoNotFall}
 use Rattle.flywheel.specs.declared.frame.Frame.{Frame}
 use Rattle.flywheel.specs.declared.frame.Frame.TheVariants.{Heard, Invented, Gone}
 use Rattle.flywheel.specs.declared.heard.HeardWord.{HeardWord}
-use Rattle.flywheel.specs.Frames.{frames}
+use Rattle.flywheel.specs.Frames.{frames, invented_after, is_due, tick_after}
 use Rattle.flywheel.specs.StandsFor as flies
-use Rattle.flywheel.specs.Wheel.{Wheel, IsPast}
+use Rattle.flywheel.specs.Wheel.{Wheel, IsPast, is_next_due, running, still}
 use Rattle.report_text.specs.FrameTexts.{FitsFrameLine}
-use Rattle.frame_commands.specs.declared.flight.FrameReader.{FrameReader}
-use Rattle.frame_commands.specs.KeptFlight.{Comes, HasGiven, IsHeardAt}
-use Rattle.frame_commands.specs.OfFrames.{heard_in, words_heard}
+use Rattle.frame_commands.specs.declared.frames.Frames.{Frames}
+use Rattle.frame_commands.specs.Hearing.{due_at, word_ticks}
+use Rattle.frame_commands.specs.KeptFlight.{Comes, HasGiven, HeardBy}
 
--- ---- the words of an interval
+-- ---- words in turn
 
--- an event brings one word at most, which was heard at its tick
-one_word : (event : Option Event) → length (words_heard (listed event)) ≤ 1
-one_word None = omega arith
-one_word (Some (events.Word d w t l)) = omega arith
-one_word (Some (events.Refused d f t)) = omega arith
-one_word (Some (events.Lost i t)) = omega arith
+pub turn_end : (ticks : List ℕ) (from until : ℕ) → DoNotFall from ticks until → from ≤ until
+turn_end [] from until turn = turn
+turn_end (t ∷ ticks) from until turn =
+    let first = turn.0 in let rest = turn_end ticks t until turn.1 in omega (arith, first, rest)
 
-word_at : (n tick : ℕ) (event : Option Event) → tick < 2 ^ 60 → IfSome event (IsLatest n tick)
-    → All (IsHeardAt tick) (words_heard (listed event))
-word_at n tick None below latest = All-nil (IsHeardAt tick)
-word_at n tick (Some (events.Word d w t l)) below latest =
-    let same = latest.0 in
-    let least = latest.1 in
-    let most = latest.2 in
-    All-cons (IsHeardAt tick) (record { label = w.fields.label; direction = d; tick = t; length = l }) []
-    (same, record { tick = omega (arith, same, below); least = omega (arith, least); most = omega (arith, most) })
-    (All-nil (IsHeardAt tick))
-word_at n tick (Some (events.Refused d f t)) below latest = All-nil (IsHeardAt tick)
-word_at n tick (Some (events.Lost i t)) below latest = All-nil (IsHeardAt tick)
+-- the next word is heard behind what was heard
+pub turn_due : (words : List HeardWord) (from until : ℕ) → DoNotFall from (word_ticks words) until
+    → from ≤ due_at words until
+turn_due [] from until turn = turn
+turn_due (word ∷ more) from until turn = turn.0
 
-words_of_both : (own : Events)
-    → words_heard (event_list own) ≡ words_heard (listed own.first) ++ words_heard (listed own.second)
-words_of_both own = flat_map-append heard_in (listed own.first) (listed own.second)
+-- and the others behind it
+pub due_turn : (words : List HeardWord) (from until : ℕ) → DoNotFall from (word_ticks words) until
+    → DoNotFall (due_at words until) (word_ticks words) until
+due_turn [] from until turn = omega arith
+due_turn (word ∷ more) from until turn = (omega arith, turn.1)
 
--- an interval brings two words at most
-pub two_words : (own : Events) → length (words_heard (event_list own)) ≤ 2
-two_words own =
-    let one = one_word own.first in
-    let two = one_word own.second in
-    rw (words_of_both own, length-append (words_heard (listed own.first)) (words_heard (listed own.second)))
-    (omega (arith, one, two))
+pub due_end : (words : List HeardWord) (from until : ℕ) → DoNotFall from (word_ticks words) until
+    → due_at words until ≤ until
+due_end [] from until turn = omega arith
+due_end (word ∷ more) from until turn = turn_end (word_ticks more) word.tick until turn.1
 
--- all of them were heard at its tick
-pub words_at : (n tick : ℕ) (own : Events) → tick < 2 ^ 60 → Brings n tick own
-    → All (IsHeardAt tick) (words_heard (event_list own))
-words_at n tick own below brings = rw (words_of_both own)
-    (All-append (IsHeardAt tick) (words_heard (listed own.first)) (words_heard (listed own.second))
-    (word_at n tick own.first below brings.first) (word_at n tick own.second below brings.second))
+by_reference : (o : Option HeardWord) (from tick : ℕ) → from ≤ tick
+    → IfSome o (λ (word : HeardWord). word.tick ≤ from) → IfSome o (λ (word : HeardWord). word.tick ≤ tick)
+by_reference None from tick late by = tt
+by_reference (Some word) from tick late by = omega (arith, late, by)
+
+-- one that was heard by a tick was heard by a later one
+pub heard_later : (wheel : Wheel) (from tick : ℕ) → from ≤ tick → HeardBy from wheel → HeardBy tick wheel
+heard_later wheel from tick late by = by_reference wheel.reference from tick late by
 
 -- ---- what comes first
 
@@ -71,24 +58,27 @@ pub record InOrder : Type 0 where
   pub later : (limit tick last : ℕ) (words more : List HeardWord) → tick ≤ last → All (λ word. tick ≤ word.tick) more
       → (rest : List Frame) × (frames limit (words ++ more) last ≡ frames limit words tick ++ rest)
 
-not_before : (tick earlier : ℕ) (words : List HeardWord) → earlier ≤ tick → All (IsHeardAt tick) words
-    → All (λ (word : HeardWord). earlier ≤ word.tick) words
-not_before tick earlier [] before at_tick = All-nil (λ (word : HeardWord). earlier ≤ word.tick)
-not_before tick earlier (word ∷ more) before at_tick =
-    let same = (All-head (IsHeardAt tick) word more at_tick).0 in
-    All-cons (λ (w : HeardWord). earlier ≤ w.tick) word more (omega (arith, same, before))
-    (not_before tick earlier more before (All-tail (IsHeardAt tick) word more at_tick))
+not_before : (at from until : ℕ) (words : List HeardWord) → at ≤ from → DoNotFall from (word_ticks words) until
+    → All (λ (word : HeardWord). at ≤ word.tick) words
+not_before at from until [] before turn = All-nil (λ (word : HeardWord). at ≤ word.tick)
+not_before at from until (word ∷ more) before turn =
+    let first = turn.0 in
+    let late : at ≤ word.tick = omega (arith, first, before) in
+    All-cons (λ (w : HeardWord). at ≤ w.tick) word more late (not_before at word.tick until more late turn.1)
 
 -- the frames that were given come first
-pub given_comes_first : InOrder → (f : FrameReader) (words : List HeardWord) (given : List Frame)
-    → All (IsHeardAt f.reader.tick) f.words → HasGiven f words given → Comes f.wheel.limit words f.reader.tick given
-given_comes_first order f words given waiting has =
+pub given_comes_first : InOrder → (f : Frames) (until from : ℕ) (words : List HeardWord) (given : List Frame)
+    → DoNotFall from (word_ticks f.words) until → HasGiven f until words given → Comes f.wheel.limit words until given
+given_comes_first order f until from words given turn has =
     let limit = f.wheel.limit in
+    let due = due_at f.words until in
+    let before = has.before in
+    let end = due_end f.words from until turn in
     let first = order.given f.wheel has.heard has.earlier given has.wheel in
-    let later = order.later limit has.earlier f.reader.tick has.heard f.words has.before
-    (not_before f.reader.tick has.earlier f.words has.before waiting) in (
+    let later = order.later limit has.earlier until has.heard f.words (omega (arith, before, end))
+    (not_before has.earlier due until f.words before (due_turn f.words from until turn)) in (
       first.0 ++ later.0,
-      ap (λ (ws : List HeardWord). frames limit ws f.reader.tick) has.are ∙ later.1
+      ap (λ (ws : List HeardWord). frames limit ws until) has.are ∙ later.1
           ∙ ap (λ (fs : List Frame). fs ++ later.0) first.1 ∙ append_assoc given first.0 later.0,
     )
 
@@ -100,3 +90,26 @@ due_fits (Invented l d s t) tick past below =
     let step = past.1 in
     (omega (arith, before, below), omega (arith, step))
 due_fits (Gone t) tick past below = omega (arith, past, below)
+
+-- where no frame was given, none was due
+by_due : (b : Bool) (word : HeardWord) (step limit : ℕ) (result : Option Frame) (new : Wheel)
+    → (b ≡ true → step ≤ limit → (result ≡ Some (invented_after word step)) × (new ≡ running limit word step))
+    → (b ≡ true → limit < step → (result ≡ Some (Gone (tick_after word step))) × (new ≡ still limit))
+    → result ≡ None → b ≡ false
+by_due true word step limit result new within gone none = elim (cases_lt limit step) [
+  | inl more ↦ (let some = (gone refl more).0 in
+      let both : None ≡ Some (Gone (tick_after word step)) = sym none ∙ some in absurd cc)
+  | inr few ↦ (let some = (within refl few).0 in
+      let both : None ≡ Some (invented_after word step) = sym none ∙ some in absurd cc)
+]
+by_due false word step limit result new within gone none = refl
+
+pub none_due : (o : Option HeardWord) (invented limit tick : ℕ) (result : Option Frame) (new : Wheel)
+    → IfSome o (λ (word : HeardWord). is_due word (invented + 1) tick ≡ true → invented + 1 ≤ limit
+    → (result ≡ Some (invented_after word (invented + 1))) × (new ≡ running limit word (invented + 1)))
+    → IfSome o (λ (word : HeardWord). is_due word (invented + 1) tick ≡ true → limit < invented + 1
+    → (result ≡ Some (Gone (tick_after word (invented + 1)))) × (new ≡ still limit))
+    → result ≡ None → is_next_due o invented tick ≡ false
+none_due None invented limit tick result new within gone none = refl
+none_due (Some word) invented limit tick result new within gone none =
+    by_due (is_due word (invented + 1) tick) word (invented + 1) limit result new within gone none

@@ -10,7 +10,7 @@ use Rattle.tape_spans.specs.StandsFor.{cut_lines}
 use Rattle.tape_spans.specs.Tape.{FitsTick, Tape}
 use Rattle.interval_file.specs.declared.header.IntervalHeader.{IntervalHeader}
 use Rattle.report_text.specs.FrameTexts.{FitsFrameLine}
-use Rattle.frame_commands.specs.declared.flight.FrameReader.{FrameReader}
+use Rattle.frame_commands.specs.declared.frames.Frames.{Frames}
 use Rattle.frame_commands.specs.KeptFlight.{CountsAll}
 use Rattle.frame_commands.specs.KeptSpans.{HasTold}
 use Rattle.frame_commands.specs.LtcSpans.{spans_counted}
@@ -57,7 +57,8 @@ open_is tape rate system header frames first told opened =
     sym opened ∙ ap₂ (λ (n : ℕ) (y : System). open_line n y frames) told.rate_is told.system_is
 
 -- the last line counts what was read
-pub counted_is : (f : FrameReader) (frames : List Frame) (intervals second : List ℕ) (count ticks : ℕ) → CountsAll f intervals frames
-    → second ≡ last_spans_line count (spans frames) ticks → count ≡ f.reader.intervals → ticks ≡ f.reader.tick → second ≡ spans_counted intervals frames
-counted_is f frames intervals second count ticks counts counted same same_ticks =
-    counted ∙ ap₂ (λ (n t : ℕ). last_spans_line n (spans frames) t) (same ∙ counts.intervals_are) (same_ticks ∙ counts.ticks)
+pub counted_is : (f : Frames) (frames : List Frame) (intervals second : List ℕ) (count ticks : ℕ)
+    → CountsAll f count ticks intervals frames → second ≡ last_spans_line count (spans frames) ticks
+    → second ≡ spans_counted intervals frames
+counted_is f frames intervals second count ticks counts counted =
+    counted ∙ ap₂ (λ (n t : ℕ). last_spans_line n (spans frames) t) counts.intervals_are counts.ticks_are

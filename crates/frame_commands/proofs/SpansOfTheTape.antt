@@ -18,6 +18,7 @@ use Rattle.interval_engine.specs.Along.{IsWholeOf}
 use Rattle.interval_engine.specs.KeptBehind.{IsWholeBehind}
 use Rattle.frame_commands.specs.LtcSpans.{ShowsTheSpans, spanned_recording, spans_counted}
 use Rattle.frame_commands.specs.OfFrames.{frames_of, words_heard}
+use Rattle.frame_commands.proofs.TapeIsHeard.{HearTheTape}
 
 -- what the laws of frames and of spans say
 pub record SpansLaws : Type 0 where
@@ -27,6 +28,7 @@ pub record SpansLaws : Type 0 where
   pub within : (fs : List Frame) → GoOn None fs → All HoldsTogether (frames_of_spans fs)
   pub last : (tick_rate : ℕ) (system : System) (fs : List Frame)
       → final_lines tick_rate system fs ++ open_line tick_rate system fs ≡ lines_behind tick_rate system None (spans fs)
+  pub tape : HearTheTape
 
 behind : SpansLaws → (flight : Flight) (bytes written : List ℕ) (header : Option IntervalHeader) → (recording_of bytes).header ≡ header
     → IsWholeBehind (spanned_recording flight) header (recording_of bytes).intervals written → ShowsTheSpans flight bytes written
@@ -49,6 +51,7 @@ behind laws flight bytes written (Some header) begins is =
       heard = laws.heard flight.limit (sum intervals) words;
       all = laws.all fs on;
       together = laws.within fs on;
+      tape = laws.tape flight.witness header.system flight.profile intervals is.events is.are_events;
     }
 
 pub shows_the_spans : SpansLaws → (flight : Flight) (bytes written : List ℕ) → IsWholeOf (spanned_recording flight) (recording_of bytes) written

@@ -6,7 +6,6 @@ use Rattle.tc_job.specs.ChaseRun.{Chasing}
 use Rattle.tc_job.specs.Jam.{Jamming}
 use Rattle.tc_job.specs.declared.flight.Flight.{Flight}
 use Rattle.tc_command.specs.Command.{IsCommand}
-use Rattle.tc_command.specs.ToldLemmas.{meaning_is_lawful}
 use Rattle.tc_command.specs.Meaning.{Meaning}
 use Rattle.tc_command.specs.Told.{IsLawful, IsTold}
 use Rattle.interval_engine.specs.Along.{along_intervals}
@@ -19,7 +18,8 @@ use Rattle.frame_commands.specs.LtcMtc.{messages_of_frames, told_ltc_mtc}
 use Rattle.frame_commands.specs.LtcSpans.{lines_of_spans, told_ltc_spans}
 use Rattle.frame_commands.specs.OfFrames.{AreTooMany, FrameText, IsFlightSpent, along_frames}
 use Rattle.frame_commands.proofs.MarkedLines.{FramesLaws, shows_the_frames}
-use Rattle.frame_commands.proofs.OneText.{HaveOneList, one_copy, one_flight, one_tape, one_trace}
+use Rattle.frame_commands.proofs.OneText.{HaveOneList, one_copy, one_flight, one_sending, one_tape, one_trace}
+use Rattle.frame_commands.proofs.SentWords.{sends_the_words}
 use Rattle.frame_commands.proofs.SpansOfTheTape.{SpansLaws, shows_the_spans}
 
 -- what the laws say of every command along frames
@@ -37,7 +37,8 @@ unlimited : (flight : Flight) (made : FrameText) → ((frames : List Frame) → 
     → (input : List ℕ) → ¬ Meaning.spent (along_intervals (along_frames flight made)) input
 unlimited flight made few input =
     never_spent (along_frames flight made)
-    (λ header intervals (spent : IsFlightSpent flight made header intervals). few _ spent.too_many) (recording_of input)
+    (λ header intervals (spent : IsFlightSpent flight.witness flight made header intervals). few _ spent.too_many)
+    (recording_of input)
 
 pub fly_is_lawful : AlongLaws → AddsInOrder lines_of_frames → (flight : Flight) → IsLawful (told_ltc_fly flight)
 fly_is_lawful laws adds flight = record {
@@ -68,9 +69,18 @@ spans_are_told shared flight lawful = record {
 
 pub messages_are_lawful : AlongLaws → AddsInOrder messages_of_frames → (flight : Flight)
     → IsLawful (told_ltc_mtc flight)
-messages_are_lawful laws adds flight =
-    meaning_is_lawful (along_intervals (along_frames flight messages_of_frames))
-    (command laws flight messages_of_frames adds) (unlimited flight messages_of_frames (λ frames many. many))
+messages_are_lawful laws adds flight = record {
+  command = command laws flight messages_of_frames adds;
+  pinned = one_sending laws.one_list flight;
+  unlimited = λ none. unlimited flight messages_of_frames (λ frames many. many);
+}
+
+pub messages_are_told : FramesLaws → (flight : Flight) → IsLawful (told_ltc_mtc flight)
+    → IsTold (told_ltc_mtc flight)
+messages_are_told marked flight lawful = record {
+  lawful = lawful;
+  kept = λ pulled written are input output. sends_the_words marked flight pulled written output;
+}
 
 pub copy_is_lawful : AlongLaws → (j : Jamming) → AddsInOrder (file_of_frames j) → IsLawful (told_ltc_jam j)
 copy_is_lawful laws j adds = record {

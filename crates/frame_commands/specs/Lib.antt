@@ -1,4 +1,9 @@
+pub mod Heard
+pub mod HeardTape
+pub mod Hearing
 pub mod KeptFlight
+pub mod KeptHeard
+pub mod KeptHearing
 pub mod KeptFrames
 pub mod KeptSpans
 pub mod KeptSteps

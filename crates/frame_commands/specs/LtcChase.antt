@@ -1,5 +1,5 @@
 -- `ltc-chase`: the steps of a chase over the frames of a recording; and why such a chase loses its lock.
-use Rattle.std.specs.Prelude.{◌≡◌, ℕ, suc, true, ◌-◌, ◌≤◌, List, length, take, slice_get, Some, None, unsigned_abs}
+use Rattle.std.specs.Prelude.{◌≡◌, ℕ, suc, true, ◌-◌, ◌≤◌, List, length, map, take, slice_get, Some, None, unsigned_abs}
 use Rattle.std.specs.List.{count_by}
 use Rattle.chase_core.specs.declared.report.State.TheVariants.{Locked}
 use Rattle.chase_core.specs.declared.report.Loss.{Loss}
@@ -9,14 +9,16 @@ use Rattle.chase_script.specs.TraceText.{loses, step_end_line, step_lines, trace
 use Rattle.code_chase.specs.CodeTrace.{code_trace}
 use Rattle.code_chase.specs.Lock.{AreWhole, BringsNoCode, HasCauseOfLoss}
 use Rattle.direction_reader.specs.declared.event.Event.{Event}
-use Rattle.direction_reader.specs.ListEvents.{AreEvents}
 use Rattle.flywheel.specs.declared.frame.Frame.{Frame}
+use Rattle.flywheel.specs.Marked.{AreMarked, word_of, words_in}
 use Rattle.interval_file.specs.declared.header.IntervalHeader.{IntervalHeader}
 use Rattle.interval_file.specs.Recording.{Recording, recording_of}
 use Rattle.tc_job.specs.ChaseRun.{Chasing}
 use Rattle.frame_commands.specs.declared.ltc_chase.TheConstants.{MAX_FRAMES}
 use Rattle.interval_engine.specs.Along.{IsSpentOf, IsWholeOf, Printing, along_intervals}
-use Rattle.frame_commands.specs.OfFrames.{FrameText, along_frames, frames_of}
+use Rattle.frame_commands.specs.Heard.{AreHeard, AreHeardYet}
+use Rattle.frame_commands.specs.HeardTape.{HearsTheTape}
+use Rattle.frame_commands.specs.OfFrames.{FrameText, along_frames, frames_of, frames_until, words_heard}
 use Rattle.tc_command.specs.Told.{Told}
 
 -- the steps of a chase over these frames
@@ -68,14 +70,20 @@ pub record LosesWithCause (c : Chasing) (frames : List Frame) : Type 0 where
       → unsigned_abs line.report.error ≤ lock_bound (j - first)
 
 -- what was written is the trace of the chase over the frames of the recording, in which each loss has its cause: over
--- all of them, where they are within the limit, and else over the first
+-- all of them, where they are within the limit, and else over the first. Where the limit is not passed before the end,
+-- the frames of the words that are told by then are within it. The heard frames are the words of the recording, between
+-- two of them and after the last at most the limit is invented, and these words tell the tape
 pub record FollowsTheCode (c : Chasing) (input : Recording) (written : List ℕ) : Type 0 where
   pub header : IntervalHeader
   pub begins : input.header ≡ Some header
   pub events : List Event
-  pub are_events : AreEvents header.system c.flight.profile input.intervals events
-  pub all : ¬ IsSpentOf (chased_recording c) input
-      → length (frames_of c.flight.limit input.intervals events) ≤ MAX_FRAMES
+  pub are_events : AreHeard c.flight.witness header.system c.flight.profile input.intervals events
+  pub heard : words_in (frames_of c.flight.limit input.intervals events) ≡ map word_of (words_heard events)
+  pub marked : AreMarked c.flight.limit None (frames_of c.flight.limit input.intervals events)
+  pub tape : HearsTheTape c.flight.witness header.system c.flight.profile input.intervals events
+  pub all : ¬ IsSpentOf (chased_recording c) input → (yet : List Event) (until : ℕ)
+      → AreHeardYet c.flight.witness header.system c.flight.profile input.intervals yet until
+      → length (frames_until c.flight.limit yet until) ≤ MAX_FRAMES
   pub text : written ≡ trace_text c.label.count (first_steps MAX_FRAMES c (frames_of c.flight.limit input.intervals events))
   pub lock : LosesWithCause c (take MAX_FRAMES (frames_of c.flight.limit input.intervals events))
 

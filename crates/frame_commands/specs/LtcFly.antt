@@ -2,7 +2,6 @@
 use Rattle.std.specs.Prelude.{◌≡◌, ℕ, true, false, List, ◌++◌, length, count_by, sum, map, Some, None}
 use Rattle.std.specs.List.{flat_map}
 use Rattle.direction_reader.specs.declared.event.Event.{Event}
-use Rattle.direction_reader.specs.ListEvents.{AreEvents}
 use Rattle.flywheel.specs.declared.frame.Frame.{Frame}
 use Rattle.flywheel.specs.Marked.{AreMarked, word_of, words_in}
 use Rattle.report_text.specs.FrameTexts.{frame_line, fly_end_line}
@@ -10,6 +9,8 @@ use Rattle.interval_file.specs.declared.header.IntervalHeader.{IntervalHeader}
 use Rattle.interval_file.specs.Recording.{recording_of}
 use Rattle.tc_job.specs.declared.flight.Flight.{Flight}
 use Rattle.interval_engine.specs.Along.{Printing, along_intervals}
+use Rattle.frame_commands.specs.Heard.{AreHeard}
+use Rattle.frame_commands.specs.HeardTape.{HearsTheTape}
 use Rattle.frame_commands.specs.OfFrames.{FrameText, along_frames, frames_of, words_heard}
 use Rattle.flywheel.specs.Kinds.{is_gone, is_heard, is_invented}
 use Rattle.tc_command.specs.Told.{Told}
@@ -33,17 +34,19 @@ flown_recording flight = along_frames flight lines_of_frames
 
 -- what was written are the lines of the frames of the recording, and the line that counts them. The heard frames are
 -- its words under the tolerance of the flight, one after another, each with its label, its direction and its tick;
--- between two of them, and after the last, at most so many frames are invented, and each has its step in its line
+-- between two of them, and after the last, at most so many frames are invented, and each has its step in its line. And
+-- these words tell the tape
 pub record ShowsTheFrames (flight : Flight) (bytes written : List ℕ) : Type 0 where
   pub header : IntervalHeader
   pub begins : (recording_of bytes).header ≡ Some header
   pub events : List Event
-  pub are_events : AreEvents header.system flight.profile (recording_of bytes).intervals events
+  pub are_events : AreHeard flight.witness header.system flight.profile (recording_of bytes).intervals events
   pub frames : List Frame
   pub are_frames : frames ≡ frames_of flight.limit (recording_of bytes).intervals events
   pub are : written ≡ frame_lines frames ++ last_fly_line (recording_of bytes).intervals frames
   pub heard : words_in frames ≡ map word_of (words_heard events)
   pub marked : AreMarked flight.limit None frames
+  pub tape : HearsTheTape flight.witness header.system flight.profile (recording_of bytes).intervals events
 
 -- what is told of it
 abbrev pub told_ltc_fly : Flight → Told

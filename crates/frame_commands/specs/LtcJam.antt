@@ -1,14 +1,17 @@
 -- `ltc-jam`: the frames of a recording anew, in cells of one length.
-use Rattle.std.specs.Prelude.{◌≡◌, ℕ, true, false, List, [], Some, None}
+use Rattle.std.specs.Prelude.{◌≡◌, ℕ, true, false, List, [], Some, None, map}
 use Rattle.biphase.specs.Chain.{flat}
 use Rattle.flywheel.specs.declared.frame.Frame.{Frame}
+use Rattle.flywheel.specs.Marked.{AreMarked, word_of, words_in}
 use Rattle.ltc_jam.specs.Cells.{clean_cells, clean_events}
 use Rattle.interval_file.specs.declared.header.FileVersion.TheVariants.{One}
 use Rattle.interval_file.specs.declared.header.IntervalHeader.{IntervalHeader}
 use Rattle.interval_file.specs.Grammar.{IsFile, file_of}
 use Rattle.tc_job.specs.Jam.{Jamming}
 use Rattle.interval_engine.specs.Along.{IsWholeOf, Printing, along_intervals}
-use Rattle.frame_commands.specs.OfFrames.{FrameText, along_frames, frames_of}
+use Rattle.frame_commands.specs.Heard.{AreHeard}
+use Rattle.frame_commands.specs.HeardTape.{HearsTheTape}
+use Rattle.frame_commands.specs.OfFrames.{FrameText, along_frames, frames_of, words_heard}
 use Rattle.biphase.specs.declared.profile.Profile.TheVariants.{Normal}
 use Rattle.direction_reader.specs.declared.event.Event.{Event}
 use Rattle.direction_reader.specs.ListEvents.{AreEvents}
@@ -36,14 +39,19 @@ abbrev pub clean_recording : Jamming → Printing
 clean_recording j = along_frames j.flight (file_of_frames j)
 
 -- what was written is a file of the input's system, and of its intervals each frame of the input that was heard or
--- invented is read, in order and in its place, and nothing else: no word is refused, and no code is lost
+-- invented is read, in order and in its place, and nothing else: no word is refused, and no code is lost. The heard
+-- frames are the words of the input, between two of them and after the last at most the limit is invented, and these
+-- words tell the tape
 pub record IsClean (j : Jamming) (input : Recording) (written : List ℕ) : Type 0 where
   pub header : IntervalHeader
   pub begins : input.header ≡ Some header
   pub events : List Event
-  pub are_events : AreEvents header.system j.flight.profile input.intervals events
+  pub are_events : AreHeard j.flight.witness header.system j.flight.profile input.intervals events
   pub frames : List Frame
   pub are_frames : frames ≡ frames_of j.flight.limit input.intervals events
+  pub heard : words_in frames ≡ map word_of (words_heard events)
+  pub marked : AreMarked j.flight.limit None frames
+  pub tape : HearsTheTape j.flight.witness header.system j.flight.profile input.intervals events
   pub file : IsFile written (clean_header j header) (clean_intervals j frames)
   pub read : AreEvents header.system Normal (clean_intervals j frames) (clean_events j.cell frames)
 

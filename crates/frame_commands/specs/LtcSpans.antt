@@ -2,7 +2,6 @@
 use Rattle.std.specs.Prelude.{◌≡◌, ℕ, true, false, List, ◌++◌, length, sum, map, All, Some, None}
 use Rattle.std.specs.List.{flat_map}
 use Rattle.direction_reader.specs.declared.event.Event.{Event}
-use Rattle.direction_reader.specs.ListEvents.{AreEvents}
 use Rattle.flywheel.specs.declared.frame.Frame.{Frame}
 use Rattle.flywheel.specs.Marked.{word_of, words_in}
 use Rattle.tape_spans.specs.Shared.{HoldsTogether, frames_in, present}
@@ -12,6 +11,8 @@ use Rattle.interval_file.specs.declared.header.IntervalHeader.{IntervalHeader}
 use Rattle.interval_file.specs.Recording.{recording_of}
 use Rattle.tc_job.specs.declared.flight.Flight.{Flight}
 use Rattle.interval_engine.specs.Along.{Printing, along_intervals}
+use Rattle.frame_commands.specs.Heard.{AreHeard}
+use Rattle.frame_commands.specs.HeardTape.{HearsTheTape}
 use Rattle.frame_commands.specs.OfFrames.{FrameText, along_frames, frames_of, words_heard}
 use Rattle.tc_command.specs.Told.{Told}
 
@@ -40,18 +41,19 @@ spanned_recording flight = along_frames flight lines_of_spans
 -- what was written are the lines of the spans of the recording's frames, and the line that counts them. The heard
 -- frames are its words under the tolerance of the flight. Each frame that was heard or invented stands in exactly one
 -- span, in order; a span begins with a heard frame that does not join, and each further frame of it goes on from the
--- one before
+-- one before. And these words tell the tape
 pub record ShowsTheSpans (flight : Flight) (bytes written : List ℕ) : Type 0 where
   pub header : IntervalHeader
   pub begins : (recording_of bytes).header ≡ Some header
   pub events : List Event
-  pub are_events : AreEvents header.system flight.profile (recording_of bytes).intervals events
+  pub are_events : AreHeard flight.witness header.system flight.profile (recording_of bytes).intervals events
   pub frames : List Frame
   pub are_frames : frames ≡ frames_of flight.limit (recording_of bytes).intervals events
   pub are : written ≡ span_lines header frames ++ spans_counted (recording_of bytes).intervals frames
   pub heard : words_in frames ≡ map word_of (words_heard events)
   pub all : present frames ≡ flat_map frames_in (frames_of_spans frames)
   pub together : All HoldsTogether (frames_of_spans frames)
+  pub tape : HearsTheTape flight.witness header.system flight.profile (recording_of bytes).intervals events
 
 -- what is told of it
 abbrev pub told_ltc_spans : Flight → Told

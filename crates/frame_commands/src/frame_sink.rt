@@ -1,8 +1,9 @@
 //! What a command makes of the frames of a recording. Next: `ltc_fly`, `ltc_spans`, `ltc_mtc`, `jam` and
 //! `ltc_chase`.
-ghost use Rattle.std.specs.Prelude.{◌≡◌, ℕ, true, false, List, [], ◌∷◌, ◌++◌, ◌+◌, ◌-◌, ◌<◌, ◌≤◌, ◌^◌, OnOk, OnErr};
+ghost use Rattle.std.specs.Prelude.{◌≡◌, ℕ, true, false, List, [], ◌∷◌, ◌++◌, ◌+◌, ◌-◌, ◌*◌, ◌<◌, ◌≤◌, ◌^◌, OnOk, OnErr};
 ghost use Rattle.std.specs.Prelude.{IfOk, IfErr};
 ghost use Rattle.std.specs.Io.KnownBytes.{Appends};
+ghost use Rattle.limits.specs.declared.recording.TheConstants.{MAX_INTERVALS};
 ghost use Rattle.flywheel.specs.declared.frame.Frame.{Frame};
 ghost use Rattle.interval_file.specs.declared.header.IntervalHeader.{IntervalHeader};
 ghost use Rattle.report_text.specs.FrameTexts.{FitsFrameLine};
@@ -12,9 +13,10 @@ ghost use Rattle.tc_command.specs.Causes.{HasOutCause};
 ghost use Rattle.frame_commands.specs.KeptFlight.{CountsAll, FitsFlight, Sends, SendsFront};
 ghost use Rattle.frame_commands.specs.OfFrames.{AreTooMany, FrameText};
 
-use crate::flight::FrameReader;
+use crate::frames::Frames;
 use flywheel::Frame;
 use interval_file::IntervalHeader;
+use limits::MAX_INTERVALS;
 use tc_command::Stop;
 use tc_io::Sink;
 use tc_job::Flight;
@@ -71,16 +73,25 @@ pub(crate) trait FrameSink: Drop {
         ensures going { result ≡ false → (choice : Self.Choice) (header : IntervalHeader) (frames : List Frame)
             → given self.now choice header frames → ¬ AreTooMany (FrameText.most (made choice)) frames };
 
-    /// Writes what stands last. The reader has counted what was given.
-    fn finish<K: Sink>(&self, reader: &FrameReader, out: &mut K) -> Result<(), Stop>
-        requires fits { FitsFlight reader.now reader.now.reader.intervals }
+    /// Writes what stands last, behind so many intervals, whose sum is so many ticks. `frames` has counted what
+    /// was given.
+    fn finish<K: Sink>(
+        &self,
+        frames: &Frames,
+        intervals: u64,
+        ticks: u64,
+        out: &mut K,
+    ) -> Result<(), Stop>
+        requires fits { FitsFlight frames.now (2 * MAX_INTERVALS + 2) }
         requires room { taken self.now < 2 ^ 40 }
-        ensures ends { OnOk result ((choice : Self.Choice) (header : IntervalHeader) (intervals : List ℕ) (frames : List Frame)
-            → given self.now choice header frames → CountsAll reader.now intervals frames
-            → Appends (K.written out.old) (K.written out.new) (FrameText.last (made choice) header intervals frames)) }
-        ensures front { OnErr result ((choice : Self.Choice) (header : IntervalHeader) (intervals : List ℕ) (frames : List Frame)
-            → given self.now choice header frames → CountsAll reader.now intervals frames
-            → AppendsFront (K.written out.old) (K.written out.new) (FrameText.last (made choice) header intervals frames)) }
+        requires count { intervals ≤ MAX_INTERVALS }
+        requires below { ticks < 2 ^ 60 }
+        ensures ends { OnOk result ((choice : Self.Choice) (header : IntervalHeader) (list : List ℕ) (given_frames : List Frame)
+            → given self.now choice header given_frames → CountsAll frames.now intervals ticks list given_frames
+            → Appends (K.written out.old) (K.written out.new) (FrameText.last (made choice) header list given_frames)) }
+        ensures front { OnErr result ((choice : Self.Choice) (header : IntervalHeader) (list : List ℕ) (given_frames : List Frame)
+            → given self.now choice header given_frames → CountsAll frames.now intervals ticks list given_frames
+            → AppendsFront (K.written out.old) (K.written out.new) (FrameText.last (made choice) header list given_frames)) }
         ensures why { IfErr result (λ stop. stop ≡ Stop.WriteFault) }
         ensures cause { HasOutCause (K.faults out.old) (K.faults out.new) result };
 }

@@ -8,12 +8,14 @@ ghost use Rattle.tc_job.specs.Jam.{Jamming};
 ghost use Rattle.tc_command.specs.Told.{IsLawful, IsTold, WorksAsTold};
 ghost use Rattle.frame_commands.specs.LtcJam.{told_ltc_jam};
 
-use crate::flight::{FlightTo, FrameReader};
+use crate::flight::FlightTo;
 use crate::frame_sink::FrameSink;
+use crate::frames::Frames;
 use crate::laws::{
-    each_sink_of_frames_adds_in_order, what_is_jammed_is_read, what_is_made_of_frames_is_in_order,
+    each_sink_of_frames_adds_in_order, what_is_heard_is_in_order, what_is_jammed_is_read,
+    what_is_made_of_frames_is_in_order,
 };
-use direction_reader::laws::a_list_has_one_list_of_events;
+use direction_reader::{DirectionReader, FirmReader};
 use flywheel::Frame;
 use interval_engine::laws::recordings_grow;
 use interval_engine::work_along;
@@ -22,7 +24,7 @@ use ltc_jam::laws::a_clean_recording_is_written_frame_by_frame;
 use ltc_jam::{frame_cells, lead};
 use tc_command::{PIECE, Piece, Stop, push_piece, put_interval};
 use tc_io::{Sink, Source, put_bytes};
-use tc_job::{Flight, Jam};
+use tc_job::{Flight, Jam, Witness};
 
 /// Works `ltc-jam`: a clean recording of the frames of a recording.
 pub fn jam_sync<S: Source, K: Sink>(jam: Jam, source: &mut S, out: &mut K) -> Result<(), Stop>
@@ -30,7 +32,14 @@ pub fn jam_sync<S: Source, K: Sink>(jam: Jam, source: &mut S, out: &mut K) -> Re
         out.old out.new result }
 {
     a_copy_is_told(jam);
-    work_along::<FlightTo<CleanRecording>, S, K>(jam, source, out)
+    match jam.flight().witness {
+        Witness::NotAsked => work_along::<FlightTo<DirectionReader, CleanRecording>, S, K>(
+            jam, source, out,
+        ),
+        Witness::Asked => work_along::<FlightTo<FirmReader, CleanRecording>, S, K>(
+            jam, source, out,
+        ),
+    }
 }
 
 /// What is told of `ltc-jam` holds: what is written is a clean recording.
@@ -49,7 +58,7 @@ pub fn copies_are_lawful()
     recordings_grow();
     what_is_made_of_frames_is_in_order();
     each_sink_of_frames_adds_in_order();
-    a_list_has_one_list_of_events();
+    what_is_heard_is_in_order();
 }
 
 /// A clean recording of frames, in the cells that it was told.
@@ -109,7 +118,13 @@ impl FrameSink for CleanRecording {
         false
     }
 
-    fn finish<K: Sink>(&self, _reader: &FrameReader, _out: &mut K) -> Result<(), Stop> {
+    fn finish<K: Sink>(
+        &self,
+        _frames: &Frames,
+        _intervals: u64,
+        _ticks: u64,
+        _out: &mut K,
+    ) -> Result<(), Stop> {
         Ok(())
     }
 }

@@ -7,9 +7,17 @@ ghost use Rattle.tc_address.specs.Label.{Address};
 ghost use Rattle.tc_job.specs.ChaseRun.{Chasing, IsChasing};
 ghost use Rattle.tc_job.specs.Jam.{IsJamming, Jamming};
 ghost use Rattle.tc_job.specs.declared.flight.Flight.{Flight};
+ghost use Rattle.tc_job.specs.declared.witness.Witness.{Witness};
 ghost use Rattle.interval_engine.specs.KeptCommand.{PrintsInOrder};
 ghost use Rattle.frame_commands.specs.declared.ltc_chase.TheConstants.{MAX_FRAMES};
+ghost use Rattle.biphase.specs.declared.profile.Profile.{Profile};
+ghost use Rattle.direction_reader.specs.declared.event.Event.{Event};
+ghost use Rattle.ltc_jam.specs.Labels.{AreEventsOf};
+ghost use Rattle.tc_address.specs.declared.system.System.{System};
+ghost use Rattle.frame_commands.specs.Heard.{AreHeard};
+ghost use Rattle.frame_commands.specs.HeardTape.{HearsTheTape};
 ghost use Rattle.frame_commands.specs.KeptFrames.{AddsInOrder};
+ghost use Rattle.frame_commands.specs.KeptHeard.{HeardInOrder};
 ghost use Rattle.frame_commands.specs.LtcChase.{ChasesTheInput, lines_of_steps};
 ghost use Rattle.frame_commands.specs.LtcFly.{lines_of_frames};
 ghost use Rattle.frame_commands.specs.LtcJam.{CleansTheInput, file_of_frames};
@@ -19,10 +27,17 @@ ghost use Rattle.frame_commands.specs.OfFrames.{FrameText, along_frames};
 
 use biphase::laws::shaped_cells_are_a_chain;
 use code_chase::laws::{a_frame_adds_a_line, each_loss_has_a_cause, whole_code_keeps_the_lock};
-use direction_reader::laws::{
-    a_list_has_one_list_of_events, each_list_has_events, events_of_a_front_come_first,
+use direction_reader::firm_laws::{
+    a_list_has_one_list_of_firm_events, a_list_has_one_list_of_told_events,
+    a_witness_changes_words_alone, each_word_that_is_told_has_its_witness, told_events_come_first,
 };
-use flywheel::laws::{a_frame_that_goes_on_is_the_next, frames_of_a_front_come_first};
+use direction_reader::laws::{
+    a_list_has_one_list_of_events, each_list_has_events, events_find_the_tape_again,
+    events_find_the_tape_behind_even_ones, events_of_a_front_come_first, events_tell_the_tape,
+};
+use flywheel::laws::{
+    a_frame_that_goes_on_is_the_next, frames_of_a_front_come_first, invention_is_bounded_and_marked,
+};
 use ltc_jam::laws::{
     a_clean_recording_is_written_frame_by_frame, cells_of_one_length_are_shaped,
     clean_recordings_are_read, what_is_read_has_labels_of_its_system,
@@ -30,13 +45,49 @@ use ltc_jam::laws::{
 use quarter_frame::laws::messages_of_a_front_come_first;
 use tape_spans::laws::final_lines_come_first;
 
-/// What a command prints of frames there is, and it is in order, where what it makes of frames is.
-pub fn what_is_made_of_frames_is_in_order()
-    ensures { (flight : Flight) (made : FrameText) → AddsInOrder made → PrintsInOrder (along_frames flight made) }
+/// What is heard of some intervals there is, and it comes first, whatever intervals follow: where words are
+/// asked for a witness, and where not.
+pub fn what_is_heard_is_in_order()
+    ensures { (witness : Witness) → HeardInOrder witness }
 {
     a_list_has_one_list_of_events();
     each_list_has_events();
     events_of_a_front_come_first();
+    a_list_has_one_list_of_firm_events();
+    a_list_has_one_list_of_told_events();
+    told_events_come_first();
+}
+
+/// The words that are heard have labels of the recording's system.
+pub fn what_is_heard_has_labels_of_its_system()
+    ensures { (witness : Witness) (system : System) (profile : Profile) (intervals : List ℕ) (events : List Event)
+        → AreHeard witness system profile intervals events → AreEventsOf system events }
+{
+    what_is_read_has_labels_of_its_system();
+    each_list_has_events();
+    a_witness_changes_words_alone();
+}
+
+/// What is heard of a recording tells its tape: it is what is read of it, or that among it which has a witness,
+/// and what is read are the words of the tape.
+pub fn what_is_heard_tells_the_tape()
+    ensures { (witness : Witness) (system : System) (profile : Profile) (intervals : List ℕ) (events : List Event)
+        → AreHeard witness system profile intervals events
+        → HearsTheTape witness system profile intervals events }
+{
+    each_list_has_events();
+    events_tell_the_tape();
+    events_find_the_tape_again();
+    events_find_the_tape_behind_even_ones();
+    a_witness_changes_words_alone();
+    each_word_that_is_told_has_its_witness();
+}
+
+/// What a command prints of frames there is, and it is in order, where what it makes of frames is.
+pub fn what_is_made_of_frames_is_in_order()
+    ensures { (flight : Flight) (made : FrameText) → AddsInOrder made → PrintsInOrder (along_frames flight made) }
+{
+    what_is_heard_is_in_order();
     frames_of_a_front_come_first();
 }
 
@@ -64,6 +115,9 @@ pub fn what_is_jammed_is_read()
     clean_recordings_are_read();
     shaped_cells_are_a_chain();
     what_is_read_has_labels_of_its_system();
+    what_is_heard_has_labels_of_its_system();
+    invention_is_bounded_and_marked();
+    what_is_heard_tells_the_tape();
 }
 
 /// What `ltc-chase` writes of a whole input is the trace of a chase over its frames, or over the first of
@@ -73,9 +127,12 @@ pub fn what_is_chased_follows_the_code()
     ensures { (c : Chasing) → IsChasing c → ChasesTheInput c }
 {
     what_is_read_has_labels_of_its_system();
+    what_is_heard_has_labels_of_its_system();
     a_frame_that_goes_on_is_the_next();
     each_loss_has_a_cause();
     whole_code_keeps_the_lock();
+    invention_is_bounded_and_marked();
+    what_is_heard_tells_the_tape();
 }
 
 /// `ltc-chase` follows a hundred million frames, and no more.

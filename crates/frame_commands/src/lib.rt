@@ -15,6 +15,8 @@
 
 mod flight;
 mod frame_sink;
+mod frames;
+mod hearing;
 mod jam;
 pub mod laws;
 mod ltc_chase;

@@ -8,16 +8,17 @@ ghost use Rattle.tc_job.specs.ChaseRun.{Chasing};
 ghost use Rattle.tc_command.specs.Told.{IsLawful, IsTold, WorksAsTold};
 ghost use Rattle.frame_commands.specs.LtcChase.{told_ltc_chase};
 
-use crate::flight::{FlightTo, FrameReader};
+use crate::flight::FlightTo;
 use crate::frame_sink::FrameSink;
+use crate::frames::Frames;
 use crate::laws::{
-    each_sink_of_frames_adds_in_order, what_is_chased_follows_the_code,
+    each_sink_of_frames_adds_in_order, what_is_chased_follows_the_code, what_is_heard_is_in_order,
     what_is_made_of_frames_is_in_order,
 };
 use chase_script::{step_end_text, step_text};
 use code_chase::CodeChase;
 use code_chase::laws::a_frame_adds_a_line;
-use direction_reader::laws::a_list_has_one_list_of_events;
+use direction_reader::{DirectionReader, FirmReader};
 use flywheel::Frame;
 use interval_engine::laws::recordings_grow;
 use interval_engine::work_along;
@@ -27,7 +28,7 @@ use std::marker::Model;
 use tc_address::Count;
 use tc_command::{Stop, push_line};
 use tc_io::{Sink, Source};
-use tc_job::{ChaseRun, Flight};
+use tc_job::{ChaseRun, Flight, Witness};
 
 /// How many frames one run follows at most. A further one ends it.
 pub const MAX_FRAMES: u64 = 100_000_000;
@@ -42,7 +43,12 @@ pub fn chase_code<S: Source, K: Sink>(
         out.old out.new result }
 {
     a_trace_is_told(run);
-    work_along::<FlightTo<StepLines>, S, K>(run, source, out)
+    match run.flight().witness {
+        Witness::NotAsked => work_along::<FlightTo<DirectionReader, StepLines>, S, K>(
+            run, source, out,
+        ),
+        Witness::Asked => work_along::<FlightTo<FirmReader, StepLines>, S, K>(run, source, out),
+    }
 }
 
 /// What is told of `ltc-chase` holds: what is written is the trace of a chase that follows the frames.
@@ -61,7 +67,7 @@ pub fn traces_are_lawful()
     recordings_grow();
     what_is_made_of_frames_is_in_order();
     each_sink_of_frames_adds_in_order();
-    a_list_has_one_list_of_events();
+    what_is_heard_is_in_order();
 }
 
 /// The lines of the steps of a chase.
@@ -157,7 +163,13 @@ impl FrameSink for StepLines {
         self.is_spent
     }
 
-    fn finish<K: Sink>(&self, _reader: &FrameReader, out: &mut K) -> Result<(), Stop> {
+    fn finish<K: Sink>(
+        &self,
+        _frames: &Frames,
+        _intervals: u64,
+        _ticks: u64,
+        out: &mut K,
+    ) -> Result<(), Stop> {
         a_frame_adds_a_line();
         push_line(out, &step_end_text(self.steps, self.losses))
     }

@@ -3,10 +3,14 @@ ghost use Rattle.tc_command.specs.Told.{IsLawful, IsTold, WorksAsTold};
 ghost use Rattle.frame_commands.specs.LtcFly.{told_ltc_fly};
 ghost use Rattle.tc_job.specs.declared.flight.Flight.{Flight};
 
-use crate::flight::{FlightTo, FrameReader};
+use crate::flight::FlightTo;
 use crate::frame_sink::FrameSink;
-use crate::laws::{each_sink_of_frames_adds_in_order, what_is_made_of_frames_is_in_order};
-use direction_reader::laws::a_list_has_one_list_of_events;
+use crate::frames::Frames;
+use crate::laws::{
+    each_sink_of_frames_adds_in_order, what_is_heard_is_in_order, what_is_heard_tells_the_tape,
+    what_is_made_of_frames_is_in_order,
+};
+use direction_reader::{DirectionReader, FirmReader};
 use flywheel::Frame;
 use flywheel::laws::invention_is_bounded_and_marked;
 use interval_engine::laws::recordings_grow;
@@ -15,7 +19,7 @@ use interval_file::IntervalHeader;
 use report_text::frame_text;
 use tc_command::{Stop, push_line};
 use tc_io::{Sink, Source};
-use tc_job::Flight;
+use tc_job::{Flight, Witness};
 
 /// Works `ltc-fly`: a line for each frame of a recording, where its frames are had so.
 pub fn fly_along<S: Source, K: Sink>(
@@ -27,7 +31,12 @@ pub fn fly_along<S: Source, K: Sink>(
         out.old out.new result }
 {
     flown_frames_are_told();
-    work_along::<FlightTo<FrameLines>, S, K>(flight, source, out)
+    match flight.witness {
+        Witness::NotAsked => work_along::<FlightTo<DirectionReader, FrameLines>, S, K>(
+            flight, source, out,
+        ),
+        Witness::Asked => work_along::<FlightTo<FirmReader, FrameLines>, S, K>(flight, source, out),
+    }
 }
 
 /// What is told of `ltc-fly` holds: the frames are the words of the file, and invented ones that are marked and
@@ -37,6 +46,7 @@ fn flown_frames_are_told()
 {
     flown_frames_are_lawful();
     invention_is_bounded_and_marked();
+    what_is_heard_tells_the_tape();
 }
 
 /// What is told of `ltc-fly` is lawful.
@@ -46,7 +56,7 @@ pub fn flown_frames_are_lawful()
     recordings_grow();
     what_is_made_of_frames_is_in_order();
     each_sink_of_frames_adds_in_order();
-    a_list_has_one_list_of_events();
+    what_is_heard_is_in_order();
 }
 
 /// The lines of frames. The choice is how the frames are had.
@@ -88,7 +98,13 @@ impl FrameSink for FrameLines {
         false
     }
 
-    fn finish<K: Sink>(&self, reader: &FrameReader, out: &mut K) -> Result<(), Stop> {
-        push_line(out, &reader.end_text())
+    fn finish<K: Sink>(
+        &self,
+        frames: &Frames,
+        intervals: u64,
+        ticks: u64,
+        out: &mut K,
+    ) -> Result<(), Stop> {
+        push_line(out, &frames.end_text(intervals, ticks))
     }
 }

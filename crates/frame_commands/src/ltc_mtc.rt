@@ -1,20 +1,25 @@
 //! What `ltc-mtc` makes of frames: MIDI Time Code. Next: `quarter_frame/src/writer.rt`.
-ghost use Rattle.tc_command.specs.Told.{IsLawful, WorksAsTold};
+ghost use Rattle.tc_command.specs.Told.{IsLawful, IsTold, WorksAsTold};
 ghost use Rattle.frame_commands.specs.LtcMtc.{told_ltc_mtc};
 ghost use Rattle.tc_job.specs.declared.flight.Flight.{Flight};
 
-use crate::flight::{FlightTo, FrameReader};
+use crate::flight::FlightTo;
 use crate::frame_sink::FrameSink;
-use crate::laws::{each_sink_of_frames_adds_in_order, what_is_made_of_frames_is_in_order};
-use direction_reader::laws::a_list_has_one_list_of_events;
+use crate::frames::Frames;
+use crate::laws::{
+    each_sink_of_frames_adds_in_order, what_is_heard_is_in_order, what_is_heard_tells_the_tape,
+    what_is_made_of_frames_is_in_order,
+};
+use direction_reader::{DirectionReader, FirmReader};
 use flywheel::Frame;
+use flywheel::laws::invention_is_bounded_and_marked;
 use interval_engine::laws::recordings_grow;
 use interval_engine::work_along;
 use interval_file::IntervalHeader;
 use quarter_frame::QuarterWriter;
 use tc_command::{Stop, push_piece};
 use tc_io::{Sink, Source};
-use tc_job::Flight;
+use tc_job::{Flight, Witness};
 
 /// Works `ltc-mtc`: the frames of a recording, where they are had so, as MIDI Time Code.
 pub fn send_time_code<S: Source, K: Sink>(
@@ -25,8 +30,24 @@ pub fn send_time_code<S: Source, K: Sink>(
     ensures { WorksAsTold (told_ltc_mtc flight) S.left S.ends S.faults K.written K.faults source.old source.new
         out.old out.new result }
 {
+    messages_are_told();
+    match flight.witness {
+        Witness::NotAsked => work_along::<FlightTo<DirectionReader, FrameMessages>, S, K>(
+            flight, source, out,
+        ),
+        Witness::Asked => work_along::<FlightTo<FirmReader, FrameMessages>, S, K>(
+            flight, source, out,
+        ),
+    }
+}
+
+/// What is told of `ltc-mtc` holds: what is sent are the words of the file, and invented frames that are bounded.
+fn messages_are_told()
+    ensures { (flight : Flight) → IsTold (told_ltc_mtc flight) }
+{
     messages_are_lawful();
-    work_along::<FlightTo<FrameMessages>, S, K>(flight, source, out)
+    invention_is_bounded_and_marked();
+    what_is_heard_tells_the_tape();
 }
 
 /// What is told of `ltc-mtc` is lawful.
@@ -36,7 +57,7 @@ pub fn messages_are_lawful()
     recordings_grow();
     what_is_made_of_frames_is_in_order();
     each_sink_of_frames_adds_in_order();
-    a_list_has_one_list_of_events();
+    what_is_heard_is_in_order();
 }
 
 /// The messages of frames. The choice is how the frames are had.
@@ -86,7 +107,13 @@ impl FrameSink for FrameMessages {
         false
     }
 
-    fn finish<K: Sink>(&self, _reader: &FrameReader, _out: &mut K) -> Result<(), Stop> {
+    fn finish<K: Sink>(
+        &self,
+        _frames: &Frames,
+        _intervals: u64,
+        _ticks: u64,
+        _out: &mut K,
+    ) -> Result<(), Stop> {
         Ok(())
     }
 }

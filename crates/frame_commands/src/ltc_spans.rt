@@ -10,10 +10,14 @@ ghost use Rattle.tc_command.specs.Told.{IsLawful, IsTold, WorksAsTold};
 ghost use Rattle.frame_commands.specs.LtcSpans.{told_ltc_spans};
 ghost use Rattle.tc_job.specs.declared.flight.Flight.{Flight};
 
-use crate::flight::{FlightTo, FrameReader};
+use crate::flight::FlightTo;
 use crate::frame_sink::FrameSink;
-use crate::laws::{each_sink_of_frames_adds_in_order, what_is_made_of_frames_is_in_order};
-use direction_reader::laws::a_list_has_one_list_of_events;
+use crate::frames::Frames;
+use crate::laws::{
+    each_sink_of_frames_adds_in_order, what_is_heard_is_in_order, what_is_heard_tells_the_tape,
+    what_is_made_of_frames_is_in_order,
+};
+use direction_reader::{DirectionReader, FirmReader};
 use flywheel::Frame;
 use flywheel::laws::{a_frame_that_goes_on_is_the_next, invention_is_bounded_and_marked};
 use interval_engine::laws::recordings_grow;
@@ -26,7 +30,7 @@ use tape_spans::{Cut, Gap, Span, SpanText, TapeSpans, gap_text, span_text};
 use tc_address::System;
 use tc_command::{Stop, push_line, push_piece};
 use tc_io::{Sink, Source};
-use tc_job::Flight;
+use tc_job::{Flight, Witness};
 
 /// Works `ltc-spans`: a line for each span of a recording, where its frames are had so, and between two
 /// of them one for the gap.
@@ -39,7 +43,12 @@ pub fn tell_spans<S: Source, K: Sink>(
         out.old out.new result }
 {
     spans_are_told();
-    work_along::<FlightTo<SpanLines>, S, K>(flight, source, out)
+    match flight.witness {
+        Witness::NotAsked => work_along::<FlightTo<DirectionReader, SpanLines>, S, K>(
+            flight, source, out,
+        ),
+        Witness::Asked => work_along::<FlightTo<FirmReader, SpanLines>, S, K>(flight, source, out),
+    }
 }
 
 /// What is told of `ltc-spans` holds: the spans share out the frames of the file.
@@ -51,6 +60,7 @@ fn spans_are_told()
     a_frame_that_goes_on_is_the_next();
     spans_share_the_frames_out();
     the_open_span_has_the_last_line();
+    what_is_heard_tells_the_tape();
 }
 
 /// What is told of `ltc-spans` is lawful.
@@ -60,7 +70,7 @@ pub fn spans_are_lawful()
     recordings_grow();
     what_is_made_of_frames_is_in_order();
     each_sink_of_frames_adds_in_order();
-    a_list_has_one_list_of_events();
+    what_is_heard_is_in_order();
 }
 
 /// The lines of spans, which say the speed at the header's tick rate and system.
@@ -167,8 +177,14 @@ impl FrameSink for SpanLines {
         false
     }
 
-    fn finish<K: Sink>(&self, reader: &FrameReader, out: &mut K) -> Result<(), Stop> {
+    fn finish<K: Sink>(
+        &self,
+        _frames: &Frames,
+        intervals: u64,
+        ticks: u64,
+        out: &mut K,
+    ) -> Result<(), Stop> {
         self.push_span(self.tape.current(), out)?;
-        push_line(out, &self.tape.end_text(reader.intervals(), reader.ticks()))
+        push_line(out, &self.tape.end_text(intervals, ticks))
     }
 }

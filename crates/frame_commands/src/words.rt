@@ -1,10 +1,13 @@
 //! The words of what an interval brought, one after another. Next: `flywheel/src/heard.rt`.
-ghost use Rattle.std.specs.Prelude.{◌≡◌, [], ◌++◌, None};
+ghost use Rattle.std.specs.Prelude.{◌≡◌, [], ◌++◌, IfSome, None};
 ghost use Rattle.std.specs.Option.{option_to_list};
 ghost use Rattle.direction_reader.specs.Events.{event_list, listed};
+ghost use Rattle.direction_reader.specs.FirmStep.{firm_list, firm_listed, IsNoWord};
+ghost use Rattle.frame_commands.specs.Heard.{told_events};
+ghost use Rattle.frame_commands.specs.Hearing.{due_at};
 ghost use Rattle.frame_commands.specs.OfFrames.{words_heard};
 
-use direction_reader::{Event, Events};
+use direction_reader::{Event, Events, FirmEvent, FirmEvents};
 use flywheel::HeardWord;
 use std::marker::Model;
 
@@ -46,6 +49,28 @@ impl Words {
         }
     }
 
+    /// The words of what is told where each word is asked for a witness. What comes third is no word.
+    pub(crate) fn told(told: FirmEvents) -> Words
+        requires { IfSome told.third IsNoWord }
+        ensures { result ≡ words_heard (told_events (firm_list told)) }
+    {
+        Words {
+            first: told_in(told.first),
+            second: told_in(told.second),
+        }
+    }
+
+    /// The tick at which the next of them is heard, and without one the last tick.
+    pub(crate) fn due_at(&self, last: u64) -> u64
+        ensures { result ≡ due_at self.now last }
+    {
+        match (&self.first, &self.second) {
+            (Some(word), _) => word.tick,
+            (None, Some(word)) => word.tick,
+            (None, None) => last,
+        }
+    }
+
     /// Takes the first of them.
     pub(crate) fn next(&mut self) -> Option<HeardWord>
         ensures takes { self.old ≡ option_to_list result ++ self.new }
@@ -55,6 +80,17 @@ impl Words {
             Some(word) => Some(word),
             None => self.second.take(),
         }
+    }
+}
+
+/// The word that the flywheel hears of what is told, if it is one.
+fn told_in(told: Option<FirmEvent>) -> Option<HeardWord>
+    ensures { option_to_list result ≡ words_heard (told_events (firm_listed told)) }
+{
+    match told {
+        Some(FirmEvent::Told(event)) => heard_in(Some(event)),
+        Some(FirmEvent::Alone { .. }) => None,
+        None => None,
     }
 }
 

@@ -58,6 +58,7 @@ behind laws profile bytes written (Some header) begins is =
       judged = laws.judged system profile list plain.0 is.events plain.1 is.are_events;
       truth = laws.tell.truth system profile list plain.0 plain.1;
       damage = laws.tell.damage system profile list plain.0 plain.1;
+      rough_damage = laws.tell.rough_damage system profile list plain.0 plain.1;
       mirror = λ mirrored others. laws.tell.mirror system profile list plain.0 mirrored plain.1 others;
     }
 

@@ -4,7 +4,7 @@ use Rattle.biphase.specs.declared.profile.Profile.{Profile}
 use Rattle.direction_reader.specs.declared.event.Event.{Event}
 use Rattle.direction_reader.specs.ListEvents.{AreEvents}
 use Rattle.direction_reader.specs.Mirror.{MirrorsTheTape}
-use Rattle.direction_reader.specs.Tape.{TellsTheTape, FindsTheTape}
+use Rattle.direction_reader.specs.Tape.{TellsTheTape, FindsTheTape, FindsTheTapeBehindOnes}
 use Rattle.tc_address.specs.declared.system.System.{System}
 use Rattle.interval_file.specs.declared.header.IntervalHeader.{IntervalHeader}
 use Rattle.interval_file.specs.Recording.{recording_of}
@@ -24,6 +24,8 @@ pub record TellTheTape : Type 0 where
       → AreEvents system profile intervals events → TellsTheTape system profile intervals events
   pub damage : (system : System) (profile : Profile) (intervals : List ℕ) (events : List Event)
       → AreEvents system profile intervals events → FindsTheTape system profile intervals events
+  pub rough_damage : (system : System) (profile : Profile) (intervals : List ℕ) (events : List Event)
+      → AreEvents system profile intervals events → FindsTheTapeBehindOnes system profile intervals events
   pub mirror : (system : System) (profile : Profile) (intervals : List ℕ) (events mirrored : List Event)
       → AreEvents system profile intervals events → AreEvents system profile (reverse intervals) mirrored
       → MirrorsTheTape system profile intervals events mirrored
@@ -40,6 +42,7 @@ behind tell profile bytes written (Some header) begins is = record {
   mirror = λ mirrored others.
       tell.mirror header.system profile (recording_of bytes).intervals is.events mirrored is.are_events others;
   damage = tell.damage header.system profile (recording_of bytes).intervals is.events is.are_events;
+  rough_damage = tell.rough_damage header.system profile (recording_of bytes).intervals is.events is.are_events;
 }
 
 pub reports_the_tape : TellTheTape → (profile : Profile) (bytes written : List ℕ)

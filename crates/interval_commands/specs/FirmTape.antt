@@ -6,7 +6,7 @@ use Rattle.direction_reader.specs.declared.event.Event.{Event}
 use Rattle.direction_reader.specs.FirmTape.{AreWitnessed, FirmTellsTheTape, IsJudged}
 use Rattle.direction_reader.specs.ListEvents.{AreEvents}
 use Rattle.direction_reader.specs.Mirror.{MirrorsTheTape}
-use Rattle.direction_reader.specs.Tape.{TellsTheTape, FindsTheTape}
+use Rattle.direction_reader.specs.Tape.{TellsTheTape, FindsTheTape, FindsTheTapeBehindOnes}
 use Rattle.interval_file.specs.declared.header.IntervalHeader.{IntervalHeader}
 use Rattle.interval_file.specs.Recording.{recording_of}
 use Rattle.interval_engine.specs.Along.{along_intervals}
@@ -28,6 +28,7 @@ pub record FirmlyReportsTheTape (profile : Profile) (bytes written : List ℕ) :
   pub judged : AllZip IsJudged plain whole.events
   pub truth : TellsTheTape header.system profile (recording_of bytes).intervals plain
   pub damage : FindsTheTape header.system profile (recording_of bytes).intervals plain
+  pub rough_damage : FindsTheTapeBehindOnes header.system profile (recording_of bytes).intervals plain
   pub mirror : (mirrored : List Event)
       → AreEvents header.system profile (reverse (recording_of bytes).intervals) mirrored
       → MirrorsTheTape header.system profile (recording_of bytes).intervals plain mirrored

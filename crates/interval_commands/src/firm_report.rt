@@ -14,7 +14,8 @@ use direction_reader::firm_laws::{
     firm_events_tell_the_tape,
 };
 use direction_reader::laws::{
-    each_list_has_events, events_find_the_tape_again, events_mirror_the_tape, events_tell_the_tape,
+    each_list_has_events, events_find_the_tape_again, events_find_the_tape_behind_even_ones,
+    events_mirror_the_tape, events_tell_the_tape,
 };
 use interval_engine::laws::recordings_grow;
 use interval_engine::{Behind, work_along};
@@ -48,6 +49,7 @@ fn a_firm_report_is_told()
     each_list_has_events();
     events_tell_the_tape();
     events_find_the_tape_again();
+    events_find_the_tape_behind_even_ones();
     events_mirror_the_tape();
 }
 
@@ -117,7 +119,7 @@ impl Behind for FirmReport {
     }
 
     /// A word that waits stands at the edge of its stretch.
-    fn finish<K: Sink>(&self, out: &mut K) -> Result<(), Stop> {
+    fn finish<K: Sink>(&mut self, out: &mut K) -> Result<(), Stop> {
         let mut counts = self.counts;
         counts.push(&self.reader.finish(), &self.header, out)?;
         push_line(

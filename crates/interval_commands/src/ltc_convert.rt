@@ -101,7 +101,7 @@ impl Behind for Conversion {
         false
     }
 
-    fn finish<K: Sink>(&self, _out: &mut K) -> Result<(), Stop> {
+    fn finish<K: Sink>(&mut self, _out: &mut K) -> Result<(), Stop> {
         Ok(())
     }
 }

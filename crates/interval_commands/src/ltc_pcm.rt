@@ -176,7 +176,7 @@ impl Behind for MadeSound {
         false
     }
 
-    fn finish<K: Sink>(&self, out: &mut K) -> Result<(), Stop> {
+    fn finish<K: Sink>(&mut self, out: &mut K) -> Result<(), Stop> {
         match self.side {
             Side::High => push_piece(out, &self.above.as_slice()[..2]),
             Side::Low => push_piece(out, &self.below.as_slice()[..2]),

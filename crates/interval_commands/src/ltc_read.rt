@@ -24,7 +24,8 @@ use crate::laws::what_is_printed_is_in_order;
 use biphase::Profile;
 use direction_reader::laws::{
     a_list_has_one_list_of_events, a_reader_gives_the_events_of_its_list,
-    events_find_the_tape_again, events_mirror_the_tape, events_tell_the_tape,
+    events_find_the_tape_again, events_find_the_tape_behind_even_ones, events_mirror_the_tape,
+    events_tell_the_tape,
 };
 use direction_reader::{Brought, DirectionReader, Event, Events};
 use interval_engine::laws::recordings_grow;
@@ -57,6 +58,7 @@ fn a_report_is_told()
     reports_are_lawful();
     events_tell_the_tape();
     events_find_the_tape_again();
+    events_find_the_tape_behind_even_ones();
     events_mirror_the_tape();
 }
 
@@ -253,7 +255,7 @@ impl Behind for Report {
         false
     }
 
-    fn finish<K: Sink>(&self, out: &mut K) -> Result<(), Stop> {
+    fn finish<K: Sink>(&mut self, out: &mut K) -> Result<(), Stop> {
         push_line(out, &self.end_text())
     }
 }

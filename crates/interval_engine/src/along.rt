@@ -120,16 +120,16 @@ pub trait Behind: Drop {
             → stands self.now choice header intervals written → ¬ Printing.spent (printing choice) header intervals };
 
     /// Takes the end of the recording, and writes what stands last.
-    fn finish<K: Sink>(&self, out: &mut K) -> Result<(), Stop>
-        requires fits { (count : ℕ) × (count ≤ MAX_INTERVALS) × fits self.now count }
-        requires settled { is_settled self.now }
+    fn finish<K: Sink>(&mut self, out: &mut K) -> Result<(), Stop>
+        requires fits { (count : ℕ) × (count ≤ MAX_INTERVALS) × fits self.old count }
+        requires settled { is_settled self.old }
         ensures ends { OnOk result ((choice : Self.Choice) (header : IntervalHeader) (intervals written : List ℕ)
-            → stands self.now choice header intervals written
+            → stands self.old choice header intervals written
             → (more : List ℕ) × Appends (K.written out.old) (K.written out.new) more
             × Printing.whole (printing choice) header intervals (written ++ more)) }
         ensures front { IfErr result (λ stop. (stop ≡ Stop.WriteFault)
             × ((choice : Self.Choice) (header : IntervalHeader) (intervals written : List ℕ)
-            → stands self.now choice header intervals written
+            → stands self.old choice header intervals written
             → (last : List ℕ) × Printing.whole (printing choice) header intervals (written ++ last)
             × AppendsFront (K.written out.old) (K.written out.new) last)) }
         ensures cause { HasOutCause (K.faults out.old) (K.faults out.new) result };
@@ -446,12 +446,12 @@ impl<B: Behind> Engine for Along<B> {
         self.push_gathered(out)
     }
 
-    fn finish<K: Sink>(&self, out: &mut K) -> Result<(), Stop> {
+    fn finish<K: Sink>(&mut self, out: &mut K) -> Result<(), Stop> {
         the_decoder_reads_what_is_said();
         if let Err(fault) = self.decoder.finish() {
             return Err(Stop::Refused(InputFault::Intervals(fault)));
         }
-        match &self.behind {
+        match &mut self.behind {
             Some(behind) => behind.finish(out),
             None => unreachable!(),
         }

@@ -5,7 +5,7 @@ use Rattle.std.specs.Fmt.{digits}
 use Rattle.made_commands.specs.About.{usage_line}
 use Rattle.made_commands.specs.Labels.{number_line}
 
-a_usage : usage_line (codes "ltc-fly", codes " LIMIT [worn|rough]") ≡ codes "ltc-fly LIMIT [worn|rough]\n"
+a_usage : usage_line (codes "ltc-fly", codes " LIMIT [worn|rough [firm]]") ≡ codes "ltc-fly LIMIT [worn|rough [firm]]\n"
 a_usage = refl
 
 a_number : number_line 90_000 ≡ codes "90000\n"

@@ -1,12 +1,11 @@
 -- A full message and then pairs of frames, eight quarter frames each, are read pair by pair, whatever bytes came
 -- before. It is said once of both directions: between two pairs no window has its pieces in order.
-use Rattle.std.proofs.Common.{◌≡◌, ◌<◌, ℕ, ◌+◌, ◌*◌, ◌/◌, ◌%◌, List, [], ◌∷◌, ◌++◌, length, map, slice_index, take}
+use Rattle.std.proofs.Common.{◌≡◌, ◌<◌, ℕ, ◌+◌, ◌*◌, ◌/◌, ◌%◌, List, [], ◌∷◌, ◌++◌, length, slice_index, take}
 use Rattle.std.proofs.Common.{Some}
 use Rattle.std.proofs.Common.{refl, sym, ◌∙◌, ap, subst, append_assoc, append-nil, arith}
 use Rattle.std.specs.Prelude.{reverse}
 use Rattle.std.specs.List.{flat_map}
 use Rattle.std.proofs.lemmas.Bool.{cond-true}
-use Rattle.std.proofs.lemmas.List.{map-append}
 use Rattle.tc_address.specs.Label.{Address, IsLabel, is_label}
 use Rattle.tc_address.specs.LabelLemmas.{label_is}
 use Rattle.tc_address.specs.declared.direction.Direction.{Direction}
@@ -18,7 +17,7 @@ use Rattle.mtc_reader.specs.declared.message.Message.{Message}
 use Rattle.mtc_reader.specs.declared.message.Message.TheVariants.{FullMessage}
 use Rattle.mtc_reader.specs.Events.{events_in, fault_of, full_address, full_event, latest_eight, piece_of}
 use Rattle.mtc_reader.specs.Events.{quarter_address, quarter_event, row_in, window_event}
-use Rattle.mtc_reader.specs.Laws.{at_no_place, code_of, full_message, numbers_of, quarter_events, quarters, AreLabels}
+use Rattle.mtc_reader.specs.Laws.{code_of, full_message, numbers_of, quarter_events, quarters, run_events, AreLabels}
 use Rattle.mtc_reader.specs.Messages.{Current, current_in, messages_in, without_real_time}
 use Rattle.mtc_reader.specs.StandsFor.{events_of, padded}
 use Rattle.mtc_reader.proofs.AlongTheBytes.{all_along, along, events_after, events_along}
@@ -209,41 +208,44 @@ label_back direction sent is a l =
 abbrev all_sent : (Address → List ℕ) → List Address → List ℕ
 all_sent sent labels = flat_map (λ a. quarters (sent a)) labels
 
+-- a pair is sixteen bytes
+behind_pair : (place : ℕ) (sent : List ℕ) → IsPair sent → place_behind place sent ≡ place + 16
+behind_pair place sent p = subst (λ (l : List ℕ). place_behind place l ≡ place + 16) (sym p.are) (omega arith)
+
 -- pair after pair, and then whatever gives nothing
 run_along : (direction : Direction) (sent : Address → List ℕ) → IsSent direction sent
     → (labels : List Address) (tail : List ℕ) (place : ℕ) (current : Current) (messages : List Message)
     → AreLabels labels → Ready messages
     → ((p : ℕ) (c : Current) (ms : List Message) → Ready ms → events_along p c ms tail ≡ [])
-    → map at_no_place (events_along place current messages (all_sent sent labels ++ tail))
-    ≡ quarter_events direction labels
-run_along direction sent is [] tail place current messages are ready none =
-    ap (map at_no_place) (none place current messages ready)
+    → events_along place current messages (all_sent sent labels ++ tail) ≡ quarter_events place direction labels
+run_along direction sent is [] tail place current messages are ready none = none place current messages ready
 run_along direction sent is (a ∷ labels) tail place current messages are ready none =
     let pair = is.pair a are.0 in
     let more = all_sent sent labels ++ tail in
     let behind = events_along (place_behind place (sent a)) (current_behind current (sent a))
     (messages_behind messages (sent a)) more in
-    ap (λ bytes. map at_no_place (events_along place current messages bytes))
+    ap (λ bytes. events_along place current messages bytes)
     (append_assoc (quarters (sent a)) (all_sent sent labels) tail)
-    ∙ ap (map at_no_place) (pair_along place current messages (sent a) more pair ready)
-    ∙ ap (λ (es : List MtcEvent). map at_no_place (es ++ behind)) (label_given direction sent is a (place + 15) are.0)
-    ∙ ap (λ (events : List MtcEvent). Quarter direction a 0 ∷ events)
-    (run_along direction sent is labels tail _ _ _ are.1 (ready_behind messages (sent a) pair ready) none)
+    ∙ pair_along place current messages (sent a) more pair ready
+    ∙ ap (λ (es : List MtcEvent). es ++ behind) (label_given direction sent is a (place + 15) are.0)
+    ∙ ap (λ (events : List MtcEvent). Quarter direction a (place + 15) ∷ events)
+    (run_along direction sent is labels tail _ _ _ are.1 (ready_behind messages (sent a) pair ready) none
+    ∙ ap (λ (p : ℕ). quarter_events p direction labels) (behind_pair place (sent a) pair))
 
 -- a full message is read from any state
 full_along : (place : ℕ) (current : Current) (messages : List Message) (device : ℕ) (a : Address) (more : List ℕ)
     → device < 0x80 → IsLabel a
-    → map at_no_place (events_along place current messages (full_message device a ++ more))
-    ≡ Full a 0 ∷ map at_no_place (events_along (on (on (on (on (on place)))))
-    (record { kind = kinds.Other; numbers = [] })
-    (FullMessage (32 * code_of a.count + a.hours) a.minutes a.seconds a.frames ∷ messages) more)
+    → events_along place current messages (full_message device a ++ more)
+    ≡ Full a (place + 9) ∷ events_along (place + 10) (record { kind = kinds.Other; numbers = [] })
+    (FullMessage (32 * code_of a.count + a.hours) a.minutes a.seconds a.frames ∷ messages) more
 full_along place current messages device a more small l =
     let hours : 32 * code_of a.count + a.hours < 0x80 = omega (arith, l.hours, code_below a.count) in
     let last = on (on (on (on place))) + 1 in
-    let later = events_along (on (on (on (on (on place))))) (record { kind = kinds.Other; numbers = [] })
+    let later = λ (p : ℕ). events_along p (record { kind = kinds.Other; numbers = [] })
     (FullMessage (32 * code_of a.count + a.hours) a.minutes a.seconds a.frames ∷ messages) more in
+    let behind = on (on (on (on (on place)))) in
     let read : events_along place current messages (full_message device a ++ more)
-    ≡ full_event (full_address (32 * code_of a.count + a.hours) a.minutes a.seconds a.frames) last ∷ later =
+    ≡ full_event (full_address (32 * code_of a.count + a.hours) a.minutes a.seconds a.frames) last ∷ later behind =
     rw (
       below device small,
       below (32 * code_of a.count + a.hours) hours,
@@ -256,36 +258,40 @@ full_along place current messages device a more small l =
       sounds a.seconds (omega (arith, l.seconds)),
       sounds a.frames (omega (arith, frames_below a l)),
     ) refl in
-    ap (map at_no_place) (read ∙ ap (λ b. full_event b last ∷ later) (full_back a l)
-    ∙ ap (λ event. event ∷ later) (cond-true (is_label a) (Full a last) (RefusedFull (fault_of a) last) (label_is a l)))
+    let nine : last ≡ place + 9 = omega arith in
+    let ten : behind ≡ place + 10 = omega arith in
+    read ∙ ap (λ b. full_event b last ∷ later behind) (full_back a l)
+    ∙ ap (λ event. event ∷ later behind)
+    (cond-true (is_label a) (Full a last) (RefusedFull (fault_of a) last) (label_is a l))
+    ∙ ap (λ (n : ℕ). Full a n ∷ later behind) nine ∙ ap (λ (n : ℕ). Full a (place + 9) ∷ later n) ten
 
 -- and what comes after it, after whatever bytes, is read on its own
 run_after : (direction : Direction) (sent : Address → List ℕ) → IsSent direction sent
     → (before : List ℕ) (device : ℕ) (first : Address) (labels : List Address) (tail : List ℕ)
     → device < 0x80 → IsLabel first → AreLabels labels
     → ((p : ℕ) (c : Current) (ms : List Message) → Ready ms → events_along p c ms tail ≡ [])
-    → map at_no_place (events_in (before ++ (full_message device first ++ (all_sent sent labels ++ tail))))
-    ≡ map at_no_place (events_in before) ++ Full first 0 ∷ quarter_events direction labels
+    → events_in (before ++ (full_message device first ++ (all_sent sent labels ++ tail)))
+    ≡ events_in before ++ run_events (length before) direction first labels
 run_after direction sent is before device first labels tail small l are none =
     let pairs = all_sent sent labels ++ tail in
     let bytes = full_message device first ++ pairs in
     let sounding = without_real_time (reverse before) in
     let earlier = messages_in sounding in
     let full = FullMessage (32 * code_of first.count + first.hours) first.minutes first.seconds first.frames in
-    ap (map at_no_place) (along before bytes) ∙ map-append at_no_place (events_in before) (events_after before bytes)
-    ∙ ap (λ (es : List MtcEvent). map at_no_place (events_in before) ++ es)
+    along before bytes
+    ∙ ap (λ (es : List MtcEvent). events_in before ++ es)
     (full_along (length before) (current_in sounding) earlier device first pairs small l
-    ∙ ap (λ (es : List MtcEvent). Full first 0 ∷ es)
+    ∙ ap (λ (es : List MtcEvent). Full first (length before + 9) ∷ es)
     (run_along direction sent is labels tail _ _ (full ∷ earlier) are (empty_ready (full ∷ earlier) refl) none))
 
 -- with nothing behind it
 pub whole_after : (direction : Direction) (sent : Address → List ℕ) → IsSent direction sent
     → (before : List ℕ) (device : ℕ) (first : Address) (labels : List Address)
     → device < 0x80 → IsLabel first → AreLabels labels
-    → map at_no_place (events_in (before ++ (full_message device first ++ all_sent sent labels)))
-    ≡ map at_no_place (events_in before) ++ Full first 0 ∷ quarter_events direction labels
+    → events_in (before ++ (full_message device first ++ all_sent sent labels))
+    ≡ events_in before ++ run_events (length before) direction first labels
 whole_after direction sent is before device first labels small l are =
-    ap (λ (pairs : List ℕ). map at_no_place (events_in (before ++ (full_message device first ++ pairs))))
+    ap (λ (pairs : List ℕ). events_in (before ++ (full_message device first ++ pairs)))
     (sym (append-nil (all_sent sent labels)))
     ∙ run_after direction sent is before device first labels [] small l are (λ p c ms ready. refl)
 
@@ -293,9 +299,8 @@ whole_after direction sent is before device first labels small l are =
 pub half_after : (direction : Direction) (sent : Address → List ℕ) → IsSent direction sent
     → (before : List ℕ) (device : ℕ) (first : Address) (labels : List Address) (half : Address)
     → device < 0x80 → IsLabel first → AreLabels labels → IsLabel half
-    → map at_no_place (events_in (before
-    ++ (full_message device first ++ (all_sent sent labels ++ quarters (take 4 (sent half))))))
-    ≡ map at_no_place (events_in before) ++ Full first 0 ∷ quarter_events direction labels
+    → events_in (before ++ (full_message device first ++ (all_sent sent labels ++ quarters (take 4 (sent half)))))
+    ≡ events_in before ++ run_events (length before) direction first labels
 half_after direction sent is before device first labels half small l are h =
     run_after direction sent is before device first labels (quarters (take 4 (sent half))) small l are
     (λ p c ms ready. half_along p c ms (sent half) (is.pair half h) ready)

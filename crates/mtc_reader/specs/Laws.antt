@@ -1,5 +1,5 @@
--- What the laws speak of: events but for their places, and system real-time bytes.
-use Rattle.std.specs.Prelude.{ℕ, ◌+◌, ◌*◌, ◌/◌, ◌%◌, ◌≤◌, List, [], ◌∷◌, map, reverse, take}
+-- What the laws speak of: the events of a run that is sent whole, events but for their places, and system real-time bytes.
+use Rattle.std.specs.Prelude.{ℕ, ◌+◌, ◌*◌, ◌/◌, ◌%◌, ◌≤◌, List, [], ◌∷◌, reverse, take}
 use Rattle.std.specs.List.{flat_map}
 use Rattle.tc_address.specs.declared.direction.Direction.{Direction}
 use Rattle.tc_address.specs.declared.count.Count.{Count}
@@ -70,6 +70,13 @@ all_rising labels = flat_map rising labels
 abbrev pub all_falling : List Address → List ℕ
 all_falling labels = flat_map falling labels
 
--- the quarter events of labels, but for their places
-abbrev pub quarter_events : Direction → List Address → List MtcEvent
-quarter_events direction labels = map (λ label. Quarter direction label 0) labels
+-- the quarter events of labels that are sent one after another from a byte place on: each with its last byte, of eight
+-- quarter frames of two bytes
+abbrev pub quarter_events : ℕ → Direction → List Address → List MtcEvent
+quarter_events at direction [] = []
+quarter_events at direction (label ∷ more) =
+    Quarter direction label (at + 15) ∷ quarter_events (at + 16) direction more
+
+-- the events of a run that is sent from a byte place on: its full message, of ten bytes, and then the labels
+abbrev pub run_events : ℕ → Direction → Address → List Address → List MtcEvent
+run_events at direction first labels = Full first (at + 9) ∷ quarter_events (at + 10) direction labels

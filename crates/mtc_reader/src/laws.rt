@@ -1,5 +1,5 @@
 //! What follows from the definitions alone.
-ghost use Rattle.std.specs.Prelude.{◌≡◌, ◌<◌, ◌++◌, ℕ, List, [], ◌∷◌, map, false};
+ghost use Rattle.std.specs.Prelude.{◌≡◌, ◌<◌, ◌++◌, ℕ, List, [], ◌∷◌, length, map, false};
 ghost use Rattle.tc_address.specs.declared.direction.Direction.TheVariants.{Forward, Backward};
 ghost use Rattle.tc_address.specs.declared.label.LabelFault.{LabelFault};
 ghost use Rattle.tc_address.specs.Label.{Address, IsFirstFault, IsLabel, is_label};
@@ -14,9 +14,9 @@ ghost use Rattle.mtc_reader.specs.Laws.{
   falling,
   falling_half,
   full_message,
-  quarter_events,
   rising,
   rising_half,
+  run_events,
   AreLabels,
   AreRealTime,
 };
@@ -52,25 +52,25 @@ pub fn a_label_is_read_back()
 {}
 
 /// After whatever bytes, a full message and then pairs of frames, eight quarter frames each, are read as
-/// the label of the full message and one label a pair; half a pair behind them gives nothing.
+/// the label of the full message and one label a pair, each with the place of its last byte; half a pair
+/// behind them gives nothing.
 pub fn a_run_is_read_back()
     ensures forward { (before : List ℕ) (device : ℕ) (first : Address) (labels : List Address) → device < 0x80
         → IsLabel first → AreLabels labels
-        → map at_no_place (events_in (before ++ (full_message device first ++ all_rising labels)))
-        ≡ map at_no_place (events_in before) ++ Full first 0 ∷ quarter_events Forward labels }
+        → events_in (before ++ (full_message device first ++ all_rising labels))
+        ≡ events_in before ++ run_events (length before) Forward first labels }
     ensures forward_half { (before : List ℕ) (device : ℕ) (first : Address) (labels : List Address) (half : Address)
         → device < 0x80 → IsLabel first → AreLabels labels → IsLabel half
-        → map at_no_place (events_in (before ++ (full_message device first ++ (all_rising labels ++ rising_half half))))
-        ≡ map at_no_place (events_in before) ++ Full first 0 ∷ quarter_events Forward labels }
+        → events_in (before ++ (full_message device first ++ (all_rising labels ++ rising_half half)))
+        ≡ events_in before ++ run_events (length before) Forward first labels }
     ensures backward { (before : List ℕ) (device : ℕ) (first : Address) (labels : List Address) → device < 0x80
         → IsLabel first → AreLabels labels
-        → map at_no_place (events_in (before ++ (full_message device first ++ all_falling labels)))
-        ≡ map at_no_place (events_in before) ++ Full first 0 ∷ quarter_events Backward labels }
+        → events_in (before ++ (full_message device first ++ all_falling labels))
+        ≡ events_in before ++ run_events (length before) Backward first labels }
     ensures backward_half { (before : List ℕ) (device : ℕ) (first : Address) (labels : List Address) (half : Address)
         → device < 0x80 → IsLabel first → AreLabels labels → IsLabel half
-        → map at_no_place (events_in (before
-        ++ (full_message device first ++ (all_falling labels ++ falling_half half))))
-        ≡ map at_no_place (events_in before) ++ Full first 0 ∷ quarter_events Backward labels }
+        → events_in (before ++ (full_message device first ++ (all_falling labels ++ falling_half half)))
+        ≡ events_in before ++ run_events (length before) Backward first labels }
 {}
 
 /// An address with a first fault is no label, and that fault is told of it.

@@ -1,6 +1,6 @@
 -- What a reader of MIDI Time Code reads of frames that are sent: run by run, one full message and then one label for
--- each two frames.
-use Rattle.std.specs.Prelude.{◌≡◌, Bool, true, cond, List, [], ◌∷◌, ◌++◌, map}
+-- each two frames, each at the byte that completes it.
+use Rattle.std.specs.Prelude.{◌≡◌, ℕ, ◌+◌, ◌*◌, Bool, true, cond, List, [], ◌∷◌, ◌++◌, length, map}
 use Rattle.std.specs.List.{flat_map, take_while}
 use Rattle.tc_address.specs.declared.direction.Direction.{Direction}
 use Rattle.tc_address.specs.declared.direction.Direction.TheVariants.{Forward, Backward}
@@ -45,27 +45,37 @@ pub record IsNeighbour (first second : Placed) : Type 0 where
   pub direction : second.direction ≡ first.direction
   pub label : before (later first.direction first.label second.label) ≡ earlier first.direction first.label second.label
 
--- the labels of the quarter frames of a run: for each two frames the earlier one, with the run's direction. The last
--- frame is read where it is one of two
-abbrev pub pairs_read : List Placed → List MtcEvent
-pairs_read [] = []
-pairs_read (first ∷ []) = []
-pairs_read (first ∷ second ∷ more) =
-    Quarter first.direction (earlier first.direction first.label second.label) 0 ∷ pairs_read more
+-- the labels of the quarter frames of a run, which begin at a byte place: for each two frames the earlier one, with the
+-- run's direction, at the last of the pair's sixteen bytes. The last frame is read where it is one of two
+abbrev pub pairs_read : ℕ → List Placed → List MtcEvent
+pairs_read at [] = []
+pairs_read at (first ∷ []) = []
+pairs_read at (first ∷ second ∷ more) =
+    Quarter first.direction (earlier first.direction first.label second.label) (at + 15) ∷ pairs_read (at + 16) more
 
--- a run, by its first frame and the others: a full message with the first label, and the pairs
-abbrev pub run_read : Frame → List Frame → List MtcEvent
-run_read first others = map (λ (f : Placed). Full f.label 0) (placed first) ++ pairs_read (all_placed (first ∷ others))
+-- a run that begins at a byte place, by its first frame and the others: a full message of ten bytes with the first
+-- label, and the pairs
+abbrev pub run_read : ℕ → Frame → List Frame → List MtcEvent
+run_read at first others =
+    map (λ (f : Placed). Full f.label (at + 9)) (placed first) ++ pairs_read (at + 10) (all_placed (first ∷ others))
 
--- the runs, one after another; `fresh` says whether the first frame here comes first or after an end
-abbrev pub read_from : Bool → List Frame → List MtcEvent
-read_from fresh [] = []
-read_from fresh (frame ∷ more) =
-    cond (begins_run fresh frame) (run_read frame (take_while goes_on more)) [] ++ read_from (is_gone frame) more
+-- how many bytes a run is: the full message, and four quarter frames of two bytes for each frame
+abbrev pub run_length : Frame → List Frame → ℕ
+run_length first others = 10 + 8 * length (all_placed (first ∷ others))
 
--- what is read of frames, but for the places
+-- the runs, one after another, from a byte place on; `fresh` says whether the first frame here comes first or after an
+-- end
+abbrev pub read_from : ℕ → Bool → List Frame → List MtcEvent
+read_from at fresh [] = []
+read_from at fresh (frame ∷ more) =
+    let others = take_while goes_on more in
+    cond (begins_run fresh frame)
+    (run_read at frame others ++ read_from (at + run_length frame others) (is_gone frame) more)
+    (read_from at (is_gone frame) more)
+
+-- what is read of frames
 abbrev pub read_of : List Frame → List MtcEvent
-read_of frames = read_from true frames
+read_of frames = read_from 0 true frames
 
 -- each word has a label
 abbrev pub AreLabelled : List HeardWord → Type 0

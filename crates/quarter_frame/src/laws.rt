@@ -1,5 +1,5 @@
 //! What follows from the definitions alone, and messages from outside.
-ghost use Rattle.std.specs.Prelude.{◌≡◌, ℕ, List, [], ◌∷◌, ◌++◌, map, true, false};
+ghost use Rattle.std.specs.Prelude.{◌≡◌, ℕ, List, [], ◌∷◌, ◌++◌, true, false};
 ghost use Rattle.tc_address.specs.declared.count.Count.TheVariants.{C24, C25, C30, Drop30};
 ghost use Rattle.tc_address.specs.declared.direction.Direction.TheVariants.{Forward, Backward};
 ghost use Rattle.tc_address.specs.Label.{Address, address};
@@ -8,7 +8,6 @@ ghost use Rattle.flywheel.specs.declared.frame.Frame.{Frame};
 ghost use Rattle.flywheel.specs.declared.heard.HeardWord.{HeardWord};
 ghost use Rattle.flywheel.specs.Frames.{frames};
 ghost use Rattle.mtc_reader.specs.Events.{events_in};
-ghost use Rattle.mtc_reader.specs.Laws.{at_no_place};
 ghost use Rattle.quarter_frame.specs.ReadAgain.{placed, read_of, AreLabelled, IsNeighbour, Placed};
 ghost use Rattle.quarter_frame.specs.Runs.{before, four_of, mtc_of, quarters};
 ghost use Rattle.flywheel.specs.GoOn.{goes_on};
@@ -44,10 +43,11 @@ pub fn messages_of_each_count()
 {}
 
 /// What is sent of the frames of words is read as these frames: run by run a full message with the first
-/// label, and then, for each two frames, their earlier label with the run's direction.
+/// label, and then, for each two frames, their earlier label with the run's direction, each at the byte
+/// that completes it.
 pub fn what_is_sent_is_read_back()
     ensures events { (limit last : ℕ) (words : List HeardWord) → AreLabelled words
-        → map at_no_place (events_in (mtc_of (frames limit words last))) ≡ read_of (frames limit words last) }
+        → events_in (mtc_of (frames limit words last)) ≡ read_of (frames limit words last) }
     ensures neighbours { (limit last : ℕ) (words : List HeardWord) (front rest : List Frame) (first second : Frame)
         → AreLabelled words
         → frames limit words last ≡ front ++ first ∷ second ∷ rest → goes_on second ≡ true

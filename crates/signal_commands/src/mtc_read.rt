@@ -133,7 +133,7 @@ impl Engine for MtcReport {
         Ok(())
     }
 
-    fn finish<K: Sink>(&self, out: &mut K) -> Result<(), Stop> {
+    fn finish<K: Sink>(&mut self, out: &mut K) -> Result<(), Stop> {
         let bytes = self.reader.bytes();
         push_line(
             out,

@@ -204,7 +204,7 @@ impl Engine for SlicedSound {
         self.gathered.push(out)
     }
 
-    fn finish<K: Sink>(&self, _out: &mut K) -> Result<(), Stop> {
+    fn finish<K: Sink>(&mut self, _out: &mut K) -> Result<(), Stop> {
         match self.half {
             Some(_) => Err(Stop::Refused(InputFault::HalfSample(2 * self.samples + 1))),
             None => Ok(()),

@@ -113,7 +113,7 @@ impl Engine for FieldReport {
         Ok(())
     }
 
-    fn finish<K: Sink>(&self, out: &mut K) -> Result<(), Stop> {
+    fn finish<K: Sink>(&mut self, out: &mut K) -> Result<(), Stop> {
         match self.decoder.finish() {
             Ok(()) => push_line(
                 out,

@@ -246,7 +246,7 @@ impl Engine for SlicedTrack {
         self.gathered.push(out)
     }
 
-    fn finish<K: Sink>(&self, _out: &mut K) -> Result<(), Stop> {
+    fn finish<K: Sink>(&mut self, _out: &mut K) -> Result<(), Stop> {
         match self.decoder.finish() {
             Ok(()) => Ok(()),
             Err(fault) => Err(Stop::Refused(InputFault::Sound(fault))),

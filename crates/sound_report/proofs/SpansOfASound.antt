@@ -8,6 +8,9 @@ use Rattle.direction_reader.specs.declared.event.Event.{Event}
 use Rattle.direction_reader.specs.ListEvents.{AreEvents}
 use Rattle.direction_reader.specs.Played.{Played, events_of_words}
 use Rattle.flywheel.specs.declared.frame.Frame.{Frame}
+use Rattle.tc_job.specs.declared.witness.Witness.{Witness}
+use Rattle.tc_job.specs.declared.witness.Witness.TheVariants.{NotAsked}
+use Rattle.frame_commands.specs.Heard.{AreHeard}
 use Rattle.frame_commands.specs.LtcSpans.{spanned_recording, spans_counted}
 use Rattle.frame_commands.specs.OfFrames.{frames_of}
 use Rattle.interval_engine.specs.Along.{IsWholeOf}
@@ -31,14 +34,14 @@ LastLaw = (tick_rate : ℕ) (system : System) (frames : List Frame)
     ≡ lines_behind tick_rate system None (spans frames)
 
 -- the spans of a file of distances, of which the events are words on time
-pub spanned : FileLaw → LastLaw → (flight : Flight) (header : IntervalHeader) (delay tick : ℕ) (tape : List Cell)
+pub spanned : FileLaw → LastLaw → (flight : Flight) → flight.witness ≡ NotAsked → (header : IntervalHeader) (delay tick : ℕ) (tape : List Cell)
     (words : List Played) (distances written text : List ℕ) → IsTickRate header.tick_rate
     → AllByRecursion IsInterval distances → length distances ≤ MAX_INTERVALS → written ≡ file_of header distances
     → ((events : List Event) → AreEvents header.system flight.profile distances events
     → AreOnTime delay events (events_of_words tick (drop 2 tape) words))
     → IsWholeOf (spanned_recording flight) (recording_of written) text
     → TellsSpans header flight delay tick tape words distances text
-spanned files ends flight header delay tick tape words distances written text rate fit few are read whole =
+spanned files ends flight asked header delay tick tape words distances written text rate fit few are read whole =
     let file : IsFile written header distances =
     record { tick_rate = rate; range = in_range distances fit; are = are } in
     let own = subst (λ (r : Recording). IsWholeOf (spanned_recording flight) r text)
@@ -46,7 +49,8 @@ spanned files ends flight header delay tick tape words distances written text ra
     let fs : List Frame = frames_of flight.limit distances own.events in
     record {
       events = own.events;
-      on_time = read own.events own.are_events;
+      on_time = read own.events
+          (subst (λ (w : Witness). AreHeard w header.system flight.profile distances own.events) asked own.are_events);
       are = own.are
           ∙ sym (append_assoc (final_lines header.tick_rate header.system fs)
           (open_line header.tick_rate header.system fs) (spans_counted distances fs))

@@ -22,6 +22,7 @@ ghost use Rattle.sound_report.specs.WordsSpans.{TellsSpans};
 ghost use Rattle.tape_sound.specs.Heard.{BeginsLate, FitsAFile, FitsBehindASilence, HasMargin};
 ghost use Rattle.tc_command.specs.Meaning.{Meaning};
 ghost use Rattle.tc_job.specs.declared.flight.Flight.{Flight};
+ghost use Rattle.tc_job.specs.declared.witness.Witness.TheVariants.{NotAsked};
 ghost use Rattle.tc_job.specs.declared.job.Job.{Job};
 ghost use Rattle.tc_job.specs.Slicing.{Slices, IsSlicing};
 ghost use Rattle.tc_job.specs.WaveSlicing.{SlicesWave};
@@ -81,7 +82,7 @@ pub fn what_is_sliced_of_a_track_is_reported()
 /// the words of the tape, each on time.
 pub fn the_spans_of_a_margin_are_told()
     ensures { (flight : Flight) (s : Slices) (tape : List Cell) (words : List Played) (sound written text : List ℕ)
-        → IsSlicing s
+        → flight.witness ≡ NotAsked → IsSlicing s
         → (margin : HasMargin flight.profile s.fineness s.threshold tape (sums s.smooth (samples_of sound)))
         → FitsAFile margin.delay tape
         → AreWhole s.live s.system (s.rate * s.fineness) (settings_for s) (samples_of sound)
@@ -100,7 +101,8 @@ pub fn the_spans_of_a_margin_are_told()
 /// `wav-ltc` and then `ltc-spans`: the same of a track, whose tape begins behind a silence.
 pub fn the_spans_of_a_track_are_told()
     ensures { (flight : Flight) (w : SlicesWave) (format : WaveFormat) (tape : List Cell) (words : List Played)
-        (file written text : List ℕ) → (reading_of w.track file).format ≡ Some format
+        (file written text : List ℕ) → flight.witness ≡ NotAsked
+        → (reading_of w.track file).format ≡ Some format
         → (margin : HasMargin flight.profile 16 w.threshold tape (sums w.smooth (reading_of w.track file).samples))
         → BeginsLate margin.delay margin.start tape → FitsBehindASilence margin.delay margin.start tape
         → AreWhole w.live w.system (16 * format.rate) (track_settings w) (reading_of w.track file).samples
@@ -140,12 +142,13 @@ pub fn the_words_of_a_sound_come_out_of_two_runs()
         → ReportsWords (sliced_header s) is.margin.delay (duration (take 2 tape)) tape words
         (distances s.fineness s.threshold (sums s.smooth (samples_of sound))) text }
     ensures spans { (flight : Flight) (s : Slices) (tape : List Cell) (words : List Played) (sound text : List ℕ)
-        → (is : SoundsWords flight.profile s tape words sound)
+        → flight.witness ≡ NotAsked → (is : SoundsWords flight.profile s tape words sound)
         → Piped (Job.PcmLtc s) (Job.LtcSpans flight) sound text
         → TellsSpans (sliced_header s) flight is.margin.delay (duration (take 2 tape)) tape words
         (distances s.fineness s.threshold (sums s.smooth (samples_of sound))) text }
     ensures one_span { (flight : Flight) (s : Slices) (tape : List Cell) (first : Played) (more : List Played)
-        (sound text : List ℕ) → (is : SoundsWords flight.profile s tape (first ∷ more) sound)
+        (sound text : List ℕ) → flight.witness ≡ NotAsked
+        → (is : SoundsWords flight.profile s tape (first ∷ more) sound)
         → CountOn first more → KeepPace is.margin.delay (drop 2 tape) (first ∷ more)
         → Piped (Job.PcmLtc s) (Job.LtcSpans flight) sound text
         → TellsOneSpan (sliced_header s) is.margin.delay (duration (take 2 tape)) tape first more
@@ -164,13 +167,14 @@ pub fn the_words_of_a_track_come_out_of_two_runs()
         → ReportsWords (track_header w format) is.margin.delay (is.margin.start + duration (take 2 tape)) tape words
         (distances_from_start 16 w.threshold (sums w.smooth (reading_of w.track file).samples)) text }
     ensures spans { (flight : Flight) (w : SlicesWave) (format : WaveFormat) (tape : List Cell) (words : List Played)
-        (file text : List ℕ) → (is : TrackSoundsWords flight.profile w format tape words file)
+        (file text : List ℕ) → flight.witness ≡ NotAsked
+        → (is : TrackSoundsWords flight.profile w format tape words file)
         → Piped (Job.WavLtc w) (Job.LtcSpans flight) file text
         → TellsSpans (track_header w format) flight is.margin.delay (is.margin.start + duration (take 2 tape)) tape
         words
         (distances_from_start 16 w.threshold (sums w.smooth (reading_of w.track file).samples)) text }
     ensures one_span { (flight : Flight) (w : SlicesWave) (format : WaveFormat) (tape : List Cell) (first : Played)
-        (more : List Played) (file text : List ℕ)
+        (more : List Played) (file text : List ℕ) → flight.witness ≡ NotAsked
         → (is : TrackSoundsWords flight.profile w format tape (first ∷ more) file)
         → CountOn first more → KeepPace is.margin.delay (drop 2 tape) (first ∷ more)
         → Piped (Job.WavLtc w) (Job.LtcSpans flight) file text

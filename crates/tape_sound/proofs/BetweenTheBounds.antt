@@ -1,13 +1,15 @@
 -- Noise moves no crossing past those of the clean sound: where the sound lies on a side, the clean sound has reached it
 -- at the low bound, and where that reaches it at the high bound, the sound lies there.
-use Rattle.std.proofs.Common.{◌≡◌, ℕ, suc, ◌+◌, ◌-◌, ◌*◌, ◌<◌, ◌≤◌, max, true, ℤ, pos, ◌≤ℤ◌, Option, Some}
-use Rattle.std.proofs.Common.{List, [], ◌∷◌, map, ap, subst, sym, ◌∙◌, add-one, mul-suc, arith}
+use Rattle.std.proofs.Common.{◌≡◌, ℕ, zero, suc, ◌+◌, ◌-◌, ◌*◌, ◌<◌, ◌≤◌, max, Bool, true, false, cond, ℤ, pos, ◌≤ℤ◌}
+use Rattle.std.proofs.Common.{Option, Some, List, [], ◌∷◌, ◌++◌, ◌⊎◌, inl, inr, map, refl, ap, subst, sym, ◌∙◌, add-one}
+use Rattle.std.proofs.Common.{mul-suc, mul-le-mul_left, arith}
+use Rattle.std.specs.List.{AllByRecursion}
 use Rattle.std.specs.List.{filter, range_with_len}
 use Rattle.std.specs.Option.{option_or}
 use Rattle.pcm_front.specs.declared.side.Side.{Side}
 use Rattle.pcm_front.specs.declared.threshold.Threshold.{Threshold}
 use Rattle.pcm_front.specs.Level.{threshold_at}
-use Rattle.pcm_front.specs.Side.{sample_at, side_at, side_after, upward}
+use Rattle.pcm_front.specs.Side.{other_side, sample_at, side_at, side_after, upward}
 use Rattle.pcm_front.specs.Crossing.{apart, is_crossing, tick_to, moment}
 use Rattle.tape_sound.specs.Margin.{noise_in_step, reach_moment, reaches, tick_to_bound, turns, turns_by}
 use Rattle.tape_sound.specs.Margin.{ComeBehind, ComeWithin, HasRoom}
@@ -38,6 +40,50 @@ squeezed delay (c ∷ from) (l ∷ lows) (m ∷ ms) (h ∷ highs) low own high w
   omega (arith, high.0, within.1),
   squeezed delay from lows ms highs low.1 own.1 high.1 within.2,
 )
+
+-- each of them comes within the delay, or each but the last
+abbrev pub EndsWithin : ℕ → ℕ → List ℕ → List ℕ → Type 0
+EndsWithin delay last from ms = ComeWithin delay from ms ⊎ ComeWithin delay (from ++ last ∷ []) ms
+
+squeezed_but_last : (delay last : ℕ) (from lows ms highs : List ℕ) → ComeBehind lows (from ++ last ∷ [])
+    → ComeBehind ms lows → ComeBehind highs ms → ComeWithin delay from highs
+    → AllByRecursion (λ m. m ≤ last + delay) ms → EndsWithin delay last from ms
+squeezed_but_last delay last [] lows ms (h ∷ highs) low own high within most = absurd within
+squeezed_but_last delay last [] lows [] [] low own high within most = inl tt
+squeezed_but_last delay last [] [] (m ∷ ms) [] low own high within most = absurd own
+squeezed_but_last delay last [] (l ∷ lows) (m ∷ []) [] low own high within most =
+    inr (omega (arith, low.0, own.0), most.0, tt)
+squeezed_but_last delay last [] (l ∷ []) (m ∷ n ∷ ms) [] low own high within most = absurd own.1
+squeezed_but_last delay last [] (l ∷ o ∷ lows) (m ∷ n ∷ ms) [] low own high within most = absurd low.1
+squeezed_but_last delay last (c ∷ from) lows ms [] low own high within most = absurd within
+squeezed_but_last delay last (c ∷ from) lows [] (h ∷ highs) low own high within most = absurd high
+squeezed_but_last delay last (c ∷ from) [] (m ∷ ms) (h ∷ highs) low own high within most = absurd own
+squeezed_but_last delay last (c ∷ from) (l ∷ lows) (m ∷ ms) (h ∷ highs) low own high within most =
+    elim (squeezed_but_last delay last from lows ms highs low.1 own.1 high.1 within.2 most.1) [
+      | inl all ↦ inl (omega (arith, low.0, own.0), omega (arith, high.0, within.1), all)
+      | inr all ↦ inr (omega (arith, low.0, own.0), omega (arith, high.0, within.1), all)
+    ]
+
+-- a turn in so many places comes no later than the last of them
+one_most : (most m : ℕ) (b : Bool) (over on : List ℕ) → (b ≡ true → m ≤ most)
+    → AllByRecursion (λ t. t ≤ most) over → AllByRecursion (λ t. t ≤ most) on
+    → AllByRecursion (λ t. t ≤ most) (cond b (m ∷ over) on)
+one_most most m true over on small overs ons = (small refl, overs)
+one_most most m false over on small overs ons = ons
+
+turns_most : (f most : ℕ) (goes : ℕ → Side → Bool) (at : ℕ → Side → ℕ) (a k : ℕ)
+    → ((i : ℕ) → a ≤ i → i < a + k → (side : Side) → goes i side ≡ true → at i side ≤ f * (i + 1 - 1))
+    → f * (a + k - 1) ≤ most → (side : Side) → AllByRecursion (λ t. t ≤ most) (turns_by goes at side a k)
+turns_most f most goes at a zero bound ends side = tt
+turns_most f most goes at a (suc k) bound ends side =
+    let later : (s : Side) → AllByRecursion (λ t. t ≤ most) (turns_by goes at s (a + 1) k) =
+    turns_most f most goes at (a + 1) k (λ i g h. bound i (omega (arith, g)) (omega (arith, h)))
+    (subst (λ (n : ℕ). f * n ≤ most) (omega arith) ends) in
+    let grows : f * (a + 1 - 1) ≤ f * (a + suc k - 1) = mul-le-mul_left f (omega arith) in
+    one_most most (at a (other_side side)) (goes a (other_side side)) (turns_by goes at (other_side side) (a + 1) k)
+    (turns_by goes at side (a + 1) k)
+    (λ is. let own = bound a (omega arith) (omega arith) (other_side side) is in omega (arith, own, grows, ends))
+    (later (other_side side)) (later side)
 
 -- ---- a clean sound and noise
 
@@ -176,3 +222,21 @@ module _ (f : ℕ) (noise : ℕ → ℕ) (low high : ℕ → ℤ) (threshold : T
       subst (ComeWithin delay from) (sym (crossings_from side stop k low_bound (omega (arith, room)) stands))
       (squeezed delay from (turns f low clean side (stop + 1) k) own (turns f high clean side (stop + 1) k) behind lows
       highs within)
+
+  -- so it is where the clean sound may not go all the way behind the last moment, if nothing comes later than the delay
+  -- behind that one
+  pub part_within_but_last : (delay last : ℕ) (from : List ℕ) (side : Side) (stop k : ℕ) → first ≤ stop
+      → (stop + 1) + k ≤ end → reaches (high stop) side (sample_at clean stop) ≡ true
+      → ComeBehind (turns f low clean side (stop + 1) k) (from ++ last ∷ [])
+      → ComeWithin delay from (turns f high clean side (stop + 1) k) → f * ((stop + 1) + k - 1) ≤ last + delay
+      → EndsWithin delay last from (map (moment f threshold sound)
+      (filter (is_crossing threshold sound) (range_with_len (stop + 1) k)))
+  part_within_but_last delay last from side stop k low_bound room stands behind within ends =
+      let own = turns_by (lies_on threshold sound) (moment_to f threshold sound) side (stop + 1) k in
+      let lows = turns_behind f (first + 1) end _ _ _ _ low_leads (stop + 1) k (omega (arith, low_bound)) room side in
+      let highs = turns_behind f (first + 1) end _ _ _ _ high_leads (stop + 1) k (omega (arith, low_bound)) room side in
+      let all = turns_most f (last + delay) (lies_on threshold sound) (moment_to f threshold sound) (stop + 1) k
+      (λ i g h s is. high_leads.most i (omega (arith, g, low_bound)) (omega (arith, h, room)) s is) ends side in
+      subst (EndsWithin delay last from) (sym (crossings_from side stop k low_bound (omega (arith, room)) stands))
+      (squeezed_but_last delay last from (turns f low clean side (stop + 1) k) own
+      (turns f high clean side (stop + 1) k) behind lows highs within all)

@@ -4,6 +4,8 @@ pub mod BetweenTheBounds
 pub mod CrossingsAreTurns
 pub mod FitsAFile
 pub mod FollowedLevel
+pub mod FourTogether
+pub mod FromTheLock
 pub mod FoundCells
 pub mod FoundIsAChain
 pub mod FoundLength
@@ -12,6 +14,7 @@ pub mod Hundredth
 pub mod KeepsTheKinds
 pub mod KeepsTheLast
 pub mod KeepsTheSum
+pub mod LastTransition
 pub mod LastsLong
 pub mod LaterEvents
 pub mod MadeMargin

@@ -7,8 +7,8 @@ use Rattle.biphase.specs.declared.profile.Profile.{Profile}
 use Rattle.biphase.specs.Chain.{flat}
 use Rattle.biphase.specs.Tolerance.{length_of}
 use Rattle.pcm_front.specs.declared.threshold.Threshold.{Threshold}
-use Rattle.tape_sound.specs.Late.{IsSteady}
-use Rattle.tape_sound.specs.Margin.{ComeWithin, GoesOverAt, IsNoisy, StaysBetween}
+use Rattle.tape_sound.specs.Late.{AreFoundAs, IsSteady}
+use Rattle.tape_sound.specs.Margin.{ComeWithin, GoesOverAt, GoesOverToItsEnd, IsNoisy, StaysBetween}
 
 -- the transitions behind one at a tick, where these are the intervals between them
 abbrev pub transitions_after : ℕ → List ℕ → List ℕ
@@ -31,6 +31,18 @@ pub record AreHeard (profile : Profile) (delay : ℕ) (tape : List Cell) (cut : 
   pub place : length before ≡ cut
   pub within : ComeWithin delay heard moments
 
+-- each interval of a tape lasts two delays or more, so that no transition is found behind the next one
+abbrev pub LastTwoDelays : ℕ → List Cell → Type 0
+LastTwoDelays delay tape = AllByRecursion (λ interval. 2 * delay ≤ interval) (flat tape)
+
+-- these distances are the intervals of the cells of a tape as they are found
+pub record AreFoundCells (delay : ℕ) (tape : List Cell) (distances : List ℕ) : Type 0 where
+  pub first : ℕ
+  pub small : first ≤ delay
+  pub cells : List Cell
+  pub are : AreFoundAs delay first tape cells
+  pub same : distances ≡ flat cells
+
 -- a sound has a margin for a tape: it is a clean sound and some noise, its threshold stays between two bounds with room
 -- for the noise, and the clean sound goes over at each transition of the tape within the delay. The tape runs steadily
 -- for this delay
@@ -45,6 +57,23 @@ pub record HasMargin (profile : Profile) (fineness : ℕ) (threshold : Threshold
   pub noisy : IsNoisy noise clean sound
   pub stays : StaysBetween low high noise threshold sound
   pub goes_over : GoesOverAt fineness low high delay (transitions start tape) clean
+  pub steady : IsSteady profile delay tape
+
+-- the same of a sound that ends while it goes over at the tape's last transition
+pub record HasMarginToItsEnd (profile : Profile) (fineness : ℕ) (threshold : Threshold) (tape : List Cell)
+    (sound : List ℤ) : Type 0 where
+  pub delay : ℕ
+  pub start : ℕ
+  pub noise : ℕ → ℕ
+  pub low : ℕ → ℤ
+  pub high : ℕ → ℤ
+  pub clean : List ℤ
+  pub noisy : IsNoisy noise clean sound
+  pub stays : StaysBetween low high noise threshold sound
+  pub from : List ℕ
+  pub last : ℕ
+  pub are : transitions start tape ≡ from ++ last ∷ []
+  pub goes_over : GoesOverToItsEnd fineness low high delay from last clean
   pub steady : IsSteady profile delay tape
 
 -- the tape's intervals are none too long and none too many for a file, also where each is found late

@@ -39,6 +39,22 @@ abbrev pub IsSteady : Profile → ℕ → List Cell → Type 0
 IsSteady profile delay [] = Unit {0}
 IsSteady profile delay (cell ∷ tape) = RunOn profile delay (length_of cell) (cell ∷ tape)
 
+-- what the rough tolerance asks of a cell from a lock on, where the reader does not lock again: that it lasts longer
+-- than twelve drifts and nine delays together
+abbrev pub OutlastsFromALock : ℕ → ℕ → ℕ → Type 0
+OutlastsFromALock delay drift length = 12 * drift + 9 * delay < length
+
+-- cells that come behind one of so many ticks, each long enough for this
+abbrev pub RunOnFromALock : ℕ → ℕ → List Cell → Type 0
+RunOnFromALock delay before [] = Unit {0}
+RunOnFromALock delay before (cell ∷ tape) =
+    OutlastsFromALock delay (drift_from before cell) (length_of cell) × RunOnFromALock delay (length_of cell) tape
+
+-- a tape that runs steadily enough for this, from its first cell on
+abbrev pub IsSteadyFromALock : ℕ → List Cell → Type 0
+IsSteadyFromALock delay [] = Unit {0}
+IsSteadyFromALock delay (cell ∷ tape) = RunOnFromALock delay (length_of cell) (cell ∷ tape)
+
 -- a cell of the tape as it is found, where its first transition is found `first` ticks late, its last one `last` ticks
 -- late, and the one in its middle, where it has one, within the delay
 abbrev pub IsFoundAs : ℕ → ℕ → ℕ → Cell → Cell → Type 0
@@ -73,3 +89,9 @@ RunWithinAHundredth delays delay before (cell ∷ tape) =
 abbrev pub IsWithinAHundredth : ℕ → ℕ → List Cell → Type 0
 IsWithinAHundredth delays delay [] = Unit {0}
 IsWithinAHundredth delays delay (cell ∷ tape) = RunWithinAHundredth delays delay (length_of cell) (cell ∷ tape)
+
+-- a tape that runs evenly: each zero lasts two halves, and each half of a one lasts as long
+abbrev pub RunsEvenly : ℕ → List Cell → Type 0
+RunsEvenly half [] = Unit {0}
+RunsEvenly half (Zero c ∷ tape) = (c ≡ 2 * half) × RunsEvenly half tape
+RunsEvenly half (One a b ∷ tape) = (a ≡ half) × (b ≡ half) × RunsEvenly half tape

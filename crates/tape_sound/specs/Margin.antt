@@ -1,7 +1,7 @@
 -- A sound and a clean one: how far its samples lie from those of the clean one, between which bounds its threshold
 -- stays, and when the clean one goes over from side to side. The rules are this project's own.
 use Rattle.std.specs.Prelude.{◌≡◌, ℕ, zero, suc, ◌+◌, ◌-◌, ◌*◌, ◌<◌, ◌≤◌, Bool, true, false, cond, List, [], ◌∷◌}
-use Rattle.std.specs.Prelude.{length, map, max}
+use Rattle.std.specs.Prelude.{◌++◌, length, map, max}
 use Rattle.std.specs.Prelude.{ℤ, pos, ◌+ℤ◌, ◌≤ℤ◌, int_le}
 use Rattle.std.specs.List.{filter, range_with_len}
 use Rattle.std.specs.Int.{div_ceil}
@@ -90,6 +90,20 @@ pub record GoesOverAt (fineness : ℕ) (low high : ℕ → ℤ) (delay : ℕ) (f
   pub before : (place : ℕ) → place < first → reaches (low place) (other_side side) (sample_at clean place) ≡ false
   pub no_sooner : ComeBehind (turns fineness low clean side (first + 1) (length clean - (first + 1))) from
   pub within : ComeWithin delay from (turns fineness high clean side (first + 1) (length clean - (first + 1)))
+
+-- the same of a clean sound that ends while it goes over for the last time. Behind the last moment it need not reach
+-- the high bound, and its last sample comes within the delay behind that moment
+pub record GoesOverToItsEnd (fineness : ℕ) (low high : ℕ → ℤ) (delay : ℕ) (from : List ℕ) (last : ℕ) (clean : List ℤ)
+    : Type 0 where
+  pub side : Side
+  pub first : ℕ
+  pub there : first < length clean
+  pub stands : reaches (high first) side (sample_at clean first) ≡ true
+  pub before : (place : ℕ) → place < first → reaches (low place) (other_side side) (sample_at clean place) ≡ false
+  pub no_sooner : ComeBehind (turns fineness low clean side (first + 1) (length clean - (first + 1)))
+      (from ++ last ∷ [])
+  pub within : ComeWithin delay from (turns fineness high clean side (first + 1) (length clean - (first + 1)))
+  pub ends : fineness * (length clean - 1) ≤ last + delay
 
 -- the moments of the crossings at so many places from one on
 abbrev pub moments_in : ℕ → Threshold → List ℤ → ℕ → ℕ → List ℕ

@@ -2,9 +2,12 @@
 use Rattle.std.specs.Prelude.{◌≡◌, ℕ, ◌+◌, ◌<◌, ◌≤◌, ℤ, List, ◌++◌, length, true}
 use Rattle.biphase.specs.declared.cell.Cell.{Cell}
 use Rattle.biphase.specs.declared.profile.Profile.{Profile}
+use Rattle.biphase.specs.declared.profile.Profile.TheVariants.{Rough}
 use Rattle.biphase.specs.Chain.{bits}
-use Rattle.cell_tracker.specs.ChainPiece.{cells_from}
+use Rattle.cell_tracker.specs.ChainPiece.{cells_from, IsPiece}
+use Rattle.cell_tracker.specs.EvenRun.{IsEvenRun}
 use Rattle.cell_tracker.specs.FoundAgain.{IsSecondLock}
+use Rattle.cell_tracker.specs.Lock.{IsLock}
 use Rattle.direction_reader.specs.declared.event.Event.{Event}
 use Rattle.direction_reader.specs.Tape.{TellFrom}
 use Rattle.pcm_front.specs.declared.side.Side.{Side}
@@ -60,3 +63,19 @@ pub record FindThePart (system : System) (profile : Profile) (fineness : ℕ) (t
   pub tell : (second : ℕ) → IsSecondLock profile kept second → (cells : List Cell)
       × (bits cells ≡ bits (cells_from tape cut kept second))
       × TellFrom system (before ++ kept) (length before + second) cells events
+
+-- the events of a sound find this part of the tape under the rough tolerance, behind even ones. Its distances are a
+-- piece of cells with the tape's bits; from the next unequal pair behind a run of even ones and its zero to their end
+-- the events are those of these cells, and nothing else
+pub record FindThePartBehindOnes (system : System) (fineness : ℕ) (threshold : Threshold) (tape : List Cell) (cut : ℕ)
+    (sound : List ℤ) (first count : ℕ) (events : List Event) : Type 0 where
+  pub before : List ℕ
+  pub kept : List ℕ
+  pub behind : List ℕ
+  pub kept_are : kept ≡ gaps (moments_in fineness threshold sound (first + 1) count)
+  pub are : distances fineness threshold sound ≡ before ++ kept ++ behind
+  pub cells : List Cell
+  pub bits_are : bits cells ≡ bits tape
+  pub piece : IsPiece Rough kept cells cut
+  pub tell : (end second : ℕ) → IsEvenRun kept cells cut end → IsLock Rough kept end second
+      → TellFrom system (before ++ kept) (length before + second) (cells_from cells cut kept second) events

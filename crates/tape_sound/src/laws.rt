@@ -3,7 +3,7 @@ ghost use Rattle.std.specs.Prelude.{◌≡◌, ℕ, ◌+◌, ◌*◌, ◌/◌, �
 ghost use Rattle.std.specs.Prelude.{◌-◌, take, drop, ℤ, pos, neg_ℤ, ◌+ℤ◌, ◌-ℤ◌, unsigned_abs, length};
 ghost use Rattle.std.specs.List.{AllByRecursion};
 ghost use Rattle.biphase.specs.declared.cell.Cell.{Cell};
-ghost use Rattle.biphase.specs.declared.cell.Cell.TheVariants.{One};
+ghost use Rattle.biphase.specs.declared.cell.Cell.TheVariants.{Zero, One};
 ghost use Rattle.limits.specs.declared.recording.TheConstants.{MAX_INTERVALS};
 ghost use Rattle.biphase.specs.declared.profile.Profile.{Profile};
 ghost use Rattle.biphase.specs.declared.profile.Profile.TheVariants.{Normal, Worn, Rough};
@@ -24,18 +24,19 @@ ghost use Rattle.pcm_front.specs.Level.{least_of, threshold_at};
 ghost use Rattle.pcm_front.specs.Sound.{sound};
 ghost use Rattle.tc_address.specs.declared.system.System.{System};
 ghost use Rattle.tape_sound.specs.Heard.{AreHeard, BeginsLate, FitsAFile, FitsBehindASilence, HasMargin};
+ghost use Rattle.tape_sound.specs.Heard.{transitions, AreFoundCells, HasMarginToItsEnd, LastTwoDelays};
 ghost use Rattle.tape_sound.specs.Late.{delays_of, drift_from, AreFoundAs, IsSteady, IsWithinAHundredth};
 ghost use Rattle.tape_sound.specs.Made.{scaled};
 ghost use Rattle.tape_sound.specs.Margin.{noise_in_step, turns, ComeBehind, ComeWithin, GoesOverAt, HasRoom};
 ghost use Rattle.tape_sound.specs.Margin.{IsNoisy, StaysBetween};
 ghost use Rattle.tape_sound.specs.OnTime.{told, untimed, AreOnTime};
-ghost use Rattle.tape_sound.specs.Part.{FindThePart, PartHasMargin};
+ghost use Rattle.tape_sound.specs.Part.{FindThePart, FindThePartBehindOnes, PartHasMargin};
 ghost use Rattle.tape_sound.specs.Ramps.{high_along, low_along, noise_along, AreRamps, MovesOneWay, Ramp};
 
 use cell_tracker::laws::a_recording_within_the_tolerance_is_one_stretch;
 use direction_reader::laws::{
-    a_list_has_one_list_of_events, events_find_the_tape_again, events_tell_the_tape,
-    played_words_are_read,
+    a_list_has_one_list_of_events, events_find_the_tape_again,
+    events_find_the_tape_behind_even_ones, events_tell_the_tape, played_words_are_read,
 };
 use pcm_front::laws::{levels_are_bounded, the_first_distance_leads_to_the_first_crossing};
 
@@ -91,6 +92,16 @@ pub fn noise_keeps_crossings_within_the_delay()
         (clean sound : List ℤ) → 1 ≤ fineness → IsNoisy noise clean sound
         → StaysBetween low high noise threshold sound → GoesOverAt fineness low high delay from clean
         → ComeWithin delay from (moments fineness threshold sound) }
+{}
+
+/// So the distances of such a sound are the intervals of the tape's cells as they are found, where each
+/// interval of the tape lasts two delays or more. This asks nothing of any tolerance.
+pub fn distances_are_the_cells_as_they_are_found()
+    ensures { (fineness : ℕ) (noise : ℕ → ℕ) (low high : ℕ → ℤ) (delay start : ℕ) (threshold : Threshold)
+        (tape : List Cell) (clean sound : List ℤ) → 1 ≤ fineness → IsNoisy noise clean sound
+        → StaysBetween low high noise threshold sound
+        → GoesOverAt fineness low high delay (transitions start tape) clean → LastTwoDelays delay tape
+        → AreFoundCells delay tape (distances fineness threshold sound) }
 {}
 
 /// Each part of this is needed. Where noise of 6 meets a low bound that leaves room for 3, the sound crosses
@@ -229,6 +240,18 @@ pub fn a_silence_before_the_tape_costs_no_word()
     the_first_distance_leads_to_the_first_crossing();
 }
 
+/// A sound that ends while it goes over at the tape's last transition, and may not reach the high bound any
+/// more, is heard too: each of its crossings comes within the delay of its own transition, and at most the
+/// last one is missing.
+pub fn a_sound_that_ends_while_it_goes_over_is_heard()
+    ensures heard { (profile : Profile) (fineness : ℕ) (threshold : Threshold) (tape : List Cell) (sound : List ℤ)
+        → 1 ≤ fineness → (margin : HasMarginToItsEnd profile fineness threshold tape sound)
+        → AreHeard profile margin.delay tape 0 (moments fineness threshold sound) }
+    ensures many { (profile : Profile) (fineness : ℕ) (threshold : Threshold) (tape : List Cell) (sound : List ℤ)
+        → 1 ≤ fineness → (margin : HasMarginToItsEnd profile fineness threshold tape sound)
+        → length (transitions margin.start tape) ≤ length (moments fineness threshold sound) + 1 }
+{}
+
 /// Between damage, under the normal and the worn tolerance: where a part of a sound has a margin for a
 /// part of a tape, whatever stands before and behind it, the events find this part of the tape.
 pub fn a_part_with_a_margin_is_found()
@@ -239,6 +262,18 @@ pub fn a_part_with_a_margin_is_found()
         → FindThePart system profile fineness threshold tape cut sound first count events }
 {
     events_find_the_tape_again();
+}
+
+/// Between damage, under the rough tolerance: the same behind a run of even ones and its zero, as a sync
+/// word has them, so also behind hiss before the tape.
+pub fn a_rough_part_with_a_margin_is_found_behind_even_ones()
+    ensures { (system : System) (fineness : ℕ) (threshold : Threshold) (tape : List Cell) (cut : ℕ) (sound : List ℤ)
+        (first count : ℕ) (events : List Event) → 1 ≤ fineness
+        → PartHasMargin Rough fineness threshold tape cut sound first count
+        → AreEvents system Rough (distances fineness threshold sound) events
+        → FindThePartBehindOnes system fineness threshold tape cut sound first count events }
+{
+    events_find_the_tape_behind_even_ones();
 }
 
 /// The sound that `ltc-pcm` makes of a steady tape has a margin: of its size less the threshold, where that

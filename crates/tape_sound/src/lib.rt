@@ -12,18 +12,23 @@
 //!   (`specs/Late.antt`, `IsSteady` and `AreFoundAs`). A cell has to outlast so many drifts and so many
 //!   delays together, so that steadiness and delay trade against each other (`Outlasts`). Where nothing
 //!   drifts by more than a hundredth, 40 delays are enough under the normal tolerance, 28 under the worn
-//!   and 11 under the rough one; 38, 27 and 10 are not.
+//!   and 11 under the rough one; 38, 27 and 10 are not. Under the rough one 12 drifts and 9 delays are
+//!   enough from a lock on, and behind four cells of a tape without drift 47 delays in eight cells
+//!   (`rough_laws`).
 //! - Of a sound with noise each crossing comes within the delay of its own moment, and there are no
 //!   others (`specs/Margin.antt`, `GoesOverAt` and `ComeWithin`), at a threshold that is fixed or follows
 //!   the level, at each fineness. Threshold and noise may be told part by part (`specs/Ramps.antt`).
 //! - Of a sound with a margin (`specs/Heard.antt`, `HasMargin`) the events are the words of the tape, each
-//!   on time (`specs/OnTime.antt`, `told` and `AreOnTime`), also behind a silence; and a part of a sound
-//!   between damage is found (`specs/Part.antt`, `FindThePart`).
+//!   on time (`specs/OnTime.antt`, `told` and `AreOnTime`), also behind a silence. A part of a sound
+//!   between damage is found (`specs/Part.antt`, `FindThePart`), under the rough tolerance behind even
+//!   ones (`FindThePartBehindOnes`). Where the sound ends while it goes over for the last time, at most
+//!   that crossing is missing (`HasMarginToItsEnd`).
 //! - Sound that is made of a steady tape has a margin (`specs/Made.antt`).
 //!
 //! Read `specs/Late.antt`, `Margin`, `Ramps`, `Heard`, `OnTime`, `Part` and `Made`, in this order, and
-//! `laws` beside them. `sound_report` stands on this crate, and says the same of what the commands write.
-//! Nothing here runs, and no law says how much noise a recording has.
+//! `laws` and `rough_laws` beside them. `sound_report` stands on this crate, and says the same of what the
+//! commands write. Nothing here runs, and no law says how much noise a recording has.
 #![tactic(auto)]
 
 pub mod laws;
+pub mod rough_laws;

@@ -75,15 +75,15 @@ pub trait Engine {
         ensures no_pull { result ≡ Err Stop.ReadFault → ⊥ };
 
     /// Works on the end of the input, and writes what stands last.
-    fn finish<K: Sink>(&self, out: &mut K) -> Result<(), Stop>
-        requires going { is_going self.now }
-        requires settled { is_settled self.now }
-        ensures ends { OnOk result ((bytes written : List ℕ) → stands self.now bytes written
+    fn finish<K: Sink>(&mut self, out: &mut K) -> Result<(), Stop>
+        requires going { is_going self.old }
+        requires settled { is_settled self.old }
+        ensures ends { OnOk result ((bytes written : List ℕ) → stands self.old bytes written
             → (more : List ℕ) × Appends (K.written out.old) (K.written out.new) more
-            × IsInput (meaning (choice self.now)) bytes
-            × Meaning.output (meaning (choice self.now)) bytes (written ++ more)) }
-        ensures stops { IfErr result (λ stop. (bytes written : List ℕ) → stands self.now bytes written
-            → StopsAtEnd (meaning (choice self.now)) stop (K.written out.old) (K.written out.new) bytes written) }
+            × IsInput (meaning (choice self.old)) bytes
+            × Meaning.output (meaning (choice self.old)) bytes (written ++ more)) }
+        ensures stops { IfErr result (λ stop. (bytes written : List ℕ) → stands self.old bytes written
+            → StopsAtEnd (meaning (choice self.old)) stop (K.written out.old) (K.written out.new) bytes written) }
         ensures cause { HasOutCause (K.faults out.old) (K.faults out.new) result }
         ensures no_pull { result ≡ Err Stop.ReadFault → ⊥ };
 }

@@ -34,18 +34,18 @@ pub enum Job {
     /// `ltc-rough [firm]`: the same under the tolerance of hissy and dull recordings; and each word is asked for a
     /// witness, or not.
     LtcRough { witness: Witness },
-    /// `ltc-fly LIMIT [worn|rough]`: reads an interval file, and writes a line for each frame of its words, with
-    /// at most so many invented frames in a row.
+    /// `ltc-fly LIMIT [worn|rough [firm]]`: reads an interval file, and writes a line for each frame of its words,
+    /// with at most so many invented frames in a row.
     LtcFly { flight: Flight },
-    /// `ltc-spans LIMIT [worn]`: reads an interval file, and writes a line for each span of the same frames,
-    /// and for each gap between two.
+    /// `ltc-spans LIMIT [worn|rough [firm]]`: reads an interval file, and writes a line for each span of the same
+    /// frames, and for each gap between two.
     LtcSpans { flight: Flight },
-    /// `ltc-mtc LIMIT [worn|rough]`: reads an interval file, and writes MIDI Time Code of the same frames.
+    /// `ltc-mtc LIMIT [worn|rough [firm]]`: reads an interval file, and writes MIDI Time Code of the same frames.
     LtcMtc { flight: Flight },
-    /// `ltc-jam LIMIT CELL TICK-RATE [worn|rough]`: reads an interval file, and writes the same frames anew as an
-    /// interval file of cells of one length.
+    /// `ltc-jam LIMIT CELL TICK-RATE [worn|rough [firm]]`: reads an interval file, and writes the same frames anew as
+    /// an interval file of cells of one length.
     LtcJam { jam: Jam },
-    /// `ltc-chase COUNT LABEL LIMIT SEED BOUND [worn|rough]`: reads an interval file, and writes the steps of a
+    /// `ltc-chase COUNT LABEL LIMIT SEED BOUND [worn|rough [firm]]`: reads an interval file, and writes the steps of a
     /// chase that begins at the label and follows the same frames.
     LtcChase { run: ChaseRun },
     /// `mtc-read`: reads MIDI bytes, and writes a line for each label of MIDI Time Code in them, and for

@@ -4,8 +4,8 @@ ghost use Rattle.tc_job.specs.declared.job.Job.{Job};
 ghost use Rattle.tc_top.specs.Promises.{IsReadOn};
 
 use direction_reader::laws::a_list_has_one_list_of_events;
+use frame_commands::laws::what_is_heard_has_labels_of_its_system;
 use interval_file::laws::{a_file_is_read_as_it_was_written, bytes_are_read_as_the_text_says};
-use ltc_jam::laws::what_is_read_has_labels_of_its_system;
 use pcm_front::laws::{
     a_sound_is_sliced_at_a_threshold_that_follows, a_sound_is_sliced_into_its_intervals,
     samples_are_read_as_they_were_written, sums_of_one_are_the_samples,
@@ -20,7 +20,7 @@ pub(crate) fn it_is_read_on(job: &Job)
 {
     a_list_has_one_list_of_events();
     a_file_is_read_as_it_was_written();
-    what_is_read_has_labels_of_its_system();
+    what_is_heard_has_labels_of_its_system();
     what_is_sent_is_read_back();
     bytes_are_read_as_the_text_says();
     samples_are_read_as_they_were_written();

@@ -44,21 +44,25 @@ ltc_rough words =
     if nat_lt 1 (length words) then Err CountOfWords
     else value_or 1 (read_or NotAsked witness_in (slice_get words 0)) (λ w. Ok (jobs.LtcRough w))
 
--- `ltc-jam LIMIT CELL TICK-RATE [worn|rough]`: without the last word it is the normal tolerance
+-- `ltc-jam LIMIT CELL TICK-RATE [worn|rough [firm]]`: without the last words it is the normal tolerance, and
+-- none is asked for a witness
 unfoldable pub ltc_jam : List Word → Result Job WordsFault
 ltc_jam (limit ∷ cell ∷ tick_rate ∷ more) =
-    if nat_lt 1 (length more) then Err CountOfWords
+    if nat_lt 2 (length more) then Err CountOfWords
     else value_or 1 (between 0 255 limit) (λ n. value_or 2 (between MIN_SHAPED MAX_SHAPED cell) (λ c.
     value_or 3 (between 1 MAX_TICK_RATE tick_rate) (λ r.
     value_or 4 (read_or Normal tolerance_in (slice_get more 0)) (λ p.
-    Ok (jobs.LtcJam (jamming_of (record { limit = n; profile = p }) c r))))))
+    value_or 5 (read_or NotAsked witness_in (slice_get more 1)) (λ w.
+    Ok (jobs.LtcJam (jamming_of (record { limit = n; profile = p; witness = w }) c r)))))))
 ltc_jam _ = Err CountOfWords
 
--- `ltc-chase COUNT LABEL LIMIT SEED BOUND [worn|rough]`: without the last word it is the normal tolerance
+-- `ltc-chase COUNT LABEL LIMIT SEED BOUND [worn|rough [firm]]`: without the last words it is the normal
+-- tolerance, and none is asked for a witness
 unfoldable pub ltc_chase : List Word → Result Job WordsFault
 ltc_chase (count ∷ label ∷ limit ∷ seed ∷ bound ∷ more) =
-    if nat_lt 1 (length more) then Err CountOfWords
+    if nat_lt 2 (length more) then Err CountOfWords
     else chased count label limit seed bound (read_or Normal tolerance_in (slice_get more 0))
+    (read_or NotAsked witness_in (slice_get more 1))
 ltc_chase _ = Err CountOfWords
 
 -- `ltc-make COUNT DIRECTION LABEL FRAMES CELL TICK-RATE [TO-CELL STEP]`

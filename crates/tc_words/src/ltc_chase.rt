@@ -4,9 +4,10 @@ ghost use Rattle.tc_words.specs.LtcChase.{chased};
 
 use crate::values::{between, count_in, limit_in, number_spelled, spelled};
 use biphase::Profile;
-use tc_job::{ChaseRun, Flight, Job, MAX_SLIP, WordsFault};
+use tc_job::{ChaseRun, Flight, Job, MAX_SLIP, Witness, WordsFault};
 
-/// The job of five words and the tolerance that the sixth says, or their first fault.
+/// The job of five words, the tolerance that the sixth says and the witness that the seventh asks for, or their
+/// first fault.
 #[tactic(auto, unfolding(crate::specs::LtcChase::chased))]
 pub(crate) fn chased(
     count: &str,
@@ -15,8 +16,9 @@ pub(crate) fn chased(
     seed: &str,
     bound: &str,
     profile: Option<Profile>,
+    witness: Option<Witness>,
 ) -> Result<Job, WordsFault>
-    ensures { result ≡ chased count.now label.now limit.now seed.now bound.now profile }
+    ensures { result ≡ chased count.now label.now limit.now seed.now bound.now profile witness }
 {
     let Some(count) = count_in(count) else {
         return Err(WordsFault::Value(1));
@@ -36,7 +38,15 @@ pub(crate) fn chased(
     let Some(profile) = profile else {
         return Err(WordsFault::Value(6));
     };
+    let Some(witness) = witness else {
+        return Err(WordsFault::Value(7));
+    };
+    let flight = Flight {
+        limit,
+        profile,
+        witness,
+    };
     Ok(Job::LtcChase {
-        run: ChaseRun::new(label, Flight { limit, profile }, seed, bound),
+        run: ChaseRun::new(label, flight, seed, bound),
     })
 }

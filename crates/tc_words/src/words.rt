@@ -154,7 +154,7 @@ fn ltc_rough(values: &[&str]) -> Result<Job, WordsFault>
     Ok(Job::LtcRough { witness })
 }
 
-// `ltc-fly LIMIT [worn|rough]`
+// `ltc-fly LIMIT [worn|rough [firm]]`
 fn ltc_fly(values: &[&str]) -> Result<Job, WordsFault>
     ensures { result ≡ map_ok (λ flight. jobs.LtcFly flight) (flight_in (map (λ v. v.now) values.now)) }
 {
@@ -162,7 +162,7 @@ fn ltc_fly(values: &[&str]) -> Result<Job, WordsFault>
     Ok(Job::LtcFly { flight })
 }
 
-// `ltc-spans LIMIT [worn|rough]`
+// `ltc-spans LIMIT [worn|rough [firm]]`
 fn ltc_spans(values: &[&str]) -> Result<Job, WordsFault>
     ensures { result ≡ map_ok (λ flight. jobs.LtcSpans flight) (flight_in (map (λ v. v.now) values.now)) }
 {
@@ -170,7 +170,7 @@ fn ltc_spans(values: &[&str]) -> Result<Job, WordsFault>
     Ok(Job::LtcSpans { flight })
 }
 
-// `ltc-mtc LIMIT [worn|rough]`
+// `ltc-mtc LIMIT [worn|rough [firm]]`
 fn ltc_mtc(values: &[&str]) -> Result<Job, WordsFault>
     ensures { result ≡ map_ok (λ flight. jobs.LtcMtc flight) (flight_in (map (λ v. v.now) values.now)) }
 {
@@ -178,7 +178,7 @@ fn ltc_mtc(values: &[&str]) -> Result<Job, WordsFault>
     Ok(Job::LtcMtc { flight })
 }
 
-// `ltc-jam LIMIT CELL TICK-RATE [worn|rough]`
+// `ltc-jam LIMIT CELL TICK-RATE [worn|rough [firm]]`
 #[tactic(auto, unfolding(crate::specs::Words::ltc_jam))]
 fn ltc_jam(values: &[&str]) -> Result<Job, WordsFault>
     ensures { result ≡ ltc_jam (map (λ v. v.now) values.now) }
@@ -186,7 +186,7 @@ fn ltc_jam(values: &[&str]) -> Result<Job, WordsFault>
     let [limit, cell, tick_rate, more @ ..] = values else {
         return Err(WordsFault::CountOfWords);
     };
-    if more.len() > 1 {
+    if more.len() > 2 {
         return Err(WordsFault::CountOfWords);
     }
     let Some(limit) = limit_in(limit) else {
@@ -201,12 +201,20 @@ fn ltc_jam(values: &[&str]) -> Result<Job, WordsFault>
     let Some(profile) = tolerance_or_normal(word_at(more, 0)) else {
         return Err(WordsFault::Value(4));
     };
+    let Some(witness) = witness_or_none(word_at(more, 1)) else {
+        return Err(WordsFault::Value(5));
+    };
+    let flight = Flight {
+        limit,
+        profile,
+        witness,
+    };
     Ok(Job::LtcJam {
-        jam: Jam::new(Flight { limit, profile }, cell, tick_rate),
+        jam: Jam::new(flight, cell, tick_rate),
     })
 }
 
-// `ltc-chase COUNT LABEL LIMIT SEED BOUND [worn|rough]`
+// `ltc-chase COUNT LABEL LIMIT SEED BOUND [worn|rough [firm]]`
 #[tactic(auto, unfolding(crate::specs::Words::ltc_chase))]
 fn ltc_chase(values: &[&str]) -> Result<Job, WordsFault>
     ensures { result ≡ ltc_chase (map (λ v. v.now) values.now) }
@@ -214,11 +222,12 @@ fn ltc_chase(values: &[&str]) -> Result<Job, WordsFault>
     let [count, label, limit, seed, bound, more @ ..] = values else {
         return Err(WordsFault::CountOfWords);
     };
-    if more.len() > 1 {
+    if more.len() > 2 {
         return Err(WordsFault::CountOfWords);
     }
     let profile = tolerance_or_normal(word_at(more, 0));
-    chased(count, label, limit, seed, bound, profile)
+    let witness = witness_or_none(word_at(more, 1));
+    chased(count, label, limit, seed, bound, profile, witness)
 }
 
 // `ltc-make COUNT DIRECTION LABEL FRAMES CELL TICK-RATE [TO-CELL STEP]`

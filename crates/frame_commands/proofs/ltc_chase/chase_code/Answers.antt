@@ -1,4 +1,28 @@
+use Rattle.std.proofs.Common.{◌≡◌, ◌∙◌, ap, sym}
+use Rattle.tc_job.specs.declared.flight.Flight.{Flight}
+use Rattle.tc_job.specs.declared.witness.Witness.TheVariants as witness
+use Rattle.frame_commands.specs.LtcChase.{lines_of_steps}
+use Rattle.frame_commands.proofs.WorkedBy.{worked_by}
 use Rattle.frame_commands.proofs.ltc_chase.chase_code.Goals as goal
 
-pub returns : goal.returns
-returns g c = record { told = c.a_trace_is_told.ensures; worked = c.work_along.ensures }
+pub returns-in-NotAsked : goal.returns-in-NotAsked
+returns-in-NotAsked g c =
+    let is : c.args.run.flight.witness ≡ witness.NotAsked =
+    ap (λ (f : Flight). f.witness) (sym c.flight.ensures) ∙ c.in-NotAsked.is in
+    record {
+      told = c.a_trace_is_told.ensures;
+      worked = worked_by g.S.Source.left g.S.Source.ends g.S.Source.faults g.K.Sink.written g.K.Sink.faults
+          c.args.source.now c.work_along.new.source c.args.out.now c.work_along.new.out c.work_along.result
+          c.args.run.flight (lines_of_steps c.args.run) witness.NotAsked is c.work_along.ensures;
+    }
+
+pub returns-in-Asked : goal.returns-in-Asked
+returns-in-Asked g c =
+    let is : c.args.run.flight.witness ≡ witness.Asked =
+    ap (λ (f : Flight). f.witness) (sym c.flight.ensures) ∙ c.in-Asked.is in
+    record {
+      told = c.a_trace_is_told.ensures;
+      worked = worked_by g.S.Source.left g.S.Source.ends g.S.Source.faults g.K.Sink.written g.K.Sink.faults
+          c.args.source.now c.work_along-in-Asked.new.source c.args.out.now c.work_along-in-Asked.new.out c.work_along-in-Asked.result
+          c.args.run.flight (lines_of_steps c.args.run) witness.Asked is c.work_along-in-Asked.ensures;
+    }

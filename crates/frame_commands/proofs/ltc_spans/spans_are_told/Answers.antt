@@ -8,4 +8,5 @@ returns c = λ flight. spans_are_told (record {
   all = c.spans_share_the_frames_out.ensures.all;
   within = c.spans_share_the_frames_out.ensures.within;
   last = c.the_open_span_has_the_last_line.ensures;
+  tape = c.what_is_heard_tells_the_tape.ensures;
 }) flight (c.spans_are_lawful.ensures flight)

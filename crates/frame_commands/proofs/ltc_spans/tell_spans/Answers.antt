@@ -1,4 +1,22 @@
+use Rattle.tc_job.specs.declared.witness.Witness.TheVariants as witness
+use Rattle.frame_commands.specs.LtcSpans.{lines_of_spans}
+use Rattle.frame_commands.proofs.WorkedBy.{worked_by}
 use Rattle.frame_commands.proofs.ltc_spans.tell_spans.Goals as goal
 
-pub returns : goal.returns
-returns g c = record { told = c.spans_are_told.ensures c.args.flight; worked = c.work_along.ensures }
+pub returns-in-NotAsked : goal.returns-in-NotAsked
+returns-in-NotAsked g c =
+    record {
+      told = c.spans_are_told.ensures c.args.flight;
+      worked = worked_by g.S.Source.left g.S.Source.ends g.S.Source.faults g.K.Sink.written g.K.Sink.faults
+          c.args.source.now c.work_along.new.source c.args.out.now c.work_along.new.out c.work_along.result
+          c.args.flight lines_of_spans witness.NotAsked c.in-NotAsked.is c.work_along.ensures;
+    }
+
+pub returns-in-Asked : goal.returns-in-Asked
+returns-in-Asked g c =
+    record {
+      told = c.spans_are_told.ensures c.args.flight;
+      worked = worked_by g.S.Source.left g.S.Source.ends g.S.Source.faults g.K.Sink.written g.K.Sink.faults
+          c.args.source.now c.work_along-in-Asked.new.source c.args.out.now c.work_along-in-Asked.new.out c.work_along-in-Asked.result
+          c.args.flight lines_of_spans witness.Asked c.in-Asked.is c.work_along-in-Asked.ensures;
+    }

@@ -10,6 +10,7 @@ returns c = λ profile. firm_report_is_told (record {
   tell = record {
     truth = c.events_tell_the_tape.ensures;
     damage = c.events_find_the_tape_again.ensures;
+    rough_damage = c.events_find_the_tape_behind_even_ones.ensures;
     mirror = c.events_mirror_the_tape.ensures;
   };
 }) profile (c.firm_reports_are_lawful.ensures profile)

@@ -10,7 +10,7 @@ use Rattle.sound_report.proofs.WholeDistances.{written_whole, PaceLaws}
 use Rattle.sound_report.proofs.laws.the_spans_of_a_track_are_told.Goals as goal
 
 pub returns : goal.returns
-returns c = λ flight w format tape words file written text begins margin late fits whole are spelled output read.
+returns c = λ flight w format tape words file written text asked begins margin late fits whole are spelled output read.
     let samples = (reading_of w.track file).samples in
     let heard = sums w.smooth samples in
     let fit = c.a_silence_before_the_tape_costs_no_word.ensures.fit flight.profile 16 w.threshold tape heard
@@ -18,7 +18,7 @@ returns c = λ flight w format tape words file written text begins margin late f
     let rate = c.the_rate_of_a_format_is_judged.ensures w.track file format begins in
     let paces : PaceLaws =
     record { ended = c.short_distances_are_whole.ensures.ended; short = c.short_distances_are_whole.ensures.short } in
-    spanned c.a_file_is_read_as_it_was_written.ensures.read c.the_open_span_has_the_last_line.ensures flight
+    spanned c.a_file_is_read_as_it_was_written.ensures.read c.the_open_span_has_the_last_line.ensures flight asked
     (track_header w format) margin.delay
     (margin.start + duration (take 2 tape)) tape words (distances_from_start 16 w.threshold heard) written text
     (omega (arith, rate.0), omega (arith, rate.1)) fit.0 fit.1

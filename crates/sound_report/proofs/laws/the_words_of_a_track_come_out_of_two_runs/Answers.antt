@@ -16,16 +16,16 @@ returns-clause-report c = λ profile w format tape words file text is piped.
     is.late is.fits is.whole is.begins is.spelled out.wrote (is_report profile out.between text out.read)
 
 pub returns-clause-spans : goal.returns-clause-spans
-returns-clause-spans c = λ flight w format tape words file text is piped.
+returns-clause-spans c = λ flight w format tape words file text asked is piped.
     let out = outputs_of (jobs.WavLtc w) (jobs.LtcSpans flight) file text piped in
-    c.the_spans_of_a_track_are_told.ensures flight w format tape words file out.between text is.is is.margin is.late
+    c.the_spans_of_a_track_are_told.ensures flight w format tape words file out.between text asked is.is is.margin is.late
     is.fits is.whole is.begins is.spelled out.wrote out.read
 
 pub returns-clause-one_span : goal.returns-clause-one_span
-returns-clause-one_span c = λ flight w format tape first more file text is on pace piped.
+returns-clause-one_span c = λ flight w format tape first more file text asked is on pace piped.
     let out = outputs_of (jobs.WavLtc w) (jobs.LtcSpans flight) file text piped in
     c.words_that_count_on_are_one_span.ensures (track_header w format) flight is.margin.delay
     (is.margin.start + duration (take 2 tape)) tape first more
     (distances_from_start 16 w.threshold (sums w.smooth (reading_of w.track file).samples)) text
-    (c.the_spans_of_a_track_are_told.ensures flight w format tape (first ∷ more) file out.between text is.is is.margin
+    (c.the_spans_of_a_track_are_told.ensures flight w format tape (first ∷ more) file out.between text asked is.is is.margin
     is.late is.fits is.whole is.begins is.spelled out.wrote out.read) on pace

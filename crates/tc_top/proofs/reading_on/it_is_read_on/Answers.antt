@@ -4,7 +4,7 @@ use Rattle.tc_top.proofs.reading_on.it_is_read_on.Goals as goal
 pub returns : goal.returns
 returns c = read_on (record {
   one_list = c.a_list_has_one_list_of_events.ensures;
-  labels = c.what_is_read_has_labels_of_its_system.ensures.events;
+  labels = c.what_is_heard_has_labels_of_its_system.ensures;
   back = c.what_is_sent_is_read_back.ensures.events;
   sound = record {
     inputs = c.bytes_are_read_as_the_text_says.ensures.input;

@@ -2,11 +2,8 @@ use Rattle.std.proofs.Common.{◌++◌, ◌∷◌, [], ℕ, List, refl, ap, sym,
 use Rattle.flywheel.specs.declared.frame.Frame.{Frame}
 use Rattle.flywheel.specs.Frames.{frames}
 use Rattle.flywheel.specs.StandsFor as flies
-use Rattle.direction_reader.specs.Events.{event_list}
-use Rattle.direction_reader.specs.Reader.{ReaderState}
-use Rattle.frame_commands.specs.declared.flight.FrameReader.{FrameReader}
+use Rattle.frame_commands.specs.declared.frames.Frames.{Frames}
 use Rattle.frame_commands.specs.KeptFlight.{Counts, HasGiven}
-use Rattle.frame_commands.specs.OfFrames.{words_heard}
 use Rattle.frame_commands.proofs.FramesInOrder.{both_counted, none_counted, one_more}
 use Rattle.frame_commands.proofs.FramesInOrder.{sends_both, sends_none, sends_then_front}
 use Rattle.frame_commands.proofs.flight.FlightTo.give.Goals as goal
@@ -15,31 +12,46 @@ use Rattle.frame_commands.proofs.flight.FlightTo.give.Goals as goal
 pub loop-frame-init : goal.loop-frame-init
 loop-frame-init g c =
     let f = c.args.self.now.frames in
-    let own = c.hear.ensures.hears.0 in
-    let is = c.hear.ensures.hears.2 in
-    let waiting = words_heard (event_list own) in
-    let hears : FrameReader = record f { words = waiting } in
+    let words = c.args.words in
+    let two = c.requires.few in
     let none = none_counted f in
     record {
-      giving = c.hear.ensures.ready;
-      keeps = rw is (record { reader = refl {a = f.reader}; limit = refl {a = f.wheel.limit} });
-      room = rw is c.requires.room;
+      giving = λ most ready.
+          let few = ready.few in
+          record {
+            within = ready.within;
+            below = ready.below;
+            fits = ready.fits;
+            few = omega (arith, few, two);
+            waiting = c.requires.range;
+            turns = record {
+              from = c.requires.turns.from;
+              heard_by = c.requires.turns.heard_by;
+              turn = c.requires.turns.turn;
+            };
+          };
+      reader = refl {a = c.args.self.now.reader};
+      limit = refl {a = f.wheel.limit};
+      room = c.requires.room;
       same = refl {a = g.K.Sink.faults c.args.out.now};
       given = (
-        own,
         [],
-        c.hear.ensures.hears.1,
-        rw is (record { heard = none.heard; invented = none.invented; gone = none.gone }),
+        record { heard = none.heard; invented = none.invented; gone = none.gone },
         sends_none g.T.FrameSink.made g.T.FrameSink.given c.args.self.now.sink _,
-        (λ words earlier given stands before. rw is (record {
-          heard = words;
-          are = refl {a = words ++ waiting};
+        (λ earlier_words earlier given stands before. record {
+          heard = earlier_words;
+          are = refl {a = earlier_words ++ words};
           earlier = earlier;
           before = before;
-          wheel = subst (λ (fs : List Frame). flies.StandsFor f.wheel words earlier fs) (sym (append-nil given)) stands;
-        })),
+          wheel = subst (λ (fs : List Frame). flies.StandsFor f.wheel earlier_words earlier fs) (sym (append-nil given)) stands;
+        }),
       );
     }
+
+-- the next frame may be asked for
+pub next-requires : goal.next-requires
+next-requires g c =
+    let ready = c.requires.ready in (ready.0, c.loop-frame.invariant.giving ready.0 ready.1)
 
 -- one frame more
 pub loop-frame-preserved : goal.loop-frame-preserved
@@ -55,21 +67,20 @@ loop-frame-preserved g c =
     let room = i.room in
     let more = one_more now.frames next frame n.counted in
     record {
-      giving = n.ready;
-      keeps = record { reader = n.keeps.reader ∙ i.keeps.reader; limit = n.keeps.limit ∙ i.keeps.limit };
+      giving = λ most ready. n.ready most (i.giving most ready);
+      reader = i.reader;
+      limit = n.limit ∙ i.limit;
       room = omega (arith, taken, room, more);
       same = sent.cause ∙ i.same;
       given = (
-        m.0,
-        m.1 ++ frame ∷ [],
-        m.2,
-        both_counted c.args.self.now.frames now.frames next m.1 (frame ∷ []) m.3 n.counted,
-        sends_both g.T.FrameSink.made g.T.FrameSink.given c.args.self.now.sink now.sink c.frame.new.self _ _ _ m.1
-            (frame ∷ []) m.4 sent.sends,
+        m.0 ++ frame ∷ [],
+        both_counted c.args.self.now.frames now.frames next m.0 (frame ∷ []) m.1 n.counted,
+        sends_both g.T.FrameSink.made g.T.FrameSink.given c.args.self.now.sink now.sink c.frame.new.self _ _ _ m.0
+            (frame ∷ []) m.2 sent.sends,
         (λ words earlier given stands before.
-            let all = words ++ words_heard (event_list m.0) in
-            subst (λ (fs : List Frame). HasGiven next all fs) (append_assoc given m.1 (frame ∷ []))
-            (n.gives all (given ++ m.1) (m.5 words earlier given stands before)).0),
+            let all = words ++ c.args.words in
+            subst (λ (fs : List Frame). HasGiven next c.args.until all fs) (append_assoc given m.0 (frame ∷ []))
+            (n.gives all (given ++ m.0) (m.3 words earlier given stands before)).0),
       );
     }
 
@@ -82,37 +93,28 @@ returns g c =
     let now = c.loop-frame.self in
     let next = c.next.new.self in
     let n = c.in_default.ensures in
-    let reader = n.keeps.reader ∙ i.keeps.reader in
-    let count = ap (λ (r : ReaderState). r.intervals) reader in
-    let few = n.ready.few in
     let room = i.room in
     let heard = n.counted.heard in
     let invented = n.counted.invented in
     let gone = n.counted.gone in
     record {
-      keeps = record { reader = reader; limit = n.keeps.limit ∙ i.keeps.limit };
-      fits = record {
-        flight = record {
-          within = c.requires.ready.within;
-          counts = count;
-          words = omega (arith, few, count);
-          more_frames = n.ready.fits;
-          heard_by = n.ready.heard_by;
-        };
-        taken = omega (arith, room, heard, invented, gone);
-      };
+      reader = i.reader;
+      limit = n.limit ∙ i.limit;
+      fits = λ most ready.
+          let giving = n.ready most (i.giving most ready) in
+          let few = giving.few in
+          record {
+            flight = record { within = giving.within; words = omega (arith, few); more_frames = giving.fits };
+            taken = omega (arith, room, heard, invented, gone);
+            heard_by = n.none refl;
+          };
       gives = (
         m.0,
-        m.1,
+        subst (λ (fs : List Frame). Counts f next fs) (append-nil m.0)
+            (both_counted f now.frames next m.0 [] m.1 n.counted),
         m.2,
-        subst (λ (fs : List Frame). Counts f next fs) (append-nil m.1)
-            (both_counted f now.frames next m.1 [] m.3 n.counted),
-        m.4,
         (λ words earlier given stands before.
-            let all = words ++ words_heard (event_list m.0) in
-            subst (λ (t : ℕ). flies.HasGivenAll next.wheel all t (given ++ m.1))
-            (ap (λ (r : ReaderState). r.tick) reader)
-            (n.gives all (given ++ m.1) (m.5 words earlier given stands before))),
+            n.gives (words ++ c.args.words) (given ++ m.0) (m.3 words earlier given stands before)),
       );
       front = tt;
       same = i.same;
@@ -124,24 +126,19 @@ pub returns-in-Err-clause-front : goal.returns-in-Err-clause-front
 returns-in-Err-clause-front g c =
     let i = c.loop-frame.invariant in
     let m = i.given in
-    let f = c.args.self.now.frames in
     let now = c.loop-frame.self in
     let next = c.next.new.self in
     let frame = c.in-Some.frame in
     let n = c.in-Some.ensures in
-    let limit = n.keeps.limit ∙ i.keeps.limit in
-    let tick = ap (λ (r : ReaderState). r.tick) (n.keeps.reader ∙ i.keeps.reader) in (
-      m.0,
-      m.1 ++ frame ∷ [],
-      m.2,
-      sends_then_front g.T.FrameSink.made g.T.FrameSink.given c.args.self.now.sink now.sink _ _ _ m.1 (frame ∷ []) m.4
+    let limit = n.limit ∙ i.limit in (
+      m.0 ++ frame ∷ [],
+      sends_then_front g.T.FrameSink.made g.T.FrameSink.given c.args.self.now.sink now.sink _ _ _ m.0 (frame ∷ []) m.2
           c.in-Err.ensures.front,
       (λ words earlier given stands before.
-          let all = words ++ words_heard (event_list m.0) in
-          let comes = (n.gives all (given ++ m.1) (m.5 words earlier given stands before)).1 in (
+          let all = words ++ c.args.words in
+          let comes = (n.gives all (given ++ m.0) (m.3 words earlier given stands before)).1 in (
             comes.0,
-            ap (λ (k : ℕ). frames k all f.reader.tick) (sym limit)
-                ∙ ap (λ (t : ℕ). frames next.wheel.limit all t) (sym tick) ∙ comes.1
-                ∙ ap (λ (fs : List Frame). fs ++ comes.0) (append_assoc given m.1 (frame ∷ [])),
+            ap (λ (k : ℕ). frames k all c.args.until) (sym limit) ∙ comes.1
+                ∙ ap (λ (fs : List Frame). fs ++ comes.0) (append_assoc given m.0 (frame ∷ [])),
           )),
     )

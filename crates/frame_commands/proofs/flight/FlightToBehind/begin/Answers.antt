@@ -1,49 +1,56 @@
-use Rattle.std.proofs.Common.{[], ◌∙◌, ap, subst, refl}
+use Rattle.std.proofs.Common.{[], ◌∙◌, ap, subst, sym, refl, ℕ}
 use Rattle.biphase.specs.declared.profile.Profile.{Profile}
+use Rattle.flywheel.specs.StandsFor as flies
 use Rattle.tc_address.specs.declared.system.System.{System}
-use Rattle.direction_reader.specs.ListEvents.{AreEvents}
-use Rattle.direction_reader.specs.Tracker.{profile_of}
 use Rattle.tc_job.specs.declared.flight.Flight.{Flight}
 use Rattle.lemmas.specs.Results.{through}
+use Rattle.frame_commands.specs.Heard.{AreHeardYet}
 use Rattle.frame_commands.proofs.flight.FlightToBehind.begin.Goals as goal
 
 -- what stands first was written, and there is no frame yet
 pub returns-clause-begins : goal.returns-clause-begins
 returns-clause-begins g c =
-    let reader = c.new-frames.result.reader in
-    let e = c.new-frames.ensures in
-    let law = c.a_reader_gives_the_events_of_its_list.ensures reader [] [] e.reader in
-    let same = c.flight.ensures in
-    let keeps = e.keeps ∙ ap (λ (f : Flight). f.profile) same in
-    let are = subst (λ (p : Profile). AreEvents c.args.header.system p [] []) keeps
-    (subst (λ (y : System). AreEvents y (profile_of reader.tracker) [] []) e.system law) in
+    let reader = c.start-reader.result in
+    let h = g.R.Hearing.hearer reader in
+    let witness = g.R.Hearing.witness in
+    let e = c.start-reader.ensures in
+    let fr = c.new-frames.ensures in
+    let same = c.flight-flight.ensures in
+    let law = c.what_is_told_is_heard.ensures reader [] [] e.stands in
+    let keeps = e.profile_is ∙ ap (λ (f : Flight). f.profile) same in
+    let are = subst (λ (p : Profile). AreHeardYet witness c.args.header.system p [] [] h.until) keeps
+    (subst (λ (y : System). AreHeardYet witness y h.profile [] [] h.until) e.system_is law) in
     let b = c.in_ok-sink.ensures.begins in (
       _,
       b.1,
       record {
-        system = e.system;
+        system = e.system_is;
         keeps = keeps;
-        limit_is = e.limit_is ∙ ap (λ (f : Flight). f.limit) same;
+        count = e.count;
+        ticks = e.tick;
+        limit_is = fr.limit_is ∙ ap (λ (f : Flight). f.limit) same;
         events = [];
-        reader = e.reader;
+        reader = e.stands;
         are_events = are;
         given = [];
-        wheel = e.wheel;
+        wheel = subst (λ (t : ℕ). flies.HasGivenAll c.new-frames.result.wheel [] t []) (sym e.until) fr.wheel;
         sent = b.0;
         are = refl;
-        heard = e.heard;
-        invented = e.invented;
-        gone = e.gone;
+        heard = fr.heard;
+        invented = fr.invented;
+        gone = fr.gone;
       },
     )
 
 -- a front of it was
 pub returns-in_err-sink-clause-front : goal.returns-in_err-sink-clause-front
 returns-in_err-sink-clause-front g c =
-    let reader = c.new-frames.result.reader in
-    let e = c.new-frames.ensures in
-    let law = c.a_reader_gives_the_events_of_its_list.ensures reader [] [] e.reader in
-    let keeps = e.keeps ∙ ap (λ (f : Flight). f.profile) c.flight.ensures in
+    let reader = c.start-reader.result in
+    let h = g.R.Hearing.hearer reader in
+    let witness = g.R.Hearing.witness in
+    let e = c.start-reader.ensures in
+    let law = c.what_is_told_is_heard.ensures reader [] [] e.stands in
+    let keeps = e.profile_is ∙ ap (λ (f : Flight). f.profile) c.flight-flight.ensures in
     let f = c.in_err-sink.ensures.front in
     through c.from_residual.result c.from_residual.ensures.1 (λ stop same. (
       same ∙ f.0,
@@ -51,8 +58,9 @@ returns-in_err-sink-clause-front g c =
         _,
         record {
           events = [];
-          are_events = subst (λ (p : Profile). AreEvents c.args.header.system p [] []) keeps
-              (subst (λ (y : System). AreEvents y (profile_of reader.tracker) [] []) e.system law);
+          until = h.until;
+          are_events = subst (λ (p : Profile). AreHeardYet witness c.args.header.system p [] [] h.until) keeps
+              (subst (λ (y : System). AreHeardYet witness y h.profile [] [] h.until) e.system_is law);
           are = refl;
         },
         f.1,

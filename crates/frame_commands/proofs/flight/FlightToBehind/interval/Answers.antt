@@ -1,56 +1,126 @@
-use Rattle.std.proofs.Common.{[], ℕ, refl, ap, sym, subst}
-use Rattle.direction_reader.specs.Events.{event_list, no_events}
-use Rattle.direction_reader.specs.Reader.{ReaderState, Takes}
-use Rattle.frame_commands.specs.KeptFlight.{GivesAll}
-use Rattle.frame_commands.specs.OfFrames.{words_heard}
-use Rattle.frame_commands.proofs.FlightGrows.{due_alone, flown, flown_part, Reads}
+use Rattle.std.proofs.Common.{[], ◌≡◌, ◌++◌, ◌∷◌, ◌+◌, ◌*◌, ◌<◌, ◌≤◌, ℕ, List, refl, sym, subst, arith}
+use Rattle.std.specs.Io.KnownBytes.{Appends}
+use Rattle.limits.specs.declared.recording.TheConstants.{MAX_INTERVALS}
+use Rattle.tc_io.specs.Sink.{AppendsFront}
+use Rattle.frame_commands.specs.Hearing.{Hearer}
+use Rattle.frame_commands.specs.KeptFlight.{FitsHearing, GivesAll, GivesFirst, HeardBy, Stands}
+use Rattle.frame_commands.proofs.FlightGrows.{due_alone, flown, flown_part}
 use Rattle.frame_commands.proofs.FramesInOrder.{none_counted, sends_none}
+use Rattle.frame_commands.proofs.NextFrame.{heard_later, turn_due}
+use Rattle.frame_commands.proofs.Ready.{given_fits, quiet_fits, ready_for, turns_of}
 use Rattle.frame_commands.proofs.flight.FlightToBehind.interval.Goals as goal
 
+-- the last word was heard before
+pub is_quiet-requires-clause-heard_by : goal.is_quiet-requires-clause-heard_by
+is_quiet-requires-clause-heard_by g c =
+    let s = c.args.self.now in
+    rw c.until-until.ensures.value (heard_later s.frames.wheel (g.R.Hearing.hearer s.reader).until
+    (g.R.Hearing.hearer c.step-brought.new.self).until c.step-brought.ensures.later c.requires.fits.2.sink.heard_by)
+
 -- nothing came, and nothing was due
+pub returns-then-is_quiet-clause-fits : goal.returns-then-is_quiet-clause-fits
+returns-then-is_quiet-clause-fits g c = λ count fits.
+    let s = c.args.self.now in
+    let h = g.R.Hearing.hearer s.reader in
+    let now = g.R.Hearing.hearer c.step-brought.new.self in
+    let own = c.requires.fits.2.counts in
+    let here = fits.counts in
+    let room = c.requires.fits.1 in
+    quiet_fits h now s.frames (g.T.FrameSink.taken s.sink) count c.args.x fits (omega (arith, own, here, room))
+    c.step-brought.ensures.next c.step-brought.ensures.later (rw (← c.until-until.ensures.value) c.until-until.ensures.below)
+
 pub returns-then-is_quiet-clause-works : goal.returns-then-is_quiet-clause-works
 returns-then-is_quiet-clause-works g c = λ choice header intervals written stands.
-    let f = c.args.self.now.frames in
+    let s = c.args.self.now in
+    let h = g.R.Hearing.hearer s.reader in
     let reader = c.step-brought.new.self in
+    let now = g.R.Hearing.hearer reader in
     let quiet = c.is_quiet.ensures.quiet c.if-is_quiet.true in
     let made = g.T.FrameSink.made in
     let given = g.T.FrameSink.given in
-    let sink = c.args.self.now.sink in
-    let none = none_counted f in
-    flown g.T.FrameSink.flight made given f (record f { reader = reader }) sink sink choice header intervals written
-    c.args.x no_events [] _ _ stands c.step-brought.ensures.next
-    (λ xs es st. c.step-brought.ensures.stands xs es no_events st (rw quiet.0 refl))
-    c.a_reader_gives_the_events_of_its_list.ensures refl
-    (due_alone f.wheel f.wheel reader.tick [] quiet.1)
+    let none = none_counted s.frames in
+    flown g.R.Hearing.witness g.T.FrameSink.flight made given h now s.frames s.frames s.sink s.sink choice header
+    intervals written c.args.x [] [] [] _ _ stands c.step-brought.ensures.next
+    (λ xs es st. c.step-brought.ensures.stands xs es [] st (quiet.0 reader))
+    (c.what_is_told_is_heard.ensures reader) refl c.step-brought.ensures.later refl
+    (due_alone s.frames.wheel s.frames.wheel now.until [] (rw c.until-until.ensures.value at quiet.1))
     (record { heard = none.heard; invented = none.invented; gone = none.gone })
-    (sends_none made given sink _)
+    (sends_none made given s.sink _)
+
+-- there is room for the frames of two words
+pub give-requires-clause-ready : goal.give-requires-clause-ready
+give-requires-clause-ready g c =
+    let s = c.args.self.now in
+    let now = g.R.Hearing.hearer c.step-brought.new.self in
+    let count = c.requires.fits.0 in (
+      2 * (count + 1),
+      rw c.until-until.ensures.value (ready_for (g.R.Hearing.hearer s.reader) now s.frames (g.T.FrameSink.taken s.sink)
+          count c.args.x c.requires.fits.2 c.requires.fits.1 c.step-brought.ensures.next
+          (rw (← c.until-until.ensures.value) c.until-until.ensures.below)),
+    )
+
+pub give-requires-clause-turns : goal.give-requires-clause-turns
+give-requires-clause-turns g c =
+    let s = c.args.self.now in
+    let h = g.R.Hearing.hearer s.reader in
+    let now = g.R.Hearing.hearer c.step-brought.new.self in
+    rw c.until-until.ensures.value (turns_of h s.frames (g.T.FrameSink.taken s.sink) c.requires.fits.0 now.until
+    c.words-words.result c.requires.fits.2 (c.words-words.ensures.in_turn h.until c.step-brought.ensures.may))
 
 -- the frames that were due, and those of the words, were sent
+pub returns-in-Ok-clause-fits : goal.returns-in-Ok-clause-fits
+returns-in-Ok-clause-fits g c = λ count fits.
+    let s = c.args.self.now in
+    let h = g.R.Hearing.hearer s.reader in
+    let now = g.R.Hearing.hearer c.step-brought.new.self in
+    let after = c.give.new.self in
+    let own = c.requires.fits.2.counts in
+    let here = fits.counts in
+    let room = c.requires.fits.1 in
+    let below = rw c.until-until.ensures.value at c.until-until.ensures.below in
+    let room_here : count < MAX_INTERVALS = omega (arith, own, here, room) in
+    let ready = ready_for h now s.frames (g.T.FrameSink.taken s.sink) count c.args.x fits room_here
+    c.step-brought.ensures.next below in
+    let sink = rw c.until-until.ensures.value at c.in-Ok.ensures.fits in
+    rw c.in-Ok.ensures.reader (given_fits h now s.frames after.frames (g.T.FrameSink.taken s.sink)
+    (g.T.FrameSink.taken after.sink) count c.args.x fits room_here c.step-brought.ensures.next below
+    (sink (2 * (count + 1)) ready))
+
 pub returns-in-Ok-clause-works : goal.returns-in-Ok-clause-works
 returns-in-Ok-clause-works g c = λ choice header intervals written stands.
-    let f = c.args.self.now.frames in
-    let next = c.give.new.self.frames in
-    let reader = c.in-Ok.ensures.keeps.reader in
-    let h = c.in-Ok.ensures.gives in
-    let words = words_heard (event_list h.0) in
-    flown g.T.FrameSink.flight g.T.FrameSink.made g.T.FrameSink.given f next c.args.self.now.sink
-    c.give.new.self.sink choice header intervals written c.args.x h.0 h.1 _ _ stands
-    (subst (λ (r : ReaderState). Takes f.reader c.args.x r) (sym reader) c.step-brought.ensures.next)
-    (subst (λ (r : ReaderState). Reads f.reader r c.args.x h.0) (sym reader)
-    (λ xs es st. c.step-brought.ensures.stands xs es h.0 st h.2))
-    c.a_reader_gives_the_events_of_its_list.ensures c.in-Ok.ensures.keeps.limit
-    (subst (λ (t : ℕ). GivesAll f.wheel next.wheel t words h.1) (ap (λ (r : ReaderState). r.tick) (sym reader)) h.5)
-    (record { heard = h.3.heard; invented = h.3.invented; gone = h.3.gone }) h.4
+    let s = c.args.self.now in
+    let h = g.R.Hearing.hearer s.reader in
+    let reader = c.step-brought.new.self in
+    let now = g.R.Hearing.hearer reader in
+    let after = c.give.new.self in
+    let e = c.in-Ok.ensures in
+    let told = c.words-words.ensures.told in
+    let words = c.words-words.result in
+    let gives = e.gives in
+    let all = rw c.until-until.ensures.value at gives.3 in
+    rw e.reader (flown g.R.Hearing.witness g.T.FrameSink.flight g.T.FrameSink.made g.T.FrameSink.given h now s.frames
+    after.frames s.sink after.sink choice header intervals written c.args.x told.0 words gives.0 _ _ stands
+    c.step-brought.ensures.next (λ xs es st. c.step-brought.ensures.stands xs es told.0 st told.1)
+    (c.what_is_told_is_heard.ensures reader) told.2
+    (turn_due words h.until now.until (c.words-words.ensures.in_turn h.until c.step-brought.ensures.may)) e.limit all
+    (record { heard = gives.1.heard; invented = gives.1.invented; gone = gives.1.gone }) gives.2)
 
 -- a front of them was
 pub returns-in-Err-clause-front : goal.returns-in-Err-clause-front
 returns-in-Err-clause-front g c = (
   refl,
   (λ choice header intervals written stands.
-      let f = c.args.self.now.frames in
-      let e = c.in-Err.ensures.front in
-      flown_part g.T.FrameSink.flight g.T.FrameSink.made g.T.FrameSink.given f c.step-brought.new.self
-      c.args.self.now.sink choice header intervals written c.args.x e.0 e.1 _ _ stands c.step-brought.ensures.next
-      (λ xs es st. c.step-brought.ensures.stands xs es e.0 st e.2)
-      c.a_reader_gives_the_events_of_its_list.ensures e.4 e.3),
+      let s = c.args.self.now in
+      let h = g.R.Hearing.hearer s.reader in
+      let reader = c.step-brought.new.self in
+      let now = g.R.Hearing.hearer reader in
+      let front = c.in-Err.ensures.front in
+      let told = c.words-words.ensures.told in
+      let words = c.words-words.result in
+      let first = rw c.until-until.ensures.value at front.2 in
+      flown_part g.R.Hearing.witness g.T.FrameSink.flight g.T.FrameSink.made g.T.FrameSink.given h now s.frames s.sink
+      choice header intervals written c.args.x told.0 words front.0 _ _ stands c.step-brought.ensures.next
+      (λ xs es st. c.step-brought.ensures.stands xs es told.0 st told.1) (c.what_is_told_is_heard.ensures reader) told.2
+      (turn_due words h.until now.until (c.words-words.ensures.in_turn h.until c.step-brought.ensures.may)) first
+      front.1),
 )

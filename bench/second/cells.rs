@@ -1,0 +1,280 @@
+//! From intervals to cells, windows and events, under each tolerance.
+use crate::labels::{Count, Label, Way};
+
+#[derive(Clone, Copy, PartialEq, Eq, Debug)]
+pub enum Tolerance {
+    Normal,
+    Worn,
+    Rough,
+}
+
+/// A cell of a stretch: its bit, its length, and the interval that completed it.
+struct Cell {
+    bit: bool,
+    ticks: u64,
+}
+
+/// What is told of a recording.
+#[derive(Clone, Debug)]
+pub enum Event {
+    Word(Word),
+    Refused { way: Way, name: &'static str, tick: u64 },
+    Lost { interval: usize, tick: u64 },
+}
+
+#[derive(Clone, Debug)]
+pub struct Word {
+    pub way: Way,
+    pub label: Label,
+    pub user: u32,
+    pub flags: [bool; 5],
+    pub is_balanced: bool,
+    pub tick: u64,
+    pub ticks: u64,
+    /// The stretch and the place of its first cell there, for the witness.
+    stretch: usize,
+    first: usize,
+}
+
+const SYNC: [u8; 16] = [0, 0, 1, 1, 1, 1, 1, 1, 1, 1, 1, 1, 1, 1, 0, 1];
+
+impl Tolerance {
+    /// Whether two neighbouring intervals are an unequal pair.
+    fn is_unequal(self, a: u64, b: u64) -> bool {
+        let (less, more) = (a.min(b), a.max(b));
+        let is_near = match self {
+            Tolerance::Normal => 5 * less >= 2 * more,
+            Tolerance::Worn => 8 * less >= 3 * more,
+            Tolerance::Rough => 3 * less >= more,
+        };
+        is_near && 3 * less < 2 * more
+    }
+
+    /// Whether an interval is a zero behind these cells, of which there is one at least.
+    fn is_zero(self, behind: &[Cell], x: u64) -> bool {
+        let last = behind[behind.len() - 1].ticks;
+        match self {
+            Tolerance::Normal => 8 * x.abs_diff(last) <= last,
+            Tolerance::Worn => 6 * x.abs_diff(last) <= last,
+            Tolerance::Rough => (3 * latest_four(behind)..=5 * latest_four(behind)).contains(&(16 * x)),
+        }
+    }
+
+    fn is_half(self, behind: &[Cell], x: u64) -> bool {
+        let last = behind[behind.len() - 1].ticks;
+        match self {
+            Tolerance::Normal => (3 * last..=5 * last).contains(&(8 * x)),
+            Tolerance::Worn => 8 * x >= 3 * last && 3 * x <= 2 * last,
+            Tolerance::Rough => (3 * latest_four(behind)..=7 * latest_four(behind)).contains(&(40 * x)),
+        }
+    }
+
+    fn is_one(self, behind: &[Cell], x: u64, y: u64) -> bool {
+        let last = behind[behind.len() - 1].ticks;
+        let (sum, apart) = (x + y, x.abs_diff(y));
+        match self {
+            Tolerance::Normal => 8 * sum.abs_diff(last) <= last && 16 * apart <= sum,
+            Tolerance::Worn => 6 * sum.abs_diff(last) <= last && 12 * apart <= sum,
+            Tolerance::Rough => {
+                let four = latest_four(behind);
+                self.is_half(behind, x) && self.is_half(behind, y) && (3 * four..=5 * four).contains(&(16 * sum))
+            }
+        }
+    }
+}
+
+/// The sum of the latest four cells, where the first counts for those that are not there.
+fn latest_four(cells: &[Cell]) -> u64 {
+    (0..4).map(|back| cells[cells.len().saturating_sub(1 + back)].ticks).sum()
+}
+
+/// What is told of intervals: the events in order, and the tick up to which all is told.
+pub struct Told {
+    pub events: Vec<Event>,
+    pub until: u64,
+}
+
+/// The events of intervals. With `is_firm`, words without a witness are refused as `alone`; where the file does not
+/// end, a word that still waits for its own is left out, with all that comes behind it.
+pub fn events(tolerance: Tolerance, system: u64, intervals: &[u64], is_firm: bool, is_ended: bool) -> Told {
+    let mut told: Vec<Event> = Vec::new();
+    let mut stretches: Vec<Vec<Cell>> = Vec::new();
+    let (mut open, mut half, mut before, mut tick) = (false, None, None, 0);
+    for (place, &x) in intervals.iter().enumerate() {
+        tick += x;
+        if !open {
+            let Some(other) = before.replace(x) else { continue };
+            if !tolerance.is_unequal(other, x) {
+                continue;
+            }
+            stretches.push(vec![Cell { bit: false, ticks: other.max(x) }]);
+            open = true;
+            half = None;
+            if x > other {
+                continue;
+            }
+        }
+        let at = stretches.len() - 1;
+        let cells = &mut stretches[at];
+        let cell = match half.take() {
+            None if tolerance.is_zero(cells, x) => Some(Cell { bit: false, ticks: x }),
+            None if tolerance.is_half(cells, x) => {
+                half = Some(x);
+                continue;
+            }
+            Some(first) if tolerance.is_one(cells, first, x) => Some(Cell { bit: true, ticks: first + x }),
+            _ => None,
+        };
+        match cell {
+            Some(cell) => {
+                cells.push(cell);
+                tell_window(system, cells, at, tick, &mut told);
+            }
+            None => {
+                told.push(Event::Lost { interval: place, tick });
+                (open, before) = (false, Some(x));
+            }
+        }
+    }
+    let waits = open && !is_ended;
+    let told = Told { events: told, until: tick };
+    if is_firm { firm(told, &stretches, waits) } else { told }
+}
+
+/// Tells what the last 80 cells of a stretch say.
+fn tell_window(system: u64, cells: &[Cell], stretch: usize, tick: u64, told: &mut Vec<Event>) {
+    let Some(first) = cells.len().checked_sub(80) else { return };
+    let window = &cells[first..];
+    let bits: Vec<u8> = window.iter().map(|cell| cell.bit as u8).collect();
+    let turned: Vec<u8> = bits.iter().rev().copied().collect();
+    let ticks = window.iter().map(|cell| cell.ticks).sum();
+    for (way, bits) in [(Way::Forward, &bits), (Way::Backward, &turned)] {
+        if bits[64..] != SYNC {
+            continue;
+        }
+        told.push(match fields(system, bits) {
+            Err(name) => Event::Refused { way, name, tick },
+            Ok((label, user, flags)) => Event::Word(Word {
+                way,
+                label,
+                user,
+                flags,
+                is_balanced: bits.iter().filter(|bit| **bit == 0).count() % 2 == 0,
+                tick,
+                ticks,
+                stretch,
+                first,
+            }),
+        });
+    }
+}
+
+fn field(bits: &[u8], at: usize, width: usize) -> u64 {
+    (0..width).map(|i| (bits[at + i] as u64) << i).sum()
+}
+
+/// The label, the user bits and the flags of a word, or the name of the first fault of its fields.
+fn fields(system: u64, bits: &[u8]) -> Result<(Label, u32, [bool; 5]), &'static str> {
+    let at = |place: usize, width: usize| field(bits, place, width);
+    let frames = 10 * at(8, 2) + at(0, 4);
+    let hours = 10 * at(56, 2) + at(48, 4);
+    let count = match system {
+        24 => Count::Of24,
+        25 => Count::Of25,
+        _ if at(10, 1) == 1 => Count::Drop,
+        _ => Count::Of30,
+    };
+    let faults = [
+        (at(0, 4) > 9, "frame-units"),
+        (frames >= system, "frames"),
+        (at(16, 4) > 9, "second-units"),
+        (at(24, 3) > 5, "second-tens"),
+        (at(32, 4) > 9, "minute-units"),
+        (at(40, 3) > 5, "minute-tens"),
+        (at(48, 4) > 9, "hour-units"),
+        (hours > 23, "hours"),
+    ];
+    if let Some((_, name)) = faults.iter().find(|(is_so, _)| *is_so) {
+        return Err(name);
+    }
+    let seconds = 10 * at(24, 3) + at(16, 4);
+    let minutes = 10 * at(40, 3) + at(32, 4);
+    let label = Label { count, hours, minutes, seconds, frames };
+    if label.is_dropped() {
+        return Err("dropped-label");
+    }
+    let groups = [4, 12, 20, 28, 36, 44, 52, 60];
+    let user = groups.iter().enumerate().map(|(i, place)| (at(*place, 4) as u32) << (4 * i)).sum();
+    let groups_at = if system == 25 { [27, 58, 43] } else { [43, 58, 59] };
+    let flag = |place: usize| bits[place] == 1;
+    let flags = [flag(10), flag(11), flag(groups_at[0]), flag(groups_at[1]), flag(groups_at[2])];
+    Ok((label, user, flags))
+}
+
+/// Asks each word for its witness. Where the last stretch may go on, a backward word that has fewer than 16 cells
+/// behind it still waits, and so does all that was told behind it.
+fn firm(told: Told, stretches: &[Vec<Cell>], may_go_on: bool) -> Told {
+    let mut firmly = Vec::new();
+    for event in told.events {
+        let Event::Word(word) = event else {
+            firmly.push(event);
+            continue;
+        };
+        let cells = &stretches[word.stretch];
+        let bit = |place: usize| cells[place].bit as u8;
+        let is_alone = match word.way {
+            Way::Forward => word.first >= 16 && (0..16).any(|k| bit(word.first - 16 + k) != SYNC[k]),
+            Way::Backward => {
+                let behind = word.first + 80;
+                let is_there = cells.len() >= behind + 16;
+                if !is_there && may_go_on && word.stretch + 1 == stretches.len() {
+                    return Told { events: firmly, until: word.tick };
+                }
+                is_there && (0..16).any(|k| bit(behind + k) != SYNC[15 - k])
+            }
+        };
+        firmly.push(match is_alone {
+            true => Event::Refused { way: word.way, name: "alone", tick: word.tick },
+            false => Event::Word(word),
+        });
+    }
+    Told { events: firmly, until: told.until }
+}
+
+/// The report of `ltc-read` and its like: the lines of the events, and the last line where the file ended well.
+pub fn report(rate: u64, system: u64, events: &[Event], intervals: &[u64], is_done: bool) -> String {
+    let (mut text, mut counts) = (String::new(), [0u64; 3]);
+    for event in events {
+        match event {
+            Event::Word(word) => {
+                counts[0] += 1;
+                let flags: String = word.flags.iter().map(|flag| if *flag { '1' } else { '0' }).collect();
+                let speed = 1000 * rate as u128 / (system as u128 * word.ticks as u128);
+                text += &format!(
+                    "word {} {} user {:08x} flags {flags} balance {} tick {} length {} speed {speed}\n",
+                    word.way.name(),
+                    word.label.text(),
+                    word.user,
+                    word.is_balanced as u8,
+                    word.tick,
+                    word.ticks
+                );
+            }
+            Event::Refused { way, name, tick } => {
+                counts[1] += 1;
+                text += &format!("refused {} {name} tick {tick}\n", way.name());
+            }
+            Event::Lost { interval, tick } => {
+                counts[2] += 1;
+                text += &format!("lost interval {interval} tick {tick}\n");
+            }
+        }
+    }
+    if is_done {
+        let ticks: u64 = intervals.iter().sum();
+        let [words, refused, lost] = counts;
+        let count = intervals.len();
+        text += &format!("end intervals {count} words {words} refused {refused} lost {lost} ticks {ticks}\n");
+    }
+    text
+}

@@ -1,0 +1,166 @@
+//! Makes cases at random, reads each by a second reading of the formats, and compares what `tc` says of it.
+//!
+//! The second reading is written from docs/reference/formats.md alone, and shares no code with the program.
+mod cases;
+mod cells;
+mod chase;
+mod draws;
+mod frames;
+mod intervals;
+mod labels;
+mod made;
+mod midi;
+mod run;
+mod sound;
+mod vitc;
+mod words;
+
+use cases::{Case, case};
+use draws::Draws;
+use run::Run;
+use std::fs::File;
+use std::io::Write;
+use std::path::{Path, PathBuf};
+use std::process::{Command, Stdio};
+use std::sync::Mutex;
+use std::sync::atomic::{AtomicU64, Ordering};
+use std::time::{Duration, Instant};
+
+struct Asked {
+    program: PathBuf,
+    room: PathBuf,
+    count: u64,
+    first: u64,
+    seed: u64,
+    jobs: u64,
+}
+
+const USAGE: &str = "cases PROGRAM ROOM COUNT FIRST SEED JOBS";
+
+fn asked() -> Option<Asked> {
+    let words: Vec<String> = std::env::args().skip(1).collect();
+    let [program, room, count, first, seed, jobs] = &words[..] else { return None };
+    Some(Asked {
+        program: program.into(),
+        room: room.into(),
+        count: count.parse().ok()?,
+        first: first.parse().ok()?,
+        seed: seed.parse().ok()?,
+        jobs: jobs.parse().ok().filter(|jobs| *jobs > 0)?,
+    })
+}
+
+/// What a run of the program gave.
+struct Given {
+    output: Vec<u8>,
+    note: Vec<u8>,
+    status: Option<i32>,
+}
+
+/// Runs the program on a case: on a file, or now and then through a pipe in pieces of any length.
+fn given(asked: &Asked, room: &Path, case: &Case, pieces: Option<&mut Draws>) -> std::io::Result<Given> {
+    let (input, output, note) = (room.join("in"), room.join("out"), room.join("note"));
+    let mut command = Command::new(&asked.program);
+    command.args(&case.words).stdout(File::create(&output)?).stderr(File::create(&note)?);
+    let status = match pieces {
+        None => {
+            std::fs::write(&input, &case.input)?;
+            command.stdin(File::open(&input)?).status()?
+        }
+        Some(draws) => {
+            let mut child = command.stdin(Stdio::piped()).spawn()?;
+            let mut pipe = child.stdin.take().expect("it was asked for");
+            let mut rest = &case.input[..];
+            while !rest.is_empty() {
+                let most = draws.of_any_size(12) as usize + 1;
+                let (piece, more) = rest.split_at(most.min(rest.len()));
+                // (a run that was refused reads no further)
+                if pipe.write_all(piece).is_err() {
+                    break;
+                }
+                rest = more;
+            }
+            drop(pipe);
+            child.wait()?
+        }
+    };
+    Ok(Given { output: std::fs::read(&output)?, note: std::fs::read(&note)?, status: status.code() })
+}
+
+/// What differs, in a few words.
+fn difference(wanted: &Run, given: &Given) -> Option<String> {
+    if given.status != Some(wanted.end.status()) {
+        return Some(format!("status {:?}, wanted {}", given.status, wanted.end.status()));
+    }
+    if given.note != wanted.end.note().as_bytes() {
+        let note = String::from_utf8_lossy(&given.note);
+        return Some(format!("note {:?}, wanted {:?}", note, wanted.end.note()));
+    }
+    if given.output != wanted.output {
+        let at = given.output.iter().zip(&wanted.output).take_while(|(a, b)| a == b).count();
+        let line = |bytes: &[u8]| {
+            let from = bytes[..at].iter().rposition(|b| *b == b'\n').map_or(0, |p| p + 1);
+            let text: Vec<u8> = bytes[from..].iter().take(100).take_while(|b| **b != b'\n').copied().collect();
+            String::from_utf8_lossy(&text).into_owned()
+        };
+        let (here, there) = (line(&given.output), line(&wanted.output));
+        return Some(format!("output at byte {at}: {here:?}, wanted {there:?}"));
+    }
+    None
+}
+
+/// Works cases until none is left.
+fn work(asked: &Asked, lane: u64, next: &AtomicU64, differ: &Mutex<Vec<u64>>) -> std::io::Result<()> {
+    let room = asked.room.join(lane.to_string());
+    std::fs::create_dir_all(&room)?;
+    loop {
+        let number = next.fetch_add(1, Ordering::Relaxed);
+        if number >= asked.first + asked.count {
+            return Ok(());
+        }
+        let case = case(asked.seed, number);
+        let wanted = words::run(&case.words, &case.input);
+        let mut pieces = Draws::of(asked.seed ^ 1, number);
+        let is_pieced = pieces.one_in(8);
+        let given = given(asked, &room, &case, is_pieced.then_some(&mut pieces))?;
+        if let Some(what) = difference(&wanted, &given) {
+            let mut differ = differ.lock().expect("no lane panics with the list");
+            differ.push(number);
+            if differ.len() <= 20 {
+                eprintln!("case {number}, seed {}: tc {}: {what}", asked.seed, case.words.join(" "));
+                std::fs::write(asked.room.join(format!("case{number}")), &case.input)?;
+            }
+        }
+    }
+}
+
+fn main() {
+    let Some(asked) = asked() else {
+        eprintln!("usage: {USAGE}");
+        std::process::exit(2);
+    };
+    let (next, differ, began) = (AtomicU64::new(asked.first), Mutex::new(Vec::new()), Instant::now());
+    std::thread::scope(|scope| {
+        for lane in 0..asked.jobs {
+            let (asked, next, differ) = (&asked, &next, &differ);
+            scope.spawn(move || {
+                if let Err(why) = work(asked, lane, next, differ) {
+                    eprintln!("lane {lane} stopped: {why}");
+                    differ.lock().expect("no lane panics with the list").push(u64::MAX);
+                }
+            });
+        }
+    });
+    let (differ, took) = (differ.into_inner().expect("all lanes ended"), began.elapsed());
+    let each = took.max(Duration::from_millis(1)).as_secs_f64() / asked.count.max(1) as f64;
+    println!(
+        "{} cases from {}, seed {}: {} differ; {:.1} s, {:.0} us a case",
+        asked.count,
+        asked.first,
+        asked.seed,
+        differ.len(),
+        took.as_secs_f64(),
+        each * 1e6
+    );
+    std::process::exit(!differ.is_empty() as i32);
+}

@@ -1,0 +1,305 @@
+//! The words of a command line, and what the run of them is to end with.
+use crate::cells::{Told, Tolerance, events, report};
+use crate::frames::{Frame, frames, jam, lines, midi, spans};
+use crate::intervals::{File, MOST_RATE, convert, read};
+use crate::labels::{Count, Label, Way};
+use crate::made::{Striping, load, stripe};
+use crate::run::{End, Run};
+use crate::sound::{Slicing, Threshold, make, slice, slice_track};
+use crate::{chase, midi as mtc, vitc};
+
+/// The words of a tolerance behind a command along frames.
+#[derive(Clone, Copy)]
+struct Hearing {
+    tolerance: Tolerance,
+    is_firm: bool,
+}
+
+const PLAIN: Hearing = Hearing { tolerance: Tolerance::Normal, is_firm: false };
+
+/// Words taken in order, each by its value; the first that has none is the fault.
+struct Words<'a> {
+    words: &'a [String],
+    at: usize,
+}
+
+type Read<T> = Result<T, String>;
+
+impl<'a> Words<'a> {
+    /// Between so many and so many words behind the command.
+    fn of(words: &'a [String], least: usize, most: usize) -> Read<Words<'a>> {
+        match (least..=most).contains(&(words.len() - 1)) {
+            true => Ok(Words { words, at: 0 }),
+            false => Err("count of words".into()),
+        }
+    }
+
+    fn value<T>(&mut self, value: impl Fn(&str) -> Option<T>) -> Read<T> {
+        self.at += 1;
+        value(&self.words[self.at]).ok_or_else(|| format!("value of word {}", self.at))
+    }
+
+    /// The next word, where there is one.
+    fn next(&self) -> Option<&'a str> {
+        self.words.get(self.at + 1).map(|word| &word[..])
+    }
+
+
+    /// A word more has no value: it is not the `live` that may stand there.
+    fn none_left(&mut self) -> Read<()> {
+        if self.next().is_some() { self.value(|_| None) } else { Ok(()) }
+    }
+
+    /// One to twenty digits, from one number to another.
+    fn number(&mut self, least: u64, most: u64) -> Read<u64> {
+        self.value(|word| number(word).filter(|n| (least..=most).contains(n)))
+    }
+
+    fn count(&mut self) -> Read<Count> {
+        self.value(Count::named)
+    }
+
+    fn label(&mut self, count: Count) -> Read<Label> {
+        self.value(|word| Label::read(count, word))
+    }
+
+    fn system(&mut self) -> Read<u64> {
+        self.value(|word| ["24", "25", "30"].contains(&word).then(|| word.parse().expect("it is a number")))
+    }
+
+    /// `worn`, `rough` or nothing at the end, and `firm` behind one of them.
+    fn hearing(&mut self) -> Read<Hearing> {
+        if self.next().is_none() {
+            return Ok(PLAIN);
+        }
+        let tolerance = self.value(|word| match word {
+            "worn" => Some(Tolerance::Worn),
+            "rough" => Some(Tolerance::Rough),
+            _ => None,
+        })?;
+        let is_firm = self.next().is_some();
+        if is_firm {
+            self.value(|word| (word == "firm").then_some(()))?;
+        }
+        Ok(Hearing { tolerance, is_firm })
+    }
+}
+
+fn number(word: &str) -> Option<u64> {
+    let is_one = (1..=20).contains(&word.len()) && word.bytes().all(|b| b.is_ascii_digit());
+    is_one.then(|| word.parse::<u128>().ok()).flatten().and_then(|n| u64::try_from(n).ok())
+}
+
+/// What a run of these words (behind `tc`) on this input is to end with.
+pub fn run(words: &[String], input: &[u8]) -> Run {
+    let fault = |text: &str| Run::usage(text.to_string());
+    if let Some(place) = words.iter().position(|word| word.starts_with('-')) {
+        return fault(&format!("dash in word {place}"));
+    }
+    let Some(command) = words.first() else { return fault("command") };
+    let ran = match &command[..] {
+        "ltc-read" => Words::of(words, 0, 0).map(|_| read_with(PLAIN, input)),
+        "ltc-worn" => Words::of(words, 0, 0).map(|_| read_with(Hearing { tolerance: Tolerance::Worn, ..PLAIN }, input)),
+        "ltc-rough" => rough(words, input),
+        "ltc-fly" | "ltc-spans" | "ltc-mtc" => along(words, input),
+        "ltc-jam" => copy(words, input),
+        "ltc-chase" => follow(words, input),
+        "ltc-make" => recording(words),
+        "ltc-convert" => converted(words, input),
+        "ltc-load" => loaded(words),
+        "ltc-pcm" => sound(words, input),
+        "pcm-ltc" => sliced(words, input),
+        "wav-ltc" => track(words, input),
+        "mtc-read" => Words::of(words, 0, 0).map(|_| mtc::read(input)),
+        "vitc-read" => Words::of(words, 0, 0).map(|_| vitc::read(input)),
+        "vitc-make" => line_file(words),
+        "chase" => script(words, input),
+        "number" => numbered(words),
+        "label" => labelled(words),
+        "version" => Words::of(words, 0, 0).map(|_| Run::text("tc 1.0.0\n".into(), End::Done)),
+        // (what `help` prints is no rule of a format: its cases have words behind it)
+        "help" => Words::of(words, 0, 0).map(|_| Run::text(String::new(), End::Done)),
+        _ => return fault("command"),
+    };
+    ran.unwrap_or_else(Run::usage)
+}
+
+/// What is told of a recording.
+fn heard(hearing: Hearing, file: &File) -> Told {
+    let system = file.header.map_or(25, |header| header.system);
+    events(hearing.tolerance, system, &file.intervals, hearing.is_firm, file.end == End::Done)
+}
+
+fn read_with(hearing: Hearing, input: &[u8]) -> Run {
+    let file = read(input);
+    let Some(header) = file.header else { return Run::text(String::new(), file.end) };
+    let events = heard(hearing, &file).events;
+    let is_done = file.end == End::Done;
+    Run::text(report(header.rate, header.system, &events, &file.intervals, is_done), file.end)
+}
+
+fn rough(words: &[String], input: &[u8]) -> Read<Run> {
+    let mut w = Words::of(words, 0, 1)?;
+    let is_firm = w.next().is_some();
+    if is_firm {
+        w.value(|word| (word == "firm").then_some(()))?;
+    }
+    Ok(read_with(Hearing { tolerance: Tolerance::Rough, is_firm }, input))
+}
+
+fn frames_of(limit: u64, hearing: Hearing, file: &File) -> Vec<Frame> {
+    let told = heard(hearing, file);
+    frames(limit, &told.events, told.until)
+}
+
+fn along(words: &[String], input: &[u8]) -> Read<Run> {
+    let mut w = Words::of(words, 1, 3)?;
+    let (limit, hearing) = (w.number(0, 255)?, w.hearing()?);
+    let file = read(input);
+    let Some(header) = file.header else { return Ok(Run::text(String::new(), file.end)) };
+    let frames = frames_of(limit, hearing, &file);
+    let is_done = file.end == End::Done;
+    let output = match &words[0][..] {
+        "ltc-fly" => lines(&frames, &file.intervals, is_done).into_bytes(),
+        "ltc-spans" => spans(&frames, header.rate, header.system, &file.intervals, is_done).into_bytes(),
+        _ => midi(&frames),
+    };
+    Ok(Run { output, end: file.end })
+}
+
+fn copy(words: &[String], input: &[u8]) -> Read<Run> {
+    let mut w = Words::of(words, 3, 5)?;
+    let (limit, cell, rate) = (w.number(0, 255)?, w.number(16, 8_388_607)?, w.number(1, MOST_RATE)?);
+    let hearing = w.hearing()?;
+    let file = read(input);
+    let output = file.header.map_or(Vec::new(), |header| jam(&frames_of(limit, hearing, &file), header.system, cell, rate));
+    Ok(Run { output, end: file.end })
+}
+
+fn follow(words: &[String], input: &[u8]) -> Read<Run> {
+    let mut w = Words::of(words, 5, 7)?;
+    let count = w.count()?;
+    let label = w.label(count)?;
+    let (limit, seed, bound) = (w.number(0, 255)?, w.number(0, u64::MAX)?, w.number(0, 1_000)?);
+    let hearing = w.hearing()?;
+    let file = read(input);
+    if file.header.is_none() {
+        return Ok(Run::text(String::new(), file.end));
+    }
+    let frames = frames_of(limit, hearing, &file);
+    Ok(Run::text(chase::along_frames(label, seed, bound, &frames, file.end == End::Done), file.end))
+}
+
+fn recording(words: &[String]) -> Read<Run> {
+    if words.len() == 8 {
+        return Err("count of words".into());
+    }
+    let mut w = Words::of(words, 6, 8)?;
+    let count = w.count()?;
+    let way = w.value(|word| [Way::Forward, Way::Backward].into_iter().find(|way| way.name() == word))?;
+    let label = w.label(count)?;
+    let (frames, cell, rate) = (w.number(1, 1_000_000)?, w.number(16, 8_388_607)?, w.number(1, MOST_RATE)?);
+    let (mut to_cell, mut step) = (cell, 0);
+    if w.next().is_some() {
+        to_cell = w.number(16, 8_388_607)?;
+        step = w.number(0, to_cell.min(cell) / 8)?;
+    }
+    let output = stripe(&Striping { way, label, frames, cell, rate, to_cell, step });
+    Ok(Run { output, end: End::Done })
+}
+
+fn converted(words: &[String], input: &[u8]) -> Read<Run> {
+    let version = Words::of(words, 1, 1)?.value(|word| match word {
+        "1" => Some(1),
+        "2" => Some(2),
+        _ => None,
+    })?;
+    let (output, end) = convert(version, input);
+    Ok(Run { output, end })
+}
+
+fn loaded(words: &[String]) -> Read<Run> {
+    let mut w = Words::of(words, 2, 2)?;
+    let (seed, count) = (w.number(0, u64::MAX)?, w.number(1, 100_000)?);
+    Ok(Run::text(load(seed, count), End::Done))
+}
+
+fn sound(words: &[String], input: &[u8]) -> Read<Run> {
+    let level = Words::of(words, 1, 1)?.number(1, 32_767)?;
+    let file = read(input);
+    Ok(Run { output: make(level as i16, &file), end: file.end })
+}
+
+/// Takes `live` off the end.
+fn without_live(words: &[String]) -> (&[String], bool) {
+    match words.split_last() {
+        Some((last, front)) if last == "live" => (front, true),
+        _ => (words, false),
+    }
+}
+
+fn sliced(words: &[String], input: &[u8]) -> Read<Run> {
+    let (words, is_live) = without_live(words);
+    let mut w = Words::of(words, 3, if is_live { 6 } else { 7 })?;
+    let (system, rate, least) = (w.system()?, w.number(1, MOST_RATE)?, w.number(1, 32_767)?);
+    let (mut fineness, mut threshold, mut smooth) = (1, Threshold::Fixed, 1);
+    if w.next().is_some() {
+        fineness = w.number(1, 64.min(MOST_RATE / rate))?;
+    }
+    if w.next().is_some() {
+        threshold = w.value(|word| match word {
+            "follow" => Some(Threshold::Follow),
+            "deep" => Some(Threshold::Deep),
+            _ => None,
+        })?;
+    }
+    if w.next().is_some() {
+        smooth = w.number(1, 16)? as usize;
+    }
+    w.none_left()?;
+    Ok(slice(&Slicing { system, rate, least, fineness, threshold, smooth, is_live }, input))
+}
+
+fn track(words: &[String], input: &[u8]) -> Read<Run> {
+    let (words, is_live) = without_live(words);
+    let mut w = Words::of(words, 3, if is_live { 5 } else { 6 })?;
+    let (system, track, least) = (w.system()?, w.number(1, 64)?, w.number(1, 32_767)?);
+    let (mut threshold, mut smooth) = (Threshold::Follow, 1);
+    if w.next().is_some() {
+        smooth = w.number(1, 16)? as usize;
+    }
+    if w.next().is_some() {
+        threshold = w.value(|word| (word == "deep").then_some(Threshold::Deep))?;
+    }
+    w.none_left()?;
+    let slicing = Slicing { system, rate: 1, least, fineness: 16, threshold, smooth, is_live };
+    Ok(slice_track(&slicing, track as usize, input))
+}
+
+fn line_file(words: &[String]) -> Read<Run> {
+    let mut w = Words::of(words, 4, 4)?;
+    let count = w.value(|word| Count::named(word).filter(|count| *count != Count::Of24))?;
+    let label = w.label(count)?;
+    let (frames, length) = (w.number(1, 1_000_000)?, w.number(460, 65_535)?);
+    Ok(Run { output: vitc::make(&label, frames, length), end: End::Done })
+}
+
+fn script(words: &[String], input: &[u8]) -> Read<Run> {
+    let mut w = Words::of(words, 2, 2)?;
+    let count = w.count()?;
+    Ok(chase::along_script(w.label(count)?, input))
+}
+
+fn numbered(words: &[String]) -> Read<Run> {
+    let mut w = Words::of(words, 2, 2)?;
+    let count = w.count()?;
+    let label = w.label(count)?;
+    Ok(Run::text(format!("{}\n", label.number()), End::Done))
+}
+
+fn labelled(words: &[String]) -> Read<Run> {
+    let mut w = Words::of(words, 2, 2)?;
+    let count = w.count()?;
+    let number = w.number(0, count.day() - 1)?;
+    Ok(Run::text(format!("{}\n", Label::at(count, number).text()), End::Done))
+}

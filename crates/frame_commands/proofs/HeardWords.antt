@@ -1,0 +1,175 @@
+-- The words of what an interval brought are two at most, and they come in turn.
+use Rattle.std.proofs.Common.{◌≡◌, ℕ, ◌^◌, ◌<◌, ◌≤◌, ◌*◌, ◌+◌, List, [], ◌∷◌, ◌++◌, length, length-append, ◌∙◌, ap, arith, map, refl}
+use Rattle.std.proofs.Common.{append-nil, false, sym, Bool, true}
+use Rattle.std.specs.Prelude.{IfSome, Some, None, All}
+use Rattle.std.specs.declared.option.Option.{Option}
+use Rattle.std.proofs.lemmas.Grind.{flat_map-append}
+use Rattle.std.proofs.lemmas.List.Elements.{All-nil, All-cons, All-append, All-head, All-tail}
+use Rattle.limits.specs.declared.recording.TheConstants.{MAX_INTERVAL, MAX_INTERVALS}
+use Rattle.direction_reader.specs.declared.event.Event.{Event}
+use Rattle.direction_reader.specs.declared.event.Event.TheVariants as events
+use Rattle.direction_reader.specs.declared.event.Events.{Events}
+use Rattle.direction_reader.specs.declared.firm_event.FirmEvent.{FirmEvent}
+use Rattle.direction_reader.specs.declared.firm_event.FirmEvent.TheVariants.{Told, Alone}
+use Rattle.direction_reader.specs.declared.firm_event.FirmEvents.{FirmEvents}
+use Rattle.direction_reader.specs.Brings.{Brings, IsLatest}
+use Rattle.direction_reader.specs.Events.{event_list, listed, is_word}
+use Rattle.direction_reader.specs.Firm.{told_tick, DoNotFall}
+use Rattle.direction_reader.specs.FirmReader.{FirmBrings, IsToldBy}
+use Rattle.direction_reader.specs.FirmStep.{firm_list, firm_listed, IsNoWord}
+use Rattle.flywheel.specs.declared.heard.HeardWord.{HeardWord}
+use Rattle.flywheel.specs.Wheel.{IsInRange}
+use Rattle.frame_commands.specs.Heard.{told_events}
+use Rattle.frame_commands.specs.Hearing.{word_ticks}
+use Rattle.frame_commands.specs.OfFrames.{heard_in, words_heard}
+
+-- ---- of a reader of all words
+
+-- a word was heard at the tick
+abbrev pub IsHeardAt : ℕ → HeardWord → Type 0
+IsHeardAt tick word = (word.tick ≡ tick) × IsInRange word
+
+-- an event brings one word at most, which was heard at its tick
+one_word : (event : Option Event) → length (words_heard (listed event)) ≤ 1
+one_word None = omega arith
+one_word (Some (events.Word d w t l)) = omega arith
+one_word (Some (events.Refused d f t)) = omega arith
+one_word (Some (events.Lost i t)) = omega arith
+
+word_at : (n tick : ℕ) (event : Option Event) → tick < 2 ^ 60 → IfSome event (IsLatest n tick)
+    → All (IsHeardAt tick) (words_heard (listed event))
+word_at n tick None below latest = All-nil (IsHeardAt tick)
+word_at n tick (Some (events.Word d w t l)) below latest =
+    let same = latest.0 in
+    let least = latest.1 in
+    let most = latest.2 in
+    All-cons (IsHeardAt tick) (record { label = w.fields.label; direction = d; tick = t; length = l }) []
+    (same, record { tick = omega (arith, same, below); least = omega (arith, least); most = omega (arith, most) })
+    (All-nil (IsHeardAt tick))
+word_at n tick (Some (events.Refused d f t)) below latest = All-nil (IsHeardAt tick)
+word_at n tick (Some (events.Lost i t)) below latest = All-nil (IsHeardAt tick)
+
+words_of_both : (own : Events)
+    → words_heard (event_list own) ≡ words_heard (listed own.first) ++ words_heard (listed own.second)
+words_of_both own = flat_map-append heard_in (listed own.first) (listed own.second)
+
+-- an interval brings two words at most
+pub two_words : (own : Events) → length (words_heard (event_list own)) ≤ 2
+two_words own =
+    let one = one_word own.first in
+    let two = one_word own.second in
+    rw (words_of_both own, length-append (words_heard (listed own.first)) (words_heard (listed own.second)))
+    (omega (arith, one, two))
+
+-- all of them were heard at its tick
+pub words_at : (n tick : ℕ) (own : Events) → tick < 2 ^ 60 → Brings n tick own
+    → All (IsHeardAt tick) (words_heard (event_list own))
+words_at n tick own below brings = rw (words_of_both own)
+    (All-append (IsHeardAt tick) (words_heard (listed own.first)) (words_heard (listed own.second))
+    (word_at n tick own.first below brings.first) (word_at n tick own.second below brings.second))
+
+at_in_range : (tick : ℕ) (words : List HeardWord) → All (IsHeardAt tick) words → All IsInRange words
+at_in_range tick [] all = All-nil IsInRange
+at_in_range tick (word ∷ more) all =
+    All-cons IsInRange word more (All-head (IsHeardAt tick) word more all).1
+    (at_in_range tick more (All-tail (IsHeardAt tick) word more all))
+
+pub in_range : (n tick : ℕ) (own : Events) → tick < 2 ^ 60 → Brings n tick own → All IsInRange (words_heard (event_list own))
+in_range n tick own below brings = at_in_range tick (words_heard (event_list own)) (words_at n tick own below brings)
+
+at_in_turn : (from tick : ℕ) (words : List HeardWord) → from ≤ tick → All (IsHeardAt tick) words
+    → DoNotFall from (word_ticks words) tick
+at_in_turn from tick [] before all = before
+at_in_turn from tick (word ∷ more) before all =
+    let same = (All-head (IsHeardAt tick) word more all).0 in (
+      omega (arith, same, before),
+      at_in_turn word.tick tick more (omega (arith, same)) (All-tail (IsHeardAt tick) word more all),
+    )
+
+pub in_turn : (n from tick : ℕ) (own : Events) → tick < 2 ^ 60 → from ≤ tick → Brings n tick own
+    → DoNotFall from (word_ticks (words_heard (event_list own))) tick
+in_turn n from tick own below before brings =
+    at_in_turn from tick (words_heard (event_list own)) before (words_at n tick own below brings)
+
+-- ---- of a reader that asks for witnesses
+
+-- what is told of one behind another
+pub told_events-append : (fs gs : List FirmEvent) → told_events (fs ++ gs) ≡ told_events fs ++ told_events gs
+told_events-append [] gs = refl
+told_events-append (Told e ∷ fs) gs = ap (λ (es : List Event). e ∷ es) (told_events-append fs gs)
+told_events-append (Alone d t ∷ fs) gs = told_events-append fs gs
+
+abbrev words_told : List FirmEvent → List HeardWord
+words_told fs = words_heard (told_events fs)
+
+words_told-append : (fs gs : List FirmEvent) → words_told (fs ++ gs) ≡ words_told fs ++ words_told gs
+words_told-append fs gs =
+    ap words_heard (told_events-append fs gs) ∙ flat_map-append heard_in (told_events fs) (told_events gs)
+
+none_third : (o : Option FirmEvent) → IfSome o IsNoWord → words_told (firm_listed o) ≡ []
+none_third None none = refl
+none_third (Some (Told (events.Word d w t l))) none = let no : true ≡ false = none in absurd cc
+none_third (Some (Told (events.Refused d f t))) none = refl
+none_third (Some (Told (events.Lost i t))) none = refl
+none_third (Some (Alone d t)) none = refl
+
+-- the words of what is told are those of the first two
+pub words_of_two : (told : FirmEvents) → IfSome told.third IsNoWord
+    → words_told (firm_list told) ≡ words_told (firm_listed told.first) ++ words_told (firm_listed told.second)
+words_of_two told none =
+    let f = firm_listed told.first in
+    let s = firm_listed told.second in
+    let t = firm_listed told.third in
+    words_told-append (f ++ s) t ∙ ap (λ (ws : List HeardWord). words_told (f ++ s) ++ ws) (none_third told.third none)
+    ∙ append-nil (words_told (f ++ s)) ∙ words_told-append f s
+
+one_told : (o : Option FirmEvent) → length (words_told (firm_listed o)) ≤ 1
+one_told None = omega arith
+one_told (Some (Told (events.Word d w t l))) = omega arith
+one_told (Some (Told (events.Refused d f t))) = omega arith
+one_told (Some (Told (events.Lost i t))) = omega arith
+one_told (Some (Alone d t)) = omega arith
+
+pub two_told : (told : FirmEvents) → IfSome told.third IsNoWord → length (words_told (firm_list told)) ≤ 2
+two_told told none =
+    let f = words_told (firm_listed told.first) in
+    let s = words_told (firm_listed told.second) in
+    let one = one_told told.first in
+    let two = one_told told.second in
+    rw (words_of_two told none, length-append f s) (omega (arith, one, two))
+
+told_range : (n sum : ℕ) (o : Option FirmEvent) → sum < 2 ^ 60 → IfSome o (IsToldBy n sum)
+    → All IsInRange (words_told (firm_listed o))
+told_range n sum None below told = All-nil IsInRange
+told_range n sum (Some (Told (events.Word d w t l))) below told =
+    let by = told.0 in
+    let least = told.1 in
+    let most = told.2 in
+    All-cons IsInRange (record { label = w.fields.label; direction = d; tick = t; length = l }) []
+    (record { tick = omega (arith, by, below); least = omega (arith, least); most = omega (arith, most) })
+    (All-nil IsInRange)
+told_range n sum (Some (Told (events.Refused d f t))) below told = All-nil IsInRange
+told_range n sum (Some (Told (events.Lost i t))) below told = All-nil IsInRange
+told_range n sum (Some (Alone d t)) below told = All-nil IsInRange
+
+pub told_in_range : (n sum : ℕ) (told : FirmEvents) → sum < 2 ^ 60 → FirmBrings n sum told
+    → All IsInRange (words_told (firm_list told))
+told_in_range n sum told below brings = rw (words_of_two told brings.no_word)
+    (All-append IsInRange (words_told (firm_listed told.first)) (words_told (firm_listed told.second))
+    (told_range n sum told.first below brings.first) (told_range n sum told.second below brings.second))
+
+-- words come in turn, as all that is told
+earlier_turn : (ticks : List ℕ) (a b c : ℕ) → a ≤ b → DoNotFall b ticks c → DoNotFall a ticks c
+earlier_turn [] a b c before turn = omega (arith, before, turn)
+earlier_turn (t ∷ ticks) a b c before turn = let first = turn.0 in (omega (arith, before, first), turn.1)
+
+pub told_in_turn : (from until : ℕ) (fs : List FirmEvent) → DoNotFall from (map told_tick fs) until
+    → DoNotFall from (word_ticks (words_told fs)) until
+told_in_turn from until [] turn = turn
+told_in_turn from until (Told (events.Word d w t l) ∷ fs) turn = (turn.0, told_in_turn t until fs turn.1)
+told_in_turn from until (Told (events.Refused d f t) ∷ fs) turn =
+    earlier_turn (word_ticks (words_told fs)) from t until turn.0 (told_in_turn t until fs turn.1)
+told_in_turn from until (Told (events.Lost i t) ∷ fs) turn =
+    earlier_turn (word_ticks (words_told fs)) from t until turn.0 (told_in_turn t until fs turn.1)
+told_in_turn from until (Alone d t ∷ fs) turn =
+    earlier_turn (word_ticks (words_told fs)) from t until turn.0 (told_in_turn t until fs turn.1)

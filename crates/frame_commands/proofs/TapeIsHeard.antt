@@ -1,0 +1,61 @@
+-- What is heard of a recording tells its tape.
+use Rattle.std.proofs.Common.{ℕ, List, refl}
+use Rattle.std.specs.List.{AllZip}
+use Rattle.biphase.specs.declared.profile.Profile.{Profile}
+use Rattle.direction_reader.specs.declared.event.Event.{Event}
+use Rattle.direction_reader.specs.declared.firm_event.FirmEvent.{FirmEvent}
+use Rattle.direction_reader.specs.Firm.{AreFirmEvents}
+use Rattle.direction_reader.specs.FirmTape.{AreWitnessed, IsJudged}
+use Rattle.direction_reader.specs.ListEvents.{AreEvents}
+use Rattle.direction_reader.specs.Tape.{FindsTheTape, FindsTheTapeBehindOnes, TellsTheTape}
+use Rattle.tc_address.specs.declared.system.System.{System}
+use Rattle.tc_job.specs.declared.witness.Witness.{Witness}
+use Rattle.tc_job.specs.declared.witness.Witness.TheVariants.{NotAsked, Asked}
+use Rattle.frame_commands.specs.Heard.{AreHeard}
+use Rattle.frame_commands.specs.HeardTape.{HearsTheTape}
+
+-- what is heard tells the tape, whatever is read
+abbrev pub HearTheTape : Type 0
+HearTheTape = (witness : Witness) (system : System) (profile : Profile) (intervals : List ℕ) (events : List Event)
+    → AreHeard witness system profile intervals events → HearsTheTape witness system profile intervals events
+
+-- what the laws of the reader say
+pub record TapeLaws : Type 0 where
+  pub some : (system : System) (profile : Profile) (intervals : List ℕ)
+      → (events : List Event) × AreEvents system profile intervals events
+  pub truth : (system : System) (profile : Profile) (intervals : List ℕ) (events : List Event)
+      → AreEvents system profile intervals events → TellsTheTape system profile intervals events
+  pub damage : (system : System) (profile : Profile) (intervals : List ℕ) (events : List Event)
+      → AreEvents system profile intervals events → FindsTheTape system profile intervals events
+  pub rough_damage : (system : System) (profile : Profile) (intervals : List ℕ) (events : List Event)
+      → AreEvents system profile intervals events → FindsTheTapeBehindOnes system profile intervals events
+  pub judged : (system : System) (profile : Profile) (intervals : List ℕ) (events : List Event)
+      (told : List FirmEvent) → AreEvents system profile intervals events
+      → AreFirmEvents system profile intervals told → AllZip IsJudged events told
+  pub witnessed : (system : System) (profile : Profile) (intervals : List ℕ) (told : List FirmEvent)
+      → AreFirmEvents system profile intervals told → AreWitnessed system profile intervals told
+
+pub tape_is_heard : TapeLaws → HearTheTape
+tape_is_heard laws NotAsked system profile intervals events are = record {
+  plain = events;
+  are_plain = are;
+  heard = refl;
+  truth = laws.truth system profile intervals events are;
+  damage = laws.damage system profile intervals events are;
+  rough_damage = laws.rough_damage system profile intervals events are;
+}
+tape_is_heard laws Asked system profile intervals events are =
+    let plain = laws.some system profile intervals in
+    record {
+      plain = plain.0;
+      are_plain = plain.1;
+      heard = (
+        are.0,
+        laws.judged system profile intervals plain.0 are.0 plain.1 are.1,
+        laws.witnessed system profile intervals are.0 are.1,
+        are.2,
+      );
+      truth = laws.truth system profile intervals plain.0 plain.1;
+      damage = laws.damage system profile intervals plain.0 plain.1;
+      rough_damage = laws.rough_damage system profile intervals plain.0 plain.1;
+    }

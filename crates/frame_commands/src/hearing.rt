@@ -1,0 +1,216 @@
+//! What hears the words of a recording: a reader of all words, or one that asks each for a witness. Next:
+//! `direction_reader/src/reader.rt` and `direction_reader/src/firm_reader.rt`.
+ghost use Rattle.std.specs.Prelude.{◌≡◌, ℕ, ◌^◌, ◌<◌, ◌≤◌, ◌+◌, List, [], ◌∷◌, ◌++◌, All, IsTrue, length};
+ghost use Rattle.limits.specs.declared.recording.TheConstants.{MAX_INTERVAL, MAX_INTERVALS};
+ghost use Rattle.biphase.specs.declared.profile.Profile.{Profile};
+ghost use Rattle.direction_reader.specs.declared.event.Event.{Event};
+ghost use Rattle.direction_reader.specs.Firm.{DoNotFall};
+ghost use Rattle.flywheel.specs.Wheel.{IsInRange};
+ghost use Rattle.tc_address.specs.declared.system.System.{System};
+ghost use Rattle.tc_job.specs.declared.witness.Witness.{Witness};
+ghost use Rattle.frame_commands.specs.Heard.{AreHeard, AreHeardYet};
+ghost use Rattle.frame_commands.specs.Hearing.{BeginsHearing, Hearer, HearsOn, word_ticks};
+ghost use Rattle.frame_commands.specs.OfFrames.{words_heard};
+
+use crate::words::Words;
+use biphase::Profile;
+use direction_reader::firm_laws::a_reader_has_told_what_no_further_interval_changes;
+use direction_reader::laws::a_reader_gives_the_events_of_its_list;
+use direction_reader::{Brought, DirectionReader, FirmEvents, FirmReader};
+use limits::MAX_INTERVAL;
+use tc_address::System;
+
+/// What hears the words of a recording.
+pub(crate) trait Hearing: Drop {
+    /// What an interval brought.
+    type Brought: Copy;
+
+    /// Whether words are asked for a witness.
+    ghost witness: { Witness };
+
+    /// What it is, in numbers.
+    ghost hearer: { Self → Hearer };
+
+    /// What was brought are these events.
+    ghost tells: { Self → Self.Brought → List Event → Type 0 };
+
+    /// This may be brought, of a tick or later.
+    ghost may: { Self → Self.Brought → ℕ → Type 0 };
+
+    /// Before the first interval of a recording of this system, whose cells keep this tolerance.
+    fn start(system: System, profile: Profile) -> Self
+        ensures { BeginsHearing (hearer result) system profile };
+
+    /// Takes the next interval, of `x` ticks.
+    fn step(&mut self, x: u32) -> Self::Brought
+        requires least { 1 ≤ x }
+        requires most { x ≤ MAX_INTERVAL }
+        requires room { Hearer.count (hearer self.old) < MAX_INTERVALS }
+        ensures next { HearsOn (hearer self.old) x (hearer self.new) }
+        ensures later { Hearer.until (hearer self.old) ≤ Hearer.until (hearer self.new) }
+        ensures may { may self.new result (Hearer.until (hearer self.old)) }
+        ensures stands { (intervals : List ℕ) (events own : List Event)
+            → Hearer.stands (hearer self.old) intervals events → tells self.new result own
+            → Hearer.stands (hearer self.new) (intervals ++ x ∷ []) (events ++ own) };
+
+    /// Whether the interval brought nothing.
+    fn is_nothing(brought: &Self::Brought) -> bool
+        ensures { IsTrue result → (reader : Self) → tells reader brought.now [] };
+
+    /// The words of what the latest interval brought.
+    fn words(&self, brought: Self::Brought) -> Words
+        requires { (from : ℕ) × may self.now brought from }
+        ensures told { (own : List Event) × tells self.now brought own × (result ≡ words_heard own) }
+        ensures few { length result ≤ 2 }
+        ensures range { All IsInRange result }
+        ensures in_turn { (from : ℕ) → may self.now brought from
+            → DoNotFall from (word_ticks result) (Hearer.until (hearer self.now)) };
+
+    /// The words that are told at the end of the recording.
+    fn last_words(&self) -> Words
+        requires { Hearer.tick (hearer self.now) < 2 ^ 60 }
+        ensures told { (own : List Event) × (result ≡ words_heard own)
+            × ((intervals : List ℕ) (events : List Event) → Hearer.stands (hearer self.now) intervals events
+            → AreHeard witness (Hearer.system (hearer self.now)) (Hearer.profile (hearer self.now)) intervals
+            (events ++ own)) }
+        ensures few { length result ≤ 2 }
+        ensures range { All IsInRange result }
+        ensures in_turn { DoNotFall (Hearer.until (hearer self.now)) (word_ticks result)
+            (Hearer.tick (hearer self.now)) };
+
+    /// Up to which tick all is told.
+    fn until(&self) -> u64
+        ensures value { result ≡ Hearer.until (hearer self.now) }
+        ensures below { result < 2 ^ 60 };
+
+    /// How many intervals were taken.
+    fn intervals(&self) -> u64
+        ensures value { result ≡ Hearer.count (hearer self.now) }
+        ensures most { result ≤ MAX_INTERVALS };
+
+    /// Their sum in ticks.
+    fn ticks(&self) -> u64
+        ensures value { result ≡ Hearer.tick (hearer self.now) }
+        ensures below { result < 2 ^ 60 };
+
+    /// What it has told are the events that are heard yet.
+    fn what_is_told_is_heard()
+        ensures { (reader : Self) (intervals : List ℕ) (events : List Event)
+            → Hearer.stands (hearer reader) intervals events
+            → AreHeardYet witness (Hearer.system (hearer reader)) (Hearer.profile (hearer reader)) intervals events
+            (Hearer.until (hearer reader)) };
+}
+
+impl Hearing for DirectionReader {
+    ghost use Rattle.std.specs.Prelude.{◌≡◌, ◌≤◌};
+    ghost use Rattle.tc_job.specs.declared.witness.Witness.TheVariants.{NotAsked};
+    ghost use Rattle.frame_commands.specs.KeptHearing.{hearer_of_all, tells_all, MayTellFrom};
+
+    type Brought = Brought;
+
+    ghost witness = { NotAsked };
+
+    ghost hearer = { λ r. hearer_of_all r };
+
+    ghost tells = { λ r brought own. tells_all r brought own };
+
+    ghost may = { λ r brought from. MayTellFrom r brought from };
+
+    fn start(system: System, profile: Profile) -> DirectionReader {
+        DirectionReader::new(system, profile)
+    }
+
+    #[inline(always)]
+    fn step(&mut self, x: u32) -> Brought {
+        self.step(x)
+    }
+
+    #[inline(always)]
+    fn is_nothing(brought: &Brought) -> bool {
+        match brought {
+            Brought::Nothing => true,
+            Brought::Candidate | Brought::Break => false,
+        }
+    }
+
+    fn words(&self, brought: Brought) -> Words {
+        Words::of(self.events(brought))
+    }
+
+    fn last_words(&self) -> Words {
+        a_reader_gives_the_events_of_its_list();
+        Words::new()
+    }
+
+    #[inline(always)]
+    fn until(&self) -> u64 {
+        self.tick()
+    }
+
+    fn intervals(&self) -> u64 {
+        self.intervals()
+    }
+
+    fn ticks(&self) -> u64 {
+        self.tick()
+    }
+
+    fn what_is_told_is_heard() {
+        a_reader_gives_the_events_of_its_list();
+    }
+}
+
+impl Hearing for FirmReader {
+    ghost use Rattle.std.specs.Prelude.{◌≡◌, ◌≤◌};
+    ghost use Rattle.tc_job.specs.declared.witness.Witness.TheVariants.{Asked};
+    ghost use Rattle.frame_commands.specs.KeptHearing.{hearer_of_firm, tells_firm, MayTellFirmFrom};
+
+    type Brought = FirmEvents;
+
+    ghost witness = { Asked };
+
+    ghost hearer = { λ r. hearer_of_firm r };
+
+    ghost tells = { λ r brought own. tells_firm brought own };
+
+    ghost may = { λ r brought from. MayTellFirmFrom r brought from };
+
+    fn start(system: System, profile: Profile) -> FirmReader {
+        FirmReader::new(system, profile)
+    }
+
+    fn step(&mut self, x: u32) -> FirmEvents {
+        self.feed(x)
+    }
+
+    fn is_nothing(brought: &FirmEvents) -> bool {
+        match (brought.first, brought.second, brought.third) {
+            (None, None, None) => true,
+            _ => false,
+        }
+    }
+
+    fn words(&self, brought: FirmEvents) -> Words {
+        Words::told(brought)
+    }
+
+    fn last_words(&self) -> Words {
+        Words::told(self.finish())
+    }
+
+    fn until(&self) -> u64 {
+        self.told_until()
+    }
+
+    fn intervals(&self) -> u64 {
+        self.intervals()
+    }
+
+    fn ticks(&self) -> u64 {
+        self.tick()
+    }
+
+    fn what_is_told_is_heard() {
+        a_reader_has_told_what_no_further_interval_changes();
+    }
+}
