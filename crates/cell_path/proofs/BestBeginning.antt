@@ -99,6 +99,22 @@ way_comes lengths steps place sign number way more new best comes above =
       ];
     }
 
+-- where there is no beginning of that way, the best stays too
+pub way_fails : (lengths : List ℕ) (steps : List Step) (place : ℕ) (sign : Sign) (number : ℤ) (way more : Way)
+    → IsBestBefore lengths steps (rank_of_way more) place sign number way
+    → ((others : List Cell) → Begins lengths steps 0 place sign more others → ⊥)
+    → IsBestBefore lengths steps (rank_of_way more + 1) place sign number way
+way_fails lengths steps place sign number way more best fails = record {
+  before = best.before;
+  begins = best.begins;
+  low = omega (arith, best.low);
+  number_is = best.number_is;
+  wins = λ other others low begins. elim (low_or_here more other low) [
+    | inl less ↦ best.wins other others less begins
+    | inr here ↦ absurd (fails others (subst (λ w. Begins lengths steps 0 place sign w others) (sym here) begins))
+  ];
+}
+
 -- ---- the best in each way
 
 -- what a beginning behind cells that end in a place costs
@@ -226,6 +242,24 @@ jump_best lengths steps place from sign end e some best =
             | inr same ↦ inr (omega (arith, ints, theirs, best.number_is, same.0), same.1)
           ];
     }
+
+-- the shortest has no shorter one
+pub none_shorter : (lengths : List ℕ) (steps : List Step) (sign : Sign) → 0 < length steps
+    → (others : List Cell) → Begins lengths steps 0 0 sign Shorter others → ⊥
+none_shorter lengths steps sign some [] begins = let is = begins.is_path in omega arith
+none_shorter lengths steps sign some (cell ∷ others) begins = let is = begins.follows in omega (arith, is.0)
+
+in_list : (lengths : List ℕ) (steps : List Step) (cell : Cell) (path : List Cell) → IsPath lengths steps (cell ∷ path)
+    → cell.place < length lengths
+in_list lengths steps cell path is = is.1
+
+-- and the longest no longer one
+pub none_longer : (lengths : List ℕ) (steps : List Step) (place : ℕ) (sign : Sign) → 0 < length steps
+    → place + 1 ≡ length lengths
+    → (others : List Cell) → Begins lengths steps 0 place sign Longer others → ⊥
+none_longer lengths steps place sign some last [] begins = let is = begins.is_path in omega arith
+none_longer lengths steps place sign some last (cell ∷ others) begins =
+    let follows = begins.follows in let within = in_list lengths steps cell others begins.is_path in omega (arith, follows.0)
 
 pub way_is_low : (way : Way) → rank_of_way way < 4
 way_is_low Same = omega arith

@@ -1,5 +1,6 @@
 pub mod BestBeginning
 pub mod BestEnd
+pub mod BestExists
 pub mod BestOfAll
 pub mod CellsCover
 pub mod DecidesNext

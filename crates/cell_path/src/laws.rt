@@ -8,7 +8,7 @@ ghost use Rattle.cell_path.specs.declared.lengths.TheConstants.{EARLY, JUMP, LEN
 ghost use Rattle.cell_path.specs.declared.numbers.TheConstants.{PLACES};
 ghost use Rattle.cell_path.specs.declared.placed.Placed.{Placed};
 ghost use Rattle.cell_path.specs.declared.waiting.TheConstants.{ROOM};
-ghost use Rattle.cell_path.specs.Best.{EndsIn, IsBest};
+ghost use Rattle.cell_path.specs.Best.{EndsIn, IsBest, IsBestOfAll};
 ghost use Rattle.cell_path.specs.Decided.{end_behind, in_time, joined, latest_of, AreDecided, AreDecidedInAll};
 ghost use Rattle.cell_path.specs.Lengths.{length_in, spelled};
 ghost use Rattle.cell_path.specs.Spaced.{AreApart};
@@ -77,4 +77,18 @@ pub fn one_list_is_decided_in_all()
 pub fn the_cells_cover_the_sound()
     ensures { (steps : List Step) (all : List Placed) → AreDecidedInAll steps all
         → AreApart all × (end_behind 0 all ≤ length steps) × (length steps ≤ end_behind 0 all + 24) }
+{}
+
+/// The cells that are decided so far end apart, too, and none behind the sound.
+pub fn the_cells_decided_so_far_lie_in_the_sound()
+    ensures { (steps : List Step) (all : List Placed) → AreDecided steps all
+        → AreApart all × (end_behind 0 all ≤ length steps) }
+{}
+
+/// Each sound has a best path, and its cells are decided, as it goes on and when it ends.
+pub fn cells_are_decided_of_each_sound()
+    ensures best { (step : Step) (steps : List Step)
+        → (path : List Cell) × IsBestOfAll LENGTHS (step ∷ steps) path }
+    ensures decided { (steps : List Step) → (all : List Placed) × AreDecided steps all }
+    ensures in_all { (steps : List Step) → (all : List Placed) × AreDecidedInAll steps all }
 {}

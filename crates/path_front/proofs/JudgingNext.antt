@@ -68,9 +68,9 @@ pub waits : (phase : Phase) (cells now : CellsState) (gate next : GateState) (ce
     → GivesLastCell now samples given (Some cell))
     → SameSound cells now → next.least ≡ gate.least → next.ahead ≡ gate.ahead ++ cell ∷ []
     → ((judged more : List Measured) → GateStandsFor gate judged (cell ∷ more) → GateStandsFor next judged more)
-    → cells_left now + 2 ≤ cells_left cells
+    → cells_left now + 2 ≤ cells_left cells → length next.ahead ≤ 8
     → GivesNone (judging cells gate phase) (judging now next phase)
-waits phase cells now gate next cell opened gives rest same least ahead stays less = record {
+waits phase cells now gate next cell opened gives rest same least ahead stays less room = record {
   most = let many = ap length ahead ∙ length-append gate.ahead (cell ∷ []) in omega (arith, many, less);
   moves = record {
     came = cell ∷ [];
@@ -90,6 +90,9 @@ waits phase cells now gate next cell opened gives rest same least ahead stays le
         least = least ∙ stand.least ∙ sym same.least;
         order = ap (λ l. reverse judged ++ l) ahead
             ∙ order_next cells now samples stand.given more.0 cell judged gate.ahead same more.1 stand.order;
+        eight = λ is some.
+            let many = ap length ahead ∙ length-append gate.ahead (cell ∷ []) in
+            let before = stand.eight opened some in absurd (omega (arith, many, before, room));
       };
 }
 
@@ -116,9 +119,9 @@ pub judges_next : (phase : Phase) (cells now : CellsState) (gate next : GateStat
     → SameSound cells now → next.least ≡ gate.least → gate.ahead ++ cell ∷ [] ≡ answer.cell ∷ next.ahead
     → ((judged more : List Measured) → GateStandsFor gate judged (cell ∷ more)
     → Judges gate.least (gate.ahead ++ cell ∷ []) next judged more answer)
-    → IsMeasured answer.cell → cells_left now + 2 ≤ cells_left cells
+    → IsMeasured answer.cell → cells_left now + 2 ≤ cells_left cells → length next.ahead ≡ 8
     → GivesJudged (judging cells gate phase) (judging now next phase) answer
-judges_next phase cells now gate next cell answer opened gives rest same least front judges measured less = record {
+judges_next phase cells now gate next cell answer opened gives rest same least front judges measured less eight = record {
   less = let many = sym (length-append gate.ahead (cell ∷ [])) ∙ ap length front in omega (arith, many, less);
   measured = measured;
   moves = record {
@@ -144,6 +147,7 @@ judges_next phase cells now gate next cell answer opened gives rest same least f
         order = order_judged judged (gate.ahead ++ cell ∷ []) next.ahead
             (reverse (measured_cells (sounds_in now samples) (more.0 ∷ stand.given))) answer.cell front
             (order_next cells now samples stand.given more.0 cell judged gate.ahead same more.1 stand.order);
+        eight = λ is some. eight;
       };
 }
 
@@ -201,6 +205,7 @@ none_left phase cells now gate opened gives rest same most = record {
     gate = for_closed phase (λ m. GateStandsFor gate judged m) opened stand.gate;
     least = stand.least ∙ sym same.least;
     order = stand.order ∙ ap (λ s. reverse (measured_cells s stand.given)) (sym (same_sounds cells now samples same));
+    eight = λ is some. stand.eight opened some;
   };
 }
 
@@ -229,3 +234,44 @@ pub judged_if : (old now new : JudgingState) (answer : Option Judged) → GivesN
     → IfSome answer (λ a. GivesJudged now new a) → IfSome answer (λ a. GivesJudged old new a)
 judged_if old now new None first second = tt
 judged_if old now new (Some answer) first second = judged_after old now new answer first second
+
+-- one of the last cells is judged
+pub drains : (phase : Phase) (cells : CellsState) (gate next : GateState) (answer : Judged) → is_drain phase ≡ true
+    → next.least ≡ gate.least → gate.ahead ≡ answer.cell ∷ next.ahead
+    → ((judged : List Measured) → GateStandsFor gate judged [] → Judges gate.least gate.ahead next judged [] answer)
+    → IsMeasured answer.cell → GivesJudged (judging cells gate phase) (judging cells next phase) answer
+drains Sound cells gate next answer drained least front judges measured = absurd (false≢true drained)
+drains Rest cells gate next answer drained least front judges measured = absurd (false≢true drained)
+drains Drain cells gate next answer drained least front judges measured = record {
+  less = let many = ap length front in omega (arith, many);
+  measured = measured;
+  moves = record {
+    came = [];
+    moved = append-nil gate.ahead ∙ front;
+    drained = λ drain. refl;
+    stays = λ sound. sound;
+    goes = λ sound. sound;
+    keeps = λ drain. drain;
+  };
+  judges = λ samples judged stand.
+      (judges judged stand.gate).breaks_is ∙ ap (λ n. breaks n judged answer.cell (next.ahead ++ [])) (sym least);
+  stands = λ samples judged stand. record {
+    given = stand.given;
+    cells = stand.cells;
+    gate = (judges judged stand.gate).stands;
+    least = least ∙ stand.least;
+    order = order_judged judged gate.ahead next.ahead
+        (reverse (measured_cells (sounds_in cells samples) stand.given)) answer.cell front stand.order;
+    eight = λ is some. absurd (false≢true (sym is));
+  };
+}
+
+pub drains_if : (phase : Phase) (cells : CellsState) (gate next : GateState) (answer : Option Judged)
+    → is_drain phase ≡ true → next.least ≡ gate.least
+    → IfSome answer (λ a. gate.ahead ≡ a.cell ∷ next.ahead)
+    → IfSome answer (λ a. (judged : List Measured) → GateStandsFor gate judged []
+    → Judges gate.least gate.ahead next judged [] a) → IfSome answer (λ a. IsMeasured a.cell)
+    → IfSome answer (λ a. GivesJudged (judging cells gate phase) (judging cells next phase) a)
+drains_if phase cells gate next None drained least front judges measured = tt
+drains_if phase cells gate next (Some answer) drained least front judges measured =
+    drains phase cells gate next answer drained least front judges measured

@@ -11,14 +11,14 @@ ghost use Rattle.path_front.specs.declared.sizes.TheConstants.{MEANS};
 ghost use Rattle.path_front.specs.declared.tile.TheConstants.{MAX_TICKS};
 ghost use Rattle.path_front.specs.declared.grid.Grid.{Grid};
 ghost use Rattle.path_front.specs.declared.judging.Phase.TheVariants.{Sound};
-ghost use Rattle.path_front.specs.Front.{AreIntervals, FrontStandsFor, FrontState};
+ghost use Rattle.path_front.specs.Front.{AreIntervals, AreIntervalsSoFar, FrontStandsFor, FrontState};
 ghost use Rattle.path_front.specs.Grid.{AreStepsOf, IsGrid};
 ghost use Rattle.path_front.specs.Steps.{sounds_of};
 ghost use Rattle.path_front.specs.Tiles.{tiles_of};
 
 use cell_path::laws::{
-    one_list_is_decided, one_list_is_decided_in_all, the_cells_cover_the_sound,
-    what_is_decided_stays,
+    cells_are_decided_of_each_sound, one_list_is_decided, one_list_is_decided_in_all,
+    the_cells_cover_the_sound, the_cells_decided_so_far_lie_in_the_sound, what_is_decided_stays,
 };
 
 /// Of how many sounds a mean size is, where samples are clipped, how finely levels are counted, and
@@ -71,4 +71,28 @@ pub fn what_is_given_comes_first()
 {
     what_is_decided_stays();
     one_list_is_decided();
+}
+
+/// What samples bring so far is one list of intervals, which comes first in what more samples bring, and in the
+/// intervals of the whole sound. There is always such a list.
+pub fn what_samples_bring_so_far_comes_first()
+    ensures once { (grid : Grid) (ticks least : ℕ) (samples : List ℤ) (intervals others : List ℕ)
+        → AreIntervalsSoFar grid ticks least samples intervals → AreIntervalsSoFar grid ticks least samples others
+        → intervals ≡ others }
+    ensures first { (grid : Grid) (ticks least : ℕ) (more samples : List ℤ) (intervals longer : List ℕ)
+        → AreIntervalsSoFar grid ticks least samples intervals
+        → AreIntervalsSoFar grid ticks least (more ++ samples) longer
+        → (rest : List ℕ) × (longer ≡ intervals ++ rest) }
+    ensures in_all { (grid : Grid) (ticks least : ℕ) (more samples : List ℤ) (intervals whole : List ℕ)
+        → AreIntervalsSoFar grid ticks least samples intervals → AreIntervals grid ticks least (more ++ samples) whole
+        → (rest : List ℕ) × (whole ≡ intervals ++ rest) }
+    ensures some { (grid : Grid) (ticks least : ℕ) (samples : List ℤ)
+        → (intervals : List ℕ) × AreIntervalsSoFar grid ticks least samples intervals }
+    ensures whole { (grid : Grid) (ticks least : ℕ) (samples : List ℤ)
+        → (intervals : List ℕ) × AreIntervals grid ticks least samples intervals }
+{
+    what_is_decided_stays();
+    one_list_is_decided();
+    the_cells_decided_so_far_lie_in_the_sound();
+    cells_are_decided_of_each_sound();
 }

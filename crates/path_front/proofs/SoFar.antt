@@ -1,0 +1,307 @@
+-- The intervals that samples bring so far: they are given, they are one list, and they come first in what more samples
+-- bring.
+use Rattle.std.proofs.Common.{◌≡◌, ℕ, zero, suc, ◌+◌, ◌<◌, ◌≤◌, ◌⊎◌, inl, inr, ◌||◌, Bool, cond, ℤ, List, [], ◌∷◌}
+use Rattle.std.proofs.Common.{◌++◌, Option, Some, length, reverse, replicate, take, drop, refl, ap, ap₂, subst, sym}
+use Rattle.std.proofs.Common.{◌∙◌, arith}
+use Rattle.std.specs.List.{flat_map}
+use Rattle.std.proofs.lemmas.Grind.{flat_map-append}
+use Rattle.std.proofs.lemmas.List.{append_assoc, append-nil, append_cancel_right, drop_all, length-append, length-drop}
+use Rattle.std.proofs.lemmas.List.{length-reverse, length-take, reverse-append, reverse-reverse, take_all, take-append-drop}
+use Rattle.cell_path.specs.declared.cell.Step.{Step}
+use Rattle.cell_path.specs.declared.placed.Placed.{Placed}
+use Rattle.cell_path.specs.Decided.{end_behind, AreDecided, AreDecidedInAll}
+use Rattle.cell_path.specs.Spaced.{AreApart}
+use Rattle.path_front.specs.declared.fit.Usual.{Usual}
+use Rattle.path_front.specs.declared.gate.Judged.{Judged}
+use Rattle.path_front.specs.declared.grid.Grid.{Grid}
+use Rattle.path_front.specs.declared.group.Sounds.{Sounds}
+use Rattle.path_front.specs.declared.judging.Phase.TheVariants.{Sound}
+use Rattle.path_front.specs.declared.measured.Measured.{Measured}
+use Rattle.path_front.specs.Cells.{measured_cells, CellsStandFor, EndWithin}
+use Rattle.path_front.specs.Fit.{fit_of, usual_after}
+use Rattle.path_front.specs.Front.{intervals_before, intervals_of_judged, judgements, AreIntervals, AreIntervalsSoFar}
+use Rattle.path_front.specs.Front.{FrontState, FrontStandsFor, IsReady}
+use Rattle.path_front.specs.Gate.{breaks, does_not_fit, floor_by, long_of, range_by, refuses, usual_by, usual_of}
+use Rattle.path_front.specs.Judging.{is_drain, CellsIn, ForMore}
+use Rattle.path_front.specs.Levels.{is_faint}
+use Rattle.path_front.specs.Steps.{path_steps, sounds_of}
+use Rattle.path_front.specs.Tiles.{tiles_of}
+use Rattle.path_front.proofs.CellsNext.{cells_more, plain_length}
+use Rattle.path_front.proofs.GateJudges.{take_fewer}
+use Rattle.path_front.proofs.GivenFirst.{ahead_first, all_sounds, decided_in_all, judged_first, measured_more, path_more}
+use Rattle.path_front.proofs.GivenFirst.{still_decided, written_first, DecidedOnce, DecidedStays}
+
+-- ---- the gate hears no further than eight cells
+
+near_more : (cell : Measured) (behind other : List Measured) → take 8 behind ≡ take 8 other
+    → take 8 (cell ∷ behind) ≡ take 8 (cell ∷ other)
+near_more cell behind other near =
+    ap (λ l. cell ∷ l) (sym (take_fewer 7 behind) ∙ ap (take 7) near ∙ take_fewer 7 other)
+
+usual_near : (usual : Option Usual) (before : List Measured) (cell : Measured) (behind other : List Measured)
+    → take 8 behind ≡ take 8 other → usual_by usual before cell behind ≡ usual_by usual before cell other
+usual_near usual [] cell behind other near = refl
+usual_near usual (p ∷ before) cell behind other near =
+    ap (λ a. cond cell.jumps usual (Some (usual_after usual (range_by (take 8 (p ∷ before)) a)
+    (fit_of (range_by (take 8 (p ∷ before)) a) cell)))) near
+
+same_usual : (before behind other : List Measured) → take 8 behind ≡ take 8 other
+    → usual_of before behind ≡ usual_of before other
+unfolding usual_of
+same_usual [] behind other near = refl
+same_usual (cell ∷ before) behind other near =
+    ap (λ u. usual_by u before cell behind)
+    (same_usual before (cell ∷ behind) (cell ∷ other) (near_more cell behind other near))
+    ∙ usual_near (usual_of before (cell ∷ other)) before cell behind other near
+
+refuses_near : (least long : ℕ) (usual : Option Usual) (before : List Measured) (cell : Measured)
+    (behind other : List Measured) → take 8 behind ≡ take 8 other
+    → refuses least long usual before cell behind ≡ refuses least long usual before cell other
+refuses_near least long usual [] cell behind other near = refl
+refuses_near least long usual (p ∷ before) cell behind other near =
+    ap₂ (λ a b. is_faint p cell (floor_by least long (take 8 (p ∷ before)) b)
+    || does_not_fit usual (range_by (take 8 (p ∷ before)) a) (fit_of (range_by (take 8 (p ∷ before)) a) cell))
+    near (near_more cell behind other near)
+
+breaks_near : (least : ℕ) (before : List Measured) (cell : Measured) (behind other : List Measured)
+    → take 8 behind ≡ take 8 other → breaks least before cell behind ≡ breaks least before cell other
+breaks_near least before cell behind other near =
+    ap (λ u. cell.jumps || refuses least (long_of (cell ∷ before)) u before cell behind)
+    (same_usual before (cell ∷ behind) (cell ∷ other) (near_more cell behind other near))
+    ∙ ap (λ r. cell.jumps || r)
+    (refuses_near least (long_of (cell ∷ before)) (usual_of before (cell ∷ other)) before cell behind other near)
+
+same_judgements : (least : ℕ) (cells behind other : List Measured) → take 8 behind ≡ take 8 other
+    → judgements least cells behind ≡ judgements least cells other
+unfolding judgements
+same_judgements least [] behind other near = refl
+same_judgements least (cell ∷ before) behind other near =
+    ap₂ (λ l b. l ++ record { cell = cell; breaks = b } ∷ [])
+    (same_judgements least before (cell ∷ behind) (cell ∷ other) (near_more cell behind other near))
+    (breaks_near least before cell behind other near)
+
+-- ---- parts of lists
+
+take_exact : (n : ℕ) (xs ys : List Measured) → length xs ≡ n → take n (xs ++ ys) ≡ xs
+take_exact zero [] ys is = refl
+take_exact (suc n) [] ys is = absurd (omega (arith, is))
+take_exact zero (x ∷ xs) ys is = absurd (omega (arith, is))
+take_exact (suc n) (x ∷ xs) ys is = ap (λ l. x ∷ l) (take_exact n xs ys (omega (arith, is)))
+
+drop_exact : (n : ℕ) (xs ys : List Measured) → length xs ≡ n → drop n (xs ++ ys) ≡ ys
+drop_exact zero [] ys is = refl
+drop_exact (suc n) [] ys is = absurd (omega (arith, is))
+drop_exact zero (x ∷ xs) ys is = absurd (omega (arith, is))
+drop_exact (suc n) (x ∷ xs) ys is = drop_exact n xs ys (omega (arith, is))
+
+-- what is dropped of more ends with what is dropped of fewer
+one_more_drop : (n : ℕ) (cells : List Measured) → (front : List Measured) × (drop n cells ≡ front ++ drop (suc n) cells)
+one_more_drop zero [] = ([], refl)
+one_more_drop (suc n) [] = ([], refl)
+one_more_drop zero (cell ∷ cells) = (cell ∷ [], refl)
+one_more_drop (suc n) (cell ∷ cells) = one_more_drop n cells
+
+drop_behind : (n : ℕ) (new cells : List Measured) → (front : List Measured) × (drop n (new ++ cells) ≡ front ++ drop n cells)
+drop_behind n [] cells = ([], refl)
+drop_behind zero (cell ∷ new) cells = (cell ∷ new, refl)
+drop_behind (suc n) (cell ∷ new) cells =
+    let rest = drop_behind n new cells in
+    let one = one_more_drop n cells in
+    (rest.0 ++ one.0, rest.1 ∙ ap (λ l. rest.0 ++ l) one.1 ∙ sym (append_assoc rest.0 one.0 (drop (suc n) cells)))
+
+-- ---- the cells that wait are enough
+
+waits_only : (ticks least : ℕ) (judged ahead more : List Measured) → (0 < length judged → length ahead ≡ 8)
+    → intervals_before ticks least judged (ahead ++ more) ≡ intervals_before ticks least judged ahead
+unfolding judgements
+waits_only ticks least [] ahead more eight = refl
+waits_only ticks least (cell ∷ judged) ahead more eight =
+    let long = eight (omega arith) in
+    let same : take 8 (ahead ++ more) ≡ take 8 ahead =
+    take_exact 8 ahead more long ∙ sym (take_all 8 ahead (omega (arith, long))) in
+    ap (flat_map (tiles_of ticks)) (same_judgements least (cell ∷ judged) (ahead ++ more) ahead same)
+
+eight_ahead : (cells : List Measured) → 0 < length (drop 8 cells) → length (reverse (take 8 cells)) ≡ 8
+eight_ahead cells some =
+    let a = length-reverse (take 8 cells) in
+    let b = length-take 8 cells in
+    let c = length-drop 8 cells in
+    omega (arith, a, b, c, some)
+
+-- the intervals of cells in front of these and of those behind which enough others stand
+judged_come_first : (ticks least : ℕ) (cells front waiting : List Measured) (all : List Measured)
+    → (front ++ take 8 cells) ++ drop 8 cells ≡ all → waiting ≡ reverse (front ++ take 8 cells)
+    → intervals_before ticks least (drop 8 cells) waiting ≡ intervals_of_judged ticks least cells
+judged_come_first ticks least cells front waiting all is behind =
+    ap (intervals_before ticks least (drop 8 cells)) (behind ∙ reverse-append front (take 8 cells))
+    ∙ waits_only ticks least (drop 8 cells) (reverse (take 8 cells)) (reverse front) (eight_ahead cells)
+
+-- of a whole sound
+first_in_all : (ticks least : ℕ) (new cells : List Measured) → (rest : List ℕ)
+    × (intervals_before ticks least (new ++ cells) [] ≡ intervals_of_judged ticks least cells ++ rest)
+first_in_all ticks least new cells =
+    let whole : new ++ cells ≡ (new ++ take 8 cells) ++ drop 8 cells =
+    ap (λ l. new ++ l) (sym (take-append-drop 8 cells)) ∙ sym (append_assoc new (take 8 cells) (drop 8 cells)) in
+    let written = written_first ticks least (new ++ take 8 cells) (drop 8 cells) in (
+      written.0,
+      ap (λ c. intervals_before ticks least c []) whole ∙ written.1
+          ∙ ap (λ l. l ++ written.0) (judged_come_first ticks least cells new (reverse (new ++ take 8 cells)) (new ++ cells)
+          (sym whole) refl),
+    )
+
+-- of what more samples bring so far
+first_so_far : (ticks least : ℕ) (new cells : List Measured) → (rest : List ℕ)
+    × (intervals_of_judged ticks least (new ++ cells) ≡ intervals_of_judged ticks least cells ++ rest)
+first_so_far ticks least new cells =
+    let all = new ++ cells in
+    let tail = drop_behind 8 new cells in
+    let both : (take 8 all ++ tail.0) ++ drop 8 cells ≡ (new ++ take 8 cells) ++ drop 8 cells =
+    append_assoc (take 8 all) tail.0 (drop 8 cells) ∙ ap (λ l. take 8 all ++ l) (sym tail.1) ∙ take-append-drop 8 all
+    ∙ ap (λ l. new ++ l) (sym (take-append-drop 8 cells)) ∙ sym (append_assoc new (take 8 cells) (drop 8 cells)) in
+    let front : take 8 all ++ tail.0 ≡ new ++ take 8 cells =
+    append_cancel_right (take 8 all ++ tail.0) (new ++ take 8 cells) (drop 8 cells) both in
+    let first = judged_first least tail.0 (drop 8 cells) (reverse (take 8 all)) in
+    let order : reverse tail.0 ++ reverse (take 8 all) ≡ reverse (new ++ take 8 cells) =
+    sym (reverse-append (take 8 all) tail.0) ∙ ap reverse front in (
+      flat_map (tiles_of ticks) first.0,
+      ap (λ c. intervals_before ticks least c (reverse (take 8 all))) tail.1
+          ∙ ap (flat_map (tiles_of ticks)) first.1
+          ∙ flat_map-append (tiles_of ticks) (judgements least (drop 8 cells) (reverse tail.0 ++ reverse (take 8 all))) first.0
+          ∙ ap (λ l. l ++ flat_map (tiles_of ticks) first.0)
+          (judged_come_first ticks least cells new (reverse tail.0 ++ reverse (take 8 all)) all
+          (append_assoc new (take 8 cells) (drop 8 cells) ∙ ap (λ l. new ++ l) (take-append-drop 8 cells)) order),
+    )
+
+-- ---- the cells of more samples
+
+abbrev pub DecidedWithin : Type 0
+DecidedWithin = (steps : List Step) (all : List Placed) → AreDecided steps all
+    → AreApart all × (end_behind 0 all ≤ length steps)
+
+ends_within : (count : ℕ) (all : List Placed) → AreApart all → end_behind 0 all ≤ count → EndWithin count all
+ends_within count [] apart within = tt
+ends_within count (placed ∷ before) apart within =
+    (within, ends_within count before apart.1 (omega (arith, apart.0, within)))
+
+steps_length : (sounds : List Sounds) → length (path_steps sounds) ≡ length sounds
+unfolding path_steps
+steps_length [] = refl
+steps_length (s ∷ sounds) = ap suc (steps_length sounds)
+
+-- cells that are decided of some samples stay so, in what is decided of more
+cells_grow : DecidedWithin → (grid : Grid) (least : ℕ) (more samples : List ℤ) (now later new : List Placed)
+    → AreDecided (path_steps (sounds_of grid least samples)) now → later ≡ new ++ now
+    → (cells : List Measured) × (measured_cells (sounds_of grid least (more ++ samples)) later
+    ≡ cells ++ measured_cells (sounds_of grid least samples) now)
+cells_grow within grid least more samples now later new decided is =
+    let sounds = sounds_of grid least samples in
+    let extra = all_sounds grid least more samples in
+    let all = sounds_of grid least (more ++ samples) in
+    let in_it = within (path_steps sounds) now decided in
+    let many = steps_length sounds in
+    let ends = ends_within (length sounds) now in_it.0 (omega (arith, in_it.1, many)) in
+    let measured = measured_more all new now in (
+      measured.0,
+      ap (measured_cells all) is ∙ measured.1
+          ∙ ap (λ l. measured.0 ++ l) (ap (λ s. measured_cells s now) extra.1 ∙ cells_more extra.0 sounds now ends),
+    )
+
+-- ---- the laws
+
+pub so_far_once : DecidedOnce → (grid : Grid) (ticks least : ℕ) (samples : List ℤ) (intervals others : List ℕ)
+    → AreIntervalsSoFar grid ticks least samples intervals → AreIntervalsSoFar grid ticks least samples others
+    → intervals ≡ others
+so_far_once once grid ticks least samples intervals others are like =
+    let sounds = sounds_of grid least samples in
+    are.intervals_are
+    ∙ ap (λ c. intervals_of_judged ticks least (measured_cells sounds c))
+    (once (path_steps sounds) are.cells like.cells are.decided like.decided)
+    ∙ sym like.intervals_are
+
+pub so_far_first : DecidedStays → DecidedOnce → DecidedWithin → (grid : Grid) (ticks least : ℕ) (more samples : List ℤ)
+    (intervals longer : List ℕ) → AreIntervalsSoFar grid ticks least samples intervals
+    → AreIntervalsSoFar grid ticks least (more ++ samples) longer → (rest : List ℕ) × (longer ≡ intervals ++ rest)
+so_far_first stays once within grid ticks least more samples intervals longer are like =
+    let sounds = sounds_of grid least samples in
+    let extra = all_sounds grid least more samples in
+    let path = path_more extra.0 sounds in
+    let steps = ap path_steps extra.1 ∙ path.1 in
+    let new = still_decided stays once path.0 (path_steps sounds) like.cells are.cells
+    (subst (λ s. AreDecided s like.cells) steps like.decided) are.decided in
+    let grown = cells_grow within grid least more samples are.cells like.cells new.0 are.decided new.1 in
+    let first = first_so_far ticks least grown.0 (measured_cells sounds are.cells) in (
+      first.0,
+      like.intervals_are ∙ ap (intervals_of_judged ticks least) grown.1 ∙ first.1
+          ∙ ap (λ l. l ++ first.0) (sym are.intervals_are),
+    )
+
+pub so_far_in_all : DecidedStays → DecidedOnce → DecidedWithin → (grid : Grid) (ticks least : ℕ) (more samples : List ℤ)
+    (intervals whole : List ℕ) → AreIntervalsSoFar grid ticks least samples intervals
+    → AreIntervals grid ticks least (more ++ samples) whole → (rest : List ℕ) × (whole ≡ intervals ++ rest)
+so_far_in_all stays once within grid ticks least more samples intervals whole are like =
+    let sounds = sounds_of grid least samples in
+    let extra = all_sounds grid least more samples in
+    let path = path_more extra.0 sounds in
+    let steps = ap path_steps extra.1 ∙ path.1 in
+    let new = decided_in_all stays once path.0 (path_steps sounds) like.cells are.cells
+    (subst (λ s. AreDecidedInAll s like.cells) steps like.decided) are.decided in
+    let grown = cells_grow within grid least more samples are.cells like.cells new.0 are.decided new.1 in
+    let first = first_in_all ticks least grown.0 (measured_cells sounds are.cells) in (
+      first.0,
+      like.intervals_are ∙ ap (λ c. intervals_before ticks least c []) grown.1 ∙ first.1
+          ∙ ap (λ l. l ++ first.0) (sym are.intervals_are),
+    )
+
+-- ---- a front that is asked until nothing is left has given them
+
+waiting_apart : (judged ahead : List Measured) → length ahead ≤ 8 → (0 < length judged → length ahead ≡ 8)
+    → (drop 8 (reverse ahead ++ judged) ≡ judged) × (take 8 (reverse ahead ++ judged) ≡ reverse ahead)
+waiting_apart [] ahead few eight =
+    let long = length-reverse ahead in
+    let all = append-nil (reverse ahead) in (
+      ap (drop 8) all ∙ drop_all 8 (reverse ahead) (omega (arith, long)),
+      ap (take 8) all ∙ take_all 8 (reverse ahead) (omega (arith, long)),
+    )
+waiting_apart (cell ∷ judged) ahead few eight =
+    let long = length-reverse ahead in
+    let all = eight (omega arith) in (
+      drop_exact 8 (reverse ahead) (cell ∷ judged) (omega (arith, long, all)),
+      take_exact 8 (reverse ahead) (cell ∷ judged) (omega (arith, long, all)),
+    )
+
+pub given_so_far : (state : FrontState) (samples : List ℤ) (given : List ℕ) → IsReady state
+    → length state.judging.gate.ahead ≤ 8 → FrontStandsFor state samples given
+    → AreIntervalsSoFar state.judging.cells.steps.grid state.ticks state.judging.cells.steps.hold.least samples given
+given_so_far state samples given ready few stand =
+    let grid = state.judging.cells.steps.grid in
+    let least = state.judging.cells.steps.hold.least in
+    let ticks = state.ticks in
+    let ahead = state.judging.gate.ahead in
+    let judged = stand.judged in
+    let so_far = stand.judging.given in
+    let cells : CellsStandFor state.judging.cells samples so_far =
+    subst (λ p. CellsIn p state.judging.cells samples so_far) ready.phase stand.judging.cells in
+    let now = sounds_of grid least samples in
+    let all : cells.sounds ≡ now =
+    sym (ap (λ n. replicate n state.judging.cells.steps.latest ++ cells.sounds) ready.idle.left) ∙ cells.steps.all in
+    let decided : AreDecided (path_steps now) so_far =
+    subst (λ s. AreDecided (path_steps s) so_far) all
+    (subst (λ w. AreDecided (path_steps cells.sounds) (w ++ so_far)) ready.idle.waiting cells.decisions.decided) in
+    let measured = measured_cells now so_far in
+    let order : measured ≡ reverse ahead ++ judged = ahead_first judged ahead measured stand.judging.order in
+    let eight = stand.judging.eight (ap is_drain ready.phase) in
+    let parts = waiting_apart judged ahead few eight in
+    let out : given ++ state.tiles ≡ intervals_before ticks state.judging.gate.least judged (ahead ++ []) =
+    (subst (λ p. ForMore p (λ m. given ++ state.tiles
+    ≡ intervals_before ticks state.judging.gate.least judged (ahead ++ m))) ready.phase stand.out) [] in
+    let front : drop 8 measured ≡ judged = ap (drop 8) order ∙ parts.0 in
+    let back : reverse (take 8 measured) ≡ ahead =
+    ap reverse (ap (take 8) order ∙ parts.1) ∙ reverse-reverse ahead in
+    record {
+      cells = so_far;
+      decided = decided;
+      intervals_are = sym (append-nil given) ∙ ap (λ t. given ++ t) (sym ready.tiles) ∙ out
+          ∙ ap (intervals_before ticks state.judging.gate.least judged) (append-nil ahead)
+          ∙ ap (λ n. intervals_before ticks n judged ahead) stand.judging.least
+          ∙ ap₂ (intervals_before ticks least) (sym front) (sym back);
+    }
