@@ -90,6 +90,7 @@ waits phase cells now gate next cell opened gives rest same least ahead stays le
         least = least ∙ stand.least ∙ sym same.least;
         order = ap (λ l. reverse judged ++ l) ahead
             ∙ order_next cells now samples stand.given more.0 cell judged gate.ahead same more.1 stand.order;
+        few = room;
         eight = λ is some.
             let many = ap length ahead ∙ length-append gate.ahead (cell ∷ []) in
             let before = stand.eight opened some in absurd (omega (arith, many, before, room));
@@ -147,6 +148,7 @@ judges_next phase cells now gate next cell answer opened gives rest same least f
         order = order_judged judged (gate.ahead ++ cell ∷ []) next.ahead
             (reverse (measured_cells (sounds_in now samples) (more.0 ∷ stand.given))) answer.cell front
             (order_next cells now samples stand.given more.0 cell judged gate.ahead same more.1 stand.order);
+        few = omega (arith, eight);
         eight = λ is some. eight;
       };
 }
@@ -205,6 +207,7 @@ none_left phase cells now gate opened gives rest same most = record {
     gate = for_closed phase (λ m. GateStandsFor gate judged m) opened stand.gate;
     least = stand.least ∙ sym same.least;
     order = stand.order ∙ ap (λ s. reverse (measured_cells s stand.given)) (sym (same_sounds cells now samples same));
+    few = stand.few;
     eight = λ is some. stand.eight opened some;
   };
 }
@@ -262,6 +265,7 @@ drains Drain cells gate next answer drained least front judges measured = record
     least = least ∙ stand.least;
     order = order_judged judged gate.ahead next.ahead
         (reverse (measured_cells (sounds_in cells samples) stand.given)) answer.cell front stand.order;
+    few = let many = ap length front in omega (arith, many, stand.few);
     eight = λ is some. absurd (false≢true (sym is));
   };
 }

@@ -52,6 +52,7 @@ pub record JudgingStandFor (state : JudgingState) (samples : List ℤ) (judged :
   pub gate : ForMore state.phase (λ more. GateStandsFor state.gate judged more)
   pub least : state.gate.least ≡ state.cells.steps.hold.least
   pub order : reverse judged ++ state.gate.ahead ≡ reverse (measured_cells (sounds_in state.cells samples) given)
+  pub few : length state.gate.ahead ≤ NEIGHBOURS
   -- until all have been given, eight wait behind those that were judged
   pub eight : is_drain state.phase ≡ false → 0 < length judged → length state.gate.ahead ≡ NEIGHBOURS
 

@@ -101,7 +101,6 @@ impl Front {
             → FrontStandsFor self.new samples given }
         ensures some { result ≡ true → 0 < length self.new.tiles }
         ensures none { result ≡ false → IsFrontSettled self.new }
-        ensures few { length self.new.judging.gate.ahead ≤ 8 }
         ensures less { result ≡ true → intervals_left self.new < intervals_left self.old }
         ensures goes { GoesOn self.old self.new }
     {

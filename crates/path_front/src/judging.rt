@@ -181,7 +181,6 @@ impl Judging {
         ensures gives { IfSome result (λ answer. GivesJudged self.old self.new answer) }
         ensures none { IfNone result (GivesNone self.old self.new) }
         ensures settled { IfNone result (IsSettled self.new.phase self.new) }
-        ensures few { length self.new.gate.ahead ≤ 8 }
         ensures same { SameSound self.old.cells self.new.cells }
         ensures least { self.new.gate.least ≡ self.old.gate.least }
     {

@@ -62,15 +62,25 @@ pub fn the_intervals_of_a_sound_last_as_long()
     the_cells_cover_the_sound();
 }
 
-/// What is given of a sound comes first among its intervals, however it goes on.
+/// What is given of a sound comes first among its intervals, however it goes on, and among those that its samples
+/// bring so far; and once it has ended, too.
 pub fn what_is_given_comes_first()
-    ensures { (state : FrontState) (samples more : List ℤ) (given intervals : List ℕ) → state.judging.phase ≡ Sound
+    ensures in_all { (state : FrontState) (samples more : List ℤ) (given intervals : List ℕ) → state.judging.phase ≡ Sound
         → FrontStandsFor state samples given
         → AreIntervals state.judging.cells.steps.grid state.ticks state.judging.cells.steps.hold.least
         (more ++ samples) intervals → (rest : List ℕ) × (intervals ≡ given ++ rest) }
+    ensures so_far { (state : FrontState) (samples : List ℤ) (given intervals : List ℕ) → state.judging.phase ≡ Sound
+        → FrontStandsFor state samples given
+        → AreIntervalsSoFar state.judging.cells.steps.grid state.ticks state.judging.cells.steps.hold.least samples
+        intervals → (rest : List ℕ) × (intervals ≡ given ++ rest) }
+    ensures at_end { (state : FrontState) (samples : List ℤ) (given intervals : List ℕ)
+        → (state.judging.phase ≡ Sound → ⊥) → FrontStandsFor state samples given
+        → AreIntervals state.judging.cells.steps.grid state.ticks state.judging.cells.steps.hold.least samples
+        intervals → (rest : List ℕ) × (intervals ≡ given ++ rest) }
 {
     what_is_decided_stays();
     one_list_is_decided();
+    one_list_is_decided_in_all();
 }
 
 /// What samples bring so far is one list of intervals, which comes first in what more samples bring, and in the

@@ -17,5 +17,5 @@ returns-else-fill-clause-gives c = λ samples given stand_now.
         phase = phase;
         idle = subst (λ p. IsSettled p new.judging) phase settled.0;
         tiles = settled.1;
-      }) c.fill.ensures.few stand,
+      }) stand,
     )

@@ -21,5 +21,6 @@ returns-clause-stands c = λ samples judged stand_now.
       least = stand.least ∙ sym e.same.least;
       order = stand.order
           ∙ ap (λ s. reverse (measured_cells s stand.given)) (sym (same_sounds i.cells c.finish.new.self samples e.same));
+      few = stand.few;
       eight = λ is some. stand.eight (ap is_drain phase) some;
     }
