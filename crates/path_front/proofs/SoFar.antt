@@ -1,6 +1,6 @@
 -- The intervals that samples bring so far: they are given, they are one list, and they come first in what more samples
 -- bring.
-use Rattle.std.proofs.Common.{◌≡◌, ℕ, zero, suc, ◌+◌, ◌<◌, ◌≤◌, ◌⊎◌, inl, inr, ◌||◌, Bool, cond, ℤ, List, [], ◌∷◌}
+use Rattle.std.proofs.Common.{◌≡◌, ℕ, zero, suc, ◌<◌, ◌≤◌, ◌||◌, cond, ℤ, List, [], ◌∷◌}
 use Rattle.std.proofs.Common.{◌++◌, Option, Some, length, reverse, replicate, take, drop, refl, ap, ap₂, subst, sym}
 use Rattle.std.proofs.Common.{◌∙◌, arith}
 use Rattle.std.specs.List.{flat_map}
@@ -12,7 +12,6 @@ use Rattle.cell_path.specs.declared.placed.Placed.{Placed}
 use Rattle.cell_path.specs.Decided.{end_behind, AreDecided, AreDecidedInAll}
 use Rattle.cell_path.specs.Spaced.{AreApart}
 use Rattle.path_front.specs.declared.fit.Usual.{Usual}
-use Rattle.path_front.specs.declared.gate.Judged.{Judged}
 use Rattle.path_front.specs.declared.grid.Grid.{Grid}
 use Rattle.path_front.specs.declared.group.Sounds.{Sounds}
 use Rattle.path_front.specs.declared.judging.Phase.{Phase}
@@ -27,7 +26,7 @@ use Rattle.path_front.specs.Judging.{is_drain, CellsIn, ForMore}
 use Rattle.path_front.specs.Levels.{is_faint}
 use Rattle.path_front.specs.Steps.{path_steps, sounds_of}
 use Rattle.path_front.specs.Tiles.{tiles_of}
-use Rattle.path_front.proofs.CellsNext.{cells_more, plain_length}
+use Rattle.path_front.proofs.CellsNext.{cells_more}
 use Rattle.path_front.proofs.GateJudges.{take_fewer}
 use Rattle.path_front.proofs.GivenFirst.{ahead_first, all_sounds, decided_in_all, judged_first, measured_more, path_more}
 use Rattle.path_front.proofs.GivenFirst.{still_decided, written_first, DecidedOnce, DecidedStays}
