@@ -24,7 +24,10 @@ pub const USAGES: [(&str, &str); 22] = [
     ("ltc-load", " SEED WORDS"),
     ("mtc-read", ""),
     ("chase", " COUNT LABEL"),
-    ("ltc-chase", " COUNT LABEL LIMIT SEED BOUND [worn|rough [firm]]"),
+    (
+        "ltc-chase",
+        " COUNT LABEL LIMIT SEED BOUND [worn|rough [firm]]",
+    ),
     ("vitc-read", ""),
     ("vitc-make", " COUNT LABEL FRAMES LENGTH"),
     ("number", " COUNT LABEL"),
