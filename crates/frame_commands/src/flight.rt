@@ -1,10 +1,10 @@
 //! The way along the frames of a recording, the same for each command that makes something of them: words
 //! become frames, and these go to the command's sink. Next: `hearing`, then `frames`, and with the frames
 //! `frame_sink`.
-ghost use Rattle.std.specs.Prelude.{◌≡◌, ◌≤◌, ◌<◌, ◌^◌, ℕ, List, [], IsTrue, OnOk, OnErr, All, length};
+ghost use Rattle.std.specs.Prelude.{◌≡◌, ◌≤◌, ◌<◌, ◌^◌, ℕ, List, [], IsTrue, OnOk, OnErr, IfErr, All, length};
 ghost use Rattle.flywheel.specs.declared.frame.Frame.{Frame};
 ghost use Rattle.flywheel.specs.Wheel.{IsInRange};
-ghost use Rattle.tc_io.specs.Source.{Rose};
+ghost use Rattle.tc_command.specs.Causes.{HasOutCause};
 ghost use Rattle.frame_commands.specs.KeptFlight.{
   frames_counted,
   Counts,
@@ -27,7 +27,7 @@ use crate::words::Words;
 use interval_engine::Behind;
 use interval_file::IntervalHeader;
 use tc_command::Stop;
-use tc_io::{Failed, Sink};
+use tc_io::Sink;
 
 /// What a command makes of the frames of a recording, along its intervals.
 #[derive(Drop)]
@@ -49,11 +49,10 @@ impl<R: Hearing, T: FrameSink> FlightTo<R, T> {
         R::is_nothing(brought) && self.frames.is_quiet(until)
     }
 
-    /// Gives the sink the frames of these words, up to a tick. Nearly every interval brings none, and a small
-    /// answer costs those nothing.
+    /// Gives the sink the frames of these words, up to a tick. Nearly every interval brings none.
     #[cold]
     #[inline(never)]
-    fn give<K: Sink>(&mut self, words: Words, until: u64, out: &mut K) -> Result<(), Failed>
+    fn give<K: Sink>(&mut self, words: Words, until: u64, out: &mut K) -> Result<(), Stop>
         requires ready { (most : ℕ) × IsReady self.old.frames most until }
         requires room { T.taken self.old.sink ≤ frames_counted self.old.frames }
         requires few { length words ≤ 2 }
@@ -69,14 +68,12 @@ impl<R: Hearing, T: FrameSink> FlightTo<R, T> {
         ensures front { OnErr result ((more : List Frame)
             × SendsFront T.made T.given self.old.sink (K.written out.old) (K.written out.new) more
             × GivesFirst self.old.frames.wheel until words more) }
-        ensures same { OnOk result (K.faults out.new ≡ K.faults out.old) }
-        ensures rose { OnErr result (Rose (K.faults out.old) (K.faults out.new)) }
+        ensures why { IfErr result (λ stop. stop ≡ Stop.WriteFault) }
+        ensures cause { HasOutCause (K.faults out.old) (K.faults out.new) result }
     {
         self.frames.words = words;
         while let Some(frame) = self.frames.next(until) {
-            if let Err(_) = self.sink.frame(&frame, out) {
-                return Err(Failed);
-            }
+            self.sink.frame(&frame, out)?;
         }
         Ok(())
     }
@@ -128,10 +125,7 @@ impl<R: Hearing, T: FrameSink> Behind for FlightTo<R, T> {
             return Ok(());
         }
         let words = self.reader.words(brought);
-        match self.give(words, until, out) {
-            Ok(()) => Ok(()),
-            Err(Failed) => Err(Stop::WriteFault),
-        }
+        self.give(words, until, out)
     }
 
     fn flush<K: Sink>(&mut self, _out: &mut K) -> Result<(), Stop> {
@@ -150,9 +144,7 @@ impl<R: Hearing, T: FrameSink> Behind for FlightTo<R, T> {
         R::what_is_told_is_heard();
         let ticks = self.reader.ticks();
         let words = self.reader.last_words();
-        if let Err(Failed) = self.give(words, ticks, out) {
-            return Err(Stop::WriteFault);
-        }
+        self.give(words, ticks, out)?;
         self.sink
             .finish(&self.frames, self.reader.intervals(), ticks, out)
     }

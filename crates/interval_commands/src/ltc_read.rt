@@ -12,7 +12,6 @@ ghost use Rattle.interval_file.specs.declared.header.IntervalHeader.{IntervalHea
 ghost use Rattle.interval_file.specs.IntervalHeader.{IsTickRate};
 ghost use Rattle.report_text.specs.Texts.{event_line, read_end_line, FitsLine};
 ghost use Rattle.tc_io.specs.Sink.{AppendsFront};
-ghost use Rattle.tc_io.specs.Source.{Rose};
 ghost use Rattle.tc_command.specs.Causes.{HasOutCause};
 ghost use Rattle.interval_commands.specs.LtcRead.{lines, report};
 ghost use Rattle.interval_commands.specs.KeptReport.{counted, all_counted, Feeds, FitLines, FitsReport, Prints, Stands};
@@ -35,7 +34,7 @@ use limits::{MAX_INTERVAL, MAX_INTERVALS};
 use line_text::Text;
 use report_text::{event_text, read_end_text};
 use tc_command::{Stop, push_line};
-use tc_io::{Failed, Sink, Source};
+use tc_io::{Sink, Source};
 
 /// Works `ltc-read`, and under the other tolerances its like: a line for each event of a recording, and the
 /// last line.
@@ -101,18 +100,14 @@ impl Report {
     {
         match self.reader.step(x) {
             Brought::Nothing => Ok(()),
-            brought => match self.print(brought, out) {
-                Ok(()) => Ok(()),
-                Err(Failed) => Err(Stop::WriteFault),
-            },
+            brought => self.print(brought, out),
         }
     }
 
-    /// Prints what the latest interval brought. Nearly every interval brings nothing, and a small answer
-    /// costs those nothing.
+    /// Prints what the latest interval brought. Nearly every interval brings nothing.
     #[cold]
     #[inline(never)]
-    fn print<K: Sink>(&mut self, brought: Brought, out: &mut K) -> Result<(), Failed>
+    fn print<K: Sink>(&mut self, brought: Brought, out: &mut K) -> Result<(), Stop>
         requires taken { 1 ≤ self.old.reader.intervals }
         requires within { self.old.reader.intervals ≤ MAX_INTERVALS }
         requires sum { self.old.reader.tick ≤ self.old.reader.intervals * MAX_INTERVAL }
@@ -126,14 +121,11 @@ impl Report {
             × Prints self.old self.new (event_list own) (K.written out.old) (K.written out.new)) }
         ensures front { OnErr result ((own : Events) × Tells self.old.reader brought own
             × AppendsFront (K.written out.old) (K.written out.new) (lines self.old.header (event_list own))) }
-        ensures same { OnOk result (K.faults out.new ≡ K.faults out.old) }
-        ensures rose { OnErr result (Rose (K.faults out.old) (K.faults out.new)) }
+        ensures why { IfErr result (λ stop. stop ≡ Stop.WriteFault) }
+        ensures cause { HasOutCause (K.faults out.old) (K.faults out.new) result }
     {
         let events = self.reader.events(brought);
-        match self.push(events, out) {
-            Ok(()) => Ok(()),
-            Err(_) => Err(Failed),
-        }
+        self.push(events, out)
     }
 
     /// Counts the events of an interval, and pushes their lines.
