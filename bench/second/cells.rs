@@ -1,5 +1,6 @@
 //! From intervals to cells, windows and events, under each tolerance.
-use crate::labels::{Count, Label, Way};
+use crate::fields::LTC;
+use crate::labels::{Label, Way};
 
 #[derive(Clone, Copy, PartialEq, Eq, Debug)]
 pub enum Tolerance {
@@ -36,7 +37,8 @@ pub struct Word {
     first: usize,
 }
 
-const SYNC: [u8; 16] = [0, 0, 1, 1, 1, 1, 1, 1, 1, 1, 1, 1, 1, 1, 0, 1];
+/// The sync word in the order of time.
+pub const SYNC: [u8; 16] = [0, 0, 1, 1, 1, 1, 1, 1, 1, 1, 1, 1, 1, 1, 0, 1];
 
 impl Tolerance {
     /// Whether two neighbouring intervals are an unequal pair.
@@ -169,46 +171,13 @@ fn tell_window(system: u64, cells: &[Cell], stretch: usize, tick: u64, told: &mu
     }
 }
 
-fn field(bits: &[u8], at: usize, width: usize) -> u64 {
-    (0..width).map(|i| (bits[at + i] as u64) << i).sum()
-}
-
 /// The label, the user bits and the flags of a word, or the name of the first fault of its fields.
 fn fields(system: u64, bits: &[u8]) -> Result<(Label, u32, [bool; 5]), &'static str> {
-    let at = |place: usize, width: usize| field(bits, place, width);
-    let frames = 10 * at(8, 2) + at(0, 4);
-    let hours = 10 * at(56, 2) + at(48, 4);
-    let count = match system {
-        24 => Count::Of24,
-        25 => Count::Of25,
-        _ if at(10, 1) == 1 => Count::Drop,
-        _ => Count::Of30,
-    };
-    let faults = [
-        (at(0, 4) > 9, "frame-units"),
-        (frames >= system, "frames"),
-        (at(16, 4) > 9, "second-units"),
-        (at(24, 3) > 5, "second-tens"),
-        (at(32, 4) > 9, "minute-units"),
-        (at(40, 3) > 5, "minute-tens"),
-        (at(48, 4) > 9, "hour-units"),
-        (hours > 23, "hours"),
-    ];
-    if let Some((_, name)) = faults.iter().find(|(is_so, _)| *is_so) {
-        return Err(name);
-    }
-    let seconds = 10 * at(24, 3) + at(16, 4);
-    let minutes = 10 * at(40, 3) + at(32, 4);
-    let label = Label { count, hours, minutes, seconds, frames };
-    if label.is_dropped() {
-        return Err("dropped-label");
-    }
-    let groups = [4, 12, 20, 28, 36, 44, 52, 60];
-    let user = groups.iter().enumerate().map(|(i, place)| (at(*place, 4) as u32) << (4 * i)).sum();
-    let groups_at = if system == 25 { [27, 58, 43] } else { [43, 58, 59] };
+    let label = LTC.label(system, bits)?;
+    let groups = if system == 25 { [27, 58, 43] } else { [43, 58, 59] };
     let flag = |place: usize| bits[place] == 1;
-    let flags = [flag(10), flag(11), flag(groups_at[0]), flag(groups_at[1]), flag(groups_at[2])];
-    Ok((label, user, flags))
+    let flags = [flag(10), flag(11), flag(groups[0]), flag(groups[1]), flag(groups[2])];
+    Ok((label, LTC.user(bits), flags))
 }
 
 /// Asks each word for its witness. Where the last stretch may go on, a backward word that has fewer than 16 cells

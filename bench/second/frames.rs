@@ -1,5 +1,6 @@
 //! The frames of a recording, and what is made of them: lines, spans, MIDI Time Code, a clean recording.
-use crate::cells::{Event, Word};
+use crate::cells::{Event, SYNC, Word};
+use crate::fields::LTC;
 use crate::intervals::{header, spell};
 use crate::labels::{Count, Label, Way};
 
@@ -247,29 +248,13 @@ fn bits_of(label: &Label, piece: u64) -> u64 {
 
 /// The 80 bits of a word with this label, user bits 0, balanced; bit 0 first.
 pub fn word_bits(label: &Label, user: u32) -> [bool; 80] {
-    let mut bits = [false; 80];
-    let mut put = |at: usize, width: usize, value: u64| {
-        for i in 0..width {
-            bits[at + i] = value >> i & 1 == 1;
-        }
-    };
-    put(0, 4, label.frames % 10);
-    put(8, 2, label.frames / 10);
-    put(10, 1, (label.count == Count::Drop) as u64);
-    put(16, 4, label.seconds % 10);
-    put(24, 3, label.seconds / 10);
-    put(32, 4, label.minutes % 10);
-    put(40, 3, label.minutes / 10);
-    put(48, 4, label.hours % 10);
-    put(56, 2, label.hours / 10);
-    for group in 0..8 {
-        put(4 + 8 * group, 4, (user >> (4 * group) & 15) as u64);
-    }
-    put(64, 16, 0xbffc);
+    let mut bits = [0; 80];
+    LTC.put(label, user, &mut bits);
+    bits[64..].copy_from_slice(&SYNC);
     let correction = if label.count == Count::Of25 { 59 } else { 27 };
-    let zeros = bits.iter().filter(|bit| !**bit).count();
-    bits[correction] = zeros % 2 == 1;
-    bits
+    let zeros = bits.iter().filter(|bit| **bit == 0).count();
+    bits[correction] = (zeros % 2) as u8;
+    bits.map(|bit| bit == 1)
 }
 
 /// Writes a cell.

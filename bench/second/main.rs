@@ -5,6 +5,7 @@ mod cases;
 mod cells;
 mod chase;
 mod draws;
+mod fields;
 mod frames;
 mod intervals;
 mod labels;

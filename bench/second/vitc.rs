@@ -1,4 +1,5 @@
 //! The line file, `vitc-read` and `vitc-make`.
+use crate::fields::VITC;
 use crate::labels::{Count, Label};
 use crate::run::{End, Run};
 
@@ -83,10 +84,6 @@ fn bits_of(runs: &[u64], length: u64) -> Result<[u8; 90], String> {
     Ok(bits)
 }
 
-fn value(bits: &[u8; 90], at: usize, width: usize) -> u64 {
-    (0..width).map(|i| (bits[at + i] as u64) << i).sum()
-}
-
 /// What a line says.
 fn word(system: u64, runs: &[u64], length: u64) -> Said {
     let bits = bits_of(runs, length)?;
@@ -97,37 +94,8 @@ fn word(system: u64, runs: &[u64], length: u64) -> Said {
     if let Some(r) = (0..8).find(|r| parity(*r) != 0) {
         return Err(format!("check {r}"));
     }
-    let at = |place: usize, width: usize| value(&bits, place, width);
-    let count = match system {
-        25 => Count::Of25,
-        _ if at(14, 1) == 1 => Count::Drop,
-        _ => Count::Of30,
-    };
-    let (frames, hours) = (10 * at(12, 2) + at(2, 4), 10 * at(72, 2) + at(62, 4));
-    let faults = [
-        (at(2, 4) > 9, "frame-units"),
-        (frames >= system, "frames"),
-        (at(22, 4) > 9, "second-units"),
-        (at(32, 3) > 5, "second-tens"),
-        (at(42, 4) > 9, "minute-units"),
-        (at(52, 3) > 5, "minute-tens"),
-        (at(62, 4) > 9, "hour-units"),
-        (hours > 23, "hours"),
-    ];
-    if let Some((_, name)) = faults.iter().find(|(is_so, _)| *is_so) {
-        return Err(name.to_string());
-    }
-    let label = Label {
-        count,
-        hours,
-        minutes: 10 * at(52, 3) + at(42, 4),
-        seconds: 10 * at(32, 3) + at(22, 4),
-        frames,
-    };
-    if label.is_dropped() {
-        return Err("dropped-label".into());
-    }
-    let user: u64 = (0..8).map(|g| at(6 + 10 * g, 4) << (4 * g)).sum();
+    let label = VITC.label(system, &bits)?;
+    let user = VITC.user(&bits);
     let (groups, mark) = if system == 25 { ([35, 74, 55], 75) } else { ([55, 74, 75], 35) };
     let flags: String = [14, 15, groups[0], groups[1], groups[2]].iter().map(|p| char::from(b'0' + bits[*p])).collect();
     Ok(format!("{} user {user:08x} flags {flags} mark {}", label.text(), bits[mark]))
@@ -173,27 +141,11 @@ pub fn read(bytes: &[u8]) -> Run {
 /// The 90 bits of a line with this label and field mark, user bits 0.
 pub fn line_bits(label: &Label, mark: u8, user: u32) -> [u8; 90] {
     let mut bits = [0u8; 90];
-    let mut put = |at: usize, width: usize, n: u64| {
-        for i in 0..width {
-            bits[at + i] = (n >> i & 1) as u8;
-        }
-    };
     for j in 0..9 {
-        put(10 * j, 2, 1);
+        bits[10 * j] = 1;
     }
-    put(2, 4, label.frames % 10);
-    put(12, 2, label.frames / 10);
-    put(14, 1, (label.count == Count::Drop) as u64);
-    put(22, 4, label.seconds % 10);
-    put(32, 3, label.seconds / 10);
-    put(42, 4, label.minutes % 10);
-    put(52, 3, label.minutes / 10);
-    put(62, 4, label.hours % 10);
-    put(72, 2, label.hours / 10);
-    put(if label.count == Count::Of25 { 75 } else { 35 }, 1, mark as u64);
-    for g in 0..8 {
-        put(6 + 10 * g, 4, (user >> (4 * g) & 15) as u64);
-    }
+    VITC.put(label, user, &mut bits);
+    bits[if label.count == Count::Of25 { 75 } else { 35 }] = mark;
     for r in 0..8 {
         let sum = (0..82).filter(|i| i % 8 == r).fold(0, |sum, i| sum ^ bits[i]);
         let place = (82..90).find(|i| i % 8 == r).expect("eight places have each residue once");
