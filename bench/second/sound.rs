@@ -195,8 +195,8 @@ fn front(bytes: &[u8], track: usize) -> Result<Front, End> {
                 long = Some(little(&rest[8..16]));
             }
             b"data" => {
-                let Some(format) = known else { return Err(End::at_byte("format", at as u64)) };
                 let size = data_size(bytes, at, size, is_riff, long)?;
+                let Some(format) = known else { return Err(End::at_byte("format", at as u64)) };
                 return Ok(Front { format, data: at + 8, size });
             }
             _ => {}
