@@ -2,9 +2,8 @@
 -- has taken four zeros or four ones in a row, and takes no other cell up to the end of the run. The zero behind the run
 -- ends a stretch that took the halves for zeros, or for ones of the other phase. A stretch that goes on has the ones of
 -- the run as its latest four.
-use Rattle.std.proofs.Common.{◌≡◌, ℕ, ◌+◌, ◌*◌, ◌<◌, ◌≤◌, ◌⊎◌, List, [], ◌∷◌, ◌++◌, length, inl, inr, refl, ap, ap₂}
+use Rattle.std.proofs.Common.{◌≡◌, ℕ, ◌+◌, ◌*◌, ◌≤◌, ◌⊎◌, List, [], ◌∷◌, ◌++◌, length, inl, inr, refl, ap, ap₂}
 use Rattle.std.proofs.Common.{subst, sym, ◌∙◌, arith, append_assoc, length-append}
-use Rattle.std.proofs.lemmas.Grind.{flat_map-append}
 use Rattle.biphase.specs.declared.profile.Profile.TheVariants.{Rough}
 use Rattle.biphase.specs.declared.cell.Cell.{Cell}
 use Rattle.biphase.specs.declared.cell.Cell.TheVariants.{Zero, One}

@@ -12,6 +12,8 @@ pub mod LocalStretch
 pub mod LockStays
 pub mod MirroredCells
 pub mod OneStretch
+pub mod OverTheRun
 pub mod PieceEnds
+pub mod RunOfOnes
 pub mod StretchGrows
 pub mod StretchesGoOn

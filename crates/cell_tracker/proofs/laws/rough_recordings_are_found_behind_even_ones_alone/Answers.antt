@@ -1,5 +1,5 @@
-use Rattle.std.proofs.Common.{◌≡◌, [], ◌∷◌, None, subst, arith, refl}
-use Rattle.biphase.specs.declared.cell.Cell.TheVariants.{Zero, One}
+use Rattle.std.proofs.Common.{◌≡◌, [], ◌∷◌, subst, arith, refl}
+use Rattle.biphase.specs.declared.cell.Cell.TheVariants.{One}
 use Rattle.biphase.specs.declared.profile.Profile.TheVariants.{Rough}
 use Rattle.cell_tracker.specs.Lock.{IsLock, IsUnequalAt}
 use Rattle.cell_tracker.proofs.Computed.{run, stretches_of, computed_are}
