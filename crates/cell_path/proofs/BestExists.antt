@@ -19,7 +19,6 @@ use Rattle.cell_path.specs.Decided.{end_behind, is_due, newly, Adds, AreDecided,
 use Rattle.cell_path.specs.Lengths.{length_in}
 use Rattle.cell_path.specs.Number.{score_before, IsBeginning, IsBestEnd, IsEnd}
 use Rattle.cell_path.specs.Path.{level_at, signed, sign_before, sound_in}
-use Rattle.cell_path.specs.StandsFor.{HasBeginning}
 use Rattle.cell_path.specs.Trying.{end_number, IsBestBefore, IsBestBelow, IsBestOfWay}
 use Rattle.cell_path.proofs.BestBeginning.{all_tried, jump_best, longer_best, none_longer, none_shorter, same_best}
 use Rattle.cell_path.proofs.BestBeginning.{shorter_best, way_comes, way_fails, way_stays}

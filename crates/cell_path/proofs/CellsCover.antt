@@ -91,7 +91,7 @@ apart_decided delay count done end steps (cell ∷ rest) before path first apart
     (apart_decided delay count done (end - n) (drop n steps) rest before path.3 first apart)
 
 -- what is decided so far
-abbrev ApartWithin : ℕ → List Placed → Type 0
+abbrev pub ApartWithin : ℕ → List Placed → Type 0
 ApartWithin count all = AreApart all × (end_behind 0 all ≤ count)
 
 newly_apart : (delay count : ℕ) (steps : List Step) (path : List Cell) (before all : List Placed)
@@ -111,7 +111,7 @@ adds_apart steps before all true due adds so_far =
 adds_apart steps before all false due adds so_far =
     subst (ApartWithin (length steps)) (sym (adds.idle due)) so_far
 
-decided_apart : (steps : List Step) (all : List Placed) → AreDecided steps all → ApartWithin (length steps) all
+pub decided_apart : (steps : List Step) (all : List Placed) → AreDecided steps all → ApartWithin (length steps) all
 decided_apart [] all are = subst (ApartWithin 0) (sym are) (tt, omega arith)
 decided_apart (step ∷ steps) all are =
     let before = decided_apart steps are.0 are.1 in

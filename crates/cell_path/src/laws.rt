@@ -79,6 +79,12 @@ pub fn the_cells_cover_the_sound()
         → AreApart all × (end_behind 0 all ≤ length steps) × (length steps ≤ end_behind 0 all + 24) }
 {}
 
+/// The cells that are decided so far end apart, too, and none behind the sound.
+pub fn the_cells_decided_so_far_lie_in_the_sound()
+    ensures { (steps : List Step) (all : List Placed) → AreDecided steps all
+        → AreApart all × (end_behind 0 all ≤ length steps) }
+{}
+
 /// Each sound has a best path, and its cells are decided, as it goes on and when it ends.
 pub fn cells_are_decided_of_each_sound()
     ensures best { (step : Step) (steps : List Step)

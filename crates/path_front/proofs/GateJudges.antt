@@ -109,7 +109,7 @@ usual_is usual (p ∷ before) cell behind range next stays some few few_behind r
     ∙ sym (ap (λ b. cond b usual (Some (usual_after usual (range_by (take 8 (p ∷ before)) (take 8 behind)) (fit_of
     (range_by (take 8 (p ∷ before)) (take 8 behind)) cell)))) stays)
 
-take_fewer : (n : ℕ) (cells : List Measured) → take n (take (suc n) cells) ≡ take n cells
+pub take_fewer : (n : ℕ) (cells : List Measured) → take n (take (suc n) cells) ≡ take n cells
 take_fewer zero [] = refl
 take_fewer zero (cell ∷ cells) = refl
 take_fewer (suc n) [] = refl

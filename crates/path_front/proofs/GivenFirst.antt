@@ -31,7 +31,7 @@ DecidedOnce = (steps : List Step) (all others : List Placed) → AreDecided step
     → all ≡ others
 
 -- what is decided later stands in front of what is decided now
-still_decided : DecidedStays → DecidedOnce → (extra steps : List Step) (all now : List Placed)
+pub still_decided : DecidedStays → DecidedOnce → (extra steps : List Step) (all now : List Placed)
     → AreDecided (extra ++ steps) all → AreDecided steps now → (new : List Placed) × (all ≡ new ++ now)
 still_decided stays once [] steps all now later is = ([], once steps all now later is)
 still_decided stays once (step ∷ extra) steps all now later is =
@@ -47,7 +47,7 @@ ended_with before now new all is last ends =
     (last ++ new, ends ∙ ap (λ l. last ++ l) is ∙ sym (append_assoc last new now))
 
 -- also when the sound has ended
-decided_in_all : DecidedStays → DecidedOnce → (extra steps : List Step) (all now : List Placed)
+pub decided_in_all : DecidedStays → DecidedOnce → (extra steps : List Step) (all now : List Placed)
     → AreDecidedInAll (extra ++ steps) all → AreDecided steps now → (new : List Placed) × (all ≡ new ++ now)
 decided_in_all stays once [] [] all now later is = ([], later ∙ sym is)
 decided_in_all stays once [] (step ∷ steps) all now later is =
@@ -59,7 +59,7 @@ decided_in_all stays once (step ∷ extra) steps all now later is =
 
 -- ---- the sound goes on
 
-path_more : (extra sounds : List Sounds)
+pub path_more : (extra sounds : List Sounds)
     → (more : List Step) × (path_steps (extra ++ sounds) ≡ more ++ path_steps sounds)
 unfolding path_steps
 path_more [] sounds = ([], refl)
@@ -67,7 +67,7 @@ path_more (latest ∷ extra) sounds =
     let rest = path_more extra sounds in
     let step = (heard_at latest (extra ++ sounds)).step in (step ∷ rest.0, ap (λ l. step ∷ l) rest.1)
 
-all_sounds : (grid : Grid) (least : ℕ) (more samples : List ℤ)
+pub all_sounds : (grid : Grid) (least : ℕ) (more samples : List ℤ)
     → (extra : List Sounds) × (sounds_of grid least (more ++ samples) ≡ extra ++ sounds_of grid least samples)
 all_sounds grid least [] samples = ([], refl)
 all_sounds grid least (sample ∷ more) samples =
@@ -77,7 +77,7 @@ all_sounds grid least (sample ∷ more) samples =
       one.1 ∙ ap (λ l. one.0 ++ l) rest.1 ∙ sym (append_assoc one.0 rest.0 (sounds_of grid least samples)),
     )
 
-measured_more : (sounds : List Sounds) (new given : List Placed)
+pub measured_more : (sounds : List Sounds) (new given : List Placed)
     → (cells : List Measured) × (measured_cells sounds (new ++ given) ≡ cells ++ measured_cells sounds given)
 unfolding measured_cells
 measured_more sounds [] given = ([], refl)
@@ -87,7 +87,7 @@ measured_more sounds (placed ∷ new) given =
 
 -- ---- the cells that are judged
 
-judged_first : (least : ℕ) (cells judged behind : List Measured)
+pub judged_first : (least : ℕ) (cells judged behind : List Measured)
     → (more : List Judged)
     × (judgements least (cells ++ judged) behind ≡ judgements least judged (reverse cells ++ behind) ++ more)
 unfolding judgements
@@ -104,7 +104,7 @@ judged_first least (cell ∷ cells) judged behind =
           ∙ ap (λ b. judgements least judged b ++ (rest.0 ++ one ∷ [])) order,
     )
 
-written_first : (ticks least : ℕ) (cells judged : List Measured)
+pub written_first : (ticks least : ℕ) (cells judged : List Measured)
     → (more : List ℕ)
     × (intervals_before ticks least (cells ++ judged) [] ≡ intervals_before ticks least judged (reverse cells) ++ more)
 written_first ticks least cells judged =
@@ -117,7 +117,7 @@ written_first ticks least cells judged =
     )
 
 -- those ahead were given behind those that were judged
-ahead_first : (judged ahead cells : List Measured) → reverse judged ++ ahead ≡ reverse cells
+pub ahead_first : (judged ahead cells : List Measured) → reverse judged ++ ahead ≡ reverse cells
     → cells ≡ reverse ahead ++ judged
 ahead_first judged ahead cells order =
     sym (reverse-reverse cells) ∙ ap reverse (sym order) ∙ reverse-append (reverse judged) ahead

@@ -68,9 +68,9 @@ pub waits : (phase : Phase) (cells now : CellsState) (gate next : GateState) (ce
     → GivesLastCell now samples given (Some cell))
     → SameSound cells now → next.least ≡ gate.least → next.ahead ≡ gate.ahead ++ cell ∷ []
     → ((judged more : List Measured) → GateStandsFor gate judged (cell ∷ more) → GateStandsFor next judged more)
-    → cells_left now + 2 ≤ cells_left cells
+    → cells_left now + 2 ≤ cells_left cells → length next.ahead ≤ 8
     → GivesNone (judging cells gate phase) (judging now next phase)
-waits phase cells now gate next cell opened gives rest same least ahead stays less = record {
+waits phase cells now gate next cell opened gives rest same least ahead stays less room = record {
   most = let many = ap length ahead ∙ length-append gate.ahead (cell ∷ []) in omega (arith, many, less);
   moves = record {
     came = cell ∷ [];
@@ -90,6 +90,10 @@ waits phase cells now gate next cell opened gives rest same least ahead stays le
         least = least ∙ stand.least ∙ sym same.least;
         order = ap (λ l. reverse judged ++ l) ahead
             ∙ order_next cells now samples stand.given more.0 cell judged gate.ahead same more.1 stand.order;
+        few = room;
+        eight = λ is some.
+            let many = ap length ahead ∙ length-append gate.ahead (cell ∷ []) in
+            let before = stand.eight opened some in absurd (omega (arith, many, before, room));
       };
 }
 
@@ -116,9 +120,9 @@ pub judges_next : (phase : Phase) (cells now : CellsState) (gate next : GateStat
     → SameSound cells now → next.least ≡ gate.least → gate.ahead ++ cell ∷ [] ≡ answer.cell ∷ next.ahead
     → ((judged more : List Measured) → GateStandsFor gate judged (cell ∷ more)
     → Judges gate.least (gate.ahead ++ cell ∷ []) next judged more answer)
-    → IsMeasured answer.cell → cells_left now + 2 ≤ cells_left cells
+    → IsMeasured answer.cell → cells_left now + 2 ≤ cells_left cells → length next.ahead ≡ 8
     → GivesJudged (judging cells gate phase) (judging now next phase) answer
-judges_next phase cells now gate next cell answer opened gives rest same least front judges measured less = record {
+judges_next phase cells now gate next cell answer opened gives rest same least front judges measured less eight = record {
   less = let many = sym (length-append gate.ahead (cell ∷ [])) ∙ ap length front in omega (arith, many, less);
   measured = measured;
   moves = record {
@@ -144,6 +148,8 @@ judges_next phase cells now gate next cell answer opened gives rest same least f
         order = order_judged judged (gate.ahead ++ cell ∷ []) next.ahead
             (reverse (measured_cells (sounds_in now samples) (more.0 ∷ stand.given))) answer.cell front
             (order_next cells now samples stand.given more.0 cell judged gate.ahead same more.1 stand.order);
+        few = omega (arith, eight);
+        eight = λ is some. eight;
       };
 }
 
@@ -201,6 +207,8 @@ none_left phase cells now gate opened gives rest same most = record {
     gate = for_closed phase (λ m. GateStandsFor gate judged m) opened stand.gate;
     least = stand.least ∙ sym same.least;
     order = stand.order ∙ ap (λ s. reverse (measured_cells s stand.given)) (sym (same_sounds cells now samples same));
+    few = stand.few;
+    eight = λ is some. stand.eight opened some;
   };
 }
 

@@ -9,4 +9,5 @@ pub mod JudgingNext
 pub mod LatestSizes
 pub mod LatestSound
 pub mod Means
+pub mod SoFar
 pub mod StepsNext

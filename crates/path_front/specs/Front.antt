@@ -1,10 +1,11 @@
 -- The intervals of the best path of a sound. Lists of samples, of steps and of cells begin with the latest, lists of
 -- intervals with the first.
-use Rattle.std.specs.Prelude.{◌≡◌, ℕ, ◌+◌, ◌*◌, ◌^◌, ◌≤◌, ℤ, List, [], ◌∷◌, ◌++◌, length, Option, Some, None}
+use Rattle.std.specs.Prelude.{◌≡◌, ℕ, ◌+◌, ◌*◌, ◌^◌, ◌≤◌, ℤ, List, [], ◌∷◌, ◌++◌, length, reverse, take, drop, Option, Some, None}
 use Rattle.std.specs.List.{flat_map}
 use Rattle.cell_path.specs.declared.placed.Placed.{Placed}
-use Rattle.cell_path.specs.Decided.{AreDecidedInAll}
+use Rattle.cell_path.specs.Decided.{AreDecided, AreDecidedInAll}
 use Rattle.path_front.specs.declared.gate.Judged.{Judged}
+use Rattle.path_front.specs.declared.gate.TheConstants.{NEIGHBOURS}
 use Rattle.path_front.specs.declared.grid.Grid.{Grid}
 use Rattle.path_front.specs.declared.judging.Phase.TheVariants.{Sound, Drain}
 use Rattle.path_front.specs.declared.measured.Measured.{Measured}
@@ -31,6 +32,19 @@ pub record AreIntervals (grid : Grid) (ticks least : ℕ) (samples : List ℤ) (
   pub decided : AreDecidedInAll (path_steps (sounds_of grid least samples)) cells
   pub intervals_are : intervals
       ≡ intervals_before ticks least (measured_cells (sounds_of grid least samples) cells) []
+
+-- the intervals of cells but for the latest eight, which wait for others behind them
+abbrev pub intervals_of_judged : ℕ → ℕ → List Measured → List ℕ
+intervals_of_judged ticks least cells =
+    intervals_before ticks least (drop NEIGHBOURS cells) (reverse (take NEIGHBOURS cells))
+
+-- the intervals that samples bring while others may follow: of the cells that are decided so far those are judged
+-- behind which eight others stand
+pub record AreIntervalsSoFar (grid : Grid) (ticks least : ℕ) (samples : List ℤ) (intervals : List ℕ) : Type 0 where
+  pub cells : List Placed
+  pub decided : AreDecided (path_steps (sounds_of grid least samples)) cells
+  pub intervals_are : intervals
+      ≡ intervals_of_judged ticks least (measured_cells (sounds_of grid least samples) cells)
 
 pub record FrontState : Type 0 where
   pub judging : JudgingState
@@ -63,9 +77,15 @@ abbrev pub IsAllGiven : FrontState → List ℤ → List ℕ → Type 0
 IsAllGiven state samples given = (state.judging.phase ≡ Drain) → AreIntervals state.judging.cells.steps.grid state.ticks
     state.judging.cells.steps.hold.least samples given
 
+-- while samples may come those have been given that they bring so far
+abbrev pub IsGivenSoFar : FrontState → List ℤ → List ℕ → Type 0
+IsGivenSoFar state samples given = (state.judging.phase ≡ Sound) → AreIntervalsSoFar state.judging.cells.steps.grid
+    state.ticks state.judging.cells.steps.hold.least samples given
+
 -- the next interval is given, or none is left until more samples come
 abbrev pub GivesInterval : FrontState → List ℤ → List ℕ → Option ℕ → Type 0
-GivesInterval new samples given None = FrontStandsFor new samples given × IsAllGiven new samples given
+GivesInterval new samples given None =
+    FrontStandsFor new samples given × IsAllGiven new samples given × IsGivenSoFar new samples given
 GivesInterval new samples given (Some interval) = FrontStandsFor new samples (given ++ interval ∷ [])
 
 -- a bound of the intervals that are left

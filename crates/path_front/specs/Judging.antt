@@ -3,6 +3,7 @@ use Rattle.std.specs.Prelude.{◌≡◌, ℕ, ◌+◌, ◌<◌, ◌≤◌, ℤ, 
 use Rattle.cell_path.specs.declared.placed.Placed.{Placed}
 use Rattle.cell_path.specs.Decided.{AreDecidedInAll}
 use Rattle.path_front.specs.declared.gate.Judged.{Judged}
+use Rattle.path_front.specs.declared.gate.TheConstants.{NEIGHBOURS}
 use Rattle.path_front.specs.declared.judging.Phase.{Phase}
 use Rattle.path_front.specs.declared.judging.Phase.TheVariants.{Sound, Rest, Drain}
 use Rattle.path_front.specs.declared.judging.Taken.{Taken}
@@ -51,6 +52,9 @@ pub record JudgingStandFor (state : JudgingState) (samples : List ℤ) (judged :
   pub gate : ForMore state.phase (λ more. GateStandsFor state.gate judged more)
   pub least : state.gate.least ≡ state.cells.steps.hold.least
   pub order : reverse judged ++ state.gate.ahead ≡ reverse (measured_cells (sounds_in state.cells samples) given)
+  pub few : length state.gate.ahead ≤ NEIGHBOURS
+  -- until all have been given, eight wait behind those that were judged
+  pub eight : is_drain state.phase ≡ false → 0 < length judged → length state.gate.ahead ≡ NEIGHBOURS
 
 -- a bound of the cells that are left to be judged
 abbrev pub judging_left : JudgingState → ℕ

@@ -1,5 +1,5 @@
 //! Which cells are code, and which are noise. Next: `tile`.
-ghost use Rattle.std.specs.Prelude.{◌≡◌, ◌*◌, ◌^◌, ◌<◌, ◌≤◌, ◌/◌, min, max, IfSome, IfNone, List, [], ◌∷◌, ◌++◌};
+ghost use Rattle.std.specs.Prelude.{◌≡◌, ◌*◌, ◌^◌, ◌<◌, ◌≤◌, ◌/◌, min, max, IfSome, IfNone, OnSome, List, [], ◌∷◌, ◌++◌};
 ghost use Rattle.std.specs.Prelude.{length, drop, take};
 ghost use Rattle.std.specs.List.{All};
 ghost use Rattle.path_front.specs.Fit.{IsRange, IsUsual};
@@ -184,6 +184,7 @@ impl Gate {
         ensures stands { IfNone result ((judged more : List Measured) → GateStandsFor self.old judged (cell ∷ more)
             → GateStandsFor self.new judged more) }
         ensures front { IfSome result (λ answer. self.old.ahead ++ cell ∷ [] ≡ answer.cell ∷ self.new.ahead) }
+        ensures eight { OnSome result (length self.new.ahead ≡ NEIGHBOURS) }
         ensures cell { IfSome result (λ answer. IsMeasured answer.cell) }
         ensures judges { IfSome result (λ answer. (judged more : List Measured)
             → GateStandsFor self.old judged (cell ∷ more)

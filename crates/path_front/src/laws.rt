@@ -11,14 +11,14 @@ ghost use Rattle.path_front.specs.declared.sizes.TheConstants.{MEANS};
 ghost use Rattle.path_front.specs.declared.tile.TheConstants.{MAX_TICKS};
 ghost use Rattle.path_front.specs.declared.grid.Grid.{Grid};
 ghost use Rattle.path_front.specs.declared.judging.Phase.TheVariants.{Sound};
-ghost use Rattle.path_front.specs.Front.{AreIntervals, FrontStandsFor, FrontState};
+ghost use Rattle.path_front.specs.Front.{AreIntervals, AreIntervalsSoFar, FrontStandsFor, FrontState};
 ghost use Rattle.path_front.specs.Grid.{AreStepsOf, IsGrid};
 ghost use Rattle.path_front.specs.Steps.{sounds_of};
 ghost use Rattle.path_front.specs.Tiles.{tiles_of};
 
 use cell_path::laws::{
-    one_list_is_decided, one_list_is_decided_in_all, the_cells_cover_the_sound,
-    what_is_decided_stays,
+    cells_are_decided_of_each_sound, one_list_is_decided, one_list_is_decided_in_all,
+    the_cells_cover_the_sound, the_cells_decided_so_far_lie_in_the_sound, what_is_decided_stays,
 };
 
 /// Of how many sounds a mean size is, where samples are clipped, how finely levels are counted, and
@@ -62,13 +62,47 @@ pub fn the_intervals_of_a_sound_last_as_long()
     the_cells_cover_the_sound();
 }
 
-/// What is given of a sound comes first among its intervals, however it goes on.
+/// What is given of a sound comes first among its intervals, however it goes on, and among those that its samples
+/// bring so far; and once it has ended, too.
 pub fn what_is_given_comes_first()
-    ensures { (state : FrontState) (samples more : List ℤ) (given intervals : List ℕ) → state.judging.phase ≡ Sound
+    ensures in_all { (state : FrontState) (samples more : List ℤ) (given intervals : List ℕ) → state.judging.phase ≡ Sound
         → FrontStandsFor state samples given
         → AreIntervals state.judging.cells.steps.grid state.ticks state.judging.cells.steps.hold.least
         (more ++ samples) intervals → (rest : List ℕ) × (intervals ≡ given ++ rest) }
+    ensures so_far { (state : FrontState) (samples : List ℤ) (given intervals : List ℕ) → state.judging.phase ≡ Sound
+        → FrontStandsFor state samples given
+        → AreIntervalsSoFar state.judging.cells.steps.grid state.ticks state.judging.cells.steps.hold.least samples
+        intervals → (rest : List ℕ) × (intervals ≡ given ++ rest) }
+    ensures at_end { (state : FrontState) (samples : List ℤ) (given intervals : List ℕ)
+        → (state.judging.phase ≡ Sound → ⊥) → FrontStandsFor state samples given
+        → AreIntervals state.judging.cells.steps.grid state.ticks state.judging.cells.steps.hold.least samples
+        intervals → (rest : List ℕ) × (intervals ≡ given ++ rest) }
 {
     what_is_decided_stays();
     one_list_is_decided();
+    one_list_is_decided_in_all();
+}
+
+/// What samples bring so far is one list of intervals, which comes first in what more samples bring, and in the
+/// intervals of the whole sound. There is always such a list.
+pub fn what_samples_bring_so_far_comes_first()
+    ensures once { (grid : Grid) (ticks least : ℕ) (samples : List ℤ) (intervals others : List ℕ)
+        → AreIntervalsSoFar grid ticks least samples intervals → AreIntervalsSoFar grid ticks least samples others
+        → intervals ≡ others }
+    ensures first { (grid : Grid) (ticks least : ℕ) (more samples : List ℤ) (intervals longer : List ℕ)
+        → AreIntervalsSoFar grid ticks least samples intervals
+        → AreIntervalsSoFar grid ticks least (more ++ samples) longer
+        → (rest : List ℕ) × (longer ≡ intervals ++ rest) }
+    ensures in_all { (grid : Grid) (ticks least : ℕ) (more samples : List ℤ) (intervals whole : List ℕ)
+        → AreIntervalsSoFar grid ticks least samples intervals → AreIntervals grid ticks least (more ++ samples) whole
+        → (rest : List ℕ) × (whole ≡ intervals ++ rest) }
+    ensures some { (grid : Grid) (ticks least : ℕ) (samples : List ℤ)
+        → (intervals : List ℕ) × AreIntervalsSoFar grid ticks least samples intervals }
+    ensures whole { (grid : Grid) (ticks least : ℕ) (samples : List ℤ)
+        → (intervals : List ℕ) × AreIntervals grid ticks least samples intervals }
+{
+    what_is_decided_stays();
+    one_list_is_decided();
+    the_cells_decided_so_far_lie_in_the_sound();
+    cells_are_decided_of_each_sound();
 }

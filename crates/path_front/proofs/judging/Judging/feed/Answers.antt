@@ -29,4 +29,6 @@ returns-clause-stands c = λ samples judged stand_now.
       order = stand.order ∙ ap reverse (sym (cells_stay (sounds_in i.cells samples)
           (sounds_in c.feed.new.self (sample ∷ samples)) cells.sounds
           (replicate i.cells.steps.left i.cells.steps.latest) more.0 stand.given cells.steps.all now cells.within));
+      few = stand.few;
+      eight = λ is some. stand.eight is some;
     }

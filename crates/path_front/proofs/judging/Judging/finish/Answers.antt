@@ -2,7 +2,7 @@ use Rattle.std.proofs.Common.{◌≡◌, reverse, ap, subst, sym, ◌∙◌}
 use Rattle.path_front.specs.declared.judging.Phase.TheVariants.{Sound}
 use Rattle.path_front.specs.Cells.{measured_cells, CellsStandFor}
 use Rattle.path_front.specs.Gate.{GateStandsFor}
-use Rattle.path_front.specs.Judging.{CellsIn, ForMore, JudgingState, JudgingStandFor}
+use Rattle.path_front.specs.Judging.{is_drain, CellsIn, ForMore, JudgingState, JudgingStandFor}
 use Rattle.path_front.proofs.JudgingNext.{same_sounds}
 use Rattle.path_front.proofs.judging.Judging.finish.Goals as goal
 
@@ -21,4 +21,6 @@ returns-clause-stands c = λ samples judged stand_now.
       least = stand.least ∙ sym e.same.least;
       order = stand.order
           ∙ ap (λ s. reverse (measured_cells s stand.given)) (sym (same_sounds i.cells c.finish.new.self samples e.same));
+      few = stand.few;
+      eight = λ is some. stand.eight (ap is_drain phase) some;
     }

@@ -32,12 +32,12 @@ returns-clause-takes c =
           subst (λ (s : JudgingState). Takes s new c.match-feed.result) c.self.view_is
           (subst (λ r. Takes (judging i.cells i.gate i.phase) new r) (sym w.result-is)
           (judges_next i.phase i.cells now i.gate next cell w.in-Some-feed.judged opened e.gives e.rest e.same f.least
-          f.front f.judges f.cell e.less))
+          f.front f.judges f.cell e.less f.eight))
       | in-None w ↦
           let f = w.in-None.ensures in
           subst (λ (s : JudgingState). Takes s new c.match-feed.result) c.self.view_is
           (subst (λ r. Takes (judging i.cells i.gate i.phase) new r) (sym w.result-is) (
-            waits i.phase i.cells now i.gate next cell opened e.gives e.rest e.same f.least f.waits f.stands e.less,
+            waits i.phase i.cells now i.gate next cell opened e.gives e.rest e.same f.least f.waits f.stands e.less f.room,
             waits_less i.phase i.cells now i.gate next cell f.waits e.less,
           ))
     ]
