@@ -1,6 +1,6 @@
 -- Some neighbouring transitions of a tape, as they are heard, are a piece of its cells as they are found: the others
 -- may be thought to be found in time.
-use Rattle.std.proofs.Common.{◌≡◌, ℕ, suc, List, [], ◌∷◌, ◌++◌, length, drop, refl, ap, sym, subst, ◌∙◌}
+use Rattle.std.proofs.Common.{◌≡◌, ℕ, suc, ◌≤◌, List, [], ◌∷◌, ◌++◌, length, drop, refl, ap, sym, subst, ◌∙◌}
 use Rattle.std.proofs.Common.{arith}
 use Rattle.pcm_front.specs.DistanceLemmas.{gaps-front}
 use Rattle.biphase.specs.declared.cell.Cell.{Cell}
@@ -37,6 +37,7 @@ gaps-drop (b ∷ bs) ys = gaps_after-drop b bs ys
 -- a tape as it is heard: its cells as they are found, of which the distances are a piece
 pub record HeardPiece (profile : Profile) (delay : ℕ) (tape : List Cell) (cut : ℕ) (moments : List ℕ) : Type 0 where
   pub late : ℕ
+  pub small : late ≤ delay
   pub cells : List Cell
   pub are : AreFoundAs delay late tape cells
   pub piece : IsPiece profile (gaps moments) cells cut
@@ -54,6 +55,7 @@ heard_piece profile delay tape cut moments heard =
     let front = gaps-front moments heard.behind in
     record {
       late = found.late;
+      small = found.small;
       cells = found.cells;
       are = found.are;
       piece = record {

@@ -2,6 +2,7 @@ pub mod AlongRamps
 pub mod BehindSilence
 pub mod BetweenTheBounds
 pub mod CrossingsAreTurns
+pub mod EvenFound
 pub mod FitsAFile
 pub mod FollowedLevel
 pub mod FourTogether

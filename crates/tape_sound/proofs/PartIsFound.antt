@@ -14,6 +14,7 @@ use Rattle.tc_address.specs.declared.system.System.{System}
 use Rattle.tape_sound.specs.Heard.{AreHeard}
 use Rattle.tape_sound.specs.Margin.{moments_in, ComeWithin}
 use Rattle.tape_sound.specs.Part.{FindThePart, FindThePartBehindOnes, PartHasMargin}
+use Rattle.tape_sound.proofs.EvenFound.{even_found}
 use Rattle.tape_sound.proofs.FoundIsAChain.{bits_found}
 use Rattle.tape_sound.proofs.FoundPiece.{heard_piece}
 use Rattle.pcm_front.specs.DistanceLemmas.{gaps-front}
@@ -84,9 +85,9 @@ part_is_found finds system profile f threshold tape cut sound first count events
 pub part_is_found_behind_ones : ((system : System) (profile : Profile) (intervals : List ℕ) (events : List Event)
     → AreEvents system profile intervals events → FindsTheTapeBehindOnes system profile intervals events)
     → (system : System) (f : ℕ) (threshold : Threshold) (tape : List Cell) (cut : ℕ) (sound : List ℤ) (first count : ℕ)
-    (events : List Event) → 1 ≤ f → PartHasMargin Rough f threshold tape cut sound first count
+    (events : List Event) → 1 ≤ f → (m : PartHasMargin Rough f threshold tape cut sound first count)
     → AreEvents system Rough (distances f threshold sound) events
-    → FindThePartBehindOnes system f threshold tape cut sound first count events
+    → FindThePartBehindOnes system m.delay f threshold tape cut sound first count events
 part_is_found_behind_ones finds system f threshold tape cut sound first count events some m are =
     let own = moments_in f threshold sound (first + 1) count in
     let within : ComeWithin m.delay m.heard own =
@@ -117,6 +118,7 @@ part_is_found_behind_ones finds system f threshold tape cut sound first count ev
       cells = cells.cells;
       bits_are = bits_found m.delay cells.late tape cells.cells cells.are;
       piece = cells.piece;
+      even = λ end run. even_found m.delay cells.late tape cells.cells (gaps own) cut end cells.small cells.are run;
       tell = λ end second run next. finds system Rough (distances f threshold sound) events are split.0 (gaps own)
           split.1 cells.cells cut end second list cells.piece run next;
     }

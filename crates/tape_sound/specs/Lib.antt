@@ -1,3 +1,4 @@
+pub mod EvenTape
 pub mod Heard
 pub mod Late
 pub mod Made

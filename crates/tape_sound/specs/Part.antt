@@ -17,6 +17,7 @@ use Rattle.pcm_front.specs.Distance.{distances, gaps}
 use Rattle.pcm_front.specs.Level.{threshold_at}
 use Rattle.pcm_front.specs.Side.{sample_at}
 use Rattle.tc_address.specs.declared.system.System.{System}
+use Rattle.tape_sound.specs.EvenTape.{IsEvenRunFor}
 use Rattle.tape_sound.specs.Heard.{transitions}
 use Rattle.tape_sound.specs.Late.{IsSteady}
 use Rattle.tape_sound.specs.Margin.{moments_in, noise_in_step, reaches, turns, ComeBehind, ComeWithin, HasRoom}
@@ -65,10 +66,11 @@ pub record FindThePart (system : System) (profile : Profile) (fineness : ℕ) (t
       × TellFrom system (before ++ kept) (length before + second) cells events
 
 -- the events of a sound find this part of the tape under the rough tolerance, behind even ones. Its distances are a
--- piece of cells with the tape's bits; from the next unequal pair behind a run of even ones and its zero to their end
--- the events are those of these cells, and nothing else
-pub record FindThePartBehindOnes (system : System) (fineness : ℕ) (threshold : Threshold) (tape : List Cell) (cut : ℕ)
-    (sound : List ℤ) (first count : ℕ) (events : List Event) : Type 0 where
+-- piece of cells with the tape's bits, which have a run of even ones where the tape has one with room for the delay.
+-- From the next unequal pair behind such a run and its zero to their end the events are those of these cells, and
+-- nothing else
+pub record FindThePartBehindOnes (system : System) (delay fineness : ℕ) (threshold : Threshold) (tape : List Cell)
+    (cut : ℕ) (sound : List ℤ) (first count : ℕ) (events : List Event) : Type 0 where
   pub before : List ℕ
   pub kept : List ℕ
   pub behind : List ℕ
@@ -77,5 +79,6 @@ pub record FindThePartBehindOnes (system : System) (fineness : ℕ) (threshold :
   pub cells : List Cell
   pub bits_are : bits cells ≡ bits tape
   pub piece : IsPiece Rough kept cells cut
+  pub even : (end : ℕ) → IsEvenRunFor delay kept tape cut end → IsEvenRun kept cells cut end
   pub tell : (end second : ℕ) → IsEvenRun kept cells cut end → IsLock Rough kept end second
       → TellFrom system (before ++ kept) (length before + second) (cells_from cells cut kept second) events

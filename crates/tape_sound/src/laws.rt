@@ -265,13 +265,14 @@ pub fn a_part_with_a_margin_is_found()
 }
 
 /// Between damage, under the rough tolerance: the same behind a run of even ones and its zero, as a sync
-/// word has them, so also behind hiss before the tape.
+/// word has them, so also behind hiss before the tape. The run is one as it is found; and a run of the tape
+/// is found as one where it would be even also with each interval a delay shorter or longer.
 pub fn a_rough_part_with_a_margin_is_found_behind_even_ones()
     ensures { (system : System) (fineness : ℕ) (threshold : Threshold) (tape : List Cell) (cut : ℕ) (sound : List ℤ)
         (first count : ℕ) (events : List Event) → 1 ≤ fineness
-        → PartHasMargin Rough fineness threshold tape cut sound first count
+        → (margin : PartHasMargin Rough fineness threshold tape cut sound first count)
         → AreEvents system Rough (distances fineness threshold sound) events
-        → FindThePartBehindOnes system fineness threshold tape cut sound first count events }
+        → FindThePartBehindOnes system margin.delay fineness threshold tape cut sound first count events }
 {
     events_find_the_tape_behind_even_ones();
 }

@@ -1,15 +1,18 @@
 //! What the rough tolerance bears from a lock on: a wider delay than at a lock.
-ghost use Rattle.std.specs.Prelude.{◌≡◌, ℕ, ◌+◌, ◌*◌, ◌<◌, ◌≤◌, List, [], ◌∷◌, take, drop, true, false};
+ghost use Rattle.std.specs.Prelude.{◌≡◌, ℕ, ◌+◌, ◌-◌, ◌*◌, ◌<◌, ◌≤◌, List, [], ◌∷◌, take, drop, true, false};
+ghost use Rattle.std.specs.List.{AllByRecursion};
 ghost use Rattle.biphase.specs.declared.cell.Cell.{Cell};
 ghost use Rattle.biphase.specs.declared.cell.Cell.TheVariants.{Zero, One};
 ghost use Rattle.biphase.specs.declared.profile.Profile.TheVariants.{Rough};
 ghost use Rattle.biphase.specs.Chain.{bits, Follow, FollowOn};
 ghost use Rattle.biphase.specs.Tolerance.{latest_with, length_of};
+ghost use Rattle.cell_tracker.specs.EvenRun.{IsEvenZero};
 ghost use Rattle.cell_tracker.specs.Lock.{IsLock};
 ghost use Rattle.direction_reader.specs.declared.event.Event.{Event};
 ghost use Rattle.direction_reader.specs.ListEvents.{duration, AreEvents};
 ghost use Rattle.direction_reader.specs.Played.{Played, AreSpelled, bits_of_words, events_of_words};
 ghost use Rattle.tc_address.specs.declared.system.System.{System};
+ghost use Rattle.tape_sound.specs.EvenTape.{AreEvenOnesFor};
 ghost use Rattle.tape_sound.specs.Heard.{AreFoundCells};
 ghost use Rattle.tape_sound.specs.Late.{AreFoundAs, IsSteadyFromALock, RunsEvenly};
 ghost use Rattle.tape_sound.specs.OnTime.{AreOnTime};
@@ -57,3 +60,12 @@ pub fn a_rough_stretch_bears_more_behind_four_cells()
     a_list_has_one_list_of_events();
     words_behind_a_lock_are_read();
 }
+
+/// Ones without drift, and a zero behind them, are even also with each interval a delay shorter or longer
+/// where a cell lasts 32 delays: so a sync word is a run behind which the tape is found again.
+pub fn even_ones_have_room_for_a_delay()
+    ensures ones { (half delay : ℕ) (ones : List Cell) → 16 * delay ≤ half
+        → AllByRecursion (λ cell. cell ≡ One half half) ones → AreEvenOnesFor delay (2 * half) ones }
+    ensures whole { (half delay : ℕ) → 16 * delay ≤ half
+        → IsEvenZero (2 * half) (2 * half - delay) × IsEvenZero (2 * half) (2 * half + delay) }
+{}
