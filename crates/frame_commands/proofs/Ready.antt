@@ -9,9 +9,10 @@ use Rattle.frame_commands.specs.Hearing.{Hearer, HearsOn, word_ticks}
 use Rattle.frame_commands.specs.KeptFlight.{FitsFlight, FitsHearing, FitsSink, HeardBy, IsReady, TakesTurns}
 use Rattle.frame_commands.proofs.NextFrame.{heard_later}
 
-pub ready_for : (h now : Hearer) (f : Frames) (own count x : ℕ) → FitsHearing h f own count → count < MAX_INTERVALS
-    → HearsOn h x now → now.until < 2 ^ 60 → IsReady f (2 * (count + 1)) now.until
-ready_for h now f own count x fits room on below =
+pub ready_for : (h now : Hearer) (f : Frames) (words : List HeardWord) (own count x : ℕ) → FitsHearing h f own count
+    → count < MAX_INTERVALS → HearsOn h x now → now.until < 2 ^ 60
+    → IsReady (record f { words = words }) (2 * (count + 1)) now.until
+ready_for h now f waiting own count x fits room on below =
     let words = fits.sink.flight.words in
     record {
       within = omega (arith, room);
@@ -20,9 +21,9 @@ ready_for h now f own count x fits room on below =
       few = omega (arith, words);
     }
 
-pub ready_at_end : (h : Hearer) (f : Frames) (own count until : ℕ) → FitsHearing h f own count → until < 2 ^ 60
-    → IsReady f (2 * count + 2) until
-ready_at_end h f own count until fits below =
+pub ready_at_end : (h : Hearer) (f : Frames) (words : List HeardWord) (own count until : ℕ) → FitsHearing h f own count
+    → until < 2 ^ 60 → IsReady (record f { words = words }) (2 * count + 2) until
+ready_at_end h f waiting own count until fits below =
     let words = fits.sink.flight.words in
     let within = fits.within in
     record {

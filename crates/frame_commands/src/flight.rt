@@ -23,7 +23,6 @@ use crate::frame_sink::FrameSink;
 use crate::frames::Frames;
 use crate::hearing::Hearing;
 use crate::laws::what_is_heard_is_in_order;
-use crate::words::Words;
 use interval_engine::Behind;
 use interval_file::IntervalHeader;
 use tc_command::Stop;
@@ -49,30 +48,29 @@ impl<R: Hearing, T: FrameSink> FlightTo<R, T> {
         R::is_nothing(brought) && self.frames.is_quiet(until)
     }
 
-    /// Gives the sink the frames of these words, up to a tick. Nearly every interval brings none, and a small
-    /// answer costs those nothing.
+    /// Gives the sink the frames of the words that wait, up to a tick. Nearly every interval brings none, and a
+    /// small answer costs those nothing.
     #[cold]
     #[inline(never)]
-    fn give<K: Sink>(&mut self, words: Words, until: u64, out: &mut K) -> Result<(), Failed>
+    fn give<K: Sink>(&mut self, until: u64, out: &mut K) -> Result<(), Failed>
         requires ready { (most : ℕ) × IsReady self.old.frames most until }
         requires room { T.taken self.old.sink ≤ frames_counted self.old.frames }
-        requires few { length words ≤ 2 }
-        requires range { All IsInRange words }
-        requires turns { TakesTurns (record self.old.frames { words = words }) until }
+        requires few { length self.old.frames.words ≤ 2 }
+        requires range { All IsInRange self.old.frames.words }
+        requires turns { TakesTurns self.old.frames until }
         ensures reader { self.new.reader ≡ self.old.reader }
         ensures limit { OnOk result (self.new.frames.wheel.limit ≡ self.old.frames.wheel.limit) }
         ensures fits { OnOk result ((most : ℕ) → IsReady self.old.frames most until
             → FitsSink self.new.frames (T.taken self.new.sink) most until) }
         ensures gives { OnOk result ((more : List Frame) × Counts self.old.frames self.new.frames more
             × Sends T.made T.given self.old.sink self.new.sink (K.written out.old) (K.written out.new) more
-            × GivesAll self.old.frames.wheel self.new.frames.wheel until words more) }
+            × GivesAll self.old.frames.wheel self.new.frames.wheel until self.old.frames.words more) }
         ensures front { OnErr result ((more : List Frame)
             × SendsFront T.made T.given self.old.sink (K.written out.old) (K.written out.new) more
-            × GivesFirst self.old.frames.wheel until words more) }
+            × GivesFirst self.old.frames.wheel until self.old.frames.words more) }
         ensures same { OnOk result (K.faults out.new ≡ K.faults out.old) }
         ensures rose { OnErr result (Rose (K.faults out.old) (K.faults out.new)) }
     {
-        self.frames.words = words;
         while let Some(frame) = self.frames.next(until) {
             if let Err(_) = self.sink.frame(&frame, out) {
                 return Err(Failed);
@@ -127,8 +125,8 @@ impl<R: Hearing, T: FrameSink> Behind for FlightTo<R, T> {
         if self.is_quiet(&brought, until) {
             return Ok(());
         }
-        let words = self.reader.words(brought);
-        match self.give(words, until, out) {
+        self.reader.words(brought, &mut self.frames.words);
+        match self.give(until, out) {
             Ok(()) => Ok(()),
             Err(Failed) => Err(Stop::WriteFault),
         }
@@ -149,8 +147,8 @@ impl<R: Hearing, T: FrameSink> Behind for FlightTo<R, T> {
     fn finish<K: Sink>(&mut self, out: &mut K) -> Result<(), Stop> {
         R::what_is_told_is_heard();
         let ticks = self.reader.ticks();
-        let words = self.reader.last_words();
-        if let Err(Failed) = self.give(words, ticks, out) {
+        self.frames.words = self.reader.last_words();
+        if let Err(Failed) = self.give(ticks, out) {
             return Err(Stop::WriteFault);
         }
         self.sink

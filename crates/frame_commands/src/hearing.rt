@@ -57,14 +57,15 @@ pub(crate) trait Hearing: Drop {
     fn is_nothing(brought: &Self::Brought) -> bool
         ensures { IsTrue result → (reader : Self) → tells reader brought.now [] };
 
-    /// The words of what the latest interval brought.
-    fn words(&self, brought: Self::Brought) -> Words
+    /// The words of what the latest interval brought. Nearly every interval brings none, and those are not to pay
+    /// for the room of an answer.
+    fn words(&self, brought: Self::Brought, words: &mut Words)
         requires { (from : ℕ) × may self.now brought from }
-        ensures told { (own : List Event) × tells self.now brought own × (result ≡ words_heard own) }
-        ensures few { length result ≤ 2 }
-        ensures range { All IsInRange result }
+        ensures told { (own : List Event) × tells self.now brought own × (words.new ≡ words_heard own) }
+        ensures few { length words.new ≤ 2 }
+        ensures range { All IsInRange words.new }
         ensures in_turn { (from : ℕ) → may self.now brought from
-            → DoNotFall from (word_ticks result) (Hearer.until (hearer self.now)) };
+            → DoNotFall from (word_ticks words.new) (Hearer.until (hearer self.now)) };
 
     /// The words that are told at the end of the recording.
     fn last_words(&self) -> Words
@@ -133,8 +134,10 @@ impl Hearing for DirectionReader {
         }
     }
 
-    fn words(&self, brought: Brought) -> Words {
-        Words::of(self.events(brought))
+    #[cold]
+    #[inline(never)]
+    fn words(&self, brought: Brought, words: &mut Words) {
+        *words = Words::of(self.events(brought));
     }
 
     fn last_words(&self) -> Words {
@@ -190,8 +193,10 @@ impl Hearing for FirmReader {
         }
     }
 
-    fn words(&self, brought: FirmEvents) -> Words {
-        Words::told(brought)
+    #[cold]
+    #[inline(never)]
+    fn words(&self, brought: FirmEvents, words: &mut Words) {
+        *words = Words::told(brought);
     }
 
     fn last_words(&self) -> Words {

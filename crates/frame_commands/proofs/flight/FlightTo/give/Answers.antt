@@ -12,7 +12,7 @@ use Rattle.frame_commands.proofs.flight.FlightTo.give.Goals as goal
 pub loop-frame-init : goal.loop-frame-init
 loop-frame-init g c =
     let f = c.args.self.now.frames in
-    let words = c.args.words in
+    let words = c.args.self.now.frames.words in
     let two = c.requires.few in
     let none = none_counted f in
     record {
@@ -78,7 +78,7 @@ loop-frame-preserved g c =
         sends_both g.T.FrameSink.made g.T.FrameSink.given c.args.self.now.sink now.sink c.frame.new.self _ _ _ m.0
             (frame ∷ []) m.2 sent.sends,
         (λ words earlier given stands before.
-            let all = words ++ c.args.words in
+            let all = words ++ c.args.self.now.frames.words in
             subst (λ (fs : List Frame). HasGiven next c.args.until all fs) (append_assoc given m.0 (frame ∷ []))
             (n.gives all (given ++ m.0) (m.3 words earlier given stands before)).0),
       );
@@ -114,7 +114,7 @@ returns g c =
             (both_counted f now.frames next m.0 [] m.1 n.counted),
         m.2,
         (λ words earlier given stands before.
-            n.gives (words ++ c.args.words) (given ++ m.0) (m.3 words earlier given stands before)),
+            n.gives (words ++ c.args.self.now.frames.words) (given ++ m.0) (m.3 words earlier given stands before)),
       );
       front = tt;
       same = i.same;
@@ -135,7 +135,7 @@ returns-in-Err-clause-front g c =
       sends_then_front g.T.FrameSink.made g.T.FrameSink.given c.args.self.now.sink now.sink _ _ _ m.0 (frame ∷ []) m.2
           c.in-Err.ensures.front,
       (λ words earlier given stands before.
-          let all = words ++ c.args.words in
+          let all = words ++ c.args.self.now.frames.words in
           let comes = (n.gives all (given ++ m.0) (m.3 words earlier given stands before)).1 in (
             comes.0,
             ap (λ (k : ℕ). frames k all c.args.until) (sym limit) ∙ comes.1

@@ -19,8 +19,8 @@ invariant-loop-frame g l = record {
       × Sends g.T.FrameSink.made g.T.FrameSink.given l.fn.self.sink l.self.sink
       (g.K.Sink.written l.fn.out) (g.K.Sink.written l.out) more
       × ((words : List HeardWord) (earlier : ℕ) (given : List Frame)
-      → flies.StandsFor l.fn.self.frames.wheel words earlier given → earlier ≤ due_at l.fn.words l.fn.until
-      → HasGiven l.self.frames l.fn.until (words ++ l.fn.words) (given ++ more));
+      → flies.StandsFor l.fn.self.frames.wheel words earlier given → earlier ≤ due_at l.fn.self.frames.words l.fn.until
+      → HasGiven l.self.frames l.fn.until (words ++ l.fn.self.frames.words) (given ++ more));
 }
 
 abbrev pub decreases-loop-frame : goal.decreases-loop-frame

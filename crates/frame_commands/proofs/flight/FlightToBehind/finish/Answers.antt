@@ -13,8 +13,8 @@ give-requires-clause-ready g c =
     let s = c.args.self.now in
     let count = c.requires.fits.0 in (
       2 * count + 2,
-      ready_at_end (g.R.Hearing.hearer s.reader) s.frames (g.T.FrameSink.taken s.sink) count c.ticks-ticks.result
-          c.requires.fits.2 c.ticks-ticks.ensures.below,
+      ready_at_end (g.R.Hearing.hearer s.reader) s.frames c.last_words-self.result (g.T.FrameSink.taken s.sink) count
+          c.ticks-ticks.result c.requires.fits.2 c.ticks-ticks.ensures.below,
     )
 
 pub give-requires-clause-turns : goal.give-requires-clause-turns
@@ -22,7 +22,7 @@ give-requires-clause-turns g c =
     let s = c.args.self.now in
     let h = g.R.Hearing.hearer s.reader in
     rw c.ticks-ticks.ensures.value (turns_of h s.frames (g.T.FrameSink.taken s.sink) c.requires.fits.0 h.tick
-    c.last_words-words.result c.requires.fits.2 c.last_words-words.ensures.in_turn)
+    c.last_words-self.result c.requires.fits.2 c.last_words-self.ensures.in_turn)
 
 -- what waited was sent, and what stands last
 pub returns-clause-ends : goal.returns-clause-ends
@@ -31,15 +31,15 @@ returns-clause-ends g c =
     let h = g.R.Hearing.hearer s.reader in
     let after = c.give.new.self in
     let e = c.in_default.ensures in
-    let told = c.last_words-words.ensures.told in
-    let words = c.last_words-words.result in
+    let told = c.last_words-self.ensures.told in
+    let words = c.last_words-self.result in
     let ticks = c.ticks-ticks.ensures.value in
     let count = rw e.reader at c.intervals.ensures.value in
     let all = rw ticks at e.gives.3 in
     on_ok c.finish.result c.finish.ensures.ends (λ ends choice header intervals written stands.
     let w = flown_end g.R.Hearing.witness g.T.FrameSink.flight g.T.FrameSink.made g.T.FrameSink.given h s.frames
     after.frames s.sink after.sink choice header intervals written told.0 words e.gives.0 _ _ stands told.2 told.1
-    (turn_due words h.until h.tick c.last_words-words.ensures.in_turn) e.limit all
+    (turn_due words h.until h.tick c.last_words-self.ensures.in_turn) e.limit all
     (record { heard = e.gives.1.heard; invented = e.gives.1.invented; gone = e.gives.1.gone }) e.gives.2 in
     let last = (g.T.FrameSink.made choice).last header intervals w.frames_given in (
       w.bytes ++ last,
@@ -56,12 +56,12 @@ returns-in-Err-clause-front g c = (
       let s = c.args.self.now in
       let h = g.R.Hearing.hearer s.reader in
       let front = c.in-Err.ensures.front in
-      let told = c.last_words-words.ensures.told in
-      let words = c.last_words-words.result in
+      let told = c.last_words-self.ensures.told in
+      let words = c.last_words-self.result in
       let first = rw c.ticks-ticks.ensures.value at front.2 in
       let p = flown_end_part g.R.Hearing.witness g.T.FrameSink.flight g.T.FrameSink.made g.T.FrameSink.given h s.frames
       s.sink choice header intervals written told.0 words front.0 _ _ stands told.2 told.1
-      (turn_due words h.until h.tick c.last_words-words.ensures.in_turn) first front.1 in
+      (turn_due words h.until h.tick c.last_words-self.ensures.in_turn) first front.1 in
       (p.0 ++ p.1, p.2, front_of_more _ _ p.0 p.1 p.3)),
 )
 
@@ -72,8 +72,8 @@ returns-clause-front g c =
     let h = g.R.Hearing.hearer s.reader in
     let after = c.give.new.self in
     let e = c.in_default.ensures in
-    let told = c.last_words-words.ensures.told in
-    let words = c.last_words-words.result in
+    let told = c.last_words-self.ensures.told in
+    let words = c.last_words-self.result in
     let ticks = c.ticks-ticks.ensures.value in
     let count = rw e.reader at c.intervals.ensures.value in
     let all = rw ticks at e.gives.3 in
@@ -82,7 +82,7 @@ returns-clause-front g c =
       (λ choice header intervals written stands.
           let w = flown_end g.R.Hearing.witness g.T.FrameSink.flight g.T.FrameSink.made g.T.FrameSink.given h s.frames
           after.frames s.sink after.sink choice header intervals written told.0 words e.gives.0 _ _ stands told.2
-          told.1 (turn_due words h.until h.tick c.last_words-words.ensures.in_turn) e.limit all
+          told.1 (turn_due words h.until h.tick c.last_words-self.ensures.in_turn) e.limit all
           (record { heard = e.gives.1.heard; invented = e.gives.1.invented; gone = e.gives.1.gone }) e.gives.2 in
           let last = (g.T.FrameSink.made choice).last header intervals w.frames_given in (
             w.bytes ++ last,

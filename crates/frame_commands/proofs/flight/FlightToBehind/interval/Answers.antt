@@ -54,8 +54,8 @@ give-requires-clause-ready g c =
     let now = g.R.Hearing.hearer c.step-brought.new.self in
     let count = c.requires.fits.0 in (
       2 * (count + 1),
-      rw c.until-until.ensures.value (ready_for (g.R.Hearing.hearer s.reader) now s.frames (g.T.FrameSink.taken s.sink)
-          count c.args.x c.requires.fits.2 c.requires.fits.1 c.step-brought.ensures.next
+      rw c.until-until.ensures.value (ready_for (g.R.Hearing.hearer s.reader) now s.frames c.words.new.words
+          (g.T.FrameSink.taken s.sink) count c.args.x c.requires.fits.2 c.requires.fits.1 c.step-brought.ensures.next
           (rw (← c.until-until.ensures.value) c.until-until.ensures.below)),
     )
 
@@ -65,7 +65,7 @@ give-requires-clause-turns g c =
     let h = g.R.Hearing.hearer s.reader in
     let now = g.R.Hearing.hearer c.step-brought.new.self in
     rw c.until-until.ensures.value (turns_of h s.frames (g.T.FrameSink.taken s.sink) c.requires.fits.0 now.until
-    c.words-words.result c.requires.fits.2 (c.words-words.ensures.in_turn h.until c.step-brought.ensures.may))
+    c.words.new.words c.requires.fits.2 (c.words.ensures.in_turn h.until c.step-brought.ensures.may))
 
 -- the frames that were due, and those of the words, were sent
 pub returns-in-Ok-clause-fits : goal.returns-in-Ok-clause-fits
@@ -79,7 +79,7 @@ returns-in-Ok-clause-fits g c = λ count fits.
     let room = c.requires.fits.1 in
     let below = rw c.until-until.ensures.value at c.until-until.ensures.below in
     let room_here : count < MAX_INTERVALS = omega (arith, own, here, room) in
-    let ready = ready_for h now s.frames (g.T.FrameSink.taken s.sink) count c.args.x fits room_here
+    let ready = ready_for h now s.frames c.words.new.words (g.T.FrameSink.taken s.sink) count c.args.x fits room_here
     c.step-brought.ensures.next below in
     let sink = rw c.until-until.ensures.value at c.in-Ok.ensures.fits in
     rw c.in-Ok.ensures.reader (given_fits h now s.frames after.frames (g.T.FrameSink.taken s.sink)
@@ -94,15 +94,15 @@ returns-in-Ok-clause-works g c = λ choice header intervals written stands.
     let now = g.R.Hearing.hearer reader in
     let after = c.give.new.self in
     let e = c.in-Ok.ensures in
-    let told = c.words-words.ensures.told in
-    let words = c.words-words.result in
+    let told = c.words.ensures.told in
+    let words = c.words.new.words in
     let gives = e.gives in
     let all = rw c.until-until.ensures.value at gives.3 in
     rw e.reader (flown g.R.Hearing.witness g.T.FrameSink.flight g.T.FrameSink.made g.T.FrameSink.given h now s.frames
     after.frames s.sink after.sink choice header intervals written c.args.x told.0 words gives.0 _ _ stands
     c.step-brought.ensures.next (λ xs es st. c.step-brought.ensures.stands xs es told.0 st told.1)
     (c.what_is_told_is_heard.ensures reader) told.2
-    (turn_due words h.until now.until (c.words-words.ensures.in_turn h.until c.step-brought.ensures.may)) e.limit all
+    (turn_due words h.until now.until (c.words.ensures.in_turn h.until c.step-brought.ensures.may)) e.limit all
     (record { heard = gives.1.heard; invented = gives.1.invented; gone = gives.1.gone }) gives.2)
 
 -- a front of them was
@@ -115,12 +115,12 @@ returns-in-Err-clause-front g c = (
       let reader = c.step-brought.new.self in
       let now = g.R.Hearing.hearer reader in
       let front = c.in-Err.ensures.front in
-      let told = c.words-words.ensures.told in
-      let words = c.words-words.result in
+      let told = c.words.ensures.told in
+      let words = c.words.new.words in
       let first = rw c.until-until.ensures.value at front.2 in
       flown_part g.R.Hearing.witness g.T.FrameSink.flight g.T.FrameSink.made g.T.FrameSink.given h now s.frames s.sink
       choice header intervals written c.args.x told.0 words front.0 _ _ stands c.step-brought.ensures.next
       (λ xs es st. c.step-brought.ensures.stands xs es told.0 st told.1) (c.what_is_told_is_heard.ensures reader) told.2
-      (turn_due words h.until now.until (c.words-words.ensures.in_turn h.until c.step-brought.ensures.may)) first
+      (turn_due words h.until now.until (c.words.ensures.in_turn h.until c.step-brought.ensures.may)) first
       front.1),
 )
