@@ -6,6 +6,7 @@ use Rattle.std.proofs.lemmas.List.FromFn.{fill_by_all}
 use Rattle.std.specs.Str.{bytes_eq}
 use Rattle.std.proofs.lemmas.Slice.Eq.{bytes_eq-Decides}
 use Rattle.std.proofs.lemmas.Bool.Decides.{nat_tests}
+use Rattle.std.proofs.lemmas.Option.{same_Some}
 use Rattle.tc_address.specs.LabelLemmas.{label_is}
 use Rattle.tc_address.specs.declared.count.Count.{Count}
 use Rattle.tc_address.specs.declared.count.Count.TheVariants.{C24, C25, C30, Drop30}
@@ -116,3 +117,19 @@ label_in_by c text no_label true true e f =
 pub label_in-none : (c : Count) (text : List ℕ) → ((a : Address) → IsLabel a → a.count ≡ c → text ≡ text_of a → ⊥) →
     label_in c text ≡ None
 label_in-none c text no_label = label_in_by c text no_label (is_label (address_in c text)) (bytes_eq text (text_of (address_in c text))) refl refl
+
+only_by : (c : Count) (text : List ℕ) (a : Address) (p q : Bool) → bytes_eq text (text_of (address_in c text)) ≡ q
+    → cond (p && q) (Some (address_in c text)) None ≡ Some a → (text ≡ text_of a) × (a.count ≡ c)
+only_by c text a false q e is = absurd cc
+only_by c text a true false e is = absurd cc
+only_by c text a true true e is =
+    let same : address_in c text ≡ a = same_Some (address_in c text) a is in (
+      (bytes_eq-Decides text (text_of (address_in c text))).0 e ∙ ap text_of same,
+      sym (ap (λ (x : Address). x.count) same),
+    )
+
+-- and a text that spells a label is its text
+pub label_in-only : (c : Count) (text : List ℕ) (a : Address) → label_in c text ≡ Some a
+    → (text ≡ text_of a) × (a.count ≡ c)
+label_in-only c text a is =
+    only_by c text a (is_label (address_in c text)) (bytes_eq text (text_of (address_in c text))) refl is

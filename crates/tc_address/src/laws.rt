@@ -1,11 +1,11 @@
 //! What follows from the definitions alone: of the list of a day, of steps, ways and texts.
-ghost use Rattle.std.specs.Prelude.{◌≡◌, ℕ, ◌<◌, List, ℤ, pos, ◌+ℤ◌, slice_get};
+ghost use Rattle.std.specs.Prelude.{◌≡◌, ℕ, ◌<◌, List, ℤ, pos, ◌+ℤ◌, slice_get, Some};
 ghost use Rattle.tc_address.specs.declared.count.Count.{Count};
 ghost use Rattle.tc_address.specs.Label.{Address, labels, IsLabel};
 ghost use Rattle.tc_address.specs.Numbering.{day_length, number_of, step};
 ghost use Rattle.tc_address.specs.Circle.{moved, IsShortest};
 ghost use Rattle.tc_address.specs.declared.spelling.TextFault.{TextFault};
-ghost use Rattle.tc_address.specs.Spelling.{text_of, IsFirstTextFault};
+ghost use Rattle.tc_address.specs.Spelling.{label_in, text_of, IsFirstTextFault};
 
 /// Within a day a label is found by its number, and what is found by a number has that number. Each label
 /// has a number of the day.
@@ -44,6 +44,13 @@ pub fn one_way_is_shortest()
 /// Two labels of a count with one text are one label.
 pub fn a_text_has_one_label()
     ensures { (a b : Address) → a.count ≡ b.count → text_of a ≡ text_of b → a ≡ b }
+{}
+
+/// The text of a label is read as that label, and a text that is read as a label is the text of it.
+pub fn a_text_is_read_as_its_label()
+    ensures read { (a : Address) → IsLabel a → label_in a.count (text_of a) ≡ Some a }
+    ensures only { (c : Count) (text : List ℕ) (a : Address) → label_in c text ≡ Some a
+        → (text ≡ text_of a) × (a.count ≡ c) }
 {}
 
 /// A text has one first fault at most.
