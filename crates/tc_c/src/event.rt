@@ -104,11 +104,11 @@ fn c_word(direction: Direction, word: &LtcWord, tick: u64, length: u64) -> TcEve
 fn flag_bits(flags: Flags, balanced: bool) -> u8
     ensures { result ≡ flag_bits flags balanced }
 {
-    u8::from(flags.bit10)
-        + 2 * u8::from(flags.colour)
-        + 4 * u8::from(flags.bgf0)
-        + 8 * u8::from(flags.bgf1)
-        + 16 * u8::from(flags.bgf2)
+    u8::from(flags.drop_frame)
+        + 2 * u8::from(flags.colour_frame)
+        + 4 * u8::from(flags.group_flag_zero)
+        + 8 * u8::from(flags.group_flag_one)
+        + 16 * u8::from(flags.group_flag_two)
         + 32 * u8::from(balanced)
 }
 
