@@ -5,7 +5,6 @@ use Rattle.std.proofs.lemmas.List.{take_rest}
 use Rattle.std.proofs.Math.Seq.{take-add}
 use Rattle.std.specs.Option.{option_to_list}
 use Rattle.direction_reader.specs.declared.event.Event.{Event}
-use Rattle.direction_reader.specs.Reader.{ReaderState}
 use Rattle.pcm_front.specs.declared.interval.Intervals.{Intervals}
 use Rattle.pcm_front.specs.declared.slicer.Slicer.{Slicer}
 use Rattle.pcm_front.specs.Pace.{intervals_in, intervals_at}

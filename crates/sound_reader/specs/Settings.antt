@@ -1,5 +1,5 @@
 -- How a sound is read, in range, and how it is sliced.
-use Rattle.std.specs.Prelude.{ℕ, ◌≤◌}
+use Rattle.std.specs.Prelude.{◌≤◌}
 use Rattle.pcm_front.specs.declared.window.TheConstants.{MAX_SMOOTH}
 use Rattle.pcm_front.specs.Pace.{IsPace}
 use Rattle.pcm_front.specs.Settings.{from_start, Settings}

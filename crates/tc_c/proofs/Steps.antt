@@ -1,4 +1,4 @@
--- The names that the walks share.
+-- The names that the walks by hand cite: of the calculus of memory, of the steps, and of what a struct owns.
 pub use Rattle.std.proofs.Common.{◌≡◌, refl, sym, ap, ◌∙◌, ℕ, List, [], ◌∷◌, ◌++◌}
 pub use Rattle.std.proofs.raw_atomic.Walks.{proved}
 pub use base.Fraction.{full_share}
@@ -7,10 +7,12 @@ pub use base.Logic.{id⊢, ent, sep, never}
 pub use mir.Syntax.{named}
 pub use mir.Val.{Val, vptr, vunit}
 pub use contract.Running.{tables}
-pub use types.Kit.{‵, raw, ◌⊛◌, some, later, at_ret, ◌$◌, ◌∵◌, !, qed, done, drop, move, keep, use1, use2, split, join, fsplit, fsplit3, fjoin, fpack, feq_i, feq_l, pick, await, rewrite, suffices, frame, group}
+pub use types.Kit.{‵, raw, ◌⊛◌, some, later, at_ret, ◌$◌, ◌∵◌, !, qed, done, drop, move, keep, use1, use2, split, join}
+pub use types.Kit.{fsplit, fsplit3, fjoin, fpack, feq_i, feq_l, pick, await, rewrite, suffices, frame, group}
 pub use types.Logic.{sem}
 pub use types.Part.{whole, sub, look_in, agg}
-pub use types.Run.{enter, of_opd, unit_lit, load, addr, init, stop, fld, and_then, no_more, assigns, assigns_last, first, blocks, exec, returns}
+pub use types.Run.{enter, of_opd, unit_lit, load, addr, init, stop, fld, and_then, no_more, assigns, assigns_last}
+pub use types.Run.{first, blocks, exec, returns}
 pub use types.ByLocal.{alloc_all, pass_all, free_all, look_at, get, through, sets, sets_last, lands_as, env}
 pub use denote.Exit.{yes, no}
 pub use denote.Follow.{follows, Part, lends_Part}

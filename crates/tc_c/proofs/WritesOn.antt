@@ -1,6 +1,6 @@
 -- Calls go on, one after another: what they write are the events of all samples that they take.
-use Rattle.std.proofs.Common.{◌≡◌, ℕ, ℤ, ◌+◌, ◌-◌, ◌≤◌, List, [], ◌∷◌, ◌++◌, length, map, take, drop}
-use Rattle.std.proofs.Common.{refl, sym, ap, ap₂, subst, ◌∙◌, append_assoc, append-nil, arith}
+use Rattle.std.proofs.Common.{◌≡◌, ℕ, ℤ, ◌+◌, ◌-◌, List, [], ◌++◌, length, map, take, drop}
+use Rattle.std.proofs.Common.{refl, sym, ap, ◌∙◌, append_assoc, append-nil}
 use Rattle.std.proofs.lemmas.List.{map-append, take_rest}
 use Rattle.std.proofs.Math.Seq.{take-add, drop-drop}
 use Rattle.direction_reader.specs.declared.event.Event.{Event}
@@ -38,12 +38,12 @@ step_on a b c at n s brought before between after first brings one other =
     let first_events = map c_event (listed brought.first) in
     let second_events = map c_event (listed brought.second) in
     let both = other ∙ ap (λ (l : List TcEvent). l ++ second_events) one
-        ∙ append_assoc before first_events second_events
-        ∙ ap (λ (l : List TcEvent). before ++ l)
-        (sym (map-append c_event (listed brought.first) (listed brought.second))) in
+    ∙ append_assoc before first_events second_events
+    ∙ ap (λ (l : List TcEvent). before ++ l)
+    (sym (map-append c_event (listed brought.first) (listed brought.second))) in
     rw (front_longer at n s)
-    (goes_on a b c (take at s) (take n (take (length s - at) (drop at s))) before after (event_list brought) first brings
-    both)
+    (goes_on a b c (take at s) (take n (take (length s - at) (drop at s))) before after (event_list brought) first
+    brings both)
 
 -- where two lists are the same from a place on, they are from a later one on
 same_later : (m k n : ℕ) (xs ys : List TcEvent) → n ≡ m + k → drop m xs ≡ drop m ys → drop n xs ≡ drop n ys

@@ -43,8 +43,8 @@ bit false = 0
 
 -- the flags of a word and its balance, as bits
 abbrev pub flag_bits : Flags → Bool → ℕ
-flag_bits flags balanced = bit flags.drop_frame + 2 * bit flags.colour_frame + 4 * bit flags.group_flag_zero + 8 * bit flags.group_flag_one
-    + 16 * bit flags.group_flag_two + 32 * bit balanced
+flag_bits flags balanced = bit flags.drop_frame + 2 * bit flags.colour_frame + 4 * bit flags.group_flag_zero
+    + 8 * bit flags.group_flag_one + 16 * bit flags.group_flag_two + 32 * bit balanced
 
 -- a word
 abbrev pub c_word : Direction → LtcWord → ℕ → ℕ → TcEvent

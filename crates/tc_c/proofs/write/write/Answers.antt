@@ -1,9 +1,6 @@
-use Rattle.std.proofs.Common.{◌≡◌, ℕ, refl, sym, ap, subst, length, take, ◌∙◌, arith}
+use Rattle.std.proofs.Common.{refl, length, take, ◌∙◌, arith}
 use Rattle.std.proofs.lemmas.Grind.{common_steps}
-use Rattle.direction_reader.specs.Events.{event_list, listed}
-use Rattle.sound_reader.specs.Sound.{SoundState}
-use Rattle.tc_c.specs.declared.event.TcEvent.{TcEvent}
-use Rattle.tc_c.specs.Write.{Goes}
+use Rattle.direction_reader.specs.Events.{listed}
 use Rattle.tc_c.proofs.WritesOn.{goes_nowhere, rest_further, step_on}
 use Rattle.tc_c.proofs.write.write.Goals.{else-writing-test, then-writing-test+then-second-made}
 use Rattle.tc_c.proofs.write.write.Goals as goal
@@ -36,10 +33,10 @@ writing-preserved c =
 
 pub returns-clause-goes : goal.returns-clause-goes
 returns-clause-goes c = elim c.writing-test.branch [
-    else-writing-test w ↦ rw w.reader-is rw w.events-is rw w.at-is c.writing.invariant.goes
-    | then-writing-test+then-second-made w ↦ rw w.reader-is rw w.events-is rw w.at-is rw (← w.if-second-made.true)
-        (step_on c.args.reader.now c.writing.reader w.read-count.new.self c.writing.at w.read-count.result.0
-        c.args.samples.now w.read-count.result.1 (take c.writing.made c.writing.events)
-        (take w.put-first.result w.put-first.new.events) (take w.put-second.result w.put-second.new.events)
-        c.writing.invariant.goes w.read-count.ensures.brings w.put-first.ensures.writes w.put-second.ensures.writes)
+  | else-writing-test w ↦ rw w.reader-is rw w.events-is rw w.at-is c.writing.invariant.goes
+  | then-writing-test+then-second-made w ↦ rw w.reader-is rw w.events-is rw w.at-is rw (← w.if-second-made.true)
+      (step_on c.args.reader.now c.writing.reader w.read-count.new.self c.writing.at w.read-count.result.0
+      c.args.samples.now w.read-count.result.1 (take c.writing.made c.writing.events)
+      (take w.put-first.result w.put-first.new.events) (take w.put-second.result w.put-second.new.events)
+      c.writing.invariant.goes w.read-count.ensures.brings w.put-first.ensures.writes w.put-second.ensures.writes)
 ]

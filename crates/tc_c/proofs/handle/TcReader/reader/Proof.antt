@@ -1,5 +1,12 @@
 -- `reader` follows the handle's pointer and lends on what lies there: what that borrow ends with, the handle owns.
-use Rattle.tc_c.proofs.Steps.{◌≡◌, refl, sym, ap, ◌∙◌, ℕ, List, [], ◌∷◌, proved, full_share, Fml, GName, ftrue, flft, fsep, id⊢, ent, sep, named, Val, vptr, tables, ‵, raw, ◌⊛◌, some, later, at_ret, ◌$◌, ◌∵◌, !, qed, done, move, keep, use1, split, join, fsplit, fsplit3, fjoin, fpack, pick, await, rewrite, suffices, frame, group, sem, whole, sub, look_in, enter, of_opd, load, addr, stop, fld, first, blocks, exec, returns, alloc_all, pass_all, free_all, look_at, get, through, sets, sets_last, env, no, follows, lends_Part, shows, mem, part_at, cell_at, Ptr, block_ptr, lies_at, in_a_block, MutRef, mut_vals, mut_Tells, plain, mut_ref_to, nothing, opens, peeks, Struct, shape, Stays, says, stay_dropped, Goes-spent_ref, walk_of, ends_at, after}
+use Rattle.tc_c.proofs.Steps.{refl, sym, ap, ◌∙◌, List, [], ◌∷◌, proved, full_share, Fml, GName, ftrue, flft, fsep, id⊢}
+use Rattle.tc_c.proofs.Steps.{ent, sep, named, Val, vptr, tables, ‵, ◌⊛◌, some, later, at_ret, ◌$◌, ◌∵◌, !, qed, done}
+use Rattle.tc_c.proofs.Steps.{move, keep, use1, split, join, fsplit, fsplit3, fjoin, fpack, pick, await, rewrite}
+use Rattle.tc_c.proofs.Steps.{suffices, frame, group, sem, whole, sub, look_in, enter, of_opd, load, addr, stop, fld}
+use Rattle.tc_c.proofs.Steps.{first, blocks, exec, returns, alloc_all, pass_all, free_all, look_at, get, through, sets}
+use Rattle.tc_c.proofs.Steps.{sets_last, env, no, follows, lends_Part, shows, mem, part_at, cell_at, Ptr, lies_at}
+use Rattle.tc_c.proofs.Steps.{in_a_block, MutRef, mut_vals, mut_Tells, plain, mut_ref_to, nothing, opens, peeks, Struct}
+use Rattle.tc_c.proofs.Steps.{shape, Stays, says, stay_dropped, Goes-spent_ref, walk_of, ends_at, after}
 use denote.Memory.{part_of}
 use Rattle.std.proofs.Common.{MutBor}
 use Rattle.sound_reader.specs.Sound.{SoundState}
@@ -35,21 +42,31 @@ reader_spec 𝓤 𝓛 𝓜 𝓡 wired =
     let word = lowers.val_is h us is ∙ ap (λ (p : Ptr). lowers.lowered (record h { at = p }) ∷ []) e in
     let Rest : Fml = fsep ((Struct (shape the_type)).own_val (h.at, tt) us) (cell_at full_share H.mir us b o) in
     let lent : GName → MutBor SoundState = λ δ. record { ref_ptr = (b', o'); ghost_name = δ; now = h.value } in
-    let back : (w : SoundState) → ent 𝓤 (sep 𝓤 (sem 𝓛 ((mem K).own_at w b' o')) (sem 𝓛 Rest)) (sem 𝓛 ((mem H).own_at (with_reader h w) b o)) = λ w.
+    -- with any state there, the handle owns that one
+    let back : (w : SoundState) → ent 𝓤 (sep 𝓤 (sem 𝓛 ((mem K).own_at w b' o')) (sem 𝓛 Rest))
+    (sem 𝓛 ((mem H).own_at (with_reader h w) b o)) = λ w.
     qed 𝓛 (‵ (part_at K full_share w b' o') ∷ ‵ Rest ∷ []) ∵
     rewrite ! 0 (λ (p : Ptr). ‵ (lies_at K full_share p w)) (sym e) refl $ move ! (1 ∷ []) $ fsplit ! $
     move ! (0 ∷ 2 ∷ []) $ fjoin ! $ move ! (1 ∷ 0 ∷ []) $ fjoin ! $
     fpack ! (List Val) (λ ws. fsep (cell_at full_share H.mir ws b o) (H.own_val (with_reader h w) ws)) us $ done ! in
+    -- self.at
     rewrite ! 2 Cell word refl $ first ! $ blocks ! $
-    sets ! (of_opd ! (load ! (through ! refl (fld ! refl (stop !))) (look_in ! 2 (sub ! 0 refl (whole !))))) refl (tt, tt) $
+    sets ! (of_opd ! (load ! (through ! refl (fld ! refl (stop !))) (look_in ! 2 (sub ! 0 refl (whole !))))) refl
+    (tt, tt) $
+    -- &mut *
     sets_last ! (addr ! (through ! refl (stop !))) refl (tt, tt) $
     exec ! 𝓣.C 𝓣.Λ (env (code.function).locals l) (after 1 (code.function).body) (at_ret _ (W.post y)) $
     sets ! (of_opd ! (get ! refl)) refl (tt, tt) $
+    -- the reader is lent, and all else is kept until it comes back
     rewrite ! 2 Cell (sym word) refl $ move ! (1 ∷ 2 ∷ []) $ fjoin ! $
     move ! (2 ∷ 3 ∷ 4 ∷ 1 ∷ 0 ∷ []) $ group ! 5 $
-    use1 𝓛 (later (some (λ (δ : GName). ‵ ((MutRef (named 0) κ K).own_val (lent δ) (vptr b' o' ∷ [])) ⊛ ‵ (flft κ q) ⊛ ‵ (follows H K γ δ (with_reader h)))))
-    (lends_Part 𝓛 H K (with_reader h) (named 0) κ q b o b' o' γ (sem 𝓛 Rest) back (H.coded.code h) (H.coded.code h) h.value) $ await ! tt $ pick ! (λ δ.
+    use1 𝓛 (later (some (λ (δ : GName). ‵ ((MutRef (named 0) κ K).own_val (lent δ) (vptr b' o' ∷ []))
+    ⊛ ‵ (flft κ q) ⊛ ‵ (follows H K γ δ (with_reader h)))))
+    (lends_Part 𝓛 H K (with_reader h) (named 0) κ q b o b' o' γ (sem 𝓛 Rest) back (H.coded.code h) (H.coded.code h)
+    h.value) $
+    await ! tt $ pick ! (λ δ.
     returns ! (look_at ! 0 refl) $ free_all ! refl $ keep ! (0 ∷ []) $ split ! $ move ! (1 ∷ []) $ split ! $
     -- [the token; the handle follows; the reader's borrow]
     suffices ! _ (ends_at 𝓛 f.ended stayed c y (vptr b' o') (lent δ) (tt, tt) (tt, tt)) $
-    move ! (2 ∷ []) $ nothing ! $ nothing ! $ fjoin ! $ join ! $ nothing ! $ move ! (2 ∷ 0 ∷ []) $ join ! $ join ! $ frame ! $ says ! refl $ done !))))))
+    move ! (2 ∷ []) $ nothing ! $ nothing ! $ fjoin ! $ join ! $ nothing ! $ move ! (2 ∷ 0 ∷ []) $ join ! $ join ! $
+    frame ! $ says ! refl $ done !))))))
