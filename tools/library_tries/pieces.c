@@ -3,12 +3,28 @@
  *
  *     pieces SYSTEM TOLERANCE FOLLOWS THRESHOLD FINENESS SMOOTH PACE PIECE ROOM [MOVE]
  *
- * With MOVE the reader is copied to another place behind each call, and the old one is overwritten. The status is 2
- * where the settings are refused, and 3 where a call breaks what tc.h says. */
+ * With MOVE the reader is copied to another place behind each call, and the old one is overwritten. The status is 1
+ * where the words are wrong or there is no memory, 2 where the settings are refused, and 3 where a call breaks what tc.h
+ * says: what is written behind the events that are made, a call that takes more than there is, or less than it has room
+ * for, and a reader that changes where there is no room. */
 #include "tc.h"
 #include <stdio.h>
 #include <stdlib.h>
 #include <string.h>
+
+static tc_reader readers[2];
+
+/* Whether a call kept what tc.h says of it. `events` were all 0xa5. */
+static bool keeps(tc_taken taken, size_t count, const tc_event *events, size_t room) {
+    const unsigned char *bytes = (const unsigned char *)events;
+    for (size_t i = taken.made * sizeof *events; i < room * sizeof *events; i++) {
+        if (bytes[i] != 0xa5) {
+            return false;
+        }
+    }
+    bool all = taken.used == count || taken.full || taken.made + 2 > room;
+    return taken.used <= count && taken.made <= room && all && (room >= 2 || (taken.used == 0 && taken.made == 0));
+}
 
 int main(int argc, char **argv) {
     if (argc < 10) {
@@ -20,13 +36,12 @@ int main(int argc, char **argv) {
     }
     tc_settings settings = {numbers[0], numbers[1], numbers[2], numbers[3], numbers[4], numbers[5], numbers[6]};
     size_t piece = numbers[7], room = numbers[8];
-    tc_reader readers[2];
     int now = 0;
     if (!tc_reader_init(&readers[now], &settings)) {
         return 2;
     }
-    int16_t *samples = malloc(piece * sizeof *samples);
-    tc_event *events = malloc((room ? room : 1) * sizeof *events);
+    int16_t *samples = (int16_t *)malloc(piece * sizeof *samples);
+    tc_event *events = (tc_event *)malloc((room + 1) * sizeof *events);
     if (!samples || !events) {
         return 1;
     }
@@ -35,14 +50,11 @@ int main(int argc, char **argv) {
         size_t at = 0;
         for (;;) {
             memset(events, 0xa5, room * sizeof *events);
+            tc_reader before = readers[now];
             tc_taken taken = tc_reader_write_s16(&readers[now], samples + at, count - at, events, room);
-            if (taken.used > count - at || taken.made > room) {
+            bool same = memcmp(&before, &readers[now], sizeof before) == 0;
+            if (!keeps(taken, count - at, events, room) || (room < 2 && !same)) {
                 return 3;
-            }
-            for (size_t i = taken.made * sizeof *events; i < room * sizeof *events; i++) {
-                if (((unsigned char *)events)[i] != 0xa5) {
-                    return 3;
-                }
             }
             fwrite(events, sizeof *events, taken.made, stdout);
             at += taken.used;
@@ -51,15 +63,18 @@ int main(int argc, char **argv) {
                 memset(&readers[now], 0xa5, sizeof readers[now]);
                 now = !now;
             }
-            if (room - taken.made >= 2 || room < 2 || taken.full) {
-                if (room >= 2 && !taken.full && at != count) {
-                    return 3;
-                }
+            if (room < 2 || room - taken.made >= 2 || taken.full) {
                 break;
             }
         }
     }
+    /* Settings that are refused change nothing, and others begin anew. */
+    tc_reader before = readers[now];
+    tc_settings none = {0, 0, 0, 0, 0, 0, 0};
+    if (tc_reader_start(&readers[now], &none) || memcmp(&before, &readers[now], sizeof before) != 0) {
+        return 3;
+    }
     free(samples);
     free(events);
-    return 0;
+    return tc_reader_start(&readers[now], &settings) ? 0 : 3;
 }
