@@ -79,8 +79,8 @@ typedef struct tc_reader {
     TC_ALIGN(TC_READER_BOUNDARY) unsigned char state[TC_READER_BYTES];
 } tc_reader;
 
-/* Begins anew with these settings, and tells whether they are taken. Where they are not, nothing changes. The reader was
- * made by tc_reader_init before, or copied from one that was. */
+/* Begins anew with these settings, and tells whether they are taken. Where they are not, nothing changes. The reader
+ * was made by tc_reader_init before, or copied from one that was. */
 static inline bool tc_reader_start(tc_reader *reader, const tc_settings *settings) {
     tc_handle handle = {reader->state};
     return tc_reader_start_(&handle, settings);
