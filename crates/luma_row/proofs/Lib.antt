@@ -1,0 +1,3 @@
+pub mod FallByFall
+pub mod OneMore
+pub mod PixelByPixel

@@ -1,0 +1,18 @@
+-- The first of the greatest.
+use Rattle.std.specs.Prelude.{◌≡◌, ℕ, zero, suc, ◌+◌, ◌<◌, ◌≤◌, max}
+
+-- f 0 + f 1 + .., so many of them
+unfoldable pub sum_of : ℕ → (ℕ → ℕ) → ℕ
+sum_of zero f = 0
+sum_of (suc n) f = sum_of n f + f n
+
+-- the greatest of f 0, f 1, .., so many of them
+unfoldable pub greatest : ℕ → (ℕ → ℕ) → ℕ
+greatest zero f = 0
+greatest (suc n) f = max (greatest n f) (f n)
+
+-- of so many it is the first of the greatest
+pub record IsFirstBest (most : ℕ) (worth : ℕ → ℕ) (number : ℕ) : Type 0 where
+  pub below : number < most
+  pub greatest : (other : ℕ) → other < most → worth other ≤ worth number
+  pub first : (other : ℕ) → other < number → worth other < worth number

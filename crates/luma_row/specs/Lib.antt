@@ -1,0 +1,14 @@
+pub mod Cells
+pub mod Choice
+pub mod Climb
+pub mod Coarse
+pub mod Heights
+pub mod KeptBest
+pub mod KeptCells
+pub mod KeptCoarse
+pub mod KeptLight
+pub mod KeptPlace
+pub mod KeptWidth
+pub mod Light
+pub mod Place
+pub mod Width

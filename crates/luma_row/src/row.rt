@@ -1,0 +1,70 @@
+//! A row of pixels, read. Next: `levels`.
+use crate::cells::{cells_of, counts, swing_of};
+use crate::climb::refine;
+use crate::coarse::{Falls, best_coarse, fall_along};
+use crate::heights::heights_of;
+use crate::levels::Levels;
+use crate::light::{EVEN, SUMS, Sums, sum_up};
+use crate::place::Place;
+use crate::width::MAX_WIDTH;
+
+/// A row that carries code: where the word lies, and what its cells say.
+#[derive(Clone, Copy, Debug, PartialEq, Eq)]
+pub struct CodeRow {
+    pub place: Place,
+    pub levels: Levels,
+}
+
+/// The tables in which a row is read.
+#[derive(Drop)]
+pub struct RowReader {
+    sums: Sums,
+    falls: Falls,
+}
+
+/// Whether the row has two pixels eight levels apart.
+fn has_contrast(row: &[u8]) -> bool {
+    let mut darkest = 255;
+    let mut lightest = 0;
+    for at in 0..row.len() {
+        darkest = row[at].min(darkest);
+        lightest = row[at].max(lightest);
+    }
+    u32::from(lightest) >= u32::from(darkest) + 8
+}
+
+impl RowReader {
+    /// Tables for any row.
+    pub fn new() -> RowReader {
+        RowReader {
+            sums: [0; SUMS],
+            falls: [EVEN; MAX_WIDTH],
+        }
+    }
+
+    /// Reads a row of 360 to 4,096 pixels.
+    pub fn read(&mut self, row: &[u8]) -> Option<CodeRow>
+        requires { IsRow row.now }
+    {
+        if !has_contrast(row) {
+            return None;
+        }
+        sum_up(row, &mut self.sums);
+        fall_along(row, &self.sums, &mut self.falls);
+        let coarse = best_coarse(row, &self.falls);
+        if coarse.sum <= 9 * EVEN {
+            return None;
+        }
+        let place = refine(row, &self.sums, coarse.place);
+        let cells = cells_of(row, &self.sums, place);
+        let swing = swing_of(&cells);
+        if !counts(place, &cells, swing) {
+            return None;
+        }
+        let heights = heights_of(&cells);
+        Some(CodeRow {
+            place,
+            levels: Levels { swing, heights },
+        })
+    }
+}
