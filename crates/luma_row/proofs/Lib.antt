@@ -1,3 +1,6 @@
 pub mod FallByFall
+pub mod Filled
+pub mod MoveByMove
 pub mod OneMore
 pub mod PixelByPixel
+pub mod Within

@@ -1,6 +1,6 @@
 -- The cells of a word at a place, and whether its row counts.
-use Rattle.std.specs.Prelude.{◌≡◌, ℕ, ◌+◌, ◌-◌, ◌*◌, ◌≤◌, ◌<◌, leb, cond, List, map, get_or}
-use Rattle.std.specs.List.{range_with_len, fold}
+use Rattle.std.specs.Prelude.{ℕ, ◌+◌, ◌-◌, ◌*◌, leb, cond, Bool, ◌&&◌, List, map, get_or}
+use Rattle.std.specs.List.{range_with_len}
 use Rattle.luma_row.specs.declared.place.Place.{Place}
 use Rattle.luma_row.specs.Choice.{sum_of}
 use Rattle.luma_row.specs.Light.{light}
@@ -21,13 +21,17 @@ abbrev pub dark_of : List ℕ → ℕ → ℕ
 dark_of cells pair = get_or cells (10 * pair + 1) 0
 
 -- the swing of all nine pairs
-abbrev pub swing : List ℕ → ℕ
+unfoldable pub swing : List ℕ → ℕ
 swing cells = sum_of 9 (light_of cells) - sum_of 9 (dark_of cells)
 
--- a pair stands out whose own swing is an eighth of the mean of all nine
+-- 1 where the swing of a pair is an eighth of the mean of all nine, or more: it stands out
 abbrev pub stands_out : List ℕ → ℕ → ℕ
 stands_out cells pair = cond (leb (swing cells) (72 * (light_of cells pair - dark_of cells pair))) 1 0
 
--- the row counts: the mean swing is 6 levels or more, in the middle six eighths of cells, and 7 pairs stand out
-abbrev pub Counts : Place → List ℕ → Type 0
-Counts place cells = (81 * apart place ≤ 160 * swing cells) × (7 ≤ sum_of 9 (stands_out cells))
+-- how many pairs stand out
+unfoldable pub standing_out : List ℕ → ℕ
+standing_out cells = sum_of 9 (stands_out cells)
+
+-- the row counts: the mean swing is 6 levels or more, over the middle six eighths of cells, and 7 pairs stand out
+abbrev pub counts : Place → List ℕ → Bool
+counts place cells = leb (81 * apart place) (160 * swing cells) && leb 7 (standing_out cells)

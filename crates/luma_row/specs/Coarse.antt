@@ -14,9 +14,17 @@ fall_at row pixel = fall row (16 * pixel - ten_cells (length row) / 10) (16 * pi
 abbrev pub pixel_of : ℕ → ℕ
 pixel_of place = (place + 8) / 16
 
--- the sum of the nine falls, where the first 1 ends here and the ninth so far behind it
-abbrev pub coarse_sum : List ℕ → ℕ → ℕ → ℕ
-coarse_sum row apart first = sum_of 9 (λ pair. fall_at row (pixel_of first + pixel_of (apart * pair / 8)))
+-- the pixels from the first sync pair to another, where the ninth stands so far behind the first
+abbrev pub step_to : ℕ → ℕ → ℕ
+step_to apart pair = pixel_of (apart * pair / 8)
+
+-- the fall of a sync pair
+abbrev pub coarse_fall : List ℕ → ℕ → ℕ → ℕ → ℕ
+coarse_fall row apart first pair = fall_at row (pixel_of first + step_to apart pair)
+
+-- the sum of the nine falls
+unfoldable pub coarse_sum : List ℕ → ℕ → ℕ → ℕ
+coarse_sum row apart first = sum_of 9 (coarse_fall row apart first)
 
 -- the sums of the starts of one distance
 abbrev pub sum_at : List ℕ → ℕ → ℕ → ℕ

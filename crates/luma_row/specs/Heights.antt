@@ -11,20 +11,30 @@ middle cells pair = light_of cells pair + dark_of cells pair
 abbrev pub smoothed : List ℕ → ℕ → ℕ
 smoothed cells pair = middle cells (pair - 1) + 2 * middle cells pair + middle cells (min (pair + 1) 8)
 
--- the pair before a bit, or the first of the two nearest: bit 0 stands before the first of them, and the last bits behind
--- the last
+-- The threshold is straight from the middle of a pair, between its two bits, to that of the next, 10 cells behind it. So
+-- it goes on before the first pair and behind the last. In halves of a cell it stands at twice the bit, between these two.
 abbrev pub pair_before : ℕ → ℕ
 pair_before bit = min ((2 * bit - 1) / 20) 7
 
--- The threshold is straight from the middle of a pair, between its two bits, to that of the next, 10 cells behind it, and
--- goes on so before the first and behind the last. The height is counted in 160ths of the light: 20 times 8.
-abbrev pub height : List ℕ → ℕ → ℤ
-height cells bit =
-    let pair = pair_before bit in
-    let from = 20 * pair + 1 in
-    let to = 20 * pair + 21 in
-    pos (160 * get_or cells bit 0 + (2 * bit - to) * smoothed cells pair + (from - 2 * bit) * smoothed cells (pair + 1))
-    -ℤ pos ((to - 2 * bit) * smoothed cells pair + (2 * bit - from) * smoothed cells (pair + 1))
+abbrev pub from : ℕ → ℕ
+from bit = 20 * pair_before bit + 1
+
+abbrev pub to : ℕ → ℕ
+to bit = 20 * pair_before bit + 21
+
+-- The height of the light above the threshold, in 160ths: the light 160 times, and the middles on both sides, which are
+-- counted eight times, as often as the other end of their 20 halves of a cell is far. What is taken away outside of both
+-- stands on the other side.
+abbrev pub above : List ℕ → ℕ → ℕ
+above cells bit = 160 * get_or cells bit 0 + (2 * bit - to bit) * smoothed cells (pair_before bit)
+    + (from bit - 2 * bit) * smoothed cells (pair_before bit + 1)
+
+abbrev pub below : List ℕ → ℕ → ℕ
+below cells bit = (to bit - 2 * bit) * smoothed cells (pair_before bit)
+    + (2 * bit - from bit) * smoothed cells (pair_before bit + 1)
+
+unfoldable pub height : List ℕ → ℕ → ℤ
+height cells bit = pos (above cells bit) -ℤ pos (below cells bit)
 
 abbrev pub heights_of : List ℕ → List ℤ
 heights_of cells = map (height cells) (range_with_len 0 90)

@@ -10,3 +10,10 @@ pub record AreSumsTo (row table : List ℕ) (count : ℕ) : Type 0 where
 -- the sums of the pixels up to each
 abbrev pub AreSums : List ℕ → List ℕ → Type 0
 AreSums row table = AreSumsTo row table (length row)
+
+-- the table so far, and its latest sum
+pub record SumsSoFar (row table : List ℕ) (total count : ℕ) : Type 0 where
+  pub long : length table ≡ 4097
+  pub within : count ≤ length row
+  pub latest : total ≡ get_or table count 0
+  pub are : AreSumsTo row table count

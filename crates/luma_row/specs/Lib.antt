@@ -8,6 +8,7 @@ pub mod KeptCells
 pub mod KeptCoarse
 pub mod KeptLight
 pub mod KeptPlace
+pub mod KeptTable
 pub mod KeptWidth
 pub mod Light
 pub mod Place
