@@ -6,10 +6,12 @@ pub mod Heights
 pub mod KeptBest
 pub mod KeptCells
 pub mod KeptCoarse
+pub mod KeptHeights
 pub mod KeptLight
 pub mod KeptPlace
 pub mod KeptTable
 pub mod KeptWidth
 pub mod Light
 pub mod Place
+pub mod Row
 pub mod Width

@@ -1,4 +1,11 @@
 //! A row of pixels, read. Next: `levels`.
+ghost use Rattle.std.specs.Prelude.{◌≡◌, ◌^◌, ◌≤◌, min, max, true, ◌↔◌, IfNone, IfSome};
+ghost use Rattle.std.specs.List.{fold};
+ghost use Rattle.luma_row.specs.declared.row.CodeRow.{CodeRow};
+ghost use Rattle.luma_row.specs.KeptHeights.{AreHeights};
+ghost use Rattle.luma_row.specs.Light.{IsRow};
+ghost use Rattle.luma_row.specs.Row.{HasContrast, IsCode};
+
 use crate::cells::{cells_of, counts, swing_of};
 use crate::climb::refine;
 use crate::coarse::{Falls, best_coarse, fall_along};
@@ -22,15 +29,17 @@ pub struct RowReader {
     falls: Falls,
 }
 
-/// Whether the row has two pixels eight levels apart.
-fn has_contrast(row: &[u8]) -> bool {
+/// Whether two pixels are eight levels apart.
+fn has_contrast(row: &[u8]) -> bool
+    ensures { (result ≡ true) ↔ HasContrast row.now }
+{
     let mut darkest = 255;
     let mut lightest = 0;
-    for at in 0..row.len() {
-        darkest = row[at].min(darkest);
-        lightest = row[at].max(lightest);
+    for &pixel in row {
+        darkest = pixel.min(darkest);
+        lightest = pixel.max(lightest);
     }
-    u32::from(lightest) >= u32::from(darkest) + 8
+    u32::from(darkest) + 8 <= u32::from(lightest)
 }
 
 impl RowReader {
@@ -42,9 +51,13 @@ impl RowReader {
         }
     }
 
-    /// Reads a row of 360 to 4,096 pixels.
+    /// Reads a row. Nothing is said of a row without code.
     pub fn read(&mut self, row: &[u8]) -> Option<CodeRow>
         requires { IsRow row.now }
+        ensures code { IfSome result (λ code. IsCode row.now code) }
+        ensures none { IfNone result ((code : CodeRow) → IsCode row.now code → ⊥) }
+        ensures swing { IfSome result (λ code. code.levels.swing ≤ 2 ^ 28) }
+        ensures heights { IfSome result (λ code. AreHeights (2 ^ 35) code.levels.heights) }
     {
         if !has_contrast(row) {
             return None;

@@ -11,8 +11,8 @@ pub loop-pair-preserved : goal.loop-pair-preserved
 loop-pair-preserved c =
     let i = c.loop-pair.invariant in
     let more = sum_of_more c.loop-pair.pair (stands_out c.args.cells.now) in
-    (omega (arith, c.loop-pair-test.true), ap₂ ◌+◌ i.1 c.stands_out.ensures.stands ∙ sym more,
-     omega (arith, i.2, c.stands_out.ensures.most))
+    (omega (arith, c.loop-pair-test.true), ap₂ ◌+◌ i.1 c.stands_out-count.ensures.stands ∙ sym more,
+     omega (arith, i.2, c.stands_out-count.ensures.most))
 
 pub returns : goal.returns
 unfolding standing_out
