@@ -1,3 +1,4 @@
+pub mod BitByBit
 pub mod FallByFall
 pub mod Filled
 pub mod HeightByHeight

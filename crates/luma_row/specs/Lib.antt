@@ -7,10 +7,12 @@ pub mod KeptBest
 pub mod KeptCells
 pub mod KeptCoarse
 pub mod KeptHeights
+pub mod KeptLevels
 pub mod KeptLight
 pub mod KeptPlace
 pub mod KeptTable
 pub mod KeptWidth
+pub mod Levels
 pub mod Light
 pub mod Place
 pub mod Row

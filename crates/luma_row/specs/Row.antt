@@ -1,5 +1,5 @@
 -- A row that carries code, and what its cells say.
-use Rattle.std.specs.Prelude.{◌≡◌, ℕ, ◌+◌, ◌*◌, ◌<◌, ◌≤◌, min, max, true, List}
+use Rattle.std.specs.Prelude.{◌≡◌, ℕ, ◌-◌, ◌*◌, ◌<◌, leb, min, max, Bool, true, List}
 use Rattle.std.specs.List.{fold}
 use Rattle.luma_row.specs.declared.light.TheConstants.{EVEN}
 use Rattle.luma_row.specs.declared.place.Place.{Place}
@@ -16,8 +16,8 @@ abbrev pub darkest : List ℕ → ℕ
 darkest row = fold min 255 row
 
 -- two of its pixels are eight levels apart
-abbrev pub HasContrast : List ℕ → Type 0
-HasContrast row = darkest row + 8 ≤ lightest row
+abbrev pub has_contrast : List ℕ → Bool
+has_contrast row = leb 8 (lightest row - darkest row)
 
 -- where a word lies in a row: its sync pairs fall at the coarse place, which is made finer
 pub record LiesAt (row : List ℕ) (place : Place) : Type 0 where
@@ -29,7 +29,7 @@ pub record LiesAt (row : List ℕ) (place : Place) : Type 0 where
 
 -- the row carries code: a word lies in it, and it counts
 pub record IsCode (row : List ℕ) (code : CodeRow) : Type 0 where
-  pub contrast : HasContrast row
+  pub contrast : has_contrast row ≡ true
   pub lies : LiesAt row code.place
   pub it_counts : counts code.place (cells_of row code.place) ≡ true
   pub swing_is : code.levels.swing ≡ swing (cells_of row code.place)

@@ -5,7 +5,6 @@ mod best;
 mod cells;
 mod climb;
 mod coarse;
-mod field;
 mod heights;
 mod levels;
 mod light;
@@ -13,7 +12,6 @@ mod place;
 mod row;
 mod width;
 
-pub use field::{FieldRows, FoundRow};
 pub use heights::Heights;
 pub use levels::Levels;
 pub use light::EVEN;

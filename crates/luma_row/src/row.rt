@@ -1,10 +1,10 @@
 //! A row of pixels, read. Next: `levels`.
-ghost use Rattle.std.specs.Prelude.{◌≡◌, ◌^◌, ◌≤◌, min, max, true, ◌↔◌, IfNone, IfSome};
+ghost use Rattle.std.specs.Prelude.{◌≡◌, ◌^◌, ◌≤◌, min, max, IfNone, IfSome};
 ghost use Rattle.std.specs.List.{fold};
 ghost use Rattle.luma_row.specs.declared.row.CodeRow.{CodeRow};
 ghost use Rattle.luma_row.specs.KeptHeights.{AreHeights};
 ghost use Rattle.luma_row.specs.Light.{IsRow};
-ghost use Rattle.luma_row.specs.Row.{HasContrast, IsCode};
+ghost use Rattle.luma_row.specs.Row.{has_contrast, IsCode};
 
 use crate::cells::{cells_of, counts, swing_of};
 use crate::climb::refine;
@@ -31,15 +31,15 @@ pub struct RowReader {
 
 /// Whether two pixels are eight levels apart.
 fn has_contrast(row: &[u8]) -> bool
-    ensures { (result ≡ true) ↔ HasContrast row.now }
+    ensures { result ≡ has_contrast row.now }
 {
     let mut darkest = 255;
     let mut lightest = 0;
-    for &pixel in row {
-        darkest = pixel.min(darkest);
-        lightest = pixel.max(lightest);
+    for at in 0..row.len() {
+        darkest = darkest.min(row[at]);
+        lightest = lightest.max(row[at]);
     }
-    u32::from(darkest) + 8 <= u32::from(lightest)
+    8 <= lightest.saturating_sub(darkest)
 }
 
 impl RowReader {

@@ -39,7 +39,7 @@ returns-clause-swing c =
     let all : c.loop-pair.pair ≡ 9 = omega (arith, i.0, c.loop-pair-test.false) in
     let light = subst (λ n. c.loop-pair.light ≡ sum_of n (light_of c.args.cells.now)) all i.1 in
     let dark = subst (λ n. c.loop-pair.dark ≡ sum_of n (dark_of c.args.cells.now)) all i.3 in
-    ap₂ ◌-◌ light dark
+    c.saturating_sub.ensures ∙ ap₂ ◌-◌ light dark
 
 pub returns-clause-most : goal.returns-clause-most
 returns-clause-most c =

@@ -11,14 +11,14 @@ overflow_add-sum c =
     let i = c.loop-at.invariant in
     let m = i.are.most c.loop-at.at (omega arith) in
     let b = c.type_inv.row c.loop-at.at in
-    let f : c.from.result ≡ get_or c.args.row.now c.loop-at.at 0 = search rules in
+    let f : c.from-sum.result ≡ get_or c.args.row.now c.loop-at.at 0 = search rules in
     omega (arith, m, i.latest, b, f, c.requires.1)
 
 pub loop-at-preserved : goal.loop-at-preserved
 loop-at-preserved c =
     let b = c.type_inv.row c.loop-at.at in
-    let f : c.from.result ≡ get_or c.args.row.now c.loop-at.at 0 = search rules in
-    one_more_pixel c.args.row.now c.loop-at.sums c.loop-at.sum c.loop-at.at c.from.result c.loop-at.invariant
+    let f : c.from-sum.result ≡ get_or c.args.row.now c.loop-at.at 0 = search rules in
+    one_more_pixel c.args.row.now c.loop-at.sums c.loop-at.sum c.loop-at.at c.from-sum.result c.loop-at.invariant
     c.loop-at-test.true c.requires.1 f (omega (arith, b, f))
 
 pub returns : goal.returns
