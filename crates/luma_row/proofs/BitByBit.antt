@@ -1,5 +1,7 @@
 -- With one bit more all are clear where this one is too, and the number of the last bits is doubled.
 use Rattle.std.proofs.Common.{◌≡◌, ℕ, zero, suc, ◌+◌, ◌-◌, ◌*◌, ◌^◌, ◌<◌, ◌≤◌, Bool, true, false, cond, ◌&&◌, ◌||◌, refl, ap, sym, subst, ◌∙◌, arith}
+use Rattle.std.proofs.Math.Nat.{pow-suc}
+use Rattle.std.proofs.Math.Pow.{pow_mono}
 use Rattle.luma_row.specs.declared.levels.Levels.{Levels}
 use Rattle.luma_row.specs.Choice.{all_of, any_of}
 use Rattle.luma_row.specs.Levels.{is_one, last_bits}
@@ -30,7 +32,8 @@ unfolding last_bits
 last_bits_none levels = refl
 
 pub twice_fits : (n bits one : ℕ) → n < 90 → bits < 2 ^ n → one ≤ 1 → 2 * bits + one < 2 ^ (n + 1)
-twice_fits n bits one h fits few = let e : 2 ^ (n + 1) ≡ 2 ^ n * 2 = ? in omega (arith, e)
+twice_fits n bits one h fits few = let s : n + 1 ≡ suc n = omega arith in
+    let e : 2 ^ (n + 1) ≡ 2 ^ n * 2 = ap (λ (m : ℕ). 2 ^ m) s ∙ pow-suc 2 n in omega (arith, e)
 
 pub width_fits : (n bits : ℕ) → n ≤ 90 → bits < 2 ^ n → bits < 2 ^ 90
-width_fits n bits h fits = let m : 2 ^ n ≤ 2 ^ 90 = ? in omega (arith, m)
+width_fits n bits h fits = let m : 2 ^ n ≤ 2 ^ 90 = pow_mono h in omega (arith, m)

@@ -76,7 +76,7 @@ impl Levels {
     {
         let mut found = false;
         for bit in 0..BITS {
-            found = found || self.is_opposite(other, bit);
+            found |= self.is_opposite(other, bit);
         }
         found
     }
@@ -126,7 +126,7 @@ impl Levels {
     {
         let mut clear = true;
         for bit in 0..BITS {
-            clear = clear && self.is_clear(bit);
+            clear &= self.is_clear(bit);
         }
         clear
     }
