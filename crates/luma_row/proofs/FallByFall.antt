@@ -1,5 +1,5 @@
 -- A sum of so many falls is at most so many times the greatest.
-use Rattle.std.proofs.Common.{◌≡◌, ℕ, suc, ◌+◌, ◌*◌, ◌<◌, ◌≤◌, refl, arith}
+use Rattle.std.proofs.Common.{◌≡◌, ℕ, suc, ◌+◌, refl, arith}
 use Rattle.luma_row.specs.Choice.{sum_of}
 
 -- with one more

@@ -1,5 +1,5 @@
 -- A table that is filled from the front is filled a place further with the next value.
-use Rattle.std.proofs.Common.{◌≡◌, ℕ, suc, ◌+◌, ◌<◌, ◌≤◌, ◌⊎◌, inl, inr, List, length, get_or, map, sym, subst, ◌∙◌, arith}
+use Rattle.std.proofs.Common.{◌≡◌, ℕ, ◌+◌, ◌<◌, ◌≤◌, ◌⊎◌, inl, inr, List, length, get_or, map, sym, subst, ◌∙◌, arith}
 use Rattle.std.specs.List.{range_with_len}
 use Rattle.std.specs.Prelude.{set}
 use Rattle.std.proofs.lemmas.List.{get_or-set_same, get_or-set_other, length-set}
@@ -19,7 +19,7 @@ one_filled f size most count x table t room is small =
     let long = t.long in
     let here = get_or-set_same table count x 0 (omega arith) in
     let before : (place : ℕ) → place < count → get_or (set table count x) place 0 ≡ get_or table place 0 =
-        λ place h. get_or-set_other table count place x 0 (λ e. omega arith) in
+    λ place h. get_or-set_other table count place x 0 (λ e. omega arith) in
     let cases : (place : ℕ) → place < count + 1 → (place < count) ⊎ (place ≡ count) = λ place h. grind arith in
     record {
       long = length-set table count x ∙ t.long;

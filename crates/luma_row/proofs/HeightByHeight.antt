@@ -19,7 +19,7 @@ one_height f most count x heights t room is small =
     let long = t.long in
     let here = get_or-set_same heights count x (pos 0) (omega arith) in
     let before : (bit : ℕ) → bit < count → get_or (set heights count x) bit (pos 0) ≡ get_or heights bit (pos 0) =
-        λ bit h. get_or-set_other heights count bit x (pos 0) (λ e. omega arith) in
+    λ bit h. get_or-set_other heights count bit x (pos 0) (λ e. omega arith) in
     let cases : (bit : ℕ) → bit < count + 1 → (bit < count) ⊎ (bit ≡ count) = λ bit h. grind arith in
     record {
       long = length-set heights count x ∙ t.long;

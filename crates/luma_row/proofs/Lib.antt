@@ -1,8 +1,10 @@
+pub mod AllClear
 pub mod BitByBit
 pub mod FallByFall
 pub mod Filled
 pub mod HeightByHeight
 pub mod MoveByMove
+pub mod OneCode
 pub mod OneMore
 pub mod OnePlace
 pub mod PixelByPixel

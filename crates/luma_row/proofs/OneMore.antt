@@ -1,5 +1,5 @@
 -- With one more the first of the greatest stays the first, unless the new one is greater.
-use Rattle.std.proofs.Common.{◌≡◌, ℕ, zero, suc, ◌+◌, ◌<◌, ◌≤◌, max, ◌⊎◌, inl, inr, refl, sym, subst, ◌∙◌, arith}
+use Rattle.std.proofs.Common.{◌≡◌, ℕ, zero, suc, ◌+◌, ◌<◌, ◌≤◌, max, ◌⊎◌, inl, inr, sym, subst, arith}
 use Rattle.luma_row.specs.Choice.{greatest, IsFirstBest}
 use Rattle.luma_row.specs.KeptBest.{IsBestOf}
 

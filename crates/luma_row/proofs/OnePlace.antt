@@ -1,5 +1,5 @@
 -- Each choice has one first best, so a row has one coarse place, and from there each move leads to one place.
-use Rattle.std.proofs.Common.{◌≡◌, ℕ, zero, suc, ◌+◌, ◌*◌, ◌/◌, ◌<◌, List, length, refl, ap, ap₂, sym, subst, ◌∙◌, arith}
+use Rattle.std.proofs.Common.{◌≡◌, ℕ, zero, suc, ◌+◌, ◌*◌, List, length, ap, ap₂, sym, subst, ◌∙◌}
 use Rattle.luma_row.specs.declared.place.Place.{Place}
 use Rattle.luma_row.specs.Choice.{IsFirstBest}
 use Rattle.luma_row.specs.Climb.{halved, neighbour, worth, Climbs, Moves, Refines}
@@ -36,9 +36,9 @@ one_coarse row sum other a b p q =
     let width = length row in
     let wide = one_first (distances width) (best_at row) p.wide q.wide p.of_distances q.of_distances in
     let starts_of = subst (λ (w : ℕ). IsFirstBest (starts width (distance width w)) (sum_at row (distance width w)) p.early)
-        wide p.of_starts in
+    wide p.of_starts in
     let early = one_first (starts width (distance width q.wide)) (sum_at row (distance width q.wide)) p.early q.early
-        starts_of q.of_starts in
+    starts_of q.of_starts in
     let first = p.first ∙ (ap (start width) early ∙ sym q.first) in
     let last = p.last ∙ (ap₂ (λ (e w : ℕ). start width e + distance width w) early wide ∙ sym q.last) in
     (p.sum_is ∙ (ap (best_at row) wide ∙ sym q.sum_is), same_place a b first last)

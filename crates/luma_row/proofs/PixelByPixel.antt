@@ -1,5 +1,5 @@
 -- With one more pixel the table has one more sum: the one before it and this pixel. A sum of n pixels is 255 n at most.
-use Rattle.std.proofs.Common.{◌≡◌, ℕ, suc, ◌+◌, ◌*◌, ◌/◌, ◌%◌, ◌<◌, ◌≤◌, ◌⊎◌, inl, inr, List, length, get_or, take, refl, ap, sym, subst, ◌∙◌, arith}
+use Rattle.std.proofs.Common.{◌≡◌, ℕ, ◌+◌, ◌*◌, ◌/◌, ◌%◌, ◌<◌, ◌≤◌, ◌⊎◌, inl, inr, List, length, get_or, take, refl, ap, sym, subst, ◌∙◌, arith}
 use Rattle.std.specs.List.{sum}
 use Rattle.std.specs.Prelude.{set}
 use Rattle.std.proofs.lemmas.List.{get_or_past, get_or-set_same, get_or-set_other, length-set, take_all}
@@ -19,7 +19,7 @@ more_sums row table n x h room is small t =
     let few = t.most n (omega arith) in
     let next = sum_more row n h in
     let before : (pixel : ℕ) → pixel ≤ n → get_or (set table (n + 1) new) pixel 0 ≡ get_or table pixel 0 =
-        λ pixel b. get_or-set_other table (n + 1) pixel new 0 (λ e. omega arith) in
+    λ pixel b. get_or-set_other table (n + 1) pixel new 0 (λ e. omega arith) in
     let cases : (pixel : ℕ) → pixel ≤ n + 1 → (pixel ≤ n) ⊎ (pixel ≡ n + 1) = λ pixel b. grind arith in
     record {
       sums = λ pixel b. elim (cases pixel b) [

@@ -1,5 +1,5 @@
 -- The first of the greatest.
-use Rattle.std.specs.Prelude.{◌≡◌, ℕ, zero, suc, ◌+◌, ◌<◌, ◌≤◌, max, Bool, true, false, ◌&&◌, ◌||◌}
+use Rattle.std.specs.Prelude.{ℕ, zero, suc, ◌+◌, ◌<◌, ◌≤◌, max, Bool, true, false, ◌&&◌, ◌||◌}
 
 -- f 0 + f 1 + .., so many of them
 unfoldable pub sum_of : ℕ → (ℕ → ℕ) → ℕ

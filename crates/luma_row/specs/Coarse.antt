@@ -1,6 +1,6 @@
 -- The coarse place of a word: of the distances and starts that are looked at, the one whose nine sync pairs fall the most
 -- at whole pixels.
-use Rattle.std.specs.Prelude.{◌≡◌, ℕ, ◌+◌, ◌-◌, ◌*◌, ◌/◌, ◌<◌, ◌≤◌, List, length, get_or}
+use Rattle.std.specs.Prelude.{◌≡◌, ℕ, ◌+◌, ◌-◌, ◌*◌, ◌/◌, List, length}
 use Rattle.luma_row.specs.declared.place.Place.{Place}
 use Rattle.luma_row.specs.Choice.{greatest, sum_of, IsFirstBest}
 use Rattle.luma_row.specs.Light.{fall}

@@ -1,5 +1,5 @@
 -- The tables of the coarse search.
-use Rattle.std.specs.Prelude.{ℕ, ◌*◌, ◌/◌, ◌^◌, List, length}
+use Rattle.std.specs.Prelude.{ℕ, ◌^◌, List, length}
 use Rattle.luma_row.specs.Coarse.{fall_at, step_to}
 use Rattle.luma_row.specs.KeptTable.{IsFilled}
 

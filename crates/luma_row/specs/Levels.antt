@@ -1,6 +1,6 @@
 -- What the heights of cells say: which bits, and whether two rows say them together.
 use Rattle.std.specs.Prelude.{ℕ, zero, suc, ◌+◌, ◌-◌, ◌*◌, leb, Bool, not, ◌&&◌, cond}
-use Rattle.std.specs.Prelude.{ℤ, pos, ◌+ℤ◌, int_lt, unsigned_abs, List, map, get_or}
+use Rattle.std.specs.Prelude.{ℤ, pos, ◌+ℤ◌, int_lt, unsigned_abs, map, get_or}
 use Rattle.std.specs.List.{range_with_len}
 use Rattle.luma_row.specs.declared.levels.Levels.{Levels}
 use Rattle.luma_row.specs.Choice.{all_of, any_of}

@@ -1,5 +1,5 @@
 -- The light of a row of pixels up to a place. Places are counted in sixteenths of a pixel from where the row begins.
-use Rattle.std.specs.Prelude.{◌≡◌, ℕ, ◌+◌, ◌-◌, ◌*◌, ◌/◌, ◌%◌, ◌^◌, ◌≤◌, ◌<◌, List, length, get_or, take}
+use Rattle.std.specs.Prelude.{ℕ, ◌+◌, ◌-◌, ◌*◌, ◌/◌, ◌%◌, ◌≤◌, List, length, get_or, take}
 use Rattle.std.specs.List.{sum}
 use Rattle.luma_row.specs.declared.light.TheConstants.{EVEN}
 use Rattle.luma_row.specs.declared.width.TheConstants.{MIN_WIDTH, MAX_WIDTH}

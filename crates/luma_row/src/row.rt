@@ -2,7 +2,7 @@
 ghost use Rattle.std.specs.Prelude.{◌≡◌, ◌^◌, ◌≤◌, min, max, IfNone, IfSome};
 ghost use Rattle.std.specs.List.{fold};
 ghost use Rattle.luma_row.specs.declared.row.CodeRow.{CodeRow};
-ghost use Rattle.luma_row.specs.KeptHeights.{AreHeights};
+ghost use Rattle.luma_row.specs.KeptLevels.{AreLevels};
 ghost use Rattle.luma_row.specs.Light.{IsRow};
 ghost use Rattle.luma_row.specs.Row.{has_contrast, IsCode};
 
@@ -56,8 +56,7 @@ impl RowReader {
         requires { IsRow row.now }
         ensures code { IfSome result (λ code. IsCode row.now code) }
         ensures none { IfNone result ((code : CodeRow) → IsCode row.now code → ⊥) }
-        ensures swing { IfSome result (λ code. code.levels.swing ≤ 2 ^ 28) }
-        ensures heights { IfSome result (λ code. AreHeights (2 ^ 35) code.levels.heights) }
+        ensures size { IfSome result (λ code. AreLevels (2 ^ 28) (2 ^ 35) code.levels) }
     {
         if !has_contrast(row) {
             return None;

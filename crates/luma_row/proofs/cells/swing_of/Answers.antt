@@ -5,9 +5,13 @@ use Rattle.luma_row.proofs.FallByFall.{sum_of_more, sum_of_none}
 use Rattle.luma_row.proofs.cells.swing_of.Goals as goal
 
 pub loop-pair-init : goal.loop-pair-init
-loop-pair-init c =
-    (omega arith, sym (sum_of_none (light_of c.args.cells.now)), omega arith, sym (sum_of_none (dark_of c.args.cells.now)),
-     omega arith)
+loop-pair-init c = (
+  omega arith,
+  sym (sum_of_none (light_of c.args.cells.now)),
+  omega arith,
+  sym (sum_of_none (dark_of c.args.cells.now)),
+  omega arith,
+)
 
 pub overflow_add-light : goal.overflow_add-light
 overflow_add-light c =
@@ -25,12 +29,13 @@ loop-pair-preserved c =
     let n = c.loop-pair.pair in
     let cells = c.args.cells.now in
     let light = c.requires (10 * n) (omega (arith, c.loop-pair-test.true)) in
-    let dark = c.requires (10 * n + 1) (omega (arith, c.loop-pair-test.true)) in
-    (omega (arith, c.loop-pair-test.true),
-     ap (λ s. s + get_or cells (10 * n) 0) i.1 ∙ sym (sum_of_more n (light_of cells)),
-     omega (arith, light, i.2),
-     ap (λ s. s + get_or cells (10 * n + 1) 0) i.3 ∙ sym (sum_of_more n (dark_of cells)),
-     omega (arith, dark, i.4))
+    let dark = c.requires (10 * n + 1) (omega (arith, c.loop-pair-test.true)) in (
+      omega (arith, c.loop-pair-test.true),
+      ap (λ s. s + get_or cells (10 * n) 0) i.1 ∙ sym (sum_of_more n (light_of cells)),
+      omega (arith, light, i.2),
+      ap (λ s. s + get_or cells (10 * n + 1) 0) i.3 ∙ sym (sum_of_more n (dark_of cells)),
+      omega (arith, dark, i.4),
+    )
 
 pub returns-clause-swing : goal.returns-clause-swing
 unfolding swing

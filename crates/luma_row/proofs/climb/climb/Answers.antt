@@ -1,6 +1,6 @@
-use Rattle.std.proofs.Common.{◌≡◌, ◌+◌, ◌-◌, refl, ap, sym, subst, arith}
+use Rattle.std.proofs.Common.{◌≡◌, ◌+◌, ◌-◌, refl, sym, subst, arith}
 use Rattle.luma_row.specs.Choice.{IsFirstBest}
-use Rattle.luma_row.specs.Climb.{worth, Climbs, Moves}
+use Rattle.luma_row.specs.Climb.{worth, Climbs}
 use Rattle.luma_row.specs.KeptPlace.{IsInRow}
 use Rattle.luma_row.proofs.MoveByMove.{chosen_in_row, itself, one_move, still}
 use Rattle.luma_row.proofs.climb.climb.Goals as goal
@@ -15,11 +15,11 @@ pub returns-then-number-eq0-clause-climbs : goal.returns-then-number-eq0-clause-
 returns-then-number-eq0-clause-climbs c =
     let row = c.args.row.now in
     let best = subst (λ n. IsFirstBest 9 (worth row c.loop-turn.place c.args.step) n) c.if-number-eq0.true
-        c.best_neighbour-number.ensures in
+    c.best_neighbour-number.ensures in
     let all : c.loop-turn.turn + (6 - c.loop-turn.turn) ≡ 6 = omega (arith, c.loop-turn-test.true) in
     subst (λ n. Climbs row c.args.step n c.args.from c.loop-turn.place) all
     (still row c.args.step c.loop-turn.turn (6 - c.loop-turn.turn) c.args.from c.loop-turn.place c.loop-turn.invariant.0
-        (itself row c.args.step c.loop-turn.place best))
+    (itself row c.args.step c.loop-turn.place best))
 
 pub returns-then-number-eq0-clause-place : goal.returns-then-number-eq0-clause-place
 returns-then-number-eq0-clause-place c = c.loop-turn.invariant.1
@@ -32,10 +32,11 @@ loop-turn-preserved c =
     let row = c.args.row.now in
     let is = c.neighbour-place.ensures.neighbour in
     let chosen = chosen_in_row row c.args.step c.best_neighbour-number.result c.loop-turn.place c.requires.row
-        c.best_neighbour-number.ensures c.if-number-eq0.false in
-    (one_move row c.args.step c.loop-turn.turn c.args.from c.loop-turn.place c.neighbour-place.result
-        c.loop-turn.invariant.0 (c.best_neighbour-number.result, c.best_neighbour-number.ensures, is),
-     subst IsInRow (sym is) chosen)
+    c.best_neighbour-number.ensures c.if-number-eq0.false in (
+      one_move row c.args.step c.loop-turn.turn c.args.from c.loop-turn.place c.neighbour-place.result
+          c.loop-turn.invariant.0 (c.best_neighbour-number.result, c.best_neighbour-number.ensures, is),
+      subst IsInRow (sym is) chosen,
+    )
 
 pub returns-clause-climbs : goal.returns-clause-climbs
 returns-clause-climbs c =

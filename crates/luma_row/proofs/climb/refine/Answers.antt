@@ -1,4 +1,4 @@
-use Rattle.std.proofs.Common.{◌≡◌, ◌+◌, ◌*◌, refl, ap, sym, subst, length, arith, ◌∙◌}
+use Rattle.std.proofs.Common.{◌≡◌, ◌*◌, refl, ap, subst, length, arith, ◌∙◌}
 use Rattle.luma_row.specs.Climb.{Refines}
 use Rattle.luma_row.specs.Width.{grain}
 use Rattle.luma_row.proofs.MoveByMove.{half_step, one_step}
@@ -21,12 +21,13 @@ pub loop-turn-preserved : goal.loop-turn-preserved
 loop-turn-preserved c =
     let row = c.args.row.now in
     let first = 2 * grain (length row) in
-    let i = c.loop-turn.invariant in
-    (one_step row first c.loop-turn.turn c.loop-turn.step c.args.coarse c.loop-turn.place c.climb-place.result i.0 i.2
-        c.climb-place.ensures.climbs,
-     c.climb-place.ensures.place,
-     half_step first c.loop-turn.turn c.loop-turn.step i.2,
-     omega (arith, i.3))
+    let i = c.loop-turn.invariant in (
+      one_step row first c.loop-turn.turn c.loop-turn.step c.args.coarse c.loop-turn.place c.climb-place.result i.0 i.2
+          c.climb-place.ensures.climbs,
+      c.climb-place.ensures.place,
+      half_step first c.loop-turn.turn c.loop-turn.step i.2,
+      omega (arith, i.3),
+    )
 
 pub returns-clause-refines : goal.returns-clause-refines
 returns-clause-refines c =

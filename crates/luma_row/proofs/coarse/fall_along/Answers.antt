@@ -7,10 +7,11 @@ pub loop-pixel-init : goal.loop-pixel-init
 loop-pixel-init c = (omega arith, nothing_filled (fall_at c.args.row.now) 4096 (2 ^ 26) c.args.falls.now c.told-falls)
 
 pub loop-pixel-preserved : goal.loop-pixel-preserved
-loop-pixel-preserved c =
-    (omega (arith, c.loop-pixel-test.true),
-     one_filled (fall_at c.args.row.now) 4096 (2 ^ 26) c.loop-pixel.pixel c.fall_at.result c.loop-pixel.falls
-     c.loop-pixel.invariant.1 (omega (arith, c.loop-pixel-test.true, c.requires.row.1)) c.fall_at.ensures.value c.fall_at.ensures.most)
+loop-pixel-preserved c = (
+  omega (arith, c.loop-pixel-test.true),
+  one_filled (fall_at c.args.row.now) 4096 (2 ^ 26) c.loop-pixel.pixel c.fall_at.result c.loop-pixel.falls
+      c.loop-pixel.invariant.1 (omega (arith, c.loop-pixel-test.true, c.requires.row.1)) c.fall_at.ensures.value c.fall_at.ensures.most,
+)
 
 pub returns : goal.returns
 returns c =

@@ -1,4 +1,4 @@
-use Rattle.std.proofs.Common.{◌≡◌, ◌+◌, ◌*◌, ◌/◌, ◌<◌, ◌≤◌, ap, ap₂, sym, subst, ◌∙◌, get_or, length, arith}
+use Rattle.std.proofs.Common.{◌≡◌, ◌+◌, ◌/◌, ap, ap₂, sym, subst, ◌∙◌, get_or, length, arith}
 use Rattle.luma_row.specs.Choice.{sum_of}
 use Rattle.luma_row.specs.Coarse.{coarse_fall, coarse_sum, fall_at}
 use Rattle.luma_row.proofs.FallByFall.{sum_of_more, sum_of_none}
@@ -12,7 +12,7 @@ pub bounds-falls-pixel : goal.bounds-falls-pixel
 bounds-falls-pixel c =
     let step = c.requires.steps.filled c.loop-pair.pair c.loop-pair-test.true in
     let w = step_within (length c.args.row.now) c.args.apart c.args.first c.loop-pair.pair
-        (get_or c.args.steps.now c.loop-pair.pair 0) c.loop-pair-test.true step c.requires.within in
+    (get_or c.args.steps.now c.loop-pair.pair 0) c.loop-pair-test.true step c.requires.within in
     omega (arith, w, c.requires.row.1)
 
 pub overflow_add-sum-in-loop-pair : goal.overflow_add-sum-in-loop-pair
@@ -20,7 +20,7 @@ overflow_add-sum-in-loop-pair c =
     let step = c.requires.steps.filled c.loop-pair.pair c.loop-pair-test.true in
     let at = (c.args.first + 8) / 16 + get_or c.args.steps.now c.loop-pair.pair 0 in
     let w = step_within (length c.args.row.now) c.args.apart c.args.first c.loop-pair.pair
-        (get_or c.args.steps.now c.loop-pair.pair 0) c.loop-pair-test.true step c.requires.within in
+    (get_or c.args.steps.now c.loop-pair.pair 0) c.loop-pair-test.true step c.requires.within in
     let most = c.requires.falls.within at w in
     omega (arith, most, c.loop-pair.invariant.2, c.loop-pair-test.true)
 
@@ -30,13 +30,14 @@ loop-pair-preserved c =
     let step = c.requires.steps.filled c.loop-pair.pair c.loop-pair-test.true in
     let at = (c.args.first + 8) / 16 + get_or c.args.steps.now c.loop-pair.pair 0 in
     let w = step_within (length c.args.row.now) c.args.apart c.args.first c.loop-pair.pair
-        (get_or c.args.steps.now c.loop-pair.pair 0) c.loop-pair-test.true step c.requires.within in
+    (get_or c.args.steps.now c.loop-pair.pair 0) c.loop-pair-test.true step c.requires.within in
     let most = c.requires.falls.within at w in
     let is = c.requires.falls.filled at w in
-    let more = sum_of_more c.loop-pair.pair (coarse_fall c.args.row.now c.args.apart c.args.first) in
-    (omega (arith, c.loop-pair-test.true),
-     ap₂ ◌+◌ i.1 (is ∙ ap (λ s. fall_at c.args.row.now ((c.args.first + 8) / 16 + s)) step) ∙ sym more,
-     omega (arith, most, i.2))
+    let more = sum_of_more c.loop-pair.pair (coarse_fall c.args.row.now c.args.apart c.args.first) in (
+      omega (arith, c.loop-pair-test.true),
+      ap₂ ◌+◌ i.1 (is ∙ ap (λ s. fall_at c.args.row.now ((c.args.first + 8) / 16 + s)) step) ∙ sym more,
+      omega (arith, most, i.2),
+    )
 
 pub returns : goal.returns
 unfolding coarse_sum

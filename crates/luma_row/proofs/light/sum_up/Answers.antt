@@ -1,4 +1,4 @@
-use Rattle.std.proofs.Common.{rules, ◌≡◌, ◌≤◌, get_or, length, subst, arith}
+use Rattle.std.proofs.Common.{rules, ◌≡◌, get_or, length, subst, arith}
 use Rattle.luma_row.specs.KeptLight.{AreSumsTo}
 use Rattle.luma_row.proofs.PixelByPixel.{no_pixel, one_more_pixel}
 use Rattle.luma_row.proofs.light.sum_up.Goals as goal

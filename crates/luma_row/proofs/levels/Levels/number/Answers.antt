@@ -1,5 +1,4 @@
-use Rattle.std.proofs.Common.{◌≡◌, ◌+◌, ◌*◌, ap, ap₂, sym, subst, ◌∙◌, arith}
-use Rattle.luma_row.specs.Levels.{last_bits}
+use Rattle.std.proofs.Common.{◌+◌, ◌*◌, ap, ap₂, sym, ◌∙◌, arith}
 use Rattle.luma_row.proofs.BitByBit.{last_bits_more, last_bits_none, twice_fits, width_fits}
 use Rattle.luma_row.proofs.levels.Levels.number.Goals as goal
 
@@ -18,7 +17,8 @@ overflow_add-bits c =
 
 pub loop-count-preserved : goal.loop-count-preserved
 loop-count-preserved c =
-    let i = c.loop-count.invariant in
-    (omega (arith, c.loop-count-test.true),
-     ap₂ ◌+◌ (ap (λ b. 2 * b) i.1) c.bit.ensures.bit ∙ sym (last_bits_more c.loop-count.count c.args.self.now),
-     twice_fits c.loop-count.count c.loop-count.bits c.bit.result c.loop-count-test.true i.2 c.bit.ensures.most)
+    let i = c.loop-count.invariant in (
+      omega (arith, c.loop-count-test.true),
+      ap₂ ◌+◌ (ap (λ b. 2 * b) i.1) c.bit.ensures.bit ∙ sym (last_bits_more c.loop-count.count c.args.self.now),
+      twice_fits c.loop-count.count c.loop-count.bits c.bit.result c.loop-count-test.true i.2 c.bit.ensures.most,
+    )

@@ -1,4 +1,4 @@
-use Rattle.std.proofs.Common.{rules, ◌≡◌, ◌*◌, ◌<◌, true, false, List, ℕ, ap, sym, subst, ◌∙◌, arith}
+use Rattle.std.proofs.Common.{rules, ◌≡◌, true, false, List, ℕ, ap, sym, subst, ◌∙◌, arith}
 use Rattle.luma_row.specs.Cells.{cells_of, counts, swing}
 use Rattle.luma_row.specs.Heights.{heights_of}
 use Rattle.luma_row.specs.Row.{LiesAt}
@@ -9,7 +9,7 @@ use Rattle.luma_row.proofs.row.RowReader.read.Goals as goal
 pub returns-then-coarse-clause-none : goal.returns-then-coarse-clause-none
 returns-then-coarse-clause-none c = λ code is.
     let same = one_coarse c.args.row.now c.best_coarse-coarse.result.sum is.lies.sum c.best_coarse-coarse.result.place
-        is.lies.coarse c.best_coarse-coarse.ensures.coarse is.lies.is_coarse in
+    is.lies.coarse c.best_coarse-coarse.ensures.coarse is.lies.is_coarse in
     let more = is.lies.falls in
     omega (arith, same.0, more, c.if-coarse.true)
 
