@@ -4,6 +4,9 @@ pub mod ChaseRun
 pub mod LineStripe
 pub mod LoadRun
 pub mod Pace
+pub mod PathGrid
+pub mod PathSlicing
 pub mod Slicing
 pub mod SoundLevel
+pub mod WavePath
 pub mod WaveSlicing

@@ -4,9 +4,11 @@ use crate::flight::Flight;
 use crate::jam::Jam;
 use crate::line_stripe::LineStripe;
 use crate::load_run::LoadRun;
+use crate::path_slicing::PathSlicing;
 use crate::slicing::Slicing;
 use crate::sound_level::SoundLevel;
 use crate::stripe::Stripe;
+use crate::wave_path::WavePath;
 use crate::wave_slicing::WaveSlicing;
 use crate::witness::Witness;
 use interval_file::FileVersion;
@@ -59,9 +61,13 @@ pub enum Job {
     /// `pcm-ltc SYSTEM RATE THRESHOLD [FINENESS [follow|deep [SMOOTH]]]`: reads samples of sound, and writes
     /// an interval file of the distances of their crossings.
     PcmLtc { slicing: Slicing },
+    /// `pcm-ltc SYSTEM RATE THRESHOLD FINENESS path`: the same of the cells of the best path through the sound.
+    PcmPath { path: PathSlicing },
     /// `wav-ltc SYSTEM TRACK THRESHOLD [SMOOTH [deep]]`: reads a sound file, and writes an interval file of
     /// the distances of the crossings of a track.
     WavLtc { slicing: WaveSlicing },
+    /// `wav-ltc SYSTEM TRACK THRESHOLD path`: the same of the cells of the best path through the track.
+    WavPath { path: WavePath },
     /// `ltc-pcm LEVEL`: reads an interval file, and writes it as samples of sound.
     LtcPcm { level: SoundLevel },
     /// `vitc-read`: reads a line file, and writes a line for each field.
