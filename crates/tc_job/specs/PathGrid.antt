@@ -3,6 +3,7 @@ use Rattle.std.specs.Prelude.{ℕ, ◌*◌, ◌/◌, ◌%◌, ◌==◌, nat_le, 
 use Rattle.std.specs.Prelude.{if◌then◌else◌}
 use Rattle.path_front.specs.declared.grid.Grid.{Grid}
 use Rattle.path_front.specs.declared.grid.Grid.TheVariants.{Repeat, Sum}
+use Rattle.path_front.specs.declared.tile.TheConstants.{MAX_TICKS}
 use Rattle.tc_address.specs.declared.system.System.{System}
 use Rattle.tc_address.specs.Count.{rate_of}
 
@@ -30,8 +31,8 @@ first_fit system rate (grid ∷ more) = if is_fit system rate grid then Some gri
 abbrev pub grid_for : System → ℕ → Option Grid
 grid_for system rate = first_fit system rate grids
 
--- a step has a whole number of ticks, two at least, where a sample has so many
+-- a step has a whole number of ticks, two at least and not too many, where a sample has so many
 abbrev pub step_ticks : ℕ → Grid → Option ℕ
 step_ticks fineness (Repeat repeats) =
     if (fineness % repeats == 0) && nat_le 2 (fineness / repeats) then Some (fineness / repeats) else None
-step_ticks fineness (Sum summed) = Some (fineness * summed)
+step_ticks fineness (Sum summed) = if nat_le (fineness * summed) MAX_TICKS then Some (fineness * summed) else None

@@ -6,7 +6,7 @@ ghost use Rattle.tc_job.specs.PathGrid.{grid_for, is_fit, step_ticks, steps_of_c
 ghost use Rattle.tc_job.specs.declared.slicing.TheConstants.{MAX_FINENESS};
 
 use limits::MAX_TICK_RATE;
-use path_front::Grid;
+use path_front::{Grid, MAX_TICKS};
 use tc_address::{System, rate};
 
 /// The grids that are tried, those with the most steps for a sample first.
@@ -66,13 +66,13 @@ pub fn grid_for(system: System, samples: u32) -> Option<Grid>
 }
 
 /// How many ticks a step has, where a sample has so many. There is none where it would have no whole number
-/// of them, or only one.
+/// of them, only one, or more than `MAX_TICKS`.
 pub fn step_ticks(fineness: u32, grid: Grid) -> Option<u32>
     requires least { 1 ≤ fineness }
     requires most { fineness ≤ MAX_FINENESS }
     requires grid { IsGrid grid }
     ensures value { result ≡ step_ticks fineness grid }
-    ensures least { IfSome result (λ ticks. 2 ≤ ticks) }
+    ensures range { IfSome result (λ ticks. (2 ≤ ticks) × (ticks ≤ 2 ^ 16)) }
 {
     match grid {
         Grid::Repeat(repeats) => {
@@ -82,6 +82,9 @@ pub fn step_ticks(fineness: u32, grid: Grid) -> Option<u32>
                 None
             }
         }
-        Grid::Sum(summed) => Some(fineness * summed),
+        Grid::Sum(summed) => {
+            let ticks = fineness * summed;
+            if ticks <= MAX_TICKS { Some(ticks) } else { None }
+        }
     }
 }
