@@ -89,7 +89,7 @@ abbrev IntervalsComeFirst : Type 0
 IntervalsComeFirst = (pace : Pace) (settings : Settings) (front more : List ℤ) → IsPace pace
     → (rest : List ℕ) × (intervals_at pace settings (front ++ more) ≡ intervals_at pace settings front ++ rest)
 
-samples_first : (front more : List ℕ) → (rest : List ℤ) × (samples_of (front ++ more) ≡ samples_of front ++ rest)
+pub samples_first : (front more : List ℕ) → (rest : List ℤ) × (samples_of (front ++ more) ≡ samples_of front ++ rest)
 unfolding samples_of
 samples_first [] more = (samples_of more, refl)
 samples_first (low ∷ []) more = (samples_of (low ∷ more), refl)

@@ -4,6 +4,8 @@ mod FieldsGrow
 mod MidiGrows
 mod MidiLimit
 mod NothingYet
+mod PathIsCommand
+mod PathOn
 mod PutMore
 mod SlicedOn
 mod SlicedTracks
