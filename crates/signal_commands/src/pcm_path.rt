@@ -1,18 +1,22 @@
 //! The engine of `pcm-ltc .. path`: an interval file of the cells of the best path through a sound. Next:
 //! `path_front/src/front.rt`, and then `tc_command/src/gathered.rt`.
-ghost use Rattle.std.specs.Prelude.{◌≡◌, ◌+◌, ◌*◌, ◌<◌, ◌≤◌, ◌++◌, [], ◌∷◌, length, take, OnOk, IfOk, IfErr, Err, List, ℕ};
+ghost use Rattle.std.specs.Prelude.{◌≡◌, ◌+◌, ◌<◌, ◌++◌, [], OnErr, OnOk, IfErr, Err, List, ℕ, ℤ};
 ghost use Rattle.std.specs.Io.KnownBytes.{Appends};
 ghost use Rattle.tc_command.specs.Causes.{HasOutCause};
 ghost use Rattle.tc_command.specs.Stops.{Stops};
 ghost use Rattle.tc_command.specs.Told.{WorksAsTold};
-ghost use Rattle.signal_commands.specs.KeptPath.{Hears, IsGoing, Stands};
+ghost use Rattle.path_front.specs.Front.{FrontStandsFor, GoesOn, IsFrontSettled};
+ghost use Rattle.signal_commands.specs.KeptPath.{HasFailed, HasGatheredAll, Hears, IsGoing, Stands};
 ghost use Rattle.signal_commands.specs.PcmPath.{along_path, told_pcm_path};
 ghost use Rattle.signal_commands.specs.declared.pcm_ltc.TheConstants.{MAX_SAMPLES};
 
+use crate::laws::each_signal_makes_a_command;
 use crate::pcm_ltc::MAX_SAMPLES;
 use crate::stopping::push_before;
+use byteorder::{ByteOrder, LittleEndian};
 use interval_file::{FileVersion, IntervalHeader, four_bytes, interval_header};
 use path_front::Front;
+use path_front::laws::what_is_given_comes_first;
 use tc_command::{Engine, Gathered, InputFault, Stop, work};
 use tc_io::{Sink, Source};
 use tc_job::PathSlicing;
@@ -26,6 +30,7 @@ pub fn hear_path<S: Source, K: Sink>(
     ensures { WorksAsTold (told_pcm_path path.now) S.left S.ends S.faults K.written K.faults source.old source.new
         out.old out.new result }
 {
+    each_signal_makes_a_command();
     work(&mut PathSound::new(path), source, out)
 }
 
@@ -64,8 +69,17 @@ impl PathSound {
 
     /// Gathers all intervals that the front has.
     fn gather<K: Sink>(&mut self, out: &mut K) -> Result<(), Stop>
+        ensures all { OnOk result ((samples : List ℤ) (given : List ℕ) → FrontStandsFor self.old.front samples given
+            → HasGatheredAll self.old self.new (K.written out.old) (K.written out.new) samples given) }
+        ensures failed { OnErr result ((samples : List ℤ) (given : List ℕ) → FrontStandsFor self.old.front samples given
+            → HasFailed self.old self.new (K.written out.old) (K.written out.new) samples given) }
+        ensures why { IfErr result (λ stop. stop ≡ Stop.WriteFault) }
+        ensures settled { OnOk result (IsFrontSettled self.new.front) }
+        ensures goes { GoesOn self.old.front self.new.front }
+        ensures path { self.new.path ≡ self.old.path }
+        ensures samples { self.new.samples ≡ self.old.samples }
+        ensures half { self.new.half ≡ self.old.half }
         ensures cause { HasOutCause (K.faults out.old) (K.faults out.new) result }
-        ensures no_pull { result ≡ Err Stop.ReadFault → ⊥ }
     {
         'due: while let Some(interval) = self.front.next() {
             self.gathered.put(&four_bytes(interval), out)?;
@@ -73,24 +87,31 @@ impl PathSound {
         Ok(())
     }
 
-    /// Takes one sample.
-    fn hear<K: Sink>(&mut self, sample: i16, out: &mut K) -> Result<(), Stop>
+    /// Takes the sample of two bytes.
+    fn hear<K: Sink>(&mut self, pair: [u8; 2], out: &mut K) -> Result<(), Stop>
         requires going { IsGoing self.old }
         requires room { self.old.samples < MAX_SAMPLES }
         ensures going { OnOk result (IsGoing self.new) }
         ensures samples { OnOk result (self.new.samples ≡ self.old.samples + 1) }
         ensures path { self.new.path ≡ self.old.path }
         ensures half { self.new.half ≡ self.old.half }
+        ensures works { OnOk result ((whole written : List ℕ) → Hears self.old whole written
+            → (more : List ℕ) × Appends (K.written out.old) (K.written out.new) more
+            × Hears self.new (whole ++ pair) (written ++ more)) }
+        ensures stops { IfErr result (λ stop. (whole written rest : List ℕ) → Hears self.old whole written
+            → Stops (along_path self.old.path) stop (K.written out.old) (K.written out.new)
+            (whole ++ (pair ++ rest)) written) }
         ensures cause { HasOutCause (K.faults out.old) (K.faults out.new) result }
         ensures no_pull { result ≡ Err Stop.ReadFault → ⊥ }
     {
-        self.front.feed(sample);
+        what_is_given_comes_first();
+        self.front.feed(LittleEndian::read_i16(&pair));
         self.samples += 1;
         self.gather(out)
     }
 
-    /// Takes the sample of two bytes, where one more may come.
-    fn hear_pair<K: Sink>(&mut self, low: u8, high: u8, out: &mut K) -> Result<(), Stop>
+    /// The same, where one more may come.
+    fn hear_within<K: Sink>(&mut self, pair: [u8; 2], out: &mut K) -> Result<(), Stop>
         requires going { IsGoing self.old }
         ensures going { OnOk result (IsGoing self.new) }
         ensures samples { OnOk result (self.new.samples ≡ self.old.samples + 1) }
@@ -98,25 +119,24 @@ impl PathSound {
         ensures half { self.new.half ≡ self.old.half }
         ensures works { OnOk result ((whole written : List ℕ) → Hears self.old whole written
             → (more : List ℕ) × Appends (K.written out.old) (K.written out.new) more
-            × Hears self.new (whole ++ low ∷ high ∷ []) (written ++ more)) }
+            × Hears self.new (whole ++ pair) (written ++ more)) }
         ensures stops { IfErr result (λ stop. (whole written rest : List ℕ) → Hears self.old whole written
             → Stops (along_path self.old.path) stop (K.written out.old) (K.written out.new)
-            (whole ++ low ∷ high ∷ rest) written) }
+            (whole ++ (pair ++ rest)) written) }
         ensures cause { HasOutCause (K.faults out.old) (K.faults out.new) result }
         ensures no_pull { result ≡ Err Stop.ReadFault → ⊥ }
     {
         if self.samples == MAX_SAMPLES {
             return Err(push_before(Stop::Limit, &mut self.gathered, out));
         }
-        self.hear(i16::from_le_bytes([low, high]), out)
+        self.hear(pair, out)
     }
 }
 
 impl Engine for PathSound {
     ghost use Rattle.std.specs.Prelude.{◌-◌, ◌+◌, ◌*◌, ◌≡◌, [], length};
     ghost use Rattle.std.specs.Option.{option_to_list};
-    ghost use Rattle.signal_commands.specs.KeptPath.{IsGoing, Stands};
-    ghost use Rattle.signal_commands.specs.PathStands.{stands_well};
+    ghost use Rattle.signal_commands.specs.KeptPath.{IsGoing, Stands, stands_well};
     ghost use Rattle.signal_commands.specs.PcmPath.{along_path};
     ghost use Rattle.signal_commands.specs.declared.pcm_ltc.TheConstants.{MAX_SAMPLES};
 
@@ -138,7 +158,7 @@ impl Engine for PathSound {
 
     fn take<K: Sink>(&mut self, bytes: &[u8], out: &mut K) -> Result<usize, Stop> {
         if let Some(low) = self.half {
-            self.hear_pair(low, bytes[0], out)?;
+            self.hear_within([low, bytes[0]], out)?;
             self.half = None;
             return Ok(1);
         }
@@ -146,7 +166,7 @@ impl Engine for PathSound {
             self.half = Some(bytes[0]);
             return Ok(1);
         }
-        self.hear_pair(bytes[0], bytes[1], out)?;
+        self.hear_within([bytes[0], bytes[1]], out)?;
         Ok(2)
     }
 
@@ -158,6 +178,7 @@ impl Engine for PathSound {
         if self.half.is_some() {
             return Err(Stop::Refused(InputFault::HalfSample(2 * self.samples + 1)));
         }
+        what_is_given_comes_first();
         self.front.finish();
         self.gather(out)?;
         self.gathered.push(out)

@@ -8,5 +8,4 @@ pub mod PathGrid
 pub mod PathSlicing
 pub mod Slicing
 pub mod SoundLevel
-pub mod WavePath
 pub mod WaveSlicing

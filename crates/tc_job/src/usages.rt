@@ -15,7 +15,7 @@ pub const USAGES: [(&str, &str); 22] = [
         "pcm-ltc",
         " SYSTEM RATE THRESHOLD [FINENESS [path|follow|deep [SMOOTH]]] [live]",
     ),
-    ("wav-ltc", " SYSTEM TRACK THRESHOLD [path|SMOOTH [deep]] [live]"),
+    ("wav-ltc", " SYSTEM TRACK THRESHOLD [SMOOTH [deep]] [live]"),
     ("ltc-pcm", " LEVEL"),
     (
         "ltc-make",

@@ -1,22 +1,32 @@
-//! The values of `pcm-ltc` and `wav-ltc` with `path`, word by word. Next: `tc_job/src/path_slicing.rt`, which holds them.
-ghost use Rattle.std.specs.Prelude.{◌≡◌, ◌≤◌, ◌*◌, ◌^◌, Some, IfSome, map};
+//! The values of `pcm-ltc` with `path`, word by word. Next: `tc_job/src/path_slicing.rt`, which holds them.
+ghost use Rattle.std.specs.Prelude.{◌≡◌, ◌≤◌, ◌*◌, ◌^◌, Some, IfSome, codes, map};
+ghost use Rattle.std.specs.Str.{bytes_eq};
 ghost use Rattle.path_front.specs.Grid.{IsGrid};
 ghost use Rattle.tc_job.specs.PathGrid.{grid_for, step_ticks};
-ghost use Rattle.tc_words.specs.PcmPath.{fineness_with_ticks, is_path, path_of_samples, path_of_track, rate_with_grid};
+ghost use Rattle.tc_words.specs.PcmPath.{fineness_with_ticks, is_path, path_of_samples, rate_with_grid};
 
 use crate::pcm_ltc::fineness_in;
 use crate::values::{between, system_in, word_at};
-use limits::{MAX_TICK_RATE, MAX_TRACKS};
+use limits::MAX_TICK_RATE;
 use path_front::Grid;
 use tc_address::System;
-use tc_job::{Job, MAX_FINENESS, MAX_LEVEL, PathSlicing, WavePath, WordsFault, grid_for, step_ticks};
+use tc_job::{Job, MAX_FINENESS, MAX_LEVEL, PathSlicing, WordsFault, grid_for, step_ticks};
 
-/// Whether the word in this place behind the first three is `path`.
-pub(crate) fn is_path(place: usize, more: &[&str]) -> bool
-    ensures { result ≡ is_path place (map (λ v. v.now) more.now) }
+/// Whether the word behind FINENESS is `path`.
+pub(crate) fn is_path(more: &[&str]) -> bool
+    ensures { result ≡ is_path (map (λ v. v.now) more.now) }
 {
-    match word_at(more, place) {
-        Some("path") => true,
+    match more {
+        [_, word, ..] => is_the_word(word),
+        _ => false,
+    }
+}
+
+fn is_the_word(word: &str) -> bool
+    ensures { result ≡ bytes_eq word.now (codes "path") }
+{
+    match word {
+        "path" => true,
         _ => false,
     }
 }
@@ -78,31 +88,4 @@ fn fineness_with_ticks(rate: u32, grid: Grid, word: &str) -> Option<(u32, u32)>
     let fineness = fineness_in(rate, word)?;
     let ticks = step_ticks(fineness, grid)?;
     Some((fineness, ticks))
-}
-
-/// The job of three words and `path` behind them.
-#[tactic(auto, unfolding(crate::specs::PcmPath::path_of_track))]
-pub(crate) fn path_of_track(
-    system: &str,
-    track: &str,
-    threshold: &str,
-    more: &[&str],
-) -> Result<Job, WordsFault>
-    ensures { result ≡ path_of_track system.now track.now threshold.now (map (λ v. v.now) more.now) }
-{
-    let Some(system) = system_in(system) else {
-        return Err(WordsFault::Value(1));
-    };
-    let Some(track) = between(1, MAX_TRACKS, track) else {
-        return Err(WordsFault::Value(2));
-    };
-    let Some(least) = between(1, MAX_LEVEL, threshold) else {
-        return Err(WordsFault::Value(3));
-    };
-    if more.len() > 1 {
-        return Err(WordsFault::Value(5));
-    }
-    Ok(Job::WavPath {
-        path: WavePath::new(system, track, least),
-    })
 }

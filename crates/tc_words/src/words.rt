@@ -18,7 +18,7 @@ use crate::live::without_live;
 use crate::ltc_chase::chased;
 use crate::ltc_make::striped;
 use crate::pcm_ltc::sliced;
-use crate::pcm_path::{is_path, path_of_samples, path_of_track};
+use crate::pcm_path::{is_path, path_of_samples};
 use crate::values::{
     between, count_in, limit_in, number_spelled, numbered, spelled, tolerance_or_normal,
     version_in, witness_or_none, word_at,
@@ -288,14 +288,14 @@ fn pcm_ltc(values: &[&str]) -> Result<Job, WordsFault>
     if more.len() > 4 {
         return Err(WordsFault::CountOfWords);
     }
-    if is_path(1, more) {
+    if is_path(more) {
         return path_of_samples(system, rate, threshold, more);
     }
     let (more, live) = without_live(more);
     sliced(system, rate, threshold, more, live)
 }
 
-// `wav-ltc SYSTEM TRACK THRESHOLD [SMOOTH [deep]] [live]`, or `path` behind THRESHOLD
+// `wav-ltc SYSTEM TRACK THRESHOLD [SMOOTH [deep]] [live]`
 #[tactic(auto, unfolding(crate::specs::Words::wav_ltc))]
 fn wav_ltc(values: &[&str]) -> Result<Job, WordsFault>
     ensures { result ≡ wav_ltc (map (λ v. v.now) values.now) }
@@ -305,9 +305,6 @@ fn wav_ltc(values: &[&str]) -> Result<Job, WordsFault>
     };
     if more.len() > 3 {
         return Err(WordsFault::CountOfWords);
-    }
-    if is_path(0, more) {
-        return path_of_track(system, track, threshold, more);
     }
     let (more, live) = without_live(more);
     sliced_track(system, track, threshold, more, live)
