@@ -42,7 +42,7 @@ use Rattle.signal_commands.proofs.PutMore.{none_begun}
 pub never_refused : (most : ℕ) (bytes : List ℕ) (f : InputFault) → ¬ (samples_within most bytes ≡ refused f)
 never_refused most bytes f e = not_refused (nat_lt most (length (samples_of bytes))) f e
 
-is_past : (most : ℕ) (bytes : List ℕ) → most < length (samples_of bytes) → samples_within most bytes ≡ past_limit
+pub is_past : (most : ℕ) (bytes : List ℕ) → most < length (samples_of bytes) → samples_within most bytes ≡ past_limit
 is_past most bytes more = ap verdict_by (lt-ltb most (length (samples_of bytes)) more)
 
 -- more bytes have no fewer samples
@@ -59,7 +59,7 @@ past_within most front rest e =
     is_past most (front ++ rest) (omega (arith, more, no_fewer front rest))
 
 -- two bytes are a sample
-some_samples : (bytes : List ℕ) → 2 ≤ length bytes → 1 ≤ length (samples_of bytes)
+pub some_samples : (bytes : List ℕ) → 2 ≤ length bytes → 1 ≤ length (samples_of bytes)
 unfolding samples_of
 some_samples [] some = absurd (omega (arith, some))
 some_samples (low ∷ []) some = absurd (omega (arith, some))
