@@ -84,7 +84,11 @@ pub fn step_ticks(fineness: u32, grid: Grid) -> Option<u32>
         }
         Grid::Sum(summed) => {
             let ticks = fineness * summed;
-            if ticks <= MAX_TICKS { Some(ticks) } else { None }
+            if ticks <= MAX_TICKS {
+                Some(ticks)
+            } else {
+                None
+            }
         }
     }
 }
