@@ -11,6 +11,7 @@ use Rattle.std.specs.Option.{option_to_list}
 use Rattle.interval_file.specs.declared.header.FileVersion.TheVariants.{One}
 use Rattle.interval_file.specs.FileLemmas.{file_first}
 use Rattle.interval_file.specs.Grammar.{file_of, intervals_bytes}
+use Rattle.interval_file.specs.IntervalHeader.{header_bytes}
 use Rattle.interval_file.specs.Piece.{spelling}
 use Rattle.path_front.specs.declared.grid.Grid.{Grid}
 use Rattle.path_front.specs.declared.judging.Phase.{Phase}
@@ -85,11 +86,26 @@ one_failed old now next a b c samples given interval g stand front = record {
       (one_more_spelled g.more interval);
 }
 
+-- the front goes on
+pub goes_on : (a b c : FrontState) → GoesOn a b → GoesOn b c → GoesOn a c
+goes_on a b c first second = record {
+  same = record {
+    grid = second.same.grid ∙ first.same.grid;
+    least = second.same.least ∙ first.same.least;
+    count = second.same.count ∙ first.same.count;
+  };
+  ticks = second.ticks ∙ first.ticks;
+  sound = λ sound. second.sound (first.sound sound);
+  ended = λ sound. first.ended (second.ended sound);
+}
+
 -- ---- the file
 
 longer_file : (p : SlicesPath) (given more : List ℕ)
     → file_of (path_header p) given ++ intervals_bytes One more ≡ file_of (path_header p) (given ++ more)
-longer_file p given more = sym (file_first (path_header p) given more).1
+longer_file p given more =
+    append_assoc (header_bytes (path_header p)) (intervals_bytes One given) (intervals_bytes One more)
+    ∙ ap (λ l. header_bytes (path_header p) ++ l) (sym (flat_map-append (spelling One) given more))
 
 -- what was pushed and what is gathered, behind what was written before
 pub grown_file : (p : SlicesPath) (written first room : List ℕ) (given more pushed : List ℕ)

@@ -1,4 +1,4 @@
-use Rattle.std.proofs.Common.{◌++◌, [], ◌∷◌, List, ℕ, Some, None, drop, get_or, take, ap, subst}
+use Rattle.std.proofs.Common.{◌≤◌, length, arith, ◌++◌, [], ◌∷◌, List, ℕ, Some, None, drop, get_or, take, ap, subst}
 use Rattle.std.proofs.Common.{sym, ◌∙◌, append-nil, refl}
 use Rattle.std.proofs.KnownBytes.{Appends-nil}
 use Rattle.std.proofs.lemmas.List.{take_all}
@@ -31,14 +31,12 @@ returns-in-Some-clause-works g c = λ front written stands.
     let bytes = c.args.bytes.now in
     let low = c.in-Some.low in
     let pair = low ∷ get_or bytes 0 0 ∷ [] in
-    let w = c.in_ok-hear_within.ensures.works stands.whole written stands.hears in
-    let both = take_all c.in_ok-hear_within.field-0 pair c.in_ok-hear_within.ensures.count.0 in (
+    let w = c.in_ok-hear_within.ensures.works stands.whole written stands.hears in (
       w.0,
       w.1,
       record {
         whole = stands.whole ++ pair;
-        hears = any_half c.hear_within.new.self None (stands.whole ++ pair) (written ++ w.0)
-            (subst (λ (b : List ℕ). Hears c.hear_within.new.self (stands.whole ++ b) (written ++ w.0)) both w.2);
+        hears = any_half c.hear_within.new.self None (stands.whole ++ pair) (written ++ w.0) w.2;
         are = half_then front stands.whole bytes s.half low stands.are c.in-Some.is c.requires.some;
       },
     )
@@ -46,8 +44,8 @@ returns-in-Some-clause-works g c = λ front written stands.
 pub returns-in-Some-clause-budget : goal.returns-in-Some-clause-budget
 returns-in-Some-clause-budget g c =
     let e = c.in_ok-hear_within.ensures in
-    falls c.args.self.now.samples c.hear_within.new.self.samples c.in_ok-hear_within.field-0 c.args.self.now.half None refl
-    e.count.0 e.samples e.going.within
+    falls c.args.self.now.samples c.hear_within.new.self.samples 2 c.args.self.now.half None refl
+    (omega arith) (omega (arith, e.samples)) e.going.words.within
 
 -- the only byte begins one
 pub returns-then-bytes-eq1-clause-works : goal.returns-then-bytes-eq1-clause-works
@@ -69,39 +67,44 @@ returns-then-bytes-eq1-clause-works g c = λ front written stands.
 pub returns-then-bytes-eq1-clause-budget : goal.returns-then-bytes-eq1-clause-budget
 returns-then-bytes-eq1-clause-budget g c =
     falls_by_half c.args.self.now.samples c.args.self.now.half (get_or c.args.bytes.now 0 0) c.in_default.is
-    c.requires.going.within
+    c.requires.going.words.within
 
--- whole samples stand first
-pub returns-clause-budget : goal.returns-clause-budget
-returns-clause-budget g c =
-    let e = c.hear_within-2.ensures in
-    with_three c.hear_within-2.result e.going e.count e.samples (λ going count within samples.
-    falls c.args.self.now.samples c.hear_within-2.new.self.samples count c.args.self.now.half c.hear_within-2.new.self.half
-    (e.half ∙ c.in_default.is) within.0 samples going.within)
-
-pub returns-clause-stops : goal.returns-clause-stops
-returns-clause-stops g c =
+-- two bytes stand first
+pub returns-in_err-hear_within-2-clause-stops : goal.returns-in_err-hear_within-2-clause-stops
+returns-in_err-hear_within-2-clause-stops g c =
     let s = c.args.self.now in
     let bytes = c.args.bytes.now in
-    err_to c.hear_within-2.result c.hear_within-2.ensures.stops (λ stop stopped front written stands.
+    let some : 2 ≤ length bytes = omega (arith, c.requires.some, c.if-bytes-eq1.false) in
+    through c.from_residual-in_err-hear_within-2.result c.from_residual-in_err-hear_within-2.ensures.1
+    (λ stop same front written stands.
     subst (λ (b : List ℕ). Stops (along_path s.path) stop (g.K.Sink.written c.args.out.now) (g.K.Sink.written c.hear_within-2.new.out) b written)
-    (ap (λ (l : List ℕ). stands.whole ++ l) (append-nil bytes)
+    (ap (λ (l : List ℕ). stands.whole ++ l) (first_two bytes some)
     ∙ ap (λ (l : List ℕ). l ++ bytes) (sym (no_half front stands.whole s.half stands.are c.in_default.is)))
-    (stopped stands.whole written [] stands.hears))
+    (rw same (c.in_err-hear_within-2.ensures.stops stands.whole written (drop 2 bytes) stands.hears)))
 
 pub returns-clause-works : goal.returns-clause-works
-returns-clause-works g c =
+returns-clause-works g c = λ front written stands.
     let s = c.args.self.now in
     let bytes = c.args.bytes.now in
-    ok_to c.hear_within-2.result c.hear_within-2.ensures.works (λ count works front written stands.
-    let w = works stands.whole written stands.hears in
-    let all = stands.whole ++ take count bytes in (
+    let e = c.in_ok-hear_within-2.ensures in
+    let some : 2 ≤ length bytes = omega (arith, c.requires.some, c.if-bytes-eq1.false) in
+    let pair = get_or bytes 0 0 ∷ get_or bytes 1 0 ∷ [] in
+    let all = stands.whole ++ pair in
+    let w = e.works stands.whole written stands.hears in (
       w.0,
       w.1,
       record {
         whole = all;
         hears = w.2;
-        are = ap (λ (l : List ℕ). l ++ take count bytes) (no_half front stands.whole s.half stands.are c.in_default.is)
-            ∙ sym (append-nil all) ∙ ap (λ (h : Option ℕ). all ++ option_to_list h) (sym (c.hear_within-2.ensures.half ∙ c.in_default.is));
+        are = ap (λ (l : List ℕ). front ++ l) (sym (only_two bytes some))
+            ∙ ap (λ (l : List ℕ). l ++ pair) (no_half front stands.whole s.half stands.are c.in_default.is)
+            ∙ sym (append-nil all)
+            ∙ ap (λ (h : Option ℕ). all ++ option_to_list h) (sym (e.half ∙ c.in_default.is));
       },
-    ))
+    )
+
+pub returns-clause-budget : goal.returns-clause-budget
+returns-clause-budget g c =
+    let e = c.in_ok-hear_within-2.ensures in
+    falls c.args.self.now.samples c.hear_within-2.new.self.samples 2 c.args.self.now.half c.hear_within-2.new.self.half
+    (e.half ∙ c.in_default.is) (omega arith) (omega (arith, e.samples)) e.going.words.within
