@@ -1,7 +1,9 @@
 -- The file of a best path grows by the intervals that more samples bring.
 use Rattle.std.proofs.Common.{◌≡◌, ℕ, ◌+◌, ◌*◌, ◌<◌, ◌≤◌, ℤ, inl, List, [], ◌∷◌, ◌++◌, length, reverse, take, drop}
 use Rattle.std.proofs.Common.{get_or}
+use Rattle.std.specs.Prelude.{OnOk, Ok, Err}
 use Rattle.std.specs.declared.option.Option.{Option}
+use Rattle.std.specs.declared.result.Result.{Result}
 use Rattle.std.proofs.Common.{refl, ap, subst, sym, ◌∙◌, append_assoc, append-nil, arith}
 use Rattle.std.proofs.KnownBytes.{Appends-trans}
 use Rattle.std.proofs.lemmas.Grind.{flat_map-append}
@@ -85,6 +87,11 @@ one_failed old now next a b c samples given interval g stand front = record {
       (spelling One interval) (intervals_bytes One (g.more ++ interval ∷ [])) g.put front
       (one_more_spelled g.more interval);
 }
+
+-- what follows of what is right
+pub on_ok : {A B : Type 0} (result : Result (Unit {0}) Stop) → OnOk result A → (A → B) → OnOk result B
+on_ok (Ok done) says to = to says
+on_ok (Err stop) says to = tt
 
 -- the front goes on
 pub goes_on : (a b c : FrontState) → GoesOn a b → GoesOn b c → GoesOn a c

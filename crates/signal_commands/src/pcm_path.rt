@@ -16,7 +16,7 @@ use crate::stopping::push_before;
 use byteorder::{ByteOrder, LittleEndian};
 use interval_file::{FileVersion, IntervalHeader, four_bytes, interval_header};
 use path_front::Front;
-use path_front::laws::what_is_given_comes_first;
+use path_front::laws::{what_is_given_comes_first, what_samples_bring_so_far_comes_first};
 use tc_command::{Engine, Gathered, InputFault, Stop, work};
 use tc_io::{Sink, Source};
 use tc_job::PathSlicing;
@@ -105,6 +105,7 @@ impl PathSound {
         ensures no_pull { result ≡ Err Stop.ReadFault → ⊥ }
     {
         what_is_given_comes_first();
+        what_samples_bring_so_far_comes_first();
         self.front.feed(LittleEndian::read_i16(&pair));
         self.samples += 1;
         self.gather(out)
