@@ -6,10 +6,11 @@ use Rattle.tc_command.specs.KeptWorks.{err_both, if_err}
 use Rattle.tc_job.specs.PathSlicing.{SlicesPath}
 use Rattle.signal_commands.specs.KeptPath.{Hears, IsOfWords}
 use Rattle.signal_commands.proofs.PathOn.{hear_fails, hear_works, on_ok}
+use Rattle.signal_commands.proofs.pcm_path.PathSound.hear.Given.{Over}
 use Rattle.signal_commands.proofs.pcm_path.PathSound.hear.Goals as goal
 
 -- the front counts the sample
-words : (g : goal.Over) (c : goal.After-gather g) → IsOfWords c.gather.new.self
+words : (g : Over) (c : goal.After-gather g) → IsOfWords c.gather.new.self
 words g c =
     let going = c.requires.going.words in
     let e = c.gather.ensures in
