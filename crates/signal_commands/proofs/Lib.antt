@@ -4,6 +4,7 @@ mod FieldsGrow
 mod MidiGrows
 mod MidiLimit
 mod NothingYet
+mod PathEnds
 mod PathIsCommand
 mod PathOn
 mod PutMore

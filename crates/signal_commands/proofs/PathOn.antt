@@ -152,7 +152,7 @@ latest_sample count whole pair long two =
     ap reverse (samples_of-append count whole pair long ∙ ap (λ l. samples_of whole ++ l) (one_sample pair two))
     ∙ reverse-append (samples_of whole) (sample_in pair ∷ [])
 
-so_far_by : (grid other : Grid) (ticks more least most : ℕ) (samples : List ℤ) (intervals : List ℕ) → grid ≡ other
+pub so_far_by : (grid other : Grid) (ticks more least most : ℕ) (samples : List ℤ) (intervals : List ℕ) → grid ≡ other
     → ticks ≡ more → least ≡ most → AreIntervalsSoFar grid ticks least samples intervals
     → AreIntervalsSoFar other more most samples intervals
 so_far_by grid other ticks more least most samples intervals g t l are =
@@ -160,7 +160,7 @@ so_far_by grid other ticks more least most samples intervals g t l are =
     (subst (λ x. AreIntervalsSoFar grid x most samples intervals) t
     (subst (λ x. AreIntervalsSoFar grid ticks x samples intervals) l are))
 
-whole_by : (grid other : Grid) (ticks more least most : ℕ) (samples : List ℤ) (intervals : List ℕ) → grid ≡ other
+pub whole_by : (grid other : Grid) (ticks more least most : ℕ) (samples : List ℤ) (intervals : List ℕ) → grid ≡ other
     → ticks ≡ more → least ≡ most → AreIntervals grid ticks least samples intervals
     → AreIntervals other more most samples intervals
 whole_by grid other ticks more least most samples intervals g t l are =
@@ -337,57 +337,3 @@ pub length-bytes : (s : PathSound) (bytes written : List ℕ) → Stands s bytes
 length-bytes s bytes written stands =
     ap length stands.are ∙ length-append stands.whole (option_to_list s.half)
     ∙ ap (λ (n : ℕ). n + length (option_to_list s.half)) stands.hears.count
-
--- ---- the end
-
-drained_by : (state : FrontState) (phase : Phase) → state.judging.phase ≡ phase
-    → (state.judging.phase ≡ Sound → ⊥) → IsSettled phase state.judging → state.judging.phase ≡ Drain
-drained_by state Sound is ended settled = absurd (ended is)
-drained_by state Rest is ended settled = absurd settled
-drained_by state Drain is ended settled = is
-
--- a sound that has ended, and of which nothing is left, has given all
-pub has_drained : (state : FrontState) → (state.judging.phase ≡ Sound → ⊥) → IsFrontSettled state
-    → state.judging.phase ≡ Drain
-has_drained state ended settled = drained_by state state.judging.phase refl ended settled.0
-
-abbrev pub GivenFirstAtEnd : Type 0
-GivenFirstAtEnd = (state : FrontState) (samples : List ℤ) (given intervals : List ℕ)
-    → (state.judging.phase ≡ Sound → ⊥) → FrontStandsFor state samples given
-    → AreIntervals state.judging.cells.steps.grid state.ticks state.judging.cells.steps.hold.least samples
-    intervals → (rest : List ℕ) × (intervals ≡ given ++ rest)
-
--- the samples of all bytes, where no half is kept
-same_samples : (s : PathSound) (bytes written : List ℕ) (stands : Stands s bytes written)
-    → samples_of bytes ≡ samples_of stands.whole
-same_samples s bytes written stands =
-    ap samples_of stands.are ∙ half_is_none s.samples stands.whole s.half stands.hears.count
-
--- all of it was written, once what is gathered has been pushed
-pub all_written : (s mid next : PathSound) (a b c : Option (List ℕ)) (bytes written : List ℕ)
-    (stands : Stands s bytes written) → mid.gathered ≡ s.gathered
-    → HasGatheredAll mid next a b (reverse (samples_of stands.whole)) stands.hears.given → IsOfWords next
-    → next.path ≡ s.path → next.front.judging.phase ≡ Drain → Appends b c next.gathered.room.items
-    → (more : List ℕ) × Appends a c more × IsPathFile s.path (samples_of bytes) (written ++ more)
-all_written s mid next a b c bytes written stands same g words path drained pushed =
-    let hears = stands.hears in
-    let put = g.gathered.put in
-    let given = hears.given ++ g.gathered.more in
-    let are : written ++ mid.gathered.room.items ≡ file_of (path_header next.path) hears.given =
-    ap (λ (r : Gathered). written ++ r.room.items) same ∙ hears.are
-    ∙ ap (λ (p : SlicesPath). file_of (path_header p) hears.given) (sym path) in
-    let file = grown_file next.path written mid.gathered.room.items next.gathered.room.items hears.given g.gathered.more
-    put.0 are put.2 in
-    let whole = whole_by next.front.judging.cells.steps.grid next.path.grid next.front.ticks next.path.ticks
-    next.front.judging.cells.steps.hold.least next.path.least (reverse (samples_of stands.whole)) given words.grid
-    words.ticks words.least (g.all drained) in
-    let now : IsPathFile next.path (samples_of bytes) (written ++ (put.0 ++ next.gathered.room.items)) = record {
-      intervals = given;
-      are = subst (λ l. AreIntervals next.path.grid next.path.ticks next.path.least (reverse l) given)
-          (sym (same_samples s bytes written stands)) whole;
-      file = sym (append_assoc written put.0 next.gathered.room.items) ∙ file;
-    } in (
-      put.0 ++ next.gathered.room.items,
-      Appends-trans a b c put.0 next.gathered.room.items put.1 pushed,
-      subst (λ p. IsPathFile p (samples_of bytes) (written ++ (put.0 ++ next.gathered.room.items))) path now,
-    )

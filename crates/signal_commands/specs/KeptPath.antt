@@ -1,5 +1,6 @@
 -- What the engine of `pcm-ltc .. path` keeps. No promise speaks of it.
 use Rattle.std.specs.Prelude.{◌≡◌, ℕ, ◌*◌, ◌≤◌, Bool, cond, ℤ, List, [], ◌++◌, length, reverse, take, Option}
+use Rattle.std.specs.Io.KnownBytes.{Appends}
 use Rattle.std.specs.Option.{option_to_list}
 use Rattle.std.proofs.Common.{ap, append-nil, arith, subst, sym, ◌∙◌}
 use Rattle.std.proofs.lemmas.Bool.{le-ltb}
@@ -10,12 +11,13 @@ use Rattle.path_front.specs.Front.{AreIntervalsSoFar, FrontStandsFor, IsAllGiven
 use Rattle.pcm_front.specs.Samples.{samples_of}
 use Rattle.tc_command.specs.KeptGathered.{IsPut}
 use Rattle.tc_command.specs.Meaning.{Shows}
-use Rattle.tc_io.specs.Sink.{AppendsFront}
+use Rattle.tc_io.specs.Sink.{AppendsFront, IsFront}
 use Rattle.tc_io.specs.Verdict.{good, past_limit}
 use Rattle.signal_commands.specs.declared.pcm_ltc.TheConstants.{MAX_SAMPLES}
 use Rattle.signal_commands.specs.declared.pcm_path.PathSound.{PathSound}
+use Rattle.tc_job.specs.PathSlicing.{SlicesPath}
 use Rattle.signal_commands.specs.KeptSlices.{half_is_none, length-samples}
-use Rattle.signal_commands.specs.PcmPath.{along_path, path_header, IsPathFileSoFar}
+use Rattle.signal_commands.specs.PcmPath.{along_path, path_header, IsPathFile, IsPathFileSoFar}
 
 -- the front is that of the words, and counts the samples
 pub record IsOfWords (s : PathSound) : Type 0 where
@@ -91,3 +93,8 @@ stands_well s bytes written settled stands =
         file = sym (append-nil written) ∙ ap (λ (l : List ℕ). written ++ l) (sym settled) ∙ hears.are;
       },
     )
+
+-- the sound has ended, and a push failed: a front of its file was written
+abbrev pub FailsAtEnd : SlicesPath → Option (List ℕ) → Option (List ℕ) → List ℕ → List ℕ → Type 0
+FailsAtEnd path old new bytes written = (more : List ℕ) × Appends old new more
+    × ((output : List ℕ) × IsPathFile path (samples_of bytes) output × IsFront (written ++ more) output)

@@ -6,8 +6,9 @@ ghost use Rattle.tc_command.specs.Causes.{HasOutCause};
 ghost use Rattle.tc_command.specs.Stops.{Stops};
 ghost use Rattle.tc_command.specs.Told.{WorksAsTold};
 ghost use Rattle.path_front.specs.Front.{FrontStandsFor, GoesOn, IsFrontSettled};
-ghost use Rattle.signal_commands.specs.KeptPath.{HasFailed, HasGatheredAll, Hears, IsGoing, Stands};
-ghost use Rattle.signal_commands.specs.PcmPath.{along_path, told_pcm_path};
+ghost use Rattle.pcm_front.specs.Samples.{samples_of};
+ghost use Rattle.signal_commands.specs.KeptPath.{FailsAtEnd, HasFailed, HasGatheredAll, Hears, IsGoing, Stands};
+ghost use Rattle.signal_commands.specs.PcmPath.{along_path, told_pcm_path, IsPathFile};
 ghost use Rattle.signal_commands.specs.declared.pcm_ltc.TheConstants.{MAX_SAMPLES};
 
 use crate::laws::each_signal_makes_a_command;
@@ -132,6 +133,24 @@ impl PathSound {
         }
         self.hear(pair, out)
     }
+
+    /// Ends the sound, and pushes the intervals of its last cells.
+    fn end<K: Sink>(&mut self, out: &mut K) -> Result<(), Stop>
+        requires going { IsGoing self.old }
+        ensures ends { OnOk result ((bytes written : List ℕ) → Stands self.old bytes written
+            → (more : List ℕ) × Appends (K.written out.old) (K.written out.new) more
+            × IsPathFile self.old.path (samples_of bytes) (written ++ more)) }
+        ensures fails { OnErr result ((bytes written : List ℕ) → Stands self.old bytes written
+            → FailsAtEnd self.old.path (K.written out.old) (K.written out.new) bytes written) }
+        ensures why { IfErr result (λ stop. stop ≡ Stop.WriteFault) }
+        ensures cause { HasOutCause (K.faults out.old) (K.faults out.new) result }
+    {
+        what_is_given_comes_first();
+        what_samples_bring_so_far_comes_first();
+        self.front.finish();
+        self.gather(out)?;
+        self.gathered.push(out)
+    }
 }
 
 impl Engine for PathSound {
@@ -176,12 +195,9 @@ impl Engine for PathSound {
     }
 
     fn finish<K: Sink>(&mut self, out: &mut K) -> Result<(), Stop> {
-        if self.half.is_some() {
-            return Err(Stop::Refused(InputFault::HalfSample(2 * self.samples + 1)));
+        match self.half {
+            Some(_) => Err(Stop::Refused(InputFault::HalfSample(2 * self.samples + 1))),
+            None => self.end(out),
         }
-        what_is_given_comes_first();
-        self.front.finish();
-        self.gather(out)?;
-        self.gathered.push(out)
     }
 }
