@@ -1,8 +1,11 @@
-use Rattle.std.proofs.Common.{◌+◌, ◌*◌, [], length, ap, ◌∙◌, append-nil, arith}
+use Rattle.std.proofs.Common.{◌+◌, ◌*◌, ◌++◌, List, ℕ, [], length, take, ap, subst, sym, ◌∙◌, append-nil, arith}
 use Rattle.std.proofs.KnownBytes.{Appends-nil}
 use Rattle.std.specs.Option.{option_to_list}
 use Rattle.tc_command.specs.KeptWorks.{err_both, if_err, on_ok}
+use Rattle.pcm_front.specs.Samples.{samples_of}
 use Rattle.signal_commands.specs.KeptPath.{stands_well}
+use Rattle.signal_commands.specs.PcmPath.{IsPathFileSoFar}
+use Rattle.signal_commands.specs.declared.pcm_ltc.TheConstants.{MAX_SAMPLES}
 use Rattle.signal_commands.proofs.PathOn.{length-bytes}
 use Rattle.signal_commands.proofs.SlicedOn.{even_end, odd_end}
 use Rattle.signal_commands.proofs.pcm_path.PathSoundEngine.finish.Goals as goal
@@ -14,7 +17,9 @@ returns-in-Some-clause-stops g c = λ bytes written stands.
     let well = stands_well s bytes written c.requires.settled stands in
     let long = length-bytes s bytes written stands
     ∙ ap (λ half. 2 * s.samples + length (option_to_list half)) c.in-Some.is in
-    ([], Appends-nil _, (well.0, odd_end s.samples bytes long, ?))
+    let part = subst (λ (w : List ℕ). IsPathFileSoFar s.path (take MAX_SAMPLES (samples_of bytes)) w)
+    (sym (append-nil written)) well.1 in
+    ([], Appends-nil _, (well.0, odd_end s.samples bytes long, part))
 
 -- it ends behind a sample
 pub returns-in-None-clause-ends : goal.returns-in-None-clause-ends
