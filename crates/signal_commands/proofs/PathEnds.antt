@@ -1,5 +1,6 @@
 -- When a sound has ended, the file of its best path stands whole, or a front of it where a push failed.
 use Rattle.std.proofs.Common.{◌≡◌, ℕ, ◌+◌, ◌≤◌, ℤ, List, [], ◌++◌, length, reverse, refl, ap, subst, sym, ◌∙◌, append_assoc}
+use Rattle.std.specs.Prelude.{⊥}
 use Rattle.std.proofs.KnownBytes.{Appends-trans}
 use Rattle.std.specs.declared.option.Option.{Option}
 use Rattle.std.specs.Io.KnownBytes.{Appends}
@@ -158,3 +159,7 @@ push_fails s mid next a b c bytes written stands same g words path drained front
         ),
       ),
     )
+
+-- the end of a sound is no part of it
+pub is_over : (phase : Phase) → phase ≡ Rest → phase ≡ Sound → ⊥
+is_over phase rest sound = cc
