@@ -1,10 +1,11 @@
 #!/usr/bin/env python3
 """The best path of cells through a sound, a second time: by docs/reference/formats.md alone, the whole sound at once.
 
-    bench/path_by_hand.py SYSTEM RATE [THRESHOLD [FINENESS]] < RAW > FILE
+    bench/path_by_hand.py SYSTEM RATE [THRESHOLD [FINENESS [so-far]]] < RAW > FILE
 
 RAW are 16-bit samples, and FILE is the interval file that `tc pcm-ltc SYSTEM RATE THRESHOLD FINENESS path` shall
-write; 250 and 16 without the last words. With pypy it takes a third of a millisecond a step.
+write; 250 and 16 without the last words. With `so-far` it is what stands while more samples may come. With pypy it
+takes a third of a millisecond a step.
 """
 import array
 import struct
@@ -138,10 +139,10 @@ class Paths:
             end = first
 
 
-def decided(paths, count):
+def decided(paths, count, ended=True):
     """The decided cells in order, each with whether it jumps."""
     cells = []
-    turns = [(end, end - 800) for end in range(2048, count + 1, 1024)] + ([(count, count)] if count else [])
+    turns = [(end, end - 800) for end in range(2048, count + 1, 1024)] + ([(count, count)] if count and ended else [])
     for end, limit in turns:
         done = cells[-1][0] if cells else 0
         cells += [cell for cell in reversed(list(paths.cells(end))) if done + cell[1] // 4 < cell[0] <= limit]
@@ -212,8 +213,8 @@ def broken(cells, threshold):
         yield cell, breaks
 
 
-def intervals(samples, system, rate, threshold, fineness):
-    """The intervals of the best path."""
+def intervals(samples, system, rate, threshold, fineness, ended):
+    """The intervals of the best path, or those that the samples bring so far."""
     repeats, summed = grid(system, rate)
     if fineness % repeats or fineness // repeats * summed < 2:
         sys.exit("value 4")
@@ -222,10 +223,10 @@ def intervals(samples, system, rate, threshold, fineness):
     sound = [step[0] for step in steps]
     sizes = [size // many for size, many in latest_means([abs(step) for step in sound])]
     cells, before = [], 0
-    for cell in decided(Paths([step[1] for step in steps], sizes), len(steps)):
+    for cell in decided(Paths([step[1] for step in steps], sizes), len(steps), ended):
         cells.append(Measured(sound, cell, before))
         before = cell[0]
-    for cell, breaks in broken(cells, threshold):
+    for cell, breaks in list(broken(cells, threshold))[:None if ended else -8]:
         whole, parts = cell.steps * ticks, [cell.steps * ticks]
         if cell.bit:
             half = (cell.length * ticks + 1) // 2
@@ -236,12 +237,13 @@ def intervals(samples, system, rate, threshold, fineness):
 
 def main(words):
     """Reads the samples and writes the file."""
-    if not 2 <= len(words) <= 4:
+    ended = words[4:] != ["so-far"]
+    if not 2 <= len(words) <= (4 if ended else 5):
         sys.exit(__doc__.split("\n\n")[1])
-    system, rate, threshold, fineness = (*map(int, words), *(250, 16)[len(words) - 2:])
+    system, rate, threshold, fineness = (*map(int, words[:4]), *(250, 16)[len(words) - 2:])
     samples = array.array("h")
     samples.frombytes(sys.stdin.buffer.read())
-    found = list(intervals(samples, system, rate, threshold, fineness))
+    found = list(intervals(samples, system, rate, threshold, fineness, ended))
     header = b"LTCI" + bytes((1, system, 0, 0)) + struct.pack(">I", rate * fineness)
     sys.stdout.buffer.write(header + struct.pack(f">{len(found)}I", *found))
 
