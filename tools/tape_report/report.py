@@ -119,7 +119,8 @@ def code_lines(choice: Choice, place: Place | None, level: Level, sound: Sound, 
     yield from rate_line(choice, place, is_given)
     yield from tracks_lines(choice)
     if choice.tried:
-        yield f"front end     {mine.front}; tried {', '.join(choice.tried)}"
+        before = "" if choice.before_path is None else f"; without the path {choice.before_path} frames"
+        yield f"front end     {mine.front}; tried {', '.join(choice.tried)}{before}"
     yield f"peak          {level.decibels}{early(sound)}"
     missed = f"{mine.refused} words refused, {mine.lost} times lost"
     yield f"heard         {mine.heard} frames, {mine.bridged} bridged; {missed}"
