@@ -233,9 +233,21 @@ fn slicings_are_read(rt: HostRuntime) -> Result<(), Fail> {
 fn best_paths_are_read(rt: HostRuntime) -> Result<(), Fail> {
     let alloc = rt.alloc();
     for (line, least, tick_rate, grid, ticks) in [
-        ("pcm-ltc 25 48000 250 16 path", 250, 768_000, Grid::Repeat(1), 16),
+        (
+            "pcm-ltc 25 48000 250 16 path",
+            250,
+            768_000,
+            Grid::Repeat(1),
+            16,
+        ),
         ("pcm-ltc 24 8000 1 64 path", 1, 512_000, Grid::Repeat(4), 16),
-        ("pcm-ltc 30 192000 32767 1 path", 32_767, 192_000, Grid::Sum(4), 4),
+        (
+            "pcm-ltc 30 192000 32767 1 path",
+            32_767,
+            192_000,
+            Grid::Sum(4),
+            4,
+        ),
     ] {
         let Some(path) = path_of(&job_in(alloc, line)?) else {
             return Err("no path".into());

@@ -17,9 +17,7 @@ use line_file::laws::{
     what_bytes_show_stays,
 };
 use mtc_reader::laws::earlier_events_stay;
-use path_front::laws::{
-    a_sound_has_one_list_of_intervals, what_samples_bring_so_far_comes_first,
-};
+use path_front::laws::{a_sound_has_one_list_of_intervals, what_samples_bring_so_far_comes_first};
 use pcm_front::laws::intervals_of_a_front_come_first;
 use wave_file::laws::what_a_sound_file_shows_stays;
 

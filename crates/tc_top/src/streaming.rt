@@ -27,7 +27,9 @@ use made_commands::{
     tell_help, tell_label, tell_load, tell_number, tell_version,
 };
 use signal_commands::laws::each_signal_makes_a_command;
-use signal_commands::{hear_path, read_fields, read_midi, slice_sound, slice_track, sliced_tracks_are_lawful};
+use signal_commands::{
+    hear_path, read_fields, read_midi, slice_sound, slice_track, sliced_tracks_are_lawful,
+};
 use tc_command::{Status, Stop, push_note, stop_note};
 use tc_io::{Sink, Source};
 use tc_job::{Job, Witness};
