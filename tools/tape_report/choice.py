@@ -180,6 +180,9 @@ def tried_by_others(
     """The readings by the front end that hears most, and those that were tried."""
     tried = Tried()
     for front in fronts:
+        # It is slow: it is tried where there is code, of which frames are missing.
+        if front.is_path and not is_code(best(readings)):
+            continue
         tried.names.append(front.name)
         if front.is_path:
             tried.before_path = best(readings).heard

@@ -184,9 +184,8 @@ def advice(level: Level, was_tried: bool) -> str:
     if level.is_quiet:
         return "very quiet" + ("" if was_tried else ": try --threshold 20")
     if level.crossings > 6 * CELLS_A_SECOND:
-        return "far more crossings than code has: hiss, or sound that is no code" + (
-            "" if was_tried else "; try --smooth 3"
-        )
+        more = "--path" if was_tried else "--smooth 3 or --path"
+        return f"far more crossings than code has: hiss, or sound that is no code; try {more}"
     if level.crossings < CELLS_A_SECOND / 4:
         return "far fewer crossings than code has: speech or music, or code played slowly"
     return "as many crossings as code may have, and music: if it is code, try --threshold, --smooth 5, or a filter"

@@ -1,5 +1,6 @@
 -- When a sound has ended, the file of its best path stands whole, or a front of it where a push failed.
-use Rattle.std.proofs.Common.{◌≡◌, ℕ, ◌+◌, ◌≤◌, ℤ, List, [], ◌++◌, length, reverse, refl, ap, subst, sym, ◌∙◌, append_assoc}
+use Rattle.std.proofs.Common.{◌≡◌, ℕ, ◌+◌, ◌≤◌, ℤ, List, [], ◌++◌, length, reverse, refl, ap, subst, sym, ◌∙◌}
+use Rattle.std.proofs.Common.{append_assoc}
 use Rattle.std.proofs.KnownBytes.{Appends-trans}
 use Rattle.std.specs.declared.option.Option.{Option}
 use Rattle.std.specs.Io.KnownBytes.{Appends}
@@ -116,7 +117,8 @@ gather_fails some first s mid next a b bytes written stands same f words path en
     let full = some p.grid p.ticks p.least samples in
     let behind = first next.front samples (hears.given ++ f.more) full.0 ended f.front
     (whole_by p.grid next.front.judging.cells.steps.grid p.ticks next.front.ticks p.least
-    next.front.judging.cells.steps.hold.least samples full.0 (sym words.grid) (sym words.ticks) (sym words.least) full.1) in
+    next.front.judging.cells.steps.hold.least samples full.0 (sym words.grid) (sym words.ticks) (sym words.least)
+    full.1) in
     let are : written ++ mid.gathered.room.items ≡ file_of (path_header p) hears.given =
     ap (λ (r : Gathered). written ++ r.room.items) same ∙ hears.are
     ∙ ap (λ (q : SlicesPath). file_of (path_header q) hears.given) (sym path) in

@@ -234,7 +234,8 @@ hear_fails some first s mid next a b whole written pair rest hears same two f wo
     let full = some p.grid p.ticks p.least samples in
     let behind = first next.front samples given full.0 phase stand
     (so_far_by p.grid next.front.judging.cells.steps.grid p.ticks next.front.ticks p.least
-    next.front.judging.cells.steps.hold.least samples full.0 (sym words.grid) (sym words.ticks) (sym words.least) full.1) in
+    next.front.judging.cells.steps.hold.least samples full.0 (sym words.grid) (sym words.ticks) (sym words.least)
+    full.1) in
     let are : written ++ mid.gathered.room.items ≡ file_of (path_header p) hears.given =
     ap (λ (r : Gathered). written ++ r.room.items) same ∙ hears.are
     ∙ ap (λ (q : SlicesPath). file_of (path_header q) hears.given) (sym path) in

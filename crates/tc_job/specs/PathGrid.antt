@@ -1,4 +1,5 @@
--- How the samples of a sound become steps, where the best path of its cells is looked for. The rule is this project's own.
+-- How the samples of a sound become steps, where the best path of its cells is looked for. The rule is this project's
+-- own.
 use Rattle.std.specs.Prelude.{ℕ, ◌*◌, ◌/◌, ◌%◌, ◌==◌, nat_le, Bool, ◌&&◌, List, [], ◌∷◌, Option, Some, None}
 use Rattle.std.specs.Prelude.{if◌then◌else◌}
 use Rattle.path_front.specs.declared.grid.Grid.{Grid}
@@ -22,8 +23,7 @@ grids =
     Repeat 8 ∷ Repeat 4 ∷ Repeat 2 ∷ Repeat 1 ∷ Sum 2 ∷ Sum 4 ∷ Sum 8 ∷ Sum 16 ∷ Sum 32 ∷ Sum 64 ∷ Sum 128 ∷ Sum 256
     ∷ Sum 512 ∷ Sum 1_024 ∷ Sum 2_048 ∷ Sum 4_096 ∷ []
 
--- the first of them that is fit. One more step for a sample, or one sample fewer for a step, doubles the steps of a cell,
--- so that no other one is
+-- the first of them that is fit. Of each a cell has half the steps of the one before, rounded down, so no other one is
 unfoldable pub first_fit : System → ℕ → List Grid → Option Grid
 first_fit system rate [] = None
 first_fit system rate (grid ∷ more) = if is_fit system rate grid then Some grid else first_fit system rate more

@@ -28,7 +28,8 @@ rate_with_grid system word =
 -- so many ticks a sample, and so many a step: a whole number of them
 unfoldable pub fineness_with_ticks : ℕ → Grid → Word → Option (ℕ × ℕ)
 fineness_with_ticks rate grid word =
-    option_and_then (λ fineness. option_map (λ ticks. (fineness, ticks)) (step_ticks fineness grid)) (fineness_in rate word)
+    option_and_then (λ fineness. option_map (λ ticks. (fineness, ticks)) (step_ticks fineness grid))
+    (fineness_in rate word)
 
 -- the job of four words and `path` behind them: no other word may stand there, and no `live`
 unfoldable pub path_of_samples : Word → Word → Word → List Word → Result Job WordsFault

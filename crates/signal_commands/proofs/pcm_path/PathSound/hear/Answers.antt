@@ -1,4 +1,5 @@
-use Rattle.std.proofs.Common.{rules, ◌≡◌, ◌+◌, ◌∷◌, length, reverse, refl, FitsSigned, to_z-of_z, ap, subst, sym, ◌∙◌, arith}
+use Rattle.std.proofs.Common.{rules, ◌≡◌, ◌+◌, ◌∷◌, length, reverse, refl, FitsSigned, to_z-of_z, ap, subst, sym, ◌∙◌}
+use Rattle.std.proofs.Common.{arith}
 use Rattle.std.specs.Int.{w16}
 use Rattle.path_front.specs.Front.{FrontStandsFor}
 use Rattle.pcm_front.specs.Samples.{sample_in, samples_of}

@@ -40,7 +40,8 @@ returns-in-None-clause-ends g c =
 pub returns-in-None-clause-stops : goal.returns-in-None-clause-stops
 returns-in-None-clause-stops g c =
     let s = c.args.self.now in
-    if_err c.end.result (err_both _ _ c.end.result c.end.ensures.why c.end.ensures.fails) (λ stop h bytes written stands.
+    if_err c.end.result (err_both _ _ c.end.result c.end.ensures.why c.end.ensures.fails)
+    (λ stop h bytes written stands.
     let well = stands_well s bytes written c.requires.settled stands in
     let long = length-bytes s bytes written stands
     ∙ ap (λ half. 2 * s.samples + length (option_to_list half)) c.in-None.is in

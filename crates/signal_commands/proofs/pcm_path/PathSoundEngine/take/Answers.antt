@@ -20,7 +20,8 @@ returns-in_err-hear_within-clause-stops g c =
     let s = c.args.self.now in
     let bytes = c.args.bytes.now in
     through c.from_residual.result c.from_residual.ensures.1 (λ stop same front written stands.
-    subst (λ (b : List ℕ). Stops (along_path s.path) stop (g.K.Sink.written c.args.out.now) (g.K.Sink.written c.hear_within.new.out) b written)
+    subst (λ (b : List ℕ). Stops (along_path s.path) stop (g.K.Sink.written c.args.out.now)
+    (g.K.Sink.written c.hear_within.new.out) b written)
     (sym (half_first front stands.whole bytes s.half c.in-Some.low stands.are c.in-Some.is c.requires.some))
     (rw same (c.in_err-hear_within.ensures.stops stands.whole written (drop 1 bytes) stands.hears)))
 
@@ -77,7 +78,8 @@ returns-in_err-hear_within-2-clause-stops g c =
     let some : 2 ≤ length bytes = omega (arith, c.requires.some, c.if-bytes-eq1.false) in
     through c.from_residual-in_err-hear_within-2.result c.from_residual-in_err-hear_within-2.ensures.1
     (λ stop same front written stands.
-    subst (λ (b : List ℕ). Stops (along_path s.path) stop (g.K.Sink.written c.args.out.now) (g.K.Sink.written c.hear_within-2.new.out) b written)
+    subst (λ (b : List ℕ). Stops (along_path s.path) stop (g.K.Sink.written c.args.out.now)
+    (g.K.Sink.written c.hear_within-2.new.out) b written)
     (ap (λ (l : List ℕ). stands.whole ++ l) (first_two bytes some)
     ∙ ap (λ (l : List ℕ). l ++ bytes) (sym (no_half front stands.whole s.half stands.are c.in_default.is)))
     (rw same (c.in_err-hear_within-2.ensures.stops stands.whole written (drop 2 bytes) stands.hears)))
