@@ -1,22 +1,19 @@
 -- When a sound has ended, the file of its best path stands whole, or a front of it where a push failed.
-use Rattle.std.proofs.Common.{◌≡◌, ℕ, ◌+◌, ◌≤◌, ℤ, List, [], ◌++◌, length, reverse, refl, ap, subst, sym, ◌∙◌}
+use Rattle.std.proofs.Common.{◌≡◌, ℕ, ◌≤◌, ℤ, List, ◌++◌, reverse, refl, ap, subst, sym, ◌∙◌}
 use Rattle.std.proofs.Common.{append_assoc}
 use Rattle.std.proofs.KnownBytes.{Appends-trans}
 use Rattle.std.specs.declared.option.Option.{Option}
 use Rattle.std.specs.Io.KnownBytes.{Appends}
-use Rattle.std.specs.Option.{option_to_list}
-use Rattle.interval_file.specs.declared.header.FileVersion.TheVariants.{One}
-use Rattle.interval_file.specs.FileLemmas.{file_first}
-use Rattle.interval_file.specs.Grammar.{file_of, intervals_bytes}
+use Rattle.interval_file.specs.Grammar.{file_of}
 use Rattle.path_front.specs.declared.grid.Grid.{Grid}
 use Rattle.path_front.specs.declared.judging.Phase.{Phase}
 use Rattle.path_front.specs.declared.judging.Phase.TheVariants.{Sound, Rest, Drain}
-use Rattle.path_front.specs.Cells.{CellsState, SameSound}
+use Rattle.path_front.specs.Cells.{SameSound}
 use Rattle.path_front.specs.Front.{AreIntervals, FrontState, FrontStandsFor, GoesOn, IsFrontSettled}
 use Rattle.path_front.specs.Judging.{IsSettled}
 use Rattle.pcm_front.specs.Samples.{samples_of}
 use Rattle.tc_command.specs.declared.gathered.Gathered.{Gathered}
-use Rattle.tc_io.specs.Sink.{AppendsFront, IsFront}
+use Rattle.tc_io.specs.Sink.{AppendsFront}
 use Rattle.tc_job.specs.PathSlicing.{SlicesPath}
 use Rattle.signal_commands.specs.declared.pcm_ltc.TheConstants.{MAX_SAMPLES}
 use Rattle.signal_commands.specs.declared.pcm_path.PathSound.{PathSound}

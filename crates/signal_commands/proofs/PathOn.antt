@@ -1,11 +1,10 @@
 -- The file of a best path grows by the intervals that more samples bring.
-use Rattle.std.proofs.Common.{◌≡◌, ℕ, ◌+◌, ◌*◌, ◌<◌, ◌≤◌, ℤ, inl, List, [], ◌∷◌, ◌++◌, length, reverse, take, drop}
+use Rattle.std.proofs.Common.{◌≡◌, ℕ, ◌+◌, ◌*◌, ◌≤◌, ℤ, inl, List, [], ◌∷◌, ◌++◌, length, reverse, take, drop}
 use Rattle.std.proofs.Common.{get_or}
 use Rattle.std.specs.Prelude.{OnOk, Ok, Err}
 use Rattle.std.specs.declared.option.Option.{Option}
 use Rattle.std.specs.declared.result.Result.{Result}
 use Rattle.std.proofs.Common.{refl, ap, subst, sym, ◌∙◌, append_assoc, append-nil, arith}
-use Rattle.std.proofs.KnownBytes.{Appends-trans}
 use Rattle.std.proofs.lemmas.Grind.{flat_map-append}
 use Rattle.std.proofs.lemmas.List.{length-append, reverse-append, take-append-le, take_all}
 use Rattle.std.specs.Io.KnownBytes.{Appends}
@@ -16,20 +15,18 @@ use Rattle.interval_file.specs.Grammar.{file_of, intervals_bytes}
 use Rattle.interval_file.specs.IntervalHeader.{header_bytes}
 use Rattle.interval_file.specs.Piece.{spelling}
 use Rattle.path_front.specs.declared.grid.Grid.{Grid}
-use Rattle.path_front.specs.declared.judging.Phase.{Phase}
-use Rattle.path_front.specs.declared.judging.Phase.TheVariants.{Sound, Rest, Drain}
+use Rattle.path_front.specs.declared.judging.Phase.TheVariants.{Sound}
 use Rattle.path_front.specs.Cells.{measured_cells}
 use Rattle.path_front.specs.Clip.{clipped}
 use Rattle.path_front.specs.Front.{judgements, AreIntervals, AreIntervalsSoFar, FrontState, FrontStandsFor}
-use Rattle.path_front.specs.Front.{GoesOn, IsFrontSettled}
+use Rattle.path_front.specs.Front.{GoesOn}
 use Rattle.path_front.specs.Grid.{on_grid}
-use Rattle.path_front.specs.Judging.{IsSettled}
 use Rattle.path_front.specs.Steps.{path_steps, with_held}
 use Rattle.pcm_front.specs.Samples.{sample_in, samples_of}
 use Rattle.tc_command.specs.declared.stop.Stop.{Stop}
 use Rattle.tc_command.specs.declared.stop.Stop.TheVariants as stops
 use Rattle.tc_command.specs.KeptGathered.{none_put, put_front, put_more, IsPut}
-use Rattle.tc_command.specs.Stops.{Stops, StopsAtEnd}
+use Rattle.tc_command.specs.Stops.{Stops}
 use Rattle.tc_io.specs.Sink.{AppendsFront, IsFront}
 use Rattle.tc_job.specs.PathSlicing.{SlicesPath}
 use Rattle.signal_commands.specs.declared.pcm_ltc.TheConstants.{MAX_SAMPLES}
@@ -38,8 +35,8 @@ use Rattle.signal_commands.specs.KeptPath.{HasFailed, HasGathered, HasGatheredAl
 use Rattle.signal_commands.specs.KeptStops.{StopsBehind, of_both}
 use Rattle.signal_commands.proofs.SlicedOn.{is_past, some_samples}
 use Rattle.tc_command.specs.declared.gathered.Gathered.{Gathered}
-use Rattle.signal_commands.specs.KeptSlices.{half_is_none, length-samples, samples_of-append}
-use Rattle.signal_commands.specs.PcmPath.{along_path, path_header, IsPathFile, IsPathFileSoFar}
+use Rattle.signal_commands.specs.KeptSlices.{length-samples, samples_of-append}
+use Rattle.signal_commands.specs.PcmPath.{along_path, path_header, IsPathFileSoFar}
 
 -- ---- nothing yet
 

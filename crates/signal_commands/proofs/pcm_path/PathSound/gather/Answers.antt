@@ -1,6 +1,4 @@
 use Rattle.std.proofs.Common.{rules, ◌++◌, List, ℕ, subst}
-use Rattle.interval_file.specs.declared.header.FileVersion.TheVariants.{One}
-use Rattle.interval_file.specs.Piece.{spelling}
 use Rattle.lemmas.specs.Results.{through}
 use Rattle.tc_command.specs.KeptGathered.{IsPut}
 use Rattle.signal_commands.proofs.PathOn.{goes_on, one_failed, one_gathered}

@@ -5,7 +5,7 @@ use Rattle.path_front.specs.Front.{FrontStandsFor}
 use Rattle.pcm_front.specs.Samples.{sample_in, samples_of}
 use Rattle.tc_command.specs.KeptWorks.{err_both, if_err}
 use Rattle.tc_job.specs.PathSlicing.{SlicesPath}
-use Rattle.signal_commands.specs.KeptPath.{Hears, IsOfWords}
+use Rattle.signal_commands.specs.KeptPath.{IsOfWords}
 use Rattle.signal_commands.proofs.PathOn.{hear_fails, hear_works, on_ok}
 use Rattle.signal_commands.proofs.pcm_path.PathSound.hear.Given.{Over}
 use Rattle.signal_commands.proofs.pcm_path.PathSound.hear.Goals as goal

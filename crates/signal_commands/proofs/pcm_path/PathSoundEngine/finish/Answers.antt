@@ -1,4 +1,4 @@
-use Rattle.std.proofs.Common.{◌+◌, ◌*◌, ◌++◌, List, ℕ, [], length, take, ap, subst, sym, ◌∙◌, append-nil, arith}
+use Rattle.std.proofs.Common.{◌+◌, ◌*◌, List, ℕ, [], length, take, ap, subst, sym, ◌∙◌, append-nil, arith}
 use Rattle.std.proofs.KnownBytes.{Appends-nil}
 use Rattle.std.specs.Option.{option_to_list}
 use Rattle.tc_command.specs.KeptWorks.{err_both, if_err, on_ok}

@@ -1,7 +1,6 @@
-use Rattle.std.proofs.Common.{◌≤◌, length, arith, ◌++◌, [], ◌∷◌, List, ℕ, Some, None, drop, get_or, take, ap, subst}
+use Rattle.std.proofs.Common.{◌≤◌, length, arith, ◌++◌, [], ◌∷◌, List, ℕ, Some, None, drop, get_or, ap, subst}
 use Rattle.std.proofs.Common.{sym, ◌∙◌, append-nil, refl}
 use Rattle.std.proofs.KnownBytes.{Appends-nil}
-use Rattle.std.proofs.lemmas.List.{take_all}
 use Rattle.std.specs.declared.option.Option.{Option}
 use Rattle.std.specs.Option.{option_to_list}
 use Rattle.signal_commands.specs.KeptPath.{Hears}
@@ -10,8 +9,8 @@ use Rattle.tc_command.specs.Stops.{Stops}
 use Rattle.lemmas.specs.Results.{through}
 use Rattle.lemmas.specs.Lists.{first_only}
 use Rattle.signal_commands.proofs.PathOn.{any_half, first_two, only_two}
-use Rattle.signal_commands.proofs.SlicedOn.{err_to, falls, falls_by_half, half_first}
-use Rattle.signal_commands.proofs.SlicedOn.{half_then, no_half, ok_to, with_three}
+use Rattle.signal_commands.proofs.SlicedOn.{falls, falls_by_half, half_first}
+use Rattle.signal_commands.proofs.SlicedOn.{half_then, no_half}
 use Rattle.signal_commands.proofs.pcm_path.PathSoundEngine.take.Goals as goal
 
 -- the sample that the first byte completes stops the command
