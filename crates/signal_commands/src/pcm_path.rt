@@ -23,6 +23,8 @@ use tc_io::{Sink, Source};
 use tc_job::PathSlicing;
 
 /// Works `pcm-ltc .. path`: an interval file of the cells of the best path through samples.
+// Out of line, so that no other command has its room on the stack, 2.6 MB while it is made.
+#[inline(never)]
 pub fn hear_path<S: Source, K: Sink>(
     path: &PathSlicing,
     source: &mut S,
