@@ -4,6 +4,9 @@ mod FieldsGrow
 mod MidiGrows
 mod MidiLimit
 mod NothingYet
+mod PathEnds
+mod PathIsCommand
+mod PathOn
 mod PutMore
 mod SlicedOn
 mod SlicedTracks

@@ -27,7 +27,9 @@ use made_commands::{
     tell_help, tell_label, tell_load, tell_number, tell_version,
 };
 use signal_commands::laws::each_signal_makes_a_command;
-use signal_commands::{read_fields, read_midi, slice_sound, slice_track, sliced_tracks_are_lawful};
+use signal_commands::{
+    hear_path, read_fields, read_midi, slice_sound, slice_track, sliced_tracks_are_lawful,
+};
 use tc_command::{Status, Stop, push_note, stop_note};
 use tc_io::{Sink, Source};
 use tc_job::{Job, Witness};
@@ -122,6 +124,7 @@ fn work_on<S: Source, K: Sink>(job: &Job, source: &mut S, out: &mut K) -> Result
         Job::LtcLoad { run } => tell_load(run, source, out),
         Job::LtcPcm { level } => sound_recording(*level, source, out),
         Job::PcmLtc { slicing } => slice_sound(slicing, source, out),
+        Job::PcmPath { path } => hear_path(path, source, out),
         Job::WavLtc { slicing } => slice_track(slicing, source, out),
         Job::MtcRead => read_midi(source, out),
         Job::VitcRead => read_fields(source, out),

@@ -6,4 +6,5 @@ pub mod Live
 pub mod LtcChase
 pub mod LtcMake
 pub mod PcmLtc
+pub mod PcmPath
 pub mod WavLtc

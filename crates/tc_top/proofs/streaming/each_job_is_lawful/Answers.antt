@@ -27,6 +27,8 @@ returns c = lawful
     lawful (jobs.LtcPcm level) = c.made_sound_is_lawful.ensures level
     lawful (jobs.PcmLtc slicing) =
         meaning_is_lawful _ (c.each_signal_makes_a_command.ensures.samples slicing) (λ input spent. spent)
+    lawful (jobs.PcmPath path) =
+        meaning_is_lawful _ (c.each_signal_makes_a_command.ensures.paths path) (λ input spent. spent)
     lawful (jobs.WavLtc slicing) = c.sliced_tracks_are_lawful.ensures slicing
     lawful jobs.MtcRead = meaning_is_lawful _ c.each_signal_makes_a_command.ensures.midi (λ input spent. spent)
     lawful jobs.VitcRead = meaning_is_lawful _ c.each_signal_makes_a_command.ensures.fields (λ input spent. spent)
