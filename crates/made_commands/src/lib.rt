@@ -22,7 +22,7 @@ mod ltc_make;
 mod vitc_make;
 
 pub use about::{MANUAL, VERSION, tell_help, tell_version};
-pub use labels::{tell_label, tell_load, tell_number};
+pub use labels::{names_are_lawful, numbers_are_lawful, tell_label, tell_load, tell_number};
 pub use ltc_load::loads_are_lawful;
 pub use ltc_make::{make_recording, stripes_are_lawful};
 pub use vitc_make::{line_stripes_are_lawful, make_lines};

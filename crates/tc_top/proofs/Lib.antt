@@ -1,6 +1,7 @@
 mod Examples
 mod LabelsHeard
 mod LinesAreInput
+mod NamedAgain
 mod ReadOn
 mod SentIsRead
 mod SlicedAgain

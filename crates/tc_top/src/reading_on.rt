@@ -11,6 +11,7 @@ use pcm_front::laws::{
     samples_are_read_as_they_were_written, sums_of_one_are_the_samples,
 };
 use quarter_frame::laws::what_is_sent_is_read_back;
+use tc_address::laws::number_and_label_are_inverse;
 use tc_job::Job;
 
 /// What is sent is read as the frames of the file, the report of a copy is that of its frames, and what is
@@ -22,6 +23,7 @@ pub(crate) fn it_is_read_on(job: &Job)
     a_file_is_read_as_it_was_written();
     what_is_heard_has_labels_of_its_system();
     what_is_sent_is_read_back();
+    number_and_label_are_inverse();
     bytes_are_read_as_the_text_says();
     samples_are_read_as_they_were_written();
     a_sound_is_sliced_into_its_intervals();

@@ -1,9 +1,10 @@
-pub mod Words
-pub mod Values
-pub mod Usages
 pub mod Flight
 pub mod Live
 pub mod LtcChase
 pub mod LtcMake
+pub mod NumberLemmas
 pub mod PcmLtc
+pub mod Usages
+pub mod Values
 pub mod WavLtc
+pub mod Words
