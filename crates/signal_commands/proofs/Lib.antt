@@ -5,6 +5,7 @@ mod MidiGrows
 mod MidiLimit
 mod NothingYet
 mod PutMore
+mod SentIsRead
 mod SlicedOn
 mod SlicedTracks
 mod TrackGoesOn

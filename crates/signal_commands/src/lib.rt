@@ -21,7 +21,7 @@ mod stopping;
 mod vitc_read;
 mod wav_ltc;
 
-pub use mtc_read::{MAX_BYTES, read_midi};
+pub use mtc_read::{MAX_BYTES, midi_is_lawful, read_midi};
 pub use pcm_ltc::{MAX_SAMPLES, slice_sound};
 pub use vitc_read::read_fields;
 pub use wav_ltc::{slice_track, sliced_tracks_are_lawful};

@@ -28,7 +28,9 @@ use made_commands::{
     tell_version,
 };
 use signal_commands::laws::each_signal_makes_a_command;
-use signal_commands::{read_fields, read_midi, slice_sound, slice_track, sliced_tracks_are_lawful};
+use signal_commands::{
+    midi_is_lawful, read_fields, read_midi, slice_sound, slice_track, sliced_tracks_are_lawful,
+};
 use tc_command::{Status, Stop, push_note, stop_note};
 use tc_io::{Sink, Source};
 use tc_job::{Job, Witness};
@@ -95,6 +97,7 @@ pub(crate) fn each_job_is_lawful()
     loads_are_lawful();
     made_sound_is_lawful();
     sliced_tracks_are_lawful();
+    midi_is_lawful();
     each_signal_makes_a_command();
     line_stripes_are_lawful();
     numbers_are_lawful();

@@ -28,7 +28,7 @@ returns c = lawful
     lawful (jobs.PcmLtc slicing) =
         meaning_is_lawful _ (c.each_signal_makes_a_command.ensures.samples slicing) (λ input spent. spent)
     lawful (jobs.WavLtc slicing) = c.sliced_tracks_are_lawful.ensures slicing
-    lawful jobs.MtcRead = meaning_is_lawful _ c.each_signal_makes_a_command.ensures.midi (λ input spent. spent)
+    lawful jobs.MtcRead = c.midi_is_lawful.ensures
     lawful jobs.VitcRead = meaning_is_lawful _ c.each_signal_makes_a_command.ensures.fields (λ input spent. spent)
     lawful (jobs.VitcMake stripe) = c.line_stripes_are_lawful.ensures stripe
     lawful (jobs.Number label) = c.numbers_are_lawful.ensures label
