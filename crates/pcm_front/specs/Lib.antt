@@ -1,3 +1,4 @@
+pub mod Covered
 pub mod Crossing
 pub mod Distance
 pub mod KeptRuns

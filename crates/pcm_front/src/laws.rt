@@ -1,5 +1,5 @@
 //! What follows from the definitions of crossings and distances alone.
-ghost use Rattle.std.specs.Prelude.{◌≡◌, ℕ, ◌+◌, ◌-◌, ◌*◌, ◌<◌, ◌≤◌, ◌^◌, FitsSigned, false, true, ℤ, pos, ◌≤ℤ◌};
+ghost use Rattle.std.specs.Prelude.{◌≡◌, ℕ, ◌+◌, ◌-◌, ◌*◌, ◌%◌, ◌<◌, ◌≤◌, ◌^◌, FitsSigned, false, true, ℤ, pos, ◌≤ℤ◌};
 ghost use Rattle.std.specs.Prelude.{int_le, unsigned_abs, List, [], ◌∷◌};
 ghost use Rattle.std.specs.Prelude.{◌++◌, length, map, take, drop};
 ghost use Rattle.std.specs.Int.{w16};
@@ -11,10 +11,11 @@ ghost use Rattle.pcm_front.specs.declared.threshold.Threshold.TheVariants.{Fixed
 ghost use Rattle.pcm_front.specs.declared.threshold.TheConstants.{MAX_THRESHOLD};
 ghost use Rattle.pcm_front.specs.declared.window.TheConstants.{MAX_SMOOTH};
 ghost use Rattle.pcm_front.specs.Level.{level_of};
+ghost use Rattle.pcm_front.specs.Covered.{covered, moments_by};
 ghost use Rattle.pcm_front.specs.Crossing.{apart, crossings, is_crossing, moments, tick_at, tick_in_step};
 ghost use Rattle.pcm_front.specs.Distance.{distances, distances_by, distances_from_start, gaps, intervals};
 ghost use Rattle.pcm_front.specs.Distance.{intervals_by, pieces_in, pieces_of, IsInterval};
-ghost use Rattle.pcm_front.specs.Pace.{intervals_at, passed_by, IsPace};
+ghost use Rattle.pcm_front.specs.Pace.{begun_in, intervals_at, longest, passed_by, IsPace};
 ghost use Rattle.pcm_front.specs.Runs.{Alternate, IsOfSize, LiesOn, joined};
 ghost use Rattle.pcm_front.specs.Samples.{bytes_of, samples_of};
 ghost use Rattle.pcm_front.specs.Settings.{from_crossing, Settings};
@@ -173,6 +174,24 @@ pub fn pieces_add_up_to_their_distance()
         ≡ distances_by settings samples }
     ensures range { (length distance : ℕ) → 1 ≤ length → 1 ≤ distance
         → AllByRecursion (λ piece. (1 ≤ piece) × (piece ≤ length)) (pieces_in length distance) }
+{}
+
+/// From a first crossing on, intervals add up to the ticks to the last crossing, and the whole pieces that have
+/// passed behind it: those of all ticks that have passed, but for less than a piece.
+pub fn intervals_cover_the_crossings()
+    ensures sum { (pace : Pace) (fineness smooth : ℕ) (threshold : Threshold) (samples : List ℤ) → IsPace pace
+        → 1 ≤ fineness → (s : Settings) → s ≡ from_crossing fineness threshold smooth
+        → sum (intervals_at pace s samples)
+        ≡ covered (moments_by s samples) + begun_in pace (passed_by s samples) * longest pace }
+    ensures passed { (length passed : ℕ) → 1 ≤ length
+        → (begun_in (Pace.Passing length) passed * length ≤ passed)
+        × (passed < begun_in (Pace.Passing length) passed * length + length) }
+{}
+
+/// Bytes of whole samples are the bytes of these samples.
+pub fn bytes_are_those_of_their_samples()
+    ensures { (bytes : List ℕ) → AllByRecursion (λ byte. byte < 256) bytes → length bytes % 2 ≡ 0
+        → bytes_of (samples_of bytes) ≡ bytes }
 {}
 
 /// Without pieces the intervals are those of whole distances. Where each distance is within a piece, and

@@ -8,5 +8,6 @@ mod PutMore
 mod SentIsRead
 mod SlicedOn
 mod SlicedTracks
+mod SoundCovered
 mod TrackGoesOn
 mod TrackOfAFile

@@ -1,8 +1,10 @@
 -- `pcm-ltc`: samples of sound, as an interval file of the distances of their crossings.
-use Rattle.std.specs.Prelude.{◌≡◌, ℕ, ◌*◌, ◌%◌, ◌==◌, true, cond, nat_lt, ℤ, List, length, take, Option, Some, None}
+use Rattle.std.specs.Prelude.{◌≡◌, ℕ, ◌+◌, ◌*◌, ◌%◌, ◌<◌, ◌≤◌, ◌==◌, true, false, cond, nat_lt, ℤ, List, length, sum, take}
+use Rattle.std.specs.Prelude.{Option, Some, None}
 use Rattle.pcm_front.specs.declared.pace.Pace.{Pace}
-use Rattle.pcm_front.specs.Pace.{intervals_at}
-use Rattle.pcm_front.specs.Samples.{samples_of}
+use Rattle.pcm_front.specs.Covered.{covered, moments_by}
+use Rattle.pcm_front.specs.Pace.{intervals_at, longest, passed_by}
+use Rattle.pcm_front.specs.Samples.{bytes_of, samples_of}
 use Rattle.pcm_front.specs.Settings.{from_crossing, Settings}
 use Rattle.tc_command.specs.declared.input_fault.InputFault.{InputFault}
 use Rattle.tc_command.specs.declared.input_fault.InputFault.TheVariants.{HalfSample}
@@ -14,7 +16,7 @@ use Rattle.tc_job.specs.Pace.{pace_of}
 use Rattle.tc_job.specs.Slicing.{Slices}
 use Rattle.signal_commands.specs.declared.pcm_ltc.TheConstants.{MAX_SAMPLES}
 use Rattle.tc_command.specs.Meaning.{Meaning}
-use Rattle.tc_command.specs.Told.{Told, told_by_meaning}
+use Rattle.tc_command.specs.Told.{Told}
 
 -- the header: each sample has so many ticks
 abbrev pub sliced_header : Slices → IntervalHeader
@@ -28,10 +30,13 @@ settings_for s = from_crossing s.fineness s.threshold s.smooth
 abbrev pub pace_for : Slices → Pace
 pace_for s = pace_of s.live s.system (s.rate * s.fineness)
 
--- the file of the intervals of samples: where it is live, the pieces that have passed behind the last crossing stand at
--- its end
+-- the intervals of samples: where it is live, the pieces that have passed behind the last crossing stand at their end
+abbrev pub sliced_intervals : Slices → List ℤ → List ℕ
+sliced_intervals s samples = intervals_at (pace_for s) (settings_for s) samples
+
+-- their file
 abbrev pub sliced : Slices → List ℤ → List ℕ
-sliced s samples = file_of (sliced_header s) (intervals_at (pace_for s) (settings_for s) samples)
+sliced s samples = file_of (sliced_header s) (sliced_intervals s samples)
 
 -- so many whole samples are taken, at most
 abbrev pub samples_within : ℕ → List ℕ → Verdict InputFault
@@ -52,6 +57,24 @@ along_samples s = record {
   output = λ bytes written. written ≡ sliced s (samples_of bytes);
 }
 
+-- what was written is the file of the intervals of the samples, and these samples are all that the bytes hold. The
+-- intervals add up to the ticks from the first crossing to the last one; and where it is live, with what has passed
+-- behind the last one at the latest sample, to less than a piece more than they do
+pub record SlicesTheSound (s : Slices) (bytes written : List ℕ) : Type 0 where
+  pub are : written ≡ sliced s (samples_of bytes)
+  pub samples : bytes ≡ bytes_of (samples_of bytes)
+  pub ended : s.live ≡ false
+      → sum (sliced_intervals s (samples_of bytes)) ≡ covered (moments_by (settings_for s) (samples_of bytes))
+  pub passing : s.live ≡ true → let ticks = covered (moments_by (settings_for s) (samples_of bytes)) in
+      let passed = passed_by (settings_for s) (samples_of bytes) in
+      (ticks ≤ sum (sliced_intervals s (samples_of bytes)))
+      × (sum (sliced_intervals s (samples_of bytes)) ≤ ticks + passed)
+      × (ticks + passed < sum (sliced_intervals s (samples_of bytes)) + longest (pace_for s))
+
 -- what is told of it
 abbrev pub told_pcm_ltc : Slices → Told
-told_pcm_ltc slicing = told_by_meaning (along_samples slicing)
+told_pcm_ltc slicing = record {
+  meaning = along_samples slicing;
+  promise = SlicesTheSound slicing;
+  has_own_limit = false;
+}

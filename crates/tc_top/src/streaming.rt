@@ -27,7 +27,7 @@ use made_commands::{
     numbers_are_lawful, stripes_are_lawful, tell_help, tell_label, tell_load, tell_number,
     tell_version,
 };
-use signal_commands::laws::each_signal_makes_a_command;
+use signal_commands::laws::{each_signal_makes_a_command, sliced_sound_is_lawful};
 use signal_commands::{
     midi_is_lawful, read_fields, read_midi, slice_sound, slice_track, sliced_tracks_are_lawful,
 };
@@ -98,6 +98,7 @@ pub(crate) fn each_job_is_lawful()
     made_sound_is_lawful();
     sliced_tracks_are_lawful();
     midi_is_lawful();
+    sliced_sound_is_lawful();
     each_signal_makes_a_command();
     line_stripes_are_lawful();
     numbers_are_lawful();

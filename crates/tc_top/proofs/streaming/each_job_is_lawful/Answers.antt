@@ -25,8 +25,7 @@ returns c = lawful
     lawful (jobs.LtcConvert version) = c.conversions_are_lawful.ensures version
     lawful (jobs.LtcLoad run) = c.loads_are_lawful.ensures run
     lawful (jobs.LtcPcm level) = c.made_sound_is_lawful.ensures level
-    lawful (jobs.PcmLtc slicing) =
-        meaning_is_lawful _ (c.each_signal_makes_a_command.ensures.samples slicing) (λ input spent. spent)
+    lawful (jobs.PcmLtc slicing) = c.sliced_sound_is_lawful.ensures slicing
     lawful (jobs.WavLtc slicing) = c.sliced_tracks_are_lawful.ensures slicing
     lawful jobs.MtcRead = c.midi_is_lawful.ensures
     lawful jobs.VitcRead = meaning_is_lawful _ c.each_signal_makes_a_command.ensures.fields (λ input spent. spent)
