@@ -27,3 +27,4 @@ pub mod QuietRuns
 pub mod ReadBack
 pub mod AllCovered
 pub mod BytesAgain
+pub mod Polarity

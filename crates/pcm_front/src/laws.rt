@@ -1,5 +1,5 @@
 //! What follows from the definitions of crossings and distances alone.
-ghost use Rattle.std.specs.Prelude.{◌≡◌, ℕ, ◌+◌, ◌-◌, ◌*◌, ◌%◌, ◌<◌, ◌≤◌, ◌^◌, FitsSigned, false, true, ℤ, pos, ◌≤ℤ◌};
+ghost use Rattle.std.specs.Prelude.{◌≡◌, ℕ, ◌+◌, ◌-◌, ◌*◌, ◌%◌, ◌<◌, ◌≤◌, ◌^◌, FitsSigned, false, true, ℤ, pos, neg_ℤ, ◌≤ℤ◌};
 ghost use Rattle.std.specs.Prelude.{int_le, unsigned_abs, List, [], ◌∷◌};
 ghost use Rattle.std.specs.Prelude.{◌++◌, length, map, take, drop};
 ghost use Rattle.std.specs.Int.{w16};
@@ -10,7 +10,7 @@ ghost use Rattle.pcm_front.specs.declared.threshold.Threshold.{Threshold};
 ghost use Rattle.pcm_front.specs.declared.threshold.Threshold.TheVariants.{Fixed, Follow, Deep};
 ghost use Rattle.pcm_front.specs.declared.threshold.TheConstants.{MAX_THRESHOLD};
 ghost use Rattle.pcm_front.specs.declared.window.TheConstants.{MAX_SMOOTH};
-ghost use Rattle.pcm_front.specs.Level.{level_of};
+ghost use Rattle.pcm_front.specs.Level.{least_of, level_of};
 ghost use Rattle.pcm_front.specs.Covered.{covered, moments_by};
 ghost use Rattle.pcm_front.specs.Crossing.{apart, crossings, is_crossing, moments, tick_at, tick_in_step};
 ghost use Rattle.pcm_front.specs.Distance.{distances, distances_by, distances_from_start, gaps, intervals};
@@ -186,6 +186,12 @@ pub fn intervals_cover_the_crossings()
     ensures passed { (length passed : ℕ) → 1 ≤ length
         → (begun_in (Pace.Passing length) passed * length ≤ passed)
         × (passed < begun_in (Pace.Passing length) passed * length + length) }
+{}
+
+/// What is sliced does not depend on the sign of the samples: sound that is turned over has the same intervals.
+pub fn polarity_changes_nothing()
+    ensures { (pace : Pace) (s : Settings) (samples : List ℤ) → 1 ≤ least_of s.threshold
+        → intervals_at pace s (map neg_ℤ samples) ≡ intervals_at pace s samples }
 {}
 
 /// Bytes of whole samples are the bytes of these samples.

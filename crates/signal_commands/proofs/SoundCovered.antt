@@ -1,15 +1,18 @@
 -- What is sliced of sound covers its crossings, and is of all samples in the bytes.
 use Rattle.std.proofs.Common.{◌≡◌, ℕ, ◌+◌, ◌*◌, ◌%◌, ◌<◌, ◌≤◌, Bool, true, false, cond, ◌==◌, ℤ, List, [], ◌∷◌, length, sum}
-use Rattle.std.proofs.Common.{Some, None, refl, sym, ◌∙◌, subst, arith}
+use Rattle.std.proofs.Common.{Some, None, neg_ℤ, map, refl, sym, ◌∙◌, ap, subst, arith}
 use Rattle.std.specs.List.{AllByRecursion}
 use Rattle.std.proofs.lemmas.Bool.Decides.{nat_tests}
 use Rattle.pcm_front.specs.declared.pace.Pace.{Pace}
 use Rattle.pcm_front.specs.declared.pace.Pace.TheVariants.{Ended, Passing}
 use Rattle.pcm_front.specs.declared.threshold.Threshold.{Threshold}
+use Rattle.pcm_front.specs.declared.threshold.Threshold.TheVariants.{Fixed, Follow, Deep}
 use Rattle.pcm_front.specs.Covered.{covered, moments_by}
+use Rattle.pcm_front.specs.Level.{least_of}
 use Rattle.pcm_front.specs.Pace.{begun_in, intervals_at, longest, passed_by, IsPace}
 use Rattle.pcm_front.specs.Samples.{bytes_of, samples_of}
 use Rattle.pcm_front.specs.Settings.{from_crossing, Settings}
+use Rattle.pcm_front.specs.State.{IsThreshold}
 use Rattle.tc_address.specs.declared.system.System.{System}
 use Rattle.tc_io.specs.Bytes.{AreBytes}
 use Rattle.tc_job.specs.Pace.{pace_of, quarter_frame}
@@ -17,8 +20,9 @@ use Rattle.tc_job.specs.Slicing.{Slices, IsSlicing}
 use Rattle.tc_command.specs.declared.input_fault.InputFault.TheVariants.{HalfSample}
 use Rattle.tc_command.specs.Command.{IsCommand}
 use Rattle.tc_command.specs.Told.{IsLawful, IsTold}
-use Rattle.signal_commands.specs.PcmLtc.{along_samples, odd_fault, settings_for, sliced_intervals, told_pcm_ltc}
-use Rattle.signal_commands.specs.PcmLtc.{SlicesTheSound}
+use Rattle.interval_file.specs.Grammar.{file_of}
+use Rattle.signal_commands.specs.PcmLtc.{along_samples, odd_fault, pace_for, settings_for, sliced_header}
+use Rattle.signal_commands.specs.PcmLtc.{sliced_intervals, told_pcm_ltc, SlicesTheSound}
 use Rattle.signal_commands.proofs.PutMore.{is_pace}
 
 -- what the laws of slicing say
@@ -30,6 +34,8 @@ pub record CoverLaws : Type 0 where
   pub passed : (length passed : ℕ) → 1 ≤ length
       → (begun_in (Passing length) passed * length ≤ passed)
       × (passed < begun_in (Passing length) passed * length + length)
+  pub polarity : (pace : Pace) (s : Settings) (samples : List ℤ) → 1 ≤ least_of s.threshold
+      → intervals_at pace s (map neg_ℤ samples) ≡ intervals_at pace s samples
   pub bytes : (bytes : List ℕ) → AllByRecursion (λ byte. byte < 256) bytes → length bytes % 2 ≡ 0
       → bytes_of (samples_of bytes) ≡ bytes
 
@@ -49,6 +55,11 @@ even : (bytes : List ℕ) → odd_fault bytes ≡ None → length bytes % 2 ≡ 
 even bytes end =
     even_by (length bytes % 2) (omega arith) (length bytes % 2 == 1) refl
     (no_fault_by (length bytes % 2 == 1) (length bytes) end)
+
+some_threshold : (t : Threshold) → IsThreshold t → 1 ≤ least_of t
+some_threshold (Fixed t) is = is.0
+some_threshold (Follow t) is = is.0
+some_threshold (Deep t) is = is.0
 
 -- not live
 ended : CoverLaws → (s : Slices) → IsSlicing s → (samples : List ℤ) → s.live ≡ false
@@ -95,5 +106,7 @@ sound_is_told laws s is lawful = record {
     samples = sym (laws.bytes pulled (all_bytes pulled are) (even pulled input.end));
     ended = ended laws s is (samples_of pulled);
     passing = passing laws s is (samples_of pulled);
+    polarity = λ over same. output ∙ ap (file_of (sliced_header s)) (sym (ap (sliced_intervals s) same
+        ∙ laws.polarity (pace_for s) (settings_for s) (samples_of pulled) (some_threshold s.threshold is.threshold)));
   };
 }

@@ -14,7 +14,9 @@ use crate::laws::sliced_sound_is_lawful;
 use crate::spelling::spell;
 use crate::stopping::push_before;
 use interval_file::{FileVersion, IntervalHeader, interval_header};
-use pcm_front::laws::{bytes_are_those_of_their_samples, intervals_cover_the_crossings};
+use pcm_front::laws::{
+    bytes_are_those_of_their_samples, intervals_cover_the_crossings, polarity_changes_nothing,
+};
 use pcm_front::{Pace, Slicer};
 use tc_command::{Engine, Gathered, InputFault, Stop, work};
 use tc_io::{Sink, Source};
@@ -43,6 +45,7 @@ fn a_sliced_sound_is_told(slicing: &Slicing)
     sliced_sound_is_lawful();
     intervals_cover_the_crossings();
     bytes_are_those_of_their_samples();
+    polarity_changes_nothing();
     let _fineness = slicing.fineness();
 }
 
