@@ -8,8 +8,8 @@ use Rattle.pcm_front.specs.Samples.{bytes_of, sample_bytes, sample_in, samples_o
 
 two_bytes : (low high : ℕ) → low < 256 → high < 256 → little_bytes 2 (little_number 2 (low ∷ high ∷ [])) ≡ low ∷ high ∷ []
 two_bytes low high least most =
-    let first : (low + 256 * high) % 256 ≡ low = omega (arith, least) in
-    let second : (low + 256 * high) / 256 % 256 ≡ high = omega (arith, least, most) in
+    let first : (low + 256 * (high + 256 * 0)) % 256 ≡ low = omega (arith, least) in
+    let second : (low + 256 * (high + 256 * 0)) / 256 % 256 ≡ high = omega (arith, least, most) in
     ap₂ (λ (a b : ℕ). a ∷ b ∷ []) first second
 
 one_sample : (low high : ℕ) → low < 256 → high < 256 → sample_bytes (sample_in (low ∷ high ∷ [])) ≡ low ∷ high ∷ []
