@@ -28,3 +28,4 @@ pub mod ReadBack
 pub mod AllCovered
 pub mod BytesAgain
 pub mod Polarity
+pub mod TurnByTurn

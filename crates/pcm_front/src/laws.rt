@@ -1,5 +1,5 @@
 //! What follows from the definitions of crossings and distances alone.
-ghost use Rattle.std.specs.Prelude.{◌≡◌, ℕ, ◌+◌, ◌-◌, ◌*◌, ◌%◌, ◌<◌, ◌≤◌, ◌^◌, FitsSigned, false, true, ℤ, pos, neg_ℤ, ◌≤ℤ◌};
+ghost use Rattle.std.specs.Prelude.{◌≡◌, ℕ, ◌+◌, ◌-◌, ◌*◌, ◌%◌, ◌<◌, ◌≤◌, ◌^◌, FitsSigned, false, true, ℤ, pos, ◌≤ℤ◌};
 ghost use Rattle.std.specs.Prelude.{int_le, unsigned_abs, List, [], ◌∷◌};
 ghost use Rattle.std.specs.Prelude.{◌++◌, length, map, take, drop};
 ghost use Rattle.std.specs.Int.{w16};
@@ -11,11 +11,11 @@ ghost use Rattle.pcm_front.specs.declared.threshold.Threshold.TheVariants.{Fixed
 ghost use Rattle.pcm_front.specs.declared.threshold.TheConstants.{MAX_THRESHOLD};
 ghost use Rattle.pcm_front.specs.declared.window.TheConstants.{MAX_SMOOTH};
 ghost use Rattle.pcm_front.specs.Level.{least_of, level_of};
-ghost use Rattle.pcm_front.specs.Covered.{covered, moments_by};
+ghost use Rattle.pcm_front.specs.Covered.{TellTheCrossings};
 ghost use Rattle.pcm_front.specs.Crossing.{apart, crossings, is_crossing, moments, tick_at, tick_in_step};
 ghost use Rattle.pcm_front.specs.Distance.{distances, distances_by, distances_from_start, gaps, intervals};
 ghost use Rattle.pcm_front.specs.Distance.{intervals_by, pieces_in, pieces_of, IsInterval};
-ghost use Rattle.pcm_front.specs.Pace.{begun_in, intervals_at, longest, passed_by, IsPace};
+ghost use Rattle.pcm_front.specs.Pace.{intervals_at, passed_by, IsPace};
 ghost use Rattle.pcm_front.specs.Runs.{Alternate, IsOfSize, LiesOn, joined};
 ghost use Rattle.pcm_front.specs.Samples.{bytes_of, samples_of};
 ghost use Rattle.pcm_front.specs.Settings.{from_crossing, Settings};
@@ -176,22 +176,12 @@ pub fn pieces_add_up_to_their_distance()
         → AllByRecursion (λ piece. (1 ≤ piece) × (piece ≤ length)) (pieces_in length distance) }
 {}
 
-/// From a first crossing on, intervals add up to the ticks to the last crossing, and the whole pieces that have
-/// passed behind it: those of all ticks that have passed, but for less than a piece.
-pub fn intervals_cover_the_crossings()
-    ensures sum { (pace : Pace) (fineness smooth : ℕ) (threshold : Threshold) (samples : List ℤ) → IsPace pace
-        → 1 ≤ fineness → (s : Settings) → s ≡ from_crossing fineness threshold smooth
-        → sum (intervals_at pace s samples)
-        ≡ covered (moments_by s samples) + begun_in pace (passed_by s samples) * longest pace }
-    ensures passed { (length passed : ℕ) → 1 ≤ length
-        → (begun_in (Pace.Passing length) passed * length ≤ passed)
-        × (passed < begun_in (Pace.Passing length) passed * length + length) }
-{}
-
-/// What is sliced does not depend on the sign of the samples: sound that is turned over has the same intervals.
-pub fn polarity_changes_nothing()
-    ensures { (pace : Pace) (s : Settings) (samples : List ℤ) → 1 ≤ least_of s.threshold
-        → intervals_at pace s (map neg_ℤ samples) ≡ intervals_at pace s samples }
+/// The intervals of samples tell their crossings: each leads from one side to the other, neighbours lie on opposite sides
+/// with none between them, the ticks from the first, or from tick 0, to the last are covered, and the sign of the samples
+/// changes nothing.
+pub fn intervals_tell_the_crossings()
+    ensures { (pace : Pace) (s : Settings) (samples : List ℤ) → IsPace pace → 1 ≤ s.fineness → 1 ≤ least_of s.threshold
+        → TellTheCrossings pace s samples }
 {}
 
 /// Bytes of whole samples are the bytes of these samples.

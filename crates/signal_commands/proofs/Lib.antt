@@ -1,6 +1,7 @@
 mod AreCommands
 mod DueSamples
 mod FieldsGrow
+mod FieldsTold
 mod MidiGrows
 mod MidiLimit
 mod NothingYet

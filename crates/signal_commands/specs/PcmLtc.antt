@@ -1,10 +1,9 @@
 -- `pcm-ltc`: samples of sound, as an interval file of the distances of their crossings.
-use Rattle.std.specs.Prelude.{◌≡◌, ℕ, ◌+◌, ◌*◌, ◌%◌, ◌<◌, ◌≤◌, ◌==◌, true, false, cond, nat_lt, ℤ, neg_ℤ, List, length, map, sum}
-use Rattle.std.specs.Prelude.{take}
+use Rattle.std.specs.Prelude.{◌≡◌, ℕ, ◌*◌, ◌%◌, ◌==◌, true, false, cond, nat_lt, ℤ, neg_ℤ, List, length, map, take}
 use Rattle.std.specs.Prelude.{Option, Some, None}
 use Rattle.pcm_front.specs.declared.pace.Pace.{Pace}
-use Rattle.pcm_front.specs.Covered.{covered, moments_by}
-use Rattle.pcm_front.specs.Pace.{intervals_at, longest, passed_by}
+use Rattle.pcm_front.specs.Covered.{TellTheCrossings}
+use Rattle.pcm_front.specs.Pace.{intervals_at}
 use Rattle.pcm_front.specs.Samples.{bytes_of, samples_of}
 use Rattle.pcm_front.specs.Settings.{from_crossing, Settings}
 use Rattle.tc_command.specs.declared.input_fault.InputFault.{InputFault}
@@ -59,19 +58,12 @@ along_samples s = record {
 }
 
 -- what was written is the file of the intervals of the samples, and these samples are all that the bytes hold. The
--- intervals add up to the ticks from the first crossing to the last one; and where it is live, with what has passed
--- behind the last one at the latest sample, to less than a piece more than they do. Bytes of the same samples turned
--- over, each into its negative, are sliced into the same file
+-- intervals tell their crossings, from the first of them on. Bytes of the same samples turned over, each into its
+-- negative, are sliced into the same file
 pub record SlicesTheSound (s : Slices) (bytes written : List ℕ) : Type 0 where
   pub are : written ≡ sliced s (samples_of bytes)
   pub samples : bytes ≡ bytes_of (samples_of bytes)
-  pub ended : s.live ≡ false
-      → sum (sliced_intervals s (samples_of bytes)) ≡ covered (moments_by (settings_for s) (samples_of bytes))
-  pub passing : s.live ≡ true → let ticks = covered (moments_by (settings_for s) (samples_of bytes)) in
-      let passed = passed_by (settings_for s) (samples_of bytes) in
-      (ticks ≤ sum (sliced_intervals s (samples_of bytes)))
-      × (sum (sliced_intervals s (samples_of bytes)) ≤ ticks + passed)
-      × (ticks + passed < sum (sliced_intervals s (samples_of bytes)) + longest (pace_for s))
+  pub tell : TellTheCrossings (pace_for s) (settings_for s) (samples_of bytes)
   pub polarity : (over : List ℕ) → samples_of over ≡ map neg_ℤ (samples_of bytes) → written ≡ sliced s (samples_of over)
 
 -- what is told of it

@@ -3,6 +3,7 @@
 use Rattle.std.specs.Prelude.{◌≡◌, ℕ, ◌*◌, true, false, ℤ, List, [], Option, Some, None}
 use Rattle.std.specs.Option.{option_map}
 use Rattle.pcm_front.specs.declared.pace.Pace.{Pace}
+use Rattle.pcm_front.specs.Covered.{TellTheCrossings}
 use Rattle.pcm_front.specs.Pace.{intervals_at}
 use Rattle.pcm_front.specs.Settings.{Settings, from_start}
 use Rattle.tc_command.specs.declared.input_fault.InputFault.TheVariants.{Sound}
@@ -42,12 +43,15 @@ abbrev pub track_of : SlicesWave → List ℕ → List ℕ
 track_of w bytes = track_file w (reading_of w.track bytes).format (reading_of w.track bytes).samples
 
 -- what was written is the file of the track that is read. And of a sound file that was made of these blocks, it is the
--- file of the distances of the track's samples, whose first one runs from tick 0
+-- file of the distances of the track's samples, whose first one runs from tick 0. The intervals tell their crossings,
+-- from tick 0 on
 pub record SlicesTheTrack (w : SlicesWave) (bytes written : List ℕ) : Type 0 where
   pub are : written ≡ track_of w bytes
   pub made : (format : WaveFormat) (blocks : List (List Sample)) → IsMadeOf w.track format blocks bytes
       → written ≡ file_of (track_header w format)
       (intervals_at (track_pace w format) (track_settings w) (samples_in w.track blocks))
+  pub tell : (format : WaveFormat) (blocks : List (List Sample)) → IsMadeOf w.track format blocks bytes
+      → TellTheCrossings (track_pace w format) (track_settings w) (samples_in w.track blocks)
 
 -- what it takes and what it writes: the header stands where the data begin
 abbrev pub along_sound_file : SlicesWave → Meaning

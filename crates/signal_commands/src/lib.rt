@@ -23,5 +23,5 @@ mod wav_ltc;
 
 pub use mtc_read::{MAX_BYTES, midi_is_lawful, read_midi};
 pub use pcm_ltc::{MAX_SAMPLES, slice_sound};
-pub use vitc_read::read_fields;
+pub use vitc_read::{fields_are_lawful, read_fields};
 pub use wav_ltc::{slice_track, sliced_tracks_are_lawful};

@@ -14,9 +14,7 @@ use crate::laws::sliced_sound_is_lawful;
 use crate::spelling::spell;
 use crate::stopping::push_before;
 use interval_file::{FileVersion, IntervalHeader, interval_header};
-use pcm_front::laws::{
-    bytes_are_those_of_their_samples, intervals_cover_the_crossings, polarity_changes_nothing,
-};
+use pcm_front::laws::{bytes_are_those_of_their_samples, intervals_tell_the_crossings};
 use pcm_front::{Pace, Slicer};
 use tc_command::{Engine, Gathered, InputFault, Stop, work};
 use tc_io::{Sink, Source};
@@ -38,14 +36,13 @@ pub fn slice_sound<S: Source, K: Sink>(
     work(&mut SlicedSound::new(slicing), source, out)
 }
 
-/// What is told of `pcm-ltc` holds: the intervals cover the crossings of all samples that there are.
+/// What is told of `pcm-ltc` holds: the intervals tell the crossings of all samples that there are.
 fn a_sliced_sound_is_told(slicing: &Slicing)
     ensures { IsTold (told_pcm_ltc slicing.now) }
 {
     sliced_sound_is_lawful();
-    intervals_cover_the_crossings();
+    intervals_tell_the_crossings();
     bytes_are_those_of_their_samples();
-    polarity_changes_nothing();
     let _fineness = slicing.fineness();
 }
 
