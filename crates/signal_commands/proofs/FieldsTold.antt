@@ -1,6 +1,6 @@
 -- An input that is taken whole is the file of a header and fields, and the answer of each field says whose lines its
 -- lines are, as no other answer does.
-use Rattle.std.proofs.Common.{◌≡◌, ⊤, ◌≤◌, ℕ, ◌+◌, List, [], ◌∷◌, ◌++◌, length, Some, None, refl, sym, ap, ap₂, ◌∙◌}
+use Rattle.std.proofs.Common.{◌≡◌, ◌≤◌, ℕ, ◌+◌, true, List, [], ◌∷◌, ◌++◌, length, Some, None, refl, sym, ap, ap₂, ◌∙◌}
 use Rattle.std.proofs.Common.{subst, append_assoc, arith}
 use Rattle.std.proofs.lemmas.Option.{same_Some}
 use Rattle.tc_address.specs.declared.system.System.{System}
