@@ -1,4 +1,5 @@
 mod Examples
+mod FormsWritten
 mod LabelsHeard
 mod LinesAreInput
 mod NamedAgain

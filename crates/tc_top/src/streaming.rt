@@ -27,9 +27,10 @@ use made_commands::{
     numbers_are_lawful, stripes_are_lawful, tell_help, tell_label, tell_load, tell_number,
     tell_version,
 };
-use signal_commands::laws::{each_signal_makes_a_command, sliced_sound_is_lawful};
+use signal_commands::laws::sliced_sound_is_lawful;
 use signal_commands::{
-    midi_is_lawful, read_fields, read_midi, slice_sound, slice_track, sliced_tracks_are_lawful,
+    fields_are_lawful, midi_is_lawful, read_fields, read_midi, slice_sound, slice_track,
+    sliced_tracks_are_lawful,
 };
 use tc_command::{Status, Stop, push_note, stop_note};
 use tc_io::{Sink, Source};
@@ -99,7 +100,7 @@ pub(crate) fn each_job_is_lawful()
     sliced_tracks_are_lawful();
     midi_is_lawful();
     sliced_sound_is_lawful();
-    each_signal_makes_a_command();
+    fields_are_lawful();
     line_stripes_are_lawful();
     numbers_are_lawful();
     names_are_lawful();

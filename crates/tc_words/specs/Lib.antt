@@ -1,4 +1,5 @@
 pub mod Flight
+pub mod Forms
 pub mod Live
 pub mod LtcChase
 pub mod LtcMake
