@@ -7,6 +7,8 @@
 //!   makes stands in `specs/Made.antt`, `MadeLines.antt`, `Load.antt`, `Labels.antt` and `About.antt`.
 //! - What `ltc-make` and `vitc-make` make is read back, frame by frame and field by field, and of what
 //!   `ltc-load` makes each word is read (`laws`).
+//! - The number that is written is the place of the label in its day, and the text is read as the label
+//!   (`specs/Labels.antt`, `NumbersTheLabel`, `NamesTheLabel`).
 //!
 //! Read `ltc_make`, `vitc_make`, `ltc_load` over `chance` and `divisors`, `labels` and `about`. `frame_commands`
 //! stands on this crate, since a recording of frames is spelled as one that is made.

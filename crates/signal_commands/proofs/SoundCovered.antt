@@ -4,6 +4,7 @@ use Rattle.std.proofs.Common.{Some, None, refl, sym, ◌∙◌, ap, arith}
 use Rattle.std.specs.List.{AllByRecursion}
 use Rattle.std.proofs.lemmas.Bool.Decides.{nat_tests}
 use Rattle.pcm_front.specs.declared.pace.Pace.{Pace}
+use Rattle.pcm_front.specs.declared.pace.Pace.TheVariants.{Ended, Passing}
 use Rattle.pcm_front.specs.declared.threshold.Threshold.{Threshold}
 use Rattle.pcm_front.specs.declared.threshold.Threshold.TheVariants.{Fixed, Follow, Deep}
 use Rattle.pcm_front.specs.Covered.{TellTheCrossings}
@@ -13,6 +14,8 @@ use Rattle.pcm_front.specs.Samples.{bytes_of, samples_of}
 use Rattle.pcm_front.specs.Settings.{Settings}
 use Rattle.pcm_front.specs.State.{IsThreshold}
 use Rattle.tc_io.specs.Bytes.{AreBytes}
+use Rattle.tc_address.specs.declared.system.System.{System}
+use Rattle.tc_job.specs.Pace.{pace_of, quarter_frame}
 use Rattle.tc_job.specs.Slicing.{Slices, IsSlicing}
 use Rattle.tc_command.specs.declared.input_fault.InputFault.TheVariants.{HalfSample}
 use Rattle.tc_command.specs.Command.{IsCommand}
@@ -54,6 +57,15 @@ some_threshold (Fixed t) is = is.0
 some_threshold (Follow t) is = is.0
 some_threshold (Deep t) is = is.0
 
+pub pace_ended : (system : System) (tick_rate : ℕ) (live : Bool) → live ≡ false → pace_of live system tick_rate ≡ Ended
+pace_ended system tick_rate true none = absurd cc
+pace_ended system tick_rate false none = refl
+
+pub pace_passing : (system : System) (tick_rate : ℕ) (live : Bool) → live ≡ true
+    → pace_of live system tick_rate ≡ Passing (quarter_frame system tick_rate)
+pace_passing system tick_rate true is = refl
+pace_passing system tick_rate false is = absurd cc
+
 pub sound_is_lawful : ((s : Slices) → IsCommand (along_samples s)) → (s : Slices) → IsLawful (told_pcm_ltc s)
 sound_is_lawful commands s = record {
   command = commands s;
@@ -71,6 +83,8 @@ slices tell back s is bytes written are end output =
       are = output;
       samples = sym (back bytes (all_bytes bytes are) (even bytes end));
       tell = told;
+      ended = pace_ended s.system (s.rate * s.fineness) s.live;
+      passing = pace_passing s.system (s.rate * s.fineness) s.live;
       polarity = λ over same. output ∙ ap (file_of (sliced_header s)) (sym (ap (sliced_intervals s) same ∙ told.polarity));
     }
 

@@ -9,7 +9,7 @@ use Rattle.wave_file.specs.Wave.{Reading, reading_of}
 use Rattle.signal_commands.specs.WavLtc.{SlicesTheTrack, along_sound_file, told_wav_ltc, track_file, track_of}
 use Rattle.signal_commands.specs.WavLtc.{track_pace, track_settings}
 use Rattle.signal_commands.proofs.PutMore.{is_pace}
-use Rattle.signal_commands.proofs.SoundCovered.{TellAll, some_threshold}
+use Rattle.signal_commands.proofs.SoundCovered.{TellAll, pace_ended, pace_passing, some_threshold}
 use Rattle.tc_command.specs.Command.{IsCommand}
 use Rattle.tc_command.specs.Told.{IsLawful, IsTold}
 
@@ -27,6 +27,8 @@ slices_the_track law tell w is bytes written are = record {
   tell = λ format blocks made.
       tell (track_pace w format) (track_settings w) (samples_in w.track blocks)
       (is_pace w.live w.system (16 * format.rate)) (omega arith) (some_threshold w.threshold is.threshold);
+  ended = λ format. pace_ended w.system (16 * format.rate) w.live;
+  passing = λ format. pace_passing w.system (16 * format.rate) w.live;
 }
 
 -- ---- what is told of a sliced track

@@ -80,7 +80,7 @@ pub record IsRun (device : ℕ) (first : Address) (labels : List Address) : Type
 -- behind a run, its label and its pairs are read one after another, each at the place of its last byte, after the
 -- events of what stands before; and so they are, but for their places, where system real-time bytes stand among them
 pub record ReadsWhatWasSent (bytes written : List ℕ) : Type 0 where
-  pub are : written ≡ mtc_report bytes
+  pub are : written ≡ event_lines (events_in bytes) ++ last_mtc_line bytes (events_in bytes)
   pub sent : (before after : List ℕ) (direction : Direction) (device : ℕ) (first : Address) (labels : List Address)
       → IsRun device first labels → bytes ≡ before ++ (run_of direction device first labels ++ after)
       → (later : List MtcEvent)

@@ -2,6 +2,7 @@
 use Rattle.std.specs.Prelude.{◌≡◌, ℕ, ◌*◌, ◌%◌, ◌==◌, true, false, cond, nat_lt, ℤ, neg_ℤ, List, length, map, take}
 use Rattle.std.specs.Prelude.{Option, Some, None}
 use Rattle.pcm_front.specs.declared.pace.Pace.{Pace}
+use Rattle.pcm_front.specs.declared.pace.Pace.TheVariants.{Ended, Passing}
 use Rattle.pcm_front.specs.Covered.{TellTheCrossings}
 use Rattle.pcm_front.specs.Pace.{intervals_at}
 use Rattle.pcm_front.specs.Samples.{bytes_of, samples_of}
@@ -12,7 +13,7 @@ use Rattle.interval_file.specs.declared.header.FileVersion.TheVariants.{One}
 use Rattle.interval_file.specs.declared.header.IntervalHeader.{IntervalHeader}
 use Rattle.interval_file.specs.Grammar.{file_of}
 use Rattle.tc_io.specs.Verdict.{Verdict, good, past_limit}
-use Rattle.tc_job.specs.Pace.{pace_of}
+use Rattle.tc_job.specs.Pace.{pace_of, quarter_frame}
 use Rattle.tc_job.specs.Slicing.{Slices}
 use Rattle.signal_commands.specs.declared.pcm_ltc.TheConstants.{MAX_SAMPLES}
 use Rattle.tc_command.specs.Meaning.{Meaning}
@@ -57,13 +58,17 @@ along_samples s = record {
   output = λ bytes written. written ≡ sliced s (samples_of bytes);
 }
 
--- what was written is the file of the intervals of the samples, and these samples are all that the bytes hold. The
--- intervals tell their crossings, from the first of them on. Bytes of the same samples turned over, each into its
--- negative, are sliced into the same file
+-- what was written is the file of the intervals of the samples, from the first crossing on, and these samples are all
+-- that the bytes hold. The intervals tell their crossings. A distance is written when it has ended, or where it is
+-- live, in quarters of a frame as it passes. Bytes of the same samples turned over, each into its negative, are sliced
+-- into the same file
 pub record SlicesTheSound (s : Slices) (bytes written : List ℕ) : Type 0 where
-  pub are : written ≡ sliced s (samples_of bytes)
+  pub are : written ≡ file_of (sliced_header s)
+      (intervals_at (pace_for s) (from_crossing s.fineness s.threshold s.smooth) (samples_of bytes))
   pub samples : bytes ≡ bytes_of (samples_of bytes)
-  pub tell : TellTheCrossings (pace_for s) (settings_for s) (samples_of bytes)
+  pub tell : TellTheCrossings (pace_for s) (from_crossing s.fineness s.threshold s.smooth) (samples_of bytes)
+  pub ended : s.live ≡ false → pace_for s ≡ Ended
+  pub passing : s.live ≡ true → pace_for s ≡ Passing (quarter_frame s.system (s.rate * s.fineness))
   pub polarity : (over : List ℕ) → samples_of over ≡ map neg_ℤ (samples_of bytes) → written ≡ sliced s (samples_of over)
 
 -- what is told of it

@@ -7,6 +7,9 @@
 //!   the first sample (`specs/WavLtc.antt`), both of them in pieces as they pass where the words say `live`,
 //!   `mtc-read` a line for each label in the bytes (`specs/MtcRead.antt`), and
 //!   `vitc-read` a line for each field of a line file (`specs/VitcRead.antt`).
+//! - What was sent is what `mtc-read` reads (`ReadsWhatWasSent`). A line of `vitc-read` says whose lines the
+//!   lines of its field are (`ReadsTheFields`). The intervals of `pcm-ltc` and `wav-ltc` tell the crossings of
+//!   all samples (`SlicesTheSound`, `SlicesTheTrack`).
 //! - Each is a command as any other (`laws`): what it writes comes first, there is one output of an input,
 //!   and what bytes show stays.
 //!

@@ -2,6 +2,7 @@ pub mod AnswerGrows
 pub mod AnswersExist
 pub mod BitsOfCells
 pub mod ByAProduct
+mod Examples
 pub mod LevelOfARun
 pub mod LinesSaid
 pub mod OneAnswer

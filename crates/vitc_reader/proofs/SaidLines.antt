@@ -67,9 +67,10 @@ same_said : LineLaws → (system : System) (n : ℕ) (word : VitcWord) (lines : 
     → AllByRecursion (IsLineOfOrAtFault system n word) lines
 same_said laws system n word [] said are all = tt
 same_said laws system n word (line ∷ lines) [] are all = absurd are
-same_said laws system n word (line ∷ lines) (Ok w ∷ said) are all =
-    (inl (subst (λ (v : VitcWord). IsLineOf system n v line) all.0 (line_said laws system n line w are.0)),
-    same_said laws system n word lines said are.1 all.1)
+same_said laws system n word (line ∷ lines) (Ok w ∷ said) are all = (
+  inl (subst (λ (v : VitcWord). IsLineOf system n v line) all.0 (line_said laws system n line w are.0)),
+  same_said laws system n word lines said are.1 all.1,
+)
 same_said laws system n word (line ∷ lines) (Err fault ∷ said) are all =
     (inr (fault, are.0), same_said laws system n word lines said are.1 all)
 
