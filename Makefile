@@ -4,7 +4,9 @@
 # make dist          tc-VERSION.tar.gz of the last commit, which builds, tests and installs by itself
 # make deb           dist/tc-timecode_VERSION-1_amd64.deb, a Debian package of the built program and its tools
 # make binary        dist/tc-VERSION-x86_64-linux.tar.gz, with a script that installs it, for machines without the toolchain
+# make lib           proves and builds the library: lib/libtc.a, lib/libtc.so.1 and lib/tc.pc, for include/tc.h
 # make install       program, manual pages, completions, documents and examples, under PREFIX (and DESTDIR, for packagers)
+#                    and the library with its header where make lib was run before
 # make install-strip the same, with the program stripped of its symbols
 # make uninstall     removes what install put there
 #
@@ -19,6 +21,10 @@ BASHDIR = $(PREFIX)/share/bash-completion/completions
 ZSHDIR = $(PREFIX)/share/zsh/site-functions
 FISHDIR = $(PREFIX)/share/fish/vendor_completions.d
 DOCDIR = $(PREFIX)/share/doc/$(PROGRAM)
+# The library, its header and what pkg-config reads.
+LIBRARYDIR = $(PREFIX)/lib
+INCLUDEDIR = $(PREFIX)/include
+PKGCONFIGDIR = $(LIBRARYDIR)/pkgconfig
 # The tools for tapes, archives and live code, as PROGRAM-tape, PROGRAM-archive and PROGRAM-live, and their parts.
 LIBDIR = $(PREFIX)/lib/$(PROGRAM)
 EXAMPLES = $(wildcard examples/*)
@@ -48,7 +54,7 @@ INSTALL_PROGRAM = install -m 755
 VERSION := $(shell cat VERSION)
 DIST = tc-$(VERSION)
 
-.PHONY: all binary check deb gate dist install install-strip uninstall
+.PHONY: all binary check deb gate dist install install-library install-strip lib uninstall
 
 all:
 	./build
@@ -59,11 +65,15 @@ check:
 	tools/try_status
 	tools/run_examples
 	@if command -v rustc > /dev/null; then bench/cases 1000; else echo "bench/cases: not run, for want of rustc"; fi
+	@if [ -e lib/libtc.so.1 ]; then tools/try_library; else echo "tools/try_library: not run: run make lib first"; fi
 	tools/try_tapes
 	tools/try_live
 
 gate:
 	.ci/run
+
+lib:
+	tools/make_library
 
 dist:
 	@[ -z "$$(git status --porcelain)" ] || { echo "what is not committed is left out:" >&2; git status --short >&2; }
@@ -114,6 +124,19 @@ install:
 	$(RENAME_MAN) man/tc-archive.1 > "$(DESTDIR)$(MANDIR)/man1/$(PROGRAM)-archive.1"
 	$(RENAME_MAN) man/tc-live.1 > "$(DESTDIR)$(MANDIR)/man1/$(PROGRAM)-live.1"
 
+	@if [ -e lib/libtc.a ]; then $(MAKE) -s install-library; fi
+
+install-library:
+	@[ -e lib/libtc.a ] || { echo "lib/libtc.a is not built: run make lib first" >&2; exit 1; }
+	install -d "$(DESTDIR)$(LIBRARYDIR)" "$(DESTDIR)$(INCLUDEDIR)" "$(DESTDIR)$(PKGCONFIGDIR)"
+	install -m 644 lib/libtc.a "$(DESTDIR)$(LIBRARYDIR)"
+	install -m 755 lib/libtc.so.1 "$(DESTDIR)$(LIBRARYDIR)"
+	ln -sf libtc.so.1 "$(DESTDIR)$(LIBRARYDIR)/libtc.so"
+	install -m 644 include/tc.h "$(DESTDIR)$(INCLUDEDIR)"
+	sed -e 's@^prefix=.*@prefix=$(PREFIX)@' -e 's@^includedir=.*@includedir=$(INCLUDEDIR)@' -e 's@^libdir=.*@libdir=$(LIBRARYDIR)@' \
+	    lib/tc.pc > "$(DESTDIR)$(PKGCONFIGDIR)/tc.pc"
+	chmod 644 "$(DESTDIR)$(PKGCONFIGDIR)/tc.pc"
+
 install-strip:
 	$(MAKE) INSTALL_PROGRAM="install -s -m 755" install
 
@@ -126,4 +149,6 @@ uninstall:
 	    "$(DESTDIR)$(MANDIR)/man1/$(PROGRAM)-tape.1" "$(DESTDIR)$(MANDIR)/man1/$(PROGRAM)-archive.1"
 	rm -f "$(DESTDIR)$(BINDIR)/$(PROGRAM)-live" "$(DESTDIR)$(MANDIR)/man1/$(PROGRAM)-live.1" "$(DESTDIR)$(BASHDIR)/$(PROGRAM)-live" \
 	    "$(DESTDIR)$(ZSHDIR)/_$(PROGRAM)-live" "$(DESTDIR)$(FISHDIR)/$(PROGRAM)-live.fish"
+	rm -f "$(DESTDIR)$(LIBRARYDIR)/libtc.a" "$(DESTDIR)$(LIBRARYDIR)/libtc.so.1" "$(DESTDIR)$(LIBRARYDIR)/libtc.so" \
+	    "$(DESTDIR)$(INCLUDEDIR)/tc.h" "$(DESTDIR)$(PKGCONFIGDIR)/tc.pc"
 	rm -rf "$(DESTDIR)$(DOCDIR)" "$(DESTDIR)$(LIBDIR)"

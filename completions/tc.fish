@@ -27,7 +27,7 @@ complete -c tc -n '__fish_seen_subcommand_from vitc-make; and test (count (comma
 complete -c tc -n '__fish_seen_subcommand_from ltc-make; and test (count (commandline -opc)) -eq 3' -a 'forward backward'
 complete -c tc -n '__fish_seen_subcommand_from ltc-convert; and test (count (commandline -opc)) -eq 2' -a '1 2'
 complete -c tc -n '__fish_seen_subcommand_from pcm-ltc; and test (count (commandline -opc)) -eq 2' -a '24 25 30'
-complete -c tc -n '__fish_seen_subcommand_from pcm-ltc; and test (count (commandline -opc)) -eq 6' -a 'follow deep'
+complete -c tc -n '__fish_seen_subcommand_from pcm-ltc; and test (count (commandline -opc)) -eq 6' -a 'path follow deep'
 complete -c tc -n '__fish_seen_subcommand_from pcm-ltc; and test (count (commandline -opc)) -ge 5' -a live
 complete -c tc -n '__fish_seen_subcommand_from wav-ltc; and test (count (commandline -opc)) -eq 2' -a '24 25 30'
 complete -c tc -n '__fish_seen_subcommand_from wav-ltc; and test (count (commandline -opc)) -eq 6' -a deep

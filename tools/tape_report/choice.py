@@ -42,6 +42,14 @@ class Wanted:
 
 
 @dataclass
+class Tried:
+    """The front ends that were tried on a track, and how many frames were heard before the best path was."""
+
+    names: list[str] = field(default_factory=list)
+    before_path: int | None = None
+
+
+@dataclass
 class Choice:
     """The reading that was chosen, and what stands beside it."""
 
@@ -50,6 +58,8 @@ class Choice:
     others: list[Reading]
     # The front ends that were tried on the track, where little was heard by the plain one.
     tried: list[str] = field(default_factory=list)
+    # How many frames of it were heard before the best path was tried, where it was.
+    before_path: int | None = None
 
     @property
     def is_found(self) -> bool:
@@ -137,7 +147,7 @@ def choose(sound: Sound, wanted: Wanted, room: str, progress: Progress | None = 
         track: read_track(sound, track, wanted.systems, first, wanted.limit, room, words, progress) for track in tracks
     }
     is_well = any(is_code(it) and not hears_little(it) for it in map(best, found.values()))
-    tried: dict[int, list[str]] = {}
+    tried: dict[int, Tried] = {}
     for track in sorted(found, key=lambda it: best(found[it]).merit(), reverse=True)[:MOST_TRACKS_TRIED]:
         readings = found[track]
         mine = best(readings)
@@ -147,7 +157,8 @@ def choose(sound: Sound, wanted: Wanted, room: str, progress: Progress | None = 
             found[track], tried[track] = tried_by_others(sound, readings, fronts, wanted, room)
     chosen = best([best(readings) for readings in found.values()])
     others = [it for readings in found.values() for it in readings]
-    return Choice(chosen, others, tried.get(chosen.track, []))
+    mine = tried.get(chosen.track, Tried())
+    return Choice(chosen, others, mine.names, mine.before_path)
 
 
 def front_ends_for(sound: Sound, mine: Reading) -> list[FrontEnd]:
@@ -165,14 +176,19 @@ def front_ends_for(sound: Sound, mine: Reading) -> list[FrontEnd]:
 
 def tried_by_others(
     sound: Sound, readings: list[Reading], fronts: list[FrontEnd], wanted: Wanted, room: str
-) -> tuple[list[Reading], list[str]]:
-    """The readings by the front end that hears most, and the names of those that were tried."""
-    names = []
+) -> tuple[list[Reading], Tried]:
+    """The readings by the front end that hears most, and those that were tried."""
+    tried = Tried()
     for front in fronts:
-        names.append(front.name)
+        # It is slow: it is tried where there is code, of which frames are missing.
+        if front.is_path and not is_code(best(readings)):
+            continue
+        tried.names.append(front.name)
+        if front.is_path:
+            tried.before_path = best(readings).heard
         found = read_track(sound, readings[0].track, wanted.systems, front, wanted.limit, room, wanted.all_words)
         if is_code(best(found)) and best(found).merit() > best(readings).merit():
             readings = found
         if not hears_little(best(readings)) and best(readings).heard:
             break
-    return readings, names
+    return readings, tried

@@ -11,20 +11,27 @@ RATE_OF_A_SUM = 16_000
 MOST_SUMS = 16
 # Hum and its harmonics lie below, code above.
 HIGH_PASS_HERTZ = 300
+# So many ticks has a sample, with every front end.
+FINENESS = 16
+# The best path needs so many samples a second, for any system.
+PATH_RATE = 4_200
 
 
 @dataclass(frozen=True)
 class FrontEnd:
-    """The words of `wav-ltc`, and a filter before it."""
+    """The words of `wav-ltc`, and a filter before it; or the best path, of `pcm-ltc`."""
 
     name: str
     threshold: int = THRESHOLD
     sums: int = 1
     is_deep: bool = False
     high_pass: int | None = None
+    is_path: bool = False
 
     def words(self) -> list[str]:
-        """What stands behind the track."""
+        """What stands behind the track, or behind the rate."""
+        if self.is_path:
+            return [str(self.threshold), str(FINENESS), "path"]
         more = [str(self.sums), "deep"] if self.is_deep else [str(self.sums)] if self.sums > 1 else []
         return [str(self.threshold), *more]
 
@@ -40,6 +47,8 @@ class FrontEnd:
 
 PLAIN = FrontEnd("plain")
 QUIET = FrontEnd(f"threshold {LOWEST_THRESHOLD}", threshold=LOWEST_THRESHOLD)
+# It is slow, and hears what can be heard.
+BEST_PATH = FrontEnd("best path", is_path=True)
 
 
 def others(rate: int) -> list[FrontEnd]:
@@ -53,4 +62,4 @@ def others(rate: int) -> list[FrontEnd]:
         FrontEnd(f"high-pass at {HIGH_PASS_HERTZ} Hz", high_pass=HIGH_PASS_HERTZ),
         FrontEnd(f"high-pass at {HIGH_PASS_HERTZ} Hz, sums of {sums}", sums=sums, high_pass=HIGH_PASS_HERTZ),
     ]
-    return [front for front in table if front.can_run]
+    return [front for front in table if front.can_run] + ([BEST_PATH] if rate >= PATH_RATE else [])

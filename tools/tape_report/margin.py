@@ -10,10 +10,10 @@ from dataclasses import dataclass
 
 from .clean import CLOCK, Clean, clean_of
 from .crossings import crossings_of, sums_of, thresholds_of, turns_of
-from .front_ends import FrontEnd
+from .front_ends import FINENESS, FrontEnd
 from .levels import samples_of
 from .sound import Sound
-from .spans import FINENESS, Reading
+from .spans import Reading
 
 # Two places are looked at, each of so many words: where the code begins, since the threshold has its level still to
 # find there, and further on, behind some words in which it finds it.
@@ -34,7 +34,8 @@ def is_asked(sound: Sound, reading: Reading) -> bool:
     was refused. And the sound is that of the file."""
     spans = reading.spans
     is_whole = len(spans) == 1 and spans[0].bridged == 0 and reading.refused == 0
-    return is_whole and spans[0].heard >= LEAST_WORDS and not sound.is_decoded and not reading.is_filtered
+    is_sliced = not sound.is_decoded and not reading.is_filtered and not reading.made.is_path
+    return is_whole and spans[0].heard >= LEAST_WORDS and is_sliced
 
 
 def margin_of(sound: Sound, reading: Reading) -> int | None:

@@ -47,6 +47,7 @@ def add_reading(words: argparse.ArgumentParser) -> None:
     words.add_argument("--threshold", type=number_from(1, 32_767), help="the least height of code (250)")
     words.add_argument("--smooth", type=number_from(1, 16), help="sums of so many samples, for hiss (1)")
     words.add_argument("--deep", action="store_true", help="a lower threshold, for dull tapes and hum")
+    words.add_argument("--path", action="store_true", help="the best path through the sound, which is slow")
     words.add_argument("--json", action="store_true", help="a JSON object a tape, in place of the report")
     words.add_argument("--force", action="store_true", help="replaces files that stand")
 
@@ -94,6 +95,8 @@ def refuse(words: argparse.ArgumentParser, options: argparse.Namespace) -> None:
     """Ends with status 2 where words do not go together."""
     if options.rate and options.system and system_of(RATES[options.rate]) != options.system:
         words.error(f"--rate {options.rate} is none of --system {options.system}")
+    if options.path and (options.smooth is not None or options.deep):
+        words.error("--path takes no --smooth and no --deep")
 
 
 def tape_options(arguments: Sequence[str]) -> argparse.Namespace:
@@ -116,7 +119,7 @@ def archive_options(arguments: Sequence[str]) -> argparse.Namespace:
 
 def reading_of(options: argparse.Namespace) -> dict[str, Any]:
     """The words that say how a tape is read."""
-    names = ("track", "system", "rate", "limit", "all_words", "threshold", "smooth", "deep")
+    names = ("track", "system", "rate", "limit", "all_words", "threshold", "smooth", "deep", "path")
     return {name: getattr(options, name) for name in names}
 
 
@@ -135,6 +138,8 @@ def wanted_of(reading: dict[str, Any]) -> tuple[Wanted, Fraction | None]:
 def front_end(reading: dict[str, Any]) -> FrontEnd | None:
     """The front end that is given, where one is."""
     threshold, smooth, is_deep = reading["threshold"], reading["smooth"], reading["deep"]
+    if reading["path"]:
+        return FrontEnd("best path", threshold or front_ends.THRESHOLD, is_path=True)
     if threshold is None and smooth is None and not is_deep:
         return None
     return FrontEnd("given", threshold or front_ends.THRESHOLD, smooth or 1, is_deep)

@@ -7,8 +7,9 @@ from fractions import Fraction
 
 from .breaks import goes_on
 from .choice import Choice
+from .front_ends import FINENESS
 from .labels import FRAMES, LABELS_A_DAY, NTSC, RATES, label_of, name_of, number_of
-from .spans import FINENESS, Reading, Span, Word, words_in
+from .spans import Reading, Span, Word, words_in
 
 # The first label is fixed by so many seconds of code that goes on.
 SECONDS_OF_CODE = 2

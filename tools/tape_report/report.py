@@ -119,7 +119,8 @@ def code_lines(choice: Choice, place: Place | None, level: Level, sound: Sound, 
     yield from rate_line(choice, place, is_given)
     yield from tracks_lines(choice)
     if choice.tried:
-        yield f"front end     {mine.front}; tried {', '.join(choice.tried)}"
+        before = "" if choice.before_path is None else f"; without the path {choice.before_path} frames"
+        yield f"front end     {mine.front}; tried {', '.join(choice.tried)}{before}"
     yield f"peak          {level.decibels}{early(sound)}"
     missed = f"{mine.refused} words refused, {mine.lost} times lost"
     yield f"heard         {mine.heard} frames, {mine.bridged} bridged; {missed}"
@@ -183,9 +184,8 @@ def advice(level: Level, was_tried: bool) -> str:
     if level.is_quiet:
         return "very quiet" + ("" if was_tried else ": try --threshold 20")
     if level.crossings > 6 * CELLS_A_SECOND:
-        return "far more crossings than code has: hiss, or sound that is no code" + (
-            "" if was_tried else "; try --smooth 3"
-        )
+        more = "--path" if was_tried else "--smooth 3 or --path"
+        return f"far more crossings than code has: hiss, or sound that is no code; try {more}"
     if level.crossings < CELLS_A_SECOND / 4:
         return "far fewer crossings than code has: speech or music, or code played slowly"
     return "as many crossings as code may have, and music: if it is code, try --threshold, --smooth 5, or a filter"

@@ -14,6 +14,7 @@ from .faults import NoProgram, NoSound
 from .front_ends import FrontEnd
 from .programs import program
 from .sound import Input, Sound
+from .track import track_samples
 from .spans import Reading, spans_in
 
 # Under this tolerance sound is read: the command that prints its words, and the word of `ltc-spans`. With the last word
@@ -69,15 +70,23 @@ def started(words: list[str], output: IO[bytes]) -> "subprocess.Popen[bytes]":
 
 
 class Slicing:
-    """`tc wav-ltc` of a track: the bytes of its interval file, and then how it and the decoder ended."""
+    """`tc` of a track, by `wav-ltc` or the best path: the bytes of its interval file, and then how it and the decoder
+    ended.
+    """
 
     def __init__(self, sound: Sound, track: int, front: FrontEnd) -> None:
-        self.sound = sound
+        self.sound, self.front = sound, front
         self.stream, number = sound.place_of(track)
         self.input = sound.open(self.stream, front.filters)
         self.notes = tempfile.TemporaryFile()
-        words = [program(), "wav-ltc", "25", str(number), *front.words()]
-        self.slicer = subprocess.Popen(words, stdin=self.input.output, stdout=subprocess.PIPE, stderr=self.notes)
+        words = ["wav-ltc", "25", str(number)]
+        samples: IO[bytes] = self.input.output
+        if front.is_path:
+            words, samples = ["pcm-ltc", "25", str(self.stream.rate)], track_samples(sound, self.input, track)
+        command = [program(), *words, *front.words()]
+        self.slicer = subprocess.Popen(command, stdin=samples, stdout=subprocess.PIPE, stderr=self.notes)
+        if front.is_path:
+            samples.close()
         if self.slicer.stdout is None:
             raise NoProgram("tc has no output")
         self.output = self.slicer.stdout
@@ -103,7 +112,10 @@ class Slicing:
             return self.decoder_ended(self.input.decoder, note, is_empty)
         if status != 0 and (is_empty or "refused" not in note and "limit" not in note):
             raise NoSound(note or f"tc ended with status {status}")
-        return note
+        # The best path has the samples alone, and does not see that they end too early.
+        wave = self.sound.wave
+        is_cut = self.front.is_path and wave is not None and wave.is_cut
+        return f"the file ends inside its samples, at byte {wave.length}" if is_cut and wave else note
 
     def decoder_ended(self, decoder: Decoder, note: str, is_empty: bool) -> str:
         # It has no reader any more, where `tc` gave up.

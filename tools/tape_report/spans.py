@@ -3,10 +3,9 @@ from collections.abc import Iterable
 from dataclasses import dataclass, field
 from fractions import Fraction
 
-from .front_ends import PLAIN, FrontEnd
+from .front_ends import FINENESS, PLAIN, FrontEnd
 
 # Ticks a sample in the recordings of `wav-ltc`.
-FINENESS = 16
 
 
 @dataclass(frozen=True)

@@ -10,10 +10,11 @@ from . import options as words
 from . import report, row, stamp, targets
 from .endings import FAILED, FOUND, NONE_FOUND, say
 from .faults import Fault, reason_of
+from .front_ends import FINENESS
 from .names import shown
 from .programs import HERE
 from .source import opened
-from .spans import FINENESS, Reading
+from .spans import Reading
 from .work import Tape, tape_read
 
 

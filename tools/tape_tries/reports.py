@@ -182,6 +182,22 @@ def try_front_ends(room):
     has(out, "front ends    tried sums of 3, deep")
 
 
+def try_best_path(room):
+    """In loud noise the best path hears what sums do not, from one track of several and from any width."""
+    chance = random.Random(5)
+    made = code(48_000, intervals("25", "10:00:00:00", 100), size=6000)
+    loud = [max(-32_768, min(32_767, round(sample + chance.gauss(0, 4200)))) for sample in made]
+    other = tone(len(loud), 48_000)
+    for name, tracks, bits in (("loud.wav", [loud], 16), ("pair.wav", [other, loud], 24)):
+        path = wav(os.path.join(room, name), 48_000, tracks, bits)
+        track = ("--track", str(len(tracks)))
+        sums, best = heard_of(path, *track, "--smooth", "3"), heard_of(path, *track, "--path")
+        assert best > 95 and best > sums + 20, f"{name}: with the path {best}, with sums {sums}"
+    out, _ = tape(path, "--track", "2")
+    assert re.search(r"\nfront end     best path; tried .*, best path; without the path \d+ frames", out), out
+    tape(path, "--path", "--deep", status=2)
+
+
 def try_tracks(room):
     """Each track's own code is told, where they differ; the same code on two is told once."""
     one, two = (code(48_000, intervals("25", label, 60)) for label in ("10:00:00:00", "20:00:00:00"))

@@ -1,12 +1,14 @@
 //! Words as they are typed, and what they say.
 use biphase::Profile;
 use interval_file::FileVersion;
+use path_front::Grid;
 use pcm_front::{Pace, Threshold};
 use std::alloc::{AllocError, Global};
 use std::test::Fail;
 use tc_address::text;
 use tc_job::{
-    ChaseRun, Jam, Job, LineStripe, Slicing, SoundLevel, Task, WaveSlicing, Witness, WordsFault,
+    ChaseRun, Jam, Job, LineStripe, PathSlicing, Slicing, SoundLevel, Task, WaveSlicing, Witness,
+    WordsFault,
 };
 use tc_words::read_words;
 
@@ -60,6 +62,13 @@ fn label_text_of(job: &Job) -> Option<[u8; 11]> {
 fn slicing_of(job: &Job) -> Option<Slicing> {
     match job {
         Job::PcmLtc { slicing } => Some(*slicing),
+        _ => None,
+    }
+}
+
+fn path_of(job: &Job) -> Option<PathSlicing> {
+    match job {
+        Job::PcmPath { path } => Some(*path),
         _ => None,
     }
 }
@@ -216,6 +225,37 @@ fn slicings_are_read(rt: HostRuntime) -> Result<(), Fail> {
         assert_eq!(rt; slicing.threshold(), threshold, "at {line}");
         assert_eq!(rt; slicing.fineness(), fineness, "at {line}");
         assert_eq!(rt; slicing.tick_rate(), tick_rate, "at {line}");
+    }
+    Ok(())
+}
+
+#[test]
+fn best_paths_are_read(rt: HostRuntime) -> Result<(), Fail> {
+    let alloc = rt.alloc();
+    for (line, least, tick_rate, grid, ticks) in [
+        (
+            "pcm-ltc 25 48000 250 16 path",
+            250,
+            768_000,
+            Grid::Repeat(1),
+            16,
+        ),
+        ("pcm-ltc 24 8000 1 64 path", 1, 512_000, Grid::Repeat(4), 16),
+        (
+            "pcm-ltc 30 192000 32767 1 path",
+            32_767,
+            192_000,
+            Grid::Sum(4),
+            4,
+        ),
+    ] {
+        let Some(path) = path_of(&job_in(alloc, line)?) else {
+            return Err("no path".into());
+        };
+        assert_eq!(rt; path.least(), least, "at {line}");
+        assert_eq!(rt; path.tick_rate(), tick_rate, "at {line}");
+        assert_eq!(rt; path.grid(), grid, "at {line}");
+        assert_eq!(rt; path.ticks(), ticks, "at {line}");
     }
     Ok(())
 }

@@ -1,6 +1,7 @@
 -- The next frame of an interval is the first of those that are still to come, since the words that wait come later.
 use Rattle.std.proofs.Common.{◌≡◌, ℕ, ◌^◌, ◌<◌, ◌≤◌, List, [], ◌∷◌, ◌++◌, ◌∙◌, ap, arith, refl, sym}
-use Rattle.std.proofs.Common.{append_assoc, ◌+◌, Bool, true, false, inl, inr}
+use Rattle.std.proofs.Common.{append_assoc, append-nil, length, length-append, subst, ◌+◌, ◌-◌, ◌*◌, Bool, true, false, inl, inr}
+use Rattle.std.proofs.lemmas.Bool.Decides.{nat_tests}
 use Rattle.std.proofs.lemmas.Bool.{cases_lt}
 use Rattle.std.specs.Prelude.{All, IfSome, None, Option, Some}
 use Rattle.std.proofs.lemmas.List.Elements.{All-nil, All-cons}
@@ -14,7 +15,7 @@ use Rattle.flywheel.specs.Wheel.{Wheel, IsPast, is_next_due, running, still}
 use Rattle.report_text.specs.FrameTexts.{FitsFrameLine}
 use Rattle.frame_commands.specs.declared.frames.Frames.{Frames}
 use Rattle.frame_commands.specs.Hearing.{due_at, word_ticks}
-use Rattle.frame_commands.specs.KeptFlight.{Comes, HasGiven, HeardBy}
+use Rattle.frame_commands.specs.KeptFlight.{Comes, GivesDue, HasGiven, HeardBy}
 
 -- ---- words in turn
 
@@ -113,3 +114,63 @@ pub none_due : (o : Option HeardWord) (invented limit tick : ℕ) (result : Opti
 none_due None invented limit tick result new within gone none = refl
 none_due (Some word) invented limit tick result new within gone none =
     by_due (is_due word (invented + 1) tick) word (invented + 1) limit result new within gone none
+
+-- ---- what is due at no later tick is due at no earlier one
+
+due_later : (word : HeardWord) (k from tick : ℕ) → from ≤ tick → is_due word k from ≡ true → is_due word k tick ≡ true
+due_later word k from tick late due =
+    let length = (2 * k + 1) * word.length in
+    let sooner : length ≤ 2 * (from - word.tick) = grind (arith, nat_tests, due) in
+    let later : length ≤ 2 * (tick - word.tick) = omega (arith, sooner, late) in
+    grind (arith, nat_tests, later)
+
+given_later : (limit : ℕ) (o : Option HeardWord) (invented : ℕ) (words : List HeardWord) (from tick : ℕ)
+    (given : List Frame) → from ≤ tick → flies.HasGiven limit o invented words from given
+    → flies.HasGiven limit o invented words tick given
+given_later limit None invented words from tick given late (inl none) = inl none
+given_later limit None invented words from tick given late (inr up) = inr (record {
+  earlier = up.earlier;
+  word = up.word;
+  told = up.told;
+  given_are = up.given_are;
+  least = up.least;
+  due = due_later up.word (limit + 1) from tick late up.due;
+})
+given_later limit (Some word) invented words from tick given late has =
+    let before = has.before in
+    record {
+      earlier = has.earlier;
+      told = has.told;
+      given_are = has.given_are;
+      least = has.least;
+      within = has.within;
+      before = omega (arith, before, late);
+      due = λ k one few. due_later word k from tick late (has.due k one few);
+    }
+
+-- nothing stands behind a list that is all
+all_of : (given rest more : List Frame) → given ≡ (given ++ rest) ++ more → rest ≡ []
+all_of given [] more is = refl
+all_of given (frame ∷ rest) more is =
+    let whole : length given ≡ length ((given ++ frame ∷ rest) ++ more) = ap (λ (fs : List Frame). length fs) is in
+    let first = length-append (given ++ frame ∷ rest) more in
+    let second = length-append given (frame ∷ rest) in
+    let one : length (frame ∷ rest) ≡ length rest + 1 = omega arith in
+    let none : ⊥ = omega (arith, whole, first, second, one) in absurd none
+
+pub quiet_by : InOrder → (wheel : Wheel) (tick : ℕ)
+    → ((words : List HeardWord) (earlier : ℕ) (given : List Frame) → flies.StandsFor wheel words earlier given
+    → earlier ≤ tick → flies.HasGivenAll wheel words tick given)
+    → (by : ℕ) → by ≤ tick → GivesDue wheel wheel by []
+quiet_by order wheel tick all by before = λ words earlier given stands early.
+    let limit = wheel.limit in
+    let here = given_later limit wheel.reference wheel.invented words earlier by given early stands in
+    let first = order.given wheel words by given here in
+    let later = order.later limit by tick words [] before (All-nil (λ (word : HeardWord). by ≤ word.tick)) in
+    let end = (all words earlier given stands (omega (arith, early, before))).1 in
+    let whole : frames limit (words ++ []) tick ≡ given = rw (append-nil words) end in
+    let is : given ≡ (given ++ first.0) ++ later.0 =
+    sym whole ∙ later.1 ∙ ap (λ (fs : List Frame). fs ++ later.0) first.1 in
+    let none = all_of given first.0 later.0 is in
+    let sum : frames limit words by ≡ given = rw none at first.1 ∙ append-nil given in
+    subst (λ (fs : List Frame). flies.HasGivenAll wheel words by fs) (sym (append-nil given)) (here, sum)

@@ -1,10 +1,13 @@
 //! The way along the frames of a recording, the same for each command that makes something of them: words
 //! become frames, and these go to the command's sink. Next: `hearing`, then `frames`, and with the frames
 //! `frame_sink`.
-ghost use Rattle.std.specs.Prelude.{◌≡◌, ◌≤◌, ◌<◌, ◌^◌, ℕ, List, [], IsTrue, OnOk, OnErr, All, length};
+ghost use Rattle.std.specs.Prelude.{◌≡◌, ◌≤◌, ◌<◌, ◌^◌, ℕ, List, [], ◌∷◌, ◌++◌, OnOk, OnErr, IfSome, None, All, length};
+ghost use Rattle.direction_reader.specs.declared.event.Event.{Event};
 ghost use Rattle.flywheel.specs.declared.frame.Frame.{Frame};
 ghost use Rattle.flywheel.specs.Wheel.{IsInRange};
 ghost use Rattle.tc_io.specs.Source.{Rose};
+ghost use Rattle.limits.specs.declared.recording.TheConstants.{MAX_INTERVAL, MAX_INTERVALS};
+ghost use Rattle.frame_commands.specs.Hearing.{Hearer, HearsOn};
 ghost use Rattle.frame_commands.specs.KeptFlight.{
   frames_counted,
   Counts,
@@ -21,7 +24,7 @@ ghost use Rattle.frame_commands.specs.KeptFlight.{
 
 use crate::frame_sink::FrameSink;
 use crate::frames::Frames;
-use crate::hearing::Hearing;
+use crate::hearing::{Hearing, step_aside};
 use crate::laws::what_is_heard_is_in_order;
 use interval_engine::Behind;
 use interval_file::IntervalHeader;
@@ -37,15 +40,39 @@ pub(crate) struct FlightTo<R: Hearing, T: FrameSink> {
 }
 
 impl<R: Hearing, T: FrameSink> FlightTo<R, T> {
-    /// Whether an interval brings no frame: nothing was told of it, and none is due.
+    /// Takes an interval of `x` ticks, and answers what it brought, but for one that brought nothing and with which no
+    /// frame is due. Nearly all are so, and whether a frame is due at the end of one is asked first, while that tick is at
+    /// hand.
     #[inline(always)]
-    fn is_quiet(&self, brought: &R::Brought, until: u64) -> bool
-        requires below { until < 2 ^ 60 }
-        requires heard_by { HeardBy until self.now.frames.wheel }
-        ensures quiet { IsTrue result → ((reader : R) → R.tells reader brought.now [])
-            × GivesDue self.now.frames.wheel self.now.frames.wheel until [] }
+    fn hear(&mut self, x: u32) -> Option<R::Brought>
+        requires least { 1 ≤ x }
+        requires most { x ≤ MAX_INTERVAL }
+        requires room { Hearer.count (R.hearer self.old.reader) < MAX_INTERVALS }
+        requires heard_by { HeardBy (Hearer.until (R.hearer self.old.reader)) self.old.frames.wheel }
+        ensures frames { self.new.frames ≡ self.old.frames }
+        ensures sink { self.new.sink ≡ self.old.sink }
+        ensures next { HearsOn (R.hearer self.old.reader) x (R.hearer self.new.reader) }
+        ensures later { Hearer.until (R.hearer self.old.reader) ≤ Hearer.until (R.hearer self.new.reader) }
+        ensures may { IfSome result (λ brought. R.may self.new.reader brought (Hearer.until (R.hearer self.old.reader))) }
+        ensures stands { IfSome result (λ brought. (intervals : List ℕ) (events own : List Event)
+            → Hearer.stands (R.hearer self.old.reader) intervals events → R.tells self.new.reader brought own
+            → Hearer.stands (R.hearer self.new.reader) (intervals ++ x ∷ []) (events ++ own)) }
+        ensures nothing { result ≡ None → (intervals : List ℕ) (events : List Event)
+            → Hearer.stands (R.hearer self.old.reader) intervals events
+            → Hearer.stands (R.hearer self.new.reader) (intervals ++ x ∷ []) (events ++ []) }
+        ensures quiet { result ≡ None → GivesDue self.old.frames.wheel self.old.frames.wheel
+            (Hearer.until (R.hearer self.new.reader)) [] }
+        ensures below { result ≡ None → Hearer.until (R.hearer self.new.reader) < 2 ^ 60 }
     {
-        R::is_nothing(brought) && self.frames.is_quiet(until)
+        if !self.frames.is_quiet(self.reader.tick_after(x)) {
+            return Some(step_aside(&mut self.reader, x));
+        }
+        let brought = self.reader.step(x);
+        if R::is_nothing(&brought) {
+            None
+        } else {
+            Some(brought)
+        }
     }
 
     /// Gives the sink the frames of the words that wait, up to a tick. Nearly every interval brings none, and a
@@ -120,15 +147,16 @@ impl<R: Hearing, T: FrameSink> Behind for FlightTo<R, T> {
     #[inline(always)]
     fn interval<K: Sink>(&mut self, x: u32, out: &mut K) -> Result<(), Stop> {
         R::what_is_told_is_heard();
-        let brought = self.reader.step(x);
-        let until = self.reader.until();
-        if self.is_quiet(&brought, until) {
-            return Ok(());
-        }
-        self.reader.words(brought, &mut self.frames.words);
-        match self.give(until, out) {
-            Ok(()) => Ok(()),
-            Err(Failed) => Err(Stop::WriteFault),
+        match self.hear(x) {
+            None => Ok(()),
+            Some(brought) => {
+                let until = self.reader.until();
+                self.reader.words(brought, &mut self.frames.words);
+                match self.give(until, out) {
+                    Ok(()) => Ok(()),
+                    Err(Failed) => Err(Stop::WriteFault),
+                }
+            }
         }
     }
 

@@ -91,13 +91,15 @@ impl Frames {
         }
     }
 
-    /// Whether no frame is due at the tick.
+    /// Whether no frame is due at the tick, and so none at an earlier one.
     #[inline(always)]
     pub(crate) fn is_quiet(&self, until: u64) -> bool
         requires below { until < 2 ^ 60 }
         requires heard_by { HeardBy until self.now.wheel }
-        ensures quiet { IsTrue result → GivesDue self.now.wheel self.now.wheel until [] }
+        ensures quiet { IsTrue result → (by : ℕ) → by ≤ until → GivesDue self.now.wheel self.now.wheel by [] }
     {
+        frames_come_in_order();
+        frames_of_a_front_come_first();
         !self.wheel.due(until)
     }
 

@@ -48,6 +48,7 @@ pub(crate) trait Hearing: Drop {
         requires room { Hearer.count (hearer self.old) < MAX_INTERVALS }
         ensures next { HearsOn (hearer self.old) x (hearer self.new) }
         ensures later { Hearer.until (hearer self.old) ≤ Hearer.until (hearer self.new) }
+        ensures within { Hearer.until (hearer self.new) ≤ Hearer.tick (hearer self.new) }
         ensures may { may self.new result (Hearer.until (hearer self.old)) }
         ensures stands { (intervals : List ℕ) (events own : List Event)
             → Hearer.stands (hearer self.old) intervals events → tells self.new result own
@@ -84,6 +85,13 @@ pub(crate) trait Hearing: Drop {
         ensures value { result ≡ Hearer.until (hearer self.now) }
         ensures below { result < 2 ^ 60 };
 
+    /// The tick at which the next interval ends, if it has `x` ticks.
+    fn tick_after(&self, x: u32) -> u64
+        requires { x ≤ MAX_INTERVAL }
+        ensures value { result ≡ Hearer.tick (hearer self.now) + x }
+        ensures within { Hearer.until (hearer self.now) ≤ result }
+        ensures below { result < 2 ^ 60 };
+
     /// How many intervals were taken.
     fn intervals(&self) -> u64
         ensures value { result ≡ Hearer.count (hearer self.now) }
@@ -100,6 +108,23 @@ pub(crate) trait Hearing: Drop {
             → Hearer.stands (hearer reader) intervals events
             → AreHeardYet witness (Hearer.system (hearer reader)) (Hearer.profile (hearer reader)) intervals events
             (Hearer.until (hearer reader)) };
+}
+
+/// Takes the next interval, of `x` ticks, out of the way of those with which no frame is due.
+#[cold]
+#[inline(never)]
+pub(crate) fn step_aside<R: Hearing>(reader: &mut R, x: u32) -> R::Brought
+    requires least { 1 ≤ x }
+    requires most { x ≤ MAX_INTERVAL }
+    requires room { Hearer.count (R.hearer reader.old) < MAX_INTERVALS }
+    ensures next { HearsOn (R.hearer reader.old) x (R.hearer reader.new) }
+    ensures later { Hearer.until (R.hearer reader.old) ≤ Hearer.until (R.hearer reader.new) }
+    ensures may { R.may reader.new result (Hearer.until (R.hearer reader.old)) }
+    ensures stands { (intervals : List ℕ) (events own : List Event)
+        → Hearer.stands (R.hearer reader.old) intervals events → R.tells reader.new result own
+        → Hearer.stands (R.hearer reader.new) (intervals ++ x ∷ []) (events ++ own) }
+{
+    reader.step(x)
 }
 
 impl Hearing for DirectionReader {
@@ -150,6 +175,11 @@ impl Hearing for DirectionReader {
         self.tick()
     }
 
+    #[inline(always)]
+    fn tick_after(&self, x: u32) -> u64 {
+        self.tick() + u64::from(x)
+    }
+
     fn intervals(&self) -> u64 {
         self.intervals()
     }
@@ -183,7 +213,9 @@ impl Hearing for FirmReader {
     }
 
     fn step(&mut self, x: u32) -> FirmEvents {
-        self.feed(x)
+        let told = self.feed(x);
+        let _within = self.told_until();
+        told
     }
 
     fn is_nothing(brought: &FirmEvents) -> bool {
@@ -205,6 +237,11 @@ impl Hearing for FirmReader {
 
     fn until(&self) -> u64 {
         self.told_until()
+    }
+
+    fn tick_after(&self, x: u32) -> u64 {
+        let _within = self.told_until();
+        self.tick() + u64::from(x)
     }
 
     fn intervals(&self) -> u64 {

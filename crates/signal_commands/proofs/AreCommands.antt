@@ -1,9 +1,9 @@
 -- What `mtc-read`, `pcm-ltc` and `vitc-read` write of some bytes comes first, whatever bytes follow, so each is a command as any other.
-use Rattle.std.proofs.Common.{◌≡◌, ℕ, zero, suc, ◌+◌, ◌*◌, ℤ, List, [], ◌∷◌, ◌++◌, take, drop, refl, sym, ◌∙◌, ap}
-use Rattle.std.proofs.Common.{subst, append_assoc, arith}
+use Rattle.std.proofs.Common.{◌≡◌, ℕ, ◌+◌, ◌*◌, ℤ, List, [], ◌∷◌, ◌++◌, take, drop, refl, sym, ◌∙◌, ap}
+use Rattle.std.proofs.Common.{subst, append_assoc}
 use Rattle.std.proofs.lemmas.Bool.{false≢true}
 use Rattle.std.proofs.lemmas.Grind.{flat_map-append}
-use Rattle.std.proofs.lemmas.List.{take-append-drop, take_all}
+use Rattle.std.proofs.lemmas.List.{take-append-drop}
 use Rattle.interval_file.specs.FileLemmas.{file_first}
 use Rattle.lemmas.specs.Lists.{first_items}
 use Rattle.line_file.specs.Answers.{AreAnswersOf}
@@ -16,10 +16,7 @@ use Rattle.pcm_front.specs.declared.pace.Pace.{Pace}
 use Rattle.pcm_front.specs.Pace.{intervals_at, IsPace}
 use Rattle.pcm_front.specs.Samples.{sample_in, samples_of}
 use Rattle.pcm_front.specs.Settings.{Settings}
-use Rattle.interval_file.specs.declared.header.IntervalHeader.{IntervalHeader}
-use Rattle.interval_file.specs.Grammar.{file_of, intervals_bytes}
-use Rattle.interval_file.specs.IntervalHeader.{header_bytes}
-use Rattle.interval_file.specs.Piece.{spelling}
+use Rattle.interval_file.specs.Grammar.{file_of}
 use Rattle.line_file.specs.declared.fault.LineFileFault.{LineFileFault}
 use Rattle.tc_io.specs.Verdict.{refused, past_limit}
 use Rattle.tc_io.specs.Sink.{IsFront}
@@ -89,7 +86,7 @@ abbrev IntervalsComeFirst : Type 0
 IntervalsComeFirst = (pace : Pace) (settings : Settings) (front more : List ℤ) → IsPace pace
     → (rest : List ℕ) × (intervals_at pace settings (front ++ more) ≡ intervals_at pace settings front ++ rest)
 
-samples_first : (front more : List ℕ) → (rest : List ℤ) × (samples_of (front ++ more) ≡ samples_of front ++ rest)
+pub samples_first : (front more : List ℕ) → (rest : List ℤ) × (samples_of (front ++ more) ≡ samples_of front ++ rest)
 unfolding samples_of
 samples_first [] more = (samples_of more, refl)
 samples_first (low ∷ []) more = (samples_of (low ∷ more), refl)

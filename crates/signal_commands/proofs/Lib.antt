@@ -5,6 +5,9 @@ mod FieldsTold
 mod MidiGrows
 mod MidiLimit
 mod NothingYet
+mod PathEnds
+mod PathIsCommand
+mod PathOn
 mod PutMore
 mod SentIsRead
 mod SlicedOn

@@ -1,9 +1,9 @@
 -- A file of sliced sound grows by the intervals that more samples bring, and past the limit nothing more is taken.
-use Rattle.std.proofs.Common.{◌≡◌, inl, ℕ, ◌+◌, ◌-◌, ◌*◌, ◌/◌, ◌^◌, ◌%◌, ◌==◌, ap₂, get_or, mul-add, mul-le-mul, ◌<◌, ◌≤◌, Bool, true, false, nat_lt, cond, ℤ}
+use Rattle.std.proofs.Common.{◌≡◌, inl, ℕ, ◌+◌, ◌-◌, ◌*◌, ◌/◌, ◌^◌, ◌%◌, ◌==◌, ap₂, get_or, mul-add, mul-le-mul, ◌<◌, ◌≤◌, nat_lt, cond, ℤ}
 use Rattle.std.proofs.Common.{List, [], ◌∷◌, ◌++◌, length, take, drop, Some, None, sym, ◌∙◌, ap, refl, subst, append_assoc, append-nil, arith}
 use Rattle.std.specs.declared.option.Option.{Option}
 use Rattle.std.specs.Option.{option_to_list}
-use Rattle.std.proofs.lemmas.Bool.{ltb-true, lt-ltb}
+use Rattle.std.proofs.lemmas.Bool.{lt-ltb}
 use Rattle.std.proofs.lemmas.Grind.{flat_map-append}
 use Rattle.std.proofs.lemmas.List.{length-append, length-take, length-take-le, take-append-drop, take-append-le, take-take, take_all}
 use Rattle.pcm_front.specs.declared.interval.Intervals.{Intervals}
@@ -17,7 +17,7 @@ use Rattle.interval_file.specs.declared.header.FileVersion.TheVariants.{One}
 use Rattle.interval_file.specs.Grammar.{file_of, intervals_bytes}
 use Rattle.interval_file.specs.IntervalHeader.{header_bytes}
 use Rattle.interval_file.specs.Piece.{spelling}
-use Rattle.tc_io.specs.Verdict.{Verdict, good, refused, past_limit}
+use Rattle.tc_io.specs.Verdict.{refused, past_limit}
 use Rattle.tc_io.specs.Sink.{AppendsFront}
 use Rattle.tc_job.specs.Slicing as words
 use Rattle.signal_commands.specs.declared.pcm_ltc.SlicedSound.{SlicedSound}
@@ -42,7 +42,7 @@ use Rattle.signal_commands.proofs.PutMore.{none_begun}
 pub never_refused : (most : ℕ) (bytes : List ℕ) (f : InputFault) → ¬ (samples_within most bytes ≡ refused f)
 never_refused most bytes f e = not_refused (nat_lt most (length (samples_of bytes))) f e
 
-is_past : (most : ℕ) (bytes : List ℕ) → most < length (samples_of bytes) → samples_within most bytes ≡ past_limit
+pub is_past : (most : ℕ) (bytes : List ℕ) → most < length (samples_of bytes) → samples_within most bytes ≡ past_limit
 is_past most bytes more = ap verdict_by (lt-ltb most (length (samples_of bytes)) more)
 
 -- more bytes have no fewer samples
@@ -59,7 +59,7 @@ past_within most front rest e =
     is_past most (front ++ rest) (omega (arith, more, no_fewer front rest))
 
 -- two bytes are a sample
-some_samples : (bytes : List ℕ) → 2 ≤ length bytes → 1 ≤ length (samples_of bytes)
+pub some_samples : (bytes : List ℕ) → 2 ≤ length bytes → 1 ≤ length (samples_of bytes)
 unfolding samples_of
 some_samples [] some = absurd (omega (arith, some))
 some_samples (low ∷ []) some = absurd (omega (arith, some))

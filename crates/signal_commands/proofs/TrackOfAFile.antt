@@ -1,6 +1,6 @@
 -- A sound file that was made of blocks is read as them, so what is written of it is the file of its track, whose
 -- intervals tell its crossings.
-use Rattle.std.proofs.Common.{◌≡◌, ℕ, ◌*◌, List, Some, sym, ◌∙◌, ap, arith}
+use Rattle.std.proofs.Common.{◌≡◌, ℕ, ◌*◌, List, sym, ◌∙◌, ap, arith}
 use Rattle.tc_job.specs.WaveSlicing.{IsWaveSlicing, SlicesWave}
 use Rattle.wave_file.specs.declared.format.WaveFormat.{WaveFormat}
 use Rattle.wave_file.specs.Grammar.{IsMadeOf, Sample, read_whole}

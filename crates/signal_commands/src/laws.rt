@@ -1,5 +1,6 @@
 //! What follows from the definitions alone.
 ghost use Rattle.std.specs.Prelude.{◌≡◌};
+ghost use Rattle.tc_job.specs.PathSlicing.{SlicesPath};
 ghost use Rattle.tc_job.specs.Slicing.{Slices};
 ghost use Rattle.tc_job.specs.WaveSlicing.{SlicesWave};
 ghost use Rattle.tc_command.specs.Command.{IsCommand};
@@ -8,6 +9,7 @@ ghost use Rattle.signal_commands.specs.declared.mtc_read.TheConstants.{MAX_BYTES
 ghost use Rattle.signal_commands.specs.declared.pcm_ltc.TheConstants.{MAX_SAMPLES};
 ghost use Rattle.signal_commands.specs.MtcRead.{along_midi};
 ghost use Rattle.signal_commands.specs.PcmLtc.{along_samples, told_pcm_ltc};
+ghost use Rattle.signal_commands.specs.PcmPath.{along_path};
 ghost use Rattle.signal_commands.specs.VitcRead.{along_fields};
 ghost use Rattle.signal_commands.specs.WavLtc.{along_sound_file};
 
@@ -16,6 +18,7 @@ use line_file::laws::{
     what_bytes_show_stays,
 };
 use mtc_reader::laws::earlier_events_stay;
+use path_front::laws::{a_sound_has_one_list_of_intervals, what_samples_bring_so_far_comes_first};
 use pcm_front::laws::intervals_of_a_front_come_first;
 use wave_file::laws::what_a_sound_file_shows_stays;
 
@@ -26,7 +29,10 @@ pub fn each_signal_makes_a_command()
     ensures samples { (slicing : Slices) → IsCommand (along_samples slicing) }
     ensures tracks { (slicing : SlicesWave) → IsCommand (along_sound_file slicing) }
     ensures fields { IsCommand along_fields }
+    ensures paths { (path : SlicesPath) → IsCommand (along_path path) }
 {
+    a_sound_has_one_list_of_intervals();
+    what_samples_bring_so_far_comes_first();
     earlier_events_stay();
     intervals_of_a_front_come_first();
     what_a_sound_file_shows_stays();

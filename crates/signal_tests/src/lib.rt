@@ -1,4 +1,4 @@
-//! MIDI Time Code and sound files from outside.
+//! MIDI Time Code, sound files and rows of pixels from outside.
 //!
 //! What no clause says of a crate, or what was known before it: values from standards, from other
 //! software, and worked out by hand, a module for each crate. They stand here since a crate with tests
@@ -11,5 +11,7 @@
 mod messages;
 #[cfg(test)]
 mod midi_bytes;
+#[cfg(test)]
+mod rows;
 #[cfg(test)]
 mod sound_files;

@@ -4,6 +4,8 @@ pub mod ChaseRun
 pub mod LineStripe
 pub mod LoadRun
 pub mod Pace
+pub mod PathGrid
+pub mod PathSlicing
 pub mod Slicing
 pub mod SoundLevel
 pub mod WaveSlicing

@@ -4,6 +4,7 @@ use crate::flight::Flight;
 use crate::jam::Jam;
 use crate::line_stripe::LineStripe;
 use crate::load_run::LoadRun;
+use crate::path_slicing::PathSlicing;
 use crate::slicing::Slicing;
 use crate::sound_level::SoundLevel;
 use crate::stripe::Stripe;
@@ -59,6 +60,8 @@ pub enum Job {
     /// `pcm-ltc SYSTEM RATE THRESHOLD [FINENESS [follow|deep [SMOOTH]]]`: reads samples of sound, and writes
     /// an interval file of the distances of their crossings.
     PcmLtc { slicing: Slicing },
+    /// `pcm-ltc SYSTEM RATE THRESHOLD FINENESS path`: the same of the cells of the best path through the sound.
+    PcmPath { path: PathSlicing },
     /// `wav-ltc SYSTEM TRACK THRESHOLD [SMOOTH [deep]]`: reads a sound file, and writes an interval file of
     /// the distances of the crossings of a track.
     WavLtc { slicing: WaveSlicing },

@@ -7,7 +7,8 @@
 //! `specs/`, as `IsStripe` of `Stripe.antt`), and gives back what it was made of.
 //!
 //! Read `fault`, `job`, `stripe`, `flight`, `jam`, `chase_run`, `line_stripe`, `load_run`, `pace`, `slicing`,
-//! `sound_level`, `wave_slicing` and `witness`, with `specs/` beside them, and `usages`, the table that `help` prints.
+//! `path_grid`, `path_slicing`, `sound_level`, `wave_slicing` and `witness`, with `specs/` beside them, and `usages`,
+//! the table that `help` prints.
 //! `tc_words`, which reads words as tasks, and `tc_command` stand on this crate. Nothing here allocates or fails.
 //!
 //! A later command joins in these places:
@@ -24,6 +25,8 @@ pub mod laws;
 mod line_stripe;
 mod load_run;
 mod pace;
+mod path_grid;
+mod path_slicing;
 mod slicing;
 mod sound_level;
 mod stripe;
@@ -38,6 +41,8 @@ pub use jam::Jam;
 pub use job::{Job, Task};
 pub use line_stripe::LineStripe;
 pub use load_run::{LoadRun, MAX_WORDS};
+pub use path_grid::{grid_for, step_ticks};
+pub use path_slicing::PathSlicing;
 pub use slicing::{MAX_FINENESS, MAX_LEVEL, Slicing};
 pub use sound_level::SoundLevel;
 pub use stripe::{MAX_FRAMES, Stripe};

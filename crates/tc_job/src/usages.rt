@@ -13,7 +13,7 @@ pub const USAGES: [(&str, &str); 22] = [
     ("ltc-convert", " VERSION"),
     (
         "pcm-ltc",
-        " SYSTEM RATE THRESHOLD [FINENESS [follow|deep [SMOOTH]]] [live]",
+        " SYSTEM RATE THRESHOLD [FINENESS [path|follow|deep [SMOOTH]]] [live]",
     ),
     ("wav-ltc", " SYSTEM TRACK THRESHOLD [SMOOTH [deep]] [live]"),
     ("ltc-pcm", " LEVEL"),

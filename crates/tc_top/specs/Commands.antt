@@ -22,6 +22,7 @@ use Rattle.made_commands.specs.Made.{told_ltc_make}
 use Rattle.made_commands.specs.MadeLines.{told_vitc_make}
 use Rattle.signal_commands.specs.MtcRead.{told_mtc_read}
 use Rattle.signal_commands.specs.PcmLtc.{told_pcm_ltc}
+use Rattle.signal_commands.specs.PcmPath.{told_pcm_path}
 use Rattle.signal_commands.specs.VitcRead.{told_vitc_read}
 use Rattle.signal_commands.specs.WavLtc.{told_wav_ltc}
 
@@ -40,6 +41,7 @@ told_of (jobs.LtcConvert version) = told_ltc_convert version
 told_of (jobs.LtcLoad run) = told_ltc_load run
 told_of (jobs.LtcPcm level) = told_ltc_pcm level
 told_of (jobs.PcmLtc slicing) = told_pcm_ltc slicing
+told_of (jobs.PcmPath path) = told_pcm_path path
 told_of (jobs.WavLtc slicing) = told_wav_ltc slicing
 told_of jobs.MtcRead = told_mtc_read
 told_of jobs.VitcRead = told_vitc_read

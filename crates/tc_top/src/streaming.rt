@@ -27,9 +27,9 @@ use made_commands::{
     numbers_are_lawful, stripes_are_lawful, tell_help, tell_label, tell_load, tell_number,
     tell_version,
 };
-use signal_commands::laws::sliced_sound_is_lawful;
+use signal_commands::laws::{each_signal_makes_a_command, sliced_sound_is_lawful};
 use signal_commands::{
-    fields_are_lawful, midi_is_lawful, read_fields, read_midi, slice_sound, slice_track,
+    fields_are_lawful, hear_path, midi_is_lawful, read_fields, read_midi, slice_sound, slice_track,
     sliced_tracks_are_lawful,
 };
 use tc_command::{Status, Stop, push_note, stop_note};
@@ -101,6 +101,7 @@ pub(crate) fn each_job_is_lawful()
     midi_is_lawful();
     sliced_sound_is_lawful();
     fields_are_lawful();
+    each_signal_makes_a_command();
     line_stripes_are_lawful();
     numbers_are_lawful();
     names_are_lawful();
@@ -130,6 +131,7 @@ fn work_on<S: Source, K: Sink>(job: &Job, source: &mut S, out: &mut K) -> Result
         Job::LtcLoad { run } => tell_load(run, source, out),
         Job::LtcPcm { level } => sound_recording(*level, source, out),
         Job::PcmLtc { slicing } => slice_sound(slicing, source, out),
+        Job::PcmPath { path } => hear_path(path, source, out),
         Job::WavLtc { slicing } => slice_track(slicing, source, out),
         Job::MtcRead => read_midi(source, out),
         Job::VitcRead => read_fields(source, out),

@@ -1,8 +1,9 @@
--- The words that the form of a command makes, as `help` prints it: a word in capitals stands for a value, what stands in
--- brackets may be left out, and of words with a bar between them one is given.
-use Rattle.std.specs.Prelude.{◌≡◌, ℕ, ◌==◌, Bool, true, not, ◌&&◌, List, [], ◌∷◌, ◌++◌, codes, map, if◌then◌else◌}
-use Rattle.std.specs.Prelude.{drop, get_or, Option, Some, None}
-use Rattle.std.specs.List.{flat_map, list_any, AllByRecursion}
+-- The words that the form of a command makes, as `help` prints it: a word in capitals stands for a value, what stands
+-- in brackets may be left out, and of words with a bar between them one is given. Behind `path` nothing is.
+use Rattle.std.specs.Prelude.{◌≡◌, ℕ, ◌==◌, Bool, true, false, not, ◌&&◌, ◌||◌, List, [], ◌∷◌, ◌++◌, codes, map}
+use Rattle.std.specs.Prelude.{if◌then◌else◌}
+use Rattle.std.specs.Prelude.{drop, get_or, length, nat_lt, Option, Some, None}
+use Rattle.std.specs.List.{filter, flat_map, list_any, AllByRecursion}
 use Rattle.std.specs.Result.{is_ok}
 use Rattle.std.specs.Str.{bytes_eq}
 use Rattle.tc_job.specs.declared.usages.TheConstants.{USAGES}
@@ -107,7 +108,16 @@ abbrev pub are_once : List (Word × List ℕ) → Bool
 are_once [] = true
 are_once (row ∷ more) = not (list_any (λ other. bytes_eq row.0 other.0) more) && are_once more
 
+-- something stands behind the word `path`, which the form does not tell: nothing may
+abbrev pub is_behind_path : List Word → Bool
+is_behind_path [] = false
+is_behind_path (word ∷ more) = (bytes_eq word (codes "path") && nat_lt 0 (length more)) || is_behind_path more
+
+-- the words that a form makes
+abbrev pub made_by : List ℕ → Ways
+made_by form = filter (λ words. not (is_behind_path words)) (ways_of form)
+
 -- each way to make words by a form is taken by its command
 abbrev pub AreTaken : List (Word × List ℕ) → Type 0
 AreTaken table =
-    AllByRecursion (λ row. AllByRecursion (λ words. is_ok (task_of row.0 words) ≡ true) (ways_of row.1)) table
+    AllByRecursion (λ row. AllByRecursion (λ words. is_ok (task_of row.0 words) ≡ true) (made_by row.1)) table

@@ -5,6 +5,7 @@ pub mod LtcChase
 pub mod LtcMake
 pub mod NumberLemmas
 pub mod PcmLtc
+pub mod PcmPath
 pub mod Usages
 pub mod Values
 pub mod WavLtc

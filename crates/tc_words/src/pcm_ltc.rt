@@ -87,7 +87,7 @@ pub(crate) fn smooth_or_one(word: Option<&str>) -> Option<u32>
 
 /// So many ticks a sample, where they are not too many a second.
 #[tactic(auto, unfolding(crate::specs::PcmLtc::fineness_in))]
-fn fineness_in(rate: u32, word: &str) -> Option<u32>
+pub(crate) fn fineness_in(rate: u32, word: &str) -> Option<u32>
     ensures value { result ≡ fineness_in rate word.now }
     ensures range { IfSome result (λ n. (1 ≤ n) × (n ≤ MAX_FINENESS) × (rate * n ≤ MAX_TICK_RATE)) }
 {

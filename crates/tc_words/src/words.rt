@@ -18,6 +18,7 @@ use crate::live::without_live;
 use crate::ltc_chase::chased;
 use crate::ltc_make::striped;
 use crate::pcm_ltc::sliced;
+use crate::pcm_path::{is_path, path_of_samples};
 use crate::values::{
     between, count_in, limit_in, number_spelled, numbered, spelled, tolerance_or_normal,
     version_in, witness_or_none, word_at,
@@ -276,7 +277,7 @@ fn ltc_convert(values: &[&str]) -> Result<Job, WordsFault>
     Ok(Job::LtcConvert { version })
 }
 
-// `pcm-ltc SYSTEM RATE THRESHOLD [FINENESS [follow|deep [SMOOTH]]] [live]`
+// `pcm-ltc SYSTEM RATE THRESHOLD [FINENESS [follow|deep [SMOOTH]]] [live]`, or `path` behind FINENESS
 #[tactic(auto, unfolding(crate::specs::Words::pcm_ltc))]
 fn pcm_ltc(values: &[&str]) -> Result<Job, WordsFault>
     ensures { result ≡ pcm_ltc (map (λ v. v.now) values.now) }
@@ -286,6 +287,9 @@ fn pcm_ltc(values: &[&str]) -> Result<Job, WordsFault>
     };
     if more.len() > 4 {
         return Err(WordsFault::CountOfWords);
+    }
+    if is_path(more) {
+        return path_of_samples(system, rate, threshold, more);
     }
     let (more, live) = without_live(more);
     sliced(system, rate, threshold, more, live)

@@ -1,4 +1,5 @@
 use Rattle.signal_commands.proofs.AreCommands.{fields_are_command, midi_is_command, samples_are_command}
+use Rattle.signal_commands.proofs.PathIsCommand.{path_is_command}
 use Rattle.signal_commands.proofs.TrackGoesOn.{track_is_command}
 use Rattle.signal_commands.proofs.laws.each_signal_makes_a_command.Goals as goal
 
@@ -19,3 +20,15 @@ returns-clause-fields c = fields_are_command (record {
   some = c.bytes_have_answers.ensures;
   one = c.bytes_have_one_list_of_answers.ensures;
 })
+
+pub returns-clause-paths : goal.returns-clause-paths
+returns-clause-paths c =
+    let laws = c.what_samples_bring_so_far_comes_first.ensures in
+    path_is_command (record {
+      once = laws.once;
+      first = laws.first;
+      in_all = laws.in_all;
+      some = laws.some;
+      whole = laws.whole;
+      one = c.a_sound_has_one_list_of_intervals.ensures;
+    })

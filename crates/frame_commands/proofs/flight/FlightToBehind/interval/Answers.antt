@@ -10,52 +10,44 @@ use Rattle.frame_commands.proofs.NextFrame.{heard_later, turn_due}
 use Rattle.frame_commands.proofs.Ready.{given_fits, quiet_fits, ready_for, turns_of}
 use Rattle.frame_commands.proofs.flight.FlightToBehind.interval.Goals as goal
 
--- the last word was heard before
-pub is_quiet-requires-clause-heard_by : goal.is_quiet-requires-clause-heard_by
-is_quiet-requires-clause-heard_by g c =
-    let s = c.args.self.now in
-    rw c.until-until.ensures.value (heard_later s.frames.wheel (g.R.Hearing.hearer s.reader).until
-    (g.R.Hearing.hearer c.step-brought.new.self).until c.step-brought.ensures.later c.requires.fits.2.sink.heard_by)
-
 -- nothing came, and nothing was due
-pub returns-then-is_quiet-clause-fits : goal.returns-then-is_quiet-clause-fits
-returns-then-is_quiet-clause-fits g c = λ count fits.
+pub returns-in-None-clause-fits : goal.returns-in-None-clause-fits
+returns-in-None-clause-fits g c = λ count fits.
     let s = c.args.self.now in
     let h = g.R.Hearing.hearer s.reader in
-    let now = g.R.Hearing.hearer c.step-brought.new.self in
+    let now = g.R.Hearing.hearer c.hear.new.self.reader in
     let own = c.requires.fits.2.counts in
     let here = fits.counts in
     let room = c.requires.fits.1 in
-    quiet_fits h now s.frames (g.T.FrameSink.taken s.sink) count c.args.x fits (omega (arith, own, here, room))
-    c.step-brought.ensures.next c.step-brought.ensures.later (rw (← c.until-until.ensures.value) c.until-until.ensures.below)
+    rw (c.hear.ensures.frames, c.hear.ensures.sink) (quiet_fits h now s.frames (g.T.FrameSink.taken s.sink) count c.args.x
+    fits (omega (arith, own, here, room)) c.hear.ensures.next c.hear.ensures.later
+    (c.in-None.ensures.below refl))
 
-pub returns-then-is_quiet-clause-works : goal.returns-then-is_quiet-clause-works
-returns-then-is_quiet-clause-works g c = λ choice header intervals written stands.
+pub returns-in-None-clause-works : goal.returns-in-None-clause-works
+returns-in-None-clause-works g c = λ choice header intervals written stands.
     let s = c.args.self.now in
     let h = g.R.Hearing.hearer s.reader in
-    let reader = c.step-brought.new.self in
+    let reader = c.hear.new.self.reader in
     let now = g.R.Hearing.hearer reader in
-    let quiet = c.is_quiet.ensures.quiet c.if-is_quiet.true in
     let made = g.T.FrameSink.made in
     let given = g.T.FrameSink.given in
     let none = none_counted s.frames in
-    flown g.R.Hearing.witness g.T.FrameSink.flight made given h now s.frames s.frames s.sink s.sink choice header
-    intervals written c.args.x [] [] [] _ _ stands c.step-brought.ensures.next
-    (λ xs es st. c.step-brought.ensures.stands xs es [] st (quiet.0 reader))
-    (c.what_is_told_is_heard.ensures reader) refl c.step-brought.ensures.later refl
-    (due_alone s.frames.wheel s.frames.wheel now.until [] (rw c.until-until.ensures.value at quiet.1))
+    rw (c.hear.ensures.frames, c.hear.ensures.sink) (flown g.R.Hearing.witness g.T.FrameSink.flight made given h now
+    s.frames s.frames s.sink s.sink choice header intervals written c.args.x [] [] [] _ _ stands c.hear.ensures.next
+    (c.in-None.ensures.nothing refl) (c.what_is_told_is_heard.ensures reader) refl c.hear.ensures.later refl
+    (due_alone s.frames.wheel s.frames.wheel now.until [] (c.in-None.ensures.quiet refl))
     (record { heard = none.heard; invented = none.invented; gone = none.gone })
-    (sends_none made given s.sink _)
+    (sends_none made given s.sink _))
 
 -- there is room for the frames of two words
 pub give-requires-clause-ready : goal.give-requires-clause-ready
 give-requires-clause-ready g c =
     let s = c.args.self.now in
-    let now = g.R.Hearing.hearer c.step-brought.new.self in
+    let now = g.R.Hearing.hearer c.hear.new.self.reader in
     let count = c.requires.fits.0 in (
       2 * (count + 1),
-      rw c.until-until.ensures.value (ready_for (g.R.Hearing.hearer s.reader) now s.frames c.words.new.words
-          (g.T.FrameSink.taken s.sink) count c.args.x c.requires.fits.2 c.requires.fits.1 c.step-brought.ensures.next
+      rw (c.hear.ensures.frames, c.until-until.ensures.value) (ready_for (g.R.Hearing.hearer s.reader) now s.frames c.words.new.words
+          (g.T.FrameSink.taken s.sink) count c.args.x c.requires.fits.2 c.requires.fits.1 c.hear.ensures.next
           (rw (← c.until-until.ensures.value) c.until-until.ensures.below)),
     )
 
@@ -63,16 +55,17 @@ pub give-requires-clause-turns : goal.give-requires-clause-turns
 give-requires-clause-turns g c =
     let s = c.args.self.now in
     let h = g.R.Hearing.hearer s.reader in
-    let now = g.R.Hearing.hearer c.step-brought.new.self in
-    rw c.until-until.ensures.value (turns_of h s.frames (g.T.FrameSink.taken s.sink) c.requires.fits.0 now.until
-    c.words.new.words c.requires.fits.2 (c.words.ensures.in_turn h.until c.step-brought.ensures.may))
+    let now = g.R.Hearing.hearer c.hear.new.self.reader in
+    rw (c.hear.ensures.frames, c.until-until.ensures.value) (turns_of h s.frames (g.T.FrameSink.taken s.sink) c.requires.fits.0 now.until
+    c.words.new.words c.requires.fits.2 (c.words.ensures.in_turn h.until c.in-Some.ensures.may))
 
 -- the frames that were due, and those of the words, were sent
 pub returns-in-Ok-clause-fits : goal.returns-in-Ok-clause-fits
 returns-in-Ok-clause-fits g c = λ count fits.
+    let gave_here = rw c.hear.ensures.frames at c.in-Ok.ensures.fits in
     let s = c.args.self.now in
     let h = g.R.Hearing.hearer s.reader in
-    let now = g.R.Hearing.hearer c.step-brought.new.self in
+    let now = g.R.Hearing.hearer c.hear.new.self.reader in
     let after = c.give.new.self in
     let own = c.requires.fits.2.counts in
     let here = fits.counts in
@@ -80,29 +73,30 @@ returns-in-Ok-clause-fits g c = λ count fits.
     let below = rw c.until-until.ensures.value at c.until-until.ensures.below in
     let room_here : count < MAX_INTERVALS = omega (arith, own, here, room) in
     let ready = ready_for h now s.frames c.words.new.words (g.T.FrameSink.taken s.sink) count c.args.x fits room_here
-    c.step-brought.ensures.next below in
-    let sink = rw c.until-until.ensures.value at c.in-Ok.ensures.fits in
+    c.hear.ensures.next below in
+    let sink = rw c.until-until.ensures.value at gave_here in
     rw c.in-Ok.ensures.reader (given_fits h now s.frames after.frames (g.T.FrameSink.taken s.sink)
-    (g.T.FrameSink.taken after.sink) count c.args.x fits room_here c.step-brought.ensures.next below
+    (g.T.FrameSink.taken after.sink) count c.args.x fits room_here c.hear.ensures.next below
     (sink (2 * (count + 1)) ready))
 
 pub returns-in-Ok-clause-works : goal.returns-in-Ok-clause-works
 returns-in-Ok-clause-works g c = λ choice header intervals written stands.
+    let e = c.in-Ok.ensures in
     let s = c.args.self.now in
     let h = g.R.Hearing.hearer s.reader in
-    let reader = c.step-brought.new.self in
+    let reader = c.hear.new.self.reader in
     let now = g.R.Hearing.hearer reader in
     let after = c.give.new.self in
-    let e = c.in-Ok.ensures in
     let told = c.words.ensures.told in
     let words = c.words.new.words in
-    let gives = e.gives in
+    let gives = rw (c.hear.ensures.frames, c.hear.ensures.sink) at e.gives in
+    let limit = rw c.hear.ensures.frames at e.limit in
     let all = rw c.until-until.ensures.value at gives.3 in
-    rw e.reader (flown g.R.Hearing.witness g.T.FrameSink.flight g.T.FrameSink.made g.T.FrameSink.given h now s.frames
-    after.frames s.sink after.sink choice header intervals written c.args.x told.0 words gives.0 _ _ stands
-    c.step-brought.ensures.next (λ xs es st. c.step-brought.ensures.stands xs es told.0 st told.1)
+    rw e.reader (flown g.R.Hearing.witness g.T.FrameSink.flight g.T.FrameSink.made g.T.FrameSink.given h
+    now s.frames after.frames s.sink after.sink choice header intervals written c.args.x told.0 words gives.0 _ _ stands
+    c.hear.ensures.next (λ xs es st. c.in-Some.ensures.stands xs es told.0 st told.1)
     (c.what_is_told_is_heard.ensures reader) told.2
-    (turn_due words h.until now.until (c.words.ensures.in_turn h.until c.step-brought.ensures.may)) e.limit all
+    (turn_due words h.until now.until (c.words.ensures.in_turn h.until c.in-Some.ensures.may)) limit all
     (record { heard = gives.1.heard; invented = gives.1.invented; gone = gives.1.gone }) gives.2)
 
 -- a front of them was
@@ -112,15 +106,15 @@ returns-in-Err-clause-front g c = (
   (λ choice header intervals written stands.
       let s = c.args.self.now in
       let h = g.R.Hearing.hearer s.reader in
-      let reader = c.step-brought.new.self in
+      let reader = c.hear.new.self.reader in
       let now = g.R.Hearing.hearer reader in
-      let front = c.in-Err.ensures.front in
+      let front = rw (c.hear.ensures.frames, c.hear.ensures.sink) at c.in-Err.ensures.front in
       let told = c.words.ensures.told in
       let words = c.words.new.words in
       let first = rw c.until-until.ensures.value at front.2 in
-      flown_part g.R.Hearing.witness g.T.FrameSink.flight g.T.FrameSink.made g.T.FrameSink.given h now s.frames s.sink
-      choice header intervals written c.args.x told.0 words front.0 _ _ stands c.step-brought.ensures.next
-      (λ xs es st. c.step-brought.ensures.stands xs es told.0 st told.1) (c.what_is_told_is_heard.ensures reader) told.2
-      (turn_due words h.until now.until (c.words.ensures.in_turn h.until c.step-brought.ensures.may)) first
+      flown_part g.R.Hearing.witness g.T.FrameSink.flight g.T.FrameSink.made g.T.FrameSink.given h now s.frames
+      s.sink choice header intervals written c.args.x told.0 words front.0 _ _ stands c.hear.ensures.next
+      (λ xs es st. c.in-Some.ensures.stands xs es told.0 st told.1) (c.what_is_told_is_heard.ensures reader)
+      told.2 (turn_due words h.until now.until (c.words.ensures.in_turn h.until c.in-Some.ensures.may)) first
       front.1),
 )

@@ -1,0 +1,11 @@
+pub mod AllClear
+pub mod BitByBit
+pub mod FallByFall
+pub mod Filled
+pub mod HeightByHeight
+pub mod MoveByMove
+pub mod OneCode
+pub mod OneMore
+pub mod OnePlace
+pub mod PixelByPixel
+pub mod Within

@@ -1,0 +1,9 @@
+use Rattle.std.proofs.Common.{◌≡◌, ◌*◌, ◌^◌, ◌<◌, length}
+use Rattle.luma_row.specs.Climb.{halved, Refines}
+use Rattle.luma_row.specs.KeptPlace.{IsInRow}
+use Rattle.luma_row.specs.Width.{grain}
+use Rattle.luma_row.proofs.climb.refine.Given as goal
+
+abbrev pub invariant-loop-turn : goal.invariant-loop-turn
+invariant-loop-turn l = Refines l.row (2 * grain (length l.row)) l.turn l.fn.coarse l.place × IsInRow l.place
+    × (l.step ≡ halved (2 * grain (length l.row)) l.turn) × (l.step < 2 ^ 10)

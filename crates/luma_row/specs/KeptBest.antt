@@ -1,0 +1,8 @@
+-- The best so far.
+use Rattle.std.specs.Prelude.{◌≡◌, ℕ}
+use Rattle.luma_row.specs.Choice.{IsFirstBest}
+
+-- the first of the greatest of so many, and what it is worth
+pub record IsBestOf (most : ℕ) (worth : ℕ → ℕ) (sum number : ℕ) : Type 0 where
+  pub sum_is : sum ≡ worth number
+  pub best : IsFirstBest most worth number

@@ -1,0 +1,5 @@
+-- The cells of a word as a table.
+use Rattle.std.specs.Prelude.{ℕ, ◌^◌, ◌<◌, ◌≤◌, List, get_or}
+
+abbrev pub AreCells : List ℕ → Type 0
+AreCells cells = (bit : ℕ) → bit < 90 → get_or cells bit 0 ≤ 2 ^ 24

@@ -1,0 +1,6 @@
+-- Bounds of the widths of rows.
+use Rattle.std.specs.Prelude.{ℕ, ◌≤◌}
+use Rattle.luma_row.specs.declared.width.TheConstants.{MIN_WIDTH, MAX_WIDTH}
+
+abbrev pub IsWidth : ℕ → Type 0
+IsWidth width = (MIN_WIDTH ≤ width) × (width ≤ MAX_WIDTH)

@@ -1,0 +1,36 @@
+-- A row that carries code, and what its cells say.
+use Rattle.std.specs.Prelude.{◌≡◌, ℕ, ◌-◌, ◌*◌, ◌<◌, leb, min, max, Bool, true, List}
+use Rattle.std.specs.List.{fold}
+use Rattle.luma_row.specs.declared.light.TheConstants.{EVEN}
+use Rattle.luma_row.specs.declared.place.Place.{Place}
+use Rattle.luma_row.specs.declared.row.CodeRow.{CodeRow}
+use Rattle.luma_row.specs.Cells.{cells_of, counts, swing}
+use Rattle.luma_row.specs.Climb.{IsPlace}
+use Rattle.luma_row.specs.Coarse.{IsCoarse}
+use Rattle.luma_row.specs.Heights.{heights_of}
+
+abbrev pub lightest : List ℕ → ℕ
+lightest row = fold max 0 row
+
+abbrev pub darkest : List ℕ → ℕ
+darkest row = fold min 255 row
+
+-- two of its pixels are eight levels apart
+abbrev pub has_contrast : List ℕ → Bool
+has_contrast row = leb 8 (lightest row - darkest row)
+
+-- where a word lies in a row: its sync pairs fall at the coarse place, which is made finer
+pub record LiesAt (row : List ℕ) (place : Place) : Type 0 where
+  pub coarse : Place
+  pub sum : ℕ
+  pub is_coarse : IsCoarse row sum coarse
+  pub falls : 9 * EVEN < sum
+  pub fine : IsPlace row coarse place
+
+-- the row carries code: a word lies in it, and it counts
+pub record IsCode (row : List ℕ) (code : CodeRow) : Type 0 where
+  pub contrast : has_contrast row ≡ true
+  pub lies : LiesAt row code.place
+  pub it_counts : counts code.place (cells_of row code.place) ≡ true
+  pub swing_is : code.levels.swing ≡ swing (cells_of row code.place)
+  pub heights_are : code.levels.heights ≡ heights_of (cells_of row code.place)

@@ -1,0 +1,116 @@
+//! From the coarse place to the place of a word. Next: `cells`.
+ghost use Rattle.std.specs.Prelude.{◌≡◌, ℕ, ◌+◌, ◌*◌, ◌/◌, ◌%◌, ◌^◌, ◌<◌, ◌≤◌, length};
+ghost use Rattle.luma_row.specs.Choice.{IsFirstBest};
+ghost use Rattle.luma_row.specs.Climb.{moved, neighbour, worth, Climbs, IsPlace};
+ghost use Rattle.luma_row.specs.KeptLight.{AreSums};
+ghost use Rattle.luma_row.specs.KeptPlace.{IsInRow};
+ghost use Rattle.luma_row.specs.Light.{IsRow};
+
+use crate::best::Best;
+use crate::light::Sums;
+use crate::place::Place;
+use crate::width::{grain, width_of};
+
+/// How often a place may move with one step.
+const MOVES: u32 = 6;
+
+/// How many steps there are: the first of two grains, each further one half of the one before.
+const STEPS: u32 = 8;
+
+/// An end that stays, goes back or goes on.
+fn moved(place: u32, step: u32, number: u32) -> u32
+    requires place { place < 2 ^ 17 }
+    requires step { step < 2 ^ 10 }
+    ensures moved { result ≡ moved place step number }
+    ensures near { result < 2 ^ 18 }
+{
+    match number {
+        0 => place,
+        1 => place.saturating_sub(step),
+        _ => place + step,
+    }
+}
+
+/// One of the nine neighbours of a place.
+fn neighbour(place: Place, step: u32, number: u32) -> Place
+    requires place { IsInRow place }
+    requires step { step < 2 ^ 10 }
+    ensures neighbour { result ≡ neighbour place step number }
+    ensures near { (result.first < 2 ^ 18) × (result.last < 2 ^ 18) }
+{
+    Place {
+        first: moved(place.first, step, number / 3),
+        last: moved(place.last, step, number % 3),
+    }
+}
+
+/// What a neighbour is worth.
+fn worth(row: &[u8], sums: &Sums, place: Place, step: u32, number: u32) -> u32
+    requires row { IsRow row.now }
+    requires sums { AreSums row.now sums.now }
+    requires place { IsInRow place }
+    requires step { step < 2 ^ 10 }
+    ensures { result ≡ worth row.now place step number }
+{
+    if number == 0 {
+        return place.score(row, sums);
+    }
+    let other = neighbour(place, step, number);
+    if other.fits(row) {
+        other.score(row, sums)
+    } else {
+        0
+    }
+}
+
+/// The number of the first of the best neighbours.
+fn best_neighbour(row: &[u8], sums: &Sums, place: Place, step: u32) -> u32
+    requires row { IsRow row.now }
+    requires sums { AreSums row.now sums.now }
+    requires place { IsInRow place }
+    requires step { step < 2 ^ 10 }
+    ensures { IsFirstBest 9 (worth row.now place step) result }
+{
+    let mut best = Best::first(worth(row, sums, place, step, 0));
+    for number in 1..9u32 {
+        best = best.or(worth(row, sums, place, step, number), number);
+    }
+    best.number
+}
+
+/// To the best neighbour, and again, six times.
+fn climb(row: &[u8], sums: &Sums, from: Place, step: u32) -> Place
+    requires row { IsRow row.now }
+    requires sums { AreSums row.now sums.now }
+    requires place { IsInRow from }
+    requires step { step < 2 ^ 10 }
+    ensures climbs { Climbs row.now step 6 from result }
+    ensures place { IsInRow result }
+{
+    let mut place = from;
+    for turn in 0..MOVES {
+        let number = best_neighbour(row, sums, place, step);
+        if number == 0 {
+            return place;
+        }
+        place = neighbour(place, step, number);
+    }
+    place
+}
+
+/// In eight steps from the coarse place to the place of the word.
+pub(crate) fn refine(row: &[u8], sums: &Sums, coarse: Place) -> Place
+    requires row { IsRow row.now }
+    requires sums { AreSums row.now sums.now }
+    requires coarse { IsInRow coarse }
+    ensures refines { IsPlace row.now coarse result }
+    ensures place { IsInRow result }
+{
+    let mut place = coarse;
+    let mut step = 2 * grain(width_of(row));
+    for turn in 0..STEPS {
+        place = climb(row, sums, place, step);
+        step /= 2;
+    }
+    place
+}

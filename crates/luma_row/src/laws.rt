@@ -1,0 +1,46 @@
+//! What follows from the definitions alone.
+ghost use Rattle.std.specs.Prelude.{◌≡◌, ℕ, ◌+◌, ◌*◌, ◌^◌, ◌<◌, ◌≤◌, true, unsigned_abs, List};
+ghost use Rattle.luma_row.specs.declared.levels.Levels.{Levels};
+ghost use Rattle.luma_row.specs.declared.light.TheConstants.{EVEN};
+ghost use Rattle.luma_row.specs.declared.place.Place.{Place};
+ghost use Rattle.luma_row.specs.declared.row.CodeRow.{CodeRow};
+ghost use Rattle.luma_row.specs.declared.width.TheConstants.{MAX_WIDTH, MIN_WIDTH};
+ghost use Rattle.luma_row.specs.KeptLevels.{AreLevels};
+ghost use Rattle.luma_row.specs.Levels.{height_at, says_bits};
+ghost use Rattle.luma_row.specs.Row.{IsCode, LiesAt};
+ghost use Rattle.luma_row.specs.Width.{distance, distances, end, grain, narrowest, ten_cells, widest};
+
+/// The widths of rows, and the fall of an even place.
+pub fn the_limits_are_these()
+    ensures least { MIN_WIDTH ≡ 360 }
+    ensures most { MAX_WIDTH ≡ 4_096 }
+    ensures even { EVEN ≡ 2 ^ 25 }
+{}
+
+/// A row of 720 pixels: its cells, the grain of what is looked at, and the distances of 80 cells.
+pub fn a_row_of_720_pixels()
+    ensures cells { ten_cells 720 ≡ 1_200 }
+    ensures grain { grain 720 ≡ 16 }
+    ensures end { end 720 ≡ 11_584 }
+    ensures narrowest { narrowest 720 ≡ 9_120 }
+    ensures widest { widest 720 ≡ 10_080 }
+    ensures distances { distances 720 ≡ 31 }
+    ensures middle { distance 720 15 ≡ 9_600 }
+{}
+
+/// A word lies in one place of a row, and the row says one thing.
+pub fn a_row_says_one_thing()
+    ensures place { (row : List ℕ) (a b : Place) → LiesAt row a → LiesAt row b → a ≡ b }
+    ensures code { (row : List ℕ) (a b : CodeRow) → IsCode row a → IsCode row b → a ≡ b }
+{}
+
+/// What holds of the levels of a row holds of those of two rows.
+pub fn a_row_is_narrower_than_two()
+    ensures { (levels : Levels) → AreLevels (2 ^ 28) (2 ^ 35) levels → AreLevels (2 ^ 29) (2 ^ 36) levels }
+{}
+
+/// Each bit of a row that says its bits is an eighth of the way to its level, or more.
+pub fn a_bit_that_is_said_is_clear()
+    ensures { (levels : Levels) (bit : ℕ) → says_bits levels ≡ true → bit < 90
+        → 10 * levels.swing ≤ 9 * unsigned_abs (height_at levels bit) }
+{}

@@ -1,0 +1,25 @@
+//! From samples to events: a slicer and a reader of intervals in one.
+//!
+//! Samples come in pieces of any length, as a sound card or a file gives them. The slicer finds the
+//! crossings among them, and the reader the words, refused words and breaks of the intervals between. What
+//! a reader keeps has one size, whatever it was given, and lies in one place.
+//!
+//! What this crate promises:
+//! - A `SoundReader` that is given samples, piece by piece, gives the events of all samples so far, each
+//!   once and in order, in whatever pieces they come (`specs/Sound.antt`, `StandsFor` and `Brings`; clause
+//!   `brings` of `read`).
+//! - Where it gives no event it has taken all samples, and no interval waits, unless it is full (`all`).
+//! - So they are the events of the intervals of the samples, under the settings that it was made with
+//!   (`laws::what_is_given_are_the_events_of_the_samples`).
+//!
+//! Read `settings`, `waiting` and `reader`, in this order, and `specs/Settings.antt`, `Waiting.antt` and
+//! `Sound.antt` beside them. `tc_c` makes functions for C of it. Nothing here allocates or fails.
+#![tactic(auto)]
+
+pub mod laws;
+mod reader;
+mod settings;
+mod waiting;
+
+pub use reader::{MAX_SAMPLES, SoundReader};
+pub use settings::SoundSettings;

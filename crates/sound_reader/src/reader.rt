@@ -1,0 +1,174 @@
+//! A reader of sound. Next: `laws`.
+ghost use Rattle.std.specs.Prelude.{◌≡◌, ◌+◌, ◌≤◌, ◌<◌, ◌↔◌, IsTrue, [], length, take, false};
+ghost use Rattle.direction_reader.specs.Events.{event_list, no_events};
+ghost use Rattle.limits.specs.declared.recording.TheConstants.{MAX_INTERVAL, MAX_INTERVALS};
+ghost use Rattle.sound_reader.specs.Settings.{AreInRange};
+ghost use Rattle.sound_reader.specs.Sound.{is_full, Brings, IsSettled, Reads, StandsFor};
+
+use crate::settings::SoundSettings;
+use crate::waiting::next;
+use direction_reader::{DirectionReader, Events};
+use limits::{MAX_INTERVAL, MAX_INTERVALS};
+use pcm_front::{Intervals, Slicer};
+use std::marker::Model;
+
+/// So many samples are taken at most: 2 to the 50th, seven hundred years of 48,000 a second.
+pub const MAX_SAMPLES: u64 = 1_125_899_906_842_624;
+
+/// Reads the words of a sound, in either direction, some samples at a time.
+#[derive(Drop)]
+pub struct SoundReader {
+    settings: SoundSettings,
+    slicer: Slicer,
+    reader: DirectionReader,
+    /// How many samples were taken.
+    samples: u64,
+    /// The intervals that are found, and not read yet.
+    waiting: Intervals,
+}
+
+impl Model for SoundReader {
+    ghost use Rattle.sound_reader.specs.Sound.{IsKept, SoundState};
+
+    ghost Value = { SoundState };
+
+    ghost view = { λ s. record {
+      settings = s.settings;
+      slicer = s.slicer;
+      reader = s.reader;
+      samples = s.samples;
+      waiting = s.waiting;
+    } };
+
+    ghost invariant = { λ s. IsKept (record {
+      settings = s.settings;
+      slicer = s.slicer;
+      reader = s.reader;
+      samples = s.samples;
+      waiting = s.waiting;
+    }) };
+}
+
+impl SoundReader {
+    /// Before the first sample.
+    pub fn new(settings: SoundSettings) -> SoundReader
+        requires { AreInRange settings }
+        ensures settings { result.settings ≡ settings }
+        ensures stands { StandsFor result [] [] }
+        ensures settled { IsSettled result }
+        ensures room { is_full result ≡ false }
+    {
+        SoundReader {
+            settings,
+            slicer: Slicer::from_the_start(settings.fineness, settings.threshold, settings.smooth),
+            reader: DirectionReader::new(settings.system, settings.profile),
+            samples: 0,
+            waiting: Intervals {
+                length: 1,
+                whole: 0,
+                rest: None,
+                begun: 0,
+            },
+        }
+    }
+
+    /// How it reads.
+    pub fn settings(&self) -> SoundSettings
+        ensures { result ≡ self.now.settings }
+    {
+        self.settings
+    }
+
+    /// Tells whether it takes no more: it was given as many samples as it takes, or they had as many
+    /// intervals as a recording may have.
+    pub fn is_full(&self) -> bool
+        ensures { result ≡ is_full self.now }
+    {
+        self.reader.intervals() >= MAX_INTERVALS || self.samples >= MAX_SAMPLES
+    }
+
+    /// Takes samples from the front up to the first one that brings an event, or else all of them. Gives how
+    /// many these are, and what they brought. An interval that is found may bring an event, and the one
+    /// found with it another: those come with the next calls, which take no sample.
+    pub fn read(&mut self, samples: &[i16]) -> (usize, Events)
+        ensures within { result.0 ≤ length samples.now }
+        ensures settings { self.new.settings ≡ self.old.settings }
+        ensures brings { Brings self.old self.new (take result.0 samples.now) (event_list result.1) }
+        ensures all { result.1 ≡ no_events → is_full self.new ≡ false
+            → (result.0 ≡ length samples.now) × IsSettled self.new }
+    {
+        let mut at = 0;
+        'reading: loop {
+            let events = self.read_waiting();
+            if !are_none(&events) || at == samples.len() || self.is_full() {
+                return (at, events);
+            }
+            at += self.slice(&samples[at..]);
+        }
+    }
+
+    /// Reads the intervals that wait, up to the first that brings an event, and gives what it brought.
+    fn read_waiting(&mut self) -> Events
+        ensures rest { self.new ≡ record self.old { reader = self.new.reader; waiting = self.new.waiting } }
+        ensures brings { Brings self.old self.new [] (event_list result) }
+        ensures settled { result ≡ no_events → is_full self.new ≡ false → IsSettled self.new }
+    {
+        'waiting: while self.reader.intervals() < MAX_INTERVALS {
+            match next(&mut self.waiting) {
+                Some(x) => {
+                    let events = self.feed(x);
+                    if !are_none(&events) {
+                        return events;
+                    }
+                }
+                None => break,
+            }
+        }
+        Events {
+            first: None,
+            second: None,
+        }
+    }
+
+    /// Reads an interval, of `x` ticks, and gives what it brought.
+    fn feed(&mut self, x: u32) -> Events
+        requires least { 1 ≤ x }
+        requires most { x ≤ MAX_INTERVAL }
+        requires room { self.old.reader.intervals < MAX_INTERVALS }
+        ensures rest { self.new ≡ record self.old { reader = self.new.reader } }
+        ensures reads { Reads self.old.reader self.new.reader x (event_list result) }
+    {
+        self.reader.feed(x)
+    }
+
+    /// Takes samples from the front, up to the first that brings intervals, which wait then.
+    fn slice(&mut self, samples: &[i16]) -> usize
+        requires some { 1 ≤ length samples.now }
+        requires room { self.old.samples < MAX_SAMPLES }
+        requires settled { IsSettled self.old }
+        ensures some { 1 ≤ result }
+        ensures within { result ≤ length samples.now }
+        ensures settings { self.new.settings ≡ self.old.settings }
+        ensures brings { Brings self.old self.new (take result samples.now) [] }
+    {
+        let room = MAX_SAMPLES - self.samples;
+        let most = if samples.len() as u64 <= room {
+            samples.len()
+        } else {
+            room as usize
+        };
+        let (count, intervals) = self
+            .slicer
+            .intervals_of_samples(self.settings.pace, &samples[..most]);
+        self.samples += count as u64;
+        self.waiting = intervals;
+        count
+    }
+}
+
+/// Tells whether there is no event.
+fn are_none(events: &Events) -> bool
+    ensures { IsTrue result ↔ events.now ≡ no_events }
+{
+    events.first.is_none() && events.second.is_none()
+}

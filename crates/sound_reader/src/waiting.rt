@@ -1,0 +1,33 @@
+//! Intervals that are found, and not read yet. Next: `reader`.
+ghost use Rattle.std.specs.Prelude.{◌≡◌, ◌<◌, ◌++◌, [], IfSome, None};
+ghost use Rattle.std.specs.Option.{option_to_list};
+ghost use Rattle.pcm_front.specs.Distance.{IsInterval};
+ghost use Rattle.pcm_front.specs.Pace.{intervals_in};
+ghost use Rattle.sound_reader.specs.Waiting.{count_of, AreIntervals};
+
+use pcm_front::Intervals;
+
+/// Takes the first of them.
+pub(crate) fn next(waiting: &mut Intervals) -> Option<u32>
+    requires { AreIntervals waiting.old }
+    ensures kept { AreIntervals waiting.new }
+    ensures range { IfSome result IsInterval }
+    ensures fewer { IfSome result (λ x. count_of waiting.new < count_of waiting.old) }
+    ensures value { option_to_list result ++ intervals_in waiting.new ≡ intervals_in waiting.old }
+    ensures done { result ≡ None → intervals_in waiting.new ≡ [] }
+    ensures same { result ≡ None → waiting.new ≡ waiting.old }
+{
+    if waiting.whole > 0 {
+        waiting.whole -= 1;
+        return Some(waiting.length);
+    }
+    if let Some(rest) = waiting.rest {
+        waiting.rest = None;
+        return Some(rest);
+    }
+    if waiting.begun > 0 {
+        waiting.begun -= 1;
+        return Some(waiting.length);
+    }
+    None
+}

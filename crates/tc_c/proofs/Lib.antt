@@ -1,0 +1,3 @@
+mod LendsOn
+mod Steps
+mod WritesOn

@@ -1,0 +1,5 @@
+pub mod CEvent
+pub mod CSettings
+pub mod Lending
+pub mod Opening
+pub mod Write

@@ -1,0 +1,112 @@
+/* tc.h: linear time code, read from samples by proved code, as functions for C11 and C++17.
+ *
+ * No function here allocates, keeps global state, waits, prints or ends the process. What a reader keeps lies in the
+ * caller's object, whose size is fixed: memcpy takes a copy that goes on from the same place, and nothing is freed.
+ * One object serves one call at a time; different objects may serve different threads at once.
+ *
+ * What a caller has to keep: a pointer is not NULL, also where a count is 0; it points to so many elements as the count
+ * says, which stay as they are during the call but for those that are written; and what is written overlaps nothing
+ * that is read.
+ *
+ * A tick is a part of a sample: a sample has `fineness` of them, and tick 0 is at the first sample. */
+#ifndef TC_H
+#define TC_H
+#include <stdbool.h>
+#include <stddef.h>
+#include <stdint.h>
+#ifdef __cplusplus
+#define TC_ALIGN(bytes) alignas(bytes)
+extern "C" {
+#else
+#define TC_ALIGN(bytes) _Alignas(bytes)
+#endif
+
+/* The version of these functions, and that of the library: they are to be the same. */
+#define TC_ABI 1
+uint32_t tc_abi(void);
+
+/* How a sound is read. A number that is not named here is refused. */
+typedef struct tc_settings {
+    uint32_t system;    /* frames a second: 24, 25 or 30, which reads 29.97 and drop-frame counting too */
+    uint32_t tolerance; /* how much cells may differ: 0 normal, 1 worn, 2 rough */
+    uint32_t follows;   /* the threshold: 0 fixed, 1 at half of the level, 2 at a quarter of it */
+    uint32_t threshold; /* the fixed one, or the least, in the unit of the sums: 1 to 524272 */
+    uint32_t fineness;  /* ticks of a sample: 1 to 64 */
+    uint32_t smooth;    /* samples in a sum: 1 to 16 */
+    uint32_t pace;      /* 0: an interval is read when it has ended; else as it passes, in pieces of so many ticks,
+                           1 to 16777215 */
+} tc_settings;
+
+/* What was read. */
+enum { TC_WORD = 1, TC_REFUSED = 2, TC_LOST = 3 };
+enum { TC_FORWARD = 0, TC_BACKWARD = 1 };
+enum { TC_COUNT_24 = 0, TC_COUNT_25 = 1, TC_COUNT_30 = 2, TC_COUNT_30_DROP = 3 };
+enum { TC_BIT_10 = 1, TC_COLOUR = 2, TC_BGF0 = 4, TC_BGF1 = 8, TC_BGF2 = 16, TC_BALANCED = 32 };
+typedef struct tc_event {
+    uint8_t kind;      /* a word, 80 cells that end in a sync word and have a fault, or a break of the code */
+    uint8_t direction; /* of a word, and of a refused one */
+    uint8_t detail;    /* word: its count. Refused: its fault, 1 frame units, 2 frames, 3 second units, 4 second tens,
+                          5 minute units, 6 minute tens, 7 hour units, 8 hours, 9 a dropped label */
+    uint8_t flags;     /* word: the bits above */
+    uint8_t hours, minutes, seconds, frames; /* word: its label */
+    uint32_t user;     /* word: its user bits, group 1 as the least significant */
+    uint32_t zero;     /* 0 */
+    uint64_t tick;     /* where it ends */
+    uint64_t length;   /* word: the ticks of its 80 cells. Break: the place of its interval, from 0 */
+} tc_event;            /* what says nothing of an event is 0 */
+
+/* What a call took and gave. */
+typedef struct tc_taken {
+    size_t used; /* elements taken, from the front */
+    size_t made; /* events written, from the front */
+    bool full;   /* nothing more is taken: 2 to the 50th samples, or a thousand million intervals. Start anew */
+} tc_taken;
+
+/* ---- the library's own form of a reader: where its state lies. Callers use the functions below */
+typedef struct tc_handle {
+    void *at;
+} tc_handle;
+size_t tc_reader_bytes(void);
+size_t tc_reader_boundary(void);
+void tc_reader_at(void *room, tc_handle *handle);
+bool tc_reader_start_(tc_handle *handle, const tc_settings *settings);
+tc_taken tc_reader_write_s16_(tc_handle *handle, const int16_t *samples, size_t count, tc_event *events, size_t room);
+
+/* ---- a reader: samples in, events out */
+#define TC_READER_BYTES 4096
+#define TC_READER_BOUNDARY 16
+typedef struct tc_reader {
+    TC_ALIGN(TC_READER_BOUNDARY) unsigned char state[TC_READER_BYTES];
+} tc_reader;
+
+/* Begins anew with these settings, and tells whether they are taken. Where they are not, nothing changes. The reader
+ * was made by tc_reader_init before, or copied from one that was. */
+static inline bool tc_reader_start(tc_reader *reader, const tc_settings *settings) {
+    tc_handle handle = {reader->state};
+    return tc_reader_start_(&handle, settings);
+}
+
+/* Makes a reader, before its first sample, and tells whether the settings are taken. Where they are not it may not be
+ * used; nor where the library is of another version than this header, which is answered the same. */
+static inline bool tc_reader_init(tc_reader *reader, const tc_settings *settings) {
+    tc_handle handle;
+    if (tc_abi() != TC_ABI || tc_reader_bytes() > TC_READER_BYTES || tc_reader_boundary() > TC_READER_BOUNDARY) {
+        return false;
+    }
+    tc_reader_at(reader->state, &handle);
+    return tc_reader_start_(&handle, settings);
+}
+
+/* Takes samples from the front, and writes the events that they bring, in order, as long as there is room for two more:
+ * a room of 0 or 1 takes nothing. Behind the events that are made no event is changed. Call again with the samples that
+ * are left while room - made < 2. In whatever pieces the samples come, the events are the same. */
+static inline tc_taken tc_reader_write_s16(tc_reader *reader, const int16_t *samples, size_t count, tc_event *events,
+                                           size_t room) {
+    tc_handle handle = {reader->state};
+    return tc_reader_write_s16_(&handle, samples, count, events, room);
+}
+
+#ifdef __cplusplus
+}
+#endif
+#endif
