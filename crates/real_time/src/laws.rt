@@ -1,5 +1,6 @@
 //! What follows from the definitions alone: that each number is one, and which of them come back.
 ghost use Rattle.std.specs.Prelude.{◌≡◌, ℕ, ◌+◌, ◌*◌, ◌<◌, ◌≤◌};
+ghost use Rattle.real_time.specs.declared.moment.TheConstants.{MAX_FRAMES, MAX_MILLISECONDS};
 ghost use Rattle.real_time.specs.declared.rate.FrameRate.{FrameRate};
 ghost use Rattle.real_time.specs.declared.rate.FrameRate.TheVariants.{R24, PulledDown24, R25, R30, PulledDown30};
 ghost use Rattle.real_time.specs.Moment.{IsFrameOf, IsMillisecondOf, IsNearest, IsShown, IsWholeOf};
@@ -43,4 +44,10 @@ pub fn moments_by_hand()
     ensures drop_frame { IsMillisecondOf PulledDown30 107_892 3_599_996 }
     ensures half { IsShown R24 12 R25 12 500 }
     ensures last { IsShown R24 23 R25 23 958 }
+{}
+
+/// So many frames and milliseconds are asked about, at most: more than a day has at any rate.
+pub fn the_limits_hold_a_day()
+    ensures frames { MAX_FRAMES ≡ 4194304 }
+    ensures milliseconds { MAX_MILLISECONDS ≡ 268435456 }
 {}
