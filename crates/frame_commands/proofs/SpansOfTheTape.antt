@@ -11,6 +11,7 @@ use Rattle.flywheel.specs.Marked.{word_of, words_in}
 use Rattle.tape_spans.specs.Shared.{HoldsTogether, frames_in, present}
 use Rattle.tape_spans.specs.Spans.{frames_of_spans, spans}
 use Rattle.tape_spans.specs.SpanTexts.{final_lines, lines_behind, open_line}
+use Rattle.tape_spans.specs.Stepped.{EndsStepped}
 use Rattle.tc_job.specs.declared.flight.Flight.{Flight}
 use Rattle.interval_file.specs.declared.header.IntervalHeader.{IntervalHeader}
 use Rattle.interval_file.specs.Recording.{recording_of}
@@ -26,6 +27,7 @@ pub record SpansLaws : Type 0 where
   pub go_on : (limit last : ℕ) (words : List HeardWord) → GoOn None (frames limit words last)
   pub all : (fs : List Frame) → GoOn None fs → present fs ≡ flat_map frames_in (frames_of_spans fs)
   pub within : (fs : List Frame) → GoOn None fs → All HoldsTogether (frames_of_spans fs)
+  pub stepped : (fs : List Frame) → GoOn None fs → All EndsStepped (spans fs)
   pub last : (tick_rate : ℕ) (system : System) (fs : List Frame)
       → final_lines tick_rate system fs ++ open_line tick_rate system fs ≡ lines_behind tick_rate system None (spans fs)
   pub tape : HearTheTape
@@ -51,6 +53,7 @@ behind laws flight bytes written (Some header) begins is =
       heard = laws.heard flight.limit (sum intervals) words;
       all = laws.all fs on;
       together = laws.within fs on;
+      stepped = laws.stepped fs on;
       tape = laws.tape flight.witness header.system flight.profile intervals is.events is.are_events;
     }
 

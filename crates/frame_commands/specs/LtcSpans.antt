@@ -7,6 +7,7 @@ use Rattle.flywheel.specs.Marked.{word_of, words_in}
 use Rattle.tape_spans.specs.Shared.{HoldsTogether, frames_in, present}
 use Rattle.tape_spans.specs.Spans.{frames_of_spans, spans}
 use Rattle.tape_spans.specs.SpanTexts.{final_lines, last_spans_line, lines_behind, open_line}
+use Rattle.tape_spans.specs.Stepped.{EndsStepped}
 use Rattle.interval_file.specs.declared.header.IntervalHeader.{IntervalHeader}
 use Rattle.interval_file.specs.Recording.{recording_of}
 use Rattle.tc_job.specs.declared.flight.Flight.{Flight}
@@ -41,7 +42,8 @@ spanned_recording flight = along_frames flight lines_of_spans
 -- what was written are the lines of the spans of the recording's frames, and the line that counts them. The heard
 -- frames are its words under the tolerance of the flight. Each frame that was heard or invented stands in exactly one
 -- span, in order; a span begins with a heard frame that does not join, and each further frame of it goes on from the
--- one before. And these words tell the tape
+-- one before, so that its last label is the first one, stepped by the frames that were heard and bridged behind it. And
+-- these words tell the tape
 pub record ShowsTheSpans (flight : Flight) (bytes written : List ℕ) : Type 0 where
   pub header : IntervalHeader
   pub begins : (recording_of bytes).header ≡ Some header
@@ -53,6 +55,7 @@ pub record ShowsTheSpans (flight : Flight) (bytes written : List ℕ) : Type 0 w
   pub heard : words_in frames ≡ map word_of (words_heard events)
   pub all : present frames ≡ flat_map frames_in (frames_of_spans frames)
   pub together : All HoldsTogether (frames_of_spans frames)
+  pub stepped : All EndsStepped (spans frames)
   pub tape : HearsTheTape flight.witness header.system flight.profile (recording_of bytes).intervals events
 
 -- what is told of it

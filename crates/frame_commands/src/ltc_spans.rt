@@ -24,7 +24,8 @@ use interval_engine::laws::recordings_grow;
 use interval_engine::work_along;
 use interval_file::IntervalHeader;
 use tape_spans::laws::{
-    final_lines_come_first, spans_share_the_frames_out, the_open_span_has_the_last_line,
+    a_span_ends_stepped, final_lines_come_first, spans_share_the_frames_out,
+    the_open_span_has_the_last_line,
 };
 use tape_spans::{Cut, Gap, Span, SpanText, TapeSpans, gap_text, span_text};
 use tc_address::System;
@@ -60,6 +61,7 @@ fn spans_are_told()
     a_frame_that_goes_on_is_the_next();
     spans_share_the_frames_out();
     the_open_span_has_the_last_line();
+    a_span_ends_stepped();
     what_is_heard_tells_the_tape();
 }
 

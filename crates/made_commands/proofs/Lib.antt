@@ -9,4 +9,5 @@ mod MadeIsRead
 mod MadeIsShort
 mod MadeLinesAreRead
 mod MadeLinesInPieces
+mod OneLabel
 mod UsageLines

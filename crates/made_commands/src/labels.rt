@@ -1,16 +1,18 @@
 //! The commands that write one line: those that turn labels into numbers and back, and the load run.
 //! Next: `tc_command/src/making.rt`.
 ghost use Rattle.std.specs.Prelude.{◌≡◌};
+ghost use Rattle.tc_address.specs.Label.{Address};
 ghost use Rattle.tc_address.specs.Numbering.{number_of};
 ghost use Rattle.made_commands.specs.KeptLine.{rest_of};
 ghost use Rattle.made_commands.specs.Labels.{number_line, label_line};
 ghost use Rattle.made_commands.specs.Load.{load_text};
-ghost use Rattle.tc_command.specs.Told.{WorksAsTold};
+ghost use Rattle.tc_command.specs.Told.{IsLawful, IsTold, WorksAsTold};
 ghost use Rattle.made_commands.specs.Labels.{told_label, told_number};
 ghost use Rattle.made_commands.specs.Load.{told_ltc_load};
 
 use crate::ltc_load::{a_load_is_told, load_text};
 use line_text::{Text, push_any_number, push_bytes};
+use tc_address::laws::{a_text_is_read_as_its_label, number_and_label_are_inverse};
 use tc_address::{Label, number, text};
 use tc_command::{Maker, Piece, Stop, make};
 use tc_io::{Sink, Source};
@@ -34,7 +36,24 @@ pub fn tell_label<S: Source, K: Sink>(
     ensures { WorksAsTold (told_label label.now) S.left S.ends S.faults K.written K.faults source.old source.new
         out.old out.new result }
 {
+    a_name_is_told(label);
     make(&mut OneLine::label(label), source, out)
+}
+
+/// What is told of `label` holds: the text that is written is read as the label.
+fn a_name_is_told(label: &Label)
+    ensures { IsTold (told_label label.now) }
+{
+    names_are_lawful();
+    a_text_is_read_as_its_label();
+    let _count = label.count();
+}
+
+/// What is told of `label` is lawful.
+pub fn names_are_lawful()
+    ensures { (label : Address) → IsLawful (told_label label) }
+{
+    a_text_is_read_as_its_label();
 }
 
 /// Works `number`: how many labels of its count stand before a label in the day.
@@ -46,7 +65,24 @@ pub fn tell_number<S: Source, K: Sink>(
     ensures { WorksAsTold (told_number label.now) S.left S.ends S.faults K.written K.faults source.old source.new
         out.old out.new result }
 {
+    a_number_is_told(label);
     make(&mut OneLine::number(label), source, out)
+}
+
+/// What is told of `number` holds: the label stands at the place that is written.
+fn a_number_is_told(label: &Label)
+    ensures { IsTold (told_number label.now) }
+{
+    numbers_are_lawful();
+    number_and_label_are_inverse();
+    let _count = label.count();
+}
+
+/// What is told of `number` is lawful.
+pub fn numbers_are_lawful()
+    ensures { (label : Address) → IsLawful (told_number label) }
+{
+    number_and_label_are_inverse();
 }
 
 /// An output of one line.

@@ -7,6 +7,8 @@
 //!   makes stands in `specs/Made.antt`, `MadeLines.antt`, `Load.antt`, `Labels.antt` and `About.antt`.
 //! - What `ltc-make` and `vitc-make` make is read back, frame by frame and field by field, and of what
 //!   `ltc-load` makes each word is read (`laws`).
+//! - The number that is written is the place of the label in its day, and the text is read as the label
+//!   (`specs/Labels.antt`, `NumbersTheLabel`, `NamesTheLabel`).
 //!
 //! Read `ltc_make`, `vitc_make`, `ltc_load` over `chance` and `divisors`, `labels` and `about`. `frame_commands`
 //! stands on this crate, since a recording of frames is spelled as one that is made.
@@ -22,7 +24,7 @@ mod ltc_make;
 mod vitc_make;
 
 pub use about::{MANUAL, VERSION, tell_help, tell_version};
-pub use labels::{tell_label, tell_load, tell_number};
+pub use labels::{names_are_lawful, numbers_are_lawful, tell_label, tell_load, tell_number};
 pub use ltc_load::loads_are_lawful;
 pub use ltc_make::{make_recording, stripes_are_lawful};
 pub use vitc_make::{line_stripes_are_lawful, make_lines};

@@ -25,3 +25,7 @@ pub mod UpTo
 pub mod Windows
 pub mod QuietRuns
 pub mod ReadBack
+pub mod AllCovered
+pub mod BytesAgain
+pub mod Polarity
+pub mod TurnByTurn

@@ -1,7 +1,9 @@
+pub mod Covered
 pub mod Crossing
 pub mod Distance
 pub mod KeptRuns
 pub mod Level
+pub mod Neighbours
 pub mod Pace
 pub mod Quiet
 pub mod Runs

@@ -1,5 +1,5 @@
 //! What follows from the definitions of crossings and distances alone.
-ghost use Rattle.std.specs.Prelude.{◌≡◌, ℕ, ◌+◌, ◌-◌, ◌*◌, ◌<◌, ◌≤◌, ◌^◌, FitsSigned, false, true, ℤ, pos, ◌≤ℤ◌};
+ghost use Rattle.std.specs.Prelude.{◌≡◌, ℕ, ◌+◌, ◌-◌, ◌*◌, ◌%◌, ◌<◌, ◌≤◌, ◌^◌, FitsSigned, false, true, ℤ, pos, ◌≤ℤ◌};
 ghost use Rattle.std.specs.Prelude.{int_le, unsigned_abs, List, [], ◌∷◌};
 ghost use Rattle.std.specs.Prelude.{◌++◌, length, map, take, drop};
 ghost use Rattle.std.specs.Int.{w16};
@@ -10,7 +10,8 @@ ghost use Rattle.pcm_front.specs.declared.threshold.Threshold.{Threshold};
 ghost use Rattle.pcm_front.specs.declared.threshold.Threshold.TheVariants.{Fixed, Follow, Deep};
 ghost use Rattle.pcm_front.specs.declared.threshold.TheConstants.{MAX_THRESHOLD};
 ghost use Rattle.pcm_front.specs.declared.window.TheConstants.{MAX_SMOOTH};
-ghost use Rattle.pcm_front.specs.Level.{level_of};
+ghost use Rattle.pcm_front.specs.Level.{least_of, level_of};
+ghost use Rattle.pcm_front.specs.Covered.{TellTheCrossings};
 ghost use Rattle.pcm_front.specs.Crossing.{apart, crossings, is_crossing, moments, tick_at, tick_in_step};
 ghost use Rattle.pcm_front.specs.Distance.{distances, distances_by, distances_from_start, gaps, intervals};
 ghost use Rattle.pcm_front.specs.Distance.{intervals_by, pieces_in, pieces_of, IsInterval};
@@ -173,6 +174,20 @@ pub fn pieces_add_up_to_their_distance()
         ≡ distances_by settings samples }
     ensures range { (length distance : ℕ) → 1 ≤ length → 1 ≤ distance
         → AllByRecursion (λ piece. (1 ≤ piece) × (piece ≤ length)) (pieces_in length distance) }
+{}
+
+/// The intervals of samples tell their crossings: each leads from one side to the other, neighbours lie on opposite sides
+/// with none between them, the ticks from the first, or from tick 0, to the last are covered, and the sign of the samples
+/// changes nothing.
+pub fn intervals_tell_the_crossings()
+    ensures { (pace : Pace) (s : Settings) (samples : List ℤ) → IsPace pace → 1 ≤ s.fineness → 1 ≤ least_of s.threshold
+        → TellTheCrossings pace s samples }
+{}
+
+/// Bytes of whole samples are the bytes of these samples.
+pub fn bytes_are_those_of_their_samples()
+    ensures { (bytes : List ℕ) → AllByRecursion (λ byte. byte < 256) bytes → length bytes % 2 ≡ 0
+        → bytes_of (samples_of bytes) ≡ bytes }
 {}
 
 /// Without pieces the intervals are those of whole distances. Where each distance is within a piece, and

@@ -1,6 +1,7 @@
 mod AreCommands
 mod DueSamples
 mod FieldsGrow
+mod FieldsTold
 mod MidiGrows
 mod MidiLimit
 mod NothingYet
@@ -8,7 +9,9 @@ mod PathEnds
 mod PathIsCommand
 mod PathOn
 mod PutMore
+mod SentIsRead
 mod SlicedOn
 mod SlicedTracks
+mod SoundCovered
 mod TrackGoesOn
 mod TrackOfAFile

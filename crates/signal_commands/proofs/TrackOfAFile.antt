@@ -1,11 +1,15 @@
--- A sound file that was made of blocks is read as them, so what is written of it is the file of its track.
-use Rattle.std.proofs.Common.{◌≡◌, ℕ, List, sym, ◌∙◌, ap}
-use Rattle.tc_job.specs.WaveSlicing.{SlicesWave}
+-- A sound file that was made of blocks is read as them, so what is written of it is the file of its track, whose
+-- intervals tell its crossings.
+use Rattle.std.proofs.Common.{◌≡◌, ℕ, ◌*◌, List, sym, ◌∙◌, ap, arith}
+use Rattle.tc_job.specs.WaveSlicing.{IsWaveSlicing, SlicesWave}
 use Rattle.wave_file.specs.declared.format.WaveFormat.{WaveFormat}
 use Rattle.wave_file.specs.Grammar.{IsMadeOf, Sample, read_whole}
 use Rattle.wave_file.specs.Grammar.{track_of as samples_in}
 use Rattle.wave_file.specs.Wave.{Reading, reading_of}
 use Rattle.signal_commands.specs.WavLtc.{SlicesTheTrack, along_sound_file, told_wav_ltc, track_file, track_of}
+use Rattle.signal_commands.specs.WavLtc.{track_pace, track_settings}
+use Rattle.signal_commands.proofs.PutMore.{is_pace}
+use Rattle.signal_commands.proofs.SoundCovered.{TellAll, pace_ended, pace_passing, some_threshold}
 use Rattle.tc_command.specs.Command.{IsCommand}
 use Rattle.tc_command.specs.Told.{IsLawful, IsTold}
 
@@ -14,12 +18,17 @@ abbrev AreReadAsMade : Type 0
 AreReadAsMade = (track : ℕ) (format : WaveFormat) (blocks : List (List Sample)) (bytes : List ℕ)
     → IsMadeOf track format blocks bytes → reading_of track bytes ≡ read_whole format (samples_in track blocks)
 
-slices_the_track : AreReadAsMade → (w : SlicesWave) (bytes written : List ℕ) → written ≡ track_of w bytes
-    → SlicesTheTrack w bytes written
-slices_the_track law w bytes written are = record {
+slices_the_track : AreReadAsMade → TellAll → (w : SlicesWave) → IsWaveSlicing w → (bytes written : List ℕ)
+    → written ≡ track_of w bytes → SlicesTheTrack w bytes written
+slices_the_track law tell w is bytes written are = record {
   are = are;
   made = λ format blocks made.
       are ∙ ap (λ (r : Reading). track_file w r.format r.samples) (law w.track format blocks bytes made);
+  tell = λ format blocks made.
+      tell (track_pace w format) (track_settings w) (samples_in w.track blocks)
+      (is_pace w.live w.system (16 * format.rate)) (omega arith) (some_threshold w.threshold is.threshold);
+  ended = λ format. pace_ended w.system (16 * format.rate) w.live;
+  passing = λ format. pace_passing w.system (16 * format.rate) w.live;
 }
 
 -- ---- what is told of a sliced track
@@ -31,8 +40,9 @@ track_is_lawful command w = record {
   unlimited = λ none input spent. spent;
 }
 
-pub track_is_told : AreReadAsMade → (w : SlicesWave) → IsLawful (told_wav_ltc w) → IsTold (told_wav_ltc w)
-track_is_told law w lawful = record {
+pub track_is_told : AreReadAsMade → TellAll → (w : SlicesWave) → IsWaveSlicing w → IsLawful (told_wav_ltc w)
+    → IsTold (told_wav_ltc w)
+track_is_told law tell w is lawful = record {
   lawful = lawful;
-  kept = λ pulled written are input output. slices_the_track law w pulled written output;
+  kept = λ pulled written are input output. slices_the_track law tell w is pulled written output;
 }

@@ -1,15 +1,20 @@
 -- `mtc-read`: the labels that MIDI bytes carry, a line each. Any bytes are MIDI bytes, so nothing is refused.
-use Rattle.std.specs.Prelude.{◌≡◌, ℕ, Bool, true, false, nat_lt, cond, List, ◌++◌, take, length, count_by, None}
+use Rattle.std.specs.Prelude.{◌≡◌, ◌<◌, ℕ, Bool, true, false, nat_lt, cond, List, ◌++◌, take, length, map, count_by, None}
 use Rattle.std.specs.List.{flat_map}
 use Rattle.mtc_reader.specs.declared.event.MtcEvent.{MtcEvent}
 use Rattle.mtc_reader.specs.declared.event.MtcEvent.TheVariants.{Full, Quarter, RefusedFull, RefusedQuarter}
 use Rattle.mtc_reader.specs.Events.{events_in}
+use Rattle.mtc_reader.specs.Laws.{all_falling, all_rising, at_no_place, full_message, run_events, AreLabels}
+use Rattle.mtc_reader.specs.Messages.{without_real_time}
 use Rattle.mtc_reader.specs.Texts.{event_line, end_line}
+use Rattle.tc_address.specs.declared.direction.Direction.{Direction}
+use Rattle.tc_address.specs.declared.direction.Direction.TheVariants.{Forward, Backward}
+use Rattle.tc_address.specs.Label.{Address, IsLabel}
 use Rattle.tc_io.specs.Verdict.{Verdict, good, past_limit}
 use Rattle.signal_commands.specs.declared.mtc_read.TheConstants.{MAX_BYTES}
 use Rattle.tc_command.specs.Meaning.{Meaning}
 use Rattle.tc_command.specs.declared.input_fault.InputFault.{InputFault}
-use Rattle.tc_command.specs.Told.{Told, told_by_meaning}
+use Rattle.tc_command.specs.Told.{Told}
 
 -- the lines of events, one after another
 abbrev pub event_lines : List MtcEvent → List ℕ
@@ -57,6 +62,35 @@ along_midi = record {
   output = λ bytes written. written ≡ mtc_report bytes;
 }
 
+-- ---- what was sent is read
+
+-- the bytes of a run that is sent whole: the full message of a label to a device, and then labels, each in the eight
+-- quarter frames of two frames, forward or backward
+abbrev pub run_of : Direction → ℕ → Address → List Address → List ℕ
+run_of Forward device first labels = full_message device first ++ all_rising labels
+run_of Backward device first labels = full_message device first ++ all_falling labels
+
+-- it may be sent: to a device that there is, and of labels
+pub record IsRun (device : ℕ) (first : Address) (labels : List Address) : Type 0 where
+  pub device_is : device < 0x80
+  pub first_is : IsLabel first
+  pub labels_are : AreLabels labels
+
+-- what was written are the lines of the events in the bytes, and the last line. And whatever bytes stand before and
+-- behind a run, its label and its pairs are read one after another, each at the place of its last byte, after the
+-- events of what stands before; and so they are, but for their places, where system real-time bytes stand among them
+pub record ReadsWhatWasSent (bytes written : List ℕ) : Type 0 where
+  pub are : written ≡ event_lines (events_in bytes) ++ last_mtc_line bytes (events_in bytes)
+  pub sent : (before after : List ℕ) (direction : Direction) (device : ℕ) (first : Address) (labels : List Address)
+      → IsRun device first labels → bytes ≡ before ++ (run_of direction device first labels ++ after)
+      → (later : List MtcEvent)
+      × (events_in bytes ≡ events_in before ++ (run_events (length before) direction first labels ++ later))
+  pub among : (before after : List ℕ) (direction : Direction) (device : ℕ) (first : Address) (labels : List Address)
+      → IsRun device first labels
+      → without_real_time bytes ≡ without_real_time (before ++ (run_of direction device first labels ++ after))
+      → (later : List MtcEvent) × (map at_no_place (events_in bytes)
+      ≡ map at_no_place (events_in before ++ (run_events (length before) direction first labels ++ later)))
+
 -- what is told of it
 abbrev pub told_mtc_read : Told
-told_mtc_read = told_by_meaning along_midi
+told_mtc_read = record { meaning = along_midi; promise = ReadsWhatWasSent; has_own_limit = false }

@@ -1,15 +1,20 @@
 -- `vitc-read`: the answer of each field of a line file, a line each.
 use Rattle.std.specs.Option.{option_map}
-use Rattle.std.specs.Prelude.{◌≡◌, ℕ, ◌+◌, Bool, true, false, List, [], ◌∷◌, ◌++◌, length, count_by}
+use Rattle.std.specs.Prelude.{◌≡◌, ⊤, ℕ, ◌+◌, ◌≤◌, Bool, true, false, List, [], ◌∷◌, ◌++◌, length, count_by}
 use Rattle.vitc_reader.specs.declared.field.FieldAnswer.{FieldAnswer}
 use Rattle.vitc_reader.specs.declared.field.FieldAnswer.TheVariants.{NoLine, Agreed, Conflict, Nothing}
+use Rattle.vitc_reader.specs.Agreement.{SaysOf}
+use Rattle.line_file.specs.declared.decoder.TheConstants.{MAX_FIELDS}
+use Rattle.line_file.specs.declared.header.LineHeader.{LineHeader}
 use Rattle.line_file.specs.Answers.{AreAnswersOf}
+use Rattle.line_file.specs.Grammar.{file_of, AreFields}
 use Rattle.line_file.specs.LineFile.{reading_of, end_fault_of}
+use Rattle.line_file.specs.LineHeader.{IsHeader}
 use Rattle.line_file.specs.Texts.{field_line, field_end_line}
 use Rattle.tc_command.specs.declared.input_fault.InputFault.TheVariants.{Lines}
 use Rattle.tc_command.specs.Meaning.{Meaning}
 use Rattle.tc_io.specs.Verdict.{verdict_as}
-use Rattle.tc_command.specs.Told.{Told, told_by_meaning}
+use Rattle.tc_command.specs.Told.{Told}
 
 -- the lines of answers, the first of which is that of the field with this number
 abbrev pub answer_lines : ℕ → List FieldAnswer → List ℕ
@@ -51,6 +56,38 @@ along_fields = record {
       × (written ≡ field_report answers);
 }
 
+-- ---- what is promised
+
+-- the answer says of the lines of a field what they are, and no other answer does
+pub record TellsTheField (header : LineHeader) (lines : List (List ℕ)) (answer : FieldAnswer) : Type 0 where
+  pub says : SaysOf header.system header.length lines answer
+  pub only : (other : FieldAnswer) → SaysOf header.system header.length lines other → other ≡ answer
+
+-- each answer is that of the field at its place
+abbrev pub TellTheFields : LineHeader → List (List (List ℕ)) → List FieldAnswer → Type 0
+TellTheFields header [] [] = ⊤
+TellTheFields header [] (answer ∷ answers) = ⊥
+TellTheFields header (lines ∷ fields) [] = ⊥
+TellTheFields header (lines ∷ fields) (answer ∷ answers) =
+    TellsTheField header lines answer × TellTheFields header fields answers
+
+-- the input is the file of a header and fields, and each field has its answer: the word on which its lines agree, the
+-- words of the first two that differ, or the fault of the first one. What was written are the lines of these answers,
+-- and the last line, which counts them. The number in the line of a field is its place, from 0
+pub record ReadsTheFields (bytes written : List ℕ) : Type 0 where
+  pub header : LineHeader
+  pub header_is : IsHeader header
+  pub fields : List (List (List ℕ))
+  pub fields_are : AreFields fields
+  pub few : length fields ≤ MAX_FIELDS
+  pub file : bytes ≡ file_of header fields
+  pub answers : List FieldAnswer
+  pub tell : TellTheFields header fields answers
+  pub are : written ≡ field_report answers
+  pub numbered : (before after : List FieldAnswer) (answer : FieldAnswer) → answers ≡ before ++ (answer ∷ after)
+      → written ≡ answer_lines 0 before ++ (field_line (length before) answer
+      ++ (answer_lines (length before + 1) after ++ last_field_line answers))
+
 -- what is told of it
 abbrev pub told_vitc_read : Told
-told_vitc_read = told_by_meaning along_fields
+told_vitc_read = record { meaning = along_fields; promise = ReadsTheFields; has_own_limit = false }

@@ -3,13 +3,15 @@
 use Rattle.std.specs.Prelude.{◌≡◌, ℕ, ◌*◌, true, false, ℤ, List, [], Option, Some, None}
 use Rattle.std.specs.Option.{option_map}
 use Rattle.pcm_front.specs.declared.pace.Pace.{Pace}
+use Rattle.pcm_front.specs.declared.pace.Pace.TheVariants.{Ended, Passing}
+use Rattle.pcm_front.specs.Covered.{TellTheCrossings}
 use Rattle.pcm_front.specs.Pace.{intervals_at}
 use Rattle.pcm_front.specs.Settings.{Settings, from_start}
 use Rattle.tc_command.specs.declared.input_fault.InputFault.TheVariants.{Sound}
 use Rattle.interval_file.specs.declared.header.FileVersion.TheVariants.{One}
 use Rattle.interval_file.specs.declared.header.IntervalHeader.{IntervalHeader}
 use Rattle.interval_file.specs.Grammar.{file_of}
-use Rattle.tc_job.specs.Pace.{pace_of}
+use Rattle.tc_job.specs.Pace.{pace_of, quarter_frame}
 use Rattle.tc_job.specs.WaveSlicing.{SlicesWave}
 use Rattle.wave_file.specs.declared.format.WaveFormat.{WaveFormat}
 use Rattle.wave_file.specs.Grammar.{IsMadeOf, Sample}
@@ -42,12 +44,18 @@ abbrev pub track_of : SlicesWave → List ℕ → List ℕ
 track_of w bytes = track_file w (reading_of w.track bytes).format (reading_of w.track bytes).samples
 
 -- what was written is the file of the track that is read. And of a sound file that was made of these blocks, it is the
--- file of the distances of the track's samples, whose first one runs from tick 0
+-- file of the distances of the track's samples, whose first one runs from tick 0. The intervals tell their crossings,
+-- from tick 0 on. A distance is written when it has ended, or where it is live, in quarters of a frame as it passes
 pub record SlicesTheTrack (w : SlicesWave) (bytes written : List ℕ) : Type 0 where
   pub are : written ≡ track_of w bytes
   pub made : (format : WaveFormat) (blocks : List (List Sample)) → IsMadeOf w.track format blocks bytes
       → written ≡ file_of (track_header w format)
-      (intervals_at (track_pace w format) (track_settings w) (samples_in w.track blocks))
+      (intervals_at (track_pace w format) (from_start 16 w.threshold w.smooth) (samples_in w.track blocks))
+  pub tell : (format : WaveFormat) (blocks : List (List Sample)) → IsMadeOf w.track format blocks bytes
+      → TellTheCrossings (track_pace w format) (from_start 16 w.threshold w.smooth) (samples_in w.track blocks)
+  pub ended : (format : WaveFormat) → w.live ≡ false → track_pace w format ≡ Ended
+  pub passing : (format : WaveFormat) → w.live ≡ true
+      → track_pace w format ≡ Passing (quarter_frame w.system (16 * format.rate))
 
 -- what it takes and what it writes: the header stands where the data begin
 abbrev pub along_sound_file : SlicesWave → Meaning

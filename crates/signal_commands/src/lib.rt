@@ -8,6 +8,9 @@
 //!   (`specs/PcmPath.antt`), the first two in pieces as they pass where the words say `live`,
 //!   `mtc-read` a line for each label in the bytes (`specs/MtcRead.antt`), and
 //!   `vitc-read` a line for each field of a line file (`specs/VitcRead.antt`).
+//! - What was sent is what `mtc-read` reads (`ReadsWhatWasSent`). A line of `vitc-read` says whose lines the
+//!   lines of its field are (`ReadsTheFields`). The intervals of `pcm-ltc` and `wav-ltc` tell the crossings of
+//!   all samples (`SlicesTheSound`, `SlicesTheTrack`).
 //! - Each is a command as any other (`laws`): what it writes comes first, there is one output of an input,
 //!   and what bytes show stays.
 //!
@@ -23,8 +26,8 @@ mod stopping;
 mod vitc_read;
 mod wav_ltc;
 
-pub use mtc_read::{MAX_BYTES, read_midi};
+pub use mtc_read::{MAX_BYTES, midi_is_lawful, read_midi};
 pub use pcm_ltc::{MAX_SAMPLES, slice_sound};
 pub use pcm_path::hear_path;
-pub use vitc_read::read_fields;
+pub use vitc_read::{fields_are_lawful, read_fields};
 pub use wav_ltc::{slice_track, sliced_tracks_are_lawful};

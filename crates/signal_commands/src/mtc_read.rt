@@ -11,11 +11,14 @@ ghost use Rattle.tc_io.specs.Sink.{AppendsFront};
 ghost use Rattle.tc_command.specs.Causes.{HasOutCause};
 ghost use Rattle.signal_commands.specs.KeptMtc.{counted, FitsReport, Stands};
 ghost use Rattle.signal_commands.specs.MtcRead.{along_midi};
-ghost use Rattle.tc_command.specs.Told.{WorksAsTold};
+ghost use Rattle.tc_command.specs.Told.{IsLawful, IsTold, WorksAsTold};
 ghost use Rattle.signal_commands.specs.MtcRead.{told_mtc_read};
 
 use crate::laws::each_signal_makes_a_command;
 use line_text::Text;
+use mtc_reader::laws::{
+    a_run_is_read_back, earlier_events_stay, real_time_bytes_change_places_only,
+};
 use mtc_reader::{MtcEvent, MtcReader, mtc_end_text, push_mtc_text};
 use tc_command::{Engine, Stop, push_line, work};
 use tc_io::{Sink, Source};
@@ -28,8 +31,25 @@ pub fn read_midi<S: Source, K: Sink>(source: &mut S, out: &mut K) -> Result<(), 
     ensures { WorksAsTold told_mtc_read S.left S.ends S.faults K.written K.faults source.old source.new
         out.old out.new result }
 {
-    each_signal_makes_a_command();
+    midi_is_told();
     work(&mut MtcReport::new(), source, out)
+}
+
+/// What is told of `mtc-read` holds: what was sent is what is read.
+fn midi_is_told()
+    ensures { IsTold told_mtc_read }
+{
+    midi_is_lawful();
+    earlier_events_stay();
+    a_run_is_read_back();
+    real_time_bytes_change_places_only();
+}
+
+/// What is told of `mtc-read` is lawful.
+pub fn midi_is_lawful()
+    ensures { IsLawful told_mtc_read }
+{
+    each_signal_makes_a_command();
 }
 
 /// A reader of MIDI bytes, and how many of its events of each kind were printed.

@@ -7,13 +7,14 @@ ghost use Rattle.tc_command.specs.Causes.{HasOutCause};
 ghost use Rattle.signal_commands.specs.KeptSlices.{IsGoing, Slices, Stands};
 ghost use Rattle.signal_commands.specs.PcmLtc.{along_samples, pace_for};
 ghost use Rattle.tc_command.specs.Stops.{Stops};
-ghost use Rattle.tc_command.specs.Told.{WorksAsTold};
+ghost use Rattle.tc_command.specs.Told.{IsTold, WorksAsTold};
 ghost use Rattle.signal_commands.specs.PcmLtc.{told_pcm_ltc};
 
-use crate::laws::each_signal_makes_a_command;
+use crate::laws::sliced_sound_is_lawful;
 use crate::spelling::spell;
 use crate::stopping::push_before;
 use interval_file::{FileVersion, IntervalHeader, interval_header};
+use pcm_front::laws::{bytes_are_those_of_their_samples, intervals_tell_the_crossings};
 use pcm_front::{Pace, Slicer};
 use tc_command::{Engine, Gathered, InputFault, Stop, work};
 use tc_io::{Sink, Source};
@@ -31,8 +32,18 @@ pub fn slice_sound<S: Source, K: Sink>(
     ensures { WorksAsTold (told_pcm_ltc slicing.now) S.left S.ends S.faults K.written K.faults source.old source.new
         out.old out.new result }
 {
-    each_signal_makes_a_command();
+    a_sliced_sound_is_told(slicing);
     work(&mut SlicedSound::new(slicing), source, out)
+}
+
+/// What is told of `pcm-ltc` holds: the intervals tell the crossings of all samples that there are.
+fn a_sliced_sound_is_told(slicing: &Slicing)
+    ensures { IsTold (told_pcm_ltc slicing.now) }
+{
+    sliced_sound_is_lawful();
+    intervals_tell_the_crossings();
+    bytes_are_those_of_their_samples();
+    let _fineness = slicing.fineness();
 }
 
 /// Sound on its way into intervals.

@@ -23,7 +23,7 @@ use crate::laws::each_signal_makes_a_command;
 use crate::spelling::spell;
 use crate::stopping::push_before;
 use interval_file::{FileVersion, IntervalHeader, interval_header};
-use pcm_front::laws::intervals_of_a_front_come_first;
+use pcm_front::laws::{intervals_of_a_front_come_first, intervals_tell_the_crossings};
 use pcm_front::{Pace, Slicer};
 use tc_command::{Engine, Gathered, InputFault, Stop, work};
 use tc_io::{Sink, Source};
@@ -46,16 +46,19 @@ pub fn slice_track<S: Source, K: Sink>(
     ensures { WorksAsTold (told_wav_ltc slicing.now) S.left S.ends S.faults K.written K.faults source.old source.new
         out.old out.new result }
 {
-    a_sliced_track_is_told();
+    a_sliced_track_is_told(slicing);
     work(&mut SlicedTrack::new(slicing), source, out)
 }
 
-/// What is told of `wav-ltc` holds: a sound file that was made is read as it was made.
-fn a_sliced_track_is_told()
-    ensures { (slicing : SlicesWave) → IsTold (told_wav_ltc slicing) }
+/// What is told of `wav-ltc` holds: a sound file that was made is read as it was made, and the intervals tell the
+/// crossings of its track.
+fn a_sliced_track_is_told(slicing: &WaveSlicing)
+    ensures { IsTold (told_wav_ltc slicing.now) }
 {
     sliced_tracks_are_lawful();
     a_file_is_read_as_it_was_written();
+    intervals_tell_the_crossings();
+    let _track = slicing.track();
 }
 
 /// What is told of `wav-ltc` is lawful.

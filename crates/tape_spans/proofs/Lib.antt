@@ -3,5 +3,6 @@ pub mod Digits
 pub mod EvenDays
 mod Examples
 pub mod FinalLines
+pub mod LastLabel
 pub mod SharedOut
 pub mod SpansGoOn

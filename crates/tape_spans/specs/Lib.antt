@@ -8,4 +8,5 @@ pub mod Shared
 pub mod Spans
 pub mod SpanTexts
 pub mod StandsFor
+pub mod Stepped
 pub mod Tape

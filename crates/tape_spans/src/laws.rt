@@ -7,7 +7,10 @@ ghost use Rattle.flywheel.specs.GoOn.{GoOn};
 ghost use Rattle.tape_spans.specs.Shared.{frames_in, present, HoldsTogether};
 ghost use Rattle.tape_spans.specs.Spans.{frames_of_spans, spans};
 ghost use Rattle.tape_spans.specs.SpanTexts.{final_lines, lines_behind, open_line};
+ghost use Rattle.tape_spans.specs.Stepped.{EndsStepped};
 ghost use Rattle.flywheel.specs.Kinds.{is_heard};
+
+use tc_address::laws::steps_add_up;
 
 /// Where each frame that goes on follows the one before it, as the frames of a flywheel do: each frame that
 /// was heard or invented stands in exactly one span, in order. Each span begins with a frame that does not
@@ -20,6 +23,14 @@ pub fn spans_share_the_frames_out()
     ensures heard { (frames : List Frame) → GoOn None frames
         → sum_by (λ span. span.heard) (spans frames) ≡ count_by is_heard frames }
 {}
+
+/// The last label of a span is stepped from the first one by as many frames as were heard and bridged behind it.
+pub fn a_span_ends_stepped()
+    ensures { (frames : List Frame) → GoOn None frames → All EndsStepped (spans frames) }
+{
+    steps_add_up();
+    spans_share_the_frames_out();
+}
 
 /// The lines that are final come first, whatever frames follow.
 pub fn final_lines_come_first()

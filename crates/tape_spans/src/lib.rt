@@ -16,7 +16,8 @@
 //!   (`laws::the_open_span_has_the_last_line`).
 //! - Each frame of a flywheel that was heard or invented stands in exactly one span, in order; within a
 //!   span each goes on from the one before it, and none begins with a frame that joins, so no two
-//!   neighbours could be one (`laws::spans_share_the_frames_out`).
+//!   neighbours could be one (`laws::spans_share_the_frames_out`). So the last label of a span is its first
+//!   one, stepped by the frames between them (`laws::a_span_ends_stepped`).
 //!
 //! Read `span`, `gap`, `place`, `tape` and `texts`, in this order, with the files of the same names in
 //! specs/ beside them. `frame_commands` stands on this crate. Nothing here allocates or fails.

@@ -1,6 +1,8 @@
 mod Examples
+mod FormsWritten
 mod LabelsHeard
 mod LinesAreInput
+mod NamedAgain
 mod ReadOn
 mod SentIsRead
 mod SlicedAgain

@@ -2,6 +2,8 @@ pub mod Answer
 pub mod CleanCopy
 pub mod Commands
 pub mod Exit
+pub mod FormsTyped
+pub mod LabelsAgain
 pub mod Promises
 pub mod SentAgain
 pub mod SoundAgain

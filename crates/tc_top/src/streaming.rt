@@ -23,12 +23,14 @@ use interval_commands::{
     read_firmly, read_recording, reports_are_lawful, sound_recording,
 };
 use made_commands::{
-    line_stripes_are_lawful, loads_are_lawful, make_lines, make_recording, stripes_are_lawful,
-    tell_help, tell_label, tell_load, tell_number, tell_version,
+    line_stripes_are_lawful, loads_are_lawful, make_lines, make_recording, names_are_lawful,
+    numbers_are_lawful, stripes_are_lawful, tell_help, tell_label, tell_load, tell_number,
+    tell_version,
 };
-use signal_commands::laws::each_signal_makes_a_command;
+use signal_commands::laws::{each_signal_makes_a_command, sliced_sound_is_lawful};
 use signal_commands::{
-    hear_path, read_fields, read_midi, slice_sound, slice_track, sliced_tracks_are_lawful,
+    fields_are_lawful, hear_path, midi_is_lawful, read_fields, read_midi, slice_sound, slice_track,
+    sliced_tracks_are_lawful,
 };
 use tc_command::{Status, Stop, push_note, stop_note};
 use tc_io::{Sink, Source};
@@ -96,8 +98,13 @@ pub(crate) fn each_job_is_lawful()
     loads_are_lawful();
     made_sound_is_lawful();
     sliced_tracks_are_lawful();
+    midi_is_lawful();
+    sliced_sound_is_lawful();
+    fields_are_lawful();
     each_signal_makes_a_command();
     line_stripes_are_lawful();
+    numbers_are_lawful();
+    names_are_lawful();
 }
 
 /// Works a job to its end, or to where it stops.

@@ -1,4 +1,5 @@
 pub mod Examples
 pub mod FirstDash
+pub mod FormsTaken
 pub mod Numbers
 pub mod WordsBehind

@@ -1,10 +1,12 @@
-pub mod Words
-pub mod Values
-pub mod Usages
 pub mod Flight
+pub mod Forms
 pub mod Live
 pub mod LtcChase
 pub mod LtcMake
+pub mod NumberLemmas
 pub mod PcmLtc
 pub mod PcmPath
+pub mod Usages
+pub mod Values
 pub mod WavLtc
+pub mod Words

@@ -1,9 +1,22 @@
 //! The table of usages beside the commands.
 ghost use Rattle.std.specs.Prelude.{◌≡◌, true};
+ghost use Rattle.tc_words.specs.Forms.{AreTaken, are_once, rows};
 ghost use Rattle.tc_words.specs.Usages.{HaveUsages, are_commands};
+
+use tc_address::laws::number_and_label_are_inverse;
 
 /// The table of usages has a row for each command, and no other.
 pub fn each_command_has_its_usage()
     ensures each { HaveUsages }
     ensures only { are_commands ≡ true }
 {}
+
+/// No command has two rows, and each way to make words by the form of a row is taken by its command: with a
+/// value for each word in capitals, with and without what stands in brackets, and with each of the words
+/// between bars; behind `path` nothing is given.
+pub fn each_form_is_taken()
+    ensures once { are_once rows ≡ true }
+    ensures taken { AreTaken rows }
+{
+    number_and_label_are_inverse();
+}

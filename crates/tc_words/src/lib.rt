@@ -5,7 +5,8 @@
 //!
 //! What this crate promises: `read_words` answers the task of the words, or else their first fault, in
 //! the order of `WordsFault`, and want of memory is an answer of its own (`specs/Words.antt`,
-//! `answer_to`). A task is a job that is streamed, or a chase.
+//! `answer_to`). A task is a job that is streamed, or a chase. And the table of usages, which `help` prints, has a
+//! row for each command, whose form makes words that are taken (`specs/Usages.antt`, `Forms.antt`; `laws`).
 //!
 //! Read `words` and `values`, with `specs/Words.antt` and `specs/Values.antt` beside them: `words` and
 //! `Words.antt` have the same rows. Behind them come the files of the commands of many words: `flight`,
@@ -14,7 +15,8 @@
 //!
 //! A later command joins in these places, once it stands in `tc_job`:
 //! - its row in `job_of`, in `words` and in `specs/Words.antt`: its word, and `no_values` with its job where it
-//!   has none, and else a function there and there, which reads its values;
+//!   has none, and else a function there and there, which reads its values and which the answers of the laws
+//!   unfold;
 //! - its lines in the tables of `command_tests`.
 #![tactic(auto)]
 

@@ -75,7 +75,7 @@ a_line_says spell system n line some = elim (stand_or_faulty n line some) [
   ]
 ]
 
-lines_say : SpellOrAreFaulty → (system : System) (n : ℕ) (lines : List (List ℕ)) → 1 ≤ n
+pub lines_say : SpellOrAreFaulty → (system : System) (n : ℕ) (lines : List (List ℕ)) → 1 ≤ n
     → (said : List (Result VitcWord ReadFault)) × AreSaid system n lines said
 lines_say spell system n [] some = ([], tt)
 lines_say spell system n (line ∷ lines) some =

@@ -3,11 +3,14 @@ ghost use Rattle.std.specs.Prelude.{◌≡◌, ◌<◌, ◌^◌, ◌%◌, ◌++�
 ghost use Rattle.tc_address.specs.declared.system.System.{System};
 ghost use Rattle.vitc_reader.specs.declared.fault.RunFault.{RunFault};
 ghost use Rattle.vitc_reader.specs.declared.field.FieldAnswer.{FieldAnswer};
+ghost use Rattle.vitc_reader.specs.Agreement.{SaysOf};
 ghost use Rattle.vitc_reader.specs.Field.{IsAnswer, FieldState, StandsFor};
 ghost use Rattle.vitc_reader.specs.Runs.{IsLineLength, IsRunFault, MayBeLine, StandFor};
 ghost use Rattle.vitc_reader.specs.Written.{runs_in};
 
-use vitc_line::laws::{bits_spell_a_word_or_have_a_fault, spelling_is_exact};
+use vitc_line::laws::{
+    bits_spell_a_word_or_have_a_fault, each_word_has_its_line, spelling_is_exact,
+};
 
 /// Runs stand for one number of bits at most, and have one first fault at most; runs that stand for
 /// bits have none.
@@ -41,6 +44,20 @@ pub fn lines_have_one_answer()
         → IsAnswer system n lines b → a ≡ b }
 {
     spelling_is_exact();
+}
+
+/// The answer of a field says whose lines its lines are: agreed on a word exactly where some line's runs are those of
+/// the word's line, each to a quarter of a cell, and every other line is so or at fault; in conflict exactly where the
+/// first two lines that differ are these words' lines; nothing where every line is at fault, the first one with this.
+pub fn an_answer_says_whose_lines_they_are()
+    ensures says { (system : System) (n : ℕ) (lines : List (List ℕ)) (answer : FieldAnswer) → IsAnswer system n lines answer
+        → SaysOf system n lines answer }
+    ensures only { (system : System) (n : ℕ) (lines : List (List ℕ)) (answer : FieldAnswer) → IsLineLength n
+        → SaysOf system n lines answer → IsAnswer system n lines answer }
+{
+    each_word_has_its_line();
+    spelling_is_exact();
+    bits_spell_a_word_or_have_a_fault();
 }
 
 /// A line that stands again behind itself changes no answer.

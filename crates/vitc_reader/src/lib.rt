@@ -11,7 +11,8 @@
 //! - `runs_of` writes the runs of some bits, and they stand for these bits, at every length of a line.
 //! - A `FieldReader` that was fed some lines, as their runs or as the bytes in which these stand, answers for
 //!   all of them (`specs/Field.antt`, `StandsFor`, `IsAnswer`): agreed, in conflict, or nothing, with the
-//!   fault of the first line.
+//!   fault of the first line. That is: it says whose lines these are, of which word's line each has the runs,
+//!   and where the first two differ (`specs/Agreement.antt`, `SaysOf`; `laws`).
 //!
 //! Read `fault`, `line_length`, `ones`, `reading`, `writing` and `field`, in this order, and the files of specs/
 //! beside them. `vitc_line` says what the bits of a line spell. Nothing here allocates or fails in any other way.

@@ -7,6 +7,7 @@ returns c = λ flight. spans_are_told (record {
   go_on = c.a_frame_that_goes_on_is_the_next.ensures;
   all = c.spans_share_the_frames_out.ensures.all;
   within = c.spans_share_the_frames_out.ensures.within;
+  stepped = c.a_span_ends_stepped.ensures;
   last = c.the_open_span_has_the_last_line.ensures;
   tape = c.what_is_heard_tells_the_tape.ensures;
 }) flight (c.spans_are_lawful.ensures flight)

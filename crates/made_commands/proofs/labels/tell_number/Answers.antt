@@ -1,5 +1,4 @@
-use Rattle.tc_command.specs.ToldLemmas.{text_is_told}
 use Rattle.made_commands.proofs.labels.tell_number.Goals as goal
 
 pub returns : goal.returns
-returns g c = record { told = text_is_told _; worked = rw (← c.number.ensures) c.make.ensures }
+returns g c = record { told = c.a_number_is_told.ensures; worked = rw (← c.number.ensures) c.make.ensures }

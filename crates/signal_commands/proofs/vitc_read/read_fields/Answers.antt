@@ -1,8 +1,4 @@
-use Rattle.tc_command.specs.ToldLemmas.{meaning_is_lawful, meaning_is_told}
 use Rattle.signal_commands.proofs.vitc_read.read_fields.Goals as goal
 
 pub returns : goal.returns
-returns g c = record {
-  told = meaning_is_told _ (meaning_is_lawful _ c.each_signal_makes_a_command.ensures.fields (λ input spent. spent));
-  worked = c.work.ensures;
-}
+returns g c = record { told = c.fields_are_told.ensures; worked = c.work.ensures }

@@ -3,6 +3,6 @@ use Rattle.signal_commands.proofs.wav_ltc.slice_track.Goals as goal
 -- the choice of the engine is that of the words
 pub returns : goal.returns
 returns g c = record {
-  told = c.a_sliced_track_is_told.ensures c.args.slicing.now;
+  told = c.a_sliced_track_is_told.ensures;
   worked = rw c.new.ensures.choice at c.work.ensures;
 }

@@ -6,6 +6,16 @@ returns c = read_on (record {
   one_list = c.a_list_has_one_list_of_events.ensures;
   labels = c.what_is_heard_has_labels_of_its_system.ensures;
   back = c.what_is_sent_is_read_back.ensures.events;
+  numbers = record {
+    number = c.number_and_label_are_inverse.ensures.number;
+    below = c.number_and_label_are_inverse.ensures.below;
+  };
+  forms = record {
+    each = c.each_command_has_its_usage.ensures.each;
+    once = c.each_form_is_taken.ensures.once;
+    only = c.each_command_has_its_usage.ensures.only;
+    taken = c.each_form_is_taken.ensures.taken;
+  };
   sound = record {
     inputs = c.bytes_are_read_as_the_text_says.ensures.input;
     files = c.a_file_is_read_as_it_was_written.ensures.read;

@@ -25,15 +25,14 @@ returns c = lawful
     lawful (jobs.LtcConvert version) = c.conversions_are_lawful.ensures version
     lawful (jobs.LtcLoad run) = c.loads_are_lawful.ensures run
     lawful (jobs.LtcPcm level) = c.made_sound_is_lawful.ensures level
-    lawful (jobs.PcmLtc slicing) =
-        meaning_is_lawful _ (c.each_signal_makes_a_command.ensures.samples slicing) (λ input spent. spent)
+    lawful (jobs.PcmLtc slicing) = c.sliced_sound_is_lawful.ensures slicing
     lawful (jobs.PcmPath path) =
         meaning_is_lawful _ (c.each_signal_makes_a_command.ensures.paths path) (λ input spent. spent)
     lawful (jobs.WavLtc slicing) = c.sliced_tracks_are_lawful.ensures slicing
-    lawful jobs.MtcRead = meaning_is_lawful _ c.each_signal_makes_a_command.ensures.midi (λ input spent. spent)
-    lawful jobs.VitcRead = meaning_is_lawful _ c.each_signal_makes_a_command.ensures.fields (λ input spent. spent)
+    lawful jobs.MtcRead = c.midi_is_lawful.ensures
+    lawful jobs.VitcRead = c.fields_are_lawful.ensures
     lawful (jobs.VitcMake stripe) = c.line_stripes_are_lawful.ensures stripe
-    lawful (jobs.Number label) = text_is_lawful _
-    lawful (jobs.LabelOf label) = text_is_lawful _
+    lawful (jobs.Number label) = c.numbers_are_lawful.ensures label
+    lawful (jobs.LabelOf label) = c.names_are_lawful.ensures label
     lawful jobs.Help = text_is_lawful _
     lawful jobs.Version = text_is_lawful _

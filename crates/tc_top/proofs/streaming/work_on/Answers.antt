@@ -1,8 +1,11 @@
 use Rattle.tc_top.proofs.streaming.work_on.Goals as goal
 
--- a search does not see these two: what is told of what is made unfolds too far
+-- a search does not see these three: what is told of what is made unfolds too far
 pub returns-in-LtcMake : goal.returns-in-LtcMake
 returns-in-LtcMake g c = rw c.in-LtcMake.is c.make_recording.ensures
 
 pub returns-in-VitcMake : goal.returns-in-VitcMake
 returns-in-VitcMake g c = rw c.in-VitcMake.is c.make_lines.ensures
+
+pub returns-in-LabelOf : goal.returns-in-LabelOf
+returns-in-LabelOf g c = rw c.in-LabelOf.is c.tell_label.ensures

@@ -1,0 +1,123 @@
+-- The words that the form of a command makes, as `help` prints it: a word in capitals stands for a value, what stands
+-- in brackets may be left out, and of words with a bar between them one is given. Behind `path` nothing is.
+use Rattle.std.specs.Prelude.{◌≡◌, ℕ, ◌==◌, Bool, true, false, not, ◌&&◌, ◌||◌, List, [], ◌∷◌, ◌++◌, codes, map}
+use Rattle.std.specs.Prelude.{if◌then◌else◌}
+use Rattle.std.specs.Prelude.{drop, get_or, length, nat_lt, Option, Some, None}
+use Rattle.std.specs.List.{filter, flat_map, list_any, AllByRecursion}
+use Rattle.std.specs.Result.{is_ok}
+use Rattle.std.specs.Str.{bytes_eq}
+use Rattle.tc_job.specs.declared.usages.TheConstants.{USAGES}
+use Rattle.tc_words.specs.Values.{Word, value_in}
+use Rattle.tc_words.specs.Words.{task_of}
+
+-- ---- the values
+
+-- a value for each word in capitals
+abbrev pub samples : List (Word × Word)
+samples =
+    (codes "BOUND", codes "2") ∷ (codes "CELL", codes "400") ∷ (codes "COUNT", codes "25")
+    ∷ (codes "DIRECTION", codes "backward") ∷ (codes "FINENESS", codes "8") ∷ (codes "FRAMES", codes "100")
+    ∷ (codes "LABEL", codes "19:47:58:23") ∷ (codes "LENGTH", codes "1728") ∷ (codes "LEVEL", codes "8192")
+    ∷ (codes "LIMIT", codes "3") ∷ (codes "NUMBER", codes "0") ∷ (codes "RATE", codes "48000") ∷ (codes "SEED", codes "53")
+    ∷ (codes "SMOOTH", codes "2") ∷ (codes "STEP", codes "1") ∷ (codes "SYSTEM", codes "30")
+    ∷ (codes "THRESHOLD", codes "1000") ∷ (codes "TICK-RATE", codes "1920000") ∷ (codes "TO-CELL", codes "500")
+    ∷ (codes "TRACK", codes "1") ∷ (codes "VERSION", codes "2") ∷ (codes "WORDS", codes "100") ∷ []
+
+-- a word of a form that is not in capitals stands for itself
+abbrev pub or_itself : Word → Option Word → Word
+or_itself word None = word
+or_itself word (Some value) = value
+
+abbrev pub value_of : Word → Word
+value_of word = or_itself word (value_in samples word)
+
+-- ---- one word of a form
+
+-- in front of the first of some words
+abbrev pub in_front : ℕ → List Word → List Word
+in_front byte [] = []
+in_front byte (word ∷ words) = (byte ∷ word) ∷ words
+
+-- words with a bar, `|`, between them
+unfoldable pub between_bars : List ℕ → List Word
+between_bars [] = [] ∷ []
+between_bars (byte ∷ more) = if byte == 0x7c then [] ∷ between_bars more else in_front byte (between_bars more)
+
+-- ---- a form
+
+-- some words, in each way in which the form makes them
+abbrev pub Ways : Type 0
+Ways = List (List Word)
+
+-- either of the first ways, and then either of the others
+abbrev pub then_ways : Ways → Ways → Ways
+then_ways first next = flat_map (λ way. map (λ more. way ++ more) next) first
+
+-- a form as it is read from its end: the letters of a word, the ways from there to the end of the innermost brackets,
+-- and those behind these brackets, and behind those around them
+pub record FormRead : Type 0 where
+  pub letters : Word
+  pub ways : Ways
+  pub behind : List Ways
+
+-- a whole word in front of some ways; no letters are no word
+abbrev pub before_ways : Word → Ways → Ways
+before_ways [] ways = ways
+before_ways word ways = then_ways (map (λ one. value_of one ∷ []) (between_bars word)) ways
+
+-- a word is whole
+abbrev pub with_word : FormRead → FormRead
+with_word r = record { letters = []; ways = before_ways r.letters r.ways; behind = r.behind }
+
+-- brackets end here
+abbrev pub brackets_end : FormRead → FormRead
+brackets_end r = record { letters = []; ways = [] ∷ []; behind = r.ways ∷ r.behind }
+
+-- they begin here: what is in them may be left out
+abbrev pub brackets_begin : FormRead → FormRead
+brackets_begin r = record {
+  letters = [];
+  ways = then_ways ([] ∷ r.ways) (get_or r.behind 0 ([] ∷ []));
+  behind = drop 1 r.behind;
+}
+
+-- one letter more, a space or a bracket
+abbrev pub with_letter : ℕ → FormRead → FormRead
+with_letter letter r =
+    if letter == 0x20 then with_word r
+    else if letter == 0x5d then brackets_end (with_word r)
+    else if letter == 0x5b then brackets_begin (with_word r)
+    else record r { letters = letter ∷ r.letters }
+
+unfoldable pub read_form : List ℕ → FormRead
+read_form [] = record { letters = []; ways = [] ∷ []; behind = [] }
+read_form (letter ∷ more) = with_letter letter (read_form more)
+
+-- the words in each way that the form allows
+abbrev pub ways_of : List ℕ → Ways
+ways_of form = (with_word (read_form form)).ways
+
+-- ---- the table
+
+-- the word of a command, and its form
+abbrev pub rows : List (Word × List ℕ)
+rows = map (λ row. (row.0.now, row.1.now)) USAGES
+
+-- no command has two rows
+abbrev pub are_once : List (Word × List ℕ) → Bool
+are_once [] = true
+are_once (row ∷ more) = not (list_any (λ other. bytes_eq row.0 other.0) more) && are_once more
+
+-- something stands behind the word `path`, which the form does not tell: nothing may
+abbrev pub is_behind_path : List Word → Bool
+is_behind_path [] = false
+is_behind_path (word ∷ more) = (bytes_eq word (codes "path") && nat_lt 0 (length more)) || is_behind_path more
+
+-- the words that a form makes
+abbrev pub made_by : List ℕ → Ways
+made_by form = filter (λ words. not (is_behind_path words)) (ways_of form)
+
+-- each way to make words by a form is taken by its command
+abbrev pub AreTaken : List (Word × List ℕ) → Type 0
+AreTaken table =
+    AllByRecursion (λ row. AllByRecursion (λ words. is_ok (task_of row.0 words) ≡ true) (made_by row.1)) table
