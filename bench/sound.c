@@ -3,6 +3,9 @@
  *     sound make FPS RATE FRAMES [ADDRESS] > SAMPLES 2> ADDRESSES
  *                            frames from 01:00:00:00 or the address on, and the address of each, a line each
  *     sound fall DB < SAMPLES > SAMPLES                    a level that falls evenly by so many decibels, from the first sample to the last
+ *     sound drop|click|cut PLACES < SAMPLES > SAMPLES
+ *                            at so many places by chance: silence of 10 to 100 ms at 48,000 samples a second, one to six samples at full scale, or
+ *                            1 to 800 samples left out
  *     sound read FPS RATE < SAMPLES > ADDRESSES            the addresses that libltc's decoder reads
  *
  * Samples are raw: 16 bits with a sign, little endian, one channel. Build: cc -O2 -o sound sound.c -lltc -lm
@@ -75,6 +78,33 @@ static void fall(double decibels) {
     free(samples);
 }
 
+/* The next number of a generator that is the same everywhere, below a bound. */
+static size_t chance(size_t bound) {
+    static uint64_t state = 20261129;
+    state = state * 16807 % 2147483647;
+    return state % bound;
+}
+
+static void hurt(const char *how, long places) {
+    size_t count;
+    int16_t *samples = all_samples(&count);
+    char *gone = calloc(count, 1);
+    for (long i = 0; i < places && count > 4800; i++) {
+        size_t at = chance(count - 4800);
+        if (!strcmp(how, "drop")) {
+            size_t many = 480 + chance(4320);
+            memset(samples + at, 0, many * sizeof *samples);
+        } else if (!strcmp(how, "click")) {
+            int16_t level = chance(2) ? 32000 : -32000;
+            for (size_t many = 1 + chance(6); many > 0; many--) samples[at + many] = level;
+        } else memset(gone + at, 1, 1 + chance(800));
+    }
+    for (size_t i = 0; i < count; i++)
+        if (!gone[i]) put_sample(samples[i]);
+    free(gone);
+    free(samples);
+}
+
 static void read_addresses(double fps, double rate) {
     size_t count;
     int16_t *samples = all_samples(&count);
@@ -97,9 +127,11 @@ int main(int argc, char **argv) {
     if ((argc == 5 || argc == 6) && !strcmp(argv[1], "make"))
         make(atof(argv[2]), atof(argv[3]), atol(argv[4]), argc == 6 ? argv[5] : "01:00:00:00");
     else if (argc == 3 && !strcmp(argv[1], "fall")) fall(atof(argv[2]));
+    else if (argc == 3 && (!strcmp(argv[1], "drop") || !strcmp(argv[1], "click") || !strcmp(argv[1], "cut")))
+        hurt(argv[1], atol(argv[2]));
     else if (argc == 4 && !strcmp(argv[1], "read")) read_addresses(atof(argv[2]), atof(argv[3]));
     else {
-        fputs("usage: sound make FPS RATE FRAMES [ADDRESS] | sound fall DB | sound read FPS RATE\n", stderr);
+        fputs("usage: sound make FPS RATE FRAMES [ADDRESS] | sound fall DB | sound drop|click|cut PLACES | sound read FPS RATE\n", stderr);
         return 2;
     }
     return 0;

@@ -2,7 +2,7 @@
 # The table of docs/reference/sound.md: how many words of sound that libltc made and sox hurt are read, by `tc` and by libltc's own decoder. Behind a
 # plus sign stand the false ones: words with an address that was never encoded.
 #
-#     bench/sound.sh [TC [FRAMES [live]]]
+#     bench/sound.sh [TC [FRAMES [live|path]]]
 #
 # TC is the built program (bin/tc), FRAMES how many frames of drop-frame code at 29.97 a second are made (1800). It wants a C compiler, Debian's libltc-dev and
 # sox. It builds nothing but its own small C program. The gate does not run it.
@@ -10,11 +10,13 @@
 # With `live` the same sound, and more at other speeds and with silences in it, is sliced with `live` and without. A
 # cell has how many words are read both ways, to the tick, and behind it, where there are some, how many lines `live`
 # adds (+) and takes (-): first of words, and then of the others; and how many of its words are false.
+#
+# With `path` the best path reads the same sound, and more that is hurt so that other ways fail (hard_rows.sh).
 set -eu
 top=$(cd "$(dirname "$0")/.." && pwd)
 tc=${1:-$top/bin/tc}
 frames=${2:-1800}
-live=${3:-}
+mode=${3:-}
 fps=29.97
 system=30
 [ -x "$tc" ] || { echo "no program at $tc: run ./build" >&2; exit 2; }
@@ -33,13 +35,13 @@ hurt() { # RATE EFFECT..
     sox -R -D $(raw "$rate") - $(raw "$rate") - "$@"
 }
 
-# White noise under the sound, so many decibels below full scale.
-noisy() { # RATE DECIBELS
-    local rate=$1 amplitude
+# Noise under the sound, so many decibels below full scale: white, or what `synth` of sox makes of other words.
+noisy() { # RATE DECIBELS [WORDS]
+    local rate=$1 amplitude kind=${3:-whitenoise}
     amplitude=$(awk -v db="$2" 'BEGIN { print 10 ^ (-db / 20) }')
     cat > "$room/still"
-    # shellcheck disable=SC2046
-    sox -R -D $(raw "$rate") "$room/still" $(raw "$rate") "$room/noise" synth whitenoise vol "$amplitude"
+    # shellcheck disable=SC2046,SC2086
+    sox -R -D $(raw "$rate") "$room/still" $(raw "$rate") "$room/noise" synth $kind vol "$amplitude"
     # shellcheck disable=SC2046
     sox -R -D -m -v 1 $(raw "$rate") "$room/still" -v 1 $(raw "$rate") "$room/noise" $(raw "$rate") -
 }
@@ -51,18 +53,27 @@ counted() {
 }
 
 # The addresses of the words that a command reads of an interval file.
-words() { "$tc" "$1" | awk '$1 == "word" { sub(";", ":", $3); print $3 }'; }
+# shellcheck disable=SC2086
+words() { "$tc" $1 | awk '$1 == "word" { sub(";", ":", $3); print $3 }'; }
+
+# How the sound is sliced, and by which command it is read.
+if [ "$mode" = path ]; then
+    ways=("250 16 follow,ltc-rough" "250 16 follow 3,ltc-rough" "250 16 deep 3,ltc-rough" "250 16 path,ltc-rough" \
+        "250 16 path,ltc-rough firm")
+else
+    ways=("1000,ltc-read" "1000 16,ltc-worn" "250 16 follow,ltc-read" "250 16 follow,ltc-worn" "250 16 follow,ltc-rough" \
+        "250 16 follow 3,ltc-rough" "250 16 deep,ltc-rough" "250 16 deep 3,ltc-rough")
+fi
 
 # A row: what was done to the sound, its rate, and how many words are read of it.
 row() { # NAME RATE
     local name=$1 rate=$2 cells
-    if [ -n "$live" ]; then
+    if [ "$mode" = live ]; then
         both "$name" "$rate"
         return
     fi
     cells="| $name | $("$room/sound" read "$fps" "$rate" < "$room/now" | counted)"
-    for way in "1000,ltc-read" "1000 16,ltc-worn" "250 16 follow,ltc-read" "250 16 follow,ltc-worn" "250 16 follow,ltc-rough" \
-        "250 16 follow 3,ltc-rough" "250 16 deep,ltc-rough" "250 16 deep 3,ltc-rough"; do
+    for way in "${ways[@]}"; do
         # shellcheck disable=SC2086
         cells="$cells | $("$tc" pcm-ltc "$system" "$rate" ${way%,*} < "$room/now" | words "${way#*,}" | counted)"
     done
@@ -161,9 +172,12 @@ rows_of_live() {
     row "five frames of ltc-make, 400 times, with a silence after each, a sample longer than the one before" 48000
 }
 
-if [ -n "$live" ]; then
+if [ "$mode" = live ]; then
     echo "| Sound of $frames frames | read | worn | rough | file, rough |"
     echo "|---|---|---|---|---|"
+elif [ "$mode" = path ]; then
+    echo "| Sound of $frames frames | libltc | rough | rough 3 | deep 3, rough | path, rough | path, rough firm |"
+    echo "|---|---|---|---|---|---|---|"
 else
     echo "| Sound of $frames frames | libltc | whole, read | fixed, worn | follow, read | follow, worn | follow, rough | follow 3, rough | deep, rough | deep 3, rough |"
     echo "|---|---|---|---|---|---|---|---|---|---|"
@@ -199,4 +213,8 @@ for rate in 44100 22050; do
 done
 # shellcheck disable=SC2046
 sox -R -D $(raw 22050) "$room/slow" $(raw 44100) "$room/now" rate 44100 && row "the same, doubled by sox" 44100
-if [ -n "$live" ]; then rows_of_live; fi
+if [ "$mode" = live ]; then rows_of_live; fi
+if [ "$mode" = path ]; then
+    # shellcheck source=bench/hard_rows.sh
+    . "$top/bench/hard_rows.sh"
+fi
