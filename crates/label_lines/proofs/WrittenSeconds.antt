@@ -30,28 +30,36 @@ point_is_no_digit whole rest =
 
 -- ---- the parts of seconds
 
+-- a whole part, a point and three bytes
+abbrev pointed : List ℕ → ℕ → ℕ → ℕ → List ℕ
+pointed whole a b c = whole ++ 46 ∷ a ∷ b ∷ c ∷ []
+
+-- so many bytes more than the whole part
+long : (whole : List ℕ) (a b c : ℕ) → length (pointed whole a b c) ≡ length whole + 4
+long whole a b c = length-append whole (46 ∷ a ∷ b ∷ c ∷ [])
+
 -- what stands in front of the last four bytes, the first of these, and the last three
 front_part : (whole : List ℕ) (a b c : ℕ)
-    → take (length (whole ++ 46 ∷ a ∷ b ∷ c ∷ []) - 4) (whole ++ 46 ∷ a ∷ b ∷ c ∷ []) ≡ whole
+    → take (length (pointed whole a b c) - 4) (pointed whole a b c) ≡ whole
 front_part whole a b c =
-    let long : length (whole ++ 46 ∷ a ∷ b ∷ c ∷ []) - 4 ≡ length whole = omega (arith, length-append whole (46 ∷ a ∷ b ∷ c ∷ [])) in
-    ap (λ (n : ℕ). take n (whole ++ 46 ∷ a ∷ b ∷ c ∷ [])) long ∙ take-append_seam whole (46 ∷ a ∷ b ∷ c ∷ [])
+    let less : length (pointed whole a b c) - 4 ≡ length whole = omega (arith, long whole a b c) in
+    ap (λ (n : ℕ). take n (pointed whole a b c)) less ∙ take-append_seam whole (46 ∷ a ∷ b ∷ c ∷ [])
 
 last_part : (whole : List ℕ) (a b c : ℕ)
-    → drop (length (whole ++ 46 ∷ a ∷ b ∷ c ∷ []) - 3) (whole ++ 46 ∷ a ∷ b ∷ c ∷ []) ≡ a ∷ b ∷ c ∷ []
+    → drop (length (pointed whole a b c) - 3) (pointed whole a b c) ≡ a ∷ b ∷ c ∷ []
 last_part whole a b c =
-    let long : length (whole ++ 46 ∷ a ∷ b ∷ c ∷ []) - 3 ≡ length whole + 1 = omega (arith, length-append whole (46 ∷ a ∷ b ∷ c ∷ [])) in
-    ap (λ (n : ℕ). drop n (whole ++ 46 ∷ a ∷ b ∷ c ∷ [])) long ∙ drop-append-add whole (46 ∷ a ∷ b ∷ c ∷ []) 1
+    let less : length (pointed whole a b c) - 3 ≡ length whole + 1 = omega (arith, long whole a b c) in
+    ap (λ (n : ℕ). drop n (pointed whole a b c)) less ∙ drop-append-add whole (46 ∷ a ∷ b ∷ c ∷ []) 1
 
 point_at : (whole : List ℕ) (more : List ℕ) → slice_index (whole ++ 46 ∷ more) (length whole) ≡ 46
 point_at [] more = refl
 point_at (c ∷ whole) more = point_at whole more
 
 point_part : (whole : List ℕ) (a b c : ℕ)
-    → slice_index (whole ++ 46 ∷ a ∷ b ∷ c ∷ []) (length (whole ++ 46 ∷ a ∷ b ∷ c ∷ []) - 4) ≡ 46
+    → slice_index (pointed whole a b c) (length (pointed whole a b c) - 4) ≡ 46
 point_part whole a b c =
-    let long : length (whole ++ 46 ∷ a ∷ b ∷ c ∷ []) - 4 ≡ length whole = omega (arith, length-append whole (46 ∷ a ∷ b ∷ c ∷ [])) in
-    ap (λ (n : ℕ). slice_index (whole ++ 46 ∷ a ∷ b ∷ c ∷ []) n) long ∙ point_at whole (a ∷ b ∷ c ∷ [])
+    let less : length (pointed whole a b c) - 4 ≡ length whole = omega (arith, long whole a b c) in
+    ap (λ (n : ℕ). slice_index (pointed whole a b c) n) less ∙ point_at whole (a ∷ b ∷ c ∷ [])
 
 -- ---- of a whole part of five digits at most
 
@@ -61,18 +69,18 @@ tests_pass n front point last least most f p l = rw (f, p, l) (grind (arith, nat
 
 pub are_seconds : (whole : List ℕ) (a b c : ℕ) → 1 ≤ length whole → length whole ≤ 5
     → list_all is_ascii_digit whole ≡ true → list_all is_ascii_digit (a ∷ b ∷ c ∷ []) ≡ true
-    → is_seconds (whole ++ 46 ∷ a ∷ b ∷ c ∷ []) ≡ true
+    → is_seconds (pointed whole a b c) ≡ true
 are_seconds whole a b c least most digits last =
-    tests_pass (length (whole ++ 46 ∷ a ∷ b ∷ c ∷ [])) _ _ _
-    (omega (arith, length-append whole (46 ∷ a ∷ b ∷ c ∷ []))) (omega (arith, length-append whole (46 ∷ a ∷ b ∷ c ∷ [])))
+    tests_pass (length (pointed whole a b c)) _ _ _
+    (omega (arith, long whole a b c)) (omega (arith, long whole a b c))
     (ap (list_all is_ascii_digit) (front_part whole a b c) ∙ digits)
     (ap (λ (n : ℕ). n == 46) (point_part whole a b c))
     (ap (list_all is_ascii_digit) (last_part whole a b c) ∙ last)
 
 pub their_milliseconds : (whole : List ℕ) (a b c : ℕ)
-    → milliseconds_in (whole ++ 46 ∷ a ∷ b ∷ c ∷ []) ≡ 1000 * digits_value 10 whole + digits_value 10 (a ∷ b ∷ c ∷ [])
+    → milliseconds_in (pointed whole a b c) ≡ 1000 * digits_value 10 whole + digits_value 10 (a ∷ b ∷ c ∷ [])
 their_milliseconds whole a b c =
-    ap (λ (l : List ℕ). 1000 * digits_value 10 l + digits_value 10 (drop (length (whole ++ 46 ∷ a ∷ b ∷ c ∷ []) - 3) (whole ++ 46 ∷ a ∷ b ∷ c ∷ [])))
+    ap (λ (l : List ℕ). 1000 * digits_value 10 l + digits_value 10 (drop (length (pointed whole a b c) - 3) (pointed whole a b c)))
     (front_part whole a b c)
     ∙ ap (λ (l : List ℕ). 1000 * digits_value 10 whole + digits_value 10 l) (last_part whole a b c)
 
@@ -93,6 +101,13 @@ three_digits x y z p q r =
       omega (arith, a, b, c),
     )
 
+-- the text of milliseconds in parts
+their_text : (m : ℕ) → seconds_text m
+    ≡ pointed (decimal (m / 1000)) (48 + m % 1000 / 100) (48 + m % 100 / 10) (48 + m % 100 % 10)
+their_text m =
+    append_assoc (decimal (m / 1000)) (46 ∷ [])
+    ((48 + m % 1000 / 100) ∷ (48 + m % 100 / 10) ∷ (48 + m % 100 % 10) ∷ [])
+
 pub seconds_are_read : (m : ℕ) → m < 100_000_000
     → (is_number (seconds_text m) ≡ false) × (is_seconds (seconds_text m) ≡ true)
     × (milliseconds_in (seconds_text m) ≡ m)
@@ -100,13 +115,11 @@ seconds_are_read m fits =
     let small : m / 1000 < 2 ^ 64 = omega arith in
     let three = three_digits (m % 1000 / 100) (m % 100 / 10) (m % 100 % 10) (omega arith) (omega arith) (omega arith) in
     let value = written_value (m / 1000) small in
-    let text : seconds_text m ≡ decimal (m / 1000) ++ 46 ∷ (48 + m % 1000 / 100) ∷ (48 + m % 100 / 10) ∷ (48 + m % 100 % 10) ∷ [] =
-    append_assoc (decimal (m / 1000)) (46 ∷ []) ((48 + m % 1000 / 100) ∷ (48 + m % 100 / 10) ∷ (48 + m % 100 % 10) ∷ []) in
-    subst (λ (l : List ℕ). (is_number l ≡ false) × (is_seconds l ≡ true) × (milliseconds_in l ≡ m)) (sym text) (
+    let few = length-decimal-le 5 (m / 1000) (omega arith) (omega arith) small in
+    subst (λ (l : List ℕ). (is_number l ≡ false) × (is_seconds l ≡ true) × (milliseconds_in l ≡ m)) (sym (their_text m)) (
       point_is_no_digit (decimal (m / 1000)) ((48 + m % 1000 / 100) ∷ (48 + m % 100 / 10) ∷ (48 + m % 100 % 10) ∷ []),
       are_seconds (decimal (m / 1000)) (48 + m % 1000 / 100) (48 + m % 100 / 10) (48 + m % 100 % 10)
-          (decimal_nonempty (m / 1000) small)
-          (length-decimal-le 5 (m / 1000) (omega arith) (omega arith) small) (written_digits (m / 1000) small) three.0,
+          (decimal_nonempty (m / 1000) small) few (written_digits (m / 1000) small) three.0,
       their_milliseconds (decimal (m / 1000)) (48 + m % 1000 / 100) (48 + m % 100 / 10) (48 + m % 100 % 10)
           ∙ omega (arith, value, three.1),
     )

@@ -1,5 +1,5 @@
--- What a line says, without its newline: a label of the count, by its text, its number or its time; and the first column
--- that does not fit. Its forms are this project's own.
+-- What a line says, without its newline: a label of the count, by its text, its number or its time; and the first
+-- column that does not fit. Its forms are this project's own.
 use Rattle.std.specs.Prelude.{ℕ, ◌+◌, ◌-◌, ◌*◌, Bool, ◌&&◌, ◌||◌, ◌==◌, nat_le, if◌then◌else◌, List, ◌∷◌, length}
 use Rattle.std.specs.Prelude.{take, drop, slice_get, slice_index, Option, Some, None, Result, Ok, Err}
 use Rattle.std.specs.Char.{is_ascii_digit}

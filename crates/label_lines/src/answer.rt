@@ -5,7 +5,8 @@ ghost use Rattle.arrayvec.specs.ArrayVec.{array_vec_len};
 ghost use Rattle.tc_address.specs.Label.{Address, IsLabel};
 ghost use Rattle.tc_address.specs.Numbering.{number_of};
 ghost use Rattle.tc_address.specs.Spelling.{text_of};
-ghost use Rattle.label_lines.specs.Answer.{answer, answer_line, label_from_midnight, seconds_text, since_text, shown_text};
+ghost use Rattle.label_lines.specs.Answer.{answer, answer_line, label_from_midnight};
+ghost use Rattle.label_lines.specs.Answer.{seconds_text, since_text, shown_text};
 ghost use Rattle.label_lines.specs.Timebase.{count_of, rate_of};
 ghost use Rattle.label_lines.specs.Way.{IsWayOf};
 

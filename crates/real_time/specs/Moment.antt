@@ -47,4 +47,5 @@ shown_at rate frame other = frame * seconds_of rate * frames_in other / (seconds
 -- the thousandths of it that have passed
 abbrev pub passed_at : FrameRate → ℕ → FrameRate → ℕ
 passed_at rate frame other =
-    frame * seconds_of rate * frames_in other % (seconds_of other * frames_in rate) * 1000 / (seconds_of other * frames_in rate)
+    frame * seconds_of rate * frames_in other % (seconds_of other * frames_in rate) * 1000
+    / (seconds_of other * frames_in rate)
