@@ -1,9 +1,11 @@
-//! What follows from the definitions alone: what is written of a label is read as that label, and columns by hand.
-ghost use Rattle.std.specs.Prelude.{◌≡◌, [], codes, decimal, Ok};
+//! What follows from the definitions alone: what is written of a label is read as that label; the forms, and columns by
+//! hand.
+ghost use Rattle.std.specs.Prelude.{◌≡◌, [], ◌∷◌, codes, decimal, map, Ok};
 ghost use Rattle.tc_address.specs.declared.count.Count.TheVariants.{C24, C25, C30, Drop30};
 ghost use Rattle.tc_address.specs.Label.{Address, IsLabel};
 ghost use Rattle.tc_address.specs.Numbering.{number_of};
 ghost use Rattle.tc_address.specs.Spelling.{text_of};
+ghost use Rattle.label_lines.specs.declared.forms.TheConstants.{DROP_FORM, FORMS, LABEL_FORM};
 ghost use Rattle.label_lines.specs.declared.timebase.Timebase.{Timebase};
 ghost use Rattle.real_time.specs.Moment.{millisecond_at};
 ghost use Rattle.label_lines.specs.Answer.{seconds_text};
@@ -26,6 +28,14 @@ pub fn what_is_written_is_read()
     a_text_is_read_as_its_label();
     number_and_label_are_inverse();
 }
+
+/// The forms of a line, as text.
+pub fn forms_of_a_line()
+    ensures label { LABEL_FORM.now ≡ codes "00:00:00:00" }
+    ensures drop_frame { DROP_FORM.now ≡ codes "00:00:00;00" }
+    ensures others { map (λ form. form.now) FORMS
+        ≡ codes "0000000" ∷ codes "0.000" ∷ codes "00.000" ∷ codes "000.000" ∷ codes "0000.000" ∷ codes "00000.000" ∷ [] }
+{}
 
 /// Columns by hand: hours, frames and a label that is dropped; the separator of the other way of counting; a label, a
 /// number and seconds that are cut off or too long; a carriage return; and a line of nothing.

@@ -1,6 +1,9 @@
 //! What is answered to a line. Next: `answer`.
+ghost use Rattle.std.specs.Prelude.{◌↔◌, IsTrue};
+ghost use Rattle.label_lines.specs.Way.{IsWayOf};
+
 use crate::timebase::Timebase;
-use tc_address::Label;
+use tc_address::{Count, Label};
 
 /// What is answered of the label that a line says.
 #[derive(Clone, Copy, Debug, PartialEq, Eq)]
@@ -19,4 +22,16 @@ pub enum Way {
     Seconds,
     /// The label that is shown when its frame begins, and the thousandths of that one's frame that have passed.
     To(Timebase),
+}
+
+impl Way {
+    /// Whether the label from which ways are told, where there is one, is of the count.
+    pub fn is_of(&self, count: Count) -> bool
+        ensures { IsTrue result ↔ IsWayOf count self.now }
+    {
+        match self {
+            Way::Since(label) => label.count() == count,
+            _ => true,
+        }
+    }
 }
