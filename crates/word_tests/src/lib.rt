@@ -1,5 +1,4 @@
-//! Words from outside: labels, lines that say them, fields, words of linear time code, lines of
-//! vertical interval code.
+//! Words from outside: labels, fields, words of linear time code, lines of vertical interval code.
 //!
 //! What no clause says of a crate, or what was known before it: values from standards, from other
 //! software, and worked out by hand, a module for each crate. They stand here since a crate with tests
@@ -8,8 +7,6 @@
 //! Nothing stands on this crate.
 #![tactic(auto)]
 
-#[cfg(test)]
-mod asked_lines;
 #[cfg(test)]
 mod fields;
 #[cfg(test)]
