@@ -1,6 +1,6 @@
 -- When the frames of a rate begin, after midnight, and which frame of another rate is shown then. A fraction stands as
 -- its two numbers.
-use Rattle.std.specs.Prelude.{ℕ, ◌+◌, ◌*◌, ◌≤◌, ◌<◌}
+use Rattle.std.specs.Prelude.{ℕ, ◌+◌, ◌*◌, ◌/◌, ◌%◌, ◌≤◌, ◌<◌}
 use Rattle.real_time.specs.declared.rate.FrameRate.{FrameRate}
 use Rattle.real_time.specs.Rate.{frames_in, seconds_of}
 
@@ -25,3 +25,27 @@ pub record IsShown (rate : FrameRate) (frame : ℕ) (other : FrameRate) (there t
   pub shown : IsWholeOf (frame * seconds_of rate * frames_in other) (seconds_of other * frames_in rate) there
   pub passed : IsWholeOf (frame * seconds_of rate * frames_in other * 1000) (seconds_of other * frames_in rate)
       (there * 1000 + thousandths)
+
+-- ---- the same numbers as values
+
+-- the whole number that lies nearest to a fraction
+abbrev pub nearest : ℕ → ℕ → ℕ
+nearest over under = (2 * over + under) / (2 * under)
+
+-- the millisecond of a frame
+abbrev pub millisecond_at : FrameRate → ℕ → ℕ
+millisecond_at rate frame = nearest (frame * seconds_of rate * 1000) (frames_in rate)
+
+-- the frame of a millisecond
+abbrev pub frame_at : FrameRate → ℕ → ℕ
+frame_at rate millisecond = nearest (millisecond * frames_in rate) (seconds_of rate * 1000)
+
+-- the frame of the other rate that is shown
+abbrev pub shown_at : FrameRate → ℕ → FrameRate → ℕ
+shown_at rate frame other = frame * seconds_of rate * frames_in other / (seconds_of other * frames_in rate)
+
+-- the thousandths of it that have passed
+abbrev pub passed_at : FrameRate → ℕ → FrameRate → ℕ
+passed_at rate frame other =
+    frame * seconds_of rate * frames_in other % (seconds_of other * frames_in rate) * 1000
+    / (seconds_of other * frames_in rate)

@@ -4,6 +4,7 @@ ghost use Rattle.real_time.specs.declared.moment.TheConstants.{MAX_FRAMES, MAX_M
 ghost use Rattle.real_time.specs.declared.rate.FrameRate.{FrameRate};
 ghost use Rattle.real_time.specs.declared.rate.FrameRate.TheVariants.{R24, PulledDown24, R25, R30, PulledDown30};
 ghost use Rattle.real_time.specs.Moment.{IsFrameOf, IsMillisecondOf, IsNearest, IsShown, IsWholeOf};
+ghost use Rattle.real_time.specs.Moment.{frame_at, millisecond_at};
 ghost use Rattle.real_time.specs.Rate.{frames_in, seconds_of};
 
 /// One whole number lies nearest to a fraction, and one is what is whole of it.
@@ -14,8 +15,9 @@ pub fn one_whole_number_is_meant()
 
 /// A frame comes back from its millisecond.
 pub fn a_frame_comes_back_from_its_millisecond()
-    ensures { (rate : FrameRate) (frame millisecond : ℕ) → IsMillisecondOf rate frame millisecond
+    ensures frame { (rate : FrameRate) (frame millisecond : ℕ) → IsMillisecondOf rate frame millisecond
         → IsFrameOf rate millisecond frame }
+    ensures value { (rate : FrameRate) (frame : ℕ) → frame_at rate (millisecond_at rate frame) ≡ frame }
 {}
 
 /// A frame is shown in itself, from its beginning on.

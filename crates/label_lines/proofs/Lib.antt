@@ -1,0 +1,6 @@
+pub mod Choices
+pub mod Digits
+pub mod HowFar
+pub mod WrittenAndRead
+pub mod WrittenDigits
+pub mod WrittenSeconds

@@ -1,0 +1,5 @@
+pub mod Answer
+pub mod Forms
+pub mod Line
+pub mod Timebase
+pub mod Way

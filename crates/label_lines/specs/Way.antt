@@ -1,0 +1,11 @@
+-- What is answered to a line.
+use Rattle.std.specs.Prelude.{◌≡◌, ⊤}
+use Rattle.tc_address.specs.declared.count.Count.{Count}
+use Rattle.tc_address.specs.Label.{IsLabel}
+use Rattle.label_lines.specs.declared.way.Way.{Way}
+use Rattle.label_lines.specs.declared.way.Way.TheVariants.{Since}
+
+-- the label from which ways are told is one of the count
+abbrev pub IsWayOf : Count → Way → Type 0
+IsWayOf count (Since label) = (label.count ≡ count) × IsLabel label
+IsWayOf count _ = ⊤

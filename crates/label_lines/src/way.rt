@@ -1,0 +1,37 @@
+//! What is answered to a line. Next: `answer`.
+ghost use Rattle.std.specs.Prelude.{◌↔◌, IsTrue};
+ghost use Rattle.label_lines.specs.Way.{IsWayOf};
+
+use crate::timebase::Timebase;
+use tc_address::{Count, Label};
+
+/// What is answered of the label that a line says.
+#[derive(Clone, Copy, Debug, PartialEq, Eq)]
+pub enum Way {
+    /// Its number in the day.
+    Number,
+    /// Its text.
+    Label,
+    /// The label so many further on, around the day.
+    Plus(u32),
+    /// The label so many before it, around the day.
+    Minus(u32),
+    /// The shortest way to it from this label, with its sign, and how far it lies ahead of this label.
+    Since(Label),
+    /// The seconds since midnight at which its frame begins, with three decimals.
+    Seconds,
+    /// The label that is shown when its frame begins, and the thousandths of that one's frame that have passed.
+    To(Timebase),
+}
+
+impl Way {
+    /// Whether the label from which ways are told, where there is one, is of the count.
+    pub fn is_of(&self, count: Count) -> bool
+        ensures { IsTrue result ↔ IsWayOf count self.now }
+    {
+        match self {
+            Way::Since(label) => label.count() == count,
+            _ => true,
+        }
+    }
+}
