@@ -4,9 +4,10 @@
 # make dist          tc-VERSION.tar.gz of the last commit, which builds, tests and installs by itself
 # make deb           dist/tc-timecode_VERSION-1_amd64.deb, a Debian package of the built program and its tools
 # make binary        dist/tc-VERSION-x86_64-linux.tar.gz, with a script that installs it, for machines without the toolchain
-# make lib           proves and builds the library: lib/libtc.a, lib/libtc.so.1 and lib/tc.pc, for include/tc.h
+# make lib           proves and builds the library: lib/libtc.a, lib/libtc.so.1 and lib/tc.pc, for include/tc.h, and
+#                    lib/libltc-tc.so.11 for programs that are linked against libltc
 # make install       program, manual pages, completions, documents and examples, under PREFIX (and DESTDIR, for packagers)
-#                    and the library with its header where make lib was run before
+#                    and the library with its header where make lib was run before; LIBRARY= leaves it out, as the packages do
 # make install-strip the same, with the program stripped of its symbols
 # make uninstall     removes what install put there
 #
@@ -25,6 +26,7 @@ DOCDIR = $(PREFIX)/share/doc/$(PROGRAM)
 LIBRARYDIR = $(PREFIX)/lib
 INCLUDEDIR = $(PREFIX)/include
 PKGCONFIGDIR = $(LIBRARYDIR)/pkgconfig
+LIBRARY ?= $(wildcard lib/libtc.a)
 # The tools for tapes, archives and live code, as PROGRAM-tape, PROGRAM-archive and PROGRAM-live, and their parts.
 LIBDIR = $(PREFIX)/lib/$(PROGRAM)
 EXAMPLES = $(wildcard examples/*)
@@ -66,6 +68,7 @@ check:
 	tools/run_examples
 	@if command -v rustc > /dev/null; then bench/cases 1000; else echo "bench/cases: not run, for want of rustc"; fi
 	@if [ -e lib/libtc.so.1 ]; then tools/try_library; else echo "tools/try_library: not run: run make lib first"; fi
+	@if [ -e lib/libltc-tc.so.11 ]; then tools/try_compat; else echo "tools/try_compat: not run: run make lib first"; fi
 	tools/try_tapes
 	tools/try_live
 
@@ -124,7 +127,7 @@ install:
 	$(RENAME_MAN) man/tc-archive.1 > "$(DESTDIR)$(MANDIR)/man1/$(PROGRAM)-archive.1"
 	$(RENAME_MAN) man/tc-live.1 > "$(DESTDIR)$(MANDIR)/man1/$(PROGRAM)-live.1"
 
-	@if [ -e lib/libtc.a ]; then $(MAKE) -s install-library; fi
+	@if [ -n "$(LIBRARY)" ]; then $(MAKE) -s install-library; fi
 
 install-library:
 	@[ -e lib/libtc.a ] || { echo "lib/libtc.a is not built: run make lib first" >&2; exit 1; }
@@ -132,6 +135,7 @@ install-library:
 	install -m 644 lib/libtc.a "$(DESTDIR)$(LIBRARYDIR)"
 	install -m 755 lib/libtc.so.1 "$(DESTDIR)$(LIBRARYDIR)"
 	ln -sf libtc.so.1 "$(DESTDIR)$(LIBRARYDIR)/libtc.so"
+	install -m 755 lib/libltc-tc.so.11 "$(DESTDIR)$(LIBRARYDIR)"
 	install -m 644 include/tc.h "$(DESTDIR)$(INCLUDEDIR)"
 	sed -e 's@^prefix=.*@prefix=$(PREFIX)@' -e 's@^includedir=.*@includedir=$(INCLUDEDIR)@' -e 's@^libdir=.*@libdir=$(LIBRARYDIR)@' \
 	    lib/tc.pc > "$(DESTDIR)$(PKGCONFIGDIR)/tc.pc"
@@ -150,5 +154,5 @@ uninstall:
 	rm -f "$(DESTDIR)$(BINDIR)/$(PROGRAM)-live" "$(DESTDIR)$(MANDIR)/man1/$(PROGRAM)-live.1" "$(DESTDIR)$(BASHDIR)/$(PROGRAM)-live" \
 	    "$(DESTDIR)$(ZSHDIR)/_$(PROGRAM)-live" "$(DESTDIR)$(FISHDIR)/$(PROGRAM)-live.fish"
 	rm -f "$(DESTDIR)$(LIBRARYDIR)/libtc.a" "$(DESTDIR)$(LIBRARYDIR)/libtc.so.1" "$(DESTDIR)$(LIBRARYDIR)/libtc.so" \
-	    "$(DESTDIR)$(INCLUDEDIR)/tc.h" "$(DESTDIR)$(PKGCONFIGDIR)/tc.pc"
+	    "$(DESTDIR)$(LIBRARYDIR)/libltc-tc.so.11" "$(DESTDIR)$(INCLUDEDIR)/tc.h" "$(DESTDIR)$(PKGCONFIGDIR)/tc.pc"
 	rm -rf "$(DESTDIR)$(DOCDIR)" "$(DESTDIR)$(LIBDIR)"

@@ -1,3 +1,4 @@
+mod FlagBits
 mod LendsOn
 mod Steps
 mod WritesOn

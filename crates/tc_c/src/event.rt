@@ -101,7 +101,7 @@ fn c_word(direction: Direction, word: &LtcWord, tick: u64, length: u64) -> TcEve
     }
 }
 
-fn flag_bits(flags: Flags, balanced: bool) -> u8
+pub(crate) fn flag_bits(flags: Flags, balanced: bool) -> u8
     ensures { result ≡ flag_bits flags balanced }
 {
     u8::from(flags.drop_frame)
@@ -121,7 +121,7 @@ fn direction_number(direction: Direction) -> u8
     }
 }
 
-fn count_number(count: Count) -> u8
+pub(crate) fn count_number(count: Count) -> u8
     ensures { result ≡ count_number count }
 {
     match count {
@@ -132,7 +132,7 @@ fn count_number(count: Count) -> u8
     }
 }
 
-fn fault_number(fault: FieldFault) -> u8
+pub(crate) fn fault_number(fault: FieldFault) -> u8
     ensures { result ≡ fault_number fault }
 {
     match fault {
