@@ -140,9 +140,9 @@ typedef struct tc_bits {
 bool tc_word_bits(const tc_word *word, tc_bits *bits);
 
 /* Reads a word of the system, 24, 25 or 30, from its 80 bits. 0 where they spell one, or else the first fault, and then
- * nothing changes: from 64 to 79 the first bit that is not the sync word's; from 1 to 9 the fault of the fields, as in
+ * nothing changes: TC_NO_SYNC where bits 64 to 79 are not the sync word; from 1 to 9 the fault of the fields, as in
  * tc_event; and TC_NO_BITS where there is no such system, or a bit above 79 is set. */
-enum { TC_NO_BITS = 80 };
+enum { TC_NO_SYNC = 10, TC_NO_BITS = 11 };
 uint32_t tc_bits_word(uint32_t system, const tc_bits *bits, tc_word *word);
 
 #ifdef __cplusplus

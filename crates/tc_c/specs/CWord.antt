@@ -25,7 +25,7 @@ flags_in n = flags (n % 2 == 1) (n / 2 % 2 == 1) (n / 4 % 2 == 1) (n / 8 % 2 == 
 abbrev pub number_of_bits : TcBits → ℕ
 number_of_bits bits = bits.low + bits.high * 2 ^ 64
 
--- a fault of the sync word is the number of the bit, from 64 to 79, and one of the fields is from 1 to 9
+-- a fault of the sync word, and one of the fields
 abbrev pub word_fault_number : WordFault → ℕ
-word_fault_number (Sync bit) = bit
+word_fault_number (Sync bit) = 10
 word_fault_number (Field fault) = fault_number fault

@@ -1,5 +1,5 @@
 //! An event in numbers. Next: `settings`.
-ghost use Rattle.std.specs.Prelude.{◌≡◌};
+ghost use Rattle.std.specs.Prelude.{◌≡◌, ◌≤◌};
 ghost use Rattle.tc_c.specs.CEvent.{c_event, c_word, count_number, direction_number, fault_number, flag_bits};
 
 use direction_reader::Event;
@@ -133,7 +133,8 @@ pub(crate) fn count_number(count: Count) -> u8
 }
 
 pub(crate) fn fault_number(fault: FieldFault) -> u8
-    ensures { result ≡ fault_number fault }
+    ensures value { result ≡ fault_number fault }
+    ensures some { 1 ≤ result }
 {
     match fault {
         FieldFault::FrameUnits => 1,

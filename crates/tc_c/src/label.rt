@@ -38,7 +38,7 @@ impl TcLabel {
     }
 
     /// The numbers of a label.
-    pub(crate) fn of(label: &Label) -> TcLabel
+    pub(crate) fn numbers_of(label: &Label) -> TcLabel
         ensures { MeansLabel result label.now }
     {
         TcLabel {

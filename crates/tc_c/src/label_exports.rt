@@ -50,7 +50,7 @@ pub extern "C" fn tc_label_at(count: u32, place: u32, label: &mut TcLabel) -> bo
     };
     match label_at(count, place) {
         Some(found) => {
-            *label = TcLabel::of(&found);
+            *label = TcLabel::numbers_of(&found);
             true
         }
         None => false,
@@ -67,7 +67,7 @@ pub extern "C" fn tc_label_advance(label: &mut TcLabel, steps: i64) -> bool
 {
     match label.meaning() {
         Some(from) => {
-            *label = TcLabel::of(&advance(&from, steps));
+            *label = TcLabel::numbers_of(&advance(&from, steps));
             true
         }
         None => false,

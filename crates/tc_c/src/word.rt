@@ -1,5 +1,5 @@
 //! A word in numbers, and its 80 bits. Next: `word_exports`.
-ghost use Rattle.std.specs.Prelude.{◌≡◌, ◌^◌, ◌<◌, Some, IfSome};
+ghost use Rattle.std.specs.Prelude.{◌≡◌, ◌^◌, ◌<◌, ◌≤◌, Some, IfSome};
 ghost use Rattle.tc_bits.specs.Fields.{IsFields};
 ghost use Rattle.ltc_word.specs.declared.word.LtcWord.{LtcWord};
 ghost use Rattle.ltc_word.specs.declared.word.WordFault.{WordFault};
@@ -9,6 +9,9 @@ use crate::event::{fault_number, flag_bits};
 use crate::label::TcLabel;
 use ltc_word::{LtcWord, WordFault};
 use tc_bits::{Fields, Flags, UserBits};
+
+/// The number of a fault of the sync word.
+const NO_SYNC: u32 = 10;
 
 /// A word in numbers. Those of no word mean nothing.
 #[repr(C)]
@@ -50,12 +53,12 @@ impl TcWord {
     }
 
     /// The numbers of a word.
-    pub(crate) fn of(word: &LtcWord) -> TcWord
+    pub(crate) fn numbers_of(word: &LtcWord) -> TcWord
         requires { IsFields word.now.fields }
         ensures { MeansWord result word.now }
     {
         TcWord {
-            label: TcLabel::of(&word.fields.label()),
+            label: TcLabel::numbers_of(&word.fields.label()),
             flags: u32::from(flag_bits(word.fields.flags(), word.balanced)),
             user: word.fields.user().groups(),
         }
@@ -77,7 +80,7 @@ fn flags_of(number: u32) -> Flags
 
 impl TcBits {
     /// The bits of a number.
-    pub(crate) fn of(number: u128) -> TcBits
+    pub(crate) fn holding(number: u128) -> TcBits
         requires { number < 2 ^ 80 }
         ensures { number_of_bits result ≡ number }
     {
@@ -97,10 +100,11 @@ impl TcBits {
 
 /// The number of a fault.
 pub(crate) fn word_fault_number(fault: WordFault) -> u32
-    ensures { result ≡ word_fault_number fault }
+    ensures value { result ≡ word_fault_number fault }
+    ensures some { 1 ≤ result }
 {
     match fault {
-        WordFault::Sync(bit) => bit,
+        WordFault::Sync(_) => NO_SYNC,
         WordFault::Field(fault) => u32::from(fault_number(fault)),
     }
 }

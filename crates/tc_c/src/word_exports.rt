@@ -11,10 +11,11 @@ ghost use Rattle.tc_c.specs.CWord.{MeansWord, number_of_bits, word_fault_number}
 
 use crate::settings::system_of;
 use crate::word::{TcBits, TcWord, word_fault_number};
+use ltc_word::laws::spelling_is_exact;
 use ltc_word::{decode, encode};
 
 /// What `tc_bits_word` says where there is no such system, or where a bit behind the 80 is set.
-pub const NO_BITS: u32 = 80;
+const NO_BITS: u32 = 11;
 
 /// The 80 bits that spell a word, where the numbers mean one, and tells whether they do.
 #[unsafe(no_mangle)]
@@ -26,7 +27,7 @@ pub extern "C" fn tc_word_bits(word: &TcWord, bits: &mut TcBits) -> bool
 {
     match word.meaning() {
         Some(word) => {
-            *bits = TcBits::of(encode(&word));
+            *bits = TcBits::holding(encode(&word));
             true
         }
         None => false,
@@ -42,10 +43,11 @@ pub extern "C" fn tc_bits_word(system: u32, bits: &TcBits, word: &mut TcWord) ->
         × Spells s w (number_of_bits bits.now) }
     ensures fault { (s : System) (f : WordFault) → system_number s ≡ system → number_of_bits bits.now < 2 ^ 80
         → first_fault s (number_of_bits bits.now) ≡ Some f → result ≡ word_fault_number f }
-    ensures no_system { ((s : System) → ¬ (system_number s ≡ system)) → result ≡ 80 }
-    ensures no_bits { 2 ^ 80 ≤ number_of_bits bits.now → result ≡ 80 }
+    ensures no_system { ¬ (system ≡ 24) → ¬ (system ≡ 25) → ¬ (system ≡ 30) → result ≡ 11 }
+    ensures no_bits { 2 ^ 80 ≤ number_of_bits bits.now → result ≡ 11 }
     ensures refused { ¬ (result ≡ 0) → word.new ≡ word.old }
 {
+    spelling_is_exact();
     let Some(system) = system_of(system) else {
         return NO_BITS;
     };
@@ -54,7 +56,7 @@ pub extern "C" fn tc_bits_word(system: u32, bits: &TcBits, word: &mut TcWord) ->
     }
     match decode(system, bits.number()) {
         Ok(read) => {
-            *word = TcWord::of(&read);
+            *word = TcWord::numbers_of(&read);
             0
         }
         Err(fault) => word_fault_number(fault),
