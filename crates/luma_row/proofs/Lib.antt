@@ -2,6 +2,7 @@ pub mod AllClear
 pub mod BitByBit
 pub mod FallByFall
 pub mod Filled
+pub mod FirstTwenty
 pub mod HeightByHeight
 pub mod MoveByMove
 pub mod OneCode

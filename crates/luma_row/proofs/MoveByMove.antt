@@ -1,9 +1,9 @@
 -- Moves one after another: a place that is the best of its neighbours stays, and one that is chosen fits the row.
-use Rattle.std.proofs.Common.{◌≡◌, ◌≢◌, ℕ, zero, suc, ◌+◌, ◌/◌, ◌<◌, ◌==◌, Bool, true, false, cond, List, length, refl, ap, subst, arith}
+use Rattle.std.proofs.Common.{◌≡◌, ◌≢◌, ℕ, zero, suc, ◌+◌, ◌/◌, ◌%◌, ◌<◌, ◌≤◌, ◌==◌, Bool, true, false, cond, List, length, refl, ap, ap₂, subst, arith}
 use Rattle.std.proofs.lemmas.Bool.Decides.{nat_tests}
 use Rattle.luma_row.specs.declared.place.Place.{Place}
 use Rattle.luma_row.specs.Choice.{IsFirstBest}
-use Rattle.luma_row.specs.Climb.{halved, neighbour, worth, Climbs, Moves, Refines}
+use Rattle.luma_row.specs.Climb.{halved, moved, neighbour, worth, Climbs, Moves, Refines}
 use Rattle.luma_row.specs.KeptPlace.{IsInRow}
 use Rattle.luma_row.specs.Light.{IsRow}
 use Rattle.luma_row.specs.Place.{fits, score}
@@ -13,6 +13,32 @@ pub one_move : (row : List ℕ) (step moves : ℕ) (from between to : Place) →
 one_move row step moves from between to climbs move =
     let e : suc moves ≡ moves + 1 = omega arith in
     subst (λ n. Climbs row step n from to) e (between, climbs, move)
+
+moved_none : (place number : ℕ) → moved place 0 number ≡ place
+moved_none place zero = refl
+moved_none place (suc zero) = omega arith
+moved_none place (suc (suc n)) = omega arith
+
+-- without a step each neighbour is the place itself
+no_neighbour : (place : Place) (number : ℕ) → neighbour place 0 number ≡ place
+no_neighbour place number = ap₂ (λ (a b : ℕ). let p : Place = record { first = a; last = b } in p)
+    (moved_none place.first (number / 3)) (moved_none place.last (number % 3))
+
+own_most : (b f : Bool) (own other : ℕ) → other ≡ own → cond b own (cond f other 0) ≤ own
+own_most true f own other is = omega arith
+own_most false true own other is = omega (arith, is)
+own_most false false own other is = omega arith
+
+no_better : (row : List ℕ) (place : Place) (number : ℕ) → worth row place 0 number ≤ worth row place 0 0
+no_better row place number = own_most (number == 0) (fits (length row) (neighbour place 0 number)) (score row place)
+    (score row (neighbour place 0 number)) (ap (score row) (no_neighbour place number))
+
+pub no_step : (row : List ℕ) (place : Place) → IsFirstBest 9 (worth row place 0) 0
+no_step row place = record {
+  below = omega arith;
+  greatest = λ other h. no_better row place other;
+  first = λ other h. absurd (omega arith);
+}
 
 -- where the best neighbour is the place itself, it stays
 pub itself : (row : List ℕ) (step : ℕ) (place : Place) → IsFirstBest 9 (worth row place step) 0 → Moves row step place place

@@ -2,10 +2,12 @@ pub mod Cells
 pub mod Choice
 pub mod Climb
 pub mod Coarse
+pub mod Field
 pub mod Heights
 pub mod KeptBest
 pub mod KeptCells
 pub mod KeptCoarse
+pub mod KeptField
 pub mod KeptHeights
 pub mod KeptLevels
 pub mod KeptLight

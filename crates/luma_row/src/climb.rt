@@ -63,7 +63,7 @@ fn worth(row: &[u8], sums: &Sums, place: Place, step: u32, number: u32) -> u32
     }
 }
 
-/// The number of the first of the best neighbours.
+/// The number of the first of the best neighbours. Where there is no step, each is the place itself.
 fn best_neighbour(row: &[u8], sums: &Sums, place: Place, step: u32) -> u32
     requires row { IsRow row.now }
     requires sums { AreSums row.now sums.now }
@@ -71,6 +71,9 @@ fn best_neighbour(row: &[u8], sums: &Sums, place: Place, step: u32) -> u32
     requires step { step < 2 ^ 10 }
     ensures { IsFirstBest 9 (worth row.now place step) result }
 {
+    if step == 0 {
+        return 0;
+    }
     let mut best = Best::first(worth(row, sums, place, step, 0));
     for number in 1..9u32 {
         best = best.or(worth(row, sums, place, step, number), number);

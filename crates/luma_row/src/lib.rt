@@ -17,10 +17,13 @@
 //!   (`laws::a_bit_that_is_said_is_clear`).
 //! - `Levels::with` makes one of two rows, and `Levels::contradicts` tells whether a bit is half way to its level and
 //!   another one in each (`joined`, `contradict`).
+//! - `FieldRows` keeps the first 20 rows of a field that carry code. `FieldRows::lines` gives what each of them says, and
+//!   then what two of them say as one that are at most 4 rows and 4 pixels of 720 apart and contradict each other in no
+//!   bit: 20 lines at most (`specs/Field.antt`, `lines_of`).
 //! - A row says one thing (`laws::a_row_says_one_thing`).
 //!
-//! Read `width`, `light` and `place`, then `coarse` and `climb`, which find the word, then `cells`, `heights`, `levels` and
-//! `row`, each with its file of specs/. Places are counted in sixteenths of a pixel. Nothing here allocates
+//! Read `width`, `light` and `place`, then `coarse` and `climb`, which find the word, then `cells`, `heights`, `levels`,
+//! `row` and `field`, each with its file of specs/. Places are counted in sixteenths of a pixel. Nothing here allocates
 //! or overflows, whatever the pixels are. No command stands on this crate yet; `vitc_reader` writes bits as the runs
 //! of a line, and reads them.
 #![tactic(auto)]
@@ -29,6 +32,7 @@ mod best;
 mod cells;
 mod climb;
 mod coarse;
+mod field;
 mod heights;
 pub mod laws;
 mod levels;
@@ -37,6 +41,7 @@ mod place;
 mod row;
 mod width;
 
+pub use field::{FieldRows, FoundRow, Lines};
 pub use heights::Heights;
 pub use levels::Levels;
 pub use light::EVEN;

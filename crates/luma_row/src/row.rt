@@ -1,4 +1,4 @@
-//! A row of pixels, read. Next: `levels`.
+//! A row of pixels, read. Next: `field`.
 ghost use Rattle.std.specs.Prelude.{◌≡◌, ◌^◌, ◌≤◌, min, max, IfNone, IfSome};
 ghost use Rattle.std.specs.List.{fold};
 ghost use Rattle.luma_row.specs.declared.row.CodeRow.{CodeRow};
@@ -43,7 +43,8 @@ fn has_contrast(row: &[u8]) -> bool
 }
 
 impl RowReader {
-    /// Tables for any row.
+    /// Tables for any row. Each row is written into them anew, so what they hold before it is nothing to it: the clauses of
+    /// `read` hold of any tables.
     pub fn new() -> RowReader {
         RowReader {
             sums: [0; SUMS],

@@ -1,7 +1,12 @@
-use Rattle.std.proofs.Common.{◌≡◌, subst, arith}
+use Rattle.std.proofs.Common.{◌≡◌, sym, subst, arith}
 use Rattle.luma_row.specs.Choice.{IsFirstBest}
 use Rattle.luma_row.specs.Climb.{worth}
+use Rattle.luma_row.proofs.MoveByMove.{no_step}
 use Rattle.luma_row.proofs.climb.best_neighbour.Goals as goal
+
+pub returns-then-step-eq0 : goal.returns-then-step-eq0
+returns-then-step-eq0 c = subst (λ s. IsFirstBest 9 (worth c.args.row.now c.args.place s) 0) (sym c.if-step-eq0.true)
+    (no_step c.args.row.now c.args.place)
 
 pub loop-number-init : goal.loop-number-init
 loop-number-init c = c.first-best.ensures (worth c.args.row.now c.args.place c.args.step) c.worth.ensures
