@@ -1,6 +1,6 @@
 //! What follows from the definitions alone: what is written of a label is read as that label; the forms, and columns by
 //! hand.
-ghost use Rattle.std.specs.Prelude.{◌≡◌, [], ◌∷◌, codes, decimal, map, Ok};
+ghost use Rattle.std.specs.Prelude.{◌≡◌, ℕ, ◌<◌, List, [], ◌∷◌, ◌++◌, length, codes, decimal, map, Ok, Err};
 ghost use Rattle.tc_address.specs.declared.count.Count.TheVariants.{C24, C25, C30, Drop30};
 ghost use Rattle.tc_address.specs.Label.{Address, IsLabel};
 ghost use Rattle.tc_address.specs.Numbering.{number_of};
@@ -27,6 +27,14 @@ pub fn what_is_written_is_read()
     a_frame_comes_back_from_its_millisecond();
     a_text_is_read_as_its_label();
     number_and_label_are_inverse();
+}
+
+/// A line of more than eleven bytes is refused at the column at which its first bytes are, whatever follows.
+pub fn a_long_line_fits_no_form()
+    ensures { (base : Timebase) (line more : List ℕ) → 11 < length line
+        → read_line base (line ++ more) ≡ Err (wrong_column (count_of base) line) }
+{
+    a_text_is_read_as_its_label();
 }
 
 /// The forms of a line, as text.
