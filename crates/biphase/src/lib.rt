@@ -21,8 +21,8 @@
 //!
 //! Read `cell`, `pair`, `latest`, `tolerance`, `profile` and `shaper`, in this order, and `specs/Tolerance.antt` and
 //! `Chain.antt` beside them. What the proofs of the crates above want of a tolerance stands, proved, in
-//! `specs/Laws.antt`, `specs/Kinds.antt`, `specs/OneChain.antt` and `specs/Zeros.antt`. `cell_tracker` stands on this
-//! crate. Nothing here allocates or refuses.
+//! `specs/ToleranceLemmas.antt`, `KindLemmas.antt`, `ChainLemmas.antt`, `MirrorLemmas.antt` and `ZeroLemmas.antt`.
+//! Nothing here allocates or refuses.
 #![tactic(auto)]
 
 mod cell;

@@ -16,13 +16,13 @@
 //!   `AreStretches`), and a list has one list of them. Where more intervals follow, they go on, and a
 //!   broken one stays as it is (`specs/Growing.antt`, `laws`).
 //! - A recording within the tolerance is one stretch, and its cells are the recording's own
-//!   (`specs/Kept.antt`). Each state stands at a boundary of such a recording, or inside a one of it
+//!   (`specs/Recording.antt`). Each state stands at a boundary of such a recording, or inside a one of it
 //!   (`specs/PieceEnd.antt`). Where the tolerance looks at the last cell alone, the recording is found
 //!   again after anything (`specs/FoundAgain.antt`), and in reverse order its cells are the
 //!   same (`specs/Mirrored.antt`, all in `laws`).
 //!
 //! Read `hunting`, `at_cell` and `mid_cell`, in this order, and `specs/Lock.antt`, `Stretch.antt` and
-//! `StandsFor.antt` beside them, then `specs/Kept.antt`.
+//! `StandsFor.antt` beside them, then `specs/Recording.antt`.
 //! `direction_reader` stands on this crate; next on the way of an interval: its `latest_cells`. Nothing
 //! here allocates or refuses.
 #![tactic(auto)]
