@@ -1,5 +1,4 @@
-//! A cell of biphase mark. Next: `direction_reader/src/latest_cells.rt`, which has the latest cells of a
-//! stretch.
+//! A cell of biphase mark.
 
 /// One bit of biphase mark (SMPTE 12M, linear time code), with its intervals in ticks.
 #[derive(Clone, Copy, Debug, PartialEq, Eq)]

@@ -1,4 +1,4 @@
-//! Pairs of neighbouring intervals. Next: `profile`.
+//! Pairs of neighbouring intervals. Read next: `profile`.
 ghost use Rattle.biphase.specs.Pair.{IsKind};
 
 use crate::profile::{Profile, is_at_least};

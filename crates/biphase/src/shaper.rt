@@ -1,5 +1,4 @@
-//! Cells that are made: their lengths move step by step. Next: `made_commands/src/ltc_make.rt`, which
-//! writes them.
+//! Cells that are made: their lengths move step by step.
 ghost use Rattle.std.specs.Prelude.{◌≡◌, ◌∷◌, ◌↔◌, List, Bool, IsTrue, IfOk, IfErr};
 ghost use Rattle.biphase.specs.Shape.{cell_with, shape_with, shaped, IsFirstFault, IsShape, IsShaped};
 

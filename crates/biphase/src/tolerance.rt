@@ -1,4 +1,4 @@
-//! The tests of the tolerance, each of what comes after some cells. Next: `cell`.
+//! The tests of the tolerance, each of what comes after some cells. Read next: `cell`.
 ghost use Rattle.std.specs.Prelude.{◌≡◌, ◌↔◌, ◌+◌, ◌<◌, ◌^◌, IsTrue};
 ghost use Rattle.biphase.specs.declared.cell.Cell.TheVariants.{One};
 ghost use Rattle.biphase.specs.declared.profile.TheConstants.{ROUGH};

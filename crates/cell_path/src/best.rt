@@ -1,4 +1,4 @@
-//! The best path of all that end with the latest step. Next: `start`.
+//! The best path of all that end with the latest step. Read next: `start`.
 ghost use Rattle.std.specs.Prelude.{◌≡◌, ℕ, ◌+◌, ◌<◌, ◌≤ℤ◌, ◌<ℤ◌, List, length};
 ghost use Rattle.cell_path.specs.declared.cell.Step.{Step};
 ghost use Rattle.cell_path.specs.declared.lengths.TheConstants.{LENGTHS};

@@ -1,4 +1,4 @@
-//! The cells of a sound, decided while it goes on. Next: `laws`.
+//! The cells of a sound, decided while it goes on. Read next: `laws`.
 ghost use Rattle.std.specs.Prelude.{◌≡◌, ℕ, ◌+◌, ◌^◌, ◌<◌, ◌≤◌, IfSome, IfNone, None, List, [], ◌∷◌, length};
 ghost use Rattle.cell_path.specs.declared.cell.Step.{Step};
 ghost use Rattle.cell_path.specs.declared.placed.Placed.{Placed};

@@ -1,4 +1,4 @@
-//! The best path that ends in one length and sign. Next: `ends`.
+//! The best path that ends in one length and sign. Read next: `ends`.
 ghost use Rattle.std.specs.Prelude.{◌≡◌, ℕ, ◌+◌, ◌-◌, ◌*◌, ◌^◌, ◌<◌, ◌≤◌, ◌+ℤ◌, ◌≤ℤ◌, ◌<ℤ◌, List, ◌∷◌};
 ghost use Rattle.cell_path.specs.declared.cell.Step.{Step};
 ghost use Rattle.cell_path.specs.Kept.{limit, number_ago};

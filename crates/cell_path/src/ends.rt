@@ -1,4 +1,4 @@
-//! The best paths that end with the latest step. Next: `best`.
+//! The best paths that end with the latest step. Read next: `best`.
 ghost use Rattle.std.specs.Prelude.{◌≡◌, ◌≢◌, ℕ, ◌<◌, List, ◌∷◌};
 ghost use Rattle.cell_path.specs.declared.cell.Sign.{Sign};
 ghost use Rattle.cell_path.specs.declared.cell.Step.{Step};

@@ -1,4 +1,4 @@
-//! Following the best path back to what was decided before. Next: `decisions`.
+//! Following the best path back to what was decided before. Read next: `decisions`.
 ghost use Rattle.std.specs.Prelude.{◌≡◌, ℕ, ◌+◌, ◌-◌, ◌^◌, ◌<◌, ◌≤◌, List, length};
 ghost use Rattle.cell_path.specs.declared.cell.Cell.{Cell};
 ghost use Rattle.cell_path.specs.declared.cell.Step.{Step};

@@ -1,4 +1,4 @@
-//! The lengths of cells, and what a path pays. Next: `cell`.
+//! The lengths of cells, and what a path pays. Read next: `cell`.
 ghost use Rattle.std.specs.Prelude.{◌≡◌, ◌<◌, ◌≤◌};
 ghost use Rattle.cell_path.specs.Lengths.{length_in};
 

@@ -1,4 +1,4 @@
-//! What is kept of a step to follow a best path back from it. Next: `marks`.
+//! What is kept of a step to follow a best path back from it. Read next: `marks`.
 ghost use Rattle.std.specs.Prelude.{◌≡◌, ◌<◌};
 ghost use Rattle.cell_path.specs.Marks.{bit_from, marked_bit, marked_way, way_from};
 

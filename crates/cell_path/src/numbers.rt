@@ -1,4 +1,4 @@
-//! The numbers of one step: a score for each length and sign. Next: `rows`.
+//! The numbers of one step: a score for each length and sign. Read next: `rows`.
 ghost use Rattle.std.specs.Prelude.{◌≡◌, ℕ, ◌<◌};
 ghost use Rattle.cell_path.specs.declared.cell.Sign.{Sign};
 ghost use Rattle.cell_path.specs.Kept.{number_at, same_numbers};

@@ -1,4 +1,4 @@
-//! The best paths through the sound so far, which can be followed back. Next: `laws`.
+//! The best paths through the sound so far, which can be followed back. Read next: `laws`.
 ghost use Rattle.std.specs.Prelude.{◌≡◌, ℕ, ◌+◌, ◌^◌, ◌<◌, ◌≤◌, ℤ, IfSome, None, List, [], ◌∷◌, drop, length};
 ghost use Rattle.cell_path.specs.declared.cell.Cell.{Cell};
 ghost use Rattle.cell_path.specs.declared.cell.Step.{Step};

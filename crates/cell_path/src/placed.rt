@@ -1,4 +1,4 @@
-//! A cell that has its place in the sound, and whether it jumps. Next: `waiting`.
+//! A cell that has its place in the sound, and whether it jumps. Read next: `waiting`.
 ghost use Rattle.std.specs.Prelude.{◌≡◌, ◌<◌, ◌≤◌, true, false};
 ghost use Rattle.cell_path.specs.Decided.{is_jump, jumps, same_sign};
 

@@ -1,4 +1,4 @@
-//! The end of a cell on a path. Next: `marks`.
+//! The end of a cell on a path. Read next: `marks`.
 ghost use Rattle.std.specs.Prelude.{◌≡◌, ◌+◌, ◌^◌, ◌<◌, ◌≤◌};
 ghost use Rattle.cell_path.specs.KeptMarks.{point_before};
 

@@ -1,4 +1,4 @@
-//! The numbers of the latest steps. Next: `end`.
+//! The numbers of the latest steps. Read next: `end`.
 ghost use Rattle.std.specs.Prelude.{◌≡◌, ℕ, ◌+◌, ◌^◌, ◌<◌, ◌≤◌, pos, neg_ℤ};
 ghost use Rattle.cell_path.specs.declared.cell.Sign.{Sign};
 ghost use Rattle.cell_path.specs.declared.lengths.TheConstants.{EARLY};

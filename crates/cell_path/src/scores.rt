@@ -1,4 +1,4 @@
-//! The best scores of all paths through the sound so far. Next: `mark`.
+//! The best scores of all paths through the sound so far. Read next: `mark`.
 ghost use Rattle.std.specs.Prelude.{◌≡◌, ℕ, ◌+◌, ◌^◌, ◌<◌, ◌≤◌, List, [], ◌∷◌};
 ghost use Rattle.cell_path.specs.declared.cell.Step.{Step};
 ghost use Rattle.cell_path.specs.declared.lengths.TheConstants.{LENGTHS};

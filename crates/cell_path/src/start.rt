@@ -1,4 +1,4 @@
-//! The best way to begin a cell behind the latest step. Next: `ends`.
+//! The best way to begin a cell behind the latest step. Read next: `ends`.
 ghost use Rattle.std.specs.Prelude.{◌≡◌, ℕ, ◌+◌, ◌*◌, ◌^◌, ◌<◌, ◌≤◌, pos, ◌-ℤ◌, ◌≤ℤ◌, ◌<ℤ◌, List, ◌∷◌};
 ghost use Rattle.cell_path.specs.declared.cell.Sign.{Sign};
 ghost use Rattle.cell_path.specs.declared.cell.Step.{Step};

@@ -1,4 +1,4 @@
-//! The sums of the sound up to each of the latest steps. Next: `rows`.
+//! The sums of the sound up to each of the latest steps. Read next: `rows`.
 ghost use Rattle.std.specs.Prelude.{◌≡◌, ℕ, ◌+◌, ◌-◌, ◌*◌, ◌^◌, ◌<◌, ◌≤◌, pos, ◌+ℤ◌, ◌-ℤ◌};
 ghost use Rattle.cell_path.specs.Kept.{sum_ago};
 ghost use Rattle.cell_path.specs.Within.{IsWithin};

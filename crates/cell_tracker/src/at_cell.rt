@@ -1,4 +1,4 @@
-//! The state at the end of a cell. Next: `biphase/src/tolerance.rt`, and after a first half `mid_cell`.
+//! The state at the end of a cell. Read next: `biphase/src/tolerance.rt`, and after a first half `mid_cell`.
 ghost use Rattle.std.specs.Prelude.{◌≡◌, ℕ, ◌≤◌, List};
 ghost use Rattle.limits.specs.declared.recording.TheConstants.{MAX_INTERVAL};
 ghost use Rattle.biphase.specs.Tolerance.{IsFirstHalf};

@@ -1,4 +1,4 @@
-//! The state between stretches. Next: `biphase/src/pair.rt`, and at a lock `at_cell` or `mid_cell`.
+//! The state between stretches. Read next: `biphase/src/pair.rt`, and at a lock `at_cell` or `mid_cell`.
 ghost use Rattle.biphase.specs.Tolerance.{IsFirstHalf};
 ghost use Rattle.std.specs.Prelude.{◌≡◌, ℕ, ◌≤◌, ◌<◌, List, [], IfSome};
 ghost use Rattle.limits.specs.declared.recording.TheConstants.{MAX_INTERVAL};

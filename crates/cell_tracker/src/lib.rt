@@ -22,9 +22,7 @@
 //!   same (`specs/Mirrored.antt`, all in `laws`).
 //!
 //! Read `hunting`, `at_cell` and `mid_cell`, in this order, and `specs/Lock.antt`, `Stretch.antt` and
-//! `StandsFor.antt` beside them, then `specs/Recording.antt`.
-//! `direction_reader` stands on this crate; next on the way of an interval: its `latest_cells`. Nothing
-//! here allocates or refuses.
+//! `StandsFor.antt` beside them, then `specs/Recording.antt`. Nothing here allocates or refuses.
 #![tactic(auto)]
 
 mod at_cell;

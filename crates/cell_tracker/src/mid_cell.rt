@@ -1,4 +1,4 @@
-//! The state inside a one. Next: `biphase/src/tolerance.rt`, and after a one `at_cell`.
+//! The state inside a one. Read next: `biphase/src/tolerance.rt`, and after a one `at_cell`.
 ghost use Rattle.std.specs.Prelude.{◌≡◌, ℕ, ◌≤◌, ◌+◌, List};
 ghost use Rattle.limits.specs.declared.recording.TheConstants.{MAX_INTERVAL};
 ghost use Rattle.biphase.specs.Chain.{IsNextOne};

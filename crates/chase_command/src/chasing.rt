@@ -1,4 +1,4 @@
-//! `chase`: a script is read whole, and then its trace is written. Next: `chase_script/src/script.rt`, and
+//! `chase`: a script is read whole, and then its trace is written. Read next: `chase_script/src/script.rt`, and
 //! with its rows `trace`.
 ghost use Rattle.std.specs.Prelude.{◌≡◌, ◌⊎◌, ℕ, ◌+◌, ◌<◌, ◌≤◌, List, ◌++◌, length, vec_capacity, Some, Ok, Err};
 ghost use Rattle.std.specs.Prelude.{OnOk, OnErr, IfOk, IfErr};

@@ -8,7 +8,7 @@
 //!   `IsChaseAnswer`). Nothing is written before the whole script was read and each row was judged.
 //! - Where no call fails, the whole input leaves one status, want of memory aside (clause `status`).
 //!
-//! Read `chasing`, `trace` and `stop`. `tc_top` stands on this crate.
+//! Read `chasing`, `trace` and `stop`.
 #![tactic(auto)]
 
 mod chasing;

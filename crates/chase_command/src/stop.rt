@@ -1,4 +1,4 @@
-//! Why a chase stopped before its end: its status and its note. Next: `tc_command/src/notes.rt`, which pushes
+//! Why a chase stopped before its end: its status and its note. Read next: `tc_command/src/notes.rt`, which pushes
 //! it.
 ghost use Rattle.std.specs.Prelude.{◌≡◌};
 ghost use Rattle.chase_command.specs.Stop.{note_of, status_of};

@@ -1,4 +1,4 @@
-//! The trace of a chase. Next: `chase_core/src/closed_loop.rt`, and then `tc_command/src/making.rt`.
+//! The trace of a chase. Read next: `chase_core/src/closed_loop.rt`, and then `tc_command/src/making.rt`.
 ghost use Rattle.std.specs.Prelude.{◌≡◌, ◌+◌, ◌≤◌, ◌++◌, length};
 ghost use Rattle.arrayvec.specs.ArrayVec.{array_vec_len};
 ghost use Rattle.chase_script.specs.Answer.{AreRowsFor};

@@ -1,4 +1,4 @@
-//! The chase and its step. Next: `transport_model/src/transport.rt`, which moves by what a chase says.
+//! The chase and its step. Read next: `transport_model/src/transport.rt`, which moves by what a chase says.
 ghost use Rattle.std.specs.Prelude.{◌≡◌, ◌<◌, ◌≤◌, ◌↔◌, ℤ, unsigned_abs, Some, None, IfSome, IsSomeAnd};
 ghost use Rattle.tc_address.specs.Numbering.{day_length};
 ghost use Rattle.transport_model.specs.Move.{day_of};

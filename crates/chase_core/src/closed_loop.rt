@@ -1,4 +1,4 @@
-//! A chase and its transport, which take turns. Next: `command`.
+//! A chase and its transport, which take turns. Read next: `command`.
 ghost use Rattle.std.specs.Prelude.{◌≡◌, ◌<◌, IfSome};
 ghost use Rattle.tc_address.specs.Numbering.{day_length};
 ghost use Rattle.transport_model.specs.Move.{day_of, IsInRange};

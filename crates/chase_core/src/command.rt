@@ -1,4 +1,4 @@
-//! What a chase is given in a frame. Next: `report`.
+//! What a chase is given in a frame. Read next: `report`.
 use tc_address::Direction;
 
 /// What the operator wants.

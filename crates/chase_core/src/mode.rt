@@ -1,4 +1,4 @@
-//! What a chase is at between two frames, and what a command makes of it. Next: `outcome`.
+//! What a chase is at between two frames, and what a command makes of it. Read next: `outcome`.
 ghost use Rattle.std.specs.Prelude.{◌≡◌};
 ghost use Rattle.chase_core.specs.Step.{after_command, state_of};
 

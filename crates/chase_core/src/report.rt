@@ -1,4 +1,4 @@
-//! What a chase says of a frame. Next: `mode`.
+//! What a chase says of a frame. Read next: `mode`.
 
 /// What a chase does.
 #[derive(Clone, Copy, Debug, PartialEq, Eq)]

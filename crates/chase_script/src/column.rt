@@ -1,4 +1,4 @@
-//! The columns of a script. Next: `slip`.
+//! The columns of a script. Read next: `slip`.
 ghost use Rattle.std.specs.Prelude.{◌≡◌};
 ghost use Rattle.chase_script.specs.Column.{number_of_column};
 

@@ -1,4 +1,4 @@
-//! Why a script is not read. Next: `chase_command/src/chasing.rt`.
+//! Why a script is not read.
 use crate::column::Column;
 use std::alloc::AllocError;
 use thiserror::Error;

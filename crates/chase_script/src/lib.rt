@@ -15,9 +15,8 @@
 //!   its slip bound, a locked chase stays within half a frame, and pulling ends (`specs/Lock.antt`,
 //!   `KeepsItsLock`).
 //!
-//! Read `column`, `fault`, `row`, `slip` and `script`, in this order, with `specs/Script.antt` beside
-//! them, and then `texts` and `trace_lines` with `specs/TraceText.antt`. `tc_top` stands
-//! on this crate.
+//! Read `column`, `fault`, `row`, `slip` and `script`, in this order, with `specs/Script.antt` beside them,
+//! and then `texts` and `trace_lines` with `specs/TraceText.antt`.
 #![tactic(auto)]
 
 mod column;

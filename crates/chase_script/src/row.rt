@@ -1,4 +1,4 @@
-//! A row of a script, from the fields of a record. Next: `column`.
+//! A row of a script, from the fields of a record. Read next: `column`.
 ghost use Rattle.std.specs.Prelude.{◌≡◌, ◌<◌, IfOk, IfSome, None, Some, length};
 ghost use Rattle.csv.specs.Records.{field_at, fields_of};
 ghost use Rattle.tc_address.specs.Numbering.{day_length};

@@ -1,4 +1,4 @@
-//! The rows of a script. Next: `row`.
+//! The rows of a script. Read next: `row`.
 ghost use Rattle.std.specs.Prelude.{◌≡◌, IfErr, IfOk, Ok};
 ghost use Rattle.tc_address.specs.declared.count.Count.{Count};
 ghost use Rattle.chase_script.specs.Script.{script_in};

@@ -1,4 +1,4 @@
-//! The slip of a row. Next: `fault`.
+//! The slip of a row. Read next: `fault`.
 ghost use Rattle.std.specs.Prelude.{◌≡◌, ◌≤◌, length, IfOk, IfSome, unsigned_abs, option_map, neg_ℤ, pos, true};
 ghost use Rattle.std.specs.Char.{is_ascii_digit};
 ghost use Rattle.std.specs.List.{list_all};

@@ -1,4 +1,4 @@
-//! The lines of a trace, one after another. Next: `texts`.
+//! The lines of a trace, one after another. Read next: `texts`.
 ghost use Rattle.std.specs.Prelude.{◌≡◌, ◌<◌, ◌++◌, [], IfSome, None, length, false, cond};
 ghost use Rattle.chase_script.specs.Answer.{AreRowsFor};
 ghost use Rattle.chase_script.specs.Kept.{first_line, text_left, lines_left};

@@ -1,4 +1,4 @@
-//! The chase, a frame a step. Next: `chase_core/src/chase.rt`, and then `chase_script/src/texts.rt`.
+//! The chase, a frame a step. Read next: `chase_core/src/chase.rt`.
 ghost use Rattle.std.specs.Prelude.{◌≡◌, ◌<◌, ◌≤◌};
 ghost use Rattle.transport_model.specs.Move.{day_of};
 ghost use Rattle.code_chase.specs.CodeTrace.{after_frame, begun_at, next_line};

@@ -1,4 +1,4 @@
-//! What the master reads in a frame. Next: `slip`.
+//! What the master reads in a frame. Read next: `slip`.
 ghost use Rattle.std.specs.Prelude.{◌≡◌, ◌<◌, IfSome};
 ghost use Rattle.tc_address.specs.Numbering.{day_length};
 ghost use Rattle.code_chase.specs.CodeTrace.{master_at, master_of};

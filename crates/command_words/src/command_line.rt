@@ -1,4 +1,4 @@
-//! The words of a command line, as clap reads them. Next: `tc_words/src/words.rt`.
+//! The words of a command line, as clap reads them.
 ghost use Rattle.std.specs.Prelude.{◌≡◌, ℕ, ◌<◌, ◌^◌, List, length, map, IfOk, IfErr, IsSome, string_bytes, codes};
 ghost use Rattle.clap.specs.Words.{app_of, first_value, found_of, kind_of};
 ghost use Rattle.command_words.specs.Grammar.{command_app};

@@ -9,7 +9,7 @@
 //! others are the values, each as it was given and in order; and nothing fails but for want of
 //! memory (`specs/CommandLine.antt`).
 //!
-//! Read `command_line`. `tc_words` stands on this crate.
+//! Read `command_line`.
 #![tactic(auto)]
 
 mod command_line;

@@ -1,4 +1,4 @@
-//! The ticks at the latest boundaries of cells. Next: `candidates`, with a window that is one.
+//! The ticks at the latest boundaries of cells. Read next: `candidates`, with a window that is one.
 ghost use Rattle.std.specs.Prelude.{◌≡◌, length, replicate, slice_index};
 ghost use Rattle.direction_reader.specs.Boundaries.{with_tick};
 

@@ -1,4 +1,4 @@
-//! Whether an interval brought an event. Next: `candidates`, where a window is one.
+//! Whether an interval brought an event. Read next: `candidates`, where a window is one.
 
 /// What an interval brought, told at once: nearly every interval brings nothing. The events
 /// themselves are worked out where there may be some.

@@ -1,4 +1,4 @@
-//! The words that a window of 80 bits may be. Next: `ltc_word/src/reading.rt`, and then `event`.
+//! The words that a window of 80 bits may be. Read next: `ltc_word/src/reading.rt`, and then `event`.
 ghost use Rattle.std.specs.Prelude.{◌≡◌, ◌<◌, ◌^◌, IfSome};
 ghost use Rattle.ltc_word.specs.Reversal.{EndsInSync, reversed_bits};
 ghost use Rattle.direction_reader.specs.Candidate.{IsEventOf, AreEventsOf, Bears, BearsOnly, candidate_in};

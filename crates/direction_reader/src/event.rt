@@ -1,4 +1,4 @@
-//! What the reader answers. Next: `report_text/src/event.rt`, and with a word `flywheel/src/heard.rt`.
+//! What the reader answers.
 ghost use Rattle.std.specs.Prelude.{◌≡◌};
 
 use ltc_word::LtcWord;

@@ -1,4 +1,4 @@
-//! The cells of the stretch that is open, where each word is asked for a witness. Next: `beside`, and with
+//! The cells of the stretch that is open, where each word is asked for a witness. Read next: `beside`, and with
 //! a word that is read backward `waiting`.
 ghost use Rattle.std.specs.Prelude.{◌≡◌, ◌≤◌, ℕ, ◌+◌, List, [], ◌∷◌, ◌++◌, map};
 ghost use Rattle.biphase.specs.declared.cell.Cell.{Cell};

@@ -1,4 +1,4 @@
-//! What a reader answers that asks each word for a witness. Next: `report_text/src/event.rt`.
+//! What a reader answers that asks each word for a witness.
 ghost use Rattle.std.specs.Prelude.{◌≡◌};
 
 use crate::event::Event;

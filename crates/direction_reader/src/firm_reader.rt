@@ -1,4 +1,4 @@
-//! From intervals to events, where each word is asked for a witness. Next: `tracker`, and with a cell
+//! From intervals to events, where each word is asked for a witness. Read next: `tracker`, and with a cell
 //! `firm_cells`.
 ghost use Rattle.std.specs.Prelude.{◌≡◌, ℕ, ◌<◌, ◌≤◌, ◌+◌, ◌*◌, List, [], ◌∷◌, ◌++◌, map};
 ghost use Rattle.limits.specs.declared.recording.TheConstants.{MAX_INTERVAL, MAX_INTERVALS};

@@ -1,4 +1,4 @@
-//! The latest bits of a stretch, until they fill a window and from then on. Next: `window`.
+//! The latest bits of a stretch, until they fill a window and from then on. Read next: `window`.
 ghost use Rattle.std.specs.Prelude.{◌≡◌, ◌↔◌, IsTrue};
 ghost use Rattle.direction_reader.specs.LatestBits.{after_bit, EndsInCandidate};
 

@@ -1,4 +1,4 @@
-//! The cells of the stretch that is open. Next: `latest_bits`, and with the tick `boundaries`.
+//! The cells of the stretch that is open. Read next: `latest_bits`, and with the tick `boundaries`.
 ghost use Rattle.std.specs.Prelude.{◌≡◌};
 ghost use Rattle.direction_reader.specs.Brings.{BringsAt};
 ghost use Rattle.direction_reader.specs.FirmStep.{AreWindowCandidates, FindsAt};

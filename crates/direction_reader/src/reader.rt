@@ -1,4 +1,4 @@
-//! From intervals to events, one interval at a time. Next: `tracker`.
+//! From intervals to events, one interval at a time. Read next: `tracker`.
 ghost use Rattle.std.specs.Prelude.{◌≡◌, ℕ, ◌<◌, ◌≤◌, ◌+◌, ◌*◌, List, [], ◌∷◌, ◌++◌, reverse};
 ghost use Rattle.limits.specs.declared.recording.TheConstants.{MAX_INTERVAL, MAX_INTERVALS};
 ghost use Rattle.direction_reader.specs.Brings.{Brings};

@@ -1,4 +1,4 @@
-//! The states of the tracker, and what an interval does to each. Next: `cell_tracker/src/hunting.rt`, and
+//! The states of the tracker, and what an interval does to each. Read next: `cell_tracker/src/hunting.rt`, and
 //! with what it answers `latest_cells`.
 ghost use Rattle.std.specs.Prelude.{◌≤◌};
 ghost use Rattle.limits.specs.declared.recording.TheConstants.{MAX_INTERVAL};

@@ -1,4 +1,4 @@
-//! Where the tracker stands, and what an interval does to it. Next: `state`.
+//! Where the tracker stands, and what an interval does to it. Read next: `state`.
 ghost use Rattle.std.specs.Prelude.{◌≡◌, ◌≤◌, ◌↔◌, [], None, IsTrue};
 ghost use Rattle.limits.specs.declared.recording.TheConstants.{MAX_INTERVAL};
 ghost use Rattle.direction_reader.specs.KeptStep.{IsStepped};

@@ -1,4 +1,4 @@
-//! A word that waits for its witness. Next: `firm_event`.
+//! A word that waits for its witness. Read next: `firm_event`.
 ghost use Rattle.std.specs.Prelude.{◌≡◌, ◌≤◌, IfSome};
 ghost use Rattle.std.specs.Option.{option_map};
 ghost use Rattle.direction_reader.specs.Firm.{judged};

@@ -1,4 +1,4 @@
-//! A window: 80 bits of a stretch that stand together. Next: `brought`.
+//! A window: 80 bits of a stretch that stand together. Read next: `brought`.
 ghost use Rattle.std.specs.Prelude.{◌≡◌, ◌<◌, ◌^◌, ◌↔◌, List, [], ◌∷◌, ◌++◌, Bool, IsTrue};
 ghost use Rattle.direction_reader.specs.Candidate.{IsCandidate};
 ghost use Rattle.direction_reader.specs.HoldsBits.{HoldsAll, HoldsLatest, Holds};

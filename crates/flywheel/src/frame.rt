@@ -1,4 +1,4 @@
-//! What a flywheel gives. Next: `frame_commands/src/frame_sink.rt`.
+//! What a flywheel gives.
 
 use tc_address::{Direction, Label};
 

@@ -1,4 +1,4 @@
-//! A word as the flywheel hears it. Next: `wheel`.
+//! A word as the flywheel hears it. Read next: `wheel`.
 ghost use Rattle.std.specs.Prelude.{◌≡◌, ◌<◌, ◌≤◌, ◌^◌, ◌+◌};
 ghost use Rattle.tc_address.specs.Label.{IsLabel};
 ghost use Rattle.flywheel.specs.Frames.{is_next, label_after, tick_after};

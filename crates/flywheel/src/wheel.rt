@@ -1,4 +1,4 @@
-//! The flywheel. Next: `frame`.
+//! The flywheel. Read next: `frame`.
 ghost use Rattle.std.specs.Prelude.{◌≡◌, ℕ, ◌+◌, ◌<◌, ◌≤◌, ◌^◌, Bool, true, false, List, [], ◌∷◌, ◌++◌, IfSome};
 ghost use Rattle.flywheel.specs.declared.heard.HeardWord.{HeardWord};
 ghost use Rattle.flywheel.specs.declared.frame.Frame.{Frame};

@@ -1,5 +1,5 @@
 //! The way along the frames of a recording, the same for each command that makes something of them: words
-//! become frames, and these go to the command's sink. Next: `hearing`, then `frames`, and with the frames
+//! become frames, and these go to the command's sink. Read next: `hearing`, then `frames`, and with the frames
 //! `frame_sink`.
 ghost use Rattle.std.specs.Prelude.{◌≡◌, ◌≤◌, ◌<◌, ◌^◌, ℕ, List, [], ◌∷◌, ◌++◌, OnOk, OnErr, IfSome, None, All, length};
 ghost use Rattle.direction_reader.specs.declared.event.Event.{Event};

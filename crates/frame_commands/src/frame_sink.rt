@@ -1,4 +1,4 @@
-//! What a command makes of the frames of a recording. Next: `ltc_fly`, `ltc_spans`, `ltc_mtc`, `jam` and
+//! What a command makes of the frames of a recording. Read next: `ltc_fly`, `ltc_spans`, `ltc_mtc`, `jam` and
 //! `ltc_chase`.
 ghost use Rattle.std.specs.Prelude.{◌≡◌, ℕ, true, false, List, [], ◌∷◌, ◌++◌, ◌+◌, ◌-◌, ◌*◌, ◌<◌, ◌≤◌, ◌^◌, OnOk, OnErr};
 ghost use Rattle.std.specs.Prelude.{IfOk, IfErr};

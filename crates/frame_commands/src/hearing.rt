@@ -1,4 +1,4 @@
-//! What hears the words of a recording: a reader of all words, or one that asks each for a witness. Next:
+//! What hears the words of a recording: a reader of all words, or one that asks each for a witness. Read next:
 //! `direction_reader/src/reader.rt` and `direction_reader/src/firm_reader.rt`.
 ghost use Rattle.std.specs.Prelude.{◌≡◌, ℕ, ◌^◌, ◌<◌, ◌≤◌, ◌+◌, List, [], ◌∷◌, ◌++◌, All, IsTrue, length};
 ghost use Rattle.limits.specs.declared.recording.TheConstants.{MAX_INTERVAL, MAX_INTERVALS};

@@ -1,4 +1,4 @@
-//! What `ltc-jam` makes of frames: a clean recording. Next: `ltc_jam/src/cells.rt`, and then
+//! What `ltc-jam` makes of frames: a clean recording. Read next: `ltc_jam/src/cells.rt`, and then
 //! `tc_command/src/pushing.rt`.
 ghost use Rattle.std.specs.Prelude.{◌≡◌, ◌≤◌, ◌+◌, ◌*◌, ◌++◌, length};
 ghost use Rattle.arrayvec.specs.ArrayVec.{array_vec_len};

@@ -1,4 +1,4 @@
-//! What `ltc-chase` makes of frames: the steps of a chase that follows them. Next:
+//! What `ltc-chase` makes of frames: the steps of a chase that follows them. Read next:
 //! `code_chase/src/master.rt`, and then `chase_script/src/texts.rt` for the lines.
 ghost use Rattle.std.specs.Prelude.{◌≡◌, ◌<◌, ◌+◌};
 ghost use Rattle.chase_script.specs.TraceText.{step_line};

@@ -1,4 +1,4 @@
-//! What `ltc-fly` makes of frames: a line of each. Next: `report_text/src/frame.rt`.
+//! What `ltc-fly` makes of frames: a line of each. Read next: `report_text/src/frame.rt`.
 ghost use Rattle.tc_command.specs.Told.{IsLawful, IsTold, WorksAsTold};
 ghost use Rattle.frame_commands.specs.LtcFly.{told_ltc_fly};
 ghost use Rattle.tc_job.specs.declared.flight.Flight.{Flight};

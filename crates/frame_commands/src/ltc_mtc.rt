@@ -1,4 +1,4 @@
-//! What `ltc-mtc` makes of frames: MIDI Time Code. Next: `quarter_frame/src/writer.rt`.
+//! What `ltc-mtc` makes of frames: MIDI Time Code. Read next: `quarter_frame/src/writer.rt`.
 ghost use Rattle.tc_command.specs.Told.{IsLawful, IsTold, WorksAsTold};
 ghost use Rattle.frame_commands.specs.LtcMtc.{told_ltc_mtc};
 ghost use Rattle.tc_job.specs.declared.flight.Flight.{Flight};

@@ -1,4 +1,4 @@
-//! What `ltc-spans` makes of frames: a line of each span, and of each gap between two. Next:
+//! What `ltc-spans` makes of frames: a line of each span, and of each gap between two. Read next:
 //! `tape_spans/src/tape.rt`, and then `tape_spans/src/texts.rt` for the lines.
 ghost use Rattle.std.specs.Prelude.{◌≡◌, ◌<◌, ◌^◌, OnOk, OnErr, IfErr, IfSome};
 ghost use Rattle.std.specs.Io.KnownBytes.{Appends};

@@ -1,4 +1,4 @@
-//! The words of what an interval brought, one after another. Next: `flywheel/src/heard.rt`.
+//! The words of what an interval brought, one after another. Read next: `flywheel/src/heard.rt`.
 ghost use Rattle.std.specs.Prelude.{◌≡◌, [], ◌++◌, IfSome, None};
 ghost use Rattle.std.specs.Option.{option_to_list};
 ghost use Rattle.direction_reader.specs.Events.{event_list, listed};

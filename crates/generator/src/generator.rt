@@ -1,5 +1,4 @@
-//! The generator and its one call. Next: `code_chase/src/slip.rt` and `made_commands/src/chance.rt`, which
-//! draw its values.
+//! The generator and its one call.
 ghost use Rattle.std.specs.Prelude.{◌≡◌};
 ghost use Rattle.generator.specs.Draw.{drawn};
 

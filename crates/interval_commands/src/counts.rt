@@ -1,4 +1,4 @@
-//! How many events of each kind were told where each word is asked for a witness, and their lines. Next:
+//! How many events of each kind were told where each word is asked for a witness, and their lines. Read next:
 //! `report_text/src/event.rt`.
 ghost use Rattle.std.specs.Prelude.{◌≡◌, ◌<◌, ◌≤◌, ◌+◌, ◌*◌, ◌^◌, OnOk, OnErr, IfErr, IfSome};
 ghost use Rattle.std.specs.Io.KnownBytes.{Appends};

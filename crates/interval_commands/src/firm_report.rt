@@ -1,5 +1,5 @@
 //! The engine of `ltc-rough firm`: what is told of the intervals where each word is asked for a witness
-//! becomes lines. Next: `direction_reader/src/firm_reader.rt`, and with what it tells `counts`.
+//! becomes lines. Read next: `direction_reader/src/firm_reader.rt`, and with what it tells `counts`.
 ghost use Rattle.tc_command.specs.Told.{IsLawful, IsTold, WorksAsTold};
 ghost use Rattle.biphase.specs.declared.profile.Profile.{Profile};
 ghost use Rattle.interval_commands.specs.FirmTape.{told_ltc_firm};

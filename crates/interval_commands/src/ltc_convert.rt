@@ -1,4 +1,4 @@
-//! The engine of `ltc-convert`: each interval is spelled in the asked version. Next:
+//! The engine of `ltc-convert`: each interval is spelled in the asked version. Read next:
 //! `interval_file/src/piece.rt`, and then `tc_command/src/gathered.rt`.
 ghost use Rattle.interval_commands.specs.LtcConvert.{conversion};
 ghost use Rattle.tc_command.specs.Told.{IsLawful, IsTold, WorksAsTold};

@@ -1,4 +1,4 @@
-//! The engine of `ltc-pcm`: sound made of the intervals of a recording. Next: `tc_command/src/gathered.rt`.
+//! The engine of `ltc-pcm`: sound made of the intervals of a recording. Read next: `tc_command/src/gathered.rt`.
 ghost use Rattle.std.specs.Prelude.{◌≡◌, ◌≤◌, ◌*◌, ◌++◌, ℕ, ℤ, pos, List, length, replicate, OnOk, OnErr, IfErr};
 ghost use Rattle.std.specs.Io.KnownBytes.{Appends};
 ghost use Rattle.limits.specs.declared.recording.TheConstants.{MAX_INTERVAL};

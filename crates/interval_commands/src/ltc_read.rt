@@ -1,4 +1,4 @@
-//! The engine of `ltc-read`: intervals become events, and events become lines. Next:
+//! The engine of `ltc-read`: intervals become events, and events become lines. Read next:
 //! `direction_reader/src/reader.rt`, and `report_text/src/event.rt` for the lines.
 ghost use Rattle.std.specs.Prelude.{◌≡◌, ◌≤◌, ◌<◌, ◌+◌, ◌*◌, List, ◌∷◌, ◌++◌, [], ℕ, OnOk, OnErr, IfOk, IfErr, IfSome};
 ghost use Rattle.std.specs.Io.KnownBytes.{Appends};

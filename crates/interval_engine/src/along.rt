@@ -1,6 +1,5 @@
-//! The way along an interval file, the same for each command that reads one. Next:
-//! `interval_file/src/piece.rt`, and then `interval_commands/src/ltc_read.rt`,
-//! `interval_commands/src/ltc_convert.rt` or `interval_commands/src/ltc_pcm.rt`.
+//! The way along an interval file, the same for each command that reads one. Read next:
+//! `interval_file/src/piece.rt`.
 ghost use Rattle.std.specs.Prelude.{◌≡◌, ℕ, true, false, ◌+◌, ◌-◌, ◌%◌, ◌<◌, ◌≤◌, List, [], ◌∷◌, ◌++◌, length, take};
 ghost use Rattle.std.specs.Prelude.{drop, OnOk, IfOk, IfErr, IsSome, Err};
 ghost use Rattle.std.specs.declared.option.Option.{Option};

@@ -1,7 +1,7 @@
 //! The engine of every command that reads an interval file: header, intervals, faults, limit and end.
 //!
 //! `work_along` takes the header and the intervals, and hands them to a `Behind`, which is what one command
-//! does with them. `interval_commands` and `frame_commands` stand on this crate.
+//! does with them.
 //!
 //! What this crate promises, for all sources and sinks: a command along an interval file writes what its
 //! `Printing` says of the header and the intervals, and is refused, or stops at the limit, where the file

@@ -1,4 +1,4 @@
-//! The decoder of an interval file. Next: `interval_commands/src/ltc_read.rt`.
+//! The decoder of an interval file.
 ghost use Rattle.std.specs.Prelude.{◌≡◌, ◌↔◌, List, ◌<◌, ◌≤◌, ◌^◌, ◌*◌, ◌++◌, ◌+◌, [], ◌∷◌, length, IfErr, IfNone};
 ghost use Rattle.std.specs.Prelude.{OnOk, IsTrue, ℕ, ◌-◌, ◌==◌, None};
 ghost use Rattle.std.specs.Prelude.{if◌then◌else◌};

@@ -1,4 +1,4 @@
-//! The faults of an interval file. Next: `names`.
+//! The faults of an interval file. Read next: `names`.
 ghost use Rattle.std.specs.Prelude.{◌≡◌};
 
 use crate::names;

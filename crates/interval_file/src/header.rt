@@ -1,4 +1,4 @@
-//! The header of an interval file, and the numbers of its table. Next: `piece`.
+//! The header of an interval file, and the numbers of its table. Read next: `piece`.
 ghost use Rattle.std.specs.Prelude.{◌≡◌, [], Some};
 ghost use Rattle.interval_file.specs.Recording.{recording_of};
 ghost use Rattle.tc_io.specs.Verdict.{good};

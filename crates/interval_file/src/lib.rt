@@ -28,8 +28,7 @@
 //! - `interval_header` and `interval_bytes` give the bytes of a header and of an interval, `four_bytes` those of one in
 //!   version 1.
 //!
-//! Read `fault`, `header` and `piece`, then `decoder`. The commands along a recording stand on this
-//! crate. Nothing here allocates.
+//! Read `fault`, `header` and `piece`, then `decoder`. Nothing here allocates.
 #![tactic(auto)]
 
 mod decoder;

@@ -1,4 +1,4 @@
-//! The bytes of an interval, in each version of the file. Next: `decoder`.
+//! The bytes of an interval, in each version of the file. Read next: `decoder`.
 ghost use Rattle.std.specs.Prelude.{◌≡◌, ℕ, List, ◌≤◌, ◌<◌, ◌++◌, ◌==◌, ◌&&◌, length, drop, fold, nat_le, Some, None};
 ghost use Rattle.std.specs.Prelude.{Ok, Err, IfOk, OnErr, if◌then◌else◌};
 ghost use Rattle.interval_file.specs.declared.fault.IntervalFileFault.TheVariants as fault;

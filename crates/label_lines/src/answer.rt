@@ -1,4 +1,4 @@
-//! The line that is answered. Next: `laws`.
+//! The line that is answered. Read next: `laws`.
 ghost use Rattle.std.specs.Prelude.{◌≡◌, ◌<◌, ◌≤◌, ◌^◌, ◌++◌};
 ghost use Rattle.real_time.specs.Moment.{millisecond_at};
 ghost use Rattle.arrayvec.specs.ArrayVec.{array_vec_len};

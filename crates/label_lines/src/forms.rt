@@ -1,4 +1,4 @@
-//! The forms that a line may have, and how far it fits one. Next: `line`.
+//! The forms that a line may have, and how far it fits one. Read next: `line`.
 ghost use Rattle.std.specs.Prelude.{◌≡◌, ◌≤◌, ◌∷◌, length, map};
 ghost use Rattle.label_lines.specs.Forms.{fitting, fitting_one, forms, label_form, may_stand};
 

@@ -1,4 +1,4 @@
-//! What a line says, or the column at which it says nothing. Next: `way`.
+//! What a line says, or the column at which it says nothing. Read next: `way`.
 ghost use Rattle.std.specs.Prelude.{◌≡◌, ◌+◌, ◌<◌, ◌≤◌, ◌^◌, IsTrue, length, IfOk, IfSome};
 ghost use Rattle.std.specs.List.{list_all};
 ghost use Rattle.std.specs.Char.{is_ascii_digit};

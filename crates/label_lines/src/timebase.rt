@@ -1,4 +1,4 @@
-//! A count together with the rate at which its frames run. Next: `forms`.
+//! A count together with the rate at which its frames run. Read next: `forms`.
 ghost use Rattle.std.specs.Prelude.{◌≡◌};
 ghost use Rattle.label_lines.specs.Timebase.{count_of, rate_of};
 

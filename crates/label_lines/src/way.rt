@@ -1,4 +1,4 @@
-//! What is answered to a line. Next: `answer`.
+//! What is answered to a line. Read next: `answer`.
 ghost use Rattle.std.specs.Prelude.{◌↔◌, IsTrue};
 ghost use Rattle.label_lines.specs.Way.{IsWayOf};
 

@@ -1,4 +1,4 @@
-//! The limits of a recording, which has intervals between the transitions of a tape. Next: `sound_file`.
+//! The limits of a recording, which has intervals between the transitions of a tape. Read next: `sound_file`.
 
 /// The greatest length of an interval, in ticks. The least is 1.
 pub const MAX_INTERVAL: u32 = 16_777_215;

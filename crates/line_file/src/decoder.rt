@@ -1,4 +1,4 @@
-//! The decoder of a line file. Next: `found`, and with the answer of a field `texts`.
+//! The decoder of a line file. Read next: `found`, and with the answer of a field `texts`.
 ghost use Rattle.std.specs.Prelude.{◌≡◌, ◌≢◌, ◌<◌, ◌≤◌, ◌^◌, ◌+◌, ◌++◌, ℕ, List, [], length, Ok, Err, Some, None};
 ghost use Rattle.std.specs.Prelude.{IfSome, OnOk, IfErr};
 ghost use Rattle.arrayvec.specs.ArrayVec.{array_vec_len};

@@ -1,4 +1,4 @@
-//! The faults of a line file. Next: `names`.
+//! The faults of a line file. Read next: `names`.
 ghost use Rattle.std.specs.Prelude.{◌≡◌};
 
 use crate::names;

@@ -1,4 +1,4 @@
-//! A field at the front of bytes. Next: `vitc_reader/src/field.rt`, with each of its lines.
+//! A field at the front of bytes. Read next: `vitc_reader/src/field.rt`, with each of its lines.
 ghost use Rattle.std.specs.Prelude.{◌≡◌, ◌<◌, ◌≤◌, ◌+◌, ◌-◌, ◌*◌, ◌^◌, ◌++◌, ◌∷◌, [], ℕ, List, length, take, drop};
 ghost use Rattle.std.specs.Prelude.{slice_index, true};
 ghost use Rattle.vitc_reader.specs.Field.{StandsFor};

@@ -1,4 +1,4 @@
-//! What stands at the front of bytes. Next: `header`.
+//! What stands at the front of bytes. Read next: `header`.
 use crate::fault::LineFileFault;
 
 /// What stands at the front of bytes.

@@ -1,4 +1,4 @@
-//! The header of a line file, and the numbers of its table. Next: `field`.
+//! The header of a line file, and the numbers of its table. Read next: `field`.
 ghost use Rattle.std.specs.Prelude.{◌≡◌};
 ghost use Rattle.line_file.specs.KeptFront.{front_of, header_front};
 ghost use Rattle.line_file.specs.LineFile.{head_at, head_fault, header_at, header_with, is_wrong};

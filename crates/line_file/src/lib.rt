@@ -19,7 +19,7 @@
 //! - `field_text` and `field_end_text` give the lines of a report byte for byte (`specs/Texts.antt`).
 //!
 //! Read `fault`, `header`, `field`, `decoder` and `texts`, in this order, and `specs/LineFile.antt` beside
-//! them. `signal_commands` and `made_commands` stand on this crate. Nothing here allocates.
+//! them. Nothing here allocates.
 #![tactic(auto)]
 
 mod decoder;

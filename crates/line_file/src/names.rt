@@ -1,5 +1,4 @@
 //! The names of the faults of a line file, as notes print them. This project's own.
-//! Next: `tc_command/src/input_fault.rt`.
 
 /// The name of `LineFileFault::Magic`.
 pub const MAGIC_NAME: &str = "magic";

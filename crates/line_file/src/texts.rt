@@ -1,4 +1,4 @@
-//! The lines of a report on fields. Next: `line_text/src/line.rt`.
+//! The lines of a report on fields. Read next: `line_text/src/line.rt`.
 ghost use Rattle.std.specs.Prelude.{◌≡◌, ◌<◌, ◌≤◌, ◌+◌, ◌^◌, ◌++◌};
 ghost use Rattle.arrayvec.specs.ArrayVec.{array_vec_len};
 ghost use Rattle.line_file.specs.Texts.{answer_text, field_line, field_end_line, line_reason, reason, run_reason};

@@ -1,4 +1,4 @@
-//! A line, and the bytes that are appended to it. Next: `numbers`.
+//! A line, and the bytes that are appended to it. Read next: `numbers`.
 ghost use Rattle.std.specs.Prelude.{◌≡◌, ◌+◌, ◌≤◌, ◌++◌, length};
 ghost use Rattle.arrayvec.specs.ArrayVec.{array_vec_len};
 

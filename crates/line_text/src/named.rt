@@ -1,5 +1,4 @@
-//! Truth values, flags and directions in a line; and a direction that is read. Next: `tc_command/src/pushing.rt`,
-//! with the whole line.
+//! Truth values, flags and directions in a line; and a direction that is read.
 ghost use Rattle.std.specs.Prelude.{◌≡◌, ◌+◌, ◌≤◌, ◌<◌, ◌++◌};
 ghost use Rattle.arrayvec.specs.ArrayVec.{array_vec_len};
 ghost use Rattle.line_text.specs.Line.{direction_name, direction_named, flag_digit, flags_text};

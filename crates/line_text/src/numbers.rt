@@ -1,4 +1,4 @@
-//! The numbers of a line, and the test of digits that are read. Next: `named`.
+//! The numbers of a line, and the test of digits that are read. Read next: `named`.
 ghost use Rattle.std.specs.Prelude.{◌≡◌, ◌+◌, ◌≤◌, ◌<◌, ◌^◌, ◌++◌, length, decimal};
 ghost use Rattle.std.specs.Char.{is_ascii_digit};
 ghost use Rattle.std.specs.Fmt.{signed_decimal};

@@ -1,4 +1,4 @@
-//! The intervals of frames, in cells of one length. Next: `frame_commands/src/jam.rt`, which writes them.
+//! The intervals of frames, in cells of one length.
 ghost use Rattle.std.specs.Prelude.{◌≡◌, ◌+◌, ◌≤◌, ◌++◌};
 ghost use Rattle.arrayvec.specs.ArrayVec.{array_vec_len};
 ghost use Rattle.biphase.specs.Chain.{flat, intervals_of};

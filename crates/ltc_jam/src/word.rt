@@ -1,4 +1,4 @@
-//! The word that is written for a label. Next: `ltc_word/src/writing.rt`, which spells it, and then
+//! The word that is written for a label. Read next: `ltc_word/src/writing.rt`, which spells it, and then
 //! `cells`.
 ghost use Rattle.std.specs.Prelude.{◌≡◌, ◌^◌, ◌<◌};
 ghost use Rattle.tc_bits.specs.Fields.{IsFields};

@@ -1,4 +1,4 @@
-//! The balance of a word: whether an even number of its bits is 0. Next: `writing`.
+//! The balance of a word: whether an even number of its bits is 0. Read next: `writing`.
 
 ghost use Rattle.std.specs.Prelude.{◌^◌, ◌<◌, ◌↔◌, IsTrue};
 ghost use Rattle.ltc_word.specs.Balance.{IsBalanced};

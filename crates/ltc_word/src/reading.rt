@@ -1,4 +1,4 @@
-//! Reading a word from its 80 bits. Next: `tc_bits/src/reading.rt`, and with the fields `word`.
+//! Reading a word from its 80 bits. Read next: `tc_bits/src/reading.rt`, and with the fields `word`.
 
 ghost use Rattle.std.specs.Prelude.{◌≡◌, ◌+◌, ◌^◌, ◌<◌, ◌≤◌, IfOk, IfErr, Some};
 ghost use Rattle.ltc_word.specs.Spelling.{Spells};

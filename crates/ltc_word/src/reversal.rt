@@ -1,4 +1,4 @@
-//! Words that are played backward, and the sync word at the end of a word of either direction. Next:
+//! Words that are played backward, and the sync word at the end of a word of either direction. Read next:
 //! `reading`.
 
 ghost use Rattle.std.specs.Prelude.{◌≡◌, ◌-◌, ◌^◌, ◌<◌, ◌↔◌, ℕ, IsTrue};

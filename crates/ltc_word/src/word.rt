@@ -1,4 +1,4 @@
-//! A word and the faults of its bits. Next: `direction_reader/src/event.rt`.
+//! A word and the faults of its bits.
 
 use tc_bits::{FieldFault, Fields};
 use thiserror::Error;

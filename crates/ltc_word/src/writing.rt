@@ -1,4 +1,4 @@
-//! Writing a word as its 80 bits. Next: `ltc_jam/src/cells.rt` and `made_commands/src/ltc_make.rt`.
+//! Writing a word as its 80 bits.
 
 ghost use Rattle.std.specs.Prelude.{◌≡◌, ◌^◌, ◌<◌};
 ghost use Rattle.tc_address.specs.Count.{system_with};

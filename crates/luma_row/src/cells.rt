@@ -1,4 +1,4 @@
-//! The cells of a word, and whether its row counts. Next: `heights`.
+//! The cells of a word, and whether its row counts. Read next: `heights`.
 ghost use Rattle.std.specs.Prelude.{◌≡◌, ℕ, ◌+◌, ◌*◌, ◌^◌, ◌<◌, ◌≤◌, get_or};
 ghost use Rattle.luma_row.specs.Cells.{cell, cells_of, counts, standing_out, stands_out, swing};
 ghost use Rattle.luma_row.specs.KeptCells.{AreCells};

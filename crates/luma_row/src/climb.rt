@@ -1,4 +1,4 @@
-//! From the coarse place to the place of a word. Next: `cells`.
+//! From the coarse place to the place of a word. Read next: `cells`.
 ghost use Rattle.std.specs.Prelude.{◌≡◌, ℕ, ◌+◌, ◌*◌, ◌/◌, ◌%◌, ◌^◌, ◌<◌, ◌≤◌, length};
 ghost use Rattle.luma_row.specs.Choice.{IsFirstBest};
 ghost use Rattle.luma_row.specs.Climb.{moved, neighbour, worth, Climbs, IsPlace};

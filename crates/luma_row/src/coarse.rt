@@ -1,4 +1,4 @@
-//! The coarse place of a word. Next: `climb`.
+//! The coarse place of a word. Read next: `climb`.
 ghost use Rattle.std.specs.Prelude.{◌≡◌, ℕ, ◌+◌, ◌-◌, ◌*◌, ◌/◌, ◌^◌, ◌<◌, ◌≤◌, length, get_or};
 ghost use Rattle.luma_row.specs.Coarse.{best_at, coarse_sum, fall_at, step_to, sum_at, IsCoarse};
 ghost use Rattle.luma_row.specs.KeptBest.{IsBestOf};

@@ -1,4 +1,4 @@
-//! How high the light of each cell stands above its threshold. Next: `levels`.
+//! How high the light of each cell stands above its threshold. Read next: `levels`.
 ghost use Rattle.std.specs.Prelude.{◌≡◌, ℕ, ◌+◌, ◌-◌, ◌*◌, ◌^◌, ◌<◌, ◌≤◌, pos, ◌-ℤ◌, unsigned_abs};
 ghost use Rattle.luma_row.specs.Heights.{above, below, height, heights_of, middle, pair_before, smoothed};
 ghost use Rattle.luma_row.specs.KeptCells.{AreCells};

@@ -1,4 +1,4 @@
-//! What the heights of cells say, and two rows as one. Next: `vitc_reader/src/writing.rt`.
+//! What the heights of cells say, and two rows as one.
 ghost use Rattle.std.specs.Prelude.{◌≡◌, ◌^◌, ◌<◌, ◌≤◌, true, false, not, cond, map, unsigned_abs, IfNone, IfSome};
 ghost use Rattle.std.specs.List.{range_with_len};
 ghost use Rattle.luma_row.specs.Choice.{all_of};

@@ -1,4 +1,4 @@
-//! The light of a row up to a place. Next: `place`.
+//! The light of a row up to a place. Read next: `place`.
 ghost use Rattle.std.specs.Prelude.{◌≡◌, ◌+◌, ◌*◌, ◌^◌, ◌≤◌, length};
 ghost use Rattle.luma_row.specs.KeptLight.{AreSums};
 ghost use Rattle.luma_row.specs.Light.{fall, light, IsRow};

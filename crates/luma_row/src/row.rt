@@ -1,4 +1,4 @@
-//! A row of pixels, read. Next: `levels`.
+//! A row of pixels, read. Read next: `levels`.
 ghost use Rattle.std.specs.Prelude.{◌≡◌, ◌^◌, ◌≤◌, min, max, IfNone, IfSome};
 ghost use Rattle.std.specs.List.{fold};
 ghost use Rattle.luma_row.specs.declared.row.CodeRow.{CodeRow};

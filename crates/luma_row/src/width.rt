@@ -1,4 +1,4 @@
-//! What the width of a row says of the words in it, in sixteenths of a pixel. Next: `light`.
+//! What the width of a row says of the words in it, in sixteenths of a pixel. Read next: `light`.
 ghost use Rattle.std.specs.Prelude.{◌≡◌, ◌≤◌, ◌*◌, ◌^◌, ◌<◌, length};
 ghost use Rattle.luma_row.specs.Light.{IsRow};
 ghost use Rattle.luma_row.specs.Width.{distance, distances, earliest, end, grain, start, starts, ten_cells};

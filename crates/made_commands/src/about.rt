@@ -1,5 +1,5 @@
 //! The commands that tell of the program itself: `help` and `version`.
-//! Next: `tc_command/src/making.rt`.
+//! Read next: `tc_command/src/making.rt`.
 ghost use Rattle.std.specs.Prelude.{◌≡◌, ◌+◌, ◌≤◌, ◌++◌, length, map};
 ghost use Rattle.arrayvec.specs.ArrayVec.{array_vec_len};
 ghost use Rattle.made_commands.specs.About.{help_text, usage_line, usage_lines, version_line};

@@ -1,5 +1,5 @@
 //! The commands that write one line: those that turn labels into numbers and back, and the load run.
-//! Next: `tc_command/src/making.rt`.
+//! Read next: `tc_command/src/making.rt`.
 ghost use Rattle.std.specs.Prelude.{◌≡◌};
 ghost use Rattle.tc_address.specs.Label.{Address};
 ghost use Rattle.tc_address.specs.Numbering.{number_of};

@@ -10,8 +10,8 @@
 //! - The number that is written is the place of the label in its day, and the text is read as the label
 //!   (`specs/Labels.antt`, `NumbersTheLabel`, `NamesTheLabel`).
 //!
-//! Read `ltc_make`, `vitc_make`, `ltc_load` over `chance` and `divisors`, `labels` and `about`. `frame_commands`
-//! stands on this crate, since a recording of frames is spelled as one that is made.
+//! Read `ltc_make`, `vitc_make`, `ltc_load` over `chance` and `divisors`, `labels` and `about`. A recording
+//! of frames is spelled here too, as one that is made.
 #![tactic(auto)]
 
 mod about;

@@ -1,4 +1,4 @@
-//! `ltc-load`: a recording made by chance, and read interval after interval as it is made. Next: `labels`,
+//! `ltc-load`: a recording made by chance, and read interval after interval as it is made. Read next: `labels`,
 //! which has its line.
 ghost use Rattle.std.specs.Prelude.{◌≡◌, ◌≤◌, ◌<◌, ◌+◌, ◌*◌, ◌/◌, ◌%◌, ◌^◌, ◌++◌, [], ◌∷◌, List, ℕ, decimal, fold};
 ghost use Rattle.std.specs.Prelude.{length, Some};

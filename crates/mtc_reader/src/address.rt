@@ -1,4 +1,4 @@
-//! The addresses of messages, and the label of an address or its first fault. Next: `event`.
+//! The addresses of messages, and the label of an address or its first fault. Read next: `event`.
 ghost use Rattle.std.specs.Prelude.{◌≡◌, ◌<◌};
 ghost use Rattle.tc_address.specs.Label.{address};
 ghost use Rattle.mtc_reader.specs.Events.{count_with, full_address, quarter_address, bits_at, full_event};

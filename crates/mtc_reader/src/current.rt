@@ -1,4 +1,4 @@
-//! The message that is on its way. Next: `row`, with a message that is complete.
+//! The message that is on its way. Read next: `row`, with a message that is complete.
 ghost use Rattle.std.specs.Prelude.{◌≡◌, ◌<◌, ◌≤◌, ◌++◌, ℕ, List, [], ◌∷◌};
 ghost use Rattle.mtc_reader.specs.Messages.{current_in, completed_by, full_in};
 ghost use Rattle.mtc_reader.specs.StandsFor.{Keeps, first_nine};

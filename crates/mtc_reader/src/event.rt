@@ -1,4 +1,4 @@
-//! What a reader answers. Next: `texts`.
+//! What a reader answers. Read next: `texts`.
 
 use tc_address::{Direction, Label, LabelFault};
 

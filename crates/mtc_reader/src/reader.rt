@@ -1,4 +1,4 @@
-//! From bytes to events, one byte at a time. Next: `current`, with a byte that is no real-time byte.
+//! From bytes to events, one byte at a time. Read next: `current`, with a byte that is no real-time byte.
 ghost use Rattle.std.specs.Prelude.{◌≡◌, ◌<◌, ◌≤◌, ◌+◌, ◌^◌, ◌++◌, ℕ, List, [], ◌∷◌, None, true, false, length};
 ghost use Rattle.std.specs.Prelude.{take, IfSome};
 ghost use Rattle.mtc_reader.specs.Events.{events_in};

@@ -1,4 +1,4 @@
-//! The row of quarter frames that goes on (`eight`). Next: `address`, with eight of them.
+//! The row of quarter frames that goes on (`eight`). Read next: `address`, with eight of them.
 ghost use Rattle.std.specs.Prelude.{◌≡◌, ℕ, List, [], ◌∷◌, None, true, false, bytes_eq, map};
 ghost use Rattle.std.specs.Prelude.{reverse, slice_index};
 ghost use Rattle.mtc_reader.specs.declared.message.Message.{Message};

@@ -1,4 +1,4 @@
-//! The lines of a report. Next: `line_text/src/line.rt`.
+//! The lines of a report. Read next: `line_text/src/line.rt`.
 ghost use Rattle.std.specs.Prelude.{◌≡◌, ◌+◌, ◌≤◌, ◌++◌, codes};
 ghost use Rattle.arrayvec.specs.ArrayVec.{array_vec_len};
 ghost use Rattle.line_text.specs.Line.{direction_name};

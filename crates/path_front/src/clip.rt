@@ -1,4 +1,4 @@
-//! Clipping spikes. Next: `hold`.
+//! Clipping spikes. Read next: `hold`.
 ghost use Rattle.std.specs.Prelude.{◌≡◌, ℕ, ◌+◌, ◌^◌, ◌<◌, ◌≤◌, ℤ, unsigned_abs, List, [], ◌∷◌};
 ghost use Rattle.path_front.specs.Clip.{clip_at, clipped_to, sizes_of};
 ghost use Rattle.path_front.specs.KeptSizes.{SizesStandFor};

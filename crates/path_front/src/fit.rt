@@ -1,4 +1,4 @@
-//! How well the halves of a cell fit those of its neighbours. Next: `gate`.
+//! How well the halves of a cell fit those of its neighbours. Read next: `gate`.
 ghost use Rattle.std.specs.Prelude.{◌≡◌, ◌+◌, ◌*◌, ◌^◌, ◌<◌, ◌≤◌, Option, IfSome};
 ghost use Rattle.path_front.specs.Fit.{fit_of, half_fit, half_level, is_misfit, moved, outside, usual_after, IsFit};
 ghost use Rattle.path_front.specs.Fit.{IsRange, IsUsual};

@@ -1,4 +1,4 @@
-//! A sound on its way into the intervals of its best path. Next: `laws`.
+//! A sound on its way into the intervals of its best path. Read next: `laws`.
 ghost use Rattle.std.specs.Prelude.{◌≡◌, ℕ, ◌+◌, ◌^◌, ◌<◌, ◌≤◌, ℤ, true, false, IfSome, IfNone, OnSome, List, [], ◌∷◌, ◌++◌, length};
 ghost use Rattle.path_front.specs.Cells.{SameSound};
 ghost use Rattle.path_front.specs.Front.{intervals_left, FrontStandsFor, GivesInterval, GoesOn, IsFrontSettled, IsReady};

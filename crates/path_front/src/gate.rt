@@ -1,4 +1,4 @@
-//! Which cells are code, and which are noise. Next: `tile`.
+//! Which cells are code, and which are noise. Read next: `tile`.
 ghost use Rattle.std.specs.Prelude.{◌≡◌, ◌*◌, ◌^◌, ◌<◌, ◌≤◌, ◌/◌, min, max, IfSome, IfNone, OnSome, List, [], ◌∷◌, ◌++◌};
 ghost use Rattle.std.specs.Prelude.{length, drop, take};
 ghost use Rattle.std.specs.List.{All};

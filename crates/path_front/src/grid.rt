@@ -1,4 +1,4 @@
-//! How samples become steps. Next: `steps`.
+//! How samples become steps. Read next: `steps`.
 /// At most so many steps are made of a sample.
 pub const MAX_REPEATS: u32 = 8;
 

@@ -1,4 +1,4 @@
-//! The mean of neighbouring samples. Next: `steps`.
+//! The mean of neighbouring samples. Read next: `steps`.
 ghost use Rattle.std.specs.Prelude.{◌≡◌, ◌+◌, ◌*◌, ◌^◌, ◌<◌, ◌≤◌, ℕ, unsigned_abs, int_div, pos, IfSome, List, [], ◌∷◌};
 ghost use Rattle.path_front.specs.Grid.{due, GroupStandsFor, IsSounds};
 ghost use Rattle.path_front.specs.declared.group.Sounds.{Sounds};

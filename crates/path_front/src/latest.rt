@@ -1,4 +1,4 @@
-//! The sound of the latest steps. Next: `measured`.
+//! The sound of the latest steps. Read next: `measured`.
 ghost use Rattle.std.specs.Prelude.{◌≡◌, ◌+◌, ◌*◌, ◌^◌, ◌<◌, ◌≤◌, ℤ, unsigned_abs, List, [], ◌∷◌};
 ghost use Rattle.path_front.specs.Latest.{part, sound_ago, sum_of, squares_of, LatestStandFor};
 

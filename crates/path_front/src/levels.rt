@@ -1,4 +1,4 @@
-//! The level of cells. Next: `fit`.
+//! The level of cells. Read next: `fit`.
 ghost use Rattle.std.specs.Prelude.{◌≡◌, ◌+◌, ◌*◌, ◌^◌, ◌<◌, ◌≤◌, ℕ, unsigned_abs, List, ◌∷◌, length, take};
 ghost use Rattle.std.specs.List.{sum_by, All};
 ghost use Rattle.path_front.specs.Levels.{above, is_faint, level_of, mean_level, slowly};

@@ -1,4 +1,4 @@
-//! What is measured of a decided cell. Next: `levels`.
+//! What is measured of a decided cell. Read next: `levels`.
 ghost use Rattle.std.specs.Prelude.{◌≡◌, ◌+◌, ◌*◌, ◌-◌, ◌^◌, ◌<◌, ◌≤◌, ℤ, unsigned_abs, List, [], ◌∷◌};
 ghost use Rattle.cell_path.specs.Path.{signed};
 ghost use Rattle.path_front.specs.Latest.{LatestStandFor};

@@ -1,4 +1,4 @@
-//! The steps of a sound. Next: `latest`.
+//! The steps of a sound. Read next: `latest`.
 ghost use Rattle.std.specs.Prelude.{◌≡◌, ◌+◌, ◌*◌, ◌^◌, ◌<◌, ◌≤◌, ℤ, unsigned_abs, IfSome, IfNone, OnSome, List, []};
 ghost use Rattle.std.specs.Prelude.{◌∷◌};
 ghost use Rattle.cell_path.specs.Scores.{IsStep};

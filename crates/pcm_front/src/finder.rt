@@ -1,4 +1,4 @@
-//! The crossings in a list of sums. Next: `slicer`.
+//! The crossings in a list of sums. Read next: `slicer`.
 ghost use Rattle.std.specs.Prelude.{◌≡◌, ◌+◌, ◌-◌, ◌*◌, ◌<◌, ◌≤◌, ◌^◌, true, false, Some, None, length, slice_range, IfSome};
 ghost use Rattle.std.specs.List.{fold};
 ghost use Rattle.pcm_front.specs.KeptRuns.{latest, RunsTo};

@@ -1,4 +1,4 @@
-//! The level of the sound. Next: `side`.
+//! The level of the sound. Read next: `side`.
 ghost use Rattle.std.specs.Prelude.{◌≡◌, ◌≤◌, ◌<◌, ◌^◌, unsigned_abs, length, slice_range};
 ghost use Rattle.std.specs.List.{fold};
 ghost use Rattle.pcm_front.specs.Level.{silent, level_after, half_height, quarter_height, IsInRange, IsSum};

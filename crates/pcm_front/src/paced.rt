@@ -1,4 +1,4 @@
-//! The intervals of samples, as they are written. Next: `tc_command/src/gathered.rt`.
+//! The intervals of samples, as they are written.
 ghost use Rattle.std.specs.Prelude.{◌≡◌, ℕ, ℤ, ◌+◌, ◌-◌, ◌*◌, ◌<◌, ◌≤◌, ◌^◌, List, ◌++◌, length, take, None, IfSome};
 ghost use Rattle.pcm_front.specs.Distance.{distances_by};
 ghost use Rattle.pcm_front.specs.Pace.{intervals_at, intervals_in, longest, IsPace};

@@ -1,4 +1,4 @@
-//! Samples that lead to no other side, many at once. Next: `threshold`.
+//! Samples that lead to no other side, many at once. Read next: `threshold`.
 ghost use Rattle.std.specs.Prelude.{◌≡◌, ℕ, Some, ◌+◌, ◌<◌, ◌≤◌, ◌^◌, pos, ◌+ℤ◌, ◌≤ℤ◌, FitsSigned, not, length, map};
 ghost use Rattle.std.specs.Prelude.{slice_range};
 ghost use Rattle.std.specs.Simd.Lanes.{mask_l};

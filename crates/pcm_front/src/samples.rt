@@ -1,4 +1,4 @@
-//! Samples in a row, as numbers or as bytes. Next: `window`.
+//! Samples in a row, as numbers or as bytes. Read next: `window`.
 ghost use Rattle.std.specs.Prelude.{◌≡◌, ◌<◌, ℤ, pos, List, length, get_or};
 ghost use Rattle.pcm_front.specs.Samples.{samples_of};
 

@@ -1,4 +1,4 @@
-//! The sides of the threshold. Next: `crossing`.
+//! The sides of the threshold. Read next: `crossing`.
 ghost use Rattle.std.specs.Prelude.{◌≡◌, ◌≤◌, cond, None};
 ghost use Rattle.pcm_front.specs.Level.{IsSum};
 ghost use Rattle.pcm_front.specs.Side.{side_of, stays, differs, upward};

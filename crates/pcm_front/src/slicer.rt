@@ -1,4 +1,4 @@
-//! The slicer. Next: `interval`.
+//! The slicer. Read next: `interval`.
 ghost use Rattle.std.specs.Prelude.{◌≡◌, ℕ, ℤ, ◌+◌, ◌-◌, ◌*◌, ◌<◌, ◌≤◌, ◌^◌, List, [], ◌∷◌, ◌++◌, length, take};
 ghost use Rattle.std.specs.Prelude.{slice_range, None, IfSome, unsigned_abs, pos, ◌≤ℤ◌};
 ghost use Rattle.std.specs.Option.{option_to_list};

@@ -1,4 +1,4 @@
-//! Samples in whose sums the sound stays on its side. Next: `finder`.
+//! Samples in whose sums the sound stays on its side. Read next: `finder`.
 ghost use Rattle.std.specs.Prelude.{◌≤◌, length};
 ghost use Rattle.pcm_front.specs.KeptRuns.{PassesTo};
 ghost use Rattle.pcm_front.specs.Level.{IsInRange, IsSum};

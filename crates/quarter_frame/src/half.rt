@@ -1,4 +1,4 @@
-//! The two halves of an address in quarter frames. Next: `message`.
+//! The two halves of an address in quarter frames. Read next: `message`.
 ghost use Rattle.std.specs.Prelude.{◌≡◌, ◌≤◌, ◌+◌, ◌-◌, [], ◌∷◌};
 ghost use Rattle.quarter_frame.specs.Runs.{four_of, is_even, quarters};
 ghost use Rattle.quarter_frame.specs.StandsFor.{other_half, position_of};

@@ -1,4 +1,4 @@
-//! The messages of MIDI Time Code. Next: `tc_command/src/pushing.rt`.
+//! The messages of MIDI Time Code.
 ghost use Rattle.std.specs.Prelude.{◌≡◌, ◌≤◌, ◌<◌, slice_index, true, false, List, [], ◌∷◌};
 ghost use Rattle.tc_address.specs.Numbering.{step};
 ghost use Rattle.quarter_frame.specs.Message.{code_of, full_of, pieces_of, quarter_of};

@@ -1,4 +1,4 @@
-//! The writer of the messages. Next: `half`.
+//! The writer of the messages. Read next: `half`.
 ghost use Rattle.std.specs.Prelude.{◌≡◌, ◌≤◌, IfSome, List, [], ◌∷◌, ◌++◌, Option, None, Some, true, false, not, take};
 ghost use Rattle.std.specs.Prelude.{drop, length};
 ghost use Rattle.tc_address.specs.declared.direction.Direction.{Direction};

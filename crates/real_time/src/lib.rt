@@ -12,8 +12,8 @@
 //! - Each of these is one number; a frame comes back from its millisecond, and from the frame of a rate that is as fast
 //!   or faster (`laws`).
 //!
-//! Read `rate`, `moment` and `laws`, in this order, and the files of specs/ beside them. `label_lines` stands on this
-//! crate. Nothing here allocates or fails.
+//! Read `rate`, `moment` and `laws`, in this order, and the files of specs/ beside them. Nothing here
+//! allocates or fails.
 #![tactic(auto)]
 
 pub mod laws;

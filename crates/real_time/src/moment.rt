@@ -1,4 +1,4 @@
-//! When the frames of a rate begin, and which frame of another rate is shown then. Next: `laws`.
+//! When the frames of a rate begin, and which frame of another rate is shown then. Read next: `laws`.
 ghost use Rattle.std.specs.Prelude.{◌≡◌, ◌≤◌, ◌<◌, ◌^◌};
 ghost use Rattle.real_time.specs.declared.moment.TheConstants.{MAX_FRAMES, MAX_MILLISECONDS};
 ghost use Rattle.real_time.specs.Moment.{IsFrameOf, IsMillisecondOf, IsNearest, IsShown};

@@ -1,4 +1,4 @@
-//! How many frames pass in real time. Next: `moment`.
+//! How many frames pass in real time. Read next: `moment`.
 ghost use Rattle.std.specs.Prelude.{◌≡◌, ◌≤◌};
 ghost use Rattle.real_time.specs.Rate.{frames_in, seconds_of};
 

@@ -1,4 +1,4 @@
-//! The line of an event. Next: `line_text/src/line.rt`.
+//! The line of an event. Read next: `line_text/src/line.rt`.
 ghost use Rattle.std.specs.Prelude.{◌≡◌, ◌+◌, ◌<◌, ◌≤◌, ◌^◌, ◌++◌, codes};
 ghost use Rattle.arrayvec.specs.ArrayVec.{array_vec_len};
 ghost use Rattle.line_text.specs.Line.{direction_name, flag_digit, flags_text, user_text};

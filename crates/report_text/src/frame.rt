@@ -1,4 +1,4 @@
-//! The line of a flywheel's frame. Next: `line_text/src/line.rt`.
+//! The line of a flywheel's frame. Read next: `line_text/src/line.rt`.
 ghost use Rattle.std.specs.Prelude.{◌≡◌, ◌<◌, ◌^◌};
 ghost use Rattle.report_text.specs.FrameTexts.{frame_line, FitsFrameLine};
 ghost use Rattle.flywheel.specs.declared.frame.Frame.{Frame};

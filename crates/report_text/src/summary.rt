@@ -1,4 +1,4 @@
-//! The last lines of the reports. Next: `line_text/src/line.rt`.
+//! The last lines of the reports. Read next: `line_text/src/line.rt`.
 ghost use Rattle.std.specs.Prelude.{◌≡◌, ◌<◌, ◌^◌};
 ghost use Rattle.report_text.specs.FrameTexts.{fly_end_line};
 ghost use Rattle.report_text.specs.Texts.{read_end_line};

@@ -1,4 +1,4 @@
-//! The engine of `mtc-read`: a line of each event of MIDI bytes. Next: `mtc_reader/src/reader.rt`, and
+//! The engine of `mtc-read`: a line of each event of MIDI bytes. Read next: `mtc_reader/src/reader.rt`, and
 //! then `mtc_reader/src/texts.rt`.
 ghost use Rattle.std.specs.Prelude.{◌≡◌, ◌≤◌, ◌<◌, ◌+◌, ◌++◌, ℕ, List, [], length, take, OnOk, OnErr, IfErr};
 ghost use Rattle.std.specs.Io.KnownBytes.{Appends};

@@ -1,4 +1,4 @@
-//! The engine of `pcm-ltc`: an interval file of the crossings of sound. Next:
+//! The engine of `pcm-ltc`: an interval file of the crossings of sound. Read next:
 //! `pcm_front/src/slicer.rt`, and then `tc_command/src/gathered.rt`.
 ghost use Rattle.std.specs.Prelude.{◌≡◌, ◌+◌, ◌*◌, ◌≤◌, ◌++◌, ℕ, List, [], length, take, OnOk, IfOk, IfErr, Err};
 ghost use Rattle.std.specs.Io.KnownBytes.{Appends};

@@ -1,4 +1,4 @@
-//! The engine of `pcm-ltc .. path`: an interval file of the cells of the best path through a sound. Next:
+//! The engine of `pcm-ltc .. path`: an interval file of the cells of the best path through a sound. Read next:
 //! `path_front/src/front.rt`, and then `tc_command/src/gathered.rt`.
 ghost use Rattle.std.specs.Prelude.{◌≡◌, ◌+◌, ◌<◌, ◌++◌, [], OnErr, OnOk, IfErr, Err, List, ℕ, ℤ};
 ghost use Rattle.std.specs.Io.KnownBytes.{Appends};

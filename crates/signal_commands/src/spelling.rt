@@ -1,4 +1,4 @@
-//! Intervals, as an interval file of version 1 has them. Next: `tc_command/src/gathered.rt`.
+//! Intervals, as an interval file of version 1 has them. Read next: `tc_command/src/gathered.rt`.
 ghost use Rattle.std.specs.Prelude.{◌≡◌, ◌≤◌, ◌++◌, replicate, IfSome, OnOk, OnErr, IfErr};
 ghost use Rattle.std.specs.Option.{option_to_list};
 ghost use Rattle.pcm_front.specs.Distance.{IsInterval};

@@ -1,4 +1,4 @@
-//! A stop of the input, behind what was gathered before it. Next: `tc_command/src/gathered.rt`.
+//! A stop of the input, behind what was gathered before it. Read next: `tc_command/src/gathered.rt`.
 ghost use Rattle.std.specs.Prelude.{◌≡◌};
 ghost use Rattle.tc_command.specs.Causes.{OutCause};
 ghost use Rattle.tc_command.specs.Status.{status_of};

@@ -1,4 +1,4 @@
-//! The engine of `vitc-read`: a line of each field of a line file. Next: `line_file/src/decoder.rt`, and
+//! The engine of `vitc-read`: a line of each field of a line file. Read next: `line_file/src/decoder.rt`, and
 //! then `line_file/src/texts.rt`.
 ghost use Rattle.std.specs.Prelude.{◌≡◌, ◌<◌, ◌≤◌, ◌+◌, [], OnOk, OnErr, IfErr};
 ghost use Rattle.std.specs.Io.KnownBytes.{Appends};

@@ -1,4 +1,4 @@
-//! The engine of `wav-ltc`: an interval file of the crossings of a track of a sound file. Next:
+//! The engine of `wav-ltc`: an interval file of the crossings of a track of a sound file. Read next:
 //! `wave_file/src/decoder.rt`, then `pcm_front/src/slicer.rt`, and then `tc_command/src/gathered.rt`.
 ghost use Rattle.std.specs.Prelude.{◌≡◌, ◌+◌, ◌*◌, ◌≤◌, ◌<◌, ◌^◌, ◌++◌, ℕ, ℤ, List, [], length, take, None, OnOk};
 ghost use Rattle.std.specs.Prelude.{OnErr, IfOk, IfErr, IfSome, Err};

@@ -3,8 +3,6 @@
 //! What no clause says of a crate, or what was known before it: values from standards, from other
 //! software, and worked out by hand, a module for each crate. They stand here since a crate with tests
 //! in it is proved twice.
-//!
-//! Nothing stands on this crate.
 #![tactic(auto)]
 
 #[cfg(test)]

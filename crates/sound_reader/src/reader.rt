@@ -1,4 +1,4 @@
-//! A reader of sound. Next: `laws`.
+//! A reader of sound. Read next: `laws`.
 ghost use Rattle.std.specs.Prelude.{◌≡◌, ◌+◌, ◌≤◌, ◌<◌, ◌↔◌, IsTrue, [], length, take, false};
 ghost use Rattle.direction_reader.specs.Events.{event_list, no_events};
 ghost use Rattle.limits.specs.declared.recording.TheConstants.{MAX_INTERVAL, MAX_INTERVALS};

@@ -1,4 +1,4 @@
-//! How a sound is read. Next: `waiting`.
+//! How a sound is read. Read next: `waiting`.
 ghost use Rattle.std.specs.Prelude.{IsTrue, ◌↔◌};
 ghost use Rattle.pcm_front.specs.Pace.{IsPace};
 ghost use Rattle.pcm_front.specs.State.{IsThreshold};

@@ -26,8 +26,8 @@
 //! - Sound that is made of a steady tape has a margin (`specs/Made.antt`).
 //!
 //! Read `specs/Late.antt`, `Margin`, `Ramps`, `Heard`, `OnTime`, `EvenTape`, `Part` and `Made`, in this
-//! order, and `laws` and `rough_laws` beside them. `sound_report` stands on this crate, and says the same
-//! of what the commands write. Nothing here runs, and no law says how much noise a recording has.
+//! order, and `laws` and `rough_laws` beside them. Nothing here runs, and no law
+//! says how much noise a recording has.
 #![tactic(auto)]
 
 pub mod laws;

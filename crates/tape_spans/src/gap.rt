@@ -1,4 +1,4 @@
-//! What stands between two spans. Next: `tape`.
+//! What stands between two spans. Read next: `tape`.
 ghost use Rattle.std.specs.Prelude.{◌≡◌, ◌≤◌, unsigned_abs};
 ghost use Rattle.tape_spans.specs.Gap.{gap_between, relation_of, step_between};
 

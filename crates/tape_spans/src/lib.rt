@@ -19,8 +19,8 @@
 //!   neighbours could be one (`laws::spans_share_the_frames_out`). So the last label of a span is its first
 //!   one, stepped by the frames between them (`laws::a_span_ends_stepped`).
 //!
-//! Read `span`, `gap`, `place`, `tape` and `texts`, in this order, with the files of the same names in
-//! specs/ beside them. `frame_commands` stands on this crate. Nothing here allocates or fails.
+//! Read `span`, `gap`, `place`, `tape` and `texts`, in this order, with the files of the same names in specs/
+//! beside them. Nothing here allocates or fails.
 #![tactic(auto)]
 
 mod gap;

@@ -1,4 +1,4 @@
-//! A frame that was heard, and a span of the tape. Next: `gap`.
+//! A frame that was heard, and a span of the tape. Read next: `gap`.
 
 use tc_address::{Direction, Label};
 

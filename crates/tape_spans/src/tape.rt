@@ -1,4 +1,4 @@
-//! The spans of a tape, a frame at a time. Next: `texts`.
+//! The spans of a tape, a frame at a time. Read next: `texts`.
 ghost use Rattle.std.specs.Prelude.{◌≡◌, ℕ, ◌+◌, ◌-◌, ◌<◌, ◌≤◌, ◌^◌, List, [], ◌∷◌, ◌++◌, IfSome};
 ghost use Rattle.flywheel.specs.declared.frame.Frame.{Frame};
 ghost use Rattle.tc_address.specs.declared.system.System.{System};

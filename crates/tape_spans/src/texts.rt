@@ -1,4 +1,4 @@
-//! The lines of spans and gaps. Next: `line_text/src/line.rt`.
+//! The lines of spans and gaps. Read next: `line_text/src/line.rt`.
 ghost use Rattle.std.specs.Prelude.{◌≡◌, ◌+◌, ◌≤◌, ◌<◌, ◌^◌, ◌++◌, length, codes, decimal};
 ghost use Rattle.arrayvec.specs.ArrayVec.{array_vec_len};
 ghost use Rattle.tc_address.specs.Spelling.{text_of};

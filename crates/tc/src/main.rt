@@ -1,4 +1,4 @@
-//! `tc`, the timecode toolkit of a post-production machine room. Next: `tc_program/src/streams.rt`, for the
+//! `tc`, the timecode toolkit of a post-production machine room. Read next: `tc_program/src/streams.rt`, for the
 //! arguments, the standard streams and the exit code.
 #![tactic(auto)]
 

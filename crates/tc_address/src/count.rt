@@ -1,4 +1,4 @@
-//! How the frames of a day are counted, and the system of each count. Next: `label`.
+//! How the frames of a day are counted, and the system of each count. Read next: `label`.
 ghost use Rattle.std.specs.Prelude.{◌≡◌};
 ghost use Rattle.tc_address.specs.Count.{system_with};
 

@@ -1,4 +1,4 @@
-//! The way in which the tape moves. Next: `label`, which rises or falls.
+//! The way in which the tape moves. Read next: `label`, which rises or falls.
 /// The way in which the tape moves.
 #[derive(Clone, Copy, Debug, PartialEq, Eq)]
 pub enum Direction {

@@ -1,4 +1,4 @@
-//! How many addresses drop-frame counting dropped so far, by closed arithmetic. Next: `circle`.
+//! How many addresses drop-frame counting dropped so far, by closed arithmetic. Read next: `circle`.
 ghost use Rattle.std.specs.Prelude.{◌≡◌, ◌<◌};
 ghost use Rattle.tc_address.specs.DropFrame.{dropped_before, dropped_until};
 ghost use Rattle.tc_address.specs.Numbering.{day_length};

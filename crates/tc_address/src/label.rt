@@ -1,4 +1,4 @@
-//! A frame address that is a label of its count, and the first fault of one that is none. Next:
+//! A frame address that is a label of its count, and the first fault of one that is none. Read next:
 //! `numbering`.
 ghost use Rattle.std.specs.Prelude.{◌≡◌, IfOk, IfErr};
 ghost use Rattle.tc_address.specs.Label.{address, is_dropped_by, IsLabel, IsFirstFault};

@@ -19,10 +19,9 @@
 //! - Within a day number and label are inverse, steps add up, one way is shortest, and a text has one
 //!   label (`laws`).
 //!
-//! Read `system`, `count`, `label`, `numbering`, `drop_frame`, `circle`, `digits` and `spelling`, in this order, with
-//! the file of the same name in specs/ beside it (that of `system` is `specs/Count.antt`, that of `digits` is
-//! `specs/Spelling.antt`). The other crates of the workspace that speak of labels stand on this one. Nothing here
-//! allocates, and no call fails in any other way.
+//! Read `system`, `count`, `label`, `numbering`, `drop_frame`, `circle`, `digits` and `spelling`, in this
+//! order, with the file of the same name in specs/ beside it (that of `system` is `specs/Count.antt`, that of
+//! `digits` is `specs/Spelling.antt`). Nothing here allocates, and no call fails in any other way.
 #![tactic(auto)]
 
 mod circle;

@@ -1,4 +1,4 @@
-//! The number of a label in the list of its day, and the label of a number. Next: `drop_frame`.
+//! The number of a label in the list of its day, and the label of a number. Read next: `drop_frame`.
 ghost use Rattle.std.specs.Prelude.{◌≡◌, ◌+◌, ◌*◌, ◌%◌, ◌<◌, ◌≤◌, ◌↔◌, length, slice_get, IfSome, IsNone};
 ghost use Rattle.tc_address.specs.Label.{labels, IsLabel};
 ghost use Rattle.tc_address.specs.Numbering.{day_length, number_of, step};

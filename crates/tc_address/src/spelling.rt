@@ -1,5 +1,4 @@
-//! The text of a label, and the label of a text or the text's first fault. Next: `line_text/src/line.rt`,
-//! with the text of a label.
+//! The text of a label, and the label of a text or the text's first fault.
 ghost use Rattle.std.specs.Prelude.{◌≡◌, ◌+◌, ◌<◌, length, slice_index, IfOk, IfErr, IfSome, IfNone, IsTrue};
 ghost use Rattle.std.specs.Prelude.{MatchResult};
 ghost use Rattle.tc_address.specs.Label.{Address, IsLabel};

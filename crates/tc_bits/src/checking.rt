@@ -1,4 +1,4 @@
-//! From the digits of a word to its fields, or to their first fault. Next: `fields`, or `fault`.
+//! From the digits of a word to its fields, or to their first fault. Read next: `fields`, or `fault`.
 
 ghost use Rattle.std.specs.Prelude.{◌≡◌, ◌+◌, ◌*◌, ◌<◌, IfOk, IfErr, Some};
 ghost use Rattle.tc_address.specs.declared.system.System.{System};

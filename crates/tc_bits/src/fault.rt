@@ -1,4 +1,4 @@
-//! Why the digits and flags of a word are no address. Next: `names`.
+//! Why the digits and flags of a word are no address. Read next: `names`.
 
 ghost use Rattle.std.specs.Prelude.{◌≡◌};
 ghost use Rattle.tc_bits.specs.Fault.{name_of};

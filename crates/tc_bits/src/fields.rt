@@ -1,4 +1,4 @@
-//! The fields of a word that say an address. Next: `tc_address/src/label.rt`, and then `flags`.
+//! The fields of a word that say an address. Read next: `tc_address/src/label.rt`, and then `flags`.
 
 ghost use Rattle.std.specs.Prelude.{◌≡◌, IfOk, IfErr, true, false};
 ghost use Rattle.tc_bits.specs.Fields.{field_values, agrees, IsFields};

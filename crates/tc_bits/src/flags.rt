@@ -1,4 +1,4 @@
-//! The flag bits of a word. Next: `user_bits`.
+//! The flag bits of a word. Read next: `user_bits`.
 
 /// The flag bits of a word, kept bit for bit.
 #[derive(Clone, Copy, Debug, PartialEq, Eq)]

@@ -1,5 +1,4 @@
-//! The names of the faults of the fields, as lines print them. This project's own. Next:
-//! `report_text/src/event.rt` and `line_file/src/texts.rt`, which print them.
+//! The names of the faults of the fields, as lines print them. This project's own.
 
 /// The name of `FieldFault::FrameUnits`.
 pub const FRAME_UNITS: &str = "frame-units";

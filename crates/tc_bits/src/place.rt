@@ -1,4 +1,4 @@
-//! Where a field stands in a register of bits. Next: `register`.
+//! Where a field stands in a register of bits. Read next: `register`.
 
 ghost use Rattle.std.specs.Prelude.{◌≡◌, ◌*◌, ◌^◌, ◌<◌};
 ghost use Rattle.tc_bits.specs.Register.{IsPlace, number_in};

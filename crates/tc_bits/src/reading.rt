@@ -1,4 +1,4 @@
-//! Reading the fields of a word from their places. Next: `raw`.
+//! Reading the fields of a word from their places. Read next: `raw`.
 
 ghost use Rattle.std.specs.Prelude.{◌≡◌, ◌<◌, IfOk, IfErr, Some, true};
 ghost use Rattle.tc_bits.specs.Fault.{first_field_fault};

@@ -1,4 +1,4 @@
-//! Reading some neighbouring bits of a register. Next: `reading` and `writing`.
+//! Reading some neighbouring bits of a register. Read next: `reading` and `writing`.
 
 ghost use Rattle.std.specs.Prelude.{◌≡◌, ◌+◌, ◌≤◌};
 ghost use Rattle.tc_bits.specs.Register.{field};

@@ -1,5 +1,4 @@
-//! The user bits of a word: eight groups of four bits each. Next: `ltc_word/src/word.rt` and
-//! `vitc_line/src/word.rt`.
+//! The user bits of a word: eight groups of four bits each.
 
 ghost use Rattle.std.specs.Prelude.{◌≡◌, ◌^◌, ◌<◌};
 

@@ -1,5 +1,4 @@
-//! Writing the fields of a word in their places. Next: `ltc_word/src/writing.rt` and
-//! `vitc_line/src/writing.rt`.
+//! Writing the fields of a word in their places.
 
 ghost use Rattle.std.specs.Prelude.{◌≡◌, ◌*◌, ◌^◌, ◌<◌, ◌≤◌, true};
 ghost use Rattle.tc_bits.specs.Row.{sum_of};

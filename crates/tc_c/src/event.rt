@@ -1,4 +1,4 @@
-//! An event in numbers. Next: `settings`.
+//! An event in numbers. Read next: `settings`.
 ghost use Rattle.std.specs.Prelude.{◌≡◌};
 ghost use Rattle.tc_c.specs.CEvent.{c_event, c_word, count_number, direction_number, fault_number, flag_bits};
 

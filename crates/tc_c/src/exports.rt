@@ -1,4 +1,4 @@
-//! The functions that C calls. Next: `laws`.
+//! The functions that C calls. Read next: `laws`.
 ghost use Rattle.std.specs.Prelude.{◌≡◌, ◌+◌, ◌≤◌, [], length, take, drop, true, false};
 ghost use Rattle.std.specs.Align.{type_align};
 ghost use Rattle.std.specs.Mem.{type_size};

@@ -1,4 +1,4 @@
-//! A handle for C: where a reader lies in the caller's memory. Next: `opening`.
+//! A handle for C: where a reader lies in the caller's memory. Read next: `opening`.
 ghost use Rattle.sound_reader.specs.Sound.{SoundState};
 ghost use Rattle.tc_c.specs.contracts.kept.KeptReader.{the_row};
 

@@ -1,4 +1,4 @@
-//! A reader as it lies in memory of the caller's. Next: `write`.
+//! A reader as it lies in memory of the caller's. Read next: `write`.
 use sound_reader::SoundReader;
 use std::marker::Model;
 

@@ -1,4 +1,4 @@
-//! What every command that reads an input is: an engine that takes what was pulled. Next: `intake`, which
+//! What every command that reads an input is: an engine that takes what was pulled. Read next: `intake`, which
 //! gives it the bytes.
 ghost use Rattle.std.specs.Prelude.{◌≡◌, ℕ, ◌<◌, ◌≤◌, List, ◌++◌, length, take, OnOk, IfOk, IfErr, Err};
 ghost use Rattle.std.specs.Io.KnownBytes.{Appends};

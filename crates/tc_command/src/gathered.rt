@@ -1,4 +1,4 @@
-//! Output that is gathered in fixed room, and pushed piece by piece. Next: `pushing`.
+//! Output that is gathered in fixed room, and pushed piece by piece. Read next: `pushing`.
 ghost use Rattle.std.specs.Prelude.{◌≡◌, ◌≤◌, List, ℕ, [], ◌++◌, length, OnOk, OnErr, IfErr};
 ghost use Rattle.std.specs.Io.KnownBytes.{Appends};
 ghost use Rattle.tc_io.specs.Sink.{AppendsFront};

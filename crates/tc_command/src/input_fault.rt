@@ -1,4 +1,4 @@
-//! The fault of an input, whatever a command reads. Next: `stop`.
+//! The fault of an input, whatever a command reads. Read next: `stop`.
 ghost use Rattle.std.specs.Prelude.{◌≡◌};
 
 use interval_file::IntervalFileFault;

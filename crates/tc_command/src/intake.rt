@@ -1,6 +1,4 @@
-//! The way of the input into an engine, the same for each command. Next: `interval_engine/src/along.rt`,
-//! `signal_commands/src/pcm_ltc.rt`, `signal_commands/src/wav_ltc.rt`, `signal_commands/src/mtc_read.rt` or
-//! `signal_commands/src/vitc_read.rt`.
+//! The way of the input into an engine, the same for each command.
 ghost use Rattle.std.specs.Prelude.{◌≡◌, ℕ, ◌<◌, List, ◌++◌, [], length, true, OnOk, IfErr, Err};
 ghost use Rattle.std.specs.Io.KnownBytes.{Appends};
 ghost use Rattle.tc_io.specs.Bytes.{AreBytes};

@@ -1,9 +1,8 @@
 //! A command of the program, whatever it reads and writes: what that is, how it is worked between a
 //! source and a sink, and how it ends.
 //!
-//! A command that reads is an `Engine`: it takes what was pulled, and `work` pulls its input to the end.
-//! One that reads nothing is a `Maker`, whose output `make` pushes piece by piece. Both run in fixed
-//! memory. The crates of the commands stand on this one, and `tc_top` on all of them.
+//! A command that reads is an `Engine`: it takes what was pulled, and `work` pulls its input to the end. One
+//! that reads nothing is a `Maker`, whose output `make` pushes piece by piece. Both run in fixed memory.
 //!
 //! What this crate promises, for all sources and sinks:
 //! - What a command takes and writes is its `Meaning` (`specs/Meaning.antt`), and a run of it has come to

@@ -1,5 +1,5 @@
 //! The way out of a command that reads nothing: its output goes out piece by piece, in fixed room.
-//! Next: `piece`, and then `pushing`.
+//! Read next: `piece`, and then `pushing`.
 ghost use Rattle.std.specs.Prelude.{◌≡◌, ℕ, ◌<◌, ◌≤◌, List, [], ◌++◌, true, false, OnOk, OnErr, IfErr};
 ghost use Rattle.std.specs.Io.KnownBytes.{Appends};
 ghost use Rattle.tc_io.specs.Sink.{AppendsFront};

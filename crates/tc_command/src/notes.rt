@@ -1,4 +1,4 @@
-//! The notes: one line for each status but Done. Next: `tc_io/src/sink.rt`.
+//! The notes: one line for each status but Done. Read next: `tc_io/src/sink.rt`.
 ghost use Rattle.std.specs.Prelude.{◌≡◌, ◌++◌, ◌+◌, ◌≤◌, ◌<◌, ◌^◌, length, codes, decimal};
 ghost use Rattle.std.specs.Io.KnownBytes.{Appends};
 ghost use Rattle.tc_io.specs.Source.{Rose};

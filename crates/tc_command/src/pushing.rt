@@ -1,4 +1,4 @@
-//! The way of a line or a piece to the output. Next:
+//! The way of a line or a piece to the output. Read next:
 //! `tc_io/src/sink.rt`.
 ghost use Rattle.std.specs.Prelude.{◌≡◌, OnOk, OnErr, IfErr};
 ghost use Rattle.std.specs.Io.KnownBytes.{Appends};

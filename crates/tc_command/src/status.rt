@@ -1,4 +1,4 @@
-//! How a run ended. Next: `notes`.
+//! How a run ended. Read next: `notes`.
 ghost use Rattle.std.specs.Prelude.{◌≡◌};
 ghost use Rattle.tc_command.specs.Status.{code_of, status_of, status_of_words};
 

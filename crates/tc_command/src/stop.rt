@@ -1,4 +1,4 @@
-//! Why a job stopped before its end. Next: `status`.
+//! Why a job stopped before its end. Read next: `status`.
 use crate::input_fault::InputFault;
 use tc_io::Failed;
 

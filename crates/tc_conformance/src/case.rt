@@ -1,4 +1,4 @@
-//! A row of the table: what goes into a run, and what has to come out. Next: `sweeps`.
+//! A row of the table: what goes into a run, and what has to come out. Read next: `sweeps`.
 use crate::cell::bytes_of;
 use crate::trial::{Runner, Trial, words_of};
 use std::alloc::{AllocError, Global};

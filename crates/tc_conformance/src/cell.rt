@@ -1,4 +1,4 @@
-//! The bytes that a cell of the table says. Next: `case`.
+//! The bytes that a cell of the table says. Read next: `case`.
 ghost use Rattle.std.specs.Prelude.{IfSome, ◌<◌};
 
 use crate::trial::{Runner, Trial, words_of};

@@ -1,5 +1,5 @@
 //! What is compared of a case: its run as a whole, in pieces, with calls that fail in turn, with sinks that are
-//! full, and with inputs that end early. Next: `main`.
+//! full, and with inputs that end early. Read next: `main`.
 use crate::case::{Case, LONGEST_PULL, READ_FAULT, pull_behind};
 use crate::trial::{Ended, Runner, Trial};
 use std::alloc::AllocError;

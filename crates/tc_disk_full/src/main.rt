@@ -1,5 +1,5 @@
 //! `tc` on a disk that is full, in the gate: no byte of the version can be written, and it ends with 5.
-//! Next: `tc_program/src/streams.rt`.
+//! Read next: `tc_program/src/streams.rt`.
 #![tactic(auto)]
 
 use std::fs;

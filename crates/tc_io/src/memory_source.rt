@@ -1,4 +1,4 @@
-//! A source over bytes in memory that is cut and fails as it is told. Next: `steady_source`.
+//! A source over bytes in memory that is cut and fails as it is told. Read next: `steady_source`.
 ghost use Rattle.std.specs.Prelude.{◌≡◌, ℕ, List, ◌++◌, length, take, drop, Some, IfOk, OnErr};
 ghost use Rattle.std.specs.Io.{ReadsAtMost};
 ghost use Rattle.std.specs.Io.KnownBytes.{ReadConsumes};

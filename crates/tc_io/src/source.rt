@@ -1,4 +1,4 @@
-//! What is pulled for bytes. Next: `tc_command/src/intake.rt`, which pulls.
+//! What is pulled for bytes.
 ghost use Rattle.std.specs.Prelude.{◌≡◌, ℕ, List, Option, None, length};
 ghost use Rattle.std.specs.Io.{ReadsAtMost};
 ghost use Rattle.std.specs.Io.KnownBytes.{ReadConsumes};

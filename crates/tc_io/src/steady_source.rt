@@ -1,4 +1,4 @@
-//! A source over bytes in memory that never fails. Next: `memory_sink`.
+//! A source over bytes in memory that never fails. Read next: `memory_sink`.
 ghost use Rattle.std.specs.Prelude.{◌≡◌, ◌++◌, length, take, drop, Some, IfOk};
 ghost use Rattle.std.specs.Io.{ReadsAtMost};
 ghost use Rattle.std.specs.Io.KnownBytes.{ReadConsumes};

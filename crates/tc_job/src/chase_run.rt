@@ -1,5 +1,5 @@
 //! What `ltc-chase` is told: where the chase begins, how the frames are had that it follows, and how the
-//! transport slips. Next: `frame_commands/src/ltc_chase.rt`, which makes it.
+//! transport slips.
 ghost use Rattle.std.specs.Prelude.{◌≡◌};
 ghost use Rattle.tc_job.specs.ChaseRun.{IsChasing, chasing_of};
 

@@ -1,4 +1,4 @@
-//! The first fault of the words. Next: `tc_command/src/notes.rt`.
+//! The first fault of the words.
 use std::alloc::AllocError;
 use thiserror::Error;
 

@@ -1,4 +1,4 @@
-//! How the frames of a recording are had. Next: `frame_commands/src/flight.rt`, which has them.
+//! How the frames of a recording are had.
 use crate::witness::Witness;
 use biphase::Profile;
 

@@ -1,5 +1,4 @@
-//! What `ltc-jam` is told: how the frames are had, and what the clean recording is made of. Next:
-//! `frame_commands/src/jam.rt`, which makes it.
+//! What `ltc-jam` is told: how the frames are had, and what the clean recording is made of.
 ghost use Rattle.std.specs.Prelude.{◌≡◌};
 ghost use Rattle.tc_job.specs.Jam.{IsJamming, jamming_of};
 

@@ -1,4 +1,4 @@
-//! What the words name. Next: `tc_top/src/streaming.rt`, which does it.
+//! What the words name.
 use crate::chase_run::ChaseRun;
 use crate::flight::Flight;
 use crate::jam::Jam;

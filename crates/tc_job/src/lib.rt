@@ -7,9 +7,8 @@
 //! `specs/`, as `IsStripe` of `Stripe.antt`), and gives back what it was made of.
 //!
 //! Read `fault`, `job`, `stripe`, `flight`, `jam`, `chase_run`, `line_stripe`, `load_run`, `pace`, `slicing`,
-//! `path_grid`, `path_slicing`, `sound_level`, `wave_slicing` and `witness`, with `specs/` beside them, and `usages`,
-//! the table that `help` prints.
-//! `tc_words`, which reads words as tasks, and `tc_command` stand on this crate. Nothing here allocates or fails.
+//! `path_grid`, `path_slicing`, `sound_level`, `wave_slicing` and `witness`, with `specs/` beside them, and
+//! `usages`, the table that `help` prints. Nothing here allocates or fails.
 //!
 //! A later command joins in these places:
 //! - its job, a variant of `Job` (`job`), whose doc line begins with its word;

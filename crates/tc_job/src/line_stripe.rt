@@ -1,5 +1,4 @@
-//! What `vitc-make` is told: which labels to write to lines, and how long a line lasts. Next:
-//! `made_commands/src/vitc_make.rt`, which makes them.
+//! What `vitc-make` is told: which labels to write to lines, and how long a line lasts.
 ghost use Rattle.std.specs.Prelude.{◌≡◌};
 ghost use Rattle.tc_job.specs.LineStripe.{IsLineStripe, LineStriping, line_stripe_of};
 

@@ -1,5 +1,4 @@
-//! What `ltc-load` is told: a seed, and how many words to make and to read. Next:
-//! `made_commands/src/ltc_load.rt`, which does both.
+//! What `ltc-load` is told: a seed, and how many words to make and to read.
 ghost use Rattle.std.specs.Prelude.{◌≡◌};
 ghost use Rattle.tc_job.specs.LoadRun.{IsLoading, loading_of};
 

@@ -1,5 +1,4 @@
-//! What `pcm-ltc .. path` is told: sound whose best path is written. Next: `signal_commands/src/pcm_path.rt`,
-//! which looks for it.
+//! What `pcm-ltc .. path` is told: sound whose best path is written.
 ghost use Rattle.std.specs.Prelude.{◌≡◌, ◌*◌};
 ghost use Rattle.tc_job.specs.PathSlicing.{IsPathSlicing, path_slicing_of};
 

@@ -1,5 +1,4 @@
-//! What `pcm-ltc` is told: how sound is sliced into intervals. Next: `signal_commands/src/pcm_ltc.rt`,
-//! which slices it.
+//! What `pcm-ltc` is told: how sound is sliced into intervals.
 ghost use Rattle.std.specs.Prelude.{◌≡◌, ◌*◌};
 ghost use Rattle.pcm_front.specs.Pace.{IsPace};
 ghost use Rattle.tc_job.specs.Pace.{pace_of};

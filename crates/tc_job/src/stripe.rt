@@ -1,5 +1,4 @@
-//! What `ltc-make` is told: which labels to write to a tape, and how long its cells last. Next:
-//! `made_commands/src/ltc_make.rt`, which makes it.
+//! What `ltc-make` is told: which labels to write to a tape, and how long its cells last.
 ghost use Rattle.std.specs.Prelude.{◌≡◌};
 ghost use Rattle.tc_job.specs.Stripe.{IsStripe, Striping, stripe_of};
 

@@ -1,4 +1,4 @@
-//! How each command is typed, for the lines of help. Next: `made_commands/src/about.rt`, which prints them.
+//! How each command is typed, for the lines of help.
 
 /// The word of each command and what stands behind it in its line of `help`, a row a command. A word in capitals is a
 /// value, what stands in brackets may be left out, and of words with a bar between them one is given.

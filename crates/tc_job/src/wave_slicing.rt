@@ -1,5 +1,4 @@
-//! What `wav-ltc` is told: how a track of a sound file is sliced into intervals. Next:
-//! `signal_commands/src/wav_ltc.rt`, which slices it.
+//! What `wav-ltc` is told: how a track of a sound file is sliced into intervals.
 ghost use Rattle.std.specs.Prelude.{◌≡◌};
 ghost use Rattle.pcm_front.specs.Pace.{IsPace};
 ghost use Rattle.tc_job.specs.Pace.{pace_of};

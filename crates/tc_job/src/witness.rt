@@ -1,4 +1,4 @@
-//! Whether words are asked for a witness. Next: `direction_reader/src/firm_reader.rt`, which asks them.
+//! Whether words are asked for a witness.
 
 /// Whether each word that is read is asked for a witness: another word's sync word beside it. A word
 /// without one is refused.

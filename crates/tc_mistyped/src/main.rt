@@ -1,4 +1,4 @@
-//! `tc` with words that name no command, in the gate: it writes nothing, and ends with 2. Next:
+//! `tc` with words that name no command, in the gate: it writes nothing, and ends with 2. Read next:
 //! `tc_program/src/streams.rt`.
 #![tactic(auto)]
 

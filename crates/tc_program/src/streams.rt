@@ -1,4 +1,4 @@
-//! The arguments over the standard streams, and the exit code of how they end. Next: `tc_io/src/adapters.rt`,
+//! The arguments over the standard streams, and the exit code of how they end. Read next: `tc_io/src/adapters.rt`,
 //! for the streams, and `tc_top/src/top_call.rt`.
 ghost use Rattle.std.specs.Prelude.{◌≡◌, Result};
 ghost use Rattle.std.specs.Process.{exit_status};

@@ -1,4 +1,4 @@
-//! The exit number of the program. Next: `tc_program/src/streams.rt`, which ends with it.
+//! The exit number of the program.
 ghost use Rattle.std.specs.Prelude.{◌≡◌};
 ghost use Rattle.tc_top.specs.Exit.{exit_number};
 

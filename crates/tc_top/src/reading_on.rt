@@ -1,4 +1,4 @@
-//! What a further command makes of what a job wrote is what is promised of it. Next: `laws`.
+//! What a further command makes of what a job wrote is what is promised of it. Read next: `laws`.
 ghost use Rattle.std.specs.Prelude.{◌≡◌, ℕ, ◌<◌, ◌^◌};
 ghost use Rattle.tc_job.specs.declared.job.Job.{Job};
 ghost use Rattle.tc_top.specs.Promises.{IsReadOn};

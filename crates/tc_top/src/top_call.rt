@@ -1,4 +1,4 @@
-//! The top call: words and bytes in, bytes and a status out. Next: `command_words/src/command_line.rt`, and
+//! The top call: words and bytes in, bytes and a status out. Read next: `command_words/src/command_line.rt`, and
 //! with the job `streaming`.
 ghost use Rattle.std.specs.Prelude.{◌≡◌, ◌⊎◌, ℕ, List, map, string_bytes, Some, false, Ok, Err};
 ghost use Rattle.std.specs.Io.KnownBytes.{Appends};

@@ -1,4 +1,4 @@
-//! How the frames of a recording are had, as words say it. Next: `tc_job/src/flight.rt`, which holds it.
+//! How the frames of a recording are had, as words say it. Read next: `tc_job/src/flight.rt`, which holds it.
 ghost use Rattle.std.specs.Prelude.{◌≡◌, map};
 ghost use Rattle.tc_words.specs.Flight.{flight_in};
 

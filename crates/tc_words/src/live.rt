@@ -1,4 +1,4 @@
-//! The word `live` behind all others: a distance is written as it passes. Next: `pcm_ltc` and `wav_ltc`.
+//! The word `live` behind all others: a distance is written as it passes. Read next: `pcm_ltc` and `wav_ltc`.
 ghost use Rattle.std.specs.Prelude.{◌≡◌, codes, map};
 ghost use Rattle.tc_words.specs.Live.{before_live, ends_live, is_live};
 

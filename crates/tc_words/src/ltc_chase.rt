@@ -1,4 +1,4 @@
-//! The values of `ltc-chase`, word by word. Next: `tc_job/src/chase_run.rt`, which holds them.
+//! The values of `ltc-chase`, word by word. Read next: `tc_job/src/chase_run.rt`, which holds them.
 ghost use Rattle.std.specs.Prelude.{◌≡◌};
 ghost use Rattle.tc_words.specs.LtcChase.{chased};
 

@@ -1,4 +1,4 @@
-//! The values of `ltc-make`, word by word. Next: `tc_job/src/stripe.rt`, which holds them.
+//! The values of `ltc-make`, word by word. Read next: `tc_job/src/stripe.rt`, which holds them.
 ghost use Rattle.std.specs.Prelude.{◌≡◌, ◌≤◌, ◌/◌, min, map, IfSome};
 ghost use Rattle.std.specs.Option.{option_copied};
 ghost use Rattle.biphase.specs.Shape.{IsShape, IsShaped, shape_with};

@@ -1,4 +1,4 @@
-//! The values of `pcm-ltc`, word by word. Next: `tc_job/src/slicing.rt`, which holds them.
+//! The values of `pcm-ltc`, word by word. Read next: `tc_job/src/slicing.rt`, which holds them.
 ghost use Rattle.std.specs.Prelude.{◌≡◌, ◌≤◌, ◌*◌, IfSome, map};
 ghost use Rattle.std.specs.Option.{option_copied};
 ghost use Rattle.pcm_front.specs.State.{IsThreshold};

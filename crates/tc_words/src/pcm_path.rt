@@ -1,4 +1,4 @@
-//! The values of `pcm-ltc` with `path`, word by word. Next: `tc_job/src/path_slicing.rt`, which holds them.
+//! The values of `pcm-ltc` with `path`, word by word. Read next: `tc_job/src/path_slicing.rt`, which holds them.
 ghost use Rattle.std.specs.Prelude.{◌≡◌, ◌≤◌, ◌*◌, ◌^◌, Some, IfSome, codes, map};
 ghost use Rattle.std.specs.Str.{bytes_eq};
 ghost use Rattle.path_front.specs.Grid.{IsGrid};

@@ -1,4 +1,4 @@
-//! The values of the words, one by one. Next: `tc_address/src/spelling.rt`, which reads labels.
+//! The values of the words, one by one. Read next: `tc_address/src/spelling.rt`, which reads labels.
 ghost use Rattle.std.specs.Prelude.{◌≡◌, ◌≤◌, IfSome, map, slice_get};
 ghost use Rattle.std.specs.Option.{option_copied};
 ghost use Rattle.tc_words.specs.Values.{between, count_in, count_with_lines, is_number};

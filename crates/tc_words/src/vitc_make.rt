@@ -1,4 +1,4 @@
-//! The values of `vitc-make`, word by word. Next: `tc_job/src/line_stripe.rt`, which holds
+//! The values of `vitc-make`, word by word. Read next: `tc_job/src/line_stripe.rt`, which holds
 //! them.
 ghost use Rattle.std.specs.Prelude.{◌≡◌, Ok};
 ghost use Rattle.tc_address.specs.Spelling.{label_in};

@@ -1,4 +1,4 @@
-//! The values of `wav-ltc`, word by word. Next: `tc_job/src/wave_slicing.rt`, which holds them.
+//! The values of `wav-ltc`, word by word. Read next: `tc_job/src/wave_slicing.rt`, which holds them.
 ghost use Rattle.std.specs.Prelude.{◌≡◌, IfSome, map};
 ghost use Rattle.std.specs.Option.{option_copied};
 ghost use Rattle.tc_job.specs.SoundLevel.{IsLevel};

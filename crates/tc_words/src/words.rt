@@ -1,4 +1,4 @@
-//! The words of the command line as a task, or their first fault. Next: `values` for each value, then
+//! The words of the command line as a task, or their first fault. Read next: `values` for each value, then
 //! `tc_job/src/job.rt`.
 //!
 //! The words that may follow are matched behind those that always stand, so that each word is read

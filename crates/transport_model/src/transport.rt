@@ -1,4 +1,4 @@
-//! The transport and its one move. Next: `chase_script/src/trace_lines.rt`, with the step that it made.
+//! The transport and its one move.
 ghost use Rattle.std.specs.Prelude.{◌≡◌, ◌<◌, ◌≤◌, unsigned_abs};
 ghost use Rattle.tc_address.specs.Circle.{moved};
 ghost use Rattle.transport_model.specs.Move.{day_of, after_move, IsInRange};

@@ -1,4 +1,4 @@
-//! The check of a line: a remainder by the generator `x^8 + 1`, which is eight exclusive ors. Next: `word`.
+//! The check of a line: a remainder by the generator `x^8 + 1`, which is eight exclusive ors. Read next: `word`.
 
 ghost use Rattle.std.specs.Prelude.{◌≡◌, ℕ, ◌+◌, ◌*◌, ◌^◌, ◌<◌};
 ghost use Rattle.std.specs.Int.{bit_at};

@@ -1,4 +1,4 @@
-//! Reading a word from the 90 bits of a line. Next: `check_bits`, and then `tc_bits/src/reading.rt`.
+//! Reading a word from the 90 bits of a line. Read next: `check_bits`, and then `tc_bits/src/reading.rt`.
 
 ghost use Rattle.std.specs.Prelude.{◌≡◌, ◌^◌, ◌<◌, IfOk, IfErr, Some};
 ghost use Rattle.vitc_line.specs.Places.{HasLines};

@@ -1,4 +1,4 @@
-//! A word of a line, and the faults of its bits. Next: `line_file/src/texts.rt`.
+//! A word of a line, and the faults of its bits.
 
 use tc_bits::{FieldFault, Fields};
 use thiserror::Error;

@@ -1,4 +1,4 @@
-//! Writing a word as the 90 bits of a line. Next: `vitc_reader/src/writing.rt`.
+//! Writing a word as the 90 bits of a line.
 
 ghost use Rattle.std.specs.Prelude.{◌≡◌, ◌*◌, ◌^◌, ◌<◌};
 ghost use Rattle.tc_address.specs.Count.{system_with};

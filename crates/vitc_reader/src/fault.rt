@@ -1,4 +1,4 @@
-//! Why a line says nothing. Next: `line_file/src/texts.rt`.
+//! Why a line says nothing.
 
 use thiserror::Error;
 use vitc_line::LineFault;

@@ -1,4 +1,4 @@
-//! What the lines of a field say together. Next: `reading`.
+//! What the lines of a field say together. Read next: `reading`.
 
 ghost use Rattle.std.specs.Prelude.{◌≡◌, ◌<◌, ◌^◌, ◌↔◌, ◌++◌, ◌∷◌, [], ℕ, List, Result, Ok, Err, IfOk, IfErr, true};
 ghost use Rattle.vitc_line.specs.Places.{HasLines};

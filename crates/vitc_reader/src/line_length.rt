@@ -1,4 +1,4 @@
-//! How long a line may last. Next: `reading`.
+//! How long a line may last. Read next: `reading`.
 
 /// The shortest line, in ticks.
 pub const MIN_LINE_LENGTH: u32 = 460;

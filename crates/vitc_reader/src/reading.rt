@@ -1,4 +1,4 @@
-//! From the runs of a line to its bits. Next: `ones`, and with all bits of a line
+//! From the runs of a line to its bits. Read next: `ones`, and with all bits of a line
 //! `vitc_line/src/reading.rt`.
 
 ghost use Rattle.std.specs.Prelude.{◌≡◌, ℕ, ◌^◌, ◌<◌, ◌≤◌, ◌+◌, ◌*◌, ◌/◌, IfOk, IfErr, IfSome, None};

@@ -1,4 +1,4 @@
-//! From the bits of a line to its runs. Next: `made_commands/src/vitc_make.rt`.
+//! From the bits of a line to its runs.
 
 ghost use Rattle.std.specs.Prelude.{◌≡◌, ◌↔◌, ◌^◌, ◌<◌, ◌≤◌, ◌%◌, ◌/◌, ◌*◌, ◌+◌, ◌-◌, take, drop, Bool, true, false};
 ghost use Rattle.vitc_reader.specs.Runs.{IsLineLength, MayBeLine, StandFor, AreRunsOf, bits_of_run};

@@ -1,4 +1,4 @@
-//! The decoder of a sound file. Next: `signal_commands/src/wav_ltc.rt`.
+//! The decoder of a sound file.
 ghost use Rattle.std.specs.Prelude.{◌≡◌, ◌≤◌, ◌<◌, ◌*◌, ◌^◌, ◌++◌, ◌+◌, ◌/◌, min, ℕ};
 ghost use Rattle.std.specs.Prelude.{ℤ, List, [], length, take, Some, None, OnOk, IfErr, IfSome};
 ghost use Rattle.wave_file.specs.Format.{samples_at, IsTakenFor};

@@ -1,4 +1,4 @@
-//! The faults of a sound file. Next: `names`.
+//! The faults of a sound file. Read next: `names`.
 ghost use Rattle.std.specs.Prelude.{◌≡◌};
 ghost use Rattle.wave_file.specs.Fault.{name_of, place_of};
 

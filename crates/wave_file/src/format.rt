@@ -1,4 +1,4 @@
-//! The format of a sound file: its tracks, its rate, and the size of its samples. Next: `sample`.
+//! The format of a sound file: its tracks, its rate, and the size of its samples. Read next: `sample`.
 ghost use Rattle.std.specs.Prelude.{◌≡◌, ◌≤◌, ◌^◌, ◌<◌, ◌+◌, IfOk, length};
 ghost use Rattle.wave_file.specs.Format.{field_fault, format_in, format_of, is_pcm};
 ghost use Rattle.wave_file.specs.Format.{is_sample_size, is_track_count, is_rate, IsTakenFor};

@@ -1,4 +1,4 @@
-//! The names of the faults, as notes print them. Next: `tc_command/src/input_fault.rt`.
+//! The names of the faults, as notes print them.
 
 /// The name of `WaveFault::Riff`.
 pub(crate) const RIFF_NAME: &str = "riff";

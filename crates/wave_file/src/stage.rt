@@ -1,4 +1,4 @@
-//! How far a decoder has come, and what a whole piece brings. Next: `decoder`.
+//! How far a decoder has come, and what a whole piece brings. Read next: `decoder`.
 ghost use Rattle.std.specs.Prelude.{◌≡◌, ℕ, ◌≤◌, ◌<◌, ◌^◌, length, drop, None, IfSome};
 ghost use Rattle.wave_file.specs.Format.{IsTakenFor};
 ghost use Rattle.wave_file.specs.Stage.{data_stage, extent_behind, width_of, HasBlock};
