@@ -1,4 +1,4 @@
-/* tc.h: linear time code, read from samples by proved code, as functions for C11 and C++17.
+/* tc.h: linear time code, read from samples, its words and labels, by proved code, as functions for C11 and C++17.
  *
  * No function here allocates, keeps global state, waits, prints or ends the process. What a reader keeps lies in the
  * caller's object, whose size is fixed: memcpy takes a copy that goes on from the same place, and nothing is freed.
@@ -105,6 +105,45 @@ static inline tc_taken tc_reader_write_s16(tc_reader *reader, const int16_t *sam
     tc_handle handle = {reader->state};
     return tc_reader_write_s16_(&handle, samples, count, events, room);
 }
+
+/* ---- labels: frame addresses that a count has. Where numbers are none of a label, false, and nothing changes */
+typedef struct tc_label {
+    uint32_t count; /* TC_COUNT_24 and so on */
+    uint32_t hours, minutes, seconds, frames;
+} tc_label;
+
+/* How many labels a day of the count has, and 0 where it is no count. */
+uint32_t tc_day_labels(uint32_t count);
+
+/* How many labels of its count stand before this one in its day, from 0. */
+bool tc_label_number(const tc_label *label, uint32_t *place);
+
+/* The label before which so many stand in the day of the count. False where the day has no more. */
+bool tc_label_at(uint32_t count, uint32_t place, tc_label *label);
+
+/* Moves a label by so many, back where they are negative. The day begins again at its end. */
+bool tc_label_advance(tc_label *label, int64_t steps);
+
+/* ---- words and their bits */
+typedef struct tc_word {
+    tc_label label;
+    uint32_t flags; /* TC_BIT_10 and so on: TC_BIT_10 is set with TC_COUNT_30_DROP, and not with TC_COUNT_30;
+                       TC_BALANCED asks for an even number of zeros in the 80 bits */
+    uint32_t user;  /* the user bits, group 1 as the least significant */
+} tc_word;
+typedef struct tc_bits {
+    uint64_t low;  /* bits 0 to 63, bit 0, which comes first in time, as the least significant */
+    uint64_t high; /* bits 64 to 79, the sync word, bit 64 as the least significant */
+} tc_bits;
+
+/* The 80 bits that spell the word. False where the numbers are none of a word, and then nothing changes. */
+bool tc_word_bits(const tc_word *word, tc_bits *bits);
+
+/* Reads a word of the system, 24, 25 or 30, from its 80 bits. 0 where they spell one, or else the first fault, and then
+ * nothing changes: TC_NO_SYNC where bits 64 to 79 are not the sync word; from 1 to 9 the fault of the fields, as in
+ * tc_event; and TC_NO_BITS where there is no such system, or a bit above 79 is set. */
+enum { TC_NO_SYNC = 10, TC_NO_BITS = 11 };
+uint32_t tc_bits_word(uint32_t system, const tc_bits *bits, tc_word *word);
 
 #ifdef __cplusplus
 }

@@ -1,3 +1,5 @@
+mod FlagBits
 mod LendsOn
+mod OneWord
 mod Steps
 mod WritesOn

@@ -1,5 +1,7 @@
 pub mod CEvent
+pub mod CLabel
 pub mod CSettings
+pub mod CWord
 pub mod Lending
 pub mod Opening
 pub mod Write

@@ -1,5 +1,5 @@
 //! An event in numbers. Read next: `settings`.
-ghost use Rattle.std.specs.Prelude.{◌≡◌};
+ghost use Rattle.std.specs.Prelude.{◌≡◌, ◌≤◌};
 ghost use Rattle.tc_c.specs.CEvent.{c_event, c_word, count_number, direction_number, fault_number, flag_bits};
 
 use direction_reader::Event;
@@ -101,7 +101,7 @@ fn c_word(direction: Direction, word: &LtcWord, tick: u64, length: u64) -> TcEve
     }
 }
 
-fn flag_bits(flags: Flags, balanced: bool) -> u8
+pub(crate) fn flag_bits(flags: Flags, balanced: bool) -> u8
     ensures { result ≡ flag_bits flags balanced }
 {
     u8::from(flags.drop_frame)
@@ -121,7 +121,7 @@ fn direction_number(direction: Direction) -> u8
     }
 }
 
-fn count_number(count: Count) -> u8
+pub(crate) fn count_number(count: Count) -> u8
     ensures { result ≡ count_number count }
 {
     match count {
@@ -132,8 +132,9 @@ fn count_number(count: Count) -> u8
     }
 }
 
-fn fault_number(fault: FieldFault) -> u8
-    ensures { result ≡ fault_number fault }
+pub(crate) fn fault_number(fault: FieldFault) -> u8
+    ensures value { result ≡ fault_number fault }
+    ensures some { 1 ≤ result }
 {
     match fault {
         FieldFault::FrameUnits => 1,

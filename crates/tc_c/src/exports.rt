@@ -1,4 +1,4 @@
-//! The functions that C calls. Read next: `laws`.
+//! The functions of a reader that C calls. Read next: `label`.
 ghost use Rattle.std.specs.Prelude.{◌≡◌, ◌+◌, ◌≤◌, [], length, take, drop, true, false};
 ghost use Rattle.std.specs.Align.{type_align};
 ghost use Rattle.std.specs.Mem.{type_size};

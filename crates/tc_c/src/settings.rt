@@ -59,7 +59,7 @@ impl TcSettings {
     }
 }
 
-fn system_of(number: u32) -> Option<System>
+pub(crate) fn system_of(number: u32) -> Option<System>
     ensures means { IfSome result (λ s. system_number s ≡ number) }
     ensures only { (s : System) → system_number s ≡ number → result ≡ Some s }
 {

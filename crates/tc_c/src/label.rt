@@ -1,0 +1,66 @@
+//! A frame address in numbers. Read next: `label_exports`.
+ghost use Rattle.std.specs.Prelude.{◌≡◌, Some, IfSome};
+ghost use Rattle.tc_address.specs.declared.count.Count.{Count};
+ghost use Rattle.tc_address.specs.Label.{Address, IsLabel};
+ghost use Rattle.tc_c.specs.CEvent.{count_number};
+ghost use Rattle.tc_c.specs.CLabel.{MeansLabel};
+
+use crate::event::count_number;
+use tc_address::{Count, Label};
+
+/// A frame address in numbers. Those of no label mean nothing.
+#[repr(C)]
+#[derive(Clone, Copy)]
+pub struct TcLabel {
+    /// Its count: 0 for 24, 1 for 25, 2 for 30, 3 for 30 drop-frame.
+    pub count: u32,
+    pub hours: u32,
+    pub minutes: u32,
+    pub seconds: u32,
+    pub frames: u32,
+}
+
+impl TcLabel {
+    /// The label that they mean, where they mean one.
+    pub(crate) fn meaning(&self) -> Option<Label>
+        ensures means { IfSome result (MeansLabel self.now) }
+        ensures only { (a : Address) → MeansLabel self.now a → result ≡ Some a }
+    {
+        let count = count_of(self.count)?;
+        Label::new(
+            count,
+            self.hours,
+            self.minutes,
+            self.seconds,
+            self.frames,
+        )
+        .ok()
+    }
+
+    /// The numbers of a label.
+    pub(crate) fn numbers_of(label: &Label) -> TcLabel
+        ensures { MeansLabel result label.now }
+    {
+        TcLabel {
+            count: u32::from(count_number(label.count())),
+            hours: label.hours(),
+            minutes: label.minutes(),
+            seconds: label.seconds(),
+            frames: label.frames(),
+        }
+    }
+}
+
+/// The count of a number, where there is one.
+pub(crate) fn count_of(number: u32) -> Option<Count>
+    ensures means { IfSome result (λ c. count_number c ≡ number) }
+    ensures only { (c : Count) → count_number c ≡ number → result ≡ Some c }
+{
+    match number {
+        0 => Some(Count::C24),
+        1 => Some(Count::C25),
+        2 => Some(Count::C30),
+        3 => Some(Count::Drop30),
+        _ => None,
+    }
+}
