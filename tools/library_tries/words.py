@@ -29,13 +29,13 @@ def bits_of(number):
 
 
 def played(ticks):
-    """The words of 80 bits that intervals have, as ltc-make makes them: a one is two halves of a cell."""
+    """The words of 80 bits that intervals have, as ltc-make makes them: a one is two halves of a cell, and two cells lead."""
     cell, bits, at = max(ticks), [], 0
     while at < len(ticks):
         half = ticks[at] < 3 * cell / 4
         bits.append(int(half))
         at += 1 + half
-    words = [bits[place : place + 80] for place in range(0, len(bits) - 79, 80)]
+    words = [bits[place : place + 80] for place in range(2, len(bits) - 79, 80)]
     return [sum(bit << place for place, bit in enumerate(word)) for word in words]
 
 
