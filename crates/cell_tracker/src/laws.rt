@@ -113,12 +113,11 @@ pub fn rough_recordings_are_found_behind_even_ones_alone()
         } ∷ []) }
 {}
 
-/// Mirror, for the tolerances that look at the last cell: where a recording and the same intervals in the other order of
-/// time are both within the tolerance, their cells are the same between the greater intervals of the
-/// first and of the last unequal pair, each in its order. The lock of the mirror is the number of intervals behind them.
+/// Mirror: where a recording and the same intervals in the other order of time are both within the
+/// tolerance, their cells are the same between the greater intervals of the first and of the last unequal
+/// pair, each in its order. The lock of the mirror is the number of intervals behind them.
 pub fn a_mirrored_recording_has_the_mirrored_cells()
-    ensures { (profile : Profile) → LooksAtLast profile → (intervals : List ℕ) (cells others : List Cell)
-        (cut place first last : ℕ)
+    ensures { (profile : Profile) (intervals : List ℕ) (cells others : List Cell) (cut place first last : ℕ)
         → IsPiece profile intervals cells cut → IsPiece profile (reverse intervals) others place
         → IsLock profile intervals 0 first → IsLock profile (reverse intervals) 0 last
         → BeginMirrored (cells_from cells cut intervals first) (cells_from others place (reverse intervals) last)

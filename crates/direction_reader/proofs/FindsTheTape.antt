@@ -258,7 +258,7 @@ some_place None from is = absurd is
 some_place (Some p) from is = (p, refl, is)
 
 -- the cells of a stretch end at the sum of the list up to their end
-end_tick : (profile : Profile) (l : List ℕ) (s : Stretch) → IsStretch profile l s
+pub end_tick : (profile : Profile) (l : List ℕ) (s : Stretch) → IsStretch profile l s
     → sum (take (end_of s) l) ≡ begin_of l s + duration s.cells
 end_tick profile l s is = sum_at l (flat s.cells) is.chain.front.0 s.lock is.chain.front.1
 

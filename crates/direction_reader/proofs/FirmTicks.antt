@@ -43,7 +43,7 @@ event_tick system d bits end n =
     subst (λ (e : Event). tick_of e ≡ end)
     (by_fault system d bits end n (event_by system d bits end n o) o refl refl) (tick_by system d bits end n o)
 
-abbrev EndsAt : ℕ → Event → Type 0
+abbrev pub EndsAt : ℕ → Event → Type 0
 EndsAt end event = tick_of event ≡ end
 
 -- bits are one candidate, or none

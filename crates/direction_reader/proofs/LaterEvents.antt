@@ -295,7 +295,7 @@ late_stretch profile system l n t es is late (own, are, join) =
     (break_from l n t.broken_at (late_break profile l n t is (omega (arith, end, late)))))
 
 -- a lock stands at its first pair or behind it
-lock_behind : (profile : Profile) (l : List ℕ) (start lock : ℕ) (is : IsLock profile l start lock) → is.pair ≤ lock
+pub lock_behind : (profile : Profile) (l : List ℕ) (start lock : ℕ) (is : IsLock profile l start lock) → is.pair ≤ lock
 lock_behind profile l start lock is = elim (cases_order (get_or l is.pair 0) (get_or l (is.pair + 1) 0)) [
   | inl same ↦ absurd (unequal_differ profile _ _ is.unequal.1 same)
   | inr (inl rises) ↦ omega (arith, is.rising rises)
