@@ -1,5 +1,6 @@
 -- Stretches computed, of recordings that show one thing each. All under the normal tolerance.
-use Rattle.std.proofs.Common.{◌≡◌, ℕ, zero, suc, ◌/◌, ◌%◌, ◌==◌, Bool, true, false, List, [], ◌∷◌, ◌++◌, map, length, replicate, set, Some, None, refl}
+use Rattle.std.proofs.Common.{◌≡◌, ℕ, zero, suc, ◌/◌, ◌%◌, ◌==◌, Bool, true, false, List, [], ◌∷◌, ◌++◌, map, length}
+use Rattle.std.proofs.Common.{replicate, set, Some, None, refl}
 use Rattle.biphase.specs.declared.profile.Profile.TheVariants.{Normal}
 use Rattle.biphase.specs.declared.cell.Cell.{Cell}
 use Rattle.biphase.specs.declared.cell.Cell.TheVariants.{Zero, One}
@@ -29,9 +30,11 @@ unfolding stretches_of run
 breaks_at_once = computed_are Normal (200 ∷ 130 ∷ []) (with_break 1 (begun 0 200) ∷ []) refl
 
 -- a break at an interval that is neither a zero nor a half
-breaks_at_an_interval : AreStretches Normal (12 ∷ 24 ∷ 25 ∷ 30 ∷ []) (with_break 3 (with_cell (Zero 25) (begun 1 24)) ∷ [])
+breaks_at_an_interval : AreStretches Normal (12 ∷ 24 ∷ 25 ∷ 30 ∷ [])
+    (with_break 3 (with_cell (Zero 25) (begun 1 24)) ∷ [])
 unfolding stretches_of run
-breaks_at_an_interval = computed_are Normal (12 ∷ 24 ∷ 25 ∷ 30 ∷ []) (with_break 3 (with_cell (Zero 25) (begun 1 24)) ∷ []) refl
+breaks_at_an_interval =
+    computed_are Normal (12 ∷ 24 ∷ 25 ∷ 30 ∷ []) (with_break 3 (with_cell (Zero 25) (begun 1 24)) ∷ []) refl
 
 -- a break behind a waiting half, whose pair with the interval after it is not looked at again
 breaks_behind_a_half : AreStretches Normal (24 ∷ 12 ∷ 24 ∷ []) (with_break 2 (begun 0 24) ∷ [])
@@ -51,16 +54,19 @@ cell_of true = One 12 12
 -- the words 01:00:00:00 to 01:00:00:03 at 25 frames, balanced, after the bits 0 and 1
 four_words : List Bool
 four_words =
-    false ∷ true ∷ bits_of 80 0xbffc0001000000000000 ++ bits_of 80 0xbffc0801000000000001 ++ bits_of 80 0xbffc0801000000000002
+    false ∷ true ∷ bits_of 80 0xbffc0001000000000000 ++ bits_of 80 0xbffc0801000000000001
+    ++ bits_of 80 0xbffc0801000000000002
     ++ bits_of 80 0xbffc0001000000000003
 
 recorded : List ℕ
 recorded = flat (map cell_of four_words)
 
 -- a recording of four words is one stretch
-four_words_are_one : AreStretches Normal recorded (record { lock = 0; cells = map cell_of four_words; broken_at = None } ∷ [])
+four_words_are_one : AreStretches Normal recorded (record { lock = 0; cells = map cell_of four_words; broken_at = None }
+    ∷ [])
 unfolding stretches_of run recorded four_words bits_of cell_of
-four_words_are_one = computed_are Normal recorded (record { lock = 0; cells = map cell_of four_words; broken_at = None } ∷ []) refl
+four_words_are_one =
+    computed_are Normal recorded (record { lock = 0; cells = map cell_of four_words; broken_at = None } ∷ []) refl
 
 -- with one interval of 24 ticks made three times as long it breaks there, and goes on behind
 one_long_interval : (length recorded ≡ 385) ×

@@ -187,7 +187,8 @@ kinds_behind profile (cell ∷ next ∷ before) rest kinds = kinds_behind profil
 kinds_at_zero : (profile : Profile) (tape : List Cell) (k x : ℕ) → IsChain profile tape → (zero : IsZeroAt tape k x)
     → Kinds profile (Zero x ∷ zero.after)
 kinds_at_zero profile tape k x chain zero =
-    kinds_behind profile zero.before (Zero x ∷ zero.after) (subst (Kinds profile) zero.are (chain_kinds profile tape chain))
+    kinds_behind profile zero.before (Zero x ∷ zero.after) (subst (Kinds profile) zero.are
+    (chain_kinds profile tape chain))
 
 -- and those of the cells of a piece from its lock on
 kinds_from : (profile : Profile) (l : List ℕ) (tape : List Cell) (cut first : ℕ) → IsPiece profile l tape cut
@@ -259,7 +260,8 @@ behind_zero_there profile intervals cells cut place x is z within =
     ∙ ap (drop (cut + place)) (flat_map-append intervals_of z.before (Zero x ∷ z.after))
     ∙ drop_at (flat z.before) (x ∷ flat z.after) (cut + place) z.place
 
-pub begin_mirrored : (profile : Profile) (l : List ℕ) (tape other : List Cell) (cut place first last : ℕ) → IsPiece profile l tape cut
+pub begin_mirrored : (profile : Profile) (l : List ℕ) (tape other : List Cell) (cut place first last : ℕ)
+    → IsPiece profile l tape cut
     → IsPiece profile (reverse l) other place → IsLock profile l 0 first → IsLock profile (reverse l) 0 last
     → BeginMirrored (cells_from tape cut l first) (cells_from other place (reverse l) last) first last (length l)
 begin_mirrored profile l tape other cut place first last piece turned lock last_lock =

@@ -100,7 +100,8 @@ by_break system profile l s a is first less None at =
         events = joined a (sum l) (sum l) cells (break_events l s.broken_at)
             (of_windows system (begin_of l s) s.cells 0 (length s.cells - 79) a (sum l) (omega (arith, first, begins))
             (omega (arith, tick, all)) less)
-            (subst (λ (o : Option ℕ). DoNotFall (sum l) (map tick_of (break_events l o)) (sum l)) (sym at) (omega arith));
+            (subst (λ (o : Option ℕ). DoNotFall (sum l) (map tick_of (break_events l o)) (sum l)) (sym at)
+            (omega arith));
         within = omega arith;
       },
       λ p some. absurd cc,
@@ -133,7 +134,8 @@ behind_by : (system : System) (profile : Profile) (l : List ℕ) (b : ℕ) (more
     → DoNotFall b (map tick_of (flat_map (events_of_stretch system l) more)) (sum l))
     → DoNotFall b (map tick_of (flat_map (events_of_stretch system l) more)) (sum l)
 behind_by system profile l b more None within at are next =
-    subst (λ (ss : List Stretch). DoNotFall b (map tick_of (flat_map (events_of_stretch system l) ss)) (sum l)) (sym are)
+    subst (λ (ss : List Stretch). DoNotFall b (map tick_of (flat_map (events_of_stretch system l) ss)) (sum l))
+    (sym are)
     within
 behind_by system profile l b more (Some p) within at are next =
     let same = at p refl in next p are (omega (arith, same))

@@ -531,7 +531,8 @@ later_step : IsExact → (profile : Profile) (system : System) (l more : List �
     → AreEventsOfStretches system l ss those → AreEventsOfStretches system (l ++ more) ts those'
     → (own ++ those) ++ rest ≡ own' ++ those'
     → All (IsFrom (length l) (sum (take (length l) (l ++ more)))) rest
-later_step exact profile system l more s t ss ts None own own' those those' rest at again is last goes next go are too others others' join =
+later_step exact profile system l more s t ss ts None own own' those those' rest at again is last goes next go are too
+    others others' join =
     let whole = l ++ more in
     let n = length l in
     let tick = sum (take n whole) in

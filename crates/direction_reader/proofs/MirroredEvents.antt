@@ -172,7 +172,8 @@ window_mirrors exact back system bits end there length total begin cells own oth
         | inl backward ↦ (
             let mine = are.backward backward not_forward in
             one_mirror total begin cells own other
-            (some_mirrors exact system Backward turn end there length total begin cells own.first other.first at place mine.0 (too.forward backward))
+            (some_mirrors exact system Backward turn end there length total begin cells own.first other.first at place
+            mine.0 (too.forward backward))
             mine.1 (too.one backward (no_sync not_forward)))
         | inr not_back ↦ none_mirror total begin cells own other (are.none not_forward not_back)
             (too.none not_back (no_sync not_forward))

@@ -1,5 +1,6 @@
 //! What follows from the definitions alone, and the numbers that code and definitions share.
-ghost use Rattle.std.specs.Prelude.{◌≡◌, ℕ, ◌*◌, ◌^◌, ◌<◌, ◌≤◌, List, [], ◌∷◌, ◌++◌, reverse, false, true, drop, take, map, sum, All};
+ghost use Rattle.std.specs.Prelude.{◌≡◌, ℕ, ◌*◌, ◌^◌, ◌<◌, ◌≤◌, List, [], ◌∷◌, ◌++◌, reverse, false, true, drop, take};
+ghost use Rattle.std.specs.Prelude.{map, sum, All};
 ghost use Rattle.biphase.specs.declared.cell.Cell.{Cell};
 ghost use Rattle.biphase.specs.Chain.{bits, flat, FollowOn, IsChain};
 ghost use Rattle.biphase.specs.declared.profile.Profile.{Profile};
@@ -224,7 +225,8 @@ pub fn small_recordings_have_these_events()
     ensures forward { AreEvents F25 Normal (recording 82 0x2fff02000000000000002)
         (Word Forward (word_with C25 0 0 0 0 (flags false false false false false) 0 true) 1968 1920 ∷ []) }
     ensures broken { AreEvents F25 Normal (recording 82 0x2fff02000000000000002 ++ 5 ∷ [])
-        (Word Forward (word_with C25 0 0 0 0 (flags false false false false false) 0 true) 1968 1920 ∷ Lost 97 1973 ∷ []) }
+        (Word Forward (word_with C25 0 0 0 0 (flags false false false false false) 0 true) 1968 1920
+        ∷ Lost 97 1973 ∷ []) }
     ensures half { AreEvents F25 Normal (recording 82 0x2fff02000000000000002 ++ 12 ∷ [])
         (Word Forward (word_with C25 0 0 0 0 (flags false false false false false) 0 true) 1968 1920 ∷ []) }
     ensures backward { AreEvents F25 Normal (recording 81 0x207ffa)

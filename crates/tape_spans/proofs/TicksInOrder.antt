@@ -28,8 +28,10 @@ record Behind (mark : Mark) (behind : List Frame) (last : ℕ) : Type 0 where
 
 -- one frame more
 more_of : (mark : Mark) (frame : Frame) (behind : List Frame)
-    → ends_at mark (frame ∷ behind) ≡ (fold latest_of mark (cond (goes_on frame) (frame ∷ take_while goes_on behind) [])).tick
-more_of mark frame behind = ap (λ (fs : List Frame). (fold latest_of mark fs).tick) (take_while-cons goes_on frame behind)
+    → ends_at mark (frame ∷ behind) ≡ (fold latest_of mark (cond (goes_on frame) (frame ∷ take_while goes_on behind)
+    [])).tick
+more_of mark frame behind =
+    ap (λ (fs : List Frame). (fold latest_of mark fs).tick) (take_while-cons goes_on frame behind)
 
 -- where a span ends at this tick, and these are the ticks of the others
 at : (mark : Mark) (behind : List Frame) (last end : ℕ) (ticks : List ℕ) → ends_at mark behind ≡ end
@@ -62,7 +64,8 @@ on mark (Invented label direction number tick ∷ more) last is =
     (more_of mark (Invented label direction number tick) more) refl rest.end rest.others
 on mark (Gone tick ∷ more) last is =
     let rest = on mark more last is in
-    at mark (Gone tick ∷ more) last mark.tick (span_ticks (spans more)) (more_of mark (Gone tick) more) refl (omega arith)
+    at mark (Gone tick ∷ more) last mark.tick (span_ticks (spans more)) (more_of mark (Gone tick) more) refl
+    (omega arith)
     (earlier mark.tick (ends_at mark more) (span_ticks (spans more)) last rest.end rest.others)
 
 pub spans_in_order : (first last : ℕ) (frames : List Frame) → DoNotFall first (heard_ticks frames) last
