@@ -1,7 +1,8 @@
--- Stretches computed, of recordings that show one thing each. All under the normal tolerance.
+-- Stretches computed, of recordings that show one thing each, under the normal tolerance and, the last one, the rough
+-- one.
 use Rattle.std.proofs.Common.{◌≡◌, ℕ, zero, suc, ◌/◌, ◌%◌, ◌==◌, Bool, true, false, List, [], ◌∷◌, ◌++◌, map, length}
 use Rattle.std.proofs.Common.{replicate, set, Some, None, refl}
-use Rattle.biphase.specs.declared.profile.Profile.TheVariants.{Normal}
+use Rattle.biphase.specs.declared.profile.Profile.TheVariants.{Normal, Rough}
 use Rattle.biphase.specs.declared.cell.Cell.{Cell}
 use Rattle.biphase.specs.declared.cell.Cell.TheVariants.{Zero, One}
 use Rattle.biphase.specs.Chain.{flat}
@@ -77,3 +78,14 @@ one_long_interval = (refl, refl)
 -- a piece cut inside the second cell has the cells behind it
 cut_inside_a_cell : cells_from (Zero 24 ∷ One 12 12 ∷ Zero 24 ∷ One 12 12 ∷ []) 2 (12 ∷ 24 ∷ 12 ∷ []) 0 ≡ Zero 24 ∷ []
 cut_inside_a_cell = refl
+
+-- two unequal pairs alone do not find a tape under the rough tolerance: behind 18 and four intervals of 36, a tape of 24
+-- ticks a cell with the bits 0 1 0, twice, is taken for ones of 36
+two_pairs_are_too_few : AreStretches Rough (18 ∷ 36 ∷ 36 ∷ 36 ∷ 36 ∷ 24 ∷ 12 ∷ 12 ∷ 24 ∷ 24 ∷ 12 ∷ 12 ∷ 24 ∷ [])
+    (record {
+      lock = 1;
+      cells = replicate 4 (Zero 36) ++ (One 24 12 ∷ One 12 24 ∷ One 24 12 ∷ One 12 24 ∷ []);
+      broken_at = None;
+    } ∷ [])
+unfolding stretches_of run
+two_pairs_are_too_few = computed_are Rough (18 ∷ 36 ∷ 36 ∷ 36 ∷ 36 ∷ 24 ∷ 12 ∷ 12 ∷ 24 ∷ 24 ∷ 12 ∷ 12 ∷ 24 ∷ []) _ refl

@@ -44,11 +44,13 @@ row_within (one ∷ more) =
     let own = with_row one.message (row_of more) in let rest = row_within more in omega (arith, own, rest)
 
 short_event : (eight : List PlacedMessage) → length (row_of eight) < 8 → events_of (eight_event eight) ≡ []
-short_event eight short = ap events_of (no_window (row_of eight) (last_place eight) (λ is. absurd (omega (arith, short, is))))
+short_event eight short =
+    ap events_of (no_window (row_of eight) (last_place eight) (λ is. absurd (omega (arith, short, is))))
 
 -- whose last one would stand behind a full message
 full_stops : (n : ℕ) (row : List PlacedMessage) (full : PlacedMessage) (more : List PlacedMessage)
-    → ((numbers : List ℕ) → row_with full.message numbers ≡ []) → length (row_of (take n (row ++ full ∷ more))) ≤ length row
+    → ((numbers : List ℕ) → row_with full.message numbers ≡ [])
+    → length (row_of (take n (row ++ full ∷ more))) ≤ length row
 full_stops zero row full more stops = omega arith
 full_stops (suc n) [] full more stops =
     let none = ap length (stops (row_of (take n more))) in omega (arith, none)
@@ -70,7 +72,8 @@ none_begun_full [] full more stops = refl
 none_begun_full (one ∷ row) full more stops =
     let within = full_stops 8 (one ∷ row) full more stops in
     ap₂ (λ (a b : List MtcEvent). a ++ b)
-    (none_begun_at (one ∷ row) (full ∷ more) (λ less. omega (arith, within, less))) (none_begun_full row full more stops)
+    (none_begun_at (one ∷ row) (full ∷ more) (λ less. omega (arith, within, less)))
+    (none_begun_full row full more stops)
 
 none_begun_end : (row : List PlacedMessage) → begun_in row [] ≡ []
 none_begun_end [] = refl
@@ -96,7 +99,7 @@ quarter_row : (row : List PlacedMessage) → AreQuarterFrames row → length (ro
 quarter_row [] are = refl
 quarter_row (one ∷ row) are = quarter_first one.message row are.0 (quarter_row row are.1)
 
--- where the row is shorter than seven, or its eight latest ones stand behind its first one, it gives nothing else for it
+-- fewer than seven and one more are no eight
 short_end : (row : List PlacedMessage) (number place : ℕ) → AreQuarterFrames row → length row < 7
     → ended_at row number place ≡ []
 short_end row number place are short =
@@ -174,7 +177,8 @@ first_of_row first row more one number is are =
           let as_many = lt-ltb (length (first ∷ row)) 8 (omega (arith, short)) in
           let begun : begun_at ((first ∷ row) ++ one ∷ []) more ≡ begun_at (first ∷ row) (one ∷ more) =
           rw (one_more, as_many) (ap (λ (l : List PlacedMessage). events_of (eight_event (take 8 l))) joined) in
-          ap₂ (λ (a b : List MtcEvent). a ++ b) (short_end (first ∷ row) number one.place are (omega (arith, short))) begun
+          ap₂ (λ (a b : List MtcEvent). a ++ b) (short_end (first ∷ row) number one.place are (omega (arith, short)))
+          begun
           ∙ sym (append-nil (begun_at (first ∷ row) (one ∷ more)))
           ∙ ap (λ (es : List MtcEvent). begun_at (first ∷ row) (one ∷ more) ++ es)
           (sym (short_end row number one.place are.1 (omega (arith, short)))))
