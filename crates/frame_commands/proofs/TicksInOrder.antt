@@ -1,5 +1,5 @@
 -- The ticks of what is heard do not fall, since those of events do not: with a witness it is some of them.
-use Rattle.std.proofs.Common.{◌≡◌, ◌×◌, ◌≤◌, ℕ, Bool, true, false, List, [], ◌∷◌, map, sum, refl, sym, ap, ◌∙◌, subst, arith}
+use Rattle.std.proofs.Common.{◌≡◌, ◌≤◌, ℕ, Bool, true, false, List, [], ◌∷◌, map, sum, refl, sym, ap, ◌∙◌, subst, arith}
 use Rattle.std.specs.List.{AllZip}
 use Rattle.tc_address.specs.declared.direction.Direction.{Direction}
 use Rattle.tc_address.specs.Label.{Address}

@@ -91,7 +91,7 @@ abbrev ended_at : List PlacedMessage → ℕ → ℕ → List MtcEvent
 ended_at row number place = events_of (window_event (latest_eight (row_of row ++ number ∷ [])) place)
 
 quarter_first : (message : Message) (row : List PlacedMessage) → IsQuarterFrame message
-    → length (row_of row) ≡ length row → length (row_with message (row_of row)) ≡ length row + 1
+    → length (row_of row) ≡ length row → length (row_with message (row_of row)) ≡ suc (length row)
 quarter_first (QuarterFrame number) row is same = omega (arith, same)
 quarter_first (FullMessage hours minutes seconds frames) row is same = absurd is
 
@@ -226,35 +226,41 @@ row_push_quarter : (row : List PlacedMessage) (one : PlacedMessage) (number : �
 row_push_quarter [] one number is are = (rw is tt, tt)
 row_push_quarter (first ∷ row) one number is are = (are.0, row_push_quarter row one number is are.1)
 
-given_first : (message : Message) (one : PlacedMessage) (more row : List PlacedMessage) (messages : List Message)
-    → one.message ≡ message → AreQuarterFrames row → row_in messages ≡ row_of row
+abbrev placed_at : Message → ℕ → PlacedMessage
+placed_at message place = record { message = message; place = place }
+
+given_first : (message : Message) (place : ℕ) (more row : List PlacedMessage) (messages : List Message)
+    → AreQuarterFrames row → row_in messages ≡ row_of row
     → ((next : List PlacedMessage) → AreQuarterFrames next → row_in (message ∷ messages) ≡ row_of next
     → given_by (message ∷ messages) more ≡ begun_in next more ++ carried_by more)
-    → given_by messages (one ∷ more) ≡ begun_in row (one ∷ more) ++ carried_by (one ∷ more)
-given_first (FullMessage hours minutes seconds frames) one more row messages is are same all =
-    let event = full_event (full_address hours minutes seconds frames) one.place in
-    rw is (ap (λ (es : List MtcEvent). event ∷ es) (all [] tt refl)
+    → given_by messages (placed_at message place ∷ more)
+    ≡ begun_in row (placed_at message place ∷ more) ++ carried_by (placed_at message place ∷ more)
+given_first (FullMessage hours minutes seconds frames) place more row messages are same all =
+    let one = placed_at (FullMessage hours minutes seconds frames) place in
+    let event = full_event (full_address hours minutes seconds frames) place in
+    ap (λ (es : List MtcEvent). event ∷ es) (all [] tt refl)
     ∙ ap (λ (es : List MtcEvent). es ++ event ∷ carried_by more)
-    (sym (none_begun_full row one more (λ numbers. rw is refl))))
-given_first (QuarterFrame number) one more row messages is are same all =
+    (sym (none_begun_full row one more (λ numbers. refl)))
+given_first (QuarterFrame number) place more row messages are same all =
+    let one = placed_at (QuarterFrame number) place in
     let next = row ++ one ∷ [] in
-    let own = ended_at row number one.place in
+    let own = ended_at row number place in
     let begun = events_of (eight_event (take 8 (one ∷ more))) in
-    rw is (ap (λ (l : List ℕ). events_of (window_event (latest_eight (l ++ number ∷ [])) one.place)
+    ap (λ (l : List ℕ). events_of (window_event (latest_eight (l ++ number ∷ [])) place)
     ++ given_by (QuarterFrame number ∷ messages) more) same
-    ∙ ap (λ (es : List MtcEvent). own ++ es) (all next (row_push_quarter row one number is are)
-    (ap (λ (l : List ℕ). l ++ number ∷ []) same ∙ sym (row_push row one number is are)))
+    ∙ ap (λ (es : List MtcEvent). own ++ es) (all next (row_push_quarter row one number refl are)
+    (ap (λ (l : List ℕ). l ++ number ∷ []) same ∙ sym (row_push row one number refl are)))
     ∙ sym (append_assoc own (begun_in next more) (carried_by more))
-    ∙ ap (λ (es : List MtcEvent). es ++ carried_by more) (one_more row more one number is are)
+    ∙ ap (λ (es : List MtcEvent). es ++ carried_by more) (one_more row more one number refl are)
     ∙ append_assoc (begun_in row (one ∷ more)) begun (carried_by more)
     ∙ ap (λ (es : List MtcEvent). begun_in row (one ∷ more) ++ es)
-    (cons_as_list (eight_event (take 8 (one ∷ more))) (carried_by more)))
+    (cons_as_list (eight_event (take 8 (one ∷ more))) (carried_by more))
 
 given_behind : (behind row : List PlacedMessage) (messages : List Message) → AreQuarterFrames row
     → row_in messages ≡ row_of row → given_by messages behind ≡ begun_in row behind ++ carried_by behind
 given_behind [] row messages are same = sym (append-nil (begun_in row []) ∙ none_begun_end row)
 given_behind (one ∷ more) row messages are same =
-    given_first one.message one more row messages refl are same
+    given_first one.message one.place more row messages are same
     (λ next quarters is. given_behind more next (one.message ∷ messages) quarters is)
 
 pub all_carried : (messages : List PlacedMessage) → given_by [] messages ≡ carried_by messages

@@ -1,6 +1,6 @@
 -- Where bytes hold no message none is complete in them, and a message that is spelled is complete with its last byte,
 -- whatever stands before it.
-use Rattle.std.proofs.Common.{◌≡◌, ◌<◌, ◌×◌, ◌⊎◌, ℕ, ◌+◌, ◌-◌, Bool, true, false, List, [], ◌∷◌, ◌++◌, length, Some}
+use Rattle.std.proofs.Common.{◌≡◌, ◌<◌, ◌⊎◌, ℕ, ◌+◌, ◌-◌, Bool, true, false, List, [], ◌∷◌, ◌++◌, length, Some}
 use Rattle.std.proofs.Common.{None}
 use Rattle.std.proofs.Common.{inl, inr, refl, sym, ◌∙◌, ap, subst, arith, append-nil, append_assoc, length-append}
 use Rattle.std.specs.Prelude.{◌==◌, ◌&&◌, cond}
@@ -52,8 +52,8 @@ past_on current byte (inl other) = inl other
 past_on current byte (inr quarter) =
     inr (quarter.0, omega (arith, quarter.1, length-append current.numbers (byte ∷ [])))
 
-in_on : (data : Bool) (bytes : List ℕ) (current : Current) (byte : ℕ) → is_data byte ≡ data → IsIn bytes current
-    → IsIn (bytes_on bytes byte data) (with_byte byte current)
+in_on : (is_number : Bool) (bytes : List ℕ) (current : Current) (byte : ℕ) → is_data byte ≡ is_number → IsIn bytes current
+    → IsIn (bytes_on bytes byte is_number) (with_byte byte current)
 in_on true [] current byte is within = rw is (past_on current byte within)
 in_on true (status ∷ numbers) current byte is within = (
   within.0,
@@ -71,8 +71,8 @@ ends_hold_none front bytes none before spelled after message spells is =
     none (front ++ before) spelled after message spells
     (ap (λ (l : List ℕ). front ++ l) is ∙ sym (append_assoc front before (spelled ++ after)))
 
-none_on : (data : Bool) (bytes more : List ℕ) (byte : ℕ) → HoldNone (bytes ++ byte ∷ more)
-    → HoldNone (bytes_on bytes byte data ++ more)
+none_on : (is_number : Bool) (bytes more : List ℕ) (byte : ℕ) → HoldNone (bytes ++ byte ∷ more)
+    → HoldNone (bytes_on bytes byte is_number ++ more)
 none_on true [] more byte none = ends_hold_none (byte ∷ []) more none
 none_on true (status ∷ numbers) more byte none =
     subst HoldNone (sym (append_assoc (status ∷ numbers) (byte ∷ []) more)) none
@@ -160,7 +160,7 @@ no_full (status ∷ numbers) more current within none =
     rw within.2 (begun_full (status == 0xf1) (status == 0xf0) numbers
     (λ is. no_full_in status numbers more (eqb-true status 0xf0 is) within.1 none))
 
-none_complete : (data end : Bool) (bytes more : List ℕ) (current : Current) (byte : ℕ) → is_data byte ≡ data
+none_complete : (is_number end : Bool) (bytes more : List ℕ) (current : Current) (byte : ℕ) → is_data byte ≡ is_number
     → (byte == 0xf7) ≡ end → IsIn bytes current → HoldNone (bytes ++ byte ∷ more) → completed_by byte current ≡ None
 none_complete true end bytes more current byte is ends within none =
     rw is (no_quarter bytes more current byte (ltb-true byte 0x80 is) within none)
@@ -218,7 +218,7 @@ complete (QuarterFrame number) spelled place current messages rest spells =
 complete (FullMessage hours minutes seconds frames) spelled place current messages rest spells =
     let message = FullMessage hours minutes seconds frames in
     let last : place + 9 ≡ place + 10 - 1 = omega arith in
-    let next = record { kind = Other; numbers = [] } in
+    let next : Current = record { kind = Other; numbers = [] } in
     let behind = events_along (place + 10) next (message ∷ messages) rest in
     subst (λ (s : List ℕ). IsComplete message s place current messages rest) (sym spells.6) (record {
       next = next;

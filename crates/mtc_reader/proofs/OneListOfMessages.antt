@@ -1,7 +1,7 @@
 -- Bytes are one list of messages: at each place a message begins or none does, and no message begins inside another.
-use Rattle.std.proofs.Common.{◌≡◌, ◌≢◌, ◌<◌, ◌≤◌, ◌×◌, ◌⊎◌, ℕ, zero, suc, ◌+◌, ◌-◌, Bool, true, false, List, [], ◌∷◌}
+use Rattle.std.proofs.Common.{◌≡◌, ◌≢◌, ◌<◌, ◌≤◌, ◌⊎◌, ℕ, zero, suc, ◌+◌, ◌-◌, Bool, true, false, List, [], ◌∷◌}
 use Rattle.std.proofs.Common.{◌++◌}
-use Rattle.std.proofs.Common.{length, take, drop, inl, inr, refl, sym, ◌∙◌, ap, subst, arith, append_assoc}
+use Rattle.std.proofs.Common.{length, take, drop, get_or, inl, inr, refl, sym, ◌∙◌, ap, subst, arith, append_assoc}
 use Rattle.std.proofs.Common.{length-append}
 use Rattle.std.specs.Prelude.{◌==◌, ◌&&◌, cond}
 use Rattle.std.proofs.lemmas.Bool.{and_parts, eqb-true, false≢true, ltb-true}
@@ -177,9 +177,12 @@ have_messages (suc n) (byte ∷ bytes) within =
 abbrev IsFirst : ℕ → Type 0
 IsFirst byte = (byte ≡ 0xf0) ⊎ (byte ≡ 0xf1)
 
+abbrev IsLater : ℕ → Type 0
+IsLater byte = (byte ≢ 0xf0) × (byte ≢ 0xf1)
+
 abbrev AreLater : List ℕ → Type 0
 AreLater [] = Unit {0}
-AreLater (byte ∷ more) = ((byte ≡ 0xf0) → ⊥) × ((byte ≡ 0xf1) → ⊥) × AreLater more
+AreLater (byte ∷ more) = IsLater byte × AreLater more
 
 record IsShaped (spelled : List ℕ) : Type 0 where
   first : ℕ
@@ -188,30 +191,32 @@ record IsShaped (spelled : List ℕ) : Type 0 where
   is_first : IsFirst first
   are_later : AreLater later
 
-later_on : (byte : ℕ) → byte < 0x80 → {more : List ℕ} → AreLater more → AreLater (byte ∷ more)
-later_on byte data are = (λ e. absurd (omega (arith, data, e)), λ e. absurd (omega (arith, data, e)), are)
+data_later : (byte : ℕ) → byte < 0x80 → IsLater byte
+data_later byte less = (λ e. absurd (omega (arith, less, e)), λ e. absurd (omega (arith, less, e)))
 
-never_first : (byte first : ℕ) → byte ≡ first → (byte ≡ 0xf0 → ⊥) → (byte ≡ 0xf1 → ⊥) → IsFirst first → ⊥
-never_first byte first same one two (inl is) = one (same ∙ is)
-never_first byte first same one two (inr is) = two (same ∙ is)
+end_later : IsLater 0xf7
+end_later = (λ e. absurd (omega (arith, e)), λ e. absurd (omega (arith, e)))
+
+never_first : (byte first : ℕ) → byte ≡ first → IsLater byte → IsFirst first → ⊥
+never_first byte first same later (inl is) = later.0 (same ∙ is)
+never_first byte first same later (inr is) = later.1 (same ∙ is)
 
 shaped : (message : Message) (spelled : List ℕ) → Spells message spelled → IsShaped spelled
-shaped (QuarterFrame number) spelled spells =
-    let below_status = spells.0 in record {
-      first = 0xf1;
-      later = number ∷ [];
-      are = spells.1;
-      is_first = inr refl;
-      are_later = (λ e. absurd (omega (arith, below_status, e)), λ e. absurd (omega (arith, below_status, e)), tt);
-    }
+shaped (QuarterFrame number) spelled spells = record {
+  first = 0xf1;
+  later = number ∷ [];
+  are = spells.1;
+  is_first = inr refl;
+  are_later = (data_later number spells.0, tt);
+}
 shaped (FullMessage hours minutes seconds frames) spelled spells = record {
   first = 0xf0;
   later = 0x7f ∷ spells.0 ∷ 0x01 ∷ 0x01 ∷ hours ∷ minutes ∷ seconds ∷ frames ∷ 0xf7 ∷ [];
   are = spells.6;
   is_first = inl refl;
-  are_later = later_on 0x7f (omega arith) (later_on spells.0 spells.1 (later_on 0x01 (omega arith)
-      (later_on 0x01 (omega arith) (later_on hours spells.2 (later_on minutes spells.3 (later_on seconds spells.4
-      (later_on frames spells.5 (λ e. absurd (omega (arith, e)), λ e. absurd (omega (arith, e)), tt))))))));
+  are_later = (data_later 0x7f (omega arith), (data_later spells.0 spells.1, (data_later 0x01 (omega arith),
+      (data_later 0x01 (omega arith), (data_later hours spells.2, (data_later minutes spells.3,
+      (data_later seconds spells.4, (data_later frames spells.5, (end_later, tt)))))))));
 }
 
 -- what begins no message reaches no byte that begins one
@@ -222,9 +227,9 @@ reaches (byte ∷ later) after [] spelled rest are is same =
     let there : byte ∷ (later ++ after) ≡ is.first ∷ (is.later ++ rest) =
     same ∙ ap (λ (l : List ℕ). l ++ rest) is.are in
     let own : byte ≡ is.first = cc in
-    absurd (never_first byte is.first own are.0 are.1 is.is_first)
+    absurd (never_first byte is.first own are.0 is.is_first)
 reaches (byte ∷ later) after (other ∷ between) spelled rest are is same =
-    let more = reaches later after between spelled rest are.2 is (ap (drop 1) same) in omega (arith, more)
+    let more = reaches later after between spelled rest are.1 is (ap (drop 1) same) in omega (arith, more)
 
 -- so no message begins where others hold none
 none_before : (message other : Message) (spelled after : List ℕ) (byte : ℕ) (between others rest : List ℕ)
@@ -275,10 +280,10 @@ same_spelled (QuarterFrame a) (QuarterFrame b) spelled after too rest one two sa
     }
 same_spelled (QuarterFrame a) (FullMessage h m s f) spelled after too rest one two same =
     let all = ap (λ (l : List ℕ). l ++ after) (sym one.1) ∙ same ∙ ap (λ (l : List ℕ). l ++ rest) two.6 in
-    let first = ap (take 1) all in absurd cc
+    let first = ap (λ (l : List ℕ). get_or l 0 0) all in absurd (omega (arith, first))
 same_spelled (FullMessage h m s f) (QuarterFrame b) spelled after too rest one two same =
     let all = ap (λ (l : List ℕ). l ++ after) (sym one.6) ∙ same ∙ ap (λ (l : List ℕ). l ++ rest) two.1 in
-    let first = ap (take 1) all in absurd cc
+    let first = ap (λ (l : List ℕ). get_or l 0 0) all in absurd (omega (arith, first))
 same_spelled (FullMessage h m s f) (FullMessage h' m' s' f') spelled after too rest one two same =
     let all = ap (λ (l : List ℕ). l ++ after) (sym one.6) ∙ same ∙ ap (λ (l : List ℕ). l ++ rest) two.6 in
     let own = ap (take 10) all in record {
@@ -287,9 +292,15 @@ same_spelled (FullMessage h m s f) (FullMessage h' m' s' f') spelled after too r
       behind = ap (drop 10) all;
     }
 
+abbrev message_in : List ℕ → List ℕ → Message → SpelledMessage
+message_in between spelled message = record { between = between; spelled = spelled; message = message }
+
 same_message : (one other : SpelledMessage) → one.between ≡ other.between → one.spelled ≡ other.spelled
     → one.message ≡ other.message → one ≡ other
-same_message one other between spelled message = cc
+same_message one other between spelled message =
+    ap (λ x. message_in x one.spelled one.message) between
+    ∙ ap (λ x. message_in other.between x one.message) spelled
+    ∙ ap (λ x. message_in other.between other.spelled x) message
 
 pub one_list : (list others : List SpelledMessage) (bytes : List ℕ) → AreMessages list bytes → AreMessages others bytes
     → list ≡ others
