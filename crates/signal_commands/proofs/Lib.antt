@@ -1,5 +1,6 @@
 mod AreCommands
 mod DueSamples
+mod Examples
 mod FieldsGrow
 mod FieldsTold
 mod MidiGrows
