@@ -8,6 +8,7 @@ mod MidiLimit
 mod NothingYet
 mod PathEnds
 mod PathIsCommand
+mod PathLasts
 mod PathOn
 mod PutMore
 mod SentIsRead
