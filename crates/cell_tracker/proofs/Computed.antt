@@ -1,5 +1,6 @@
 -- The stretches of a list, computed: the states are fed one interval after another, so each list has its stretches.
-use Rattle.std.proofs.Common.{◌≡◌, ℕ, ◌+◌, ◌-◌, ◌*◌, ◌<◌, ◌≤◌, Bool, true, false, not, ◌&&◌, leb, ltb, List, [], ◌∷◌, ◌++◌, length, min}
+use Rattle.std.proofs.Common.{◌≡◌, ℕ, ◌+◌, ◌-◌, ◌*◌, ◌<◌, ◌≤◌, Bool, true, false, not, ◌&&◌, leb, ltb, List, [], ◌∷◌}
+use Rattle.std.proofs.Common.{◌++◌, length, min}
 use Rattle.std.proofs.Common.{max, Option, Some, None, refl, subst, sym, ◌∙◌, arith, append_assoc}
 use Rattle.std.specs.Int.{abs_diff}
 use Rattle.std.proofs.lemmas.Bool.{leb-true, le-leb, ltb-true, lt-ltb, false≢true}
@@ -29,22 +30,29 @@ record Tells (test : Bool) (P : Type 0) : Type 0 where
   no_it_is_not : test ≡ false → P → ⊥
 
 leb_tells : (a b : ℕ) → Tells (leb a b) (a ≤ b)
-leb_tells a b = record { yes_it_is = leb-true a b; no_it_is_not = λ fails below. false≢true (sym fails ∙ le-leb a b below) }
+leb_tells a b =
+    record { yes_it_is = leb-true a b; no_it_is_not = λ fails below. false≢true (sym fails ∙ le-leb a b below) }
 
 ltb_tells : (a b : ℕ) → Tells (ltb a b) (a < b)
-ltb_tells a b = record { yes_it_is = ltb-true a b; no_it_is_not = λ fails below. false≢true (sym fails ∙ lt-ltb a b below) }
+ltb_tells a b =
+    record { yes_it_is = ltb-true a b; no_it_is_not = λ fails below. false≢true (sym fails ∙ lt-ltb a b below) }
 
 and_tells : (one two : Bool) {P Q : Type 0} → Tells one P → Tells two Q → Tells (one && two) (P × Q)
 and_tells true true p q =
-    record { yes_it_is = λ _. (p.yes_it_is refl, q.yes_it_is refl); no_it_is_not = λ fails. absurd (false≢true (sym fails)) }
+    record {
+      yes_it_is = λ _. (p.yes_it_is refl, q.yes_it_is refl);
+      no_it_is_not = λ fails. absurd (false≢true (sym fails));
+    }
 and_tells true false p q =
     record { yes_it_is = λ holds. absurd (false≢true holds); no_it_is_not = λ _ both. q.no_it_is_not refl both.1 }
 and_tells false two p q =
     record { yes_it_is = λ holds. absurd (false≢true holds); no_it_is_not = λ _ both. p.no_it_is_not refl both.0 }
 
 not_tells : (test : Bool) {P : Type 0} → Tells test P → Tells (not test) (¬ P)
-not_tells true p = record { yes_it_is = λ holds. absurd (false≢true holds); no_it_is_not = λ _ no_p. no_p (p.yes_it_is refl) }
-not_tells false p = record { yes_it_is = λ _. p.no_it_is_not refl; no_it_is_not = λ fails. absurd (false≢true (sym fails)) }
+not_tells true p =
+    record { yes_it_is = λ holds. absurd (false≢true holds); no_it_is_not = λ _ no_p. no_p (p.yes_it_is refl) }
+not_tells false p =
+    record { yes_it_is = λ _. p.no_it_is_not refl; no_it_is_not = λ fails. absurd (false≢true (sym fails)) }
 
 -- the tests of biphase
 abbrev is_between : Ratio → Ratio → ℕ → ℕ → Bool
@@ -61,7 +69,8 @@ is_half_of tolerance sum x = is_between tolerance.least_half tolerance.greatest_
 
 abbrev is_one_of : SumTolerance → ℕ → ℕ → ℕ → Bool
 is_one_of tolerance sum x y =
-    is_half_of tolerance sum x && (is_half_of tolerance sum y && is_between tolerance.least_cell tolerance.greatest_cell (x + y) sum)
+    is_half_of tolerance sum x && (is_half_of tolerance sum y && is_between tolerance.least_cell tolerance.greatest_cell
+    (x + y) sum)
 
 abbrev pub is_zero : Profile → Latest → ℕ → Bool
 is_zero Normal latest x = is_near NORMAL latest x
@@ -87,18 +96,21 @@ is_unequal profile a b =
 between_tells : (low high : Ratio) (a b : ℕ) → Tells (is_between low high a b) (IsAtLeast low a b × IsAtMost high a b)
 between_tells low high a b = and_tells _ _ (leb_tells _ _) (leb_tells _ _)
 
-zero_tells : (profile : Profile) (latest : Latest) (x : ℕ) → Tells (is_zero profile latest x) (IsNextZero profile latest x)
+zero_tells : (profile : Profile) (latest : Latest) (x : ℕ) → Tells (is_zero profile latest x)
+    (IsNextZero profile latest x)
 zero_tells Normal latest x = leb_tells _ _
 zero_tells Worn latest x = leb_tells _ _
 zero_tells Rough latest x = between_tells ROUGH.least_cell ROUGH.greatest_cell x (sum_of latest)
 
-half_tells : (profile : Profile) (latest : Latest) (x : ℕ) → Tells (is_half profile latest x) (IsFirstHalf profile latest x)
+half_tells : (profile : Profile) (latest : Latest) (x : ℕ) → Tells (is_half profile latest x)
+    (IsFirstHalf profile latest x)
 half_tells Normal latest x = between_tells NORMAL.least_half NORMAL.greatest_half x latest.last
 half_tells Worn latest x = between_tells WORN.least_half WORN.greatest_half x latest.last
 half_tells Rough latest x = between_tells ROUGH.least_half ROUGH.greatest_half x (sum_of latest)
 
 -- two halves and a sum
-sum_tells : (latest : Latest) (x y : ℕ) → Tells (is_one_of ROUGH (sum_of latest) x y) (FollowsSum ROUGH (sum_of latest) (One x y))
+sum_tells : (latest : Latest) (x y : ℕ) → Tells (is_one_of ROUGH (sum_of latest) x y)
+    (FollowsSum ROUGH (sum_of latest) (One x y))
 sum_tells latest x y =
     let first = between_tells ROUGH.least_half ROUGH.greatest_half x (sum_of latest) in
     let second = between_tells ROUGH.least_half ROUGH.greatest_half y (sum_of latest) in
@@ -110,7 +122,8 @@ sum_tells latest x y =
       no_it_is_not = λ fails is. all.no_it_is_not fails (is.0, (is.1, is.2));
     }
 
-one_tells : (profile : Profile) (latest : Latest) (x y : ℕ) → Tells (is_one profile latest x y) (IsNextOne profile latest x y)
+one_tells : (profile : Profile) (latest : Latest) (x y : ℕ) → Tells (is_one profile latest x y)
+    (IsNextOne profile latest x y)
 one_tells Normal latest x y = and_tells _ _ (leb_tells _ _) (leb_tells _ _)
 one_tells Worn latest x y = and_tells _ _ (leb_tells _ _) (leb_tells _ _)
 one_tells Rough latest x y =
@@ -149,12 +162,14 @@ from_pair profile n stretches z x true false true = mid_cell (kept_at_lock profi
 from_pair profile n stretches z x true false false = hunting (Some x) (stretches ++ with_break n (begun (n - 1) z) ∷ [])
 
 abbrev pub from_cell : Profile → ℕ → Latest → List Stretch → Stretch → ℕ → Bool → Bool → Tracked
-from_cell profile n last earlier stretch x true half = at_cell (kept_next profile last x) earlier (with_cell (Zero x) stretch)
+from_cell profile n last earlier stretch x true half =
+    at_cell (kept_next profile last x) earlier (with_cell (Zero x) stretch)
 from_cell profile n last earlier stretch x false true = mid_cell last x earlier stretch
 from_cell profile n last earlier stretch x false false = hunting (Some x) (earlier ++ with_break n stretch ∷ [])
 
 abbrev pub from_half : Profile → ℕ → Latest → ℕ → List Stretch → Stretch → ℕ → Bool → Tracked
-from_half profile n last half earlier stretch x true = at_cell (kept_next profile last (half + x)) earlier (with_cell (One half x) stretch)
+from_half profile n last half earlier stretch x true =
+    at_cell (kept_next profile last (half + x)) earlier (with_cell (One half x) stretch)
 from_half profile n last half earlier stretch x false = hunting (Some x) (earlier ++ with_break n stretch ∷ [])
 
 abbrev pub step : Profile → ℕ → Tracked → ℕ → Tracked
@@ -163,11 +178,13 @@ step profile n (hunting (Some z) stretches) x =
     from_pair profile n stretches z x (is_unequal profile z x) (ltb z x) (is_half profile (kept_at_lock profile z) x)
 step profile n (at_cell last earlier stretch) x =
     from_cell profile n last earlier stretch x (is_zero profile last x) (is_half profile last x)
-step profile n (mid_cell last half earlier stretch) x = from_half profile n last half earlier stretch x (is_one profile last half x)
+step profile n (mid_cell last half earlier stretch) x =
+    from_half profile n last half earlier stretch x (is_one profile last half x)
 
 -- each step keeps what it stands for
 pair_steps : (profile : Profile) (intervals : List ℕ) (stretches : List Stretch) (z x : ℕ) (unequal rises half : Bool)
-    → Tells unequal (AreUnequal profile z x) → Tells rises (z < x) → Tells half (IsFirstHalf profile (kept_at_lock profile z) x)
+    → Tells unequal (AreUnequal profile z x) → Tells rises (z < x)
+    → Tells half (IsFirstHalf profile (kept_at_lock profile z) x)
     → Tracks profile intervals (hunting (Some z) stretches)
     → Tracks profile (intervals ++ x ∷ []) (from_pair profile (length intervals) stretches z x unequal rises half)
 pair_steps profile intervals stretches z x false rises half u r h tracks =
@@ -181,7 +198,8 @@ pair_steps profile intervals stretches z x true false false u r h tracks =
     let no_rise = r.no_it_is_not refl in
     start_broken _ intervals stretches z x tracks refl (u.yes_it_is refl) (omega arith) (h.no_it_is_not refl)
 
-cell_steps : (profile : Profile) (intervals : List ℕ) (last : Latest) (earlier : List Stretch) (stretch : Stretch) (x : ℕ)
+cell_steps : (profile : Profile) (intervals : List ℕ) (last : Latest) (earlier : List Stretch) (stretch : Stretch)
+    (x : ℕ)
     (zero half : Bool)
     → Tells zero (IsNextZero profile last x) → Tells half (IsFirstHalf profile last x)
     → Tracks profile intervals (at_cell last earlier stretch)
@@ -193,7 +211,8 @@ cell_steps profile intervals last earlier stretch x false true z h tracks =
 cell_steps profile intervals last earlier stretch x false false z h tracks =
     breaks _ intervals earlier stretch x tracks (z.no_it_is_not refl) (h.no_it_is_not refl)
 
-half_steps : (profile : Profile) (intervals : List ℕ) (last : Latest) (half : ℕ) (earlier : List Stretch) (stretch : Stretch) (x : ℕ)
+half_steps : (profile : Profile) (intervals : List ℕ) (last : Latest) (half : ℕ) (earlier : List Stretch)
+    (stretch : Stretch) (x : ℕ)
     (one : Bool)
     → Tells one (IsNextOne profile last half x)
     → Tracks profile intervals (mid_cell last half earlier stretch)
@@ -207,9 +226,11 @@ pub steps : (profile : Profile) (intervals : List ℕ) (state : Tracked) (x : �
     → Tracks profile (intervals ++ x ∷ []) (step profile (length intervals) state x)
 steps profile intervals (hunting None stretches) x tracks = hunt_first _ intervals stretches x tracks refl
 steps profile intervals (hunting (Some z) stretches) x tracks =
-    pair_steps profile intervals stretches z x _ _ _ (unequal_tells profile z x) (ltb_tells z x) (half_tells profile (kept_at_lock profile z) x) tracks
+    pair_steps profile intervals stretches z x _ _ _ (unequal_tells profile z x) (ltb_tells z x)
+    (half_tells profile (kept_at_lock profile z) x) tracks
 steps profile intervals (at_cell last earlier stretch) x tracks =
-    cell_steps profile intervals last earlier stretch x _ _ (zero_tells profile last x) (half_tells profile last x) tracks
+    cell_steps profile intervals last earlier stretch x _ _ (zero_tells profile last x) (half_tells profile last x)
+    tracks
 steps profile intervals (mid_cell last half earlier stretch) x tracks =
     half_steps profile intervals last half earlier stretch x _ (one_tells profile last half x) tracks
 
@@ -229,7 +250,8 @@ runs profile intervals state (x ∷ rest) tracks =
     (steps profile intervals state x tracks) in
     subst (λ n. Tracks profile (intervals ++ x ∷ rest) (run profile n (step profile (length intervals) state x) rest))
     (length_push intervals x)
-    (subst (λ xs. Tracks profile xs (run profile (length (intervals ++ x ∷ [])) (step profile (length intervals) state x) rest))
+    (subst (λ xs. Tracks profile xs (run profile (length (intervals ++ x ∷ []))
+    (step profile (length intervals) state x) rest))
     (append_assoc intervals (x ∷ []) rest) more)
 
 -- the stretches of a list
@@ -243,7 +265,8 @@ tracked_are profile intervals (at_cell last earlier stretch) tracks = tracks.str
 tracked_are profile intervals (mid_cell last half earlier stretch) tracks = tracks.stretches_are
 
 -- what is tracked of a list from nothing on
-pub runs_from_nothing : (profile : Profile) (intervals : List ℕ) → Tracks profile intervals (run profile 0 (hunting None []) intervals)
+pub runs_from_nothing : (profile : Profile) (intervals : List ℕ)
+    → Tracks profile intervals (run profile 0 (hunting None []) intervals)
 runs_from_nothing profile intervals = runs profile [] (hunting None []) intervals (record {
   stretches_are = λ k low at. omega (arith, at.0);
   all_broken = All-nil IsBroken;
@@ -257,6 +280,8 @@ unfolding stretches_of
 stretches_of-are profile intervals = tracked_are profile intervals _ (runs_from_nothing profile intervals)
 
 -- what is computed are the stretches
-pub computed_are : (profile : Profile) (intervals : List ℕ) (stretches : List Stretch) → stretches_of profile intervals ≡ stretches
+pub computed_are : (profile : Profile) (intervals : List ℕ) (stretches : List Stretch)
+    → stretches_of profile intervals ≡ stretches
     → AreStretches profile intervals stretches
-computed_are profile intervals stretches same = subst (AreStretches profile intervals) same (stretches_of-are profile intervals)
+computed_are profile intervals stretches same =
+    subst (AreStretches profile intervals) same (stretches_of-are profile intervals)

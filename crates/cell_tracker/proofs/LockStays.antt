@@ -58,7 +58,8 @@ no_lock_on profile intervals x start none new k low at =
     ]
 
 -- there is one where it is
-pub lock_at_end : (profile : Profile) (intervals : List ℕ) (x start k lock : ℕ) → HasNoLock profile intervals start → start ≤ k
+pub lock_at_end : (profile : Profile) (intervals : List ℕ) (x start k lock : ℕ) → HasNoLock profile intervals start
+    → start ≤ k
     → k + 1 ≡ length intervals
     → IsUnequalAt profile (intervals ++ x ∷ []) k
     → (get_or (intervals ++ x ∷ []) k 0 < get_or (intervals ++ x ∷ []) (k + 1) 0 → lock ≡ k + 1)

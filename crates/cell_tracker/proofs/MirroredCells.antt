@@ -11,17 +11,16 @@ use Rattle.std.proofs.lemmas.Grind.{flat_map-append}
 use Rattle.biphase.specs.declared.profile.Profile.{Profile}
 use Rattle.biphase.specs.declared.cell.Cell.{Cell}
 use Rattle.biphase.specs.declared.cell.Cell.TheVariants.{Zero}
-use Rattle.biphase.specs.Chain.{intervals_of, flat, FollowOn, IsChain, Kinds}
+use Rattle.biphase.specs.Chain.{intervals_of, flat, IsChain, Kinds}
 use Rattle.biphase.specs.KindLemmas.{chain_kinds}
-use Rattle.biphase.specs.ToleranceLemmas.{behind_zero, chain_on, unequal_differ}
+use Rattle.biphase.specs.ToleranceLemmas.{unequal_differ}
 use Rattle.biphase.specs.Mirror.{mirror_of, mirrored}
 use Rattle.biphase.specs.MirrorLemmas.{flat_mirrored, unequal_turned, front_kinds, mirrored_kinds, comparable_kinds}
-use Rattle.biphase.specs.Tolerance.{LooksAtLast}
 use Rattle.biphase.specs.Zeros.{IsZeroAt}
 use Rattle.cell_tracker.specs.ChainPiece.{IsPiece, cells_between, cells_from}
 use Rattle.cell_tracker.specs.Lock.{IsLock, IsUnequalAt}
 use Rattle.cell_tracker.specs.Mirrored.{BeginMirrored}
-use Rattle.cell_tracker.proofs.CellsOfAPiece.{all_between}
+use Rattle.cell_tracker.proofs.CellsOfAPiece.{all_between, ends_behind, lies_between, none_behind}
 use Rattle.biphase.specs.ChainLemmas.{has_intervals}
 use Rattle.cell_tracker.proofs.FoundAgain.{lock_near, later_zero}
 use Rattle.cell_tracker.proofs.KeptStretch.{piece_from, pair_has_zero, lock_is_zero, cells_at_zero, stretch_at_lock}
@@ -158,10 +157,58 @@ push_flat mid more x rest =
     ∙ ap (λ (xs : List ℕ). xs ++ rest) (flat_map-append intervals_of (mid ++ Zero x ∷ []) more)
     ∙ append_assoc (flat (mid ++ Zero x ∷ [])) (flat more) rest
 
-middle_of : (profile : Profile) → LooksAtLast profile → (l : List ℕ) (tape : List Cell) (cut first last : ℕ)
+-- those of the cells behind a zero that lie between are a front of them
+front_between : (low high at : ℕ) (cells : List Cell) → low ≤ at
+    → (rest : List Cell) × (cells ≡ cells_between low high at cells ++ rest)
+front_between low high at [] begins = ([], refl)
+front_between low high at (cell ∷ cells) begins =
+    let end = at + length (intervals_of cell) in
+    elim (cases_lt high end) [
+      | inl behind ↦ (
+          let none : cells_between low high at (cell ∷ cells) ≡ [] =
+          ends_behind low high at cell cells begins behind
+          ∙ none_behind low high end cells (omega (arith, begins)) (omega (arith, behind)) in
+          (cell ∷ cells, ap (λ (cs : List Cell). cs ++ cell ∷ cells) (sym none)))
+      | inr within ↦ (
+          let more = front_between low high end cells (omega (arith, begins)) in (
+            more.0,
+            ap (λ (cs : List Cell). cell ∷ cs) more.1
+                ∙ ap (λ (cs : List Cell). cs ++ more.0) (sym (lies_between low high at cell cells begins within)),
+          ))
+    ]
+
+kinds_behind : (profile : Profile) (before rest : List Cell) → Kinds profile (before ++ rest) → Kinds profile rest
+kinds_behind profile [] rest kinds = kinds
+kinds_behind profile (cell ∷ []) [] kinds = tt
+kinds_behind profile (cell ∷ []) (next ∷ rest) kinds = kinds.2
+kinds_behind profile (cell ∷ next ∷ before) rest kinds = kinds_behind profile (next ∷ before) rest kinds.2
+
+-- the kinds of a chain from a zero of it on
+kinds_at_zero : (profile : Profile) (tape : List Cell) (k x : ℕ) → IsChain profile tape → (zero : IsZeroAt tape k x)
+    → Kinds profile (Zero x ∷ zero.after)
+kinds_at_zero profile tape k x chain zero =
+    kinds_behind profile zero.before (Zero x ∷ zero.after) (subst (Kinds profile) zero.are
+    (chain_kinds profile tape chain))
+
+-- and those of the cells of a piece from its lock on
+kinds_from : (profile : Profile) (l : List ℕ) (tape : List Cell) (cut first : ℕ) → IsPiece profile l tape cut
+    → IsLock profile l 0 first → Kinds profile (cells_from tape cut l first)
+kinds_from profile l tape cut first piece lock =
+    let f = lock_is_zero profile l tape cut 0 first piece lock in
+    let x = f.1.0 in
+    let zero = f.1.1 in
+    let low = cut + first in
+    let between = cells_between low (cut + length l) (low + 1) zero.after in
+    let front = front_between low (cut + length l) (low + 1) zero.after (omega arith) in
+    subst (Kinds profile) (sym (cells_at_zero tape zero.before zero.after cut first x l zero.are zero.place f.0))
+    (front_kinds profile (Zero x) between front.0
+    (subst (λ (cs : List Cell). Kinds profile (Zero x ∷ cs)) front.1
+    (kinds_at_zero profile tape (cut + first) x piece.chain zero)))
+
+middle_of : (profile : Profile) (l : List ℕ) (tape : List Cell) (cut first last : ℕ)
     → IsPiece profile l tape cut
     → IsLock profile l 0 first → IsLock profile (reverse l) 0 last → Middle profile l tape cut first last
-middle_of profile looks l tape cut first last piece lock turned =
+middle_of profile l tape cut first last piece lock turned =
     let z = last_zero profile l tape cut first last piece lock turned in
     let v = z.0 in
     let at_v = z.3.1 in
@@ -174,8 +221,6 @@ middle_of profile looks l tape cut first last piece lock turned =
     later.1 ∙ ap (λ (cs : List Cell). mid ++ cs)
     (cells_at_zero tape at_v.before at_v.after cut v x l at_v.are at_v.place (omega (arith, z.1))) in
     let is = stretch_at_lock profile l tape cut 0 first piece lock in
-    let chain : IsChain profile (mid ++ Zero x ∷ more) =
-    chain_on profile looks (mid ++ Zero x ∷ more) (subst (FollowOn profile) are is.chain.chain) in
     let same : mid ++ Zero x ∷ more ≡ (mid ++ Zero x ∷ []) ++ more = sym (append_assoc mid (Zero x ∷ []) more) in
     let rest = is.chain.front.0 in
     let tail = flat more ++ rest in
@@ -190,7 +235,7 @@ middle_of profile looks l tape cut first last piece lock turned =
       are = are;
       many = omega (arith, z.1, later.2);
       kinds = kinds_of_front profile (mid ++ Zero x ∷ []) more
-          (subst (Kinds profile) same (chain_kinds profile (mid ++ Zero x ∷ more) chain));
+          (subst (Kinds profile) (are ∙ same) (kinds_from profile l tape cut first piece lock));
       tail = tail;
       there = sym (take-append-drop first l) ∙ ap (λ (xs : List ℕ). take first l ++ xs) begins;
       long = omega (
@@ -215,12 +260,12 @@ behind_zero_there profile intervals cells cut place x is z within =
     ∙ ap (drop (cut + place)) (flat_map-append intervals_of z.before (Zero x ∷ z.after))
     ∙ drop_at (flat z.before) (x ∷ flat z.after) (cut + place) z.place
 
-pub begin_mirrored : (profile : Profile) → LooksAtLast profile
-    → (l : List ℕ) (tape other : List Cell) (cut place first last : ℕ) → IsPiece profile l tape cut
+pub begin_mirrored : (profile : Profile) (l : List ℕ) (tape other : List Cell) (cut place first last : ℕ)
+    → IsPiece profile l tape cut
     → IsPiece profile (reverse l) other place → IsLock profile l 0 first → IsLock profile (reverse l) 0 last
     → BeginMirrored (cells_from tape cut l first) (cells_from other place (reverse l) last) first last (length l)
-begin_mirrored profile looks l tape other cut place first last piece turned lock last_lock =
-    let m = middle_of profile looks l tape cut first last piece lock last_lock in
+begin_mirrored profile l tape other cut place first last piece turned lock last_lock =
+    let m = middle_of profile l tape cut first last piece lock last_lock in
     let mid = m.mid in
     let x = m.x in
     let middle = mid ++ Zero x ∷ [] in
@@ -228,7 +273,6 @@ begin_mirrored profile looks l tape other cut place first last piece turned lock
     let g = lock_is_zero profile (reverse l) other place 0 last turned last_lock in
     let w = g.1.0 in
     let z = g.1.1 in
-    let chain = behind_zero profile z.before z.after w (subst (IsChain profile) z.are turned.chain) in
     let rest = reverse (take first l) ++ turned.part.0 in
     let there : drop last (reverse l) ≡ (x ∷ flat (mirrored mid)) ++ reverse (take first l) =
     turned_there l (take first l) (flat middle) m.tail last m.there m.long
@@ -242,8 +286,8 @@ begin_mirrored profile looks l tape other cut place first last piece turned lock
     let kinds : Kinds profile (Zero x ∷ mirrored mid) =
     subst (Kinds profile) pushed (kinds_mirrored profile middle m.kinds) in
     let others : Kinds profile (Zero x ∷ z.after) =
-    subst (λ v. Kinds profile (Zero v ∷ z.after)) head (chain_kinds profile (Zero w ∷ z.after)
-    (chain_on profile looks (Zero w ∷ z.after) (chain.0, chain.1))) in
+    subst (λ v. Kinds profile (Zero v ∷ z.after)) head
+    (kinds_at_zero profile other (place + last) w turned.chain z) in
     let found = tells_cells profile x mid z.after rest kinds others after in
     let low = place + last in
     let high = place + length (reverse l) in

@@ -98,7 +98,8 @@ stretch_is_one profile intervals stretch other lock is is_too =
     let at_lock : IsStretch profile intervals (stretch_of stretch.lock other.cells other.broken_at) =
     subst (λ k. IsStretch profile intervals (stretch_of k other.cells other.broken_at)) (sym lock) is_too in
     let cells : stretch.cells ≡ other.cells =
-    cells_are_one profile intervals stretch.lock stretch.cells other.cells stretch.broken_at other.broken_at is at_lock in
+    cells_are_one profile intervals stretch.lock stretch.cells other.cells stretch.broken_at other.broken_at is
+    at_lock in
     let with_cells : IsStretch profile intervals (stretch_of stretch.lock stretch.cells other.broken_at) =
     subst (λ xs. IsStretch profile intervals (stretch_of stretch.lock xs other.broken_at)) (sym cells) at_lock in
     let place : stretch.broken_at ≡ other.broken_at =

@@ -111,7 +111,8 @@ BreaksOrHas tape cut kept n s end =
     ((b : ℕ) × (s.broken_at ≡ Some b) × (b ≤ n + end)) ⊎ HasFrom tape cut kept n s end
 
 -- a stretch over the run: what it has kept before the halves `hs` at the end of the run, and the cells from there on
-pub record Over (l : List ℕ) (s : Stretch) (place whole : ℕ) (ones : List Cell) (even : ℕ) (more : List ℕ) : Type 0 where
+pub record Over (l : List ℕ) (s : Stretch) (place whole : ℕ) (ones : List Cell) (even : ℕ) (more : List ℕ) :
+    Type 0 where
   pub first : ℕ
   pub older : List Cell
   pub newer : List Cell
@@ -126,7 +127,8 @@ pub record Over (l : List ℕ) (s : Stretch) (place whole : ℕ) (ones : List Ce
   pub ends : s.lock + 1 + length (flat older) + length hs ≡ place
   pub follow : Follow Rough (kept_after Rough (kept_at_lock Rough first) older) newer
   pub none : NoneFits Rough (kept_after Rough (kept_after Rough (kept_at_lock Rough first) older) newer) rest
-  pub broken : IsBreak Rough (kept_after Rough (kept_after Rough (kept_at_lock Rough first) older) newer) (end_of s) rest
+  pub broken : IsBreak Rough (kept_after Rough (kept_after Rough (kept_at_lock Rough first) older) newer) (end_of s)
+      rest
       s.broken_at
   pub same : flat newer ++ rest ≡ hs ++ whole ∷ more
 
@@ -177,7 +179,8 @@ own_kept first ones four =
     ∙ kept_after-append Rough (kept_at_lock Rough first) four.older last
 
 -- a stretch that goes on keeps the same
-pub over_kept : (even first : ℕ) (ones : List Cell) (skipped hs : List ℕ) (latest : Latest) (cells : List Cell) (whole : ℕ)
+pub over_kept : (even first : ℕ) (ones : List Cell) (skipped hs : List ℕ) (latest : Latest) (cells : List Cell)
+    (whole : ℕ)
     → AreEvenOnes even ones → 4 ≤ length ones → flat ones ≡ skipped ++ hs → (on : GoOn hs latest cells whole hs)
     → kept_after Rough latest on.older ≡ kept_after Rough (kept_at_lock Rough first) ones
 over_kept even first ones skipped hs latest cells whole are many halves on =

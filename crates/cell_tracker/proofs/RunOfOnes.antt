@@ -173,7 +173,8 @@ cells_of_run kept tape cut end run =
 
 -- ---- the recording's own stretch there
 
-pub record OwnStretch (l : List ℕ) (tape : List Cell) (cut : ℕ) (kept : List ℕ) (n end first whole : ℕ) (ones : List Cell)
+pub record OwnStretch (l : List ℕ) (tape : List Cell) (cut : ℕ) (kept : List ℕ) (n end first whole : ℕ)
+    (ones : List Cell)
     : Type 0 where
   pub lock : ℕ
   pub before_run : lock + 1 + length (flat ones) ≡ n + end

@@ -22,14 +22,16 @@ pub record HuntingStandsFor (state : HuntingState) (intervals : List ℕ) (stret
   pub before : state.before ≡ last_of intervals
 
 -- the last stretch is open and ends with the list, and the state keeps what the tolerance keeps of its cells
-pub record AtCellStandsFor (state : AtCellState) (intervals : List ℕ) (earlier : List Stretch) (stretch : Stretch) : Type 0 where
+pub record AtCellStandsFor (state : AtCellState) (intervals : List ℕ) (earlier : List Stretch) (stretch : Stretch) :
+    Type 0 where
   pub stretches_are : AreStretches state.profile intervals (earlier ++ stretch ∷ [])
   pub open_yet : stretch.broken_at ≡ None
   pub ends : end_of stretch ≡ length intervals
   pub kept : kept_of state.profile stretch.cells ≡ state.latest
 
 -- the last stretch is open and ends one interval before the list, which is the waiting half
-pub record MidCellStandsFor (state : MidCellState) (intervals : List ℕ) (earlier : List Stretch) (stretch : Stretch) : Type 0 where
+pub record MidCellStandsFor (state : MidCellState) (intervals : List ℕ) (earlier : List Stretch) (stretch : Stretch) :
+    Type 0 where
   pub stretches_are : AreStretches state.profile intervals (earlier ++ stretch ∷ [])
   pub open_yet : stretch.broken_at ≡ None
   pub ends : end_of stretch + 1 ≡ length intervals

@@ -61,13 +61,16 @@ pub fn a_recording_within_the_tolerance_is_one_stretch()
 /// chain, and keeps the length of the cell that ends there; inside a cell it keeps the first half of a
 /// one of the chain, and the length of the cell before it.
 pub fn states_stand_in_the_recording()
-    ensures hunting { (state : HuntingState) (intervals : List ℕ) (stretches : List Stretch) (cells : List Cell) (cut : ℕ)
+    ensures hunting { (state : HuntingState) (intervals : List ℕ) (stretches : List Stretch) (cells : List Cell)
+        (cut : ℕ)
         → HuntingStandsFor state intervals stretches → IsPiece state.profile intervals cells cut
         → HasNoLock state.profile intervals 0 }
-    ensures at_cell { (state : AtCellState) (intervals : List ℕ) (earlier : List Stretch) (stretch : Stretch) (cells : List Cell) (cut : ℕ)
+    ensures at_cell { (state : AtCellState) (intervals : List ℕ) (earlier : List Stretch) (stretch : Stretch)
+        (cells : List Cell) (cut : ℕ)
         → AtCellStandsFor state intervals earlier stretch → IsPiece state.profile intervals cells cut
         → StandsAtBoundary state cells (cut + length intervals) }
-    ensures mid_cell { (state : MidCellState) (intervals : List ℕ) (earlier : List Stretch) (stretch : Stretch) (cells : List Cell) (cut : ℕ)
+    ensures mid_cell { (state : MidCellState) (intervals : List ℕ) (earlier : List Stretch) (stretch : Stretch)
+        (cells : List Cell) (cut : ℕ)
         → MidCellStandsFor state intervals earlier stretch → IsPiece state.profile intervals cells cut
         → StandsInsideOne state cells (cut + length intervals) }
 {}
@@ -113,12 +116,11 @@ pub fn rough_recordings_are_found_behind_even_ones_alone()
         } ∷ []) }
 {}
 
-/// Mirror, for the tolerances that look at the last cell: where a recording and the same intervals in the other order of
-/// time are both within the tolerance, their cells are the same between the greater intervals of the
-/// first and of the last unequal pair, each in its order. The lock of the mirror is the number of intervals behind them.
+/// Mirror: where a recording and the same intervals in the other order of time are both within the
+/// tolerance, their cells are the same between the greater intervals of the first and of the last unequal
+/// pair, each in its order. The lock of the mirror is the number of intervals behind them.
 pub fn a_mirrored_recording_has_the_mirrored_cells()
-    ensures { (profile : Profile) → LooksAtLast profile → (intervals : List ℕ) (cells others : List Cell)
-        (cut place first last : ℕ)
+    ensures { (profile : Profile) (intervals : List ℕ) (cells others : List Cell) (cut place first last : ℕ)
         → IsPiece profile intervals cells cut → IsPiece profile (reverse intervals) others place
         → IsLock profile intervals 0 first → IsLock profile (reverse intervals) 0 last
         → BeginMirrored (cells_from cells cut intervals first) (cells_from others place (reverse intervals) last)
@@ -129,12 +131,17 @@ pub fn a_mirrored_recording_has_the_mirrored_cells()
 /// alone, with a break behind it and with a half; a zero before this word from its end, and before
 /// 80 bits that begin and end in the sync word; a stretch that breaks, and one that begins there.
 pub fn small_recordings_have_these_stretches()
-    ensures word { AreStretches Normal (recording 82 0x2fff02000000000000002) (stretch_of 82 0x2fff02000000000000002 None ∷ []) }
-    ensures broken { AreStretches Normal (recording 82 0x2fff02000000000000002 ++ 5 ∷ []) (stretch_of 82 0x2fff02000000000000002 (Some 97) ∷ []) }
-    ensures half { AreStretches Normal (recording 82 0x2fff02000000000000002 ++ 12 ∷ []) (stretch_of 82 0x2fff02000000000000002 None ∷ []) }
+    ensures word { AreStretches Normal (recording 82 0x2fff02000000000000002)
+        (stretch_of 82 0x2fff02000000000000002 None ∷ []) }
+    ensures broken { AreStretches Normal (recording 82 0x2fff02000000000000002 ++ 5 ∷ [])
+        (stretch_of 82 0x2fff02000000000000002 (Some 97) ∷ []) }
+    ensures half { AreStretches Normal (recording 82 0x2fff02000000000000002 ++ 12 ∷ [])
+        (stretch_of 82 0x2fff02000000000000002 None ∷ []) }
     ensures from_its_end { AreStretches Normal (recording 81 0x207ffa) (stretch_of 81 0x207ffa None ∷ []) }
-    ensures both { AreStretches Normal (recording 81 0x17ff80000000000007ffa) (stretch_of 81 0x17ff80000000000007ffa None ∷ []) }
-    ensures two { AreStretches Normal (24 ∷ 12 ∷ 24 ∷ 12 ∷ 12 ∷ []) (with_break 2 (begun 0 24) ∷ with_cell (One 12 12) (begun 2 24) ∷ []) }
+    ensures both { AreStretches Normal (recording 81 0x17ff80000000000007ffa)
+        (stretch_of 81 0x17ff80000000000007ffa None ∷ []) }
+    ensures two { AreStretches Normal (24 ∷ 12 ∷ 24 ∷ 12 ∷ 12 ∷ [])
+        (with_break 2 (begun 0 24) ∷ with_cell (One 12 12) (begun 2 24) ∷ []) }
 {}
 
 /// Recordings of the rough tolerance, by hand: the lock at the first unequal pair; a zero too short by
@@ -144,12 +151,16 @@ pub fn small_recordings_have_these_stretches()
 pub fn rough_recordings_have_these_stretches()
     ensures lock { AreStretches Rough (100 ∷ 100 ∷ 50 ∷ 50 ∷ 100 ∷ [])
         (with_cell (Zero 100) (with_cell (One 50 50) (begun 1 100)) ∷ []) }
-    ensures broken { AreStretches Rough (100 ∷ 50 ∷ 50 ∷ 74 ∷ []) (with_break 3 (with_cell (One 50 50) (begun 0 100)) ∷ []) }
-    ensures short { AreStretches Rough (100 ∷ 50 ∷ 50 ∷ 75 ∷ []) (with_cell (Zero 75) (with_cell (One 50 50) (begun 0 100)) ∷ []) }
+    ensures broken { AreStretches Rough (100 ∷ 50 ∷ 50 ∷ 74 ∷ [])
+        (with_break 3 (with_cell (One 50 50) (begun 0 100)) ∷ []) }
+    ensures short { AreStretches Rough (100 ∷ 50 ∷ 50 ∷ 75 ∷ [])
+        (with_cell (Zero 75) (with_cell (One 50 50) (begun 0 100)) ∷ []) }
     ensures long { AreStretches Rough (100 ∷ 50 ∷ 50 ∷ 125 ∷ 125 ∷ 125 ∷ 125 ∷ 156 ∷ [])
-        (record { lock = 0; cells = Zero 100 ∷ One 50 50 ∷ Zero 125 ∷ Zero 125 ∷ Zero 125 ∷ Zero 125 ∷ Zero 156 ∷ []; broken_at = None } ∷ []) }
+        (record { lock = 0; cells = Zero 100 ∷ One 50 50 ∷ Zero 125 ∷ Zero 125 ∷ Zero 125 ∷ Zero 125 ∷ Zero 156 ∷ [];
+            broken_at = None } ∷ []) }
     ensures longer { AreStretches Rough (100 ∷ 50 ∷ 50 ∷ 125 ∷ 125 ∷ 125 ∷ 125 ∷ 157 ∷ [])
-        (record { lock = 0; cells = Zero 100 ∷ One 50 50 ∷ Zero 125 ∷ Zero 125 ∷ Zero 125 ∷ Zero 125 ∷ []; broken_at = Some 7 } ∷ []) }
+        (record { lock = 0; cells = Zero 100 ∷ One 50 50 ∷ Zero 125 ∷ Zero 125 ∷ Zero 125 ∷ Zero 125 ∷ [];
+            broken_at = Some 7 } ∷ []) }
     ensures third { AreStretches Rough (99 ∷ 33 ∷ []) (begun 0 99 ∷ []) }
     ensures less { AreStretches Rough (100 ∷ 33 ∷ []) [] }
 {}

@@ -1,6 +1,8 @@
 -- A word that bits spell is the one that stands there, and their first fault is that of the fields that stand there. So
--- the events that are gathered of a window, of windows and of stretches are those of the lists, and the other way round.
-use Rattle.std.proofs.Common.{◌≡◌, ℕ, List, [], ◌∷◌, ◌++◌, true, false, Some, None, refl, ap, ap₂, sym, ◌∙◌, subst, ◌+◌, ◌-◌, length, take, drop, map, arith}
+-- the events that are gathered of a window, of windows and of stretches are those of the lists, and the other way
+-- round.
+use Rattle.std.proofs.Common.{◌≡◌, ℕ, List, [], ◌∷◌, ◌++◌, true, false, Some, None, refl, ap, ap₂, sym, ◌∙◌, subst, ◌+◌}
+use Rattle.std.proofs.Common.{◌-◌, length, take, drop, map, arith}
 use Rattle.std.proofs.Common.{IsSomeAnd, inl, inr, append-nil}
 use Rattle.std.specs.List.{flat_map, range_with_len}
 use Rattle.std.specs.declared.option.Option.{Option}
@@ -29,7 +31,8 @@ use Rattle.direction_reader.specs.Candidate.{IsEventOf, AreEventsOf, event_of, c
 use Rattle.direction_reader.specs.Events.{listed, event_list}
 use Rattle.direction_reader.specs.Gathered.{AreEventsOfWindows, AreEventsOfStretch, AreEventsOfStretches, AreGathered}
 use Rattle.direction_reader.specs.Gathered.{begin_of}
-use Rattle.direction_reader.specs.ListEvents.{bits_in, break_events, duration, events_at, events_of_cells, events_of_stretch}
+use Rattle.direction_reader.specs.ListEvents.{bits_in, break_events, duration, events_at, events_of_cells}
+use Rattle.direction_reader.specs.ListEvents.{events_of_stretch}
 use Rattle.direction_reader.specs.ListEvents.{events_of_window, AreEvents}
 use Rattle.direction_reader.specs.Windows.{CellWindow, number_of, window_at, windows}
 use Rattle.direction_reader.proofs.EventsExist.{AreRead, stretches_events}
@@ -53,7 +56,8 @@ pub record StandThere : Type 0 where
 -- the event by the first fault of the fields
 pub by_fault : (system : System) (direction : Direction) (bits end length : ℕ) (event : Event) (o : Option FieldFault)
     → fault_in system bits ≡ o
-    → event ≡ elim o [ None ↦ Word direction (word_in system bits) end length | Some fault ↦ Refused direction fault end ]
+    → event
+    ≡ elim o [ None ↦ Word direction (word_in system bits) end length | Some fault ↦ Refused direction fault end ]
     → event ≡ event_of system direction bits end length
 by_fault system direction bits end length event o is same = rw (is, event_of) same
 
@@ -103,7 +107,8 @@ of_window there system w own are =
       | inl forward ↦ elim (eqb_tells (number_in SYNC back) SYNC_PATTERN) [
         | inl backward ↦ both_listed own one two
             (some_listed there system Forward w.bits w.end w.length own.first forward.0 (are.forward forward.1))
-            (some_listed there system Backward back w.end w.length own.second backward.0 (are.both forward.1 backward.1))
+            (some_listed there system Backward back w.end w.length own.second backward.0
+            (are.both forward.1 backward.1))
         | inr not_back ↦ both_listed own one two
             (some_listed there system Forward w.bits w.end w.length own.first forward.0 (are.forward forward.1))
             (none_listed system Backward back w.end w.length own.second not_back.0 (are.one forward.1 not_back.1))
@@ -112,7 +117,8 @@ of_window there system w own are =
         | inl backward ↦ (
             let mine = are.backward backward.1 not_forward.1 in
             last_listed own one two
-            (some_listed there system Backward back w.end w.length own.first backward.0 mine.0) mine.1 (rw not_forward.0 refl))
+            (some_listed there system Backward back w.end w.length own.first backward.0 mine.0) mine.1
+            (rw not_forward.0 refl))
         | inr not_back ↦ (
             let mine = are.none not_forward.1 not_back.1 in
             both_listed own one two
@@ -149,7 +155,8 @@ of_stretches : StandThere → (system : System) (l : List ℕ) (ss : List Stretc
     → AreEventsOfStretches system l ss es → es ≡ flat_map (events_of_stretch system l) ss
 of_stretches there system l [] es are = are
 of_stretches there system l (s ∷ ss) es (own, rest, is, others, join) =
-    join ∙ ap₂ (λ (a b : List Event). a ++ b) (of_stretch there system l s own is) (of_stretches there system l ss rest others)
+    join ∙ ap₂ (λ (a b : List Event). a ++ b) (of_stretch there system l s own is)
+    (of_stretches there system l ss rest others)
 
 -- the events that are gathered are those of the list
 pub as_list : StandThere → (system : System) (profile : Profile) (l : List ℕ) (es : List Event)

@@ -159,7 +159,8 @@ cell_more old kept tick end cells cell stands ends is_bits is_boundaries =
     let ends_too : end ≡ tick + duration (stands.older ++ stands.newest) + length_of cell =
     subst (λ l. end ≡ tick + duration l + length_of cell) same ends in
     subst (λ l. CellsStandFor kept tick (l ++ cell ∷ [])) (sym same)
-    (grown old.bits old.boundaries kept tick end stands.older stands.newest cell stands.bits_are stands.boundaries_are ends_too is_bits is_boundaries)
+    (grown old.bits old.boundaries kept tick end stands.older stands.newest cell stands.bits_are stands.boundaries_are
+    ends_too is_bits is_boundaries)
 
 -- no cell yet
 pub none_yet : (tick : ℕ) → CellsStandFor (no_cells tick) tick []

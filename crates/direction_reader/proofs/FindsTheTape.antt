@@ -258,7 +258,7 @@ some_place None from is = absurd is
 some_place (Some p) from is = (p, refl, is)
 
 -- the cells of a stretch end at the sum of the list up to their end
-end_tick : (profile : Profile) (l : List ℕ) (s : Stretch) → IsStretch profile l s
+pub end_tick : (profile : Profile) (l : List ℕ) (s : Stretch) → IsStretch profile l s
     → sum (take (end_of s) l) ≡ begin_of l s + duration s.cells
 end_tick profile l s is = sum_at l (flat s.cells) is.chain.front.0 s.lock is.chain.front.1
 
@@ -406,7 +406,8 @@ pub record Fronts : Type 0 where
 -- what the events are from a place on, where the stretches of a front are the tape's from there on
 pub tells_from : AreListed → Fronts → (system : System) (profile : Profile) (l : List ℕ) (es : List Event)
     → AreEvents system profile l es → (front behind : List ℕ) (from : ℕ) (cells : List Cell) → l ≡ front ++ behind
-    → ((ss : List Stretch) → AreStretches profile front ss → AreFrom from cells ss) → TellFrom system front from cells es
+    → ((ss : List Stretch) → AreStretches profile front ss → AreFrom from cells ss)
+    → TellFrom system front from cells es
 tells_from lists fronts system profile l es are front behind from cells same law =
     let whole = subst (λ (xs : List ℕ). AreEvents system profile xs es) same are in
     let mine = fronts.exist system profile front in

@@ -170,7 +170,7 @@ add_within before tick waits firm sync found late within at =
 
 -- ---- in turn
 
-in_turn_append : (xs ys : List ℕ) (a b c : ℕ) → DoNotFall a xs b → DoNotFall b ys c → DoNotFall a (xs ++ ys) c
+pub in_turn_append : (xs ys : List ℕ) (a b c : ℕ) → DoNotFall a xs b → DoNotFall b ys c → DoNotFall a (xs ++ ys) c
 in_turn_append [] [] a b c one two = omega (arith, one, two)
 in_turn_append [] (y ∷ ys) a b c one two = let first = two.0 in (omega (arith, one, first), two.1)
 in_turn_append (x ∷ xs) ys a b c one two = (one.0, in_turn_append xs ys x b c one.1 two)

@@ -1,7 +1,8 @@
--- What is told of the front of a list comes first in what is told of the list, and in its events: a further cell decides
--- of no window that was told whether it has its witness. And what follows ends later, since the windows of a list end
--- one after another, with witnesses as without.
-use Rattle.std.proofs.Common.{◌≡◌, ◌<◌, ◌≤◌, ◌⊎◌, ℕ, ◌+◌, ◌-◌, Bool, true, List, [], ◌∷◌, ◌++◌, length, take, drop, map, sum}
+-- What is told of the front of a list comes first in what is told of the list, and in its events: a further cell
+-- decides of no window that was told whether it has its witness. And what follows ends later, since the windows of a
+-- list end one after another, with witnesses as without.
+use Rattle.std.proofs.Common.{◌≡◌, ◌<◌, ◌≤◌, ◌⊎◌, ℕ, ◌+◌, ◌-◌, Bool, true, List, [], ◌∷◌, ◌++◌, length, take, drop, map}
+use Rattle.std.proofs.Common.{sum}
 use Rattle.std.proofs.Common.{Option, Some, None, MatchOption, All, ap, ap₂, sym, ◌∙◌, arith, refl, subst, inl, inr}
 use Rattle.std.proofs.Common.{append_assoc, append-nil, length-append, zero, suc}
 use Rattle.std.specs.List.{flat_map, AllZip}
@@ -233,7 +234,8 @@ cells_before laws system tick now later until last cells more told told_later (i
     )
 cells_before laws system tick now later until last cells more told told_later (inr one) (inr two) =
     let all = cells ++ more in
-    let up = up_to_later system tick all one.0 two.0 (later_waits laws system tick cells more one.0 two.0 one.1 two.1) in
+    let up = up_to_later system tick all one.0 two.0 (later_waits laws system tick cells more one.0 two.0 one.1
+    two.1) in
     let front : told_before system tick all one.0 ≡ told =
     before_stays laws system tick cells more one.0 one.1 ∙ sym one.2 in
     (up.0, two.2 ∙ up.1 ∙ ap (λ (es : List FirmEvent). es ++ up.0) front)
@@ -604,7 +606,8 @@ until_later : (told tail last_rest rest : List FirmEvent) (until last sum_of_fro
 until_later told tail last_rest rest until last n now before is from (inl same) = omega (arith, before, same)
 until_later told tail last_rest rest until last n now before is from (inr next) =
     let all : All (IsFrom until) (tail ++ next.0 ∷ next.1) =
-    subst (λ (es : List FirmEvent). All (IsFrom until) es) (is ∙ ap (λ (es : List FirmEvent). tail ++ es) next.2) from in
+    subst (λ (es : List FirmEvent). All (IsFrom until) es) (is ∙ ap (λ (es : List FirmEvent). tail ++ es) next.2)
+    from in
     let there = of_behind tail next.0 next.1 until all in
     let tick = next.3 in
     omega (arith, there, tick)
@@ -633,7 +636,8 @@ more_behind laws system profile front more told later until now (ss, stretches, 
     record {
       rest = tail.0;
       are = tail.1;
-      later = front_from tail.0 own.rest until (subst (λ (es : List FirmEvent). All (IsFrom until) es) rest behind.later);
+      later = front_from tail.0 own.rest until (subst (λ (es : List FirmEvent). All (IsFrom until) es) rest
+      behind.later);
       before = until_later told tail.0 own.rest behind.rest until now (sum front) (sum (front ++ more)) behind.before
           rest behind.later own.next;
     }

@@ -1,5 +1,6 @@
 -- The candidates of a window bear the tick at its end, and windows end one after another.
-use Rattle.std.proofs.Common.{◌≡◌, ◌<◌, ◌≤◌, ◌⊎◌, ℕ, zero, suc, ◌+◌, ◌-◌, Bool, true, false, List, [], ◌∷◌, ◌++◌, length}
+use Rattle.std.proofs.Common.{◌≡◌, ◌<◌, ◌≤◌, ◌⊎◌, ℕ, zero, suc, ◌+◌, ◌-◌, Bool, true, false, List, [], ◌∷◌, ◌++◌}
+use Rattle.std.proofs.Common.{length}
 use Rattle.std.proofs.Common.{take, drop, map, sum, All, Option, Some, None, inl, inr}
 use Rattle.std.proofs.Common.{ap, sym, ◌∙◌, arith, refl, subst}
 use Rattle.std.proofs.lemmas.List.{take_all}
@@ -43,7 +44,7 @@ event_tick system d bits end n =
     subst (λ (e : Event). tick_of e ≡ end)
     (by_fault system d bits end n (event_by system d bits end n o) o refl refl) (tick_by system d bits end n o)
 
-abbrev EndsAt : ℕ → Event → Type 0
+abbrev pub EndsAt : ℕ → Event → Type 0
 EndsAt end event = tick_of event ≡ end
 
 -- bits are one candidate, or none
@@ -71,7 +72,8 @@ candidate_ticks system tick cells k Backward =
     found_ticks system Backward bits (end_of_window tick cells k) (duration window) (ends_in_sync bits) refl
 
 -- the first candidate of a window
-pub first_tick : (system : System) (tick : ℕ) (cells : List Cell) (k : ℕ) (d : Direction) (e : Event) (more : List Event)
+pub first_tick : (system : System) (tick : ℕ) (cells : List Cell) (k : ℕ) (d : Direction) (e : Event)
+    (more : List Event)
     → candidate_at system tick cells k d ≡ e ∷ more → tick_of e ≡ end_of_window tick cells k
 first_tick system tick cells k d e more is =
     let end = end_of_window tick cells k in

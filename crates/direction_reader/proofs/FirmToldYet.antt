@@ -1,7 +1,9 @@
 -- What a reader has told is what is told of its list while more may follow. At most one word waits, so a list has one
 -- such list of events.
-use Rattle.std.proofs.Common.{◌≡◌, ◌<◌, ◌≤◌, ℕ, zero, suc, ◌+◌, ◌-◌, List, [], ◌∷◌, ◌++◌, length, Some, None, Option, ap, sym, ◌∙◌}
-use Rattle.std.proofs.Common.{arith, refl, subst, append-nil, append_assoc, inl, inr, ◌⊎◌, All, Bool, true, false, map, take, sum, drop}
+use Rattle.std.proofs.Common.{◌≡◌, ◌<◌, ◌≤◌, ℕ, zero, suc, ◌+◌, ◌-◌, List, [], ◌∷◌, ◌++◌, length, Some, None, Option}
+use Rattle.std.proofs.Common.{ap, sym, ◌∙◌}
+use Rattle.std.proofs.Common.{arith, refl, subst, append-nil, append_assoc, inl, inr, ◌⊎◌, All, Bool, true, false, map}
+use Rattle.std.proofs.Common.{take, sum, drop}
 use Rattle.std.proofs.Common.{length-append, MatchOption, IsSome}
 use Rattle.std.specs.List.{flat_map}
 use Rattle.std.proofs.lemmas.Bool.{cases_lt}
@@ -18,7 +20,8 @@ use Rattle.direction_reader.specs.declared.firm_event.FirmEvent.{FirmEvent}
 use Rattle.direction_reader.specs.declared.firm_event.FirmEvent.TheVariants.{Told, Alone}
 use Rattle.direction_reader.specs.declared.waiting.Waiting.{Waiting}
 use Rattle.direction_reader.specs.Events.{is_word, tick_of}
-use Rattle.direction_reader.specs.Firm.{candidate_at, firm_candidate_at, firm_events_of_cells, judged, firm_events_of_stretch}
+use Rattle.direction_reader.specs.Firm.{candidate_at, firm_candidate_at, firm_events_of_cells, judged}
+use Rattle.direction_reader.specs.Firm.{firm_events_of_stretch}
 use Rattle.direction_reader.specs.FirmReader.{FirmState, FirmLatest, FirmStandsFor, told_until}
 use Rattle.direction_reader.specs.FirmStandsFor.{WaitsFor, NeedsNone, spans}
 use Rattle.direction_reader.specs.FirmStep.{until_of}
@@ -103,7 +106,8 @@ not_nil earlier last is =
 open_last : (system : System) (profile : Profile) (l : List ℕ) (start : ℕ) (earlier : List Stretch) (last : Stretch)
     (own : List FirmEvent) (until : ℕ) → AreStretchesFrom profile l start (earlier ++ last ∷ []) → last.broken_at ≡ None
     → AreToldOfCells system (begin_of l last) last.cells (sum l) own until
-    → AreToldOfStretches system l (earlier ++ last ∷ []) (flat_map (firm_events_of_stretch system l) earlier ++ own) until
+    → AreToldOfStretches system l (earlier ++ last ∷ []) (flat_map (firm_events_of_stretch system l) earlier ++ own)
+    until
 open_last system profile l start [] last own until stretches open_yet are =
     subst (λ (o : Option ℕ).
     MatchOption o (TellsOpen system l last [] own until) (TellsBroken system l last [] own until))
@@ -120,7 +124,8 @@ open_last system profile l start (s ∷ earlier) last own until stretches open_y
 open_list : (r : FirmState) (profile : Profile) (l : List ℕ) (told latest : List FirmEvent) (earlier : List Stretch)
     (s : Stretch) → r.tick ≡ sum l → AreStretches profile l (earlier ++ s ∷ []) → s.broken_at ≡ None
     → WaitsFor r.cells.waits r.system (begin_of l s) s.cells latest
-    → told ≡ flat_map (firm_events_of_stretch r.system l) earlier ++ latest → AreTold r.system profile l told (told_until r)
+    → told ≡ flat_map (firm_events_of_stretch r.system l) earlier ++ latest
+    → AreTold r.system profile l told (told_until r)
 open_list r profile l told latest earlier s sum_is stretches open_yet waits all =
     let ss = earlier ++ s ∷ [] in
     let own = subst (λ (n : ℕ). AreToldOfCells r.system (begin_of l s) s.cells n latest (told_until r)) sum_is
@@ -261,7 +266,8 @@ find_waiting system tick cells (suc n) =
           | inl young ↦ elim (waits_or_not system tick cells n within young) [
             | inl waits ↦ inl (n, waits)
             | inr needs ↦ inr (rw more (none_more system tick cells n none (λ waits.
-                no_need waits.word (candidate_at system tick cells n Backward) waits.there waits.is (needs true false))))
+                no_need waits.word (candidate_at system tick cells n Backward) waits.there waits.is
+                (needs true false))))
           ]
           | inr old ↦ inr (rw more (none_more system tick cells n none
               (λ waits. let young = waits.young in absurd (omega (arith, young, old)))))

@@ -178,7 +178,8 @@ stretches_first exact profile system l more start (s ∷ ss) (t ∷ ts) es fs fr
     let again : (next : ℕ) → AreStretchesFrom profile l next ss → Begins rest rest' =
     λ next after. stretches_first exact profile system l more next ss ts rest rest' after go.1 others others' in
     subst (λ e. Begins e fs) (sym join)
-    (behind exact profile system l more s t ss ts s.broken_at own own' rest rest' fs refl again from.1 from.2 go.0 is is' others join')
+    (behind exact profile system l more s t ss ts s.broken_at own own' rest rest' fs refl again from.1 from.2 go.0 is
+    is' others join')
 
 -- the events of the front of a list come first
 pub front_first : IsExact → StretchesGoOn → (system : System) (profile : Profile) (l more : List ℕ) (es fs : List Event)

@@ -295,7 +295,7 @@ late_stretch profile system l n t es is late (own, are, join) =
     (break_from l n t.broken_at (late_break profile l n t is (omega (arith, end, late)))))
 
 -- a lock stands at its first pair or behind it
-lock_behind : (profile : Profile) (l : List ℕ) (start lock : ℕ) (is : IsLock profile l start lock) → is.pair ≤ lock
+pub lock_behind : (profile : Profile) (l : List ℕ) (start lock : ℕ) (is : IsLock profile l start lock) → is.pair ≤ lock
 lock_behind profile l start lock is = elim (cases_order (get_or l is.pair 0) (get_or l (is.pair + 1) 0)) [
   | inl same ↦ absurd (unequal_differ profile _ _ is.unequal.1 same)
   | inr (inl rises) ↦ omega (arith, is.rising rises)
@@ -531,7 +531,8 @@ later_step : IsExact → (profile : Profile) (system : System) (l more : List �
     → AreEventsOfStretches system l ss those → AreEventsOfStretches system (l ++ more) ts those'
     → (own ++ those) ++ rest ≡ own' ++ those'
     → All (IsFrom (length l) (sum (take (length l) (l ++ more)))) rest
-later_step exact profile system l more s t ss ts None own own' those those' rest at again is last goes next go are too others others' join =
+later_step exact profile system l more s t ss ts None own own' those those' rest at again is last goes next go are too
+    others others' join =
     let whole = l ++ more in
     let n = length l in
     let tick = sum (take n whole) in

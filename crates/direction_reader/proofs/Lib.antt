@@ -18,6 +18,7 @@ pub mod FirmTicks
 pub mod FirmToldYet
 pub mod FirmWindows
 pub mod FrontsFirst
+pub mod InOrder
 pub mod InSync
 pub mod LaterEvents
 pub mod MirroredEvents

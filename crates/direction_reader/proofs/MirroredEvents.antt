@@ -14,7 +14,6 @@ use Rattle.std.proofs.lemmas.List.FromFn.{get_or-map-range_with_len, length-map-
 use Rattle.std.proofs.lemmas.List.Sums.{sum_by-append}
 use Rattle.biphase.specs.declared.cell.Cell.{Cell}
 use Rattle.biphase.specs.declared.profile.Profile.{Profile}
-use Rattle.biphase.specs.Tolerance.{LooksAtLast}
 use Rattle.biphase.specs.Chain.{intervals_of, flat}
 use Rattle.biphase.specs.Mirror.{mirrored}
 use Rattle.cell_tracker.specs.ChainPiece.{IsPiece, cells_from}
@@ -173,7 +172,8 @@ window_mirrors exact back system bits end there length total begin cells own oth
         | inl backward ↦ (
             let mine = are.backward backward not_forward in
             one_mirror total begin cells own other
-            (some_mirrors exact system Backward turn end there length total begin cells own.first other.first at place mine.0 (too.forward backward))
+            (some_mirrors exact system Backward turn end there length total begin cells own.first other.first at place
+            mine.0 (too.forward backward))
             mine.1 (too.one backward (no_sync not_forward)))
         | inr not_back ↦ none_mirror total begin cells own other (are.none not_forward not_back)
             (too.none not_back (no_sync not_forward))
@@ -263,7 +263,7 @@ all_mirror exact back system total begin cells (w ∷ ws) es fs fit (own, rest, 
 
 -- the cells of a mirrored recording
 abbrev pub AreTheSame : Type 0
-AreTheSame = (profile : Profile) → LooksAtLast profile → (intervals : List ℕ) (cells others : List Cell)
+AreTheSame = (profile : Profile) (intervals : List ℕ) (cells others : List Cell)
     (cut place first last : ℕ) → IsPiece profile intervals cells cut
     → IsPiece profile (reverse intervals) others place → IsLock profile intervals 0 first
     → IsLock profile (reverse intervals) 0 last
@@ -353,8 +353,8 @@ pub mirrors_the_tape : AreListed → IsExact → TurnsBack → AreTheSame → Is
     (es fs : List Event) → AreEvents system profile l es → AreEvents system profile (reverse l) fs
     → MirrorsTheTape system profile l es fs
 mirrors_the_tape lists exact back law stretch one system profile l es fs are too =
-    λ looks tape other cut place first last piece turned_piece lock last_lock.
-    let m = law profile looks l tape other cut place first last piece turned_piece lock last_lock in
+    λ tape other cut place first last piece turned_piece lock last_lock.
+    let m = law profile l tape other cut place first last piece turned_piece lock last_lock in
     let middle = m.middle in
     let tick = sum (take first l) in
     let other_tick = sum (take last (reverse l)) in

@@ -1,5 +1,7 @@
--- Writing over the oldest place of a ring drops its oldest entry and adds one at the end; so it does for the latest entries of the ring.
-use Rattle.std.proofs.Common.{◌≡◌, ◌<◌, ◌≤◌, ℕ, ◌+◌, ◌-◌, List, [], ◌∷◌, ◌++◌, length, take, drop, arith, sym, ◌∙◌, ap, length-drop}
+-- Writing over the oldest place of a ring drops its oldest entry and adds one at the end; so it does for the latest
+-- entries of the ring.
+use Rattle.std.proofs.Common.{◌≡◌, ◌<◌, ◌≤◌, ℕ, ◌+◌, ◌-◌, List, [], ◌∷◌, ◌++◌, length, take, drop, arith, sym, ◌∙◌, ap}
+use Rattle.std.proofs.Common.{length-drop}
 use Rattle.std.proofs.Common.{append_assoc, append-nil, inl, inr, ◌%◌}
 use Rattle.std.specs.Prelude.{slice_set, slice_index}
 use Rattle.std.proofs.Math.Nat.{eq-or-lt_of_le}
@@ -8,7 +10,8 @@ use Rattle.std.proofs.lemmas.Grind.{common_steps}
 use Rattle.std.proofs.Math.Decide.{dec_lt}
 use Rattle.std.proofs.Math.ListN.{get_or}
 use Rattle.std.proofs.Math.Seq.{get_or-append_right}
-use Rattle.std.proofs.lemmas.List.{drop-set-lt, take_more_set, drop-append-le, drop-drop, get_or-drop, get_or_append_left, get_or-take}
+use Rattle.std.proofs.lemmas.List.{drop-set-lt, take_more_set, drop-append-le, drop-drop, get_or-drop}
+use Rattle.std.proofs.lemmas.List.{get_or_append_left, get_or-take}
 
 -- without its first entry, a list that begins at place k begins at the next
 drop_one-turned : (xs : List ℕ) (k : ℕ) → k < length xs → drop 1 (drop k xs ++ take k xs) ≡ drop (k + 1) xs ++ take k xs
@@ -36,18 +39,21 @@ written_at_the_end xs k v p =
 
 -- the next place is one further round the ring
 pub overwritten : (xs : List ℕ) (k v : ℕ) → length xs ≡ 256 → k < 256 →
-    drop ((k + 1) % 256) (slice_set xs k v) ++ take ((k + 1) % 256) (slice_set xs k v) ≡ with_tick (drop k xs ++ take k xs) v
+    drop ((k + 1) % 256) (slice_set xs k v) ++ take ((k + 1) % 256) (slice_set xs k v)
+    ≡ with_tick (drop k xs ++ take k xs) v
 overwritten xs k v e p = elim (eq-or-lt_of_le (let h : k + 1 ≤ 256 = omega arith in h)) [
   | inr before ↦ (let same : (k + 1) % 256 ≡ k + 1 = omega arith in rw same (written_over xs k v (omega arith)))
   | inl last ↦ (let first : (k + 1) % 256 ≡ 0 = omega arith in rw first (written_at_the_end xs k v (omega arith)))
 ]
 
 -- a list with its oldest entry gone and one more at the end has so many latest entries
-latest-with_tick : (n : ℕ) (ticks : List ℕ) (v : ℕ) → n < length ticks → drop n (with_tick ticks v) ≡ with_tick (drop n ticks) v
+latest-with_tick : (n : ℕ) (ticks : List ℕ) (v : ℕ) → n < length ticks
+    → drop n (with_tick ticks v) ≡ with_tick (drop n ticks) v
 latest-with_tick n ticks v p =
     let some : n ≤ length (drop 1 ticks) = omega (arith, length-drop 1 ticks) in
     let same : drop n (drop 1 ticks) ≡ drop 1 (drop n ticks) =
-    drop-drop n 1 ticks ∙ ap (λ m. drop m ticks) (let e : 1 + n ≡ n + 1 = omega arith in e) ∙ sym (drop-drop 1 n ticks) in
+    drop-drop n 1 ticks ∙ ap (λ m. drop m ticks) (let e : 1 + n ≡ n + 1 = omega arith in e)
+    ∙ sym (drop-drop 1 n ticks) in
     drop-append-le n (drop 1 ticks) (v ∷ []) some ∙ ap (λ ys. ys ++ v ∷ []) same
 
 -- so many entries has a ring, wherever it begins
@@ -68,10 +74,12 @@ latest_written xs k v e p =
     ap (drop 175) (overwritten xs k v e p) ∙ latest-with_tick 175 (drop k xs ++ take k xs) v (omega arith)
 
 -- the oldest of the latest entries stands 175 places behind the next one, round the ring
-pub latest_oldest : (xs : List ℕ) (k : ℕ) → length xs ≡ 256 → k < 256 → slice_index (latest_of xs k) 0 ≡ slice_index xs ((k + 175) % 256)
+pub latest_oldest : (xs : List ℕ) (k : ℕ) → length xs ≡ 256 → k < 256
+    → slice_index (latest_of xs k) 0 ≡ slice_index xs ((k + 175) % 256)
 latest_oldest xs k e p =
     let back = length-drop k xs in
-    let there : get_or (latest_of xs k) 0 0 ≡ get_or (drop k xs ++ take k xs) 175 0 = get_or-drop 175 (drop k xs ++ take k xs) 0 0 in
+    let there : get_or (latest_of xs k) 0 0 ≡ get_or (drop k xs ++ take k xs) 175 0 =
+    get_or-drop 175 (drop k xs ++ take k xs) 0 0 in
     elim (dec_lt (k + 175) 256) [
       | yes before ↦ (
           let place : (k + 175) % 256 ≡ k + 175 = omega arith in

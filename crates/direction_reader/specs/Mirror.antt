@@ -3,7 +3,6 @@ use Rattle.std.specs.Prelude.{◌≡◌, ℕ, ◌+◌, ◌<◌, ◌≤◌, List,
 use Rattle.std.specs.List.{AllZip}
 use Rattle.biphase.specs.declared.cell.Cell.{Cell}
 use Rattle.biphase.specs.declared.profile.Profile.{Profile}
-use Rattle.biphase.specs.Tolerance.{LooksAtLast}
 use Rattle.biphase.specs.Chain.{flat, Begins}
 use Rattle.biphase.specs.Mirror.{mirrored}
 use Rattle.cell_tracker.specs.ChainPiece.{IsPiece, cells_from}
@@ -59,11 +58,10 @@ pub record TellMirrored (system : System) (intervals : List ℕ) (first last : �
       (events_of_cells system (sum (take first intervals)) between)
       (reverse (events_of_cells system (sum (take last (reverse intervals))) (mirrored between)))
 
--- where a cell is compared with the one before it alone, the events of a recording and of its mirror, both within the
--- tolerance, are so between the greater intervals of the first and of the last unequal pair
+-- the events of a recording and of its mirror, both within the tolerance, are so between the greater intervals of the
+-- first and of the last unequal pair
 abbrev pub MirrorsTheTape : System → Profile → List ℕ → List Event → List Event → Type 0
-MirrorsTheTape system profile intervals events mirrored_events = LooksAtLast profile → (tape other : List Cell)
-    (cut place first last : ℕ)
+MirrorsTheTape system profile intervals events mirrored_events = (tape other : List Cell) (cut place first last : ℕ)
     → IsPiece profile intervals tape cut → IsPiece profile (reverse intervals) other place
     → IsLock profile intervals 0 first → IsLock profile (reverse intervals) 0 last
     → TellMirrored system intervals first last (cells_from tape cut intervals first)

@@ -93,7 +93,8 @@ StandsAfter old next x intervals earlier open_yet Break = (stretch : Stretch) ×
     × TrackerStandsFor next (intervals ++ x ∷ []) (earlier ++ with_break (length intervals) stretch ∷ []) None
 
 -- the open stretch, the part of it that is kept, and the events of its windows
-pub record OpenStandsFor (reader : ReaderState) (intervals : List ℕ) (stretch : Stretch) (events : List Event) : Type 0 where
+pub record OpenStandsFor (reader : ReaderState) (intervals : List ℕ) (stretch : Stretch) (events : List Event) :
+    Type 0 where
   pub lock : stretch.lock ≤ length intervals
   pub kept : CellsStandFor reader.cells (begin_of intervals stretch) stretch.cells
   pub ends : reader.tick ≡ begin_of intervals stretch + duration stretch.cells + waiting reader.tracker

@@ -1,5 +1,6 @@
 //! What follows from the definitions alone, and the numbers that code and definitions share.
-ghost use Rattle.std.specs.Prelude.{◌≡◌, ℕ, ◌*◌, ◌^◌, ◌<◌, ◌≤◌, List, [], ◌∷◌, ◌++◌, reverse, false, true, drop, take, sum, All};
+ghost use Rattle.std.specs.Prelude.{◌≡◌, ℕ, ◌*◌, ◌^◌, ◌<◌, ◌≤◌, List, [], ◌∷◌, ◌++◌, reverse, false, true, drop, take};
+ghost use Rattle.std.specs.Prelude.{map, sum, All};
 ghost use Rattle.biphase.specs.declared.cell.Cell.{Cell};
 ghost use Rattle.biphase.specs.Chain.{bits, flat, FollowOn, IsChain};
 ghost use Rattle.biphase.specs.declared.profile.Profile.{Profile};
@@ -15,6 +16,7 @@ ghost use Rattle.direction_reader.specs.declared.window.TheConstants.{WINDOW_BIT
 ghost use Rattle.direction_reader.specs.Brings.{greatest_cell};
 ghost use Rattle.direction_reader.specs.Candidate.{AreEventsOf};
 ghost use Rattle.direction_reader.specs.Events.{tick_of};
+ghost use Rattle.direction_reader.specs.Firm.{DoNotFall};
 ghost use Rattle.direction_reader.specs.Hissy.{hissy_cells};
 ghost use Rattle.direction_reader.specs.Mirror.{MirrorsTheTape};
 ghost use Rattle.direction_reader.specs.Gathered.{AreEventsOfWindows, AreGathered};
@@ -125,6 +127,12 @@ pub fn events_of_a_front_come_first()
     stretches_go_on();
 }
 
+/// The ticks of the events of a list do not fall, and none lies behind the sum of the intervals.
+pub fn events_come_in_order()
+    ensures { (system : System) (profile : Profile) (intervals : List ℕ) (events : List Event)
+        → AreEvents system profile intervals events → DoNotFall 0 (map tick_of events) (sum intervals) }
+{}
+
 /// What a reader stands for are the events of its intervals.
 pub fn a_reader_gives_the_events_of_its_list()
     ensures { (reader : ReaderState) (intervals : List ℕ) (events : List Event)
@@ -174,9 +182,9 @@ pub fn events_find_the_tape_behind_even_ones()
     events_of_a_front_come_first();
 }
 
-/// Mirror, for the tolerances that look at the last cell: the events of a recording and of its intervals in the other order
-/// of time, both within the tolerance, are the same words between the greater intervals of the first
-/// and of the last unequal pair, each met from its other end.
+/// Mirror: the events of a recording and of its intervals in the other order of time, both within the
+/// tolerance, are the same words between the greater intervals of the first and of the last unequal pair,
+/// each met from its other end.
 pub fn events_mirror_the_tape()
     ensures { (system : System) (profile : Profile) (intervals : List ℕ)
         (events mirrored : List Event) → AreEvents system profile intervals events
@@ -217,7 +225,8 @@ pub fn small_recordings_have_these_events()
     ensures forward { AreEvents F25 Normal (recording 82 0x2fff02000000000000002)
         (Word Forward (word_with C25 0 0 0 0 (flags false false false false false) 0 true) 1968 1920 ∷ []) }
     ensures broken { AreEvents F25 Normal (recording 82 0x2fff02000000000000002 ++ 5 ∷ [])
-        (Word Forward (word_with C25 0 0 0 0 (flags false false false false false) 0 true) 1968 1920 ∷ Lost 97 1973 ∷ []) }
+        (Word Forward (word_with C25 0 0 0 0 (flags false false false false false) 0 true) 1968 1920
+        ∷ Lost 97 1973 ∷ []) }
     ensures half { AreEvents F25 Normal (recording 82 0x2fff02000000000000002 ++ 12 ∷ [])
         (Word Forward (word_with C25 0 0 0 0 (flags false false false false false) 0 true) 1968 1920 ∷ []) }
     ensures backward { AreEvents F25 Normal (recording 81 0x207ffa)

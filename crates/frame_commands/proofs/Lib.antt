@@ -19,5 +19,6 @@ mod SpansOfFrames
 mod SpansOfTheTape
 mod StepsGrow
 mod TapeIsHeard
+mod TicksInOrder
 mod ToldOfFrames
 mod WorkedBy

@@ -8,6 +8,7 @@ use Rattle.flywheel.specs.declared.heard.HeardWord.{HeardWord}
 use Rattle.flywheel.specs.Frames.{frames}
 use Rattle.flywheel.specs.GoOn.{GoOn}
 use Rattle.flywheel.specs.Marked.{word_of, words_in}
+use Rattle.tape_spans.specs.InOrder.{DoNotFall, heard_ticks, span_ticks}
 use Rattle.tape_spans.specs.Shared.{HoldsTogether, frames_in, present}
 use Rattle.tape_spans.specs.Spans.{frames_of_spans, spans}
 use Rattle.tape_spans.specs.SpanTexts.{final_lines, lines_behind, open_line}
@@ -20,6 +21,7 @@ use Rattle.interval_engine.specs.KeptBehind.{IsWholeBehind}
 use Rattle.frame_commands.specs.LtcSpans.{ShowsTheSpans, spanned_recording, spans_counted}
 use Rattle.frame_commands.specs.OfFrames.{frames_of, words_heard}
 use Rattle.frame_commands.proofs.TapeIsHeard.{HearTheTape}
+use Rattle.frame_commands.proofs.TicksInOrder.{ComeInOrder, frames_in_order}
 
 -- what the laws of frames and of spans say
 pub record SpansLaws : Type 0 where
@@ -31,6 +33,9 @@ pub record SpansLaws : Type 0 where
   pub last : (tick_rate : ℕ) (system : System) (fs : List Frame)
       → final_lines tick_rate system fs ++ open_line tick_rate system fs ≡ lines_behind tick_rate system None (spans fs)
   pub tape : HearTheTape
+  pub order : ComeInOrder
+  pub spans_order : (first last : ℕ) (fs : List Frame) → DoNotFall first (heard_ticks fs) last
+      → DoNotFall first (span_ticks (spans fs)) last
 
 behind : SpansLaws → (flight : Flight) (bytes written : List ℕ) (header : Option IntervalHeader) → (recording_of bytes).header ≡ header
     → IsWholeBehind (spanned_recording flight) header (recording_of bytes).intervals written → ShowsTheSpans flight bytes written
@@ -41,6 +46,8 @@ behind laws flight bytes written (Some header) begins is =
     let fs = frames_of flight.limit intervals is.events in
     let on = laws.go_on flight.limit (sum intervals) words in
     let last = spans_counted intervals fs in
+    let heard = laws.heard flight.limit (sum intervals) words in
+    let tape = laws.tape flight.witness header.system flight.profile intervals is.events is.are_events in
     record {
       header = header;
       begins = begins;
@@ -50,11 +57,13 @@ behind laws flight bytes written (Some header) begins is =
       are_frames = refl;
       are = is.are ∙ sym (append_assoc (final_lines header.tick_rate header.system fs) (open_line header.tick_rate header.system fs) last)
           ∙ ap (λ (l : List ℕ). l ++ last) (laws.last header.tick_rate header.system fs);
-      heard = laws.heard flight.limit (sum intervals) words;
+      heard = heard;
       all = laws.all fs on;
       together = laws.within fs on;
       stepped = laws.stepped fs on;
-      tape = laws.tape flight.witness header.system flight.profile intervals is.events is.are_events;
+      in_order = laws.spans_order 0 (sum intervals) fs (frames_in_order laws.order flight.witness header.system
+          flight.profile intervals is.events tape fs heard);
+      tape = tape;
     }
 
 pub shows_the_spans : SpansLaws → (flight : Flight) (bytes written : List ℕ) → IsWholeOf (spanned_recording flight) (recording_of bytes) written

@@ -4,6 +4,7 @@ use Rattle.std.specs.List.{flat_map}
 use Rattle.direction_reader.specs.declared.event.Event.{Event}
 use Rattle.flywheel.specs.declared.frame.Frame.{Frame}
 use Rattle.flywheel.specs.Marked.{word_of, words_in}
+use Rattle.tape_spans.specs.InOrder.{DoNotFall, span_ticks}
 use Rattle.tape_spans.specs.Shared.{HoldsTogether, frames_in, present}
 use Rattle.tape_spans.specs.Spans.{frames_of_spans, spans}
 use Rattle.tape_spans.specs.SpanTexts.{final_lines, last_spans_line, lines_behind, open_line}
@@ -42,8 +43,9 @@ spanned_recording flight = along_frames flight lines_of_spans
 -- what was written are the lines of the spans of the recording's frames, and the line that counts them. The heard
 -- frames are its words under the tolerance of the flight. Each frame that was heard or invented stands in exactly one
 -- span, in order; a span begins with a heard frame that does not join, and each further frame of it goes on from the
--- one before, so that its last label is the first one, stepped by the frames that were heard and bridged behind it. And
--- these words tell the tape
+-- one before, so that its last label is the first one, stepped by the frames that were heard and bridged behind it. The
+-- ticks at which a span begins and ends do not fall, from span to span, up to the sum of the intervals. And these words
+-- tell the tape
 pub record ShowsTheSpans (flight : Flight) (bytes written : List ℕ) : Type 0 where
   pub header : IntervalHeader
   pub begins : (recording_of bytes).header ≡ Some header
@@ -56,6 +58,7 @@ pub record ShowsTheSpans (flight : Flight) (bytes written : List ℕ) : Type 0 w
   pub all : present frames ≡ flat_map frames_in (frames_of_spans frames)
   pub together : All HoldsTogether (frames_of_spans frames)
   pub stepped : All EndsStepped (spans frames)
+  pub in_order : DoNotFall 0 (span_ticks (spans frames)) (sum (recording_of bytes).intervals)
   pub tape : HearsTheTape flight.witness header.system flight.profile (recording_of bytes).intervals events
 
 -- what is told of it

@@ -17,6 +17,7 @@ use crate::laws::{
     each_sink_of_frames_adds_in_order, what_is_heard_is_in_order, what_is_heard_tells_the_tape,
     what_is_made_of_frames_is_in_order,
 };
+use direction_reader::laws::events_come_in_order;
 use direction_reader::{DirectionReader, FirmReader};
 use flywheel::Frame;
 use flywheel::laws::{a_frame_that_goes_on_is_the_next, invention_is_bounded_and_marked};
@@ -24,7 +25,7 @@ use interval_engine::laws::recordings_grow;
 use interval_engine::work_along;
 use interval_file::IntervalHeader;
 use tape_spans::laws::{
-    a_span_ends_stepped, final_lines_come_first, spans_share_the_frames_out,
+    a_span_ends_stepped, final_lines_come_first, spans_come_in_order, spans_share_the_frames_out,
     the_open_span_has_the_last_line,
 };
 use tape_spans::{Cut, Gap, Span, SpanText, TapeSpans, gap_text, span_text};
@@ -63,6 +64,8 @@ fn spans_are_told()
     the_open_span_has_the_last_line();
     a_span_ends_stepped();
     what_is_heard_tells_the_tape();
+    events_come_in_order();
+    spans_come_in_order();
 }
 
 /// What is told of `ltc-spans` is lawful.

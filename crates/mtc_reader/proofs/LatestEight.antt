@@ -13,7 +13,7 @@ use Rattle.mtc_reader.specs.declared.eight.TheConstants.{NO_QUARTER}
 use Rattle.mtc_reader.specs.Events.{latest_eight, piece_of, pieces, window_event}
 use Rattle.mtc_reader.specs.StandsFor.{padded}
 
-length-latest_eight : (row : List ℕ) → length (latest_eight row) ≡ length row - (length row - 8)
+pub length-latest_eight : (row : List ℕ) → length (latest_eight row) ≡ length row - (length row - 8)
 length-latest_eight row = length-drop (length row - 8) row
 
 -- the row has a window

@@ -1,8 +1,12 @@
 pub mod AlongTheBytes
+pub mod CarriedEvents
+pub mod EightNeighbours
 pub mod Examples
 pub mod Labels
 pub mod LatestEight
+pub mod MessagesAlong
 pub mod OneByteMore
+pub mod OneListOfMessages
 pub mod OneQuarterMore
 pub mod PackedRow
 pub mod PieceByPiece

@@ -10,7 +10,7 @@ use Rattle.tc_address.specs.Count.{rate_of, system_with}
 use Rattle.tc_address.specs.Label.{Address, IsLabel, is_label}
 use Rattle.mtc_reader.specs.declared.event.MtcEvent.TheVariants.{Full, Quarter, RefusedFull, RefusedQuarter}
 use Rattle.mtc_reader.specs.declared.message.Message.{Message}
-use Rattle.mtc_reader.specs.declared.message.Message.TheVariants.{QuarterFrame}
+use Rattle.mtc_reader.specs.declared.message.Message.TheVariants.{QuarterFrame, FullMessage}
 use Rattle.mtc_reader.specs.declared.message.MessageKind.TheVariants as kinds
 use Rattle.mtc_reader.specs.Events.{events_in, event_of, full_event, full_address, latest_eight, row_in}
 use Rattle.mtc_reader.specs.Events.{window_event, quarter_event, quarter_address, count_with, piece_of, fault_of}
@@ -71,6 +71,38 @@ pub quarter_step : (place : ℕ) (current : Current) (messages : List Message) (
     ≡ events_of (event_of (QuarterFrame quarter) messages (place + 1))
     ++ events_along (place + 1 + 1) (after quarter) (QuarterFrame quarter ∷ messages) more
 quarter_step place current messages quarter more is_number is_no_real_time = rw (is_number, is_no_real_time) refl
+
+-- a full message is read from any state
+pub full_step : (place : ℕ) (current : Current) (messages : List Message) (device hr mn sc fr : ℕ) (more : List ℕ)
+    → device < 0x80 → hr < 0x80 → mn < 0x80 → sc < 0x80 → fr < 0x80
+    → events_along place current messages
+    (0xf0 ∷ 0x7f ∷ device ∷ 0x01 ∷ 0x01 ∷ hr ∷ mn ∷ sc ∷ fr ∷ 0xf7 ∷ more)
+    ≡ full_event (full_address hr mn sc fr) (place + 9)
+    ∷ events_along (place + 10) (record { kind = kinds.Other; numbers = [] }) (FullMessage hr mn sc fr ∷ messages) more
+full_step place current messages device hr mn sc fr more d h m s f =
+    let last = on (on (on (on place))) + 1 in
+    let behind = on (on (on (on (on place)))) in
+    let later = λ (p : ℕ). events_along p (record { kind = kinds.Other; numbers = [] })
+    (FullMessage hr mn sc fr ∷ messages) more in
+    let read : events_along place current messages
+    (0xf0 ∷ 0x7f ∷ device ∷ 0x01 ∷ 0x01 ∷ hr ∷ mn ∷ sc ∷ fr ∷ 0xf7 ∷ more)
+    ≡ full_event (full_address hr mn sc fr) last ∷ later behind =
+    rw (
+      below device d,
+      below hr h,
+      below mn m,
+      below sc s,
+      below fr f,
+      sounds device d,
+      sounds hr h,
+      sounds mn m,
+      sounds sc s,
+      sounds fr f,
+    ) refl in
+    let nine : last ≡ place + 9 = omega arith in
+    let ten : behind ≡ place + 10 = omega arith in
+    read ∙ ap (λ (n : ℕ). full_event (full_address hr mn sc fr) n ∷ later behind) nine
+    ∙ ap (λ (n : ℕ). full_event (full_address hr mn sc fr) (place + 9) ∷ later n) ten
 
 pub record IsRow (a b c d e f g h : ℕ) : Type 0 where
   pub first : IsQuarter 0 a

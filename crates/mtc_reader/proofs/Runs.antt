@@ -15,14 +15,14 @@ use Rattle.mtc_reader.specs.declared.event.MtcEvent.TheVariants.{Full, Quarter, 
 use Rattle.mtc_reader.specs.declared.message.MessageKind.TheVariants as kinds
 use Rattle.mtc_reader.specs.declared.message.Message.{Message}
 use Rattle.mtc_reader.specs.declared.message.Message.TheVariants.{FullMessage}
-use Rattle.mtc_reader.specs.Events.{events_in, fault_of, full_address, full_event, latest_eight, piece_of}
+use Rattle.mtc_reader.specs.Events.{events_in, fault_of, full_event, latest_eight, piece_of}
 use Rattle.mtc_reader.specs.Events.{quarter_address, quarter_event, row_in, window_event}
 use Rattle.mtc_reader.specs.Laws.{code_of, full_message, numbers_of, quarter_events, quarters, run_events, AreLabels}
 use Rattle.mtc_reader.specs.Messages.{Current, current_in, messages_in, without_real_time}
 use Rattle.mtc_reader.specs.StandsFor.{events_of, padded}
 use Rattle.mtc_reader.proofs.AlongTheBytes.{all_along, along, events_after, events_along}
-use Rattle.mtc_reader.proofs.ReadBack.{address_back, after, below, code_below, falling_window, frames_below, full_back}
-use Rattle.mtc_reader.proofs.ReadBack.{on, rising_window, row_is, sounds, IsRow}
+use Rattle.mtc_reader.proofs.ReadBack.{address_back, after, code_below, falling_window, frames_below, full_back}
+use Rattle.mtc_reader.proofs.ReadBack.{full_step, on, rising_window, row_is, IsRow}
 use Rattle.mtc_reader.proofs.SlidingWindow.{numbers_along, current_behind, ends_behind, first_none, given, inner_given}
 use Rattle.mtc_reader.proofs.SlidingWindow.{inner_of}
 use Rattle.mtc_reader.proofs.SlidingWindow.{long, messages_behind, number_of, place_behind, replaced, slid, slid_long}
@@ -240,30 +240,13 @@ full_along : (place : ℕ) (current : Current) (messages : List Message) (device
     (FullMessage (32 * code_of a.count + a.hours) a.minutes a.seconds a.frames ∷ messages) more
 full_along place current messages device a more small l =
     let hours : 32 * code_of a.count + a.hours < 0x80 = omega (arith, l.hours, code_below a.count) in
-    let last = on (on (on (on place))) + 1 in
-    let later = λ (p : ℕ). events_along p (record { kind = kinds.Other; numbers = [] })
+    let later = events_along (place + 10) (record { kind = kinds.Other; numbers = [] })
     (FullMessage (32 * code_of a.count + a.hours) a.minutes a.seconds a.frames ∷ messages) more in
-    let behind = on (on (on (on (on place)))) in
-    let read : events_along place current messages (full_message device a ++ more)
-    ≡ full_event (full_address (32 * code_of a.count + a.hours) a.minutes a.seconds a.frames) last ∷ later behind =
-    rw (
-      below device small,
-      below (32 * code_of a.count + a.hours) hours,
-      below a.minutes (omega (arith, l.minutes)),
-      below a.seconds (omega (arith, l.seconds)),
-      below a.frames (omega (arith, frames_below a l)),
-      sounds device small,
-      sounds (32 * code_of a.count + a.hours) hours,
-      sounds a.minutes (omega (arith, l.minutes)),
-      sounds a.seconds (omega (arith, l.seconds)),
-      sounds a.frames (omega (arith, frames_below a l)),
-    ) refl in
-    let nine : last ≡ place + 9 = omega arith in
-    let ten : behind ≡ place + 10 = omega arith in
-    read ∙ ap (λ b. full_event b last ∷ later behind) (full_back a l)
-    ∙ ap (λ event. event ∷ later behind)
-    (cond-true (is_label a) (Full a last) (RefusedFull (fault_of a) last) (label_is a l))
-    ∙ ap (λ (n : ℕ). Full a n ∷ later behind) nine ∙ ap (λ (n : ℕ). Full a (place + 9) ∷ later n) ten
+    full_step place current messages device (32 * code_of a.count + a.hours) a.minutes a.seconds a.frames more small
+    hours (omega (arith, l.minutes)) (omega (arith, l.seconds)) (omega (arith, frames_below a l))
+    ∙ ap (λ b. full_event b (place + 9) ∷ later) (full_back a l)
+    ∙ ap (λ event. event ∷ later)
+    (cond-true (is_label a) (Full a (place + 9)) (RefusedFull (fault_of a) (place + 9)) (label_is a l))
 
 -- and what comes after it, after whatever bytes, is read on its own
 run_after : (direction : Direction) (sent : Address → List ℕ) → IsSent direction sent

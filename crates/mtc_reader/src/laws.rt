@@ -21,6 +21,7 @@ ghost use Rattle.mtc_reader.specs.Laws.{
   AreRealTime,
 };
 ghost use Rattle.mtc_reader.specs.Messages.{without_real_time};
+ghost use Rattle.mtc_reader.specs.Spelled.{carried_by, placed, AreMessages, AreSounding, SpelledMessage};
 
 /// What stands for a quarter frame that did not come: a byte that no quarter frame has behind its status.
 pub fn no_quarter_frame_is_this()
@@ -34,6 +35,24 @@ pub fn real_time_bytes_change_places_only()
         → map at_no_place (events_in (before ++ (inserted ++ after))) ≡ map at_no_place (events_in (before ++ after)) }
     ensures same { (a b : List ℕ) → without_real_time a ≡ without_real_time b
         → map at_no_place (events_in a) ≡ map at_no_place (events_in b) }
+{}
+
+/// Bytes are spelled messages, and bytes between them that hold none, in one way alone.
+pub fn bytes_are_one_list_of_messages()
+    ensures some { (bytes : List ℕ) → (messages : List SpelledMessage) × AreMessages messages bytes }
+    ensures one { (messages others : List SpelledMessage) (bytes : List ℕ) → AreMessages messages bytes
+        → AreMessages others bytes → messages ≡ others }
+{}
+
+/// The events of bytes are what their messages carry: each full message its address, and each eight
+/// neighbouring messages theirs, where they are quarter frames whose pieces rise or fall. Where system
+/// real-time bytes stand among them, so it is of the others, but for the places.
+pub fn messages_carry_the_events()
+    ensures places { (messages : List SpelledMessage) (bytes : List ℕ) → AreSounding bytes → AreMessages messages bytes
+        → events_in bytes ≡ carried_by (placed 0 messages) }
+    ensures among { (messages : List SpelledMessage) (bytes : List ℕ) → AreMessages messages (without_real_time bytes)
+        → map at_no_place (events_in bytes) ≡ map at_no_place (carried_by (placed 0 messages)) }
+    ensures whole { (bytes : List ℕ) → AreSounding bytes → without_real_time bytes ≡ bytes }
 {}
 
 /// The events of bytes stay what they are, whatever bytes come after them.

@@ -12,10 +12,12 @@
 //!   clause `gives`). `MtcReader::take` takes bytes up to the next event at once, by the same clause.
 //! - Real-time bytes, wherever they stand, change the places of events and nothing else of them;
 //!   events stay whatever bytes come later; the messages of a label are read as that label (`laws`).
+//! - Bytes are spelled messages with other bytes between, in one way alone, and their events are what
+//!   these messages carry (`specs/Spelled.antt`, `AreMessages`, `carried_by`).
 //! - `push_mtc_text` and `mtc_end_text` give the lines of a report byte for byte (`specs/Texts.antt`).
 //!
 //! Read `reader`, `current`, `message`, `eight`, `row`, `address`, `event` and `texts`, in this order,
-//! and `specs/Messages.antt` and `Events.antt` beside them. Nothing here allocates or fails.
+//! and `specs/Messages.antt`, `Events.antt` and `Spelled.antt` beside them. Nothing here allocates or fails.
 #![tactic(auto)]
 
 mod address;

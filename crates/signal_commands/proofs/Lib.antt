@@ -1,5 +1,6 @@
 mod AreCommands
 mod DueSamples
+mod Examples
 mod FieldsGrow
 mod FieldsTold
 mod MidiGrows
@@ -7,6 +8,7 @@ mod MidiLimit
 mod NothingYet
 mod PathEnds
 mod PathIsCommand
+mod PathLasts
 mod PathOn
 mod PutMore
 mod SentIsRead

@@ -36,7 +36,7 @@ AreOfSamples = (bytes : List ℕ) → AllByRecursion (λ byte. byte < 256) bytes
     → bytes_of (samples_of bytes) ≡ bytes
 
 -- what is read are bytes, of whole samples
-all_bytes : (bytes : List ℕ) → AreBytes bytes → AllByRecursion (λ (byte : ℕ). byte < 256) bytes
+pub all_bytes : (bytes : List ℕ) → AreBytes bytes → AllByRecursion (λ (byte : ℕ). byte < 256) bytes
 all_bytes [] are = tt
 all_bytes (byte ∷ more) are = (are.0, all_bytes more are.1)
 
@@ -47,7 +47,7 @@ no_fault_by : (b : Bool) (n : ℕ) → cond b (Some (HalfSample n)) None ≡ Non
 no_fault_by true n is = absurd cc
 no_fault_by false n is = refl
 
-even : (bytes : List ℕ) → odd_fault bytes ≡ None → length bytes % 2 ≡ 0
+pub even : (bytes : List ℕ) → odd_fault bytes ≡ None → length bytes % 2 ≡ 0
 even bytes end =
     even_by (length bytes % 2) (omega arith) (length bytes % 2 == 1) refl
     (no_fault_by (length bytes % 2 == 1) (length bytes) end)

@@ -6,6 +6,7 @@ use Rattle.mtc_reader.specs.declared.event.MtcEvent.TheVariants.{Full, Quarter, 
 use Rattle.mtc_reader.specs.Events.{events_in}
 use Rattle.mtc_reader.specs.Laws.{all_falling, all_rising, at_no_place, full_message, run_events, AreLabels}
 use Rattle.mtc_reader.specs.Messages.{without_real_time}
+use Rattle.mtc_reader.specs.Spelled.{carried_by, placed, AreMessages, AreSounding, SpelledMessage}
 use Rattle.mtc_reader.specs.Texts.{event_line, end_line}
 use Rattle.tc_address.specs.declared.direction.Direction.{Direction}
 use Rattle.tc_address.specs.declared.direction.Direction.TheVariants.{Forward, Backward}
@@ -76,11 +77,26 @@ pub record IsRun (device : ℕ) (first : Address) (labels : List Address) : Type
   pub first_is : IsLabel first
   pub labels_are : AreLabels labels
 
--- what was written are the lines of the events in the bytes, and the last line. And whatever bytes stand before and
--- behind a run, its label and its pairs are read one after another, each at the place of its last byte, after the
--- events of what stands before; and so they are, but for their places, where system real-time bytes stand among them
+-- ---- all that was sent
+
+-- the bytes but for the system real-time bytes are spelled messages with other bytes between, in one way alone, and
+-- what is read are each full message and each eight neighbouring quarter frames whose pieces rise or fall; at their
+-- places, where no system real-time byte stands in the bytes
+pub record ReadsTheMessages (bytes : List ℕ) : Type 0 where
+  pub messages : List SpelledMessage
+  pub are : AreMessages messages (without_real_time bytes)
+  pub alone : (others : List SpelledMessage) → AreMessages others (without_real_time bytes) → others ≡ messages
+  pub carried : map at_no_place (events_in bytes) ≡ map at_no_place (carried_by (placed 0 messages))
+  pub whole : AreSounding bytes → without_real_time bytes ≡ bytes
+  pub places : AreSounding bytes → events_in bytes ≡ carried_by (placed 0 messages)
+
+-- what was written are the lines of the events in the bytes, and the last line. These events are what the messages in
+-- the bytes carry. And whatever bytes stand before and behind a run, its label and its pairs are read one after
+-- another, each at the place of its last byte, after the events of what stands before; and so they are, but for their
+-- places, where system real-time bytes stand among them
 pub record ReadsWhatWasSent (bytes written : List ℕ) : Type 0 where
   pub are : written ≡ event_lines (events_in bytes) ++ last_mtc_line bytes (events_in bytes)
+  pub messages : ReadsTheMessages bytes
   pub sent : (before after : List ℕ) (direction : Direction) (device : ℕ) (first : Address) (labels : List Address)
       → IsRun device first labels → bytes ≡ before ++ (run_of direction device first labels ++ after)
       → (later : List MtcEvent)

@@ -9,7 +9,7 @@ ghost use Rattle.signal_commands.specs.declared.mtc_read.TheConstants.{MAX_BYTES
 ghost use Rattle.signal_commands.specs.declared.pcm_ltc.TheConstants.{MAX_SAMPLES};
 ghost use Rattle.signal_commands.specs.MtcRead.{along_midi};
 ghost use Rattle.signal_commands.specs.PcmLtc.{along_samples, told_pcm_ltc};
-ghost use Rattle.signal_commands.specs.PcmPath.{along_path};
+ghost use Rattle.signal_commands.specs.PcmPath.{along_path, told_pcm_path};
 ghost use Rattle.signal_commands.specs.VitcRead.{along_fields};
 ghost use Rattle.signal_commands.specs.WavLtc.{along_sound_file};
 
@@ -40,6 +40,13 @@ pub fn each_signal_makes_a_command()
     bytes_have_answers();
     bytes_have_one_list_of_answers();
     what_bytes_show_stays();
+}
+
+/// What is told of `pcm-ltc .. path` is lawful.
+pub fn paths_are_lawful()
+    ensures { (path : SlicesPath) → IsLawful (told_pcm_path path) }
+{
+    each_signal_makes_a_command();
 }
 
 /// What is told of `pcm-ltc` is lawful.

@@ -17,7 +17,8 @@ ghost use Rattle.signal_commands.specs.MtcRead.{told_mtc_read};
 use crate::laws::each_signal_makes_a_command;
 use line_text::Text;
 use mtc_reader::laws::{
-    a_run_is_read_back, earlier_events_stay, real_time_bytes_change_places_only,
+    a_run_is_read_back, bytes_are_one_list_of_messages, earlier_events_stay,
+    messages_carry_the_events, real_time_bytes_change_places_only,
 };
 use mtc_reader::{MtcEvent, MtcReader, mtc_end_text, push_mtc_text};
 use tc_command::{Engine, Stop, push_line, work};
@@ -35,7 +36,7 @@ pub fn read_midi<S: Source, K: Sink>(source: &mut S, out: &mut K) -> Result<(), 
     work(&mut MtcReport::new(), source, out)
 }
 
-/// What is told of `mtc-read` holds: what was sent is what is read.
+/// What is told of `mtc-read` holds: what was sent is what is read, and nothing else is.
 fn midi_is_told()
     ensures { IsTold told_mtc_read }
 {
@@ -43,6 +44,8 @@ fn midi_is_told()
     earlier_events_stay();
     a_run_is_read_back();
     real_time_bytes_change_places_only();
+    bytes_are_one_list_of_messages();
+    messages_carry_the_events();
 }
 
 /// What is told of `mtc-read` is lawful.

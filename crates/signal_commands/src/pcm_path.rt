@@ -4,20 +4,24 @@ ghost use Rattle.std.specs.Prelude.{◌≡◌, ◌+◌, ◌<◌, ◌++◌, [], O
 ghost use Rattle.std.specs.Io.KnownBytes.{Appends};
 ghost use Rattle.tc_command.specs.Causes.{HasOutCause};
 ghost use Rattle.tc_command.specs.Stops.{Stops};
-ghost use Rattle.tc_command.specs.Told.{WorksAsTold};
+ghost use Rattle.tc_command.specs.Told.{IsTold, WorksAsTold};
 ghost use Rattle.path_front.specs.Front.{FrontStandsFor, GoesOn, IsFrontSettled};
 ghost use Rattle.pcm_front.specs.Samples.{samples_of};
 ghost use Rattle.signal_commands.specs.KeptPath.{FailsAtEnd, HasFailed, HasGatheredAll, Hears, IsGoing, Stands};
 ghost use Rattle.signal_commands.specs.PcmPath.{along_path, told_pcm_path, IsPathFile};
 ghost use Rattle.signal_commands.specs.declared.pcm_ltc.TheConstants.{MAX_SAMPLES};
 
-use crate::laws::each_signal_makes_a_command;
+use crate::laws::paths_are_lawful;
 use crate::pcm_ltc::MAX_SAMPLES;
 use crate::stopping::push_before;
 use byteorder::{ByteOrder, LittleEndian};
 use interval_file::{FileVersion, IntervalHeader, four_bytes, interval_header};
 use path_front::Front;
-use path_front::laws::{what_is_given_comes_first, what_samples_bring_so_far_comes_first};
+use path_front::laws::{
+    a_sound_has_one_list_of_intervals, the_intervals_of_a_sound_last_as_long,
+    what_is_given_comes_first, what_samples_bring_so_far_comes_first,
+};
+use pcm_front::laws::bytes_are_those_of_their_samples;
 use tc_command::{Engine, Gathered, InputFault, Stop, work};
 use tc_io::{Sink, Source};
 use tc_job::PathSlicing;
@@ -33,8 +37,19 @@ pub fn hear_path<S: Source, K: Sink>(
     ensures { WorksAsTold (told_pcm_path path.now) S.left S.ends S.faults K.written K.faults source.old source.new
         out.old out.new result }
 {
-    each_signal_makes_a_command();
+    a_path_is_told(path);
     work(&mut PathSound::new(path), source, out)
+}
+
+/// What is told of `pcm-ltc .. path` holds: the intervals last as long as the steps of the samples.
+fn a_path_is_told(path: &PathSlicing)
+    ensures { IsTold (told_pcm_path path.now) }
+{
+    paths_are_lawful();
+    a_sound_has_one_list_of_intervals();
+    the_intervals_of_a_sound_last_as_long();
+    bytes_are_those_of_their_samples();
+    let _ticks = path.ticks();
 }
 
 /// Sound on its way into the cells of its best path.

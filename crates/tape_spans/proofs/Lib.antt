@@ -6,3 +6,4 @@ pub mod FinalLines
 pub mod LastLabel
 pub mod SharedOut
 pub mod SpansGoOn
+pub mod TicksInOrder

@@ -4,6 +4,7 @@ pub use Rattle.line_text.specs.Line
 pub use Rattle.tc_address.specs.Circle
 pub use Rattle.tc_address.specs.Numbering
 pub mod Gap
+pub mod InOrder
 pub mod Shared
 pub mod Spans
 pub mod SpanTexts

@@ -4,6 +4,7 @@ ghost use Rattle.std.specs.List.{count_by, flat_map, sum_by};
 ghost use Rattle.tc_address.specs.declared.system.System.{System};
 ghost use Rattle.flywheel.specs.declared.frame.Frame.{Frame};
 ghost use Rattle.flywheel.specs.GoOn.{GoOn};
+ghost use Rattle.tape_spans.specs.InOrder.{DoNotFall, heard_ticks, span_ticks};
 ghost use Rattle.tape_spans.specs.Shared.{frames_in, present, HoldsTogether};
 ghost use Rattle.tape_spans.specs.Spans.{frames_of_spans, spans};
 ghost use Rattle.tape_spans.specs.SpanTexts.{final_lines, lines_behind, open_line};
@@ -31,6 +32,13 @@ pub fn a_span_ends_stepped()
     steps_add_up();
     spans_share_the_frames_out();
 }
+
+/// Where the ticks of the frames that are heard do not fall, those of the spans do not: each span ends where it began
+/// or later, and begins where the one before it ended or later. So the ticks of a gap are those between the two.
+pub fn spans_come_in_order()
+    ensures { (first last : ℕ) (frames : List Frame) → DoNotFall first (heard_ticks frames) last
+        → DoNotFall first (span_ticks (spans frames)) last }
+{}
 
 /// The lines that are final come first, whatever frames follow.
 pub fn final_lines_come_first()

@@ -27,7 +27,7 @@ use made_commands::{
     numbers_are_lawful, stripes_are_lawful, tell_help, tell_label, tell_load, tell_number,
     tell_version,
 };
-use signal_commands::laws::{each_signal_makes_a_command, sliced_sound_is_lawful};
+use signal_commands::laws::{paths_are_lawful, sliced_sound_is_lawful};
 use signal_commands::{
     fields_are_lawful, hear_path, midi_is_lawful, read_fields, read_midi, slice_sound, slice_track,
     sliced_tracks_are_lawful,
@@ -101,7 +101,7 @@ pub(crate) fn each_job_is_lawful()
     midi_is_lawful();
     sliced_sound_is_lawful();
     fields_are_lawful();
-    each_signal_makes_a_command();
+    paths_are_lawful();
     line_stripes_are_lawful();
     numbers_are_lawful();
     names_are_lawful();

@@ -7,15 +7,18 @@ use Rattle.cell_tracker.proofs.laws.rough_recordings_have_these_stretches.Goals 
 
 pub returns-clause-lock : goal.returns-clause-lock
 unfolding stretches_of run
-returns-clause-lock c = computed_are Rough (100 ∷ 100 ∷ 50 ∷ 50 ∷ 100 ∷ []) (with_cell (Zero 100) (with_cell (One 50 50) (begun 1 100)) ∷ []) refl
+returns-clause-lock c = computed_are Rough (100 ∷ 100 ∷ 50 ∷ 50 ∷ 100 ∷ [])
+    (with_cell (Zero 100) (with_cell (One 50 50) (begun 1 100)) ∷ []) refl
 
 pub returns-clause-broken : goal.returns-clause-broken
 unfolding stretches_of run
-returns-clause-broken c = computed_are Rough (100 ∷ 50 ∷ 50 ∷ 74 ∷ []) (with_break 3 (with_cell (One 50 50) (begun 0 100)) ∷ []) refl
+returns-clause-broken c =
+    computed_are Rough (100 ∷ 50 ∷ 50 ∷ 74 ∷ []) (with_break 3 (with_cell (One 50 50) (begun 0 100)) ∷ []) refl
 
 pub returns-clause-short : goal.returns-clause-short
 unfolding stretches_of run
-returns-clause-short c = computed_are Rough (100 ∷ 50 ∷ 50 ∷ 75 ∷ []) (with_cell (Zero 75) (with_cell (One 50 50) (begun 0 100)) ∷ []) refl
+returns-clause-short c =
+    computed_are Rough (100 ∷ 50 ∷ 50 ∷ 75 ∷ []) (with_cell (Zero 75) (with_cell (One 50 50) (begun 0 100)) ∷ []) refl
 
 pub returns-clause-long : goal.returns-clause-long
 unfolding stretches_of run

@@ -8,15 +8,18 @@ use Rattle.cell_tracker.proofs.laws.small_recordings_have_these_stretches.Goals 
 
 pub returns-clause-word : goal.returns-clause-word
 unfolding stretches_of run cells_of
-returns-clause-word c = computed_are Normal (recording 82 0x2fff02000000000000002) (stretch_of 82 0x2fff02000000000000002 None ∷ []) refl
+returns-clause-word c =
+    computed_are Normal (recording 82 0x2fff02000000000000002) (stretch_of 82 0x2fff02000000000000002 None ∷ []) refl
 
 pub returns-clause-broken : goal.returns-clause-broken
 unfolding stretches_of run cells_of
-returns-clause-broken c = computed_are Normal (recording 82 0x2fff02000000000000002 ++ 5 ∷ []) (stretch_of 82 0x2fff02000000000000002 (Some 97) ∷ []) refl
+returns-clause-broken c = computed_are Normal (recording 82 0x2fff02000000000000002 ++ 5 ∷ [])
+    (stretch_of 82 0x2fff02000000000000002 (Some 97) ∷ []) refl
 
 pub returns-clause-half : goal.returns-clause-half
 unfolding stretches_of run cells_of
-returns-clause-half c = computed_are Normal (recording 82 0x2fff02000000000000002 ++ 12 ∷ []) (stretch_of 82 0x2fff02000000000000002 None ∷ []) refl
+returns-clause-half c = computed_are Normal (recording 82 0x2fff02000000000000002 ++ 12 ∷ [])
+    (stretch_of 82 0x2fff02000000000000002 None ∷ []) refl
 
 pub returns-clause-from_its_end : goal.returns-clause-from_its_end
 unfolding stretches_of run cells_of
@@ -24,8 +27,10 @@ returns-clause-from_its_end c = computed_are Normal (recording 81 0x207ffa) (str
 
 pub returns-clause-both : goal.returns-clause-both
 unfolding stretches_of run cells_of
-returns-clause-both c = computed_are Normal (recording 81 0x17ff80000000000007ffa) (stretch_of 81 0x17ff80000000000007ffa None ∷ []) refl
+returns-clause-both c =
+    computed_are Normal (recording 81 0x17ff80000000000007ffa) (stretch_of 81 0x17ff80000000000007ffa None ∷ []) refl
 
 pub returns-clause-two : goal.returns-clause-two
 unfolding stretches_of run cells_of
-returns-clause-two c = computed_are Normal (24 ∷ 12 ∷ 24 ∷ 12 ∷ 12 ∷ []) (with_break 2 (begun 0 24) ∷ with_cell (One 12 12) (begun 2 24) ∷ []) refl
+returns-clause-two c = computed_are Normal (24 ∷ 12 ∷ 24 ∷ 12 ∷ 12 ∷ [])
+    (with_break 2 (begun 0 24) ∷ with_cell (One 12 12) (begun 2 24) ∷ []) refl

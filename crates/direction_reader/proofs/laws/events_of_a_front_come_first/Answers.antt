@@ -18,7 +18,8 @@ returns-clause-behind c = λ system profile front more events rest are too. all_
     (c.events_are_those_that_are_spelled.ensures.gathered system profile (front ++ more) (events ++ rest) too))
 
 pub returns-clause-later : goal.returns-clause-later
-returns-clause-later c = λ system profile front more events rest are too. all_later (length front) (sum front) rest (events_behind
+returns-clause-later c =
+    λ system profile front more events rest are too. all_later (length front) (sum front) rest (events_behind
     (record { one_word = c.spelling_is_exact.ensures.one_word; no_fault = c.spelling_is_exact.ensures.no_fault })
     c.stretches_go_on.ensures system profile front more events rest
     (c.events_are_those_that_are_spelled.ensures.gathered system profile front events are)

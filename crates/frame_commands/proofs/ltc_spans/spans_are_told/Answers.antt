@@ -10,4 +10,6 @@ returns c = λ flight. spans_are_told (record {
   stepped = c.a_span_ends_stepped.ensures;
   last = c.the_open_span_has_the_last_line.ensures;
   tape = c.what_is_heard_tells_the_tape.ensures;
+  order = c.events_come_in_order.ensures;
+  spans_order = c.spans_come_in_order.ensures;
 }) flight (c.spans_are_lawful.ensures flight)

@@ -7,4 +7,9 @@ returns c = midi_is_told (record {
   forward = c.a_run_is_read_back.ensures.forward;
   backward = c.a_run_is_read_back.ensures.backward;
   among = c.real_time_bytes_change_places_only.ensures.same;
+  some = c.bytes_are_one_list_of_messages.ensures.some;
+  one = c.bytes_are_one_list_of_messages.ensures.one;
+  carried = c.messages_carry_the_events.ensures.among;
+  whole = c.messages_carry_the_events.ensures.whole;
+  places = c.messages_carry_the_events.ensures.places;
 }) c.midi_is_lawful.ensures

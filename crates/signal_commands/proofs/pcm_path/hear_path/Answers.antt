@@ -1,10 +1,5 @@
-use Rattle.tc_command.specs.ToldLemmas.{meaning_is_lawful, meaning_is_told}
 use Rattle.signal_commands.proofs.pcm_path.hear_path.Goals as goal
 
 -- the choice of the engine is that of the words
 pub returns : goal.returns
-returns g c = record {
-  told = meaning_is_told _ (meaning_is_lawful _ (c.each_signal_makes_a_command.ensures.paths c.args.path.now)
-      (λ input spent. spent));
-  worked = rw c.new.ensures.path at c.work.ensures;
-}
+returns g c = record { told = c.a_path_is_told.ensures; worked = rw c.new.ensures.path at c.work.ensures }

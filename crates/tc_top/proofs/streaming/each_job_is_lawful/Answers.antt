@@ -2,7 +2,7 @@ use Rattle.biphase.specs.declared.profile.Profile.TheVariants.{Normal, Worn, Rou
 use Rattle.tc_job.specs.declared.job.Job.{Job}
 use Rattle.tc_job.specs.declared.job.Job.TheVariants as jobs
 use Rattle.tc_job.specs.declared.witness.Witness.TheVariants.{NotAsked, Asked}
-use Rattle.tc_command.specs.ToldLemmas.{meaning_is_lawful, text_is_lawful}
+use Rattle.tc_command.specs.ToldLemmas.{text_is_lawful}
 use Rattle.tc_command.specs.Told.{IsLawful}
 use Rattle.tc_top.specs.Commands.{told_of}
 use Rattle.tc_top.proofs.streaming.each_job_is_lawful.Goals as goal
@@ -26,8 +26,7 @@ returns c = lawful
     lawful (jobs.LtcLoad run) = c.loads_are_lawful.ensures run
     lawful (jobs.LtcPcm level) = c.made_sound_is_lawful.ensures level
     lawful (jobs.PcmLtc slicing) = c.sliced_sound_is_lawful.ensures slicing
-    lawful (jobs.PcmPath path) =
-        meaning_is_lawful _ (c.each_signal_makes_a_command.ensures.paths path) (λ input spent. spent)
+    lawful (jobs.PcmPath path) = c.paths_are_lawful.ensures path
     lawful (jobs.WavLtc slicing) = c.sliced_tracks_are_lawful.ensures slicing
     lawful jobs.MtcRead = c.midi_is_lawful.ensures
     lawful jobs.VitcRead = c.fields_are_lawful.ensures

@@ -50,7 +50,8 @@ returns-then-may_begin_one-clause-stands c = λ intervals stretches stands.
     (c.may_begin_one.ensures latest (sym c.at_lock-reference.ensures.reference)).0 c.if-may_begin_one.true in
     subst (λ state. MidCellStandsFor state (intervals ++ c.args.x ∷ []) stretches
     (begun (length intervals - 1) c.in-Some.before)) same
-    (start_mid _ intervals stretches c.in-Some.before c.args.x is c.in-Some.is c.in-Step.ensures c.if-before-x.false half)
+    (start_mid _ intervals stretches c.in-Some.before c.args.x is c.in-Some.is c.in-Step.ensures c.if-before-x.false
+    half)
 
 pub returns-else-may_begin_one-clause-stands : goal.returns-else-may_begin_one-clause-stands
 returns-else-may_begin_one-clause-stands c = λ intervals stretches stands.
@@ -63,4 +64,5 @@ returns-else-may_begin_one-clause-stands c = λ intervals stretches stands.
     subst (λ state. HuntingStandsFor state (intervals ++ c.args.x ∷ [])
     (stretches ++ with_break (length intervals) (begun (length intervals - 1) c.in-Some.before) ∷ []))
     (sym c.after-hunting.ensures)
-    (start_broken _ intervals stretches c.in-Some.before c.args.x is c.in-Some.is c.in-Step.ensures c.if-before-x.false no_half)
+    (start_broken _ intervals stretches c.in-Some.before c.args.x is c.in-Some.is c.in-Step.ensures c.if-before-x.false
+    no_half)

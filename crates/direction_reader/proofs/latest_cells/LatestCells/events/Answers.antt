@@ -8,14 +8,16 @@ use Rattle.direction_reader.proofs.latest_cells.LatestCells.events.Goals as goal
 -- the oldest boundary comes first
 pub overflow_sub-length : goal.overflow_sub-length
 overflow_sub-length c =
-    let are : AreBoundariesTo c.args.tick c.self.inside.boundaries = rw c.in-Full.is at (rw (← c.self.view_is) at c.requires) in
+    let are : AreBoundariesTo c.args.tick c.self.inside.boundaries =
+    rw c.in-Full.is at (rw (← c.self.view_is) at c.requires) in
     let lasts = window_length c.args.tick c.self.inside.boundaries are c.self.invariant in
     rw (c.oldest.ensures) (omega arith)
 
 -- each event ends the window, and a word is as long as the window
 pub returns-in-Full-clause-brings : goal.returns-in-Full-clause-brings
 returns-in-Full-clause-brings c =
-    let are : AreBoundariesTo c.args.tick c.self.inside.boundaries = rw c.in-Full.is at (rw (← c.self.view_is) at c.requires) in
+    let are : AreBoundariesTo c.args.tick c.self.inside.boundaries =
+    rw c.in-Full.is at (rw (← c.self.view_is) at c.requires) in
     let lasts = window_length c.args.tick c.self.inside.boundaries are c.self.invariant in
     let length = c.args.tick - c.oldest.result in
     let least : 80 ≤ length = rw (c.oldest.ensures) (omega arith) in

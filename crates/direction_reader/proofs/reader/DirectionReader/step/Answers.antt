@@ -13,7 +13,8 @@ invariant_of-self c =
     record {
       count = omega arith;
       sum = omega arith;
-      fits = cell_fits _ _ _ _ _ _ _ _ c.self.invariant.fits c.requires.least c.requires.most steps (omega arith) c.add.ensures.boundaries;
+      fits = cell_fits _ _ _ _ _ _ _ _ c.self.invariant.fits c.requires.least c.requires.most steps (omega arith)
+      c.add.ensures.boundaries;
     }
 
 -- and a zero
@@ -33,7 +34,12 @@ pub returns-in-Cell-true-clause-stands : goal.returns-in-Cell-true-clause-stands
 returns-in-Cell-true-clause-stands c = λ l es own stands told.
     let is = subst (λ (r : ReaderState). StandsFor r l es) (sym c.self.view_is) stands in
     cell_told _ _ c.args.x l es own c.in-Cell-true.field-0 c.add.result
-    (record { system = refl; profile = c.step.ensures.profile; intervals = refl; tick = ap (λ m. c.self.inside.tick + m) c.from.ensures })
+    (record {
+      system = refl;
+      profile = c.step.ensures.profile;
+      intervals = refl;
+      tick = ap (λ m. c.self.inside.tick + m) c.from.ensures;
+    })
     (rw c.in-Cell-true.field-0-test c.add.ensures.bits) c.add.ensures.boundaries c.add.ensures.brings
     is (c.in-Cell-true.ensures.stands l is.earlier is.open_yet is.tracker) told
 
@@ -42,7 +48,12 @@ pub returns-in-Cell-false-clause-stands : goal.returns-in-Cell-false-clause-stan
 returns-in-Cell-false-clause-stands c = λ l es own stands told.
     let is = subst (λ (r : ReaderState). StandsFor r l es) (sym c.self.view_is) stands in
     cell_told _ _ c.args.x l es own c.in-Cell-false.field-0 c.add-in-Cell-false.result
-    (record { system = refl; profile = c.step.ensures.profile; intervals = refl; tick = ap (λ m. c.self.inside.tick + m) c.from.ensures })
+    (record {
+      system = refl;
+      profile = c.step.ensures.profile;
+      intervals = refl;
+      tick = ap (λ m. c.self.inside.tick + m) c.from.ensures;
+    })
     (rw c.in-Cell-false.field-0-test c.add-in-Cell-false.ensures.bits) c.add-in-Cell-false.ensures.boundaries
     c.add-in-Cell-false.ensures.brings is (c.in-Cell-false.ensures.stands l is.earlier is.open_yet is.tracker) told
 
@@ -51,7 +62,12 @@ pub returns-in-Nothing-clause-stands : goal.returns-in-Nothing-clause-stands
 returns-in-Nothing-clause-stands c = λ l es own stands told.
     let is = subst (λ (r : ReaderState). StandsFor r l es) (sym c.self.view_is) stands in
     quiet _ _ es own (nothing_ended _ _ c.args.x l es
-    (record { system = refl; profile = c.step.ensures.profile; intervals = refl; tick = ap (λ m. c.self.inside.tick + m) c.from.ensures })
+    (record {
+      system = refl;
+      profile = c.step.ensures.profile;
+      intervals = refl;
+      tick = ap (λ m. c.self.inside.tick + m) c.from.ensures;
+    })
     refl is (c.in-Nothing.ensures.stands l is.earlier is.open_yet is.tracker)) told
 
 -- the interval is the first zero of a stretch
@@ -59,8 +75,14 @@ pub returns-in-FirstZero-clause-stands : goal.returns-in-FirstZero-clause-stands
 returns-in-FirstZero-clause-stands c = λ l es own stands told.
     let is = subst (λ (r : ReaderState). StandsFor r l es) (sym c.self.view_is) stands in
     quiet _ _ es own (begins_now _ _ c.args.x l es
-    (record { system = refl; profile = c.step.ensures.profile; intervals = refl; tick = ap (λ m. c.self.inside.tick + m) c.from.ensures })
-    (rw c.begin.ensures at c.add-in-FirstZero.ensures.bits) (rw c.begin.ensures at c.add-in-FirstZero.ensures.boundaries)
+    (record {
+      system = refl;
+      profile = c.step.ensures.profile;
+      intervals = refl;
+      tick = ap (λ m. c.self.inside.tick + m) c.from.ensures;
+    })
+    (rw c.begin.ensures at c.add-in-FirstZero.ensures.bits)
+    (rw c.begin.ensures at c.add-in-FirstZero.ensures.boundaries)
     is (c.in-FirstZero.ensures.stands l is.earlier is.open_yet is.tracker)) told
 
 -- the interval before is
@@ -68,7 +90,12 @@ pub returns-in-ZeroBefore-clause-stands : goal.returns-in-ZeroBefore-clause-stan
 returns-in-ZeroBefore-clause-stands c = λ l es own stands told.
     let is = subst (λ (r : ReaderState). StandsFor r l es) (sym c.self.view_is) stands in
     quiet _ _ es own (begins_before _ _ c.args.x c.in-ZeroBefore.zero _ l es
-    (record { system = refl; profile = c.step.ensures.profile; intervals = refl; tick = ap (λ m. c.self.inside.tick + m) c.from.ensures })
+    (record {
+      system = refl;
+      profile = c.step.ensures.profile;
+      intervals = refl;
+      tick = ap (λ m. c.self.inside.tick + m) c.from.ensures;
+    })
     (ap (λ m. c.self.inside.tick - m) c.from-in-ZeroBefore.ensures)
     (rw c.begin-in-ZeroBefore.ensures at c.add-in-ZeroBefore.ensures.bits)
     (rw c.begin-in-ZeroBefore.ensures at c.add-in-ZeroBefore.ensures.boundaries)
@@ -79,5 +106,10 @@ pub returns-in-Break-clause-stands : goal.returns-in-Break-clause-stands
 returns-in-Break-clause-stands c = λ l es own stands told.
     let is = subst (λ (r : ReaderState). StandsFor r l es) (sym c.self.view_is) stands in
     rw told (broken _ _ c.args.x l es
-    (record { system = refl; profile = c.step.ensures.profile; intervals = refl; tick = ap (λ m. c.self.inside.tick + m) c.from.ensures })
+    (record {
+      system = refl;
+      profile = c.step.ensures.profile;
+      intervals = refl;
+      tick = ap (λ m. c.self.inside.tick + m) c.from.ensures;
+    })
     is (c.in-Break.ensures.stands l is.earlier is.open_yet is.tracker))
