@@ -9,3 +9,4 @@ pub mod PcmLtc
 pub mod PcmPath
 pub mod VitcRead
 pub mod WavLtc
+pub mod WavPath
