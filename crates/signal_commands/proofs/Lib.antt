@@ -7,6 +7,7 @@ mod MidiLimit
 mod NothingYet
 mod PathEnds
 mod PathIsCommand
+mod PathOfBytes
 mod PathOn
 mod PutMore
 mod SentIsRead
@@ -15,3 +16,5 @@ mod SlicedTracks
 mod SoundCovered
 mod TrackGoesOn
 mod TrackOfAFile
+mod TrackPathIsCommand
+mod TrackPathOn

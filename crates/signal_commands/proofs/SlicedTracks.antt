@@ -19,7 +19,7 @@ use Rattle.tc_job.specs.WaveSlicing.{SlicesWave}
 use Rattle.wave_file.specs.declared.decoder.Taken.TheVariants as taken
 use Rattle.wave_file.specs.declared.fault.WaveFault.{WaveFault}
 use Rattle.wave_file.specs.declared.format.WaveFormat.{WaveFormat}
-use Rattle.wave_file.specs.declared.stage.TheConstants.{MAX_BYTES, MAX_SAMPLES}
+use Rattle.wave_file.specs.declared.stage.TheConstants.{MAX_BYTES}
 use Rattle.wave_file.specs.GoesOn.{IsWithin}
 use Rattle.wave_file.specs.StandsFor.{StandsFor, IsTold, StopsAt, bytes_taken, format_in_decoding}
 use Rattle.wave_file.specs.Wave.{end_fault_of, reading_of}
@@ -45,7 +45,7 @@ use Rattle.wave_file.specs.declared.format.Asked.{Asked}
 
 -- what holds of whatever bytes say
 abbrev pub Reads : Type 0
-Reads = (asked : Asked) (bytes : List ℕ) → IsWithin (reading_of asked bytes)
+Reads = (asked : Asked) (bytes : List ℕ) → IsWithin asked (reading_of asked bytes)
 
 -- ---- the samples that were read
 
@@ -55,7 +55,7 @@ none_yet reads track bytes format samples v told none =
     sym told.samples_are ∙ (reads track bytes).none (told.format_is ∙ none)
 
 pub few_samples : Reads → (asked : Asked) (bytes : List ℕ) (format : Option WaveFormat) (samples : List ℤ) (v : Verdict WaveFault)
-    → IsTold (reading_of asked bytes) format samples v → length samples ≤ MAX_SAMPLES
+    → IsTold (reading_of asked bytes) format samples v → length samples ≤ asked.most_samples
 few_samples reads track bytes format samples v told =
     let few = (reads track bytes).few in
     let same = ap length told.samples_are in omega (arith, few, same)
@@ -344,7 +344,7 @@ pushed_on s left front written more all stands = record {
 pub end_is : (s : SlicedTrack) (front written : List ℕ) (end : Option WaveFault) → Stands s front written → end_fault_of s.decoder.asked front ≡ end
     → (along_sound_file s.slicing).end_fault front ≡ option_map Sound end
 end_is s front written end stands is =
-    ap (option_map Sound) (subst (λ (t : ℕ). end_fault_of t front ≡ end) stands.track is)
+    ap (option_map Sound) (subst (λ (t : Asked). end_fault_of t front ≡ end) stands.track is)
 
 -- ---- the way of the engine
 

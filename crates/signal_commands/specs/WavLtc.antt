@@ -21,14 +21,15 @@ use Rattle.tc_io.specs.Verdict.{verdict_as}
 use Rattle.tc_command.specs.Meaning.{Meaning}
 use Rattle.tc_command.specs.Told.{Told}
 use Rattle.wave_file.specs.declared.format.Asked.{Asked}
+use Rattle.wave_file.specs.declared.stage.TheConstants.{MAX_SAMPLES}
 
 -- in 16 ticks a sample, from the place of the first one on
 abbrev pub track_settings : SlicesWave → Settings
 track_settings w = from_start 16 w.threshold w.smooth
 
--- of a sound file its track is asked, at whatever rate
+-- of a sound file its track is asked, at whatever rate, and all samples within the limit
 abbrev pub asked_by : SlicesWave → Asked
-asked_by w = record { track = w.track; least_rate = 1 }
+asked_by w = record { track = w.track; least_rate = 1; most_samples = MAX_SAMPLES }
 
 -- the header: each sample has so many ticks
 abbrev pub track_header : SlicesWave → WaveFormat → IntervalHeader
@@ -56,7 +57,7 @@ pub record SlicesTheTrack (w : SlicesWave) (bytes written : List ℕ) : Type 0 w
   pub made : (format : WaveFormat) (blocks : List (List Sample)) → IsMadeOf (asked_by w) format blocks bytes
       → written ≡ file_of (track_header w format)
       (intervals_at (track_pace w format) (from_start 16 w.threshold w.smooth) (samples_in w.track blocks))
-  pub tell : (format : WaveFormat) (blocks : List (List Sample)) → IsMadeOf w.track format blocks bytes
+  pub tell : (format : WaveFormat) (blocks : List (List Sample)) → IsMadeOf (asked_by w) format blocks bytes
       → TellTheCrossings (track_pace w format) (from_start 16 w.threshold w.smooth) (samples_in w.track blocks)
   pub ended : (format : WaveFormat) → w.live ≡ false → track_pace w format ≡ Ended
   pub passing : (format : WaveFormat) → w.live ≡ true

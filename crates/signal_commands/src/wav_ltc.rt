@@ -29,7 +29,7 @@ use tc_command::{Engine, Gathered, InputFault, Stop, work};
 use tc_io::{Sink, Source};
 use tc_job::WaveSlicing;
 use wave_file::laws::{a_file_is_read_as_it_was_written, samples_are_few_and_behind_a_format};
-use wave_file::{Asked, Taken, WaveDecoder, WaveFormat};
+use wave_file::{Asked, MAX_SAMPLES, Taken, WaveDecoder, WaveFormat};
 
 /// So many ticks has a sample.
 const TICKS: u32 = 16;
@@ -91,6 +91,7 @@ impl SlicedTrack {
             decoder: WaveDecoder::new(Asked {
                 track: slicing.track(),
                 least_rate: 1,
+                most_samples: MAX_SAMPLES,
             }),
             slicer: Slicer::from_the_start(TICKS, slicing.threshold(), slicing.smooth()),
             room: [0; ROOM],

@@ -76,10 +76,10 @@ taken_for asked place pcm f first none =
     let least = leb-true 1 f.tracks tracks.0 in
     let b = between f.tracks f.bits f.block least most s.least s.most same in
     record {
-      first = first.0;
+      first = first.first;
       among = ltb-false f.tracks asked.track p.among;
       most = most;
-      rate_least = omega (arith, first.1, leb-true asked.least_rate f.rate rate.0);
+      rate_least = omega (arith, first.some_rate, leb-true asked.least_rate f.rate rate.0);
       rate_asked = leb-true asked.least_rate f.rate rate.0;
       rate_most = leb-true f.rate 6_250_000 rate.1;
       bits_least = s.least;

@@ -22,7 +22,6 @@ use Rattle.wave_file.specs.declared.chunk.TheConstants.{LEAST_OPEN_SIZE}
 use Rattle.wave_file.specs.declared.fault.WaveFault.{WaveFault}
 use Rattle.wave_file.specs.declared.fault.WaveFault.TheVariants as fault
 use Rattle.wave_file.specs.declared.format.WaveFormat.{WaveFormat}
-use Rattle.wave_file.specs.declared.stage.TheConstants.{MAX_SAMPLES}
 use Rattle.wave_file.specs.Chunk.{chunk_of, extent_of, form_of, is_open, long_extent, no_notes}
 use Rattle.wave_file.specs.Format.{field_fault, format_in, format_of, is_pcm, is_rate, is_sample_size, is_track_count}
 use Rattle.wave_file.specs.Format.{samples_at, unless, IsTakenFor}
@@ -66,13 +65,13 @@ at_end : (n : ℕ) → 1 ≤ n → (0 % n == 0) ≡ true
 at_end n some = let less : 0 < n = omega (arith, some) in ap (λ (m : ℕ). m == 0) (mod-eq_of_lt less)
 
 pub data_read : (asked : Asked) (format : WaveFormat) (extent : Extent) (blocks : List (List Sample)) (tail : List ℕ)
-    → IsTakenFor asked format → AllByRecursion (IsBlock format) blocks → length blocks ≤ MAX_SAMPLES
+    → IsTakenFor asked format → AllByRecursion (IsBlock format) blocks → length blocks ≤ asked.most_samples
     → Covers extent (length (data_text blocks)) tail
-    → data_at asked format extent MAX_SAMPLES (data_text blocks ++ tail) ≡ read_whole format (track_of asked.track blocks)
+    → data_at asked format extent asked.most_samples (data_text blocks ++ tail) ≡ read_whole format (track_of asked.track blocks)
 data_read asked format extent blocks tail fits whole few covers =
     let count = length blocks in
     let size = data_length format asked blocks fits whole in
-    blocks_more asked format count extent MAX_SAMPLES (data_text blocks) tail size fits.some
+    blocks_more asked format count extent asked.most_samples (data_text blocks) tail size fits.some
     (has extent size covers) few
     ∙ ap (with_samples (samples_at format asked count (data_text blocks))) (left extent size covers)
     ∙ same_reading (Some format) _ _ _ _ _ _
@@ -87,16 +86,16 @@ data_read asked format extent blocks tail fits whole few covers =
 
     left : (extent : Extent) → length (data_text blocks) ≡ length blocks * format.block
         → Covers extent (length (data_text blocks)) tail
-        → data_at asked format (extent_behind extent (length blocks * format.block)) (MAX_SAMPLES - length blocks) tail
+        → data_at asked format (extent_behind extent (length blocks * format.block)) (asked.most_samples - length blocks) tail
         ≡ read_whole format []
     left (Announced n) size covers =
         let none : n - length blocks * format.block ≡ 0 = omega (arith, size, covers) in
-        ap (λ (n : ℕ). data_at asked format (Announced n) (MAX_SAMPLES - length blocks) tail) none
-        ∙ nothing_left asked format (Announced 0) (MAX_SAMPLES - length blocks) tail fits.some (omega arith)
+        ap (λ (n : ℕ). data_at asked format (Announced n) (asked.most_samples - length blocks) tail) none
+        ∙ nothing_left asked format (Announced 0) (asked.most_samples - length blocks) tail fits.some (omega arith)
         (le-leb 0 (length tail) (omega arith))
     left Open size covers =
-        ap (λ (l : List ℕ). data_at asked format Open (MAX_SAMPLES - length blocks) l) covers
-        ∙ nothing_left asked format Open (MAX_SAMPLES - length blocks) [] fits.some refl (at_end format.block fits.some)
+        ap (λ (l : List ℕ). data_at asked format Open (asked.most_samples - length blocks) l) covers
+        ∙ nothing_left asked format Open (asked.most_samples - length blocks) [] fits.some refl (at_end format.block fits.some)
 
 -- ---- the head of a chunk
 
@@ -307,7 +306,7 @@ form_read asked form size is_long rest a b is =
 behind_others : (before : List OtherChunk) → 12 + length (others_text before) + 24 ≡ 36 + length (others_text before)
 behind_others before = omega arith
 
-pub file_read : (asked file_size : ℕ) (before : List OtherChunk) (format : WaveFormat) (size : ℕ)
+pub file_read : (asked : Asked) (file_size : ℕ) (before : List OtherChunk) (format : WaveFormat) (size : ℕ)
     (blocks : List (List Sample))
     (tail : List ℕ) (extent : Extent) → AreParts asked before format blocks → file_size < 2 ^ 32 → size < 2 ^ 32
     → extent_of (noted (no_notes false file_size) format) (36 + length (others_text before)) size ≡ Some extent
@@ -318,7 +317,7 @@ file_read asked file_size before format size blocks tail extent parts a b is cov
     ∙ behind_read asked (no_notes false file_size) 12 before format size blocks tail extent parts b
     (ap (λ (n : ℕ). extent_of (noted (no_notes false file_size) format) n size) (behind_others before) ∙ is) covers
 
-pub long_file_read : (asked form file_size data_size : ℕ) (before : List OtherChunk) (format : WaveFormat)
+pub long_file_read : (asked : Asked) (form file_size data_size : ℕ) (before : List OtherChunk) (format : WaveFormat)
     (blocks : List (List Sample))
     (tail : List ℕ) (extent : Extent) → AreParts asked before format blocks → form < 2 ^ 32 → form_of form ≡ Some true
     → data_size < 2 ^ 64
@@ -345,7 +344,7 @@ told_size file_size place size format some less =
     let none = ne_eqb size 0 (λ e. omega (arith, e, some)) in
     rw (greatest, great, none) refl
 
-pub told_file : (asked file_size : ℕ) (before : List OtherChunk) (format : WaveFormat) (blocks : List (List Sample))
+pub told_file : (asked : Asked) (file_size : ℕ) (before : List OtherChunk) (format : WaveFormat) (blocks : List (List Sample))
     (tail : List ℕ)
     → AreParts asked before format blocks → 1 ≤ length blocks → file_size < 2 ^ 32
     → length (data_text blocks) < 2 ^ 31 - 2 ^ 16
@@ -359,7 +358,7 @@ told_file asked file_size before format blocks tail parts some a less =
     (omega (arith, less)) (told_size file_size _ (length (data_text blocks)) format
     (omega (arith, size, bytes)) less) refl
 
-pub streamed_file : (asked file_size size : ℕ) (before : List OtherChunk) (format : WaveFormat)
+pub streamed_file : (asked : Asked) (file_size size : ℕ) (before : List OtherChunk) (format : WaveFormat)
     (blocks : List (List Sample))
     → AreParts asked before format blocks → file_size < 2 ^ 32 → size < 2 ^ 32
     → is_open (no_notes false file_size) (36 + length (others_text before)) size ≡ true
@@ -367,7 +366,7 @@ pub streamed_file : (asked file_size size : ℕ) (before : List OtherChunk) (for
 streamed_file asked file_size size before format blocks parts a b untold =
     file_read asked file_size before format size blocks [] Open parts a b (rw untold refl) refl
 
-pub long_told_file : (asked form file_size : ℕ) (before : List OtherChunk) (format : WaveFormat)
+pub long_told_file : (asked : Asked) (form file_size : ℕ) (before : List OtherChunk) (format : WaveFormat)
     (blocks : List (List Sample)) (tail : List ℕ)
     → AreParts asked before format blocks → 1 ≤ length blocks → (form ≡ RF64) ⊎ (form ≡ BW64)
     → length (data_text blocks) < 2 ^ 64

@@ -9,14 +9,17 @@ use Rattle.wave_file.specs.declared.fault.WaveFault.{WaveFault}
 use Rattle.wave_file.specs.declared.fault.WaveFault.TheVariants as fault
 use Rattle.wave_file.specs.declared.format.WaveFormat.{WaveFormat}
 use Rattle.wave_file.specs.declared.format.TheConstants.{MAX_RATE}
+use Rattle.wave_file.specs.declared.stage.TheConstants.{MAX_SAMPLES}
 use Rattle.limits.specs.declared.sound_file.TheConstants.{MAX_TRACKS}
 use Rattle.wave_file.specs.declared.format.Asked.{Asked}
 
 -- ---- what is asked
 
--- a track from 1, and from 1 sample a second on
-abbrev pub IsAsked : Asked → Type 0
-IsAsked asked = (1 ≤ asked.track) × (1 ≤ asked.least_rate)
+-- a track from 1, from 1 sample a second on, and samples within the limit
+pub record IsAsked (asked : Asked) : Type 0 where
+  pub first : 1 ≤ asked.track
+  pub some_rate : 1 ≤ asked.least_rate
+  pub few : asked.most_samples ≤ MAX_SAMPLES
 
 -- ---- the format
 

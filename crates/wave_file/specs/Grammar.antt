@@ -10,7 +10,7 @@ use Rattle.byteorder.specs.Endian.{big_bytes, little_bytes}
 use Rattle.wave_file.specs.declared.chunk.TheConstants.{RIFF, RF64, BW64, WAVE, FORMAT, SIZES, DATA, NO_SIZE}
 use Rattle.wave_file.specs.declared.chunk.TheConstants.{LEAST_OPEN_SIZE}
 use Rattle.wave_file.specs.declared.format.WaveFormat.{WaveFormat}
-use Rattle.wave_file.specs.declared.stage.TheConstants.{MAX_BYTES, MAX_SAMPLES}
+use Rattle.wave_file.specs.declared.stage.TheConstants.{MAX_BYTES}
 use Rattle.wave_file.specs.Chunk.{is_open, no_notes}
 use Rattle.wave_file.specs.Format.{sample_width, IsTakenFor}
 use Rattle.wave_file.specs.Wave.{Reading}
@@ -117,7 +117,7 @@ pub record AreParts (asked : Asked) (before : List OtherChunk) (format : WaveFor
   pub others : AllByRecursion IsOther before
   pub taken : IsTakenFor asked format
   pub whole : AllByRecursion (IsBlock format) blocks
-  pub few : length blocks ≤ MAX_SAMPLES
+  pub few : length blocks ≤ asked.most_samples
 
 -- what is read of a file whose samples of a track these are
 abbrev pub read_whole : WaveFormat → List ℤ → Reading

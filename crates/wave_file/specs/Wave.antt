@@ -13,7 +13,7 @@ use Rattle.wave_file.specs.declared.chunk.Extent.{Extent}
 use Rattle.wave_file.specs.declared.chunk.Extent.TheVariants as extent
 use Rattle.wave_file.specs.declared.chunk.Notes.{Notes}
 use Rattle.wave_file.specs.declared.chunk.TheConstants.{WAVE}
-use Rattle.wave_file.specs.declared.stage.TheConstants.{MAX_BYTES, MAX_SAMPLES}
+use Rattle.wave_file.specs.declared.stage.TheConstants.{MAX_BYTES}
 use Rattle.tc_io.specs.Verdict.{Verdict, good, refused, past_limit}
 use Rattle.wave_file.specs.Format.{format_in, samples_at}
 use Rattle.wave_file.specs.Chunk.{chunk_of, form_of, no_notes}
@@ -89,7 +89,7 @@ sizes_at notes next bytes =
 abbrev pub chunk_at : Asked → Notes → ℕ → Chunk → (ℕ → Notes → Reading) → List ℕ → Reading
 chunk_at asked notes place (chunk.Format size) next bytes = format_at asked notes place size (next size) bytes
 chunk_at asked notes place (chunk.Sizes size) next bytes = sizes_at notes (next size) bytes
-chunk_at asked notes place (chunk.Data format extent) next bytes = data_at asked format extent MAX_SAMPLES bytes
+chunk_at asked notes place (chunk.Data format extent) next bytes = data_at asked format extent asked.most_samples bytes
 chunk_at asked notes place (chunk.Other size) next bytes = next size notes
 
 -- the bytes of a chunk with the one of padding that makes their number even

@@ -75,10 +75,10 @@ pub fn what_a_sound_file_shows_stays()
     ensures { (asked : Asked) (bytes more : List ℕ) → GoesOn (reading_of asked bytes) (reading_of asked (bytes ++ more)) }
 {}
 
-/// Whatever the bytes, no more samples are read than the limit, and before a format there are none, and the
+/// Whatever the bytes, no more samples are read than are asked, and before a format there are none, and the
 /// input may not end.
 pub fn samples_are_few_and_behind_a_format()
-    ensures { (asked : Asked) (bytes : List ℕ) → IsWithin (reading_of asked bytes) }
+    ensures { (asked : Asked) (bytes : List ℕ) → IsWithin asked (reading_of asked bytes) }
 {}
 
 /// A file that was made of blocks is read as its format and the samples of a track, whatever stands before its

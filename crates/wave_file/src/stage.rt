@@ -20,7 +20,7 @@ use byteorder::{BigEndian, ByteOrder, LittleEndian};
 /// So many bytes are read, at most: more than any store holds.
 pub const MAX_BYTES: u64 = 4_611_686_018_427_387_904;
 
-/// So many samples of the track are read, at most: 265 days at 48,000 samples a second.
+/// So many samples of the track may be asked, at most: 265 days at 48,000 samples a second.
 pub const MAX_SAMPLES: u64 = 1_099_511_627_776;
 
 /// What the next bytes are.
@@ -161,7 +161,7 @@ pub(crate) fn step_over(asked: Asked, notes: &Notes, stage: &Stage, place: u64, 
     match *stage {
         Stage::Riff => behind_form(piece),
         Stage::Wave { is_long } => behind_wave(is_long, piece),
-        Stage::Chunk { .. } => behind_head(notes, place, piece),
+        Stage::Chunk { .. } => behind_head(asked, notes, place, piece),
         Stage::Format { size } => behind_format(asked, notes, place, size, piece),
         Stage::Sizes { size } => behind_sizes(notes, size, piece),
         Stage::Data {
@@ -203,16 +203,18 @@ fn behind_wave(is_long: bool, piece: &[u8]) -> Step
 }
 
 /// What the letters and the size of a chunk bring.
-fn behind_head(notes: &Notes, place: u64, piece: &[u8]) -> Step
+fn behind_head(asked: Asked, notes: &Notes, place: u64, piece: &[u8]) -> Step
+    requires asked { IsAsked asked }
+    requires noted { IsNoted asked notes.now }
     requires place { place < 2 ^ 62 }
     requires piece { length piece.now ≡ 8 }
-    ensures { (asked : Asked) → IsNoted asked notes.now → IsStep asked notes.now place (stages.Chunk 0) piece.now result }
+    ensures { IsStep asked notes.now place (stages.Chunk 0) piece.now result }
 {
     match chunk_of(notes, place, BigEndian::read_u32(piece), size_in(piece)) {
         Err(fault) => Step::Fault(fault),
         Ok(Chunk::Data { format, extent }) => Step::Begin {
             format,
-            stage: data_stage(format, extent, MAX_SAMPLES),
+            stage: data_stage(format, extent, asked.most_samples),
         },
         Ok(Chunk::Format { size }) => Step::Next {
             notes: *notes,
